@@ -1,0 +1,63 @@
+ghost use Rattle.std.specs.Prelude.{◌≡◌};
+ghost use Rattle.tl_io.specs.Causes.{HasCause};
+ghost use Rattle.tl_io.specs.Content.{Puts};
+ghost use Rattle.run_text.specs.Lines.{header_line, cycle_line};
+
+use crate::line_buf::LineBuf;
+use crate::part::{Part, put_line};
+use tl_io::{Failed, Sink};
+
+/// Puts the line `luts LUTS bits BITS depth DEPTH`: how many tables a template has, how many configuration bits, and
+/// its depth. The bytes go in pieces of 4,096, of which the last may be shorter. It takes no memory.
+///
+/// # Errors
+/// `Failed` only where the sink's count of faults rose: then a prefix of the line stands.
+pub fn put_header<O: Sink>(
+    luts: u32,
+    bits: u32,
+    depth: u32,
+    buf: &mut LineBuf,
+    out: &mut O,
+) -> Result<(), Failed>
+    ensures cause { HasCause (O.faults out.old) (O.faults out.new) result }
+    ensures grown { Puts (O.bytes out.old) (O.bytes out.new) (header_line luts bits depth) result }
+    ensures through { O.through out.new ≡ O.through out.old }
+    ensures others { O.others out.new ≡ O.others out.old }
+{
+    let parts = [
+        Part::Text(b"luts "),
+        Part::Number(luts),
+        Part::Text(b" bits "),
+        Part::Number(bits),
+        Part::Text(b" depth "),
+        Part::Number(depth),
+        Part::Text(b"\n"),
+    ];
+    put_line(&parts, buf, out)
+}
+
+/// Puts the line `cycle OUTPUTS STATES`: the outputs of a cycle and the states after it, each a string of `0` and `1`,
+/// or `-` where there are none. The bytes go in pieces of 4,096, of which the last may be shorter. It takes no memory.
+///
+/// # Errors
+/// `Failed` only where the sink's count of faults rose: then a prefix of the line stands.
+pub fn put_cycle<'a, O: Sink>(
+    outputs: &'a [bool],
+    states: &'a [bool],
+    buf: &mut LineBuf,
+    out: &mut O,
+) -> Result<(), Failed>
+    ensures cause { HasCause (O.faults out.old) (O.faults out.new) result }
+    ensures grown { Puts (O.bytes out.old) (O.bytes out.new) (cycle_line outputs.now states.now) result }
+    ensures through { O.through out.new ≡ O.through out.old }
+    ensures others { O.others out.new ≡ O.others out.old }
+{
+    let parts = [
+        Part::Text(b"cycle "),
+        Part::Bits(outputs),
+        Part::Text(b" "),
+        Part::Bits(states),
+        Part::Text(b"\n"),
+    ];
+    put_line(&parts, buf, out)
+}

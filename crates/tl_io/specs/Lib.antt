@@ -1,0 +1,15 @@
+pub mod Causes
+pub mod Content
+pub mod Counts
+pub mod Shelf
+pub mod Slurp
+pub mod Port
+pub mod FaultPlan
+pub mod MemSink
+pub mod MemPort
+pub mod Store
+pub mod ShelfValue
+pub mod MemFiles
+pub mod ShelfCounts
+pub mod DiskValue
+pub mod StdSinkValue

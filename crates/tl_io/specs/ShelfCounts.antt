@@ -1,0 +1,16 @@
+-- What a shelf keeps of its last read, and its counts of faults.
+use Rattle.std.specs.Prelude.{ℕ, List, []}
+
+pub record Counted : Type 0 where
+  -- the first 4,096 bytes of the name last given to begin_read
+  pub name : List ℕ
+  -- the bytes given since that call
+  pub given : ℕ
+  -- the read faults just before that call
+  pub before : ℕ
+  pub read_faults : ℕ
+  pub write_faults : ℕ
+
+-- nothing was read, and nothing failed
+abbrev pub no_counts : Counted
+no_counts = record { name = []; given = 0; before = 0; read_faults = 0; write_faults = 0 }

@@ -1,0 +1,106 @@
+ghost use Rattle.std.specs.Prelude.{◌≡◌, ◌-◌, ◌^◌, ◌≤◌, false, is_some};
+ghost use Rattle.std.proofs.Common.{rules};
+ghost use Rattle.tl_io.specs.DiskValue.{DiskValue, shelf_on_disk};
+ghost use Rattle.tl_io.specs.ShelfCounts.{no_counts};
+
+use crate::inner_write::write_whole;
+use crate::shelf_counts::ShelfCounts;
+use crate::{Failed, Shelf};
+use std::fs;
+use std::fs::OpenFile;
+use std::io::Read;
+use std::marker::Model;
+use std::rt::Files;
+
+/// A shelf over the system's files. It tells nothing of their content.
+#[derive(Drop)]
+pub struct DiskShelf<R: Files + Drop> {
+    rt: R,
+    reading: Option<R::File>,
+    writing: Option<R::File>,
+    counts: ShelfCounts,
+}
+
+impl<R: Files + Drop> Model for DiskShelf<R> {
+    ghost Value = { DiskValue };
+
+    ghost view = { λ shelf. record { is_reading = is_some shelf.reading; is_writing = is_some shelf.writing; counts = shelf.counts } };
+}
+
+impl<R: Files + Drop> DiskShelf<R> {
+    /// A shelf over a runtime that has files. Nothing is being read or written, and no call has failed.
+    pub fn make(rt: R) -> DiskShelf<R>
+        ensures { result ≡ record { is_reading = false; is_writing = false; counts = no_counts } }
+    {
+        DiskShelf {
+            rt,
+            reading: None,
+            writing: None,
+            counts: ShelfCounts::new(),
+        }
+    }
+}
+
+impl<R: Files + Drop> Shelf for DiskShelf<R> {
+    ghost seen = { λ shelf. shelf_on_disk shelf };
+
+    fn begin_read(&mut self, name: &str) -> Result<(), Failed> {
+        self.counts.begin_read(name);
+        self.writing = None;
+        match fs::open(&self.rt, name) {
+            Ok(file) => {
+                self.reading = Some(file);
+                Ok(())
+            }
+            Err(_) => {
+                self.reading = None;
+                self.counts.count_read_fault();
+                Err(Failed)
+            }
+        }
+    }
+
+    fn pull(&mut self, buf: &mut [u8]) -> Result<usize, Failed> {
+        let mut count = 0;
+        if let Some(file) = &mut self.reading {
+            match file.read(buf) {
+                Ok(given) => count = given,
+                Err(_) => {
+                    self.counts.count_read_fault();
+                    return Err(Failed);
+                }
+            }
+        }
+        self.counts.give(count);
+        Ok(count)
+    }
+
+    fn begin_write(&mut self, name: &str) -> Result<(), Failed> {
+        self.reading = None;
+        match fs::create(&self.rt, name) {
+            Ok(file) => {
+                self.writing = Some(file);
+                Ok(())
+            }
+            Err(_) => {
+                self.writing = None;
+                self.counts.count_write_fault();
+                Err(Failed)
+            }
+        }
+    }
+
+    fn push(&mut self, piece: &[u8]) -> Result<(), Failed> {
+        if let Some(file) = &mut self.writing {
+            if write_whole(file, piece).is_err() {
+                self.counts.count_write_fault();
+                return Err(Failed);
+            }
+        }
+        Ok(())
+    }
+
+    ghost read_faults_end = { λ shelf. Prim.search rules };
+
+    ghost write_faults_end = { λ shelf. Prim.search rules };
+}

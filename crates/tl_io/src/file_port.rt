@@ -1,0 +1,110 @@
+ghost use Rattle.std.specs.Prelude.{◌≡◌, ◌-◌, ◌^◌, ◌≤◌, None, ℕ};
+ghost use Rattle.tl_io.specs.Counts.{count_of};
+ghost use Rattle.tl_io.specs.Port.{PortSeen, new_port};
+
+use crate::inner_write::write_whole;
+use crate::told_name::{NAME_ROOM, ToldName};
+use crate::{ConfigPort, Failed, Write};
+use itoa::Buffer;
+use std::fs;
+use std::fs::OpenFile;
+use std::marker::Model;
+use std::rt::Files;
+
+/// A port that writes each bit as a line `ADDRESS=BIT` of a file. It tells nothing of the file.
+#[derive(Drop)]
+pub struct FilePort<R: Files + Drop> {
+    rt: R,
+    name: ToldName,
+    is_name_whole: bool,
+    file: Option<R::File>,
+    accepted: u64,
+    faults: u64,
+}
+
+impl<R: Files + Drop> Model for FilePort<R> {
+    ghost Value = { PortSeen };
+
+    ghost view = { λ port. record { log = None; accepted = port.accepted; faults = port.faults } };
+}
+
+impl<R: Files + Drop> FilePort<R> {
+    /// A port over the file of this name, which is made at the first write. The name is copied, and one of more than
+    /// 4,096 bytes names no file: then each write fails.
+    pub fn make(rt: R, name: &'static str) -> FilePort<R>
+        ensures { result ≡ new_port }
+    {
+        let mut told = ToldName::new();
+        told.set(name.as_bytes());
+        FilePort {
+            rt,
+            name: told,
+            is_name_whole: name.len() <= NAME_ROOM,
+            file: None,
+            accepted: 0,
+            faults: 0,
+        }
+    }
+}
+
+// The file of this name, made empty.
+fn created<R: Files>(rt: &R, name: &[u8]) -> Result<R::File, Failed> {
+    let Ok(name) = std::str::from_utf8(name) else {
+        return Err(Failed);
+    };
+    match fs::create(rt, name) {
+        Ok(file) => Ok(file),
+        Err(_) => Err(Failed),
+    }
+}
+
+// Writes the line of a bit.
+fn write_line<W: std::io::Write>(writer: &mut W, address: u32, bit: bool) -> Result<(), Failed> {
+    let mut buffer = Buffer::new();
+    write_whole(writer, buffer.format(address).as_bytes())?;
+    write_whole(writer, if bit { b"=1\n" } else { b"=0\n" })
+}
+
+// Writes the line of a bit, and makes the file where it isn't there yet.
+fn send<R: Files>(
+    rt: &R,
+    name: &[u8],
+    file: &mut Option<R::File>,
+    address: u32,
+    bit: bool,
+) -> Result<(), Failed> {
+    if file.is_none() {
+        *file = Some(created(rt, name)?);
+    }
+    match file {
+        Some(file) => write_line(file, address, bit),
+        None => Err(Failed),
+    }
+}
+
+impl<R: Files + Drop> ConfigPort for FilePort<R> {
+    ghost port_seen = { λ port. record {
+      log = None;
+      accepted = count_of port.accepted;
+      faults = count_of port.faults;
+    } };
+
+    fn write(&mut self, address: u32, bit: bool) -> Result<(), Failed> {
+        if self.is_name_whole
+            && send(&self.rt, self.name.bytes(), &mut self.file, address, bit).is_ok()
+        {
+            self.accepted = self.accepted.saturating_add(1);
+            return Ok(());
+        }
+        self.faults = self.faults.saturating_add(1);
+        Err(Failed)
+    }
+
+    fn logged(&self, _: usize) -> Option<Write> {
+        None
+    }
+
+    fn faults(&self) -> u64 {
+        self.faults
+    }
+}

@@ -1,0 +1,38 @@
+ghost use Rattle.std.specs.Prelude.{◌≡◌, ◌-◌, ◌^◌, ◌≤◌, IsTrue, Some};
+ghost use Rattle.tl_io.specs.Shelf.{apart, written};
+
+use crate::{Failed, Shelf, Sink};
+
+/// A sink over a lent shelf: it pushes to the file that is being written.
+#[derive(Drop)]
+pub struct FileSink<'a, S: Shelf> {
+    shelf: &'a mut S,
+    ghost writing: { IsTrue (S.seen shelf.now).is_writing },
+}
+
+impl<'a, S: Shelf> FileSink<'a, S> {
+    /// A sink over this shelf, on which a file is being written.
+    pub fn over(shelf: &'a mut S) -> FileSink<'a, S>
+        requires { IsTrue (S.seen shelf.old).is_writing }
+        ensures value { result.shelf.now ≡ shelf.entry.now }
+        ensures same_borrow { result.shelf.ghost_name ≡ shelf.entry.ghost_name }
+    {
+        FileSink { shelf }
+    }
+}
+
+impl<S: Shelf> Sink for FileSink<'_, S> {
+    ghost bytes = { λ sink. written (S.seen sink.shelf.now) };
+
+    ghost faults = { λ sink. (S.seen sink.shelf.now).write_faults };
+
+    ghost through = { λ sink. Some sink.shelf.ghost_name };
+
+    ghost others = { λ sink. apart (S.seen sink.shelf.now) };
+
+    fn put(&mut self, piece: &[u8]) -> Result<(), Failed> {
+        self.shelf.push(piece)
+    }
+
+    ghost faults_end = { λ sink. S.write_faults_end sink.shelf.now };
+}

@@ -1,0 +1,75 @@
+ghost use Rattle.std.specs.Prelude.{◌≡◌, ◌+◌, take};
+ghost use Rattle.tl_io.specs.Counts.{count_of};
+
+use crate::told_name::ToldName;
+use std::marker::Model;
+
+/// What a shelf keeps of its last read, and its counts of faults.
+#[derive(Drop)]
+pub struct ShelfCounts {
+    name: ToldName,
+    given: u64,
+    before: u64,
+    read_faults: u64,
+    write_faults: u64,
+}
+
+impl Model for ShelfCounts {
+    ghost use Rattle.tl_io.specs.ShelfCounts.{Counted};
+
+    ghost Value = { Counted };
+
+    ghost view = { λ counts. record {
+      name = counts.name;
+      given = counts.given;
+      before = counts.before;
+      read_faults = counts.read_faults;
+      write_faults = counts.write_faults;
+    } };
+}
+
+impl ShelfCounts {
+    ghost use Rattle.tl_io.specs.ShelfCounts.{no_counts};
+
+    pub fn new() -> ShelfCounts
+        ensures { result ≡ no_counts }
+    {
+        ShelfCounts {
+            name: ToldName::new(),
+            given: 0,
+            before: 0,
+            read_faults: 0,
+            write_faults: 0,
+        }
+    }
+
+    /// A read of this file begins.
+    pub fn begin_read(&mut self, name: &str)
+        ensures { self.new ≡ record self.old { name = take 4096 name.now; given = 0; before = self.old.read_faults } }
+    {
+        self.name.set(name.as_bytes());
+        self.given = 0;
+        self.before = self.read_faults;
+    }
+
+    /// Bytes were given.
+    pub fn give(&mut self, count: usize)
+        ensures { self.new ≡ record self.old { given = count_of (self.old.given + count) } }
+    {
+        self.given = self.given.saturating_add(count as u64);
+    }
+
+    /// A read failed.
+    pub fn count_read_fault(&mut self)
+        ensures { self.new ≡ record self.old { read_faults = count_of (self.old.read_faults + 1) } }
+    {
+        self.read_faults = self.read_faults.saturating_add(1);
+    }
+
+    /// A write failed.
+    pub fn count_write_fault(&mut self)
+        ensures { self.new ≡ record self.old { write_faults = count_of (self.old.write_faults + 1) } }
+    {
+        self.write_faults = self.write_faults.saturating_add(1);
+    }
+}

@@ -1,0 +1,60 @@
+ghost use Rattle.std.specs.Prelude.{◌≡◌, ◌-◌, ◌^◌, ◌≤◌, None, OnOk};
+ghost use Rattle.std.specs.Io.KnownBytes.{Appends};
+ghost use Rattle.std.proofs.Common.{rules};
+ghost use Rattle.tl_io.specs.Causes.{HasCause};
+ghost use Rattle.tl_io.specs.Counts.{count_of};
+ghost use Rattle.tl_io.specs.Shelf.{no_shelf};
+ghost use Rattle.tl_io.specs.StdSinkValue.{StdSinkValue};
+
+use crate::inner_write::write_whole;
+use crate::{Failed, Sink};
+use std::io::Write;
+use std::marker::Model;
+
+/// A sink over a writer of std. As a sink it tells nothing of the bytes; where the writer tells what it holds, `Ok` of
+/// a `put` has appended the piece there.
+#[derive(Drop)]
+pub struct StdSink<W: Write + Drop> {
+    writer: W,
+    faults: u64,
+}
+
+impl<W: Write + Drop> Model for StdSink<W> {
+    ghost Value = { StdSinkValue };
+
+    ghost view = { λ sink. record { contents = W.contents sink.writer; faults = sink.faults } };
+}
+
+impl<W: Write + Drop> StdSink<W> {
+    /// A sink over this writer, with no fault so far.
+    pub fn make(writer: W) -> StdSink<W>
+        ensures { result ≡ record { contents = W.contents writer; faults = 0 } }
+    {
+        StdSink { writer, faults: 0 }
+    }
+}
+
+impl<W: Write + Drop> Sink for StdSink<W> {
+    ghost bytes = { λ sink. None };
+
+    ghost faults = { λ sink. count_of sink.faults };
+
+    ghost through = { λ sink. None };
+
+    ghost others = { λ sink. no_shelf };
+
+    fn put(&mut self, piece: &[u8]) -> Result<(), Failed>
+        ensures cause { HasCause (count_of self.old.faults) (count_of self.new.faults) result }
+        ensures written { OnOk result (Appends self.old.contents self.new.contents piece.now) }
+    {
+        match write_whole(&mut self.writer, piece) {
+            Ok(()) => Ok(()),
+            Err(Failed) => {
+                self.faults = self.faults.saturating_add(1);
+                Err(Failed)
+            }
+        }
+    }
+
+    ghost faults_end = { λ sink. Prim.search rules };
+}

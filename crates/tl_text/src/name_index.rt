@@ -1,0 +1,93 @@
+//! Names, numbered in the order in which they were first seen.
+ghost use Rattle.std.specs.Prelude.{◌≡◌, ℕ, [], ◌∷◌, ◌++◌, length, None, Some, IfOk, OnOk, OnErr};
+ghost use Rattle.tl_text.specs.NameIndex.{place_of, names_of};
+
+use indexmap::IndexSet;
+use std::alloc::{AllocError, Global};
+use std::marker::Model;
+
+/// Names in the order in which they were added, each found by its hash. Contracts see the list of the names.
+#[derive(Drop)]
+pub struct NameIndex {
+    names: IndexSet<Vec<u8>>,
+}
+
+impl Model for NameIndex {
+    ghost use Rattle.std.specs.Prelude.{ℕ, List};
+    ghost use Rattle.tl_text.specs.NameIndex.{names_of};
+
+    ghost Value = { List (List ℕ) };
+
+    ghost view = { λ n. names_of n.names.keys };
+}
+
+impl NameIndex {
+    /// No names yet. It takes no memory.
+    pub fn new(alloc: Global) -> NameIndex
+        ensures { result ≡ [] }
+    {
+        NameIndex {
+            names: IndexSet::new(alloc),
+        }
+    }
+
+    /// How many names there are, in constant time.
+    pub fn len(&self) -> usize
+        ensures { result ≡ length self.now }
+    {
+        self.names.len()
+    }
+
+    /// The place of a name, counted from 0; `None` exactly where it isn't among them. It takes time linear in the name's
+    /// bytes, on average over the hashes.
+    pub fn place(&self, name: &[u8]) -> Option<usize>
+        ensures { result ≡ place_of self.now name.now }
+    {
+        self.names.get_index_of(name)
+    }
+
+    /// Adds a name that isn't among them at the end, and copies its bytes. `Err` comes only for want of memory, and adds
+    /// nothing. It takes time linear in the name's bytes, on average over the calls and hashes.
+    pub fn add(&mut self, alloc: Global, name: &[u8]) -> Result<(), AllocError>
+        requires { place_of self.old name.now ≡ None }
+        ensures ok { OnOk result (self.new ≡ self.old ++ name.now ∷ []) }
+        ensures err { OnErr result (self.new ≡ self.old) }
+    {
+        let copy = Vec::from_slice(alloc, name)?;
+        self.names.insert_full(copy)?;
+        Ok(())
+    }
+}
+
+#[cfg(test)]
+mod tests {
+    use super::*;
+    use std::process::Abort;
+    use std::test::Fail;
+
+    // Adds a name that isn't there yet.
+    fn add_new(
+        rt: &impl Abort,
+        names: &mut NameIndex,
+        alloc: Global,
+        name: &[u8],
+    ) -> Result<(), AllocError> {
+        assert!(rt; names.place(name).is_none());
+        names.add(alloc, name)
+    }
+
+    #[test]
+    fn places_of_three_names(rt: HostRuntime) -> Result<(), Fail> {
+        let alloc = rt.alloc();
+        let mut names = NameIndex::new(alloc);
+        add_new(&rt, &mut names, alloc, b"clk")?;
+        add_new(&rt, &mut names, alloc, b"a")?;
+        add_new(&rt, &mut names, alloc, b"A")?;
+        assert_eq!(rt; names.len(), 3);
+        assert_eq!(rt; names.place(b"clk"), Some(0));
+        assert_eq!(rt; names.place(b"a"), Some(1));
+        assert_eq!(rt; names.place(b"A"), Some(2));
+        assert_eq!(rt; names.place(b"cl"), None);
+        Ok(())
+    }
+}
