@@ -1,0 +1,53 @@
+-- Making rows and covers again, over nodes that extend those that they left, adds nothing and gives the same literals.
+use Rattle.std.proofs.Common.{◌≡◌, ℕ, zero, suc, min, max, List, [], ◌∷◌, ◌++◌, length, refl, ap, ◌∙◌}
+use Rattle.blif_read.specs.CoverValue.{RowValue, CoverValue}
+use Rattle.blif_read.specs.declared.cell.Cell.{Cell}
+use Rattle.aig_core.specs.declared.lit.Lit.{Lit}
+use Rattle.aig_core.specs.declared.lit.Pair.{Pair}
+use Rattle.aig_core.specs.And.{complement, Answer}
+use Rattle.aig_core.proofs.GrowthLemmas.{Extends, Extends-trans, and_again, and_grows}
+use Rattle.aig_build.specs.Balanced.{product_of, front_half, back_half, balanced, balanced_and}
+use Rattle.aig_build.specs.CoverGraph.{row_literals, row_made, Literals, rows_made, cover_made}
+use Rattle.aig_build.proofs.BalancedLemmas.{balanced-grows}
+use Rattle.aig_build.proofs.CoverLemmas.{rows_made-grows}
+
+-- of a balanced AND
+pub balanced-again : (first depth : ℕ) (ps qs : List Pair) (lits : List Lit) → Extends (balanced first depth ps lits).pairs qs → balanced first depth qs lits ≡ record { pairs = qs; lit = (balanced first depth ps lits).lit }
+balanced-again first zero ps qs lits e = refl
+balanced-again first (suc depth) ps qs [] e = refl
+balanced-again first (suc depth) ps qs (a ∷ []) e = refl
+balanced-again first (suc depth) ps qs (a ∷ b ∷ rest) e =
+    let lits : List Lit = a ∷ b ∷ rest in
+    let x : Answer = balanced first depth ps (front_half lits) in
+    let y : Answer = balanced first depth x.pairs (back_half lits) in
+    let out : Answer = product_of first y.pairs x.lit y.lit in
+    let ey : Extends y.pairs qs = Extends-trans y.pairs out.pairs qs (and_grows first y.pairs (min x.lit y.lit) (max x.lit y.lit)) e in
+    let ex : Extends x.pairs qs = Extends-trans x.pairs y.pairs qs (balanced-grows first depth x.pairs (back_half lits)) ey in
+    let after : Answer → Answer → Answer = λ v w. product_of first w.pairs v.lit w.lit in
+    let rx : balanced first depth qs (front_half lits) ≡ record { pairs = qs; lit = x.lit } = balanced-again first depth ps qs (front_half lits) ex in
+    let ry : balanced first depth qs (back_half lits) ≡ record { pairs = qs; lit = y.lit } = balanced-again first depth x.pairs qs (back_half lits) ey in
+    ap (λ (v : Answer). after v (balanced first depth v.pairs (back_half lits))) rx
+    ∙ ap (λ (w : Answer). product_of first w.pairs x.lit w.lit) ry
+    ∙ and_again first y.pairs qs (min x.lit y.lit) (max x.lit y.lit) e
+
+-- of a row
+pub row_made-again : (first : ℕ) (ps qs : List Pair) (cells : List Cell) (inputs : List Lit) → Extends (row_made first ps cells inputs).pairs qs → row_made first qs cells inputs ≡ record { pairs = qs; lit = (row_made first ps cells inputs).lit }
+row_made-again first ps qs cells inputs e = balanced-again first (length (row_literals cells inputs)) ps qs (row_literals cells inputs) e
+
+-- of the rows of a cover
+pub rows_made-again : (first : ℕ) (ps qs : List Pair) (lits : List Lit) (rows : List RowValue) (inputs : List Lit) → Extends (rows_made first ps lits rows inputs).pairs qs
+    → rows_made first qs lits rows inputs ≡ record { pairs = qs; lits = (rows_made first ps lits rows inputs).lits }
+rows_made-again first ps qs lits [] inputs e = refl
+rows_made-again first ps qs lits (row ∷ rows) inputs e =
+    let m : Answer = row_made first ps row.cells inputs in
+    let more : List Lit = lits ++ record { 0 = complement m.lit } ∷ [] in
+    let em : Extends m.pairs qs = Extends-trans m.pairs (rows_made first m.pairs more rows inputs).pairs qs (rows_made-grows first m.pairs more rows inputs) e in
+    ap (λ (v : Answer). rows_made first v.pairs (lits ++ record { 0 = complement v.lit } ∷ []) rows inputs) (row_made-again first ps qs row.cells inputs em)
+    ∙ rows_made-again first m.pairs qs more rows inputs e
+
+-- of a cover
+pub cover_made-again : (first : ℕ) (ps qs : List Pair) (cover : CoverValue) (inputs : List Lit) → Extends (cover_made first ps cover inputs).pairs qs → cover_made first qs cover inputs ≡ record { pairs = qs; lit = (cover_made first ps cover inputs).lit }
+cover_made-again first ps qs cover inputs e =
+    let rows : Literals = rows_made first ps [] cover.rows inputs in
+    let er : Extends rows.pairs qs = Extends-trans rows.pairs (balanced_and first rows.pairs rows.lits).pairs qs (balanced-grows first (length rows.lits) rows.pairs rows.lits) e in
+    rw (rows_made-again first ps qs [] cover.rows inputs er, balanced-again first (length rows.lits) rows.pairs qs rows.lits e) refl

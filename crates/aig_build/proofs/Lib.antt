@@ -1,0 +1,3 @@
+pub mod BalancedLemmas
+pub mod CoverLemmas
+pub mod AgainLemmas

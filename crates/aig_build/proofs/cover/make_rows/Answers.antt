@@ -1,0 +1,36 @@
+use Rattle.std.proofs.Common.{◌≡◌, ◌≤◌, ◌∙◌, ap, drop, length, rules, subst, List}
+use Rattle.blif_read.specs.CoverValue.{RowValue}
+use Rattle.aig_core.specs.declared.lit.Lit.{Lit}
+use Rattle.aig_core.specs.Aig.{Aig, first_and}
+use Rattle.aig_core.specs.And.{Answer}
+use Rattle.aig_core.proofs.GrowthLemmas.{Extends}
+use Rattle.aig_build.specs.CoverGraph.{Literals, row_made, rows_made}
+use Rattle.aig_build.proofs.BalancedLemmas.{full_weaker}
+use Rattle.aig_build.proofs.CoverLemmas.{AreLits-more, AreLits-next, row_made-grows, rows_made-next, rows_made-row_length, with_pairs-again}
+use Rattle.aig_build.proofs.cover.make_rows.Goals as goal
+
+pub returns-in_err-lit-clause-full : goal.returns-in_err-lit-clause-full
+returns-in_err-lit-clause-full c =
+    let g : Aig = c.args.graph.now in
+    let g0 : Aig = c.loop-row.graph in
+    let row : RowValue = c.row-item.result in
+    let m : g0.max ≡ g.max = ap (λ (h : Aig). h.max) c.loop-row.invariant.graph in
+    let l : length (row_made (first_and g0) g0.pairs row.cells c.args.inputs.now).pairs ≤ length (rows_made (first_and g0) g0.pairs c.loop-row.lits.items (drop c.loop-row.row-index c.args.rows.now) c.args.inputs.now).pairs =
+    rows_made-row_length (first_and g0) g0.pairs c.loop-row.lits.items c.args.rows.now c.args.inputs.now c.loop-row.row-index row c.loop-row-test.true c.row-item.is in
+    full_weaker g0.max g.max _ _ m (subst (λ (s : Literals). length (row_made (first_and g0) g0.pairs row.cells c.args.inputs.now).pairs ≤ length s.pairs) c.loop-row.invariant.made l) (search rules)
+
+pub loop-row-preserved : goal.loop-row-preserved
+loop-row-preserved c =
+    let g0 : Aig = c.loop-row.graph in
+    let g1 : Aig = c.make_row.new.graph in
+    let row : RowValue = c.row-item.result in
+    let inputs : List Lit = c.args.inputs.now in
+    let m : Answer = row_made (first_and g0) g0.pairs row.cells inputs in
+    let grows : Extends g0.pairs m.pairs = row_made-grows (first_and g0) g0.pairs row.cells inputs in
+    rw c.in_ok-push.ensures.items (record {
+      graph = with_pairs-again c.args.graph.now g0 g1 g0.pairs m.pairs c.loop-row.invariant.graph c.in_ok-lit.ensures.pairs;
+      made = rows_made-next g0 g1 c.loop-row.lits.items c.args.rows.now inputs c.loop-row.row-index row c.in_ok-lit.lit.0 c.complement.result c.loop-row-test.true c.row-item.is c.in_ok-lit.ensures.pairs c.in_ok-lit.ensures.lit c.complement.ensures
+          ∙ c.loop-row.invariant.made;
+      members = AreLits-more g0 g1 m.pairs inputs grows c.in_ok-lit.ensures.pairs c.loop-row.invariant.members;
+      lits = AreLits-next g0 g1 m.pairs c.loop-row.lits.items c.in_ok-lit.lit.0 c.complement.result grows c.in_ok-lit.ensures.pairs c.loop-row.invariant.lits c.in_ok-lit.ensures.is_lit c.complement.ensures;
+    })

@@ -1,0 +1,94 @@
+use Rattle.std.proofs.Common.{◌≡◌, ℕ, zero, suc, ◌+◌, ◌/◌, ◌<◌, Bool, true, false, eqb, ltb, List, [], ◌∷◌, ◌++◌, length, get_or, Option, Some, None, refl, sym, ap, ◌∙◌, arith, length-append, append_assoc, append-nil}
+use Rattle.std.specs.List.{slice_get, position, position_or_len}
+use Rattle.std.proofs.lemmas.Option.{none-some, slice_get-get_or}
+use Rattle.std.proofs.lemmas.List.Quantifiers.{position-Some}
+use Rattle.std.proofs.lemmas.List.Sums.{position_or_len_is}
+use Rattle.std.proofs.Math.ListN.{get_or-append}
+use Rattle.std.proofs.Math.Seq.{get_or-append_seam}
+use Rattle.std.proofs.lemmas.Bool.{lt-ltb, cond-true, and_from, eq-eqb}
+use Rattle.aig_core.specs.declared.lit.Pair.{Pair}
+use Rattle.aig_core.specs.Aig.{AreNormal}
+use Rattle.aig_core.specs.And.{is_pair, Answer, and_in_order, found_or_new}
+use Rattle.list_words.proofs.Choice.{choose_one, choose_both}
+use Rattle.aig_core.proofs.Keeping.{fails_everywhere}
+
+-- qs are ps and maybe more
+pub record Extends (ps qs : List Pair) : Type 0 where
+  pub more : List Pair
+  pub is : qs ≡ ps ++ more
+
+pub Extends-refl : (ps : List Pair) → Extends ps ps
+Extends-refl ps = record { more = []; is = sym (append-nil ps) }
+
+pub Extends-trans : (ps qs rs : List Pair) → Extends ps qs → Extends qs rs → Extends ps rs
+Extends-trans ps qs rs a b = record { more = a.more ++ b.more; is = b.is ∙ ap (λ l. l ++ b.more) a.is ∙ append_assoc ps a.more b.more }
+
+-- the first place that passes
+position_is : (test : Pair → Bool) (xs : List Pair) (i : ℕ) (d : Pair) → i < length xs → ((k : ℕ) → k < i → test (get_or xs k d) ≡ false) → test (get_or xs i d) ≡ true → position test xs ≡ Some i
+position_is test xs i d l before here =
+    let e : position_or_len test xs ≡ i = position_or_len_is test xs i d (omega arith) before (λ _. here) in
+    cond-true (ltb (position_or_len test xs) (length xs)) (Some (position_or_len test xs)) None (lt-ltb (position_or_len test xs) (length xs) (omega arith)) ∙ ap (λ n. Some n) e
+
+-- a place that is found stays found
+found_stays : (test : Pair → Bool) (ps qs : List Pair) (i : ℕ) (d : Pair) → Extends ps qs → position test ps ≡ Some i → position test qs ≡ Some i
+found_stays test ps qs i d e at =
+    let h = position-Some test ps i d at in
+    let n : length (ps ++ e.more) ≡ length ps + length e.more = length-append ps e.more in
+    let same : (k : ℕ) → k < length ps → get_or (ps ++ e.more) k d ≡ get_or ps k d = λ k l. get_or-append ps e.more d k l in
+    ap (λ l. position test l) e.is
+    ∙ position_is test (ps ++ e.more) i d (let l : i < length ps = h.0 in omega arith)
+    (λ k l. rw (same k (let m : i < length ps = h.0 in omega arith)) (h.2 k l)) (rw (same i h.0) h.1)
+
+-- a new pair is found where it was put
+new_found : (test : Pair → Bool) (ps qs : List Pair) (p : Pair) → Extends (ps ++ p ∷ []) qs → position test ps ≡ None → test p ≡ true → position test qs ≡ Some (length ps)
+new_found test ps qs p e none here =
+    let regroup : qs ≡ ps ++ (p ∷ e.more) = e.is ∙ append_assoc ps (p ∷ []) e.more in
+    let n : length (ps ++ (p ∷ e.more)) ≡ length ps + length (p ∷ e.more) = length-append ps (p ∷ e.more) in
+    ap (λ l. position test l) regroup
+    ∙ position_is test (ps ++ (p ∷ e.more)) (length ps) p (omega arith)
+    (λ k l. rw (get_or-append ps (p ∷ e.more) p k l) (fails_everywhere test ps k (get_or ps k p) none (slice_get-get_or ps k p l)))
+    (rw (get_or-append_seam ps p e.more p) here)
+
+pair_here : (x y : ℕ) → is_pair x y (record { x = record { 0 = x }; y = record { 0 = y } }) ≡ true
+pair_here x y = and_from (eqb x x) (eqb y y) (eq-eqb x x refl) (eq-eqb y y refl)
+
+-- the answer is the same over any pairs that extend those that it left
+abbrev Stays : List Pair → Answer → Answer → Type 0
+Stays qs a b = Extends a.pairs qs → b ≡ record { pairs = qs; lit = a.lit }
+
+found_or_new_again : (first : ℕ) (ps qs : List Pair) (x y : ℕ) (o : Option ℕ) → position (is_pair x y) ps ≡ o → Stays qs (found_or_new first ps x y o) (found_or_new first qs x y (position (is_pair x y) qs))
+found_or_new_again first ps qs x y (Some i) at e = ap (λ o. found_or_new first qs x y o) (found_stays (is_pair x y) ps qs i (record { x = record { 0 = x }; y = record { 0 = y } }) e at)
+found_or_new_again first ps qs x y None at e = ap (λ o. found_or_new first qs x y o) (new_found (is_pair x y) ps qs (record { x = record { 0 = x }; y = record { 0 = y } }) e at (pair_here x y))
+
+pub and_again : (first : ℕ) (ps qs : List Pair) (x y : ℕ) → Stays qs (and_in_order first ps x y) (and_in_order first qs x y)
+and_again first ps qs x y =
+    choose_both (Stays qs) (eqb x 0) _ _ _ _ (λ e. refl)
+    (choose_both (Stays qs) (eqb x 1) _ _ _ _ (λ e. refl)
+    (choose_both (Stays qs) (eqb x y) _ _ _ _ (λ e. refl)
+    (choose_both (Stays qs) (eqb (x / 2) (y / 2)) _ _ _ _ (λ e. refl)
+    (found_or_new_again first ps qs x y (position (is_pair x y) ps) refl))))
+
+-- `and` only adds
+new_grows : (first : ℕ) (ps : List Pair) (x y : ℕ) (o : Option ℕ) → Extends ps (found_or_new first ps x y o).pairs
+new_grows first ps x y (Some i) = Extends-refl ps
+new_grows first ps x y None = record { more = record { x = record { 0 = x }; y = record { 0 = y } } ∷ []; is = refl }
+
+pub and_grows : (first : ℕ) (ps : List Pair) (x y : ℕ) → Extends ps (and_in_order first ps x y).pairs
+and_grows first ps x y =
+    let P : Answer → Type 0 = λ a. Extends ps a.pairs in
+    choose_one P (eqb x 0) _ _ (Extends-refl ps)
+    (choose_one P (eqb x 1) _ _ (Extends-refl ps)
+    (choose_one P (eqb x y) _ _ (Extends-refl ps)
+    (choose_one P (eqb (x / 2) (y / 2)) _ _ (Extends-refl ps)
+    (new_grows first ps x y (position (is_pair x y) ps)))))
+
+slice_get-append_left : {A : Type 0} (xs ys : List A) (i : ℕ) (x : A) → slice_get xs i ≡ Some x → slice_get (xs ++ ys) i ≡ Some x
+slice_get-append_left [] ys i x h = absurd (none-some x h)
+slice_get-append_left (y ∷ xs) ys zero x h = h
+slice_get-append_left (y ∷ xs) ys (suc i) x h = slice_get-append_left xs ys i x h
+
+-- the first of some normal pairs are normal
+pub AreNormal-front : (first : ℕ) (ps qs : List Pair) → Extends ps qs → AreNormal first qs → AreNormal first ps
+AreNormal-front first ps qs e are =
+    let stays : (i : ℕ) (p : Pair) → slice_get ps i ≡ Some p → slice_get qs i ≡ Some p = λ i p h. rw e.is (slice_get-append_left ps e.more i p h) in
+    record { each = λ i p h. are.each i p (stays i p h); once = λ i j p h k. are.once i j p (stays i p h) (stays j p k) }

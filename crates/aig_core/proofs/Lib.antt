@@ -1,0 +1,4 @@
+pub mod Keeping
+pub mod ValueLemmas
+pub mod GrowthLemmas
+pub mod ProductLemmas

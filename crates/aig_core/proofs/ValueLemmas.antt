@@ -1,0 +1,39 @@
+use Rattle.std.proofs.Common.{◌≡◌, ℕ, zero, suc, ◌+◌, ◌/◌, ◌%◌, ◌<◌, Bool, false, ◌&&◌, eqb, List, [], ◌∷◌, ◌++◌, length, get_or, Some, refl, sym, ap, ◌∙◌, subst, arith, length-append}
+use Rattle.std.specs.List.{slice_get}
+use Rattle.std.proofs.lemmas.Option.{none-some, same_Some}
+use Rattle.std.proofs.lemmas.List.{get_or_push}
+use Rattle.std.proofs.Math.ListN.{get_or-append}
+use Rattle.aig_core.specs.declared.lit.Pair.{Pair}
+use Rattle.aig_core.specs.Value.{xor, value_of, values_from}
+
+-- the values so far stay
+pub values_old : (vs : List Bool) (ps : List Pair) (i : ℕ) → i < length vs → get_or (values_from vs ps) i false ≡ get_or vs i false
+values_old vs [] i l = refl
+values_old vs (p ∷ ps) i l =
+    let v : Bool = value_of vs p.x.0 && value_of vs p.y.0 in
+    let m : i < length (vs ++ v ∷ []) = omega (arith, length-append vs (v ∷ [])) in
+    values_old (vs ++ v ∷ []) ps i m ∙ get_or-append vs (v ∷ []) false i l
+
+pub value_of_old : (vs : List Bool) (ps : List Pair) (lit : ℕ) → lit / 2 < length vs → value_of (values_from vs ps) lit ≡ value_of vs lit
+value_of_old vs ps lit l = ap (λ b. xor b (eqb (lit % 2) 1)) (values_old vs ps (lit / 2) l)
+
+-- the value of a node is the product of its literals' values
+pub values_node : (vs : List Bool) (ps : List Pair) (i : ℕ) (p : Pair) → slice_get ps i ≡ Some p → p.x.0 / 2 < length vs + i → p.y.0 / 2 < length vs + i
+    → get_or (values_from vs ps) (length vs + i) false ≡ (value_of (values_from vs ps) p.x.0 && value_of (values_from vs ps) p.y.0)
+values_node vs [] i p at x y = absurd (none-some p at)
+values_node vs (q ∷ qs) zero p at x y =
+    let e : q ≡ p = same_Some q p at in
+    let v : Bool = value_of vs q.x.0 && value_of vs q.y.0 in
+    let n : length (vs ++ v ∷ []) ≡ length vs + 1 = length-append vs (v ∷ []) in
+    let qx : q.x.0 / 2 < length vs = subst (λ (r : Pair). r.x.0 / 2 < length vs) (sym e) (omega arith) in
+    let qy : q.y.0 / 2 < length vs = subst (λ (r : Pair). r.y.0 / 2 < length vs) (sym e) (omega arith) in
+    let here : get_or (values_from (vs ++ v ∷ []) qs) (length vs + 0) false ≡ v = values_old (vs ++ v ∷ []) qs (length vs + 0) (omega arith) ∙ get_or_push vs v false (length vs + 0) (omega arith) in
+    let px : value_of (values_from (vs ++ v ∷ []) qs) q.x.0 ≡ value_of vs q.x.0 = value_of_old vs (q ∷ qs) q.x.0 qx in
+    let py : value_of (values_from (vs ++ v ∷ []) qs) q.y.0 ≡ value_of vs q.y.0 = value_of_old vs (q ∷ qs) q.y.0 qy in
+    here ∙ sym (ap (λ b. b && value_of (values_from (vs ++ v ∷ []) qs) q.y.0) px ∙ ap (λ b. value_of vs q.x.0 && b) py)
+    ∙ ap (λ (r : Pair). value_of (values_from (vs ++ v ∷ []) qs) r.x.0 && value_of (values_from (vs ++ v ∷ []) qs) r.y.0) e
+values_node vs (q ∷ qs) (suc i) p at x y =
+    let v : Bool = value_of vs q.x.0 && value_of vs q.y.0 in
+    let n : length (vs ++ v ∷ []) ≡ length vs + 1 = length-append vs (v ∷ []) in
+    let s : length vs + suc i ≡ length (vs ++ v ∷ []) + i = omega arith in
+    rw s (values_node (vs ++ v ∷ []) qs i p at (omega arith) (omega arith))

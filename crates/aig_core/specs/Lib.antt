@@ -1,0 +1,5 @@
+pub mod Aig
+pub mod And
+pub mod Value
+pub mod Roots
+pub mod Keeps

@@ -1,0 +1,226 @@
+//! The graph: a vector of pairs, and a hashed index beside it.
+ghost use Rattle.std.specs.Prelude.{◌≡◌, ℕ, ◌+◌, ◌-◌, ◌*◌, ◌/◌, ◌^◌, ◌<◌, ◌≤◌, ◌↔◌, [], ◌∷◌, ◌++◌, length, Some, None, slice_get, vec_len, IfOk, OnErr, OnOk, position};
+ghost use Rattle.aig_core.specs.And.{is_pair};
+
+use crate::lit::{Kind, Lit, Pair, lit_value};
+use crate::steps::Steps;
+use indexmap::IndexSet;
+use std::alloc::{AllocError, AllocFailed, Global};
+use std::marker::Model;
+use std::sync::ledger::Ledger;
+
+/// Why a node was not added.
+#[derive(Debug, PartialEq, Eq, Drop)]
+pub enum AigErr {
+    Full,
+    Memory,
+}
+
+/// A graph.
+#[derive(Drop)]
+pub struct Graph {
+    kinds: Vec<Kind>,
+    pairs: Vec<Pair>,
+    index: IndexSet<Pair>,
+    max: u32,
+}
+
+impl Model for Graph {
+    ghost use Rattle.std.specs.Prelude.{length, ◌+◌, ◌<◌, ◌≤◌, ◌^◌};
+    ghost use Rattle.aig_core.specs.Aig.{Aig, AreNormal};
+
+    ghost Value = { Aig };
+
+    ghost view = { λ g. record { kinds = g.kinds.items; pairs = g.pairs.items; max = g.max } };
+
+    ghost use Rattle.aig_core.specs.Keeps.{Keeps};
+
+    ghost invariant = { λ g. Keeps g.kinds.items g.pairs.items g.index.keys g.max };
+}
+
+impl<T: Drop> From<AllocFailed<T>> for AigErr {
+    ghost use Rattle.std.specs.Prelude.{◌≡◌};
+    ghost use Rattle.aig_core.specs.declared.graph.AigErr.TheVariants.{Memory};
+
+    ghost from_gives = { λ _ e. e ≡ Memory };
+
+    fn from(_: AllocFailed<T>) -> AigErr {
+        AigErr::Memory
+    }
+}
+
+// The place of a pair, by its hash.
+fn place_of(index: &IndexSet<Pair>, pair: Pair) -> Option<usize>
+    ensures { result ≡ position (is_pair pair.x.0 pair.y.0) index.now.keys }
+{
+    index.get_index_of(&pair)
+}
+
+// A new pair at the end of both.
+fn push_both(
+    pairs: &mut Vec<Pair>,
+    index: &mut IndexSet<Pair>,
+    pair: Pair,
+) -> Result<(), AllocError>
+    requires { position (is_pair pair.x.0 pair.y.0) index.old.keys ≡ None }
+    ensures pairs { OnOk result (pairs.new.items ≡ pairs.old.items ++ pair ∷ []) }
+    ensures keys { OnOk result (index.new.keys ≡ index.old.keys ++ pair ∷ []) }
+    ensures err { OnErr result ((pairs.new.items ≡ pairs.old.items) × (index.new.keys ≡ index.old.keys)) }
+{
+    pairs.reserve(1)?;
+    index.insert_full(pair)?;
+    let _done = pairs.push(pair);
+    Ok(())
+}
+
+impl From<AllocError> for AigErr {
+    ghost use Rattle.std.specs.Prelude.{◌≡◌};
+    ghost use Rattle.aig_core.specs.declared.graph.AigErr.TheVariants.{Memory};
+
+    ghost from_gives = { λ _ e. e ≡ Memory };
+
+    fn from(_: AllocError) -> AigErr {
+        AigErr::Memory
+    }
+}
+
+impl Graph {
+    ghost use Rattle.aig_core.specs.Aig.{IsNormal, Aig, AreNormal, IsLit, IsAnd, first_and, node_count, pair_of};
+    ghost use Rattle.aig_core.specs.And.{and_in_order, and_of, with_pairs};
+    ghost use Rattle.aig_core.specs.Value.{values_of, IsProduct, KeepsValues};
+
+    /// A graph with these sources and no AND node, for at most `max` AND nodes.
+    ///
+    /// `Err` comes only for want of memory.
+    pub fn make(alloc: Global, kinds: Vec<Kind>, max: u32) -> Result<Graph, AllocError>
+        requires { vec_len kinds + max < 2 ^ 30 }
+        ensures { IfOk result (λ g. g ≡ record { kinds = kinds.items; pairs = []; max = max }) }
+    {
+        Ok(Graph {
+            kinds,
+            pairs: Vec::new(alloc),
+            index: IndexSet::new(alloc),
+            max,
+        })
+    }
+
+    /// How many sources there are: they have the indices from 1 on.
+    pub fn sources(&self) -> u32
+        ensures count { result ≡ length self.now.kinds }
+        ensures small { result < 2 ^ 30 }
+    {
+        self.kinds.len() as u32
+    }
+
+    /// How many indices there are: the constant, the sources and the AND nodes.
+    ///
+    /// It also tells what every graph keeps of its pairs.
+    pub fn len(&self) -> u32
+        ensures count { result ≡ node_count self.now }
+        ensures small { result ≤ 2 ^ 30 }
+        ensures room { length self.now.pairs ≤ self.now.max }
+        ensures normal { AreNormal (first_and self.now) self.now.pairs }
+    {
+        1 + self.kinds.len() as u32 + self.pairs.len() as u32
+    }
+
+    /// The kind of the source with index `n`.
+    pub fn kind(&self, n: u32) -> Kind
+        requires above { 1 ≤ n }
+        requires below { n < first_and self.now }
+        ensures { slice_get self.now.kinds (n - 1) ≡ Some result }
+    {
+        self.kinds[n as usize - 1]
+    }
+
+    /// The product of two literals: a constant or one of them where that is its value, else the positive literal of
+    /// the AND node of the two, which is made where it doesn't stand yet (structural hashing).
+    ///
+    /// `Full` comes exactly where a node is wanted and `max` of them stand, `Memory` only for want of memory, and
+    /// both leave the graph as it was. It takes expected constant time.
+    pub fn and(&mut self, a: Lit, b: Lit) -> Result<Lit, AigErr>
+        requires a_in { IsLit self.old a.0 }
+        requires b_in { IsLit self.old b.0 }
+        ensures lit { IfOk result (λ lit. lit.0 ≡ (and_of self.old a.0 b.0).lit) }
+        ensures ok { OnOk result (self.new ≡ with_pairs self.old (and_of self.old a.0 b.0).pairs) }
+        ensures err { OnErr result (self.new ≡ self.old) }
+        ensures full { (result ≡ Err AigErr.Full) ↔ (self.old.max < length (and_of self.old a.0 b.0).pairs) }
+
+        // What this means: a literal of the graph whose value is the product, while all others keep theirs.
+        ensures is_lit { IfOk result (λ lit. IsLit self.new lit.0) }
+        ensures product { IfOk result (λ lit. IsProduct self.old a.0 b.0 self.new lit.0) }
+        ensures kept { KeepsValues self.old self.new }
+    {
+        let lit = self.and_in_order(a.0.min(b.0), a.0.max(b.0))?;
+        Ok(lit)
+    }
+
+    // The product of two literals in ascending order.
+    fn and_in_order(&mut self, x: u32, y: u32) -> Result<Lit, AigErr>
+        requires order { x ≤ y }
+        requires y_in { IsLit self.old y }
+        ensures lit { IfOk result (λ lit. lit.0 ≡ (and_in_order (first_and self.old) self.old.pairs x y).lit) }
+        ensures ok { OnOk result (self.new ≡ with_pairs self.old (and_in_order (first_and self.old) self.old.pairs x y).pairs) }
+        ensures err { OnErr result (self.new ≡ self.old) }
+        ensures full { (result ≡ Err AigErr.Full) ↔ (self.old.max < length (and_in_order (first_and self.old) self.old.pairs x y).pairs) }
+        ensures normal { AreNormal (first_and self.old) self.old.pairs }
+    {
+        let first = 1 + self.kinds.len() as u32;
+        if x == 0 {
+            return Ok(Lit(0));
+        }
+        if x == 1 {
+            return Ok(Lit(y));
+        }
+        if x == y {
+            return Ok(Lit(x));
+        }
+        if x / 2 == y / 2 {
+            return Ok(Lit(0));
+        }
+        let pair = Pair {
+            x: Lit(x),
+            y: Lit(y),
+        };
+        match place_of(&self.index, pair) {
+            Some(i) => Ok(Lit(2 * (first + i as u32))),
+            None => {
+                let i = self.pairs.len() as u32;
+                if i == self.max {
+                    return Err(AigErr::Full);
+                }
+                push_both(&mut self.pairs, &mut self.index, pair)?;
+                Ok(Lit(2 * (first + i)))
+            }
+        }
+    }
+
+    /// The pair of an AND node. It takes no memory, constant time, and counts as a step.
+    pub fn node<L: Ledger>(&self, n: u32, steps: &mut Steps<L>) -> Pair
+        requires { IsAnd self.now n }
+        ensures pair { pair_of self.now n ≡ Some result }
+        ensures normal { IsNormal n result }
+        ensures cost { steps.new ≡ steps.old + 1 }
+    {
+        steps.tick();
+        self.pairs[n as usize - 1 - self.kinds.len()]
+    }
+
+    /// The value of each index under the values of the sources, in time linear in their number.
+    ///
+    /// `Err` comes only for want of memory.
+    pub fn eval(&self, alloc: Global, sources: &[bool]) -> Result<Vec<bool>, AllocError>
+        requires { length sources.now ≡ length self.now.kinds }
+        ensures { IfOk result (λ values. values.items ≡ values_of self.now sources.now) }
+    {
+        let mut values = Vec::with_capacity(alloc, 1 + self.kinds.len() + self.pairs.len())?;
+        values.push(false)?;
+        values.extend_from_slice(sources)?;
+        for pair in &self.pairs {
+            let x = lit_value(&values, pair.x);
+            let y = lit_value(&values, pair.y);
+            values.push(x && y)?;
+        }
+        Ok(values)
+    }
+}

@@ -1,0 +1,27 @@
+//! And-inverter graphs with structural hashing.
+//!
+//! Every Boolean function can be built of two-input ANDs and complements. A graph keeps the ANDs as nodes and the
+//! complements on its edges, and makes no AND twice (Kuehlmann, Paruthi, Krohm and Ganai 2002).
+//!
+//! A node has an index: 0 is the constant 0, then come the sources, then the AND nodes in the order in which they
+//! were made. A source is regular or a parameter. A literal is twice an index, plus one for the complement of that
+//! node. An AND node is the pair of the literals whose product it is, its fan-ins.
+//!
+//! What every graph keeps (`specs/Keeps.antt`): the fan-ins of an AND node are literals of two different nodes, both
+//! below it and neither the constant, in ascending order; no pair stands twice; the hashed index that finds the node
+//! of a pair has the same pairs as the vector, in the same order.
+//!
+//! `specs/Aig.antt` has the graph, `specs/And.antt` the product of two literals, and `specs/Value.antt` their values.
+//! `proofs/ProductLemmas.antt` shows that the product has the value of an AND, and `proofs/GrowthLemmas.antt` that
+//! making it again adds nothing.
+#![tactic(auto)]
+
+mod graph;
+mod lit;
+mod steps;
+#[cfg(test)]
+mod tests;
+
+pub use graph::{AigErr, Graph};
+pub use lit::{Kind, Lit, Pair, Roots, lit_value};
+pub use steps::Steps;
