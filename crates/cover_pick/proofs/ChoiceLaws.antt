@@ -1,0 +1,163 @@
+-- The chosen cut by the rule's own words, and that the rule keeps within the required depth.
+use Rattle.std.proofs.Common.{◌≡◌, ℕ, ◌<◌, ◌≤◌, true, false, ◌&&◌, cond, ltb, eqb, List, [], ◌∷◌, length, Option, Some, None, refl, sym, ap, ◌∙◌, subst, inl, inr, ◌⊎◌, arith}
+use Rattle.std.proofs.lemmas.Option.{same_Some, none-some}
+use Rattle.std.proofs.lemmas.Bool.{cases_order, ltb-true, ltb-false, eqb-true, and_parts, and_from, false≢true, both_ways, lt-ltb, eq-eqb}
+use Rattle.list_words.specs.Members.{In}
+use Rattle.cut_enum.specs.Sets.{lex, before as comes_before, IsOrdered}
+use Rattle.cut_enum.specs.Covers.{height}
+use Rattle.list_words.proofs.Choice.{choose}
+use Rattle.aig_core.specs.Aig.{Aig, IsAnd}
+use Rattle.cut_enum.specs.Covers.{AreLabels}
+use Rattle.cover_pick.specs.Choice.{better, fewest, or_empty, choice_of, Precedes, fewer, lower, before, IsChosen}
+use Rattle.cover_pick.specs.Schedule.{Chooses}
+
+-- what `before` says
+before_says : (a b : List ℕ) → comes_before a b ≡ true → (length a < length b) ⊎ ((length a ≡ length b) × (lex a b ≡ true))
+before_says a b h0 =
+    choose (λ t. t ≡ true → (length a < length b) ⊎ ((length a ≡ length b) × (lex a b ≡ true))) (ltb (length a) (length b)) true (cond (eqb (length a) (length b)) (lex a b) false)
+    (λ c h. inl (ltb-true (length a) (length b) c))
+    (λ c. choose (λ t. t ≡ true → (length a < length b) ⊎ ((length a ≡ length b) × (lex a b ≡ true))) (eqb (length a) (length b)) (lex a b) false
+    (λ e h. inr (eqb-true (length a) (length b) e, h)) (λ e h. absurd (false≢true h))) h0
+
+-- the best of the cuts for which S holds
+record BestIn (S : List ℕ → Type 0) (label : ℕ → ℕ) (r : ℕ) (c : List ℕ) : Type 0 where
+  one : S c
+  low : height label c ≤ r
+  first : (d : List ℕ) → S d → height label d ≤ r → Precedes label c d
+
+State : (S : List ℕ → Type 0) → (ℕ → ℕ) → ℕ → Option (List ℕ) → Type 0
+State S label r None = (d : List ℕ) → S d → r < height label d
+State S label r (Some b) = BestIn S label r b
+
+-- the same of another way to say S
+state_of : (S Q : List ℕ → Type 0) (label : ℕ → ℕ) (r : ℕ) (o : Option (List ℕ)) → ((d : List ℕ) → S d → Q d) → ((d : List ℕ) → Q d → S d) → State S label r o → State Q label r o
+unfolding State
+state_of S Q label r None to from s = λ d q. s d (from d q)
+state_of S Q label r (Some b) to from s = record { one = to b s.one; low = s.low; first = λ d q l. s.first d (from d q) l }
+
+precedes_lower : (label : ℕ → ℕ) (b c d : List ℕ) → length c ≡ length b → height label c < height label b → Precedes label b d → Precedes label c d
+precedes_lower label b c d e l (fewer h) = fewer (omega arith)
+precedes_lower label b c d e l (lower f h) = lower (e ∙ f) (omega arith)
+precedes_lower label b c d e l (before f h o) = lower (e ∙ f) (omega arith)
+
+precedes_next : (label : ℕ → ℕ) (b c : List ℕ) → comes_before b c ≡ true → (length c ≡ length b → height label c < height label b → ⊥) → Precedes label b c
+precedes_next label b c h differ =
+    elim (before_says b c h) [
+      | inl l ↦ fewer l
+      | inr p ↦ elim (cases_order (height label b) (height label c)) [
+        | inl e ↦ before p.0 e (inr p.1)
+        | inr q ↦ elim q [ inl l ↦ lower p.0 l | inr l ↦ absurd (differ (sym p.0) l) ]
+      ]
+    ]
+
+step : (S : List ℕ → Type 0) (label : ℕ → ℕ) (r : ℕ) (o : Option (List ℕ)) (c : List ℕ) → State S label r o → ((d : List ℕ) → S d → comes_before d c ≡ true)
+    → State (λ d. S d ⊎ (d ≡ c)) label r (better label r o c)
+unfolding State
+step S label r None c s prior =
+    choose (λ o. State (λ d. S d ⊎ (d ≡ c)) label r o) (ltb r (height label c)) None (Some c)
+    (λ t. λ d i. elim i [ inl j ↦ s d j | inr e ↦ (let f : height label d ≡ height label c = ap (λ x. height label x) e in let g : r < height label c = ltb-true r (height label c) t in omega arith) ])
+    (λ t. record {
+      one = inr refl;
+      low = ltb-false r (height label c) t;
+      first = λ d i l. elim i [ inl j ↦ absurd (let f : r < height label d = s d j in omega arith) | inr e ↦ before (sym (ap (λ x. length x) e)) (sym (ap (λ x. height label x) e)) (inl (sym e)) ];
+    })
+step S label r (Some b) c s prior =
+    choose (λ o. State (λ d. S d ⊎ (d ≡ c)) label r o) ((eqb (length c) (length b)) && ltb (height label c) (height label b)) (Some c) (Some b)
+    (λ t.
+    let p = and_parts (eqb (length c) (length b)) (ltb (height label c) (height label b)) t in
+    let e : length c ≡ length b = eqb-true (length c) (length b) p.0 in
+    let l : height label c < height label b = ltb-true (height label c) (height label b) p.1 in
+    record {
+      one = inr refl;
+      low = (let m : height label b ≤ r = s.low in omega arith);
+      first = λ d i m. elim i [
+        | inl j ↦ precedes_lower label b c d e l (s.first d j m)
+        | inr q ↦ before (sym (ap (λ x. length x) q)) (sym (ap (λ x. height label x) q)) (inl (sym q))
+      ];
+    })
+    (λ t. record {
+      one = inl s.one;
+      low = s.low;
+      first = λ d i m. elim i [
+        | inl j ↦ s.first d j m
+        | inr q ↦ subst (λ x. Precedes label b x) (sym q) (precedes_next label b c (prior b s.one)
+            (λ e l. both_ways ((eqb (length c) (length b)) && ltb (height label c) (height label b)) t (and_from (eqb (length c) (length b)) (ltb (height label c) (height label b)) (eq-eqb (length c) (length b) e) (lt-ltb (height label c) (height label b) l))))
+      ];
+    })
+
+best_state : (cs : List (List ℕ)) (S : List ℕ → Type 0) (label : ℕ → ℕ) (r : ℕ) (o : Option (List ℕ)) → State S label r o → IsOrdered cs → ((d c : List ℕ) → S d → In cs c → comes_before d c ≡ true)
+    → State (λ d. S d ⊎ In cs d) label r (fewest label r o cs)
+best_state [] S label r o s up prior = state_of S (λ d. S d ⊎ In [] d) label r o (λ d i. inl i) (λ d i. elim i [ inl j ↦ j | inr j ↦ absurd j ]) s
+best_state (c ∷ cs) S label r o s up prior =
+    state_of (λ d. (S d ⊎ (d ≡ c)) ⊎ In cs d) (λ d. S d ⊎ In (c ∷ cs) d) label r (fewest label r (better label r o c) cs)
+    (λ d i. elim i [ inl j ↦ elim j [ inl k ↦ inl k | inr k ↦ inr (inl k) ] | inr j ↦ inr (inr j) ])
+    (λ d i. elim i [ inl j ↦ inl (inl j) | inr j ↦ elim j [ inl k ↦ inl (inr k) | inr k ↦ inr k ] ])
+    (best_state cs (λ d. S d ⊎ (d ≡ c)) label r (better label r o c) (step S label r o c s (λ d i. prior d c i (inl refl))) up.1
+    (λ d e i j. elim i [ inl k ↦ prior d e k (inr j) | inr k ↦ subst (λ x. comes_before x e ≡ true) (sym k) (up.0 e j) ]))
+
+-- the choice is the best of the cuts, by its own words
+pub best_is : (label : ℕ → ℕ) (r : ℕ) (cs : List (List ℕ)) (c : List ℕ) → IsOrdered cs → fewest label r None cs ≡ Some c → IsChosen label r cs c
+unfolding State
+best_is label r cs c up e =
+    let s : State (λ d. ⊥ ⊎ In cs d) label r (Some c) = subst (λ o. State (λ d. ⊥ ⊎ In cs d) label r o) e (best_state cs (λ d. ⊥) label r None (λ d i. absurd i) up (λ d c i. absurd i)) in
+    record { one = elim s.one [ inl j ↦ absurd j | inr j ↦ j ]; low = s.low; first = λ d i l. s.first d (inr i) l }
+
+-- where a cut is chosen
+best_in : (label : ℕ → ℕ) (r : ℕ) (cs : List (List ℕ)) (o : Option (List ℕ)) (c : List ℕ) → fewest label r o cs ≡ Some c → In cs c ⊎ (o ≡ Some c)
+best_in label r [] o c h = inr h
+best_in label r (d ∷ cs) None c h =
+    elim (best_in label r cs (better label r None d) c h) [
+      | inl i ↦ inl (inr i)
+      | inr e ↦ choose (λ x. x ≡ Some c → In (d ∷ cs) c ⊎ (None ≡ Some c)) (ltb r (height label d)) None (Some d) (λ _ q. inr q) (λ _ q. inl (inl (sym (same_Some d c q)))) e
+    ]
+best_in label r (d ∷ cs) (Some b) c h =
+    elim (best_in label r cs (better label r (Some b) d) c h) [
+      | inl i ↦ inl (inr i)
+      | inr e ↦ choose (λ x. x ≡ Some c → In (d ∷ cs) c ⊎ (Some b ≡ Some c)) ((eqb (length d) (length b)) && ltb (height label d) (height label b)) (Some d) (Some b) (λ _ q. inl (inl (sym (same_Some d c q)))) (λ _ q. inr q) e
+    ]
+
+best_some : (label : ℕ → ℕ) (r : ℕ) (cs : List (List ℕ)) (b : List ℕ) → (c : List ℕ) × (fewest label r (Some b) cs ≡ Some c)
+best_some label r [] b = (b, refl)
+best_some label r (d ∷ cs) b =
+    choose (λ x. (c : List ℕ) × (fewest label r x cs ≡ Some c)) ((eqb (length d) (length b)) && ltb (height label d) (height label b)) (Some d) (Some b) (λ _. best_some label r cs d) (λ _. best_some label r cs b)
+
+pub best_found : (label : ℕ → ℕ) (r : ℕ) (cs : List (List ℕ)) (o : Option (List ℕ)) (b : List ℕ) → In cs b → height label b ≤ r → (c : List ℕ) × (fewest label r o cs ≡ Some c)
+best_found label r [] o b i l = elim i [ ]
+best_found label r (d ∷ cs) (Some a) b i l = best_some label r (d ∷ cs) a
+best_found label r (d ∷ cs) None b (inl e) l =
+    choose (λ x. (c : List ℕ) × (fewest label r x cs ≡ Some c)) (ltb r (height label d)) None (Some d)
+    (λ t. absurd (let f : height label b ≡ height label d = ap (λ x. height label x) e in let q : r < height label d = ltb-true r (height label d) t in omega arith)) (λ _. best_some label r cs d)
+best_found label r (d ∷ cs) None b (inr i) l = best_found label r cs (better label r None d) b i l
+
+best_low : (label : ℕ → ℕ) (r : ℕ) (cs : List (List ℕ)) (o : Option (List ℕ)) (c : List ℕ) → ((b : List ℕ) → o ≡ Some b → height label b ≤ r) → fewest label r o cs ≡ Some c → height label c ≤ r
+best_low label r [] o c low h = low c h
+best_low label r (d ∷ cs) None c low h =
+    best_low label r cs (better label r None d) c
+    (λ b e. choose (λ x. x ≡ Some b → height label b ≤ r) (ltb r (height label d)) None (Some d) (λ _ q. absurd (none-some b q))
+    (λ f q. let g : height label d ≤ r = ltb-false r (height label d) f in let s : height label d ≡ height label b = ap (λ x. height label x) (same_Some d b q) in omega arith) e) h
+best_low label r (d ∷ cs) (Some a) c low h =
+    best_low label r cs (better label r (Some a) d) c
+    (λ b e. choose (λ x. x ≡ Some b → height label b ≤ r) ((eqb (length d) (length a)) && ltb (height label d) (height label a)) (Some d) (Some a)
+    (λ t q. let u : height label d < height label a = ltb-true (height label d) (height label a) (and_parts (eqb (length d) (length a)) (ltb (height label d) (height label a)) t).1 in
+    let v : height label a ≤ r = low a refl in let s : height label d ≡ height label b = ap (λ x. height label x) (same_Some d b q) in omega arith)
+    (λ _ q. low b q) e) h
+
+-- the choice is one of the cuts, low enough, wherever the label is
+pub Chooses-choice : (g : Aig) (cuts : ℕ → List (List ℕ)) (label : ℕ → ℕ) → AreLabels g cuts label → Chooses g cuts label (choice_of cuts label)
+Chooses-choice g cuts label labels =
+    let found : (n r : ℕ) → IsAnd g n → label n ≤ r → (c : List ℕ) × (fewest label r None (cuts n) ≡ Some c) =
+    (λ n r and l. let m = labels.met n and in let e : label n ≡ height label m.0 = m.2 in best_found label r (cuts n) None m.0 m.1 (omega arith)) in
+    record {
+      cut = λ n r and l. let f = found n r and l in
+          rw f.1 (elim (best_in label r (cuts n) None f.0 f.1) [ inl i ↦ i | inr e ↦ absurd (none-some f.0 e) ]);
+      low = λ n r and l. let f = found n r and l in
+          rw f.1 (best_low label r (cuts n) None f.0 (λ b e. absurd (none-some b e)) f.1);
+    }
+
+-- a leaf of the choice is one of a cut of the node
+choice_leaf_of : (label : ℕ → ℕ) (cs : List (List ℕ)) (r size : ℕ) → ((c : List ℕ) (m : ℕ) → In cs c → In c m → m < size) → (o : Option (List ℕ)) → fewest label r None cs ≡ o → (m : ℕ) → In (or_empty o) m → m < size
+choice_leaf_of label cs r size below None e m i = absurd i
+choice_leaf_of label cs r size below (Some c) e m i = elim (best_in label r cs None c e) [ inl j ↦ below c m j i | inr q ↦ absurd (none-some c q) ]
+
+pub choice_leaf : (cuts : ℕ → List (List ℕ)) (label : ℕ → ℕ) (n r size : ℕ) → ((c : List ℕ) (m : ℕ) → In (cuts n) c → In c m → m < size) → (m : ℕ) → In (choice_of cuts label n r) m → m < size
+choice_leaf cuts label n r size below m i = choice_leaf_of label (cuts n) r size below (fewest label r None (cuts n)) refl m i

@@ -1,0 +1,11 @@
+pub mod MemberLaws
+pub mod TargetLaws
+pub mod ChoiceLaws
+pub mod WalkLaws
+pub mod PlanLaws
+pub mod TableLaws
+pub mod WorkLaws
+pub mod SearchLaws
+pub mod TemplateLaws
+pub mod MappingLaws
+pub mod OnceLaws

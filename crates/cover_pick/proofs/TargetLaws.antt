@@ -1,0 +1,36 @@
+-- What a root of a source counts, in words.
+use Rattle.std.proofs.Common.{◌≡◌, ℕ, ◌-◌, ◌/◌, ◌%◌, ◌<◌, ◌≤◌, eqb, length, Option, Some, None, refl, ap, ◌∙◌, inl, inr, arith}
+use Rattle.std.specs.List.{slice_get}
+use Rattle.std.proofs.lemmas.Option.{slice_get_within}
+use Rattle.std.proofs.lemmas.Bool.{eqb-true, eqb-false, cases_eq}
+use Rattle.aig_core.specs.Aig.{Aig, first_and, IsSource}
+use Rattle.aig_core.specs.declared.lit.Kind.{Kind}
+use Rattle.aig_core.specs.declared.lit.Kind.TheVariants.{Regular, Parameter}
+use Rattle.list_words.proofs.Choice.{choose}
+use Rattle.cover_pick.specs.Target.{source_level, kind_level}
+
+-- a source stands before the AND nodes
+pub source_below : (g : Aig) (kind : Kind) (n : ℕ) → IsSource g kind n → n < first_and g
+source_below g kind n s =
+    let a : 1 ≤ n = s.above in
+    let b : n - 1 < length g.kinds = slice_get_within g.kinds (n - 1) kind s.is in omega arith
+
+pub level_complemented : (g : Aig) (l : ℕ) → IsSource g Regular (l / 2) → l % 2 ≡ 1 → source_level g l ≡ 1
+level_complemented g l s e =
+    choose (λ x. x ≡ 1) (eqb (l / 2) 0) 0 (kind_level (slice_get g.kinds (l / 2 - 1)) (l % 2))
+    (λ t. absurd (let a : 1 ≤ l / 2 = s.above in let b : l / 2 ≡ 0 = eqb-true (l / 2) 0 t in omega arith))
+    (λ t. ap (λ o. kind_level o (l % 2)) s.is ∙ e)
+
+kind_within : (g : Aig) (l d : ℕ) (o : Option Kind) → 1 ≤ l / 2 → slice_get g.kinds (l / 2 - 1) ≡ o → (IsSource g Regular (l / 2) → l % 2 ≡ 1 → 1 ≤ d) → kind_level o (l % 2) ≤ d
+kind_within g l d None a e h = omega arith
+kind_within g l d (Some Parameter) a e h = omega arith
+kind_within g l d (Some Regular) a e h = elim (cases_eq (l % 2) 1) [
+  | inl q ↦ (let b : 1 ≤ d = h (record { above = a; is = e }) q in omega arith)
+  | inr q ↦ (let b : l % 2 < 2 = omega arith in omega arith)
+]
+
+pub level_within : (g : Aig) (l d : ℕ) → (IsSource g Regular (l / 2) → l % 2 ≡ 1 → 1 ≤ d) → source_level g l ≤ d
+level_within g l d h =
+    choose (λ x. x ≤ d) (eqb (l / 2) 0) 0 (kind_level (slice_get g.kinds (l / 2 - 1)) (l % 2))
+    (λ t. omega arith)
+    (λ t. let a : l / 2 ≡ 0 → ⊥ = eqb-false (l / 2) 0 t in kind_within g l d (slice_get g.kinds (l / 2 - 1)) (omega arith) refl h)

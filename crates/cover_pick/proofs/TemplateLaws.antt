@@ -1,0 +1,107 @@
+-- The depth of the chosen tables is the depth of the chosen cuts.
+use Rattle.std.proofs.Common.{◌≡◌, ℕ, suc, ◌-◌, ◌*◌, ◌/◌, ◌%◌, ◌<◌, ◌≤◌, cond, eqb, ltb, List, [], ◌∷◌, length, Option, Some, None, refl, sym, ap, ◌∙◌, subst, inl, inr, ◌⊎◌, arith}
+use Rattle.std.specs.List.{slice_get}
+use Rattle.std.proofs.lemmas.List.{get_or_past}
+use Rattle.std.proofs.lemmas.Option.{none-some}
+use Rattle.std.proofs.lemmas.Bool.{cases_lt, eqb-true, ltb-true}
+use Rattle.aig_core.specs.Aig.{Aig, first_and, node_count, IsAnd}
+use Rattle.list_words.specs.Members.{In}
+use Rattle.cut_enum.specs.Covers.{IsCover, HasDepth, source, free as no_leaves, table}
+use Rattle.list_words.proofs.Choice.{choose}
+use Rattle.aig_core.specs.declared.lit.Lit.{Lit}
+use Rattle.aig_core.specs.Roots.{RootsValue, roots_of}
+use Rattle.depth_label.specs.Label.{IsCutTable}
+use Rattle.cover_pick.specs.Target.{target}
+use Rattle.cover_pick.specs.Schedule.{cut_at, IsPlan}
+use Rattle.cover_pick.specs.Tables.{leaves_of, source_leaves, HasTable, Made, AreTables, IsNeeded, root, leaf}
+use Rattle.cover_pick.specs.Work.{work_of}
+use Rattle.cover_pick.specs.Template.{TableDepth, free, over, TablesWithin, AreChosen, IsTemplate}
+use Rattle.cover_pick.proofs.MemberLaws.{In-get_or}
+
+pub leaves_and : (g : Aig) (cuts : List (Option (List ℕ))) (l : ℕ) → IsAnd g (l / 2) → leaves_of g cuts l ≡ cut_at cuts (l / 2)
+leaves_and g cuts l and =
+    let a : first_and g ≤ l / 2 = and.0 in
+    choose (λ o. o ≡ cut_at cuts (l / 2)) (eqb (l / 2) 0) (Some []) (cond (ltb (l / 2) (first_and g)) (source_leaves (slice_get g.kinds (l / 2 - 1)) (l / 2) (l % 2)) (cut_at cuts (l / 2)))
+    (λ t. absurd (let e : l / 2 ≡ 0 = eqb-true (l / 2) 0 t in omega arith))
+    (λ _. choose (λ o. o ≡ cut_at cuts (l / 2)) (ltb (l / 2) (first_and g)) (source_leaves (slice_get g.kinds (l / 2 - 1)) (l / 2) (l % 2)) (cut_at cuts (l / 2))
+    (λ t. absurd (let e : l / 2 < first_and g = ltb-true (l / 2) (first_and g) t in omega arith)) (λ _. refl))
+
+pub cut_in : (cuts : List (Option (List ℕ))) (n : ℕ) (c : List ℕ) → cut_at cuts n ≡ Some c → In cuts (Some c)
+cut_in cuts n c e = elim (cases_lt n (length cuts)) [
+  | inl l ↦ subst (λ o. In cuts o) e (In-get_or cuts n None l)
+  | inr l ↦ absurd (none-some c (sym (get_or_past cuts n None l) ∙ e))
+]
+
+pub in_cut : (cuts : List (Option (List ℕ))) (c : List ℕ) → In cuts (Some c) → (n : ℕ) × (cut_at cuts n ≡ Some c)
+in_cut [] c i = elim i [ ]
+in_cut (o ∷ os) c (inl e) = (0, sym e)
+in_cut (o ∷ os) c (inr i) = let r = in_cut os c i in (suc r.0, r.1)
+
+module _ (g : Aig) (k : ℕ) (roots : List ℕ) (cuts : List (Option (List ℕ))) (made : Made) (is : IsCover g k roots (cut_at cuts))
+    (tables : AreTables g cuts (IsNeeded roots cuts) (2 * node_count g) made) where
+  has_table : (l : ℕ) (c : List ℕ) → IsAnd g (l / 2) → IsNeeded roots cuts l → cut_at cuts (l / 2) ≡ Some c → HasTable made.luts l c
+  has_table l c and needed e = let b : l / 2 < node_count g = and.1 in tables.all l c (omega arith) needed (leaves_and g cuts l and ∙ e)
+
+  table_cut : (l : ℕ) (c : List ℕ) → IsAnd g (l / 2) → HasTable made.luts l c → cut_at cuts (l / 2) ≡ Some c
+  table_cut l c and h =
+      sym (leaves_and g cuts l and) ∙ (subst (λ i. leaves_of g cuts i ≡ Some h.by.leaves) h.lit_is (tables.only h.by h.in').1 ∙ ap (λ x. Some x) h.leaves_are)
+
+  leaf_and : (n m : ℕ) (c : List ℕ) → cut_at cuts n ≡ Some c → In c m → (m < first_and g) ⊎ IsAnd g m
+  leaf_and n m c e i =
+      let both = is.cuts n c e in
+      let a : n < node_count g = both.0.1 in let b : m < n = (both.1.below m i).0 in
+      elim (cases_lt m (first_and g)) [ inl l ↦ inl l | inr l ↦ inr (l, omega arith) ]
+
+  -- a node's depth under the chosen cuts is the depth of its tables
+  pub to_tables : {n d : ℕ} → HasDepth g (cut_at cuts) n d → (l : ℕ) → l / 2 ≡ n → IsAnd g n → IsNeeded roots cuts l → TableDepth g made.luts l d
+  to_tables (source s) l e and needed = absurd (let a : first_and g ≤ l / 2 = subst (λ i. first_and g ≤ i) (sym e) and.0 in omega arith)
+  to_tables (no_leaves at) l e and needed = free (has_table l [] (subst (λ i. IsAnd g i) (sym e) and) needed (subst (λ i. cut_at cuts i ≡ Some []) (sym e) at))
+  to_tables {n} (table {d = d} c at sub) l e and needed =
+      over {d = d} c (has_table l c (subst (λ i. IsAnd g i) (sym e) and) needed (subst (λ i. cut_at cuts i ≡ Some c) (sym e) at))
+      (λ m i b. elim (leaf_and n m c at i) [ inl s ↦ absurd (omega arith) | inr a ↦ to_tables (sub m i) (2 * m) (omega arith) a (leaf c m (cut_in cuts n c at) i refl) ])
+
+  pub from_tables : {l d : ℕ} → TableDepth g made.luts l d → (n : ℕ) → l / 2 ≡ n → IsAnd g n → HasDepth g (cut_at cuts) n d
+  from_tables {l} (free h) n e and = no_leaves (subst (λ i. cut_at cuts i ≡ Some []) e (table_cut l [] (subst (λ i. IsAnd g i) (sym e) and) h))
+  from_tables {l} (over c h sub) n e and =
+      let at : cut_at cuts n ≡ Some c = subst (λ i. cut_at cuts i ≡ Some c) e (table_cut l c (subst (λ i. IsAnd g i) (sym e) and) h) in
+      table c at (λ m i. elim (leaf_and n m c at i) [ inl s ↦ source s | inr a ↦ from_tables (sub m i a.0) m (omega arith) a ])
+
+-- the depth of the tables is the target
+pub tables_within : (g : Aig) (rows : List (List (List ℕ))) (label : ℕ → ℕ) (roots : List ℕ) (made : Made) → IsCutTable g rows → AreChosen g rows label roots made → TablesWithin g roots made.luts (target g label roots)
+tables_within g rows label roots made t a =
+    let p = a.plan.least t.k t.are in
+    record {
+      complemented = p.within.complemented;
+      nodes = λ l i and. to_tables g t.k roots a.cuts made p.is a.tables (p.within.nodes l i and) l refl and (root i);
+    }
+
+pub tables_exact : (g : Aig) (rows : List (List (List ℕ))) (label : ℕ → ℕ) (roots : List ℕ) (made : Made) → IsCutTable g rows → AreChosen g rows label roots made → (d : ℕ) → TablesWithin g roots made.luts d → target g label roots ≤ d
+tables_exact g rows label roots made t a d w =
+    let p = a.plan.least t.k t.are in
+    p.least (cut_at a.cuts) d p.is (record { complemented = w.complemented; nodes = λ l i and. from_tables g t.k roots a.cuts made p.is a.tables (w.nodes l i and) (l / 2) refl and })
+
+-- the work that was added is the work of the tables
+pub chosen_work : (g : Aig) (rows : List (List (List ℕ))) (label : ℕ → ℕ) (roots : List ℕ) (made : Made) → AreChosen g rows label roots made → AreChosen g rows label roots (record { luts = made.luts; bits = made.bits; work = work_of g made.luts })
+chosen_work g rows label roots made a =
+    subst (λ w. AreChosen g rows label roots (record { luts = made.luts; bits = made.bits; work = w })) a.tables.work a
+
+-- The whole template.
+pub template_is : (g : Aig) (rows : List (List (List ℕ))) (label : ℕ → ℕ) (roots : RootsValue) (made : Made) (outputs next : List Lit) (depth : ℕ) → IsCutTable g rows → AreChosen g rows label (roots_of roots) made
+    → outputs ≡ roots.outputs → next ≡ roots.next → depth ≡ target g label (roots_of roots)
+    → IsTemplate g rows label roots (record { luts = made.luts; outputs = outputs; next = next; bits = made.bits; depth = depth })
+template_is g rows label roots made outputs next depth t a o n e = record {
+  chosen = chosen_work g rows label (roots_of roots) made a;
+  outputs = o;
+  next = n;
+  depth = e;
+  within = subst (λ d. TablesWithin g (roots_of roots) made.luts d) (sym e) (tables_within g rows label (roots_of roots) made t a);
+  exact = λ d w. let b : target g label (roots_of roots) ≤ d = tables_exact g rows label (roots_of roots) made t a d w in omega arith;
+}
+
+-- a chosen cut's leaves are nodes
+pub leaves_inside : (g : Aig) (rows : List (List (List ℕ))) (label : ℕ → ℕ) (roots : List ℕ) (cuts : List (Option (List ℕ))) → IsCutTable g rows → IsPlan g rows label roots cuts → (c : List ℕ) (m : ℕ) → In cuts (Some c) → In c m → m < node_count g
+leaves_inside g rows label roots cuts t plan c m i j =
+    let p = plan.least t.k t.are in
+    let r = in_cut cuts c i in
+    let both = p.is.cuts r.0 c r.1 in
+    let a : r.0 < node_count g = both.0.1 in let b : m < r.0 = (both.1.below m j).0 in omega arith

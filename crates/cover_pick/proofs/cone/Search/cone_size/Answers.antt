@@ -1,0 +1,37 @@
+use Rattle.std.proofs.Common.{arith, ◌≡◌, ◌∙◌, ◌/◌, ◌<◌, length, ap}
+use Rattle.aig_core.specs.Aig.{node_count, IsAnd}
+use Rattle.cover_pick.specs.Search.{reach}
+use Rattle.cover_pick.proofs.SearchLaws.{search_start, search_step, search_end, found_and}
+use Rattle.cover_pick.proofs.cone.Search.cone_size.Goals as goal
+
+pub loop-next-init : goal.loop-next-init
+loop-next-init c =
+    search_start c.args.graph.now c.args.leaves.now c.args.top c.args.stamp c.args.self.now.stamps c.reach.new.self c.requires.len c.requires.fresh c.requires.top
+    (c.in_ok-reach.ensures ∙ ap (λ s. reach c.args.graph.now c.args.leaves.now c.args.stamp s c.args.top) c.forget.ensures)
+
+pub pair_at-pair-requires : goal.pair_at-pair-requires
+pair_at-pair-requires c = found_and c.args.graph.now c.args.leaves.now c.args.top c.args.stamp c.loop-next.self c.loop-next.next c.node.result c.loop-next.invariant (omega arith) c.node.ensures
+
+pub reach_fan_ins-requires-clause-x : goal.reach_fan_ins-requires-clause-x
+reach_fan_ins-requires-clause-x c =
+    let and : IsAnd c.args.graph.now c.node.result = found_and c.args.graph.now c.args.leaves.now c.args.top c.args.stamp c.loop-next.self c.loop-next.next c.node.result c.loop-next.invariant (omega arith) c.node.ensures in
+    let size : length c.loop-next.self.stamps ≡ node_count c.args.graph.now = c.loop-next.invariant.is.size in
+    let x : c.pair_at-pair.result.x.0 / 2 < c.pair_at-pair.result.y.0 / 2 = c.pair_at-pair.ensures.normal.ordered in
+    let y : c.pair_at-pair.result.y.0 / 2 < c.node.result = c.pair_at-pair.ensures.normal.below in
+    omega arith
+
+pub reach_fan_ins-requires-clause-y : goal.reach_fan_ins-requires-clause-y
+reach_fan_ins-requires-clause-y c =
+    let and : IsAnd c.args.graph.now c.node.result = found_and c.args.graph.now c.args.leaves.now c.args.top c.args.stamp c.loop-next.self c.loop-next.next c.node.result c.loop-next.invariant (omega arith) c.node.ensures in
+    let size : length c.loop-next.self.stamps ≡ node_count c.args.graph.now = c.loop-next.invariant.is.size in
+    let y : c.pair_at-pair.result.y.0 / 2 < c.node.result = c.pair_at-pair.ensures.normal.below in
+    omega arith
+
+pub loop-next-preserved : goal.loop-next-preserved
+loop-next-preserved c =
+    search_step c.args.graph.now c.args.leaves.now c.args.top c.args.stamp c.loop-next.self c.reach_fan_ins.new.self c.loop-next.next c.node.result c.pair_at-pair.result c.loop-next.invariant (omega arith) c.node.ensures
+    c.pair_at-pair.ensures.pair c.pair_at-pair.ensures.normal c.in_ok-reach_fan_ins.ensures
+
+pub returns-clause-size : goal.returns-clause-size
+returns-clause-size c =
+    c.count-2.ensures ∙ search_end c.args.graph.now c.args.leaves.now c.args.top c.args.stamp c.loop-next.self c.loop-next.next c.requires.normal c.loop-next.invariant (omega arith)

@@ -1,0 +1,7 @@
+use Rattle.std.proofs.Common.{◌≡◌, drop}
+use Rattle.aig_core.specs.Roots.{lits_of}
+use Rattle.cover_pick.specs.Tables.{mark_each}
+use Rattle.cover_pick.proofs.needed.mark_each.Given as goal
+
+abbrev pub invariant-loop-lit : goal.invariant-loop-lit
+invariant-loop-lit l = mark_each l.marks (lits_of (drop l.lit-index l.lits)) ≡ mark_each l.initial.marks (lits_of l.lits)

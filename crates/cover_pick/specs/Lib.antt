@@ -1,0 +1,10 @@
+pub mod RootDepth
+pub mod Mapping
+pub mod Target
+pub mod Choice
+pub mod Required
+pub mod Schedule
+pub mod Tables
+pub mod Work
+pub mod Search
+pub mod Template

@@ -1,0 +1,51 @@
+-- The chosen template of a graph for some roots.
+use Rattle.std.specs.Prelude.{◌≡◌, ℕ, suc, ◌*◌, ◌/◌, ◌%◌, ◌^◌, ◌<◌, ◌≤◌, List, [], Option}
+use Rattle.aig_core.specs.Aig.{Aig, first_and, node_count, IsAnd, IsSource}
+use Rattle.aig_core.specs.declared.lit.Kind.TheVariants.{Regular}
+use Rattle.aig_core.specs.declared.lit.Lit.{Lit}
+use Rattle.aig_core.specs.Roots.{RootsValue, roots_of}
+use Rattle.list_words.specs.Members.{In}
+use Rattle.cover_pick.specs.declared.lut.Lut.{Lut}
+use Rattle.cover_pick.specs.Target.{target}
+use Rattle.cover_pick.specs.Schedule.{IsPlan}
+use Rattle.cover_pick.specs.Tables.{HasTable, Made, AreTables, IsNeeded}
+use Rattle.cover_pick.specs.Work.{work_of}
+
+-- what a template is seen as
+pub record TemplateValue : Type 0 where
+  pub luts : List Lut
+  pub outputs : List Lit
+  pub next : List Lit
+  pub bits : ℕ
+  pub depth : ℕ
+
+-- The depth of a literal's table is at most d: 0 without leaves, else one more than its leaves' depths; a source as a leaf has 0, an AND leaf that of the table of its positive literal.
+pub data TableDepth (g : Aig) (luts : List Lut) : ℕ → ℕ → Type 0 where
+  free : {l d : ℕ} → HasTable luts l [] → TableDepth g luts l d
+  over : {l d : ℕ} (c : List ℕ) → HasTable luts l c → ((m : ℕ) → In c m → first_and g ≤ m → TableDepth g luts (2 * m) d) → TableDepth g luts l (suc d)
+
+-- the depths of the roots' tables are at most d: that of a complemented regular source is 1
+pub record TablesWithin (g : Aig) (roots : List ℕ) (luts : List Lut) (d : ℕ) : Type 0 where
+  pub complemented : (l : ℕ) → In roots l → IsSource g Regular (l / 2) → l % 2 ≡ 1 → 1 ≤ d
+  pub nodes : (l : ℕ) → In roots l → IsAnd g (l / 2) → TableDepth g luts l d
+
+-- the tables of the needed literals over the chosen cuts, with their bits and work
+pub record AreChosen (g : Aig) (rows : List (List (List ℕ))) (label : ℕ → ℕ) (roots : List ℕ) (made : Made) : Type 0 where
+  pub cuts : List (Option (List ℕ))
+  pub plan : IsPlan g rows label roots cuts
+  pub tables : AreTables g cuts (IsNeeded roots cuts) (2 * node_count g) made
+
+-- The chosen template: the tables of the needed literals over the chosen cuts, with the target as their depth.
+pub record IsTemplate (g : Aig) (rows : List (List (List ℕ))) (label : ℕ → ℕ) (roots : RootsValue) (t : TemplateValue) : Type 0 where
+  pub chosen : AreChosen g rows label (roots_of roots) (record { luts = t.luts; bits = t.bits; work = work_of g t.luts })
+  pub outputs : t.outputs ≡ roots.outputs
+  pub next : t.next ≡ roots.next
+  pub depth : t.depth ≡ target g label (roots_of roots)
+  pub within : TablesWithin g (roots_of roots) t.luts t.depth
+  pub exact : (d : ℕ) → TablesWithin g (roots_of roots) t.luts d → t.depth ≤ d
+
+-- the work of the chosen tables is too much
+pub record IsTooMuch (g : Aig) (rows : List (List (List ℕ))) (label : ℕ → ℕ) (roots : List ℕ) : Type 0 where
+  pub made : Made
+  pub chosen : AreChosen g rows label roots made
+  pub work : 2 ^ 25 < work_of g made.luts

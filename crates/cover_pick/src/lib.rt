@@ -1,0 +1,49 @@
+//! The tables that a graph is mapped to: a cover of the least depth, with few leaves off the longest paths.
+//!
+//! # The idea
+//!
+//! The labels (crate `depth_label`) say how deep each node must stand. So the *target*, the greatest label over the roots, is
+//! the least depth of any cover. A cover of that depth has room elsewhere: a node that few tables wait for may stand deeper,
+//! and take a cut of fewer leaves, whose table has fewer bits. So each needed node gets a *required depth*, from the roots
+//! down, and takes the smallest of its cuts that keeps within it. The labelling is FlowMap's (Cong and Ding, 1994), the area
+//! recovery by required depths is that of later mappers (as `if` of ABC).
+//!
+//! # The words
+//!
+//! - A *cover* gives AND nodes cuts of at most K leaves, and has every AND node of a root and every AND leaf of its cuts. Its
+//!   depth is the greatest over the roots; a root that is a complemented regular source counts 1.
+//! - A *literal* is twice a node's index, plus one for its complement. The *needed* literals are the roots, in their phase,
+//!   and the positive literals of the leaves of the chosen cuts.
+//! - A *table* belongs to a needed literal. It has the leaves of the chosen cut, or the source itself where the literal is a
+//!   complemented regular source, or none where it is of the constant or a parameter; a positive regular source is a wire and
+//!   has none. A table of m leaves has 2^m bits, from its *base* on.
+//! - The *work* of a table is its bits times one more than the AND nodes that it computes, its *cone*.
+//!
+//! # The steps, each in a file
+//!
+//! 1. `target`: the target of the roots.
+//! 2. `choice`: the rule by which a cut is chosen for a required depth. It is one function, `choose`, and one definition,
+//!    `choice_of` of `specs/Choice.antt`; all that the theorem asks of it is `Chooses` of `specs/Schedule.antt`.
+//! 3. `required`: the required depths, from the last AND node down.
+//! 4. `cuts`: the chosen cuts.
+//! 5. `needed`, `tables`: the needed literals and their tables, in ascending order.
+//! 6. `cone`: the AND nodes of a table's cone, each visited once.
+//!
+//! # What is promised
+//!
+//! `pick` says what its tables are in three ways: they are the rule's (`specs/Template.antt`, `IsTemplate`), they map the
+//! graph (`specs/Mapping.antt`, `IsMapping`), and no cover of the graph is less deep (`IsLeast` there).
+#![tactic(auto)]
+
+mod choice;
+mod cone;
+mod cuts;
+mod lut;
+mod needed;
+mod required;
+mod tables;
+mod target;
+mod template;
+
+pub use lut::{Lut, PickErr};
+pub use template::{Template, pick};

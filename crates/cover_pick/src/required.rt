@@ -1,0 +1,119 @@
+//! The required depths of the needed nodes.
+ghost use Rattle.std.specs.Prelude.{◌≡◌, ℕ, ◌+◌, ◌-◌, ◌/◌, ◌<◌, ◌≤◌, length, Option, None, IfOk, slice_index_or};
+ghost use Rattle.aig_core.specs.Aig.{first_and, node_count, IsAnd};
+ghost use Rattle.aig_core.specs.Roots.{lits_of, AreRoots};
+ghost use Rattle.cut_enum.specs.Table.{row_at};
+ghost use Rattle.depth_label.specs.Label.{label_of, IsCutTable};
+ghost use Rattle.cover_pick.specs.Choice.{choice_of};
+ghost use Rattle.cover_pick.specs.Required.{need, least_of as the_least, require as with_required, require_each as with_each_required, visit as visited, walk as walked, require_root as with_root, require_roots as with_roots};
+ghost use Rattle.cover_pick.specs.Schedule.{depths_of};
+
+use crate::choice::choose;
+use crate::target::target;
+use aig_core::{Graph, Lit};
+use cut_enum::CutTable;
+use depth_label::Labels;
+use std::alloc::{AllocError, Global};
+
+// The least of a depth and another that may be missing.
+fn least_of(best: Option<u32>, r: u32) -> Option<u32>
+    ensures { result ≡ the_least best r }
+{
+    match best {
+        None => Some(r),
+        Some(b) => Some(b.min(r)),
+    }
+}
+
+// Requires a node at a depth.
+fn require(reqs: &mut [Option<u32>], m: u32, r: u32)
+    requires { m < length reqs.old }
+    ensures { reqs.new ≡ with_required reqs.old m r }
+{
+    reqs[m as usize] = least_of(reqs[m as usize], r);
+}
+
+// Requires each of some nodes at a depth.
+fn require_each(reqs: &mut [Option<u32>], leaves: &[u32], r: u32)
+    requires { (i : ℕ) → i < length leaves.now → slice_index_or leaves.now i 0 < length reqs.old }
+    ensures { reqs.new ≡ with_each_required reqs.old leaves.now r }
+{
+    for m in leaves {
+        require(reqs, *m, r);
+    }
+}
+
+// Requires the leaves of a needed node's chosen cut, at one less than its required depth.
+fn visit(
+    alloc: Global,
+    graph: &Graph,
+    table: &CutTable,
+    labels: &Labels,
+    reqs: &mut [Option<u32>],
+    n: u32,
+)
+    requires table { IsCutTable graph.now table.now }
+    requires node { IsAnd graph.now n }
+    requires len { length reqs.old ≡ node_count graph.now }
+    ensures { reqs.new ≡ visited (choice_of (row_at table.now) (label_of labels.now)) n (need reqs.old n) reqs.old }
+{
+    if let Some(r) = reqs[n as usize] {
+        let cut = choose(alloc, table, labels, n, r);
+        require_each(reqs, cut.leaves(), r.saturating_sub(1));
+    }
+}
+
+// Takes the AND nodes in descending order.
+fn walk(alloc: Global, graph: &Graph, table: &CutTable, labels: &Labels, reqs: &mut [Option<u32>])
+    requires table { IsCutTable graph.now table.now }
+    requires len { length reqs.old ≡ node_count graph.now }
+    ensures { reqs.new ≡ walked (choice_of (row_at table.now) (label_of labels.now)) (first_and graph.now) (length graph.now.pairs) reqs.old }
+{
+    let first = graph.sources() + 1;
+    let count = graph.len() - first;
+    for i in 0..count {
+        visit(alloc, graph, table, labels, reqs, first + (count - 1 - i));
+    }
+}
+
+// Requires a root's node, if it is an AND node.
+fn require_root(graph: &Graph, root: Lit, t: u32, reqs: &mut [Option<u32>])
+    requires { root.0 / 2 < length reqs.old }
+    ensures { reqs.new ≡ with_root (first_and graph.now) t reqs.old root.0 }
+{
+    let n = root.0 / 2;
+    if n > graph.sources() {
+        require(reqs, n, t);
+    }
+}
+
+// Requires the roots' nodes.
+fn require_roots(graph: &Graph, roots: &[Lit], t: u32, reqs: &mut [Option<u32>])
+    requires len { length reqs.old ≡ node_count graph.now }
+    requires roots { AreRoots graph.now (lits_of roots.now) }
+    ensures { reqs.new ≡ with_roots (first_and graph.now) t reqs.old (lits_of roots.now) }
+{
+    for root in roots {
+        require_root(graph, *root, t, reqs);
+    }
+}
+
+// The required depth of each needed node.
+pub fn required_depths(
+    alloc: Global,
+    graph: &Graph,
+    table: &CutTable,
+    labels: &Labels,
+    roots: &[Lit],
+) -> Result<Vec<Option<u32>>, AllocError>
+    requires table { IsCutTable graph.now table.now }
+    requires roots { AreRoots graph.now (lits_of roots.now) }
+    ensures value { IfOk result (λ depths. depths.items ≡ depths_of graph.now table.now (label_of labels.now) (lits_of roots.now)) }
+    ensures len { IfOk result (λ depths. length depths.items ≡ node_count graph.now) }
+{
+    let t = target(graph, labels, roots);
+    let mut depths = vec![in alloc; None; graph.len() as usize]?;
+    require_roots(graph, roots, t, &mut depths);
+    walk(alloc, graph, table, labels, &mut depths);
+    Ok(depths)
+}

@@ -1,0 +1,198 @@
+//! The tables of the needed literals.
+ghost use Rattle.std.specs.Prelude.{◌≡◌, ℕ, List, ◌+◌, ◌*◌, ◌/◌, ◌<◌, ◌≤◌, ◌^◌, length, Option, Some, [], IfOk, IfErr, OnOk};
+ghost use Rattle.aig_core.specs.Aig.{first_and, node_count, AreNormal};
+ghost use Rattle.aig_core.specs.Roots.{lits_of, AreRoots};
+ghost use Rattle.list_words.specs.Members.{In};
+ghost use Rattle.cover_pick.specs.Search.{stamp_at};
+ghost use Rattle.cover_pick.specs.Tables.{leaves_of as the_leaves, add_table as with_table, add_marked as with_marked, tables_from, tables_of, IsNeeded, AreTables};
+
+use crate::cone::Search;
+use crate::lut::{Lut, PickErr};
+use crate::needed::needed;
+use aig_core::{Graph, Kind, Lit};
+use cut_enum::Cut;
+use std::alloc::Global;
+use std::marker::Model;
+
+/// Tables, the sum of their bits and the sum of their work.
+#[derive(Drop)]
+pub struct Tables {
+    pub luts: Vec<Lut>,
+    pub bits: u32,
+    pub work: u64,
+}
+
+impl Model for Tables {
+    ghost use Rattle.cover_pick.specs.Tables.{Made};
+
+    ghost Value = { Made };
+
+    ghost view = { λ t. record { luts = t.luts.items; bits = t.bits; work = t.work } };
+}
+
+const MOST_WORK: u64 = 33_554_432;
+
+// The leaves of a literal's table, if it has one.
+fn leaves_of(alloc: Global, graph: &Graph, cuts: &[Option<Cut>], lit: Lit) -> Option<Cut>
+    requires node { lit.0 / 2 < node_count graph.now }
+    requires len { length cuts.now ≡ node_count graph.now }
+    ensures { result ≡ the_leaves graph.now cuts.now lit.0 }
+{
+    let n = lit.0 / 2;
+    if n == 0 {
+        return Some(Cut::empty(alloc));
+    }
+    if n > graph.sources() {
+        return match &cuts[n as usize] {
+            None => None,
+            Some(cut) => Some(cut.copy()),
+        };
+    }
+    match graph.kind(n) {
+        Kind::Regular => {
+            if lit.0 % 2 == 1 {
+                Some(Cut::one(alloc, n))
+            } else {
+                None
+            }
+        }
+        Kind::Parameter => Some(Cut::empty(alloc)),
+    }
+}
+
+// The bits of a table.
+fn table_bits(leaves: usize) -> u32
+    requires { leaves ≤ 6 }
+    ensures value { result ≡ 2 ^ leaves }
+    ensures few { result ≤ 64 }
+{
+    1 << leaves
+}
+
+// Adds a table at the end, unless the work is then too much.
+fn add_table(
+    graph: &Graph,
+    search: &mut Search,
+    made: &mut Tables,
+    lit: Lit,
+    leaves: Cut,
+) -> Result<(), PickErr>
+    requires node { lit.0 / 2 < node_count graph.now }
+    requires small { node_count graph.now ≤ 2 ^ 30 }
+    requires normal { AreNormal (first_and graph.now) graph.now.pairs }
+    requires work { made.old.work ≤ 2 ^ 25 }
+    requires bits { made.old.bits ≤ made.old.work }
+    requires len { length search.old.stamps ≡ node_count graph.now }
+    requires stamps { (n : ℕ) → stamp_at search.old.stamps n ≤ lit.0 }
+    ensures ok { OnOk result (made.new ≡ with_table graph.now made.old lit.0 (Some leaves)) }
+    ensures within { OnOk result (made.new.work ≤ 2 ^ 25) }
+    ensures fits { OnOk result (made.new.bits ≤ made.new.work) }
+    ensures err { IfErr result (λ e. e ≡ PickErr.Work → 2 ^ 25 < (with_table graph.now made.old lit.0 (Some leaves)).work) }
+    ensures len { OnOk result (length search.new.stamps ≡ node_count graph.now) }
+    ensures stamps { OnOk result ((n : ℕ) → stamp_at search.new.stamps n ≤ lit.0 + 1) }
+{
+    let size = search.cone_size(graph, leaves.leaves(), lit.0 / 2, lit.0 + 1)?;
+    let bits = table_bits(leaves.len());
+    let work = made.work + bits as u64 * (1 + size as u64);
+    if work > MOST_WORK {
+        return Err(PickErr::Work);
+    }
+    let base = made.bits;
+    made.luts.push(Lut { lit, leaves, base })?;
+    made.bits = base + bits;
+    made.work = work;
+    Ok(())
+}
+
+// Adds the table of a literal, if it is needed and has one.
+fn add_marked(
+    alloc: Global,
+    graph: &Graph,
+    cuts: &[Option<Cut>],
+    search: &mut Search,
+    made: &mut Tables,
+    lit: Lit,
+    needed: bool,
+) -> Result<(), PickErr>
+    requires node { lit.0 / 2 < node_count graph.now }
+    requires small { node_count graph.now ≤ 2 ^ 30 }
+    requires normal { AreNormal (first_and graph.now) graph.now.pairs }
+    requires cuts { length cuts.now ≡ node_count graph.now }
+    requires work { made.old.work ≤ 2 ^ 25 }
+    requires bits { made.old.bits ≤ made.old.work }
+    requires len { length search.old.stamps ≡ node_count graph.now }
+    requires stamps { (n : ℕ) → stamp_at search.old.stamps n ≤ lit.0 }
+    ensures ok { OnOk result (made.new ≡ with_marked graph.now cuts.now made.old lit.0 needed) }
+    ensures within { OnOk result (made.new.work ≤ 2 ^ 25) }
+    ensures fits { OnOk result (made.new.bits ≤ made.new.work) }
+    ensures err { IfErr result (λ e. e ≡ PickErr.Work → 2 ^ 25 < (with_marked graph.now cuts.now made.old lit.0 needed).work) }
+    ensures len { OnOk result (length search.new.stamps ≡ node_count graph.now) }
+    ensures stamps { OnOk result ((n : ℕ) → stamp_at search.new.stamps n ≤ lit.0 + 1) }
+{
+    if !needed {
+        return Ok(());
+    }
+    match leaves_of(alloc, graph, cuts, lit) {
+        None => Ok(()),
+        Some(leaves) => add_table(graph, search, made, lit, leaves),
+    }
+}
+
+// The tables of the marked literals.
+fn marked_tables(
+    alloc: Global,
+    graph: &Graph,
+    cuts: &[Option<Cut>],
+    marks: &[bool],
+) -> Result<Tables, PickErr>
+    requires cuts { length cuts.now ≡ node_count graph.now }
+    requires marks { length marks.now ≡ 2 * node_count graph.now }
+    ensures ok { IfOk result (λ made. made ≡ tables_from graph.now cuts.now (record { luts = []; bits = 0; work = 0 }) 0 marks.now) }
+    ensures within { IfOk result (λ made. made.work ≤ 2 ^ 25) }
+    ensures err { IfErr result (λ e. e ≡ PickErr.Work → 2 ^ 25 < (tables_from graph.now cuts.now (record { luts = []; bits = 0; work = 0 }) 0 marks.now).work) }
+{
+    let mut search = Search::start(alloc, graph)?;
+    let mut made = Tables {
+        luts: Vec::new(alloc),
+        bits: 0,
+        work: 0,
+    };
+    let mut lit = 0;
+    for needed in marks {
+        match add_marked(
+            alloc,
+            graph,
+            cuts,
+            &mut search,
+            &mut made,
+            Lit(lit),
+            *needed,
+        ) {
+            Ok(()) => {}
+            Err(error) => return Err(error),
+        }
+        lit += 1;
+    }
+    Ok(made)
+}
+
+// The tables of the needed literals, in ascending order, while their work is at most 2^25.
+pub fn make_tables(
+    alloc: Global,
+    graph: &Graph,
+    cuts: &[Option<Cut>],
+    roots: &[Lit],
+) -> Result<Tables, PickErr>
+    requires cuts { length cuts.now ≡ node_count graph.now }
+    requires roots { AreRoots graph.now (lits_of roots.now) }
+    requires leaves { (c : List ℕ) (m : ℕ) → In cuts.now (Some c) → In c m → m < node_count graph.now }
+    ensures ok { IfOk result (λ made. AreTables graph.now cuts.now (IsNeeded (lits_of roots.now) cuts.now) (2 * node_count graph.now) made) }
+    ensures within { IfOk result (λ made. made.work ≤ 2 ^ 25) }
+    ensures err { IfErr result (λ e. e ≡ PickErr.Work → 2 ^ 25 < (tables_of graph.now (lits_of roots.now) cuts.now).work) }
+{
+    let marks = needed(alloc, graph, cuts, roots)?;
+    match marked_tables(alloc, graph, cuts, &marks) {
+        Ok(made) => Ok(made),
+        Err(error) => Err(error),
+    }
+}

@@ -1,0 +1,124 @@
+//! The chosen template.
+ghost use Rattle.std.specs.Prelude.{◌≡◌, ℕ, ◌≤◌, ◌^◌, IfOk, OnOk, IfErr};
+ghost use Rattle.aig_core.specs.Aig.{node_count};
+ghost use Rattle.aig_core.specs.Roots.{lits_of, roots_of, AreRoots};
+ghost use Rattle.cut_enum.specs.Table.{AreRows};
+ghost use Rattle.depth_label.specs.Label.{label_of, IsCutTable, AreLabelled};
+ghost use Rattle.cover_pick.specs.Mapping.{IsMapping, IsLeast};
+ghost use Rattle.cover_pick.specs.Work.{work_of};
+ghost use Rattle.cover_pick.specs.Template.{IsTemplate, AreChosen, IsTooMuch};
+
+use crate::cuts::chosen_cuts;
+use crate::lut::{Lut, PickErr};
+use crate::tables::{Tables, make_tables};
+use crate::target::target;
+use aig_core::{Graph, Lit, Roots};
+use cut_enum::CutTable;
+use depth_label::Labels;
+use std::alloc::{AllocError, Global};
+use std::marker::Model;
+
+/// The tables of the needed literals, the roots' literals, the sum of the tables' bits, and the depth of the roots' tables.
+#[derive(Drop)]
+pub struct Template {
+    pub luts: Vec<Lut>,
+    pub outputs: Vec<Lit>,
+    pub next: Vec<Lit>,
+    pub bits: u32,
+    pub depth: u32,
+}
+
+impl Model for Template {
+    ghost use Rattle.cover_pick.specs.Template.{TemplateValue};
+
+    ghost Value = { TemplateValue };
+
+    ghost view = { λ t. record { luts = t.luts.items; outputs = t.outputs.items; next = t.next.items; bits = t.bits; depth = t.depth } };
+}
+
+// All roots in order.
+fn all_roots(alloc: Global, roots: &Roots) -> Result<Vec<Lit>, AllocError>
+    ensures { IfOk result (λ all. lits_of all.items ≡ roots_of roots.now) }
+{
+    let mut all = Vec::new(alloc);
+    all.extend_from_slice(&roots.outputs)?;
+    all.extend_from_slice(&roots.next)?;
+    Ok(all)
+}
+
+// The tables of the needed literals over the chosen cuts, while their work is at most 2^25.
+fn chosen_tables(
+    alloc: Global,
+    graph: &Graph,
+    table: &CutTable,
+    labels: &Labels,
+    roots: &[Lit],
+) -> Result<Tables, PickErr>
+    requires table { IsCutTable graph.now table.now }
+    requires labels { AreLabelled graph.now table.now labels.now }
+    requires roots { AreRoots graph.now (lits_of roots.now) }
+    ensures ok { IfOk result (λ made. AreChosen graph.now table.now (label_of labels.now) (lits_of roots.now) made) }
+    ensures within { IfOk result (λ made. made.work ≤ 2 ^ 25) }
+    ensures err { IfErr result (λ e. e ≡ PickErr.Work → IsTooMuch graph.now table.now (label_of labels.now) (lits_of roots.now)) }
+{
+    let cuts = chosen_cuts(alloc, graph, table, labels, roots)?;
+    match make_tables(alloc, graph, &cuts, roots) {
+        Ok(made) => Ok(made),
+        Err(error) => Err(error),
+    }
+}
+
+/// The chosen template of a graph for some roots, of the least depth that its cuts allow.
+///
+/// The target is the greatest over the roots of the label of an AND root, 1 for a complemented regular source, and 0 for
+/// any other root. The AND nodes are taken in descending order: a root's node is required by the target, and a leaf of the
+/// chosen cut of a node required by r by r - 1. The chosen cut is the one of the fewest leaves among the minimal cuts whose
+/// height is at most the required depth, so a node off the longest paths takes a cheaper table (Cong and Ding 1994, with the
+/// area recovery by required depths of later mappers). Each root and each leaf of a chosen cut has a table, but for the
+/// positive regular sources, which are wires.
+///
+/// # Errors
+///
+/// `Work` exactly where the work of the tables exceeds 2^25: the sum over the tables of their bits times one more than the
+/// AND nodes that they compute. `Memory` where there is none.
+///
+/// # Complexity
+///
+/// Each minimal cut of a needed node is read once, and each AND node of a table's cone once for the table: so the time is
+/// bounded by the table of cuts and the work, of which no more than the limit and one cone is counted.
+pub fn pick(
+    alloc: Global,
+    graph: &Graph,
+    roots: &Roots,
+    table: &CutTable,
+    labels: &Labels,
+) -> Result<Template, PickErr>
+    requires table { IsCutTable graph.now table.now }
+    requires labels { AreLabelled graph.now table.now labels.now }
+    requires roots { AreRoots graph.now (roots_of roots.now) }
+    ensures template { IfOk result (λ t. IsTemplate graph.now table.now (label_of labels.now) roots.now t) }
+    ensures mapping { IfOk result (λ t. (k : ℕ) → AreRows graph.now k (node_count graph.now) table.now → IsMapping graph.now k (roots_of roots.now) t.luts t.bits) }
+    ensures least { IfOk result (λ t. (k : ℕ) → AreRows graph.now k (node_count graph.now) table.now → IsLeast graph.now k (roots_of roots.now) t.luts t.depth) }
+
+    // the limit on the work, both ways
+    ensures within { IfOk result (λ t. work_of graph.now t.luts ≤ 2 ^ 25) }
+    ensures work { IfErr result (λ e. e ≡ PickErr.Work → IsTooMuch graph.now table.now (label_of labels.now) (roots_of roots.now)) }
+{
+    let all = all_roots(alloc, roots)?;
+    let depth = target(graph, labels, &all);
+    let outputs = Vec::from_slice(alloc, &roots.outputs)?;
+    let next = Vec::from_slice(alloc, &roots.next)?;
+    match chosen_tables(alloc, graph, table, labels, &all) {
+        Err(error) => Err(error),
+        Ok(made) => Ok(Template {
+            luts: made.luts,
+            outputs,
+            next,
+            bits: made.bits,
+            depth,
+        }),
+    }
+}
+
+#[cfg(test)]
+mod tests;

@@ -1,0 +1,141 @@
+-- The least unions of the sets of two fan-ins are the minimal cuts of the node.
+use Rattle.std.proofs.Common.{◌≡◌, ℕ, ◌-◌, ◌/◌, ◌<◌, ◌≤◌, List, [], ◌∷◌, length, refl, sym, ◌∙◌, subst, inl, inr, ◌⊎◌, arith}
+use Rattle.std.proofs.lemmas.Option.{slice_get_within, same_Some}
+use Rattle.aig_core.specs.Aig.{Aig, first_and, IsAnd, IsNormal}
+use Rattle.aig_core.specs.declared.lit.Kind.{Kind}
+use Rattle.aig_core.specs.declared.lit.Kind.TheVariants.{Regular, Parameter}
+use Rattle.aig_core.specs.declared.lit.Pair.{Pair}
+use Rattle.list_words.specs.Members.{In, Within}
+use Rattle.list_words.specs.Order.{IsAscending}
+use Rattle.cut_enum.specs.Merging.{union, merged}
+use Rattle.aig_core.specs.Aig.{IsSource, IsNode}
+use Rattle.cut_enum.specs.Cuts.{Blocks, member, constant, parameter, fan_ins, CanBeLeaf, IsCut, IsMinimal, AreMinimal, Covers}
+use Rattle.cut_enum.proofs.SetLemmas.{union_left, union_right, In-union, IsAscending-union, length_within, same_within, union_within}
+use Rattle.cut_enum.proofs.LeastLemmas.{IsLeast, IsLeast-merged, merged_covers, merged_only, IsUnionOf}
+
+-- a larger set blocks what a smaller one blocks
+pub Blocks-within : (g : Aig) (c d : List ℕ) {n : ℕ} → Within c d → Blocks g c n → Blocks g d n
+Blocks-within g c d w (member i) = member (w _ i)
+Blocks-within g c d w (constant e) = constant e
+Blocks-within g c d w (parameter s) = parameter s
+Blocks-within g c d w (fan_ins p is x y) = fan_ins p is (Blocks-within g c d w x) (Blocks-within g c d w y)
+
+-- The sets from which a node's readers make theirs: each blocks the node, and each list that blocks it has one within.
+pub record IsFront (g : Aig) (k m : ℕ) (cs : List (List ℕ)) : Type 0 where
+  pub ascending : (c : List ℕ) → In cs c → IsAscending c
+  pub leaves : (c : List ℕ) (l : ℕ) → In cs c → In c l → (l ≤ m) × CanBeLeaf g l
+  pub blocks : (c : List ℕ) → In cs c → Blocks g c m
+  pub contains : (c : List ℕ) → IsAscending c → length c ≤ k → Blocks g c m → Covers cs c
+
+-- no source is an AND node
+source_below : (g : Aig) (kind : Kind) (n : ℕ) → IsSource g kind n → n < first_and g
+source_below g kind n s = let k : n - 1 < length g.kinds = slice_get_within g.kinds (n - 1) kind s.is in let a : 1 ≤ n = s.above in omega arith
+
+same_pair : (g : Aig) (p q : Pair) (n : ℕ) → IsNode g p n → IsNode g q n → q ≡ p
+same_pair g p q n a b = same_Some q p (sym b.is ∙ a.is)
+
+module _ (g : Aig) (k n : ℕ) (p : Pair) (xs ys : List (List ℕ)) (node : IsNode g p n) (normal : IsNormal n p)
+    (x : IsFront g k (p.x.0 / 2) xs) (y : IsFront g k (p.y.0 / 2) ys) where
+  -- a list that blocks the node and doesn't have it contains a merged set
+  blocked_cases : (c : List ℕ) → IsAscending c → length c ≤ k → Blocks g c n → In c n ⊎ Covers (merged k xs ys) c
+  blocked_cases c up few (member i) = inl i
+  blocked_cases c up few (constant e) = absurd (let a : first_and g ≤ n = node.above in omega arith)
+  blocked_cases c up few (parameter s) = absurd (let a : first_and g ≤ n = node.above in let b : n < first_and g = source_below g Parameter n s in omega arith)
+  blocked_cases c up few (fan_ins q is bx by) =
+      let e : q ≡ p = same_pair g p q n node is in
+      let a : Covers xs c = x.contains c up few (subst (λ (r : Pair). Blocks g c (r.x.0 / 2)) e bx) in
+      let b : Covers ys c = y.contains c up few (subst (λ (r : Pair). Blocks g c (r.y.0 / 2)) e by) in
+      let w : Within (union b.by a.by) c = union_within b.by a.by c b.part a.part in
+      let short : length (union b.by a.by) ≤ length c = length_within c (union b.by a.by) up (IsAscending-union b.by a.by (x.ascending a.by a.in')) w in
+      let m : Covers (merged k xs ys) (union b.by a.by) = merged_covers k xs ys a.by b.by a.in' b.in' (omega arith) in
+      inr (record { by = m.by; in' = m.in'; part = λ l i. w l (m.part l i) })
+
+  leaf_below : (l : ℕ) (left right : List ℕ) → In xs left → In ys right → In right l ⊎ In left l → (l < n) × CanBeLeaf g l
+  leaf_below l left right i j (inl h) = let o : p.y.0 / 2 < n = normal.below in let b : l ≤ p.y.0 / 2 = (y.leaves right l j h).0 in (omega arith, (y.leaves right l j h).1)
+  leaf_below l left right i j (inr h) = let o : p.y.0 / 2 < n = normal.below in let q : p.x.0 / 2 < p.y.0 / 2 = normal.ordered in let b : l ≤ p.x.0 / 2 = (x.leaves left l i h).0 in (omega arith, (x.leaves left l i h).1)
+
+  union_cut : (c : List ℕ) → IsUnionOf k xs ys c → IsCut g k n c
+  union_cut c u = rw u.is (record {
+    ascending = IsAscending-union u.right u.left (x.ascending u.left u.in_left);
+    few = rw u.is at u.few;
+    below = λ l i. leaf_below l u.left u.right u.in_left u.in_right (In-union u.right u.left l i);
+    blocks = fan_ins p node (Blocks-within g u.left (union u.right u.left) (union_right u.right u.left) (x.blocks u.left u.in_left))
+        (Blocks-within g u.right (union u.right u.left) (union_left u.right u.left) (y.blocks u.right u.in_right));
+  })
+
+  merged_cut : (c : List ℕ) → In (merged k xs ys) c → IsCut g k n c
+  merged_cut c i = union_cut c (merged_only k xs ys c i)
+
+  least_of : IsLeast k (merged k xs ys)
+  least_of = IsLeast-merged k xs ys x.ascending
+
+  -- no cut has the node itself
+  covered : (c : List ℕ) → IsCut g k n c → Covers (merged k xs ys) c
+  covered c cut = elim (blocked_cases c cut.ascending cut.few cut.blocks) [ inl i ↦ absurd (let l : n < n = (cut.below n i).0 in omega arith) | inr r ↦ r ]
+
+  least_cut : (c : List ℕ) → In (merged k xs ys) c → (d : List ℕ) → IsCut g k n d → Within d c → d ≡ c
+  least_cut c i d cut w =
+      let r : Covers (merged k xs ys) d = covered d cut in
+      let e : r.by ≡ c = least_of.apart r.by c r.in' i (λ l j. w l (r.part l j)) in
+      same_within d c cut.ascending (least_of.ascending c i) w (λ l j. r.part l (subst (λ s. In s l) (sym e) j))
+
+  minimal_in : (c : List ℕ) → IsMinimal g k n c → In (merged k xs ys) c
+  minimal_in c m =
+      let r : Covers (merged k xs ys) c = covered c m.cut in
+      subst (λ s. In (merged k xs ys) s) (m.least r.by (merged_cut r.by r.in') r.part) r.in'
+
+  -- Merging the two fan-ins' lists, and dropping what contains another, gives exactly the minimal cuts.
+  pub AreMinimal-merged : AreMinimal g k n (merged k xs ys)
+  AreMinimal-merged = record {
+    only = λ c i. record { cut = merged_cut c i; least = least_cut c i };
+    all = minimal_in;
+    ordered = least_of.ordered;
+    contains = blocked_cases;
+  }
+
+front_leaves : (g : Aig) (k n : ℕ) (cs : List (List ℕ)) → IsAnd g n → AreMinimal g k n cs → (c : List ℕ) (l : ℕ) → In ((n ∷ []) ∷ cs) c → In c l → (l ≤ n) × CanBeLeaf g l
+front_leaves g k n cs and m c l (inl e) h = elim (let i : In (n ∷ []) l = subst (λ s. In s l) e h in i) [ inl q ↦ (omega arith, subst (λ s. CanBeLeaf g s) (sym q) (inr and)) | inr j ↦ absurd j ]
+front_leaves g k n cs and m c l (inr i) h = let b : l < n = ((m.only c i).cut.below l h).0 in (omega arith, ((m.only c i).cut.below l h).1)
+
+-- the front of an AND node: its cuts, and itself
+pub IsFront-node : (g : Aig) (k n : ℕ) (cs : List (List ℕ)) → IsAnd g n → AreMinimal g k n cs → IsFront g k n ((n ∷ []) ∷ cs)
+IsFront-node g k n cs and m = record {
+  ascending = λ c i. elim i [ inl e ↦ subst IsAscending (sym e) ((λ l j. absurd j), tt) | inr j ↦ (m.only c j).cut.ascending ];
+  leaves = λ c l i h. front_leaves g k n cs and m c l i h;
+  blocks = λ c i. elim i [ inl e ↦ subst (λ s. Blocks g s n) (sym e) (member (inl refl)) | inr j ↦ (m.only c j).cut.blocks ];
+  contains = λ c up few b. elim (m.contains c up few b) [
+    | inl i ↦ record { by = n ∷ []; in' = inl refl; part = λ l j. elim j [ inl e ↦ subst (λ s. In c s) (sym e) i | inr j ↦ absurd j ] }
+    | inr r ↦ record { by = r.by; in' = inr r.in'; part = r.part }
+  ];
+}
+
+-- the front of the constant and of a parameter: the empty set
+pub IsFront-free : (g : Aig) (k n : ℕ) → Blocks g [] n → IsFront g k n ([] ∷ [])
+IsFront-free g k n b = record {
+  ascending = λ c i. elim i [ inl e ↦ subst IsAscending (sym e) tt | inr j ↦ absurd j ];
+  leaves = λ c l i h. elim i [ inl e ↦ absurd (subst (λ s. In s l) e h) | inr j ↦ absurd j ];
+  blocks = λ c i. elim i [ inl e ↦ subst (λ s. Blocks g s n) (sym e) b | inr j ↦ absurd j ];
+  contains = λ c up few _. record { by = []; in' = inl refl; part = λ l j. absurd j };
+}
+
+other_kind : Regular ≡ Parameter → ⊥
+other_kind h = cc
+
+regular_blocked : (g : Aig) (c : List ℕ) {n : ℕ} → IsSource g Regular n → Blocks g c n → In c n
+regular_blocked g c s (member i) = i
+regular_blocked g c {n} s (constant e) = absurd (let a : 1 ≤ n = s.above in omega arith)
+regular_blocked g c {n} s (parameter t) = absurd (other_kind (same_Some Regular Parameter (sym s.is ∙ t.is)))
+regular_blocked g c {n} s (fan_ins p is x y) = absurd (let a : n < first_and g = source_below g Regular n s in let b : first_and g ≤ n = is.above in omega arith)
+
+regular_leaves : (g : Aig) (n : ℕ) → IsSource g Regular n → (c : List ℕ) (l : ℕ) → In ((n ∷ []) ∷ []) c → In c l → (l ≤ n) × CanBeLeaf g l
+regular_leaves g n s c l (inl e) h = elim (let i : In (n ∷ []) l = subst (λ s. In s l) e h in i) [ inl q ↦ (omega arith, subst (λ m. CanBeLeaf g m) (sym q) (inl s)) | inr j ↦ absurd j ]
+regular_leaves g n s c l (inr i) h = absurd i
+
+-- the front of a regular source: the source
+pub IsFront-regular : (g : Aig) (k n : ℕ) → IsSource g Regular n → IsFront g k n ((n ∷ []) ∷ [])
+IsFront-regular g k n s = record {
+  ascending = λ c i. elim i [ inl e ↦ subst IsAscending (sym e) ((λ l j. absurd j), tt) | inr j ↦ absurd j ];
+  leaves = λ c l i h. regular_leaves g n s c l i h;
+  blocks = λ c i. elim i [ inl e ↦ subst (λ s. Blocks g s n) (sym e) (member (inl refl)) | inr j ↦ absurd j ];
+  contains = λ c up few b. record { by = n ∷ []; in' = inl refl; part = λ l j. elim j [ inl e ↦ subst (λ s. In c s) (sym e) (regular_blocked g c s b) | inr j ↦ absurd j ] };
+}

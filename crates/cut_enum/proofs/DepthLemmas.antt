@@ -1,0 +1,45 @@
+-- A label is a lower bound of the depth in every cover.
+use Rattle.std.proofs.Common.{◌≡◌, ℕ, suc, ◌<◌, ◌≤◌, List, [], ◌∷◌, Option, Some, refl, ap, inl, inr, arith}
+use Rattle.aig_core.specs.Aig.{Aig, IsAnd}
+use Rattle.list_words.specs.Members.{In, Within}
+use Rattle.cut_enum.specs.Cuts.{IsCut, AreMinimal, Covers}
+use Rattle.cut_enum.specs.Covers.{IsCover, HasDepth, source, free, table, greatest, height, AreLabels}
+
+-- where every element's label is at most d, so is the greatest
+greatest_le : (label : ℕ → ℕ) (c : List ℕ) (d : ℕ) → ((m : ℕ) → In c m → label m ≤ d) → greatest label c ≤ d
+greatest_le label [] d h = omega arith
+greatest_le label (m ∷ ms) d h = let a : label m ≤ d = h m (inl refl) in let b : greatest label ms ≤ d = greatest_le label ms d (λ n i. h n (inr i)) in omega arith
+
+height_le : (label : ℕ → ℕ) (c : List ℕ) (d : ℕ) → ((m : ℕ) → In c m → label m ≤ d) → height label c ≤ suc d
+height_le label [] d h = omega arith
+height_le label (m ∷ ms) d h = let a : greatest label (m ∷ ms) ≤ d = greatest_le label (m ∷ ms) d h in omega arith
+
+within_none : (c : List ℕ) → Within c [] → c ≡ []
+within_none [] w = refl
+within_none (x ∷ xs) w = absurd (w x (inl refl))
+
+-- a cut contains a minimal one
+minimal_part : (g : Aig) (k n : ℕ) (cs : List (List ℕ)) (c : List ℕ) → AreMinimal g k n cs → IsCut g k n c → Covers cs c
+minimal_part g k n cs c m cut = elim (m.contains c cut.ascending cut.few cut.blocks) [ inl i ↦ absurd (let l : n < n = (cut.below n i).0 in omega arith) | inr r ↦ r ]
+
+module _ (g : Aig) (k : ℕ) (roots : List ℕ) (cover : ℕ → Option (List ℕ)) (cuts : ℕ → List (List ℕ)) (label : ℕ → ℕ)
+    (is : IsCover g k roots cover) (minimal : (n : ℕ) → IsAnd g n → AreMinimal g k n (cuts n)) (labels : AreLabels g cuts label) where
+  table_le : (n d : ℕ) (c : List ℕ) → cover n ≡ Some c → ((m : ℕ) → In c m → label m ≤ d) → label n ≤ suc d
+  table_le n d c at low =
+      let both = is.cuts n c at in
+      let r : Covers (cuts n) c = minimal_part g k n (cuts n) c (minimal n both.0) both.1 in
+      let h : height label r.by ≤ suc d = height_le label r.by d (λ m i. low m (r.part m i)) in
+      let l : label n ≤ height label r.by = labels.least n r.by both.0 r.in' in omega arith
+
+  free_le : (n d : ℕ) → cover n ≡ Some [] → label n ≤ d
+  free_le n d at =
+      let both = is.cuts n [] at in
+      let r : Covers (cuts n) [] = minimal_part g k n (cuts n) [] (minimal n both.0) both.1 in
+      let e : height label r.by ≡ 0 = ap (λ c. height label c) (within_none r.by r.part) in
+      let l : label n ≤ height label r.by = labels.least n r.by both.0 r.in' in omega arith
+
+  -- The label of a node is at most its depth in every cover.
+  pub label_le_depth : {n d : ℕ} → HasDepth g cover n d → label n ≤ d
+  label_le_depth {n} {d} (source l) = let e : label n ≡ 0 = labels.sources n l in omega arith
+  label_le_depth {n} {d} (free at) = free_le n d at
+  label_le_depth {n} (table {d = d} c at sub) = table_le n d c at (λ m i. label_le_depth (sub m i))

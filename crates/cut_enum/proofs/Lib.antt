@@ -1,0 +1,10 @@
+pub mod SetLemmas
+pub mod UnionLemmas
+pub mod SignatureLemmas
+pub mod LeastLemmas
+pub mod CutLemmas
+pub mod PutLemmas
+pub mod RowLemmas
+pub mod DepthLemmas
+pub mod SpanLemmas
+pub mod LimitLemmas

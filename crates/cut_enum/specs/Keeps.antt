@@ -1,0 +1,11 @@
+-- What the fields of a cut keep.
+use Rattle.std.specs.Prelude.{◌≡◌, ℕ, ◌≤◌, List, length}
+use Rattle.list_words.specs.Order.{IsAscending}
+use Rattle.cut_enum.specs.Signature.{signature_of}
+
+-- the leaves ascend and lie in the six inline places, and the signature is theirs
+pub record IsCutLeaves (leaves : List ℕ) (capacity signature : ℕ) : Type 0 where
+  pub ascending : IsAscending leaves
+  pub few : length leaves ≤ 6
+  pub inline : capacity ≡ 6
+  pub signed : signature ≡ signature_of leaves

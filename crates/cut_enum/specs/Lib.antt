@@ -1,0 +1,10 @@
+pub mod Cuts
+pub mod Sets
+pub mod Unions
+pub mod Covers
+pub mod Table
+pub mod Limits
+pub mod Signature
+pub mod Keeps
+pub mod Spans
+pub mod Merging

@@ -1,0 +1,19 @@
+-- When a graph has too many cuts for a table.
+use Rattle.std.specs.Prelude.{ℕ, ◌+◌, ◌^◌, ◌<◌, ◌≤◌, List, length, sum_by}
+use Rattle.aig_core.specs.Aig.{Aig, IsAnd}
+use Rattle.cut_enum.specs.Cuts.{AreMinimal}
+use Rattle.cut_enum.specs.Table.{AreRows}
+use Rattle.cut_enum.specs.declared.table.CutErr.{CutErr}
+use Rattle.cut_enum.specs.declared.table.CutErr.TheVariants.{NodeCuts, TotalCuts, Memory}
+
+-- n is an AND node, the nodes below keep the limits, and these are its cuts
+pub record Reaches (g : Aig) (k n : ℕ) (rows : List (List (List ℕ))) (cuts : List (List ℕ)) : Type 0 where
+  pub node : IsAnd g n
+  pub below : AreRows g k n rows
+  pub are : AreMinimal g k n cuts
+
+-- when each refusal comes: at the first node that has too many cuts, or with which they are too many
+abbrev pub IsLimit : Aig → ℕ → CutErr → Type 0
+IsLimit g k (NodeCuts n) = (rows : List (List (List ℕ))) × (cuts : List (List ℕ)) × Reaches g k n rows cuts × (4096 < length cuts)
+IsLimit g k (TotalCuts n) = (rows : List (List (List ℕ))) × (cuts : List (List ℕ)) × Reaches g k n rows cuts × (length cuts ≤ 4096) × (2 ^ 23 < sum_by length rows + length cuts)
+IsLimit g k Memory = Unit {0}

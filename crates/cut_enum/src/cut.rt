@@ -1,0 +1,187 @@
+//! A cut of at most six leaves, with its signature.
+ghost use Rattle.std.specs.Prelude.{◌≡◌, ℕ, ◌<◌, ◌≤◌, ◌↔◌, false, List, [], ◌∷◌, length, MatchOption, IsTrue, IfSome, IfNone, IfOk, IfErr, insert};
+ghost use Rattle.list_words.specs.Members.{Within};
+ghost use Rattle.cut_enum.specs.Merging.{put, union, subset};
+ghost use Rattle.cut_enum.specs.Signature.{leaf_bit as bit_of};
+ghost use Rattle.cut_enum.specs.Unions.{IsUnion};
+
+use smallvec::SmallVec;
+use std::alloc::Global;
+use std::marker::Model;
+
+/// The leaves of a cut: at most six nodes, ascending and without repeats, in place.
+///
+/// Beside them stands their signature, a word that has bit (leaf mod 64) of each leaf.
+#[derive(Drop)]
+pub struct Cut {
+    leaves: SmallVec<u32, 6>,
+    signature: u64,
+}
+
+impl Model for Cut {
+    ghost use Rattle.std.specs.Prelude.{ℕ, List};
+    ghost use Rattle.cut_enum.specs.Keeps.{IsCutLeaves};
+
+    ghost Value = { List ℕ };
+
+    ghost view = { λ c. c.leaves.items };
+
+    ghost invariant = { λ c. IsCutLeaves c.leaves.items c.leaves.capacity c.signature };
+}
+
+// The word with the bit of one leaf.
+fn leaf_bit(leaf: u32) -> u64
+    ensures { result ≡ bit_of leaf }
+{
+    1 << (leaf % 64)
+}
+
+// Where a leaf stands, or else its place among the others.
+fn place_for(leaves: &[u32], x: u32) -> Result<usize, usize>
+    ensures there { IfOk result (λ _. put x leaves.now ≡ leaves.now) }
+    ensures within { IfErr result (λ i. i ≤ length leaves.now) }
+    ensures place { IfErr result (λ i. put x leaves.now ≡ insert leaves.now i x) }
+{
+    for (i, y) in leaves.iter().enumerate() {
+        if *y == x {
+            return Ok(i);
+        }
+        if *y > x {
+            return Err(i);
+        }
+    }
+    Err(leaves.len())
+}
+
+// Puts a leaf among others, if it is there or there is room.
+fn put_leaf(leaves: &mut SmallVec<u32, 6>, x: u32, k: usize) -> bool
+    requires inline { leaves.old.capacity ≡ 6 }
+    requires few { k ≤ 6 }
+    ensures done { IsTrue result → leaves.new.items ≡ put x leaves.old.items }
+    ensures full { result ≡ false → k < length (put x leaves.old.items) }
+    ensures capacity { leaves.new.capacity ≡ 6 }
+{
+    match place_for(leaves.as_slice(), x) {
+        Ok(_) => true,
+        Err(at) => {
+            if leaves.len() >= k {
+                return false;
+            }
+            let _done = leaves.insert(at, x);
+            true
+        }
+    }
+}
+
+// The leaves of both, unless they are more than k. Where their signatures alone have more bits, no leaf is looked at.
+pub fn joined(a: &Cut, b: &Cut, k: u8) -> Option<Cut>
+    requires { k ≤ 6 }
+    ensures { MatchOption result (k < length (union a.now b.now)) (λ c. (c ≡ union a.now b.now) × (length c ≤ k)) }
+{
+    let signature = a.signature | b.signature;
+    if signature.count_ones() > k as u32 {
+        return None;
+    }
+    let mut leaves = b.copy().leaves;
+    for x in a.leaves.as_slice() {
+        if !put_leaf(&mut leaves, *x, k as usize) {
+            return None;
+        }
+    }
+    if leaves.len() > k as usize {
+        return None;
+    }
+    Some(Cut { leaves, signature })
+}
+
+/// The union of two cuts, or `None` exactly where it has more than `k` leaves.
+///
+/// It takes no memory, and at most 36 comparisons of leaves.
+pub fn merge(a: &Cut, b: &Cut, k: u8) -> Option<Cut>
+    requires { k ≤ 6 }
+    ensures some { IfSome result (λ c. IsUnion a.now b.now c × (length c ≤ k)) }
+    ensures none { IfNone result ((c : List ℕ) × IsUnion a.now b.now c × (k < length c)) }
+{
+    let _leaves = &b.leaves;
+    joined(a, b, k)
+}
+
+// Is every element of a one of b?
+fn is_subset(a: &[u32], b: &[u32]) -> bool
+    ensures { result ≡ subset a.now b.now }
+{
+    a.iter().all(|x| b.contains(x))
+}
+
+// Is every leaf of a one of b? Leaves are looked at only where b's signature has every bit of a's.
+pub fn is_part(a: &Cut, b: &Cut) -> bool
+    ensures { result ≡ subset a.now b.now }
+{
+    if (a.signature | b.signature) != b.signature {
+        return false;
+    }
+    is_subset(a.leaves.as_slice(), b.leaves.as_slice())
+}
+
+/// Whether every leaf of `a` is one of `b`.
+pub fn within(a: &Cut, b: &Cut) -> bool
+    ensures { IsTrue result ↔ Within a.now b.now }
+{
+    is_part(a, b)
+}
+
+impl Cut {
+    /// The cut without leaves.
+    pub fn empty(alloc: Global) -> Cut
+        ensures { result ≡ [] }
+    {
+        Cut {
+            leaves: SmallVec::new(alloc),
+            signature: 0,
+        }
+    }
+
+    /// The cut of one leaf.
+    pub fn one(alloc: Global, leaf: u32) -> Cut
+        ensures { result ≡ leaf ∷ [] }
+    {
+        let mut leaves = SmallVec::new(alloc);
+        leaves.push_reserved(leaf);
+        let signature = leaf_bit(leaf);
+        Cut { leaves, signature }
+    }
+
+    /// The same leaves again. It takes no memory.
+    pub fn copy(&self) -> Cut
+        ensures { result ≡ self.now }
+    {
+        let leaves = SmallVec::from_slice(
+            *self.leaves.allocator(),
+            self.leaves.as_slice(),
+        ).unwrap();
+        let signature = self.signature;
+        Cut { leaves, signature }
+    }
+
+    /// How many leaves there are: at most six.
+    pub fn len(&self) -> usize
+        ensures count { result ≡ length self.now }
+        ensures few { length self.now ≤ 6 }
+    {
+        self.leaves.len()
+    }
+
+    /// Whether there are no leaves.
+    pub fn is_empty(&self) -> bool
+        ensures { IsTrue result ↔ (self.now ≡ []) }
+    {
+        self.leaves.is_empty()
+    }
+
+    /// The leaves, in ascending order.
+    pub fn leaves(&self) -> &[u32]
+        ensures { result.now ≡ self.now }
+    {
+        self.leaves.as_slice()
+    }
+}

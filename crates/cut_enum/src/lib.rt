@@ -1,0 +1,46 @@
+//! The minimal cuts of each AND node of a graph, in which parameters cost nothing.
+//!
+//! # Cuts
+//! A set of nodes *blocks* a node when the node is in it, or is the constant or a parameter, or is an AND node
+//! whose two fan-ins it blocks: once the values of the set and of the parameters are known, so is the node's. A
+//! *cut* of an AND node is an ascending list of at most k regular sources and AND nodes, all below the node, that
+//! blocks it. Its members are the *leaves*, and a table of the k-input kind can be put over them. A cut is *minimal*
+//! when no proper part of it is a cut. `specs/Cuts.antt` has these words, and `specs/Covers.antt` covers made of
+//! cuts.
+//!
+//! # How they are found
+//! Nodes are taken in their order, so the cuts of both fan-ins are known. A fan-in hands on the cut of itself alone
+//! and its own minimal cuts; a regular source hands on itself, and the constant and a parameter the empty cut. The
+//! least unions of a cut of either list, of at most k leaves, are the node's minimal cuts. Nothing is lost so: a set
+//! that blocks the node and does not have it blocks both fan-ins, hence contains a set that each of them hands on,
+//! hence contains the union of the two; and a minimal cut contains no other cut. What the argument needs of the
+//! fan-ins is the last part of `AreMinimal`, and goes from node to node: each list of at most k that blocks a node has
+//! the node itself, or has one of its cuts within it.
+//!
+//! Unions are taken by their size, the smallest first (`least.rt`). So what is kept is never dropped again, and a
+//! node is known to have too many cuts as soon as there are 4,097.
+//!
+//! # Signatures
+//! Beside its leaves a cut has a word with bit (leaf mod 64) of each leaf. A cut whose word has a bit that another's
+//! lacks is not within it, and two cuts whose words have more than k bits together have a union of more than k
+//! leaves. Both tests are proved to change no answer (`proofs/SignatureLemmas.antt`), and spare most comparisons.
+//!
+//! # What the table keeps
+//! All cuts lie in one vector, one node's after another's, those of a node with fewer leaves first and then
+//! lexicographically. A node has at most 4,096 of them and the table at most 2^23; a graph that has more is refused
+//! at the first node at which it shows. `proofs/LimitLemmas.antt` shows that a graph has one such limit at most
+//! (`limit_once`), and no table where it has one (`limit_excludes`).
+//!
+//! Sources: Cong and Ding, "FlowMap", 1994, for cuts and labels; Cong, Wu and Ding, "Cut ranking and pruning",
+//! 1999, for the merging of cuts; Bruneel and Stroobandt, "Tuneable lookup tables", for parameters that cost nothing.
+#![tactic(auto)]
+
+mod cut;
+mod least;
+mod row;
+mod table;
+#[cfg(test)]
+mod tests;
+
+pub use cut::{Cut, merge, within};
+pub use table::{CutErr, CutTable, enumerate};

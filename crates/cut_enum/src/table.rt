@@ -1,0 +1,220 @@
+//! The table of the minimal cuts of each node.
+ghost use Rattle.std.specs.Prelude.{◌≡◌, ℕ, ◌+◌, ◌^◌, ◌<◌, ◌≤◌, [], ◌∷◌, ◌++◌, ◌⊎◌, length, OnOk, IfOk, IfErr, slice_get, slice_range, Some, sum_by, vec_len, vec_capacity};
+ghost use Rattle.aig_core.specs.Aig.{node_count};
+ghost use Rattle.cut_enum.specs.Limits.{IsLimit};
+ghost use Rattle.cut_enum.specs.Table.{row_at, AreRows};
+ghost use Rattle.cut_enum.specs.declared.table.CutErr.{CutErr};
+
+use crate::cut::Cut;
+use crate::row::row_of;
+use aig_core::{Graph, Steps};
+use std::alloc::{AllocError, AllocFailed, Global};
+use std::marker::{Brand, Model};
+use std::sync::ledger::{Blank, Ledger};
+
+/// The most cuts that a table may hold.
+const MOST_OF_A_TABLE: usize = 8_388_608;
+
+/// Why there is no table.
+#[derive(Debug, PartialEq, Eq, Drop)]
+pub enum CutErr {
+    /// This is the first node that has more than 4,096 minimal cuts.
+    NodeCuts(u32),
+    /// With this node's minimal cuts there are more than 2^23, and it is the first such node.
+    TotalCuts(u32),
+    /// There was no memory for the table.
+    Memory,
+}
+
+impl<T: Drop> From<AllocFailed<T>> for CutErr {
+    ghost use Rattle.std.specs.Prelude.{◌≡◌};
+    ghost use Rattle.cut_enum.specs.declared.table.CutErr.TheVariants.{Memory};
+
+    ghost from_gives = { λ _ e. e ≡ Memory };
+
+    fn from(_: AllocFailed<T>) -> CutErr {
+        CutErr::Memory
+    }
+}
+
+impl From<AllocError> for CutErr {
+    ghost use Rattle.std.specs.Prelude.{◌≡◌};
+    ghost use Rattle.cut_enum.specs.declared.table.CutErr.TheVariants.{Memory};
+
+    ghost from_gives = { λ _ e. e ≡ Memory };
+
+    fn from(_: AllocError) -> CutErr {
+        CutErr::Memory
+    }
+}
+
+/// The minimal cuts of each AND node, and none of a source.
+///
+/// All cuts lie in one vector, one node's after another's; `starts` has the place of each node's first cut, and
+/// then the number of all cuts.
+#[derive(Drop)]
+pub struct CutTable {
+    cuts: Vec<Cut>,
+    starts: Vec<u32>,
+}
+
+impl Model for CutTable {
+    ghost use Rattle.std.specs.Prelude.{ℕ, List};
+    ghost use Rattle.cut_enum.specs.Spans.{parts_of, IsFlat};
+
+    ghost Value = { List (List (List ℕ)) };
+
+    ghost view = { λ t. parts_of t.starts.items t.cuts.items };
+
+    ghost invariant = { λ t. IsFlat t.starts.items t.cuts.items };
+}
+
+// The cuts between two places.
+fn part(cuts: &[Cut], start: usize, end: usize) -> &[Cut]
+    requires ordered { start ≤ end }
+    requires inside { end ≤ length cuts.now }
+    ensures { result.now ≡ slice_range cuts.now start end }
+{
+    &cuts[start..end]
+}
+
+// One more place, where there is room for it.
+fn push_place(starts: &mut Vec<u32>, place: u32)
+    requires { vec_len starts.old < vec_capacity starts.old }
+    ensures { starts.new.items ≡ starts.old.items ++ place ∷ [] }
+{
+    let _done = starts.push(place);
+}
+
+// The table, read with this counter of steps.
+fn enumerate_with<L: Ledger>(
+    alloc: Global,
+    graph: &Graph,
+    k: u8,
+    blank: Blank,
+) -> Result<CutTable, CutErr>
+    requires least { 2 ≤ k }
+    requires most { k ≤ 6 }
+    requires name { blank.name ≡ L.name }
+    requires parts { blank.parts ≡ L.parts }
+    requires some { 0 < L.parts }
+    ensures ok { IfOk result (λ table. AreRows graph.now k (node_count graph.now) table) }
+    ensures err { IfErr result (λ e. IsLimit graph.now k e) }
+{
+    let mut steps = Steps::<L>::start(blank);
+    let mut table = CutTable::new(alloc)?;
+    for n in 0..graph.len() {
+        let row = row_of(alloc, graph, &table, n, k, &mut steps)?;
+        if row.len() > MOST_OF_A_TABLE - table.total() {
+            return Err(CutErr::TotalCuts(n));
+        }
+        table.push_row(row)?;
+    }
+    Ok(table)
+}
+
+/// The minimal cuts of at most `k` leaves of every AND node, those with fewer leaves first, then
+/// lexicographically. `k` is 2 to 6.
+///
+/// # Errors
+/// `NodeCuts` and `TotalCuts` come exactly at the first node at which a limit is passed, `NodeCuts` first at one
+/// node; `Memory` where there is none left.
+///
+/// # Complexity
+/// For a node whose fan-ins hand on p and q cuts, and which has r: at most (k + 1) p q tests of two signatures, and
+/// r tests for each union that has few enough leaves.
+///
+/// # Source
+/// Cong, Wu and Ding, "Cut ranking and pruning", 1999, for the merging of the fan-ins' lists; the signatures are
+/// those of ABC's cut package.
+pub fn enumerate(alloc: Global, graph: &Graph, k: u8) -> Result<CutTable, CutErr>
+    requires least { 2 ≤ k }
+    requires most { k ≤ 6 }
+    ensures ok { IfOk result (λ table. AreRows graph.now k (node_count graph.now) table) }
+    ensures err { IfErr result (λ e. IsLimit graph.now k e) }
+
+    // Where a limit is met, that limit is the answer, unless memory ran out first.
+    ensures limit { (e : CutErr) → IsLimit graph.now k e → (e ≡ CutErr.Memory → ⊥) → (result ≡ Err e) ⊎ (result ≡ Err CutErr.Memory) }
+{
+    enumerate_with::<Brand>(alloc, graph, k, Blank::new(1))
+}
+
+impl CutTable {
+    // No node.
+    fn new(alloc: Global) -> Result<CutTable, AllocError>
+        ensures { IfOk result (λ t. t ≡ []) }
+    {
+        let mut starts = Vec::new(alloc);
+        starts.push(0)?;
+        Ok(CutTable {
+            cuts: Vec::new(alloc),
+            starts,
+        })
+    }
+
+    // How many cuts there are.
+    fn total(&self) -> usize
+        ensures sum { result ≡ sum_by length self.now }
+        ensures most { result ≤ 2 ^ 23 }
+    {
+        self.cuts.len()
+    }
+
+    // One more node, with these cuts.
+    fn push_row(&mut self, row: Vec<Cut>) -> Result<(), AllocError>
+        requires { sum_by length self.old + length row.items ≤ 2 ^ 23 }
+        ensures { OnOk result (self.new ≡ self.old ++ row.items ∷ []) }
+    {
+        let mut row = row;
+        let end = self.cuts.len() + row.len();
+        self.starts.reserve(1)?;
+        self.cuts.append(&mut row)?;
+        push_place(&mut self.starts, end as u32);
+        Ok(())
+    }
+
+    // The cuts of a node.
+    fn cuts_of(&self, n: u32) -> &[Cut]
+        ensures row { result.now ≡ row_at self.now n }
+        ensures small { length result.now ≤ 2 ^ 23 }
+    {
+        let n = n as usize;
+        if n + 1 >= self.starts.len() {
+            return &[];
+        }
+        let start = self.starts[n] as usize;
+        let end = self.starts[n + 1] as usize;
+        part(&self.cuts, start, end)
+    }
+
+    /// The cuts of a node, in the table's order: none of a source, or of a node that the table does not have.
+    pub fn row(&self, n: u32) -> &[Cut]
+        ensures { result.now ≡ row_at self.now n }
+    {
+        self.cuts_of(n)
+    }
+
+    /// How many cuts a node has.
+    pub fn count(&self, n: u32) -> u32
+        ensures { result ≡ length (row_at self.now n) }
+    {
+        self.cuts_of(n).len() as u32
+    }
+
+    /// A cut of a node.
+    pub fn cut(&self, n: u32, i: u32) -> Cut
+        requires { i < length (row_at self.now n) }
+        ensures { slice_get (row_at self.now n) i ≡ Some result }
+    {
+        self.row(n)[i as usize].copy()
+    }
+
+    /// The leaves of a cut of a node, in ascending order, without a copy.
+    pub fn leaves(&self, n: u32, i: u32) -> &[u32]
+        requires { i < length (row_at self.now n) }
+        ensures { slice_get (row_at self.now n) i ≡ Some result.now }
+    {
+        let row = self.row(n);
+        row[i as usize].leaves()
+    }
+}

@@ -1,0 +1,6 @@
+use Rattle.cut_enum.specs.Table.{row_at}
+use Rattle.depth_label.specs.Fold.{AreLabelledTo}
+use Rattle.depth_label.proofs.labelling.labels.Given as goal
+
+abbrev pub invariant-loop-n : goal.invariant-loop-n
+invariant-loop-n l = AreLabelledTo l.graph (row_at l.table) l.n (record { labels = l.labels.items; best = l.best.items })

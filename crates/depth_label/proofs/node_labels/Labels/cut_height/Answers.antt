@@ -1,0 +1,9 @@
+use Rattle.std.proofs.Common.{◌∙◌, ap}
+use Rattle.cut_enum.specs.Covers.{height}
+use Rattle.depth_label.specs.Label.{LabelsValue, label_at, label_of}
+use Rattle.depth_label.proofs.node_labels.Labels.cut_height.Goals as goal
+
+pub returns : goal.returns
+returns c =
+    c.cut_height.ensures ∙ (ap (λ ls. height (label_at ls) c.leaves.result.now) c.deref.ensures.value ∙ (ap (λ x. height (label_at c.self.inside.labels.items) x) c.leaves.ensures
+    ∙ ap (λ (v : LabelsValue). height (label_of v) c.args.cut.now) c.self.view_is))

@@ -1,0 +1,53 @@
+-- Labels and best cuts: the least depth at which each node can stand, and a cut that reaches it.
+use Rattle.std.specs.Prelude.{◌≡◌, ℕ, ◌+◌, ◌^◌, ◌<◌, ◌≤◌, true, List, [], Option, slice_index_or, ◌⊎◌}
+use Rattle.aig_core.specs.Aig.{Aig, node_count, IsAnd}
+use Rattle.list_words.specs.Members.{In}
+use Rattle.cut_enum.specs.Sets.{before}
+use Rattle.cut_enum.specs.Covers.{height, AreLabels, IsCover, HasDepth}
+use Rattle.cut_enum.specs.Table.{AreRows, row_at}
+
+-- what labels are seen as: one label and one best cut a node
+pub record LabelsValue : Type 0 where
+  pub labels : List ℕ
+  pub best : List (List ℕ)
+
+-- the label of a node, 0 past the last one
+abbrev pub label_at : List ℕ → ℕ → ℕ
+label_at labels n = slice_index_or labels n 0
+
+abbrev pub label_of : LabelsValue → ℕ → ℕ
+label_of v n = label_at v.labels n
+
+-- the best cut of a node, none of a source
+abbrev pub best_of : LabelsValue → ℕ → List ℕ
+best_of v n = slice_index_or v.best n []
+
+-- the table of all nodes' minimal cuts, of at least two leaves each where they need them
+pub record IsCutTable (g : Aig) (rows : List (List (List ℕ))) : Type 0 where
+  pub k : ℕ
+  pub two : 2 ≤ k
+  pub are : AreRows g k (node_count g) rows
+
+-- c is as good as d: its height is lower, or the same, and then it has fewer leaves, or as many and comes no later
+pub data IsAsGood (label : ℕ → ℕ) (c d : List ℕ) : Type 0 where
+  lower : height label c < height label d → IsAsGood label c d
+  tie : height label c ≡ height label d → (c ≡ d) ⊎ (before c d ≡ true) → IsAsGood label c d
+
+-- the cut of the least height, among these of the fewest leaves, among these the lexicographically least
+pub record IsBestCut (label : ℕ → ℕ) (cs : List (List ℕ)) (c : List ℕ) : Type 0 where
+  pub one : In cs c
+  pub first : (d : List ℕ) → In cs d → IsAsGood label c d
+
+-- the labels and best cuts of a graph with this table
+pub record AreLabelled (g : Aig) (rows : List (List (List ℕ))) (v : LabelsValue) : Type 0 where
+  pub labels : AreLabels g (row_at rows) (label_of v)
+  pub best : (n : ℕ) → IsAnd g n → IsBestCut (label_of v) (row_at rows n) (best_of v n)
+  pub met : (n : ℕ) → IsAnd g n → label_of v n ≡ height (label_of v) (best_of v n)
+
+-- no cover of the graph, whatever its cuts, has a node at a lower depth than the node's label
+pub record AreLeastDepths (g : Aig) (k : ℕ) (label : ℕ → ℕ) : Type 0 where
+  pub least : (roots : List ℕ) (cover : ℕ → Option (List ℕ)) (n d : ℕ) → IsCover g k roots cover → HasDepth g cover n d → label n ≤ d
+
+-- one more than each label fits a word
+abbrev pub AreSmall : List ℕ → Type 0
+AreSmall labels = (n : ℕ) → 1 + label_at labels n < 2 ^ 32

@@ -1,0 +1,82 @@
+//! Labels and best cuts, node by node.
+ghost use Rattle.std.specs.Prelude.{◌≡◌, ℕ, ◌<◌, ◌≤◌, [], None, IfOk};
+ghost use Rattle.aig_core.specs.Aig.{first_and, node_count, IsAnd};
+ghost use Rattle.cut_enum.specs.Table.{row_at, AreRows};
+ghost use Rattle.depth_label.specs.Label.{label_at, label_of, AreSmall, IsCutTable, AreLabelled, AreLeastDepths};
+ghost use Rattle.depth_label.specs.Fold.{lower_of, lowest, lowest_cut};
+
+use crate::height::cut_height;
+use crate::node_labels::Labels;
+use aig_core::Graph;
+use cut_enum::{Cut, CutTable};
+use std::alloc::{AllocError, Global};
+
+// The lower of two cuts, the first where they are as low.
+fn lower(labels: &[u32], best: Option<Cut>, cut: &Cut) -> Option<Cut>
+    requires { AreSmall labels.now }
+    ensures { result ≡ lower_of (label_at labels.now) best cut.now }
+{
+    match best {
+        None => Some(cut.copy()),
+        Some(b) => {
+            if cut_height(labels, cut.leaves()) < cut_height(labels, b.leaves()) {
+                Some(cut.copy())
+            } else {
+                Some(b)
+            }
+        }
+    }
+}
+
+// The first of the lowest cuts of a list.
+fn lowest_of(labels: &[u32], cuts: &[Cut]) -> Option<Cut>
+    requires { AreSmall labels.now }
+    ensures { result ≡ lowest (label_at labels.now) None cuts.now }
+{
+    let mut best = None;
+    for cut in cuts {
+        best = lower(labels, best, cut);
+    }
+    best
+}
+
+// The best cut of the next node.
+fn best_cut(alloc: Global, graph: &Graph, table: &CutTable, labels: &[u32], n: u32) -> Cut
+    requires { AreSmall labels.now }
+    ensures source { n < first_and graph.now → result ≡ [] }
+    ensures node { IsAnd graph.now n → result ≡ lowest_cut (label_at labels.now) (row_at table.now n) }
+{
+    if n <= graph.sources() {
+        return Cut::empty(alloc);
+    }
+    match lowest_of(labels, table.row(n)) {
+        None => Cut::empty(alloc),
+        Some(cut) => cut,
+    }
+}
+
+/// The label and the best cut of each node of a graph, from the table of its minimal cuts.
+///
+/// The label of a source is 0, that of an AND node the least height of its minimal cuts, which is the least depth at
+/// which it can stand in any cover (Cong and Ding 1994). The nodes are taken in ascending order, each cut once.
+///
+/// # Errors
+///
+/// Only where there is no memory.
+pub fn labels(alloc: Global, graph: &Graph, table: &CutTable) -> Result<Labels, AllocError>
+    requires { IsCutTable graph.now table.now }
+    ensures ok { IfOk result (λ labels. AreLabelled graph.now table.now labels) }
+    ensures least { IfOk result (λ labels. (k : ℕ) → AreRows graph.now k (node_count graph.now) table.now → AreLeastDepths graph.now k (label_of labels)) }
+{
+    let mut labels = Vec::new(alloc);
+    let mut best = Vec::new(alloc);
+    for n in 0..graph.len() {
+        let cut = best_cut(alloc, graph, table, &labels, n);
+        labels.push(cut_height(&labels, cut.leaves()))?;
+        best.push(cut)?;
+    }
+    Ok(Labels::make(labels, best))
+}
+
+#[cfg(test)]
+mod tests;
