@@ -1,0 +1,167 @@
+-- The values of a graph's literals fit the tables of a mapping under the configuration from scratch, and a mapping can be played.
+use Rattle.std.proofs.Common.{◌≡◌, ℕ, zero, suc, ◌+◌, ◌-◌, ◌*◌, ◌/◌, ◌%◌, ◌^◌, ◌<◌, ◌≤◌, Bool, true, false, eqb, leb, List, [], ◌∷◌, ◌++◌, length, get_or, refl, sym, ap, ◌∙◌, subst, inl, inr, ◌⊎◌, arith, length-append}
+use Rattle.std.proofs.Math.ListN.{get_or-append}
+use Rattle.std.proofs.lemmas.List.{length-map, get_or-map}
+use Rattle.std.proofs.lemmas.Bool.{leb-true, leb-false, and_from, eq-eqb}
+use Rattle.list_words.specs.Members.{In}
+use Rattle.list_words.specs.Digits.{number}
+use Rattle.list_words.proofs.Choice.{choose}
+use Rattle.list_words.proofs.Digits.{number-small, digit-number}
+use Rattle.aig_core.specs.declared.lit.Kind.TheVariants.{Regular}
+use Rattle.aig_core.specs.Aig.{Aig, first_and, IsAnd, IsSource}
+use Rattle.aig_core.specs.Value.{xor, value_of, values_of}
+use Rattle.aig_core.specs.Roots.{lits_of}
+use Rattle.cut_enum.specs.Cuts.{Blocks, member, constant, parameter}
+use Rattle.cover_pick.specs.declared.lut.Lut.{Lut}
+use Rattle.cover_pick.specs.Template.{TemplateValue}
+use Rattle.cover_pick.specs.Mapping.{IsMapping, IsTableOf, source, free, node, IsPlain, HasLut}
+use Rattle.lut_sim.specs.declared.shape.Shape.{Shape}
+use Rattle.lut_sim.specs.Sources.{is_regular, is_plain, last_source, source_value}
+use Rattle.lut_sim.specs.Cycle.{leaf_values}
+use Rattle.lut_sim.specs.Playable.{IsPlayable, HasValue}
+use Rattle.lut_sim.proofs.RoomLemmas.{regular_within}
+use Rattle.lut_sim.proofs.SourceLemmas.{IsInputOrLatch, input, latch, either_side}
+use Rattle.bit_fun.specs.BitFunction.{in_phase}
+use Rattle.bit_fun.specs.Configuration.{conf}
+use Rattle.bit_fun.specs.Shape.{HasShape, AreSourceValues}
+use Rattle.bit_fun.specs.Lawful.{IsLawful}
+use Rattle.bit_fun.proofs.ConeLemmas.{node_value, AreDigits, cone_is_value, source_value as node_of_source}
+use Rattle.bit_fun.proofs.ConfLemmas.{conf_at, past_first}
+
+-- the leaves of a table block its node
+table_blocks : (g : Aig) (k : ℕ) (t : Lut) → IsTableOf g k t → Blocks g t.leaves (t.lit.0 / 2)
+table_blocks g k t (source s odd e) = member (subst (λ c. In c (t.lit.0 / 2)) (sym e) (inl refl))
+table_blocks g k t (free (inl z) e) = constant z
+table_blocks g k t (free (inr p) e) = parameter p
+table_blocks g k t (node a c) = c.blocks
+
+-- exclusive or with 0 leaves a bit as it is
+xor-false : (b : Bool) → xor b false ≡ b
+xor-false true = refl
+xor-false false = refl
+
+-- a positive literal has its node's value
+positive_value : (g : Aig) (sources : List Bool) (m : ℕ) → value_of (values_of g sources) (2 * m) ≡ node_value g sources m
+positive_value g sources m =
+    let e : (2 * m) % 2 ≡ 0 = omega arith in
+    let h : (2 * m) / 2 ≡ m = omega arith in
+    ap (λ p. xor (node_value g sources ((2 * m) / 2)) (eqb p 1)) e ∙ xor-false (node_value g sources ((2 * m) / 2)) ∙ ap (node_value g sources) h
+
+-- the value of a regular source among those of all sources
+regular_value : (shape : Shape) (inputs params states : List Bool) (n : ℕ) → length inputs ≡ shape.regular → length params ≡ shape.params → IsInputOrLatch shape n
+    → get_or (inputs ++ (params ++ states)) (n - 1) false ≡ source_value shape inputs states n
+regular_value shape inputs params states n li lp (input low high) =
+    get_or-append inputs (params ++ states) false (n - 1) (omega arith)
+    ∙ choose (λ b. get_or inputs (n - 1) false ≡ b) (leb n shape.regular) (get_or inputs (n - 1) false) (get_or states (n - 1 - (shape.regular + shape.params)) false) (λ _. refl)
+    (λ past. absurd (let c : shape.regular < n = leb-false n shape.regular past in omega arith))
+regular_value shape inputs params states n li lp (latch low high) =
+    let i : ℕ = n - 1 - (shape.regular + shape.params) in
+    let e : n - 1 ≡ length inputs + (length params + i) = omega arith in
+    ap (λ m. get_or (inputs ++ (params ++ states)) m false) e
+    ∙ past_first inputs (params ++ states) (length params + i)
+    ∙ past_first params states i
+    ∙ choose (λ b. get_or states i false ≡ b) (leb n shape.regular) (get_or inputs (n - 1) false) (get_or states i false)
+    (λ here. absurd (let c : n ≤ shape.regular = leb-true n shape.regular here in omega arith)) (λ _. refl)
+
+-- a list of source values, at a place past the constant
+after_constant : (xs : List Bool) (n : ℕ) → 1 ≤ n → get_or (false ∷ xs) n false ≡ get_or xs (n - 1) false
+after_constant xs zero h = absurd (omega arith)
+after_constant xs (suc n) h = ap (λ m. get_or xs m false) (let e : n ≡ suc n - 1 = omega arith in e)
+
+-- a value for each source of the shape
+all_len : (shape : Shape) (inputs params states sources : List Bool) → AreSourceValues shape inputs params states sources → length sources ≡ last_source shape
+all_len shape inputs params states sources a =
+    let e : length sources ≡ length (inputs ++ (params ++ states)) = ap length a.all in
+    let f : length (inputs ++ (params ++ states)) ≡ length inputs + length (params ++ states) = length-append inputs (params ++ states) in
+    let h : length (params ++ states) ≡ length params + length states = length-append params states in
+    let i : length inputs ≡ shape.regular = a.inputs_len in
+    let p : length params ≡ shape.params = a.params_len in
+    let s : length states ≡ shape.latches = a.states_len in omega arith
+
+-- the values of a table's leaves are those of their nodes
+leaf_digits : (g : Aig) (sources : List Bool) (leaves : List ℕ) → AreDigits g sources leaves (number (leaf_values (value_of (values_of g sources)) leaves))
+leaf_digits g sources leaves = record {
+  each = λ j h.
+      digit-number (leaf_values (value_of (values_of g sources)) leaves) j (rw (length-map leaves (λ m. value_of (values_of g sources) (2 * m))) h)
+      ∙ get_or-map (λ m. value_of (values_of g sources) (2 * m)) leaves j 0 false h
+      ∙ positive_value g sources (get_or leaves j 0);
+}
+
+-- the law
+pub conf_lawful : (g : Aig) (given : List Bool) (luts : List Lut) → IsLawful g given luts (conf g given luts)
+conf_lawful g given luts k roots bits shape inputs params states sources normal mapping has values agree = record {
+  source = λ n r.
+      let side : IsInputOrLatch shape n = either_side shape n r in
+      let is : IsSource g Regular n = has.to_regular n r in
+      let above : 1 ≤ n = is.above in
+      let within : n ≤ last_source shape = regular_within shape n r in
+      let all : length sources ≡ last_source shape = all_len shape inputs params states sources values in
+      let count : length g.kinds ≡ last_source shape = has.count in
+      positive_value g sources n
+      ∙ node_of_source g sources n (all ∙ sym count) (omega arith)
+      ∙ after_constant sources n above
+      ∙ ap (λ xs. get_or xs (n - 1) false) values.all
+      ∙ regular_value shape inputs params states n values.inputs_len values.params_len side;
+  table = λ t i plain.
+      let all : length sources ≡ length g.kinds = all_len shape inputs params states sources values ∙ sym has.count in
+      let v : ℕ = number (leaf_values (value_of (values_of g sources)) t.leaves) in
+      let small : v < 2 ^ length (leaf_values (value_of (values_of g sources)) t.leaves) = number-small (leaf_values (value_of (values_of g sources)) t.leaves) in
+      let fits : v < 2 ^ length t.leaves = subst (λ n. v < 2 ^ n) (length-map t.leaves (λ m. value_of (values_of g sources) (2 * m))) small in
+      sym (conf_at g given [] luts t v mapping.bases i fits
+      ∙ ap (in_phase t.lit.0) (cone_is_value g t.leaves v given sources (t.lit.0 / 2 + 1) (t.lit.0 / 2) normal all agree (leaf_digits g sources t.leaves) (omega arith) (table_blocks g k t (mapping.table t i))));
+}
+
+-- an AND node is above all sources
+and_above : (g : Aig) (shape : Shape) (m : ℕ) → HasShape g shape → IsAnd g m → last_source shape < m
+and_above g shape m has a = let l : first_and g ≤ m = a.0 in let c : length g.kinds ≡ last_source shape = has.count in omega arith
+
+-- what a table's leaf is
+pub data IsLeafOf (g : Aig) (shape : Shape) (t : Lut) (m : ℕ) : Type 0 where
+  at_regular : is_regular shape m ≡ true → IsLeafOf g shape t m
+  at_node : IsAnd g m → m < t.lit.0 / 2 → IsLeafOf g shape t m
+
+-- a leaf of a table that maps the graph is a regular source or an AND node below the table's node
+leaf_is : (g : Aig) (k : ℕ) (shape : Shape) (t : Lut) (m : ℕ) → HasShape g shape → IsTableOf g k t → In t.leaves m → IsLeafOf g shape t m
+leaf_is g k shape t m has (source s odd e) i = elim (subst (λ c. In c m) e i) [
+  | inl q ↦ at_regular (subst (λ n. is_regular shape n ≡ true) (sym q) (has.from_regular (t.lit.0 / 2) s))
+  | inr q ↦ absurd q
+]
+leaf_is g k shape t m has (free z e) i = absurd (subst (λ c. In c m) e i)
+leaf_is g k shape t m has (node a c) i = elim ((c.below m i).1) [
+  | inl r ↦ at_regular (has.from_regular m r)
+  | inr n ↦ at_node n (c.below m i).0
+]
+
+-- in terms of the shape, it is a regular source or stands above all sources
+leaf_side : (g : Aig) (shape : Shape) (t : Lut) (m : ℕ) → HasShape g shape → IsLeafOf g shape t m → (is_regular shape m ≡ true) ⊎ (last_source shape < m)
+leaf_side g shape t m has (at_regular r) = inl r
+leaf_side g shape t m has (at_node a b) = inr (and_above g shape m has a)
+
+-- a leaf above all sources is an AND node below the table's
+leaf_node : (g : Aig) (shape : Shape) (t : Lut) (m : ℕ) → IsLeafOf g shape t m → last_source shape < m → IsAnd g m × (m < t.lit.0 / 2)
+leaf_node g shape t m (at_regular r) h = absurd (let w : m ≤ last_source shape = regular_within shape m r in omega arith)
+leaf_node g shape t m (at_node a b) h = (a, b)
+
+-- the positive literal of a regular source is plain
+plain_is : (g : Aig) (shape : Shape) (l : ℕ) → HasShape g shape → IsPlain g l → is_plain shape l ≡ true
+plain_is g shape l has p = and_from (eqb (l % 2) 0) (is_regular shape (l / 2)) (eq-eqb (l % 2) 0 p.positive) (has.from_regular (l / 2) p.source)
+
+-- a root that the tables map has a value
+root_value : (c : TemplateValue) (g : Aig) (shape : Shape) (l : ℕ) → HasShape g shape → IsPlain g l ⊎ HasLut c.luts l → HasValue c shape l
+root_value c g shape l has (inl p) = inl (plain_is g shape l has p)
+root_value c g shape l has (inr t) = inr t
+
+-- a mapping over a graph of a shape can be played
+pub mapping_playable : (c : TemplateValue) (g : Aig) (k : ℕ) (roots : List ℕ) (shape : Shape) → IsMapping g k roots c.luts c.bits → HasShape g shape → length c.next ≡ shape.latches
+    → ((l : ℕ) → In (lits_of c.outputs) l → In roots l) → ((l : ℕ) → In (lits_of c.next) l → In roots l) → IsPlayable c shape
+mapping_playable c g k roots shape m has latches outs nexts = record {
+  latches = latches;
+  leaves = λ t n i j. leaf_side g shape t n has (leaf_is g k shape t n has (m.table t i) j);
+  below = λ t n i j h. (leaf_node g shape t n (leaf_is g k shape t n has (m.table t i) j) h).1;
+  fed = λ t n i j h. m.leaf t n i j (leaf_node g shape t n (leaf_is g k shape t n has (m.table t i) j) h).0;
+  ascending = m.ascending;
+  bases = m.bases;
+  sum = m.sum;
+  outputs = λ l i. root_value c g shape l has (m.root l (outs l i));
+  next = λ l i. root_value c g shape l has (m.root l (nexts l i));
+}

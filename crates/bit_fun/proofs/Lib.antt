@@ -1,0 +1,4 @@
+pub mod ConeLemmas
+pub mod ConfLemmas
+pub mod LawLemmas
+pub mod WalkLemmas

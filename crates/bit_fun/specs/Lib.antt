@@ -1,0 +1,4 @@
+pub mod BitFunction
+pub mod Configuration
+pub mod Shape
+pub mod Lawful

@@ -1,0 +1,5 @@
+pub mod StepLemmas
+pub mod FitLemmas
+pub mod RoomLemmas
+pub mod SourceLemmas
+pub mod ToggleLemmas

@@ -1,0 +1,87 @@
+-- There is room for each table of a playable circuit.
+use Rattle.std.proofs.Common.{◌≡◌, ℕ, suc, ◌+◌, ◌-◌, ◌*◌, ◌/◌, ◌^◌, ◌<◌, ◌≤◌, Bool, true, List, [], ◌∷◌, length, get_or, slice_set, take, refl, sym, ap, ◌∙◌, subst, inl, inr, arith, ◌&&◌, ◌||◌, leb, ltb, ◌++◌, append-nil, append_assoc}
+use Rattle.std.proofs.Math.ListN.{length-set}
+use Rattle.std.proofs.lemmas.List.Sums.{sum_by-cons}
+use Rattle.std.proofs.lemmas.Bool.{or_cases, and_parts, leb-true}
+use Rattle.std.proofs.lemmas.List.{take_more_set, take_all}
+use Rattle.list_words.specs.Members.{In}
+use Rattle.cover_pick.specs.declared.lut.Lut.{Lut}
+use Rattle.cover_pick.specs.Template.{TemplateValue}
+use Rattle.cover_pick.specs.Mapping.{AscendByLit, HaveBases, bits_of}
+use Rattle.lut_sim.specs.declared.shape.Shape.{Shape}
+use Rattle.lut_sim.specs.Sources.{last_source, is_regular}
+use Rattle.lut_sim.specs.Playable.{IsPlayable, HasValue}
+use Rattle.lut_sim.specs.Sim.{HasRoom}
+use Rattle.lut_sim.specs.Steps.{IsTableInRoom, filled}
+use Rattle.lut_sim.proofs.FitLemmas.{plain_parts}
+
+-- a table's bits lie within the bits of all
+bits_within : (b : ℕ) (ts : List Lut) (t : Lut) → HaveBases b ts → In ts t → t.base + 2 ^ length t.leaves ≤ b + bits_of ts
+bits_within b [] t h i = elim i [ ]
+bits_within b (u ∷ ts) t h (inl e) =
+    let s : bits_of (u ∷ ts) ≡ 2 ^ length u.leaves + bits_of ts = sum_by-cons (λ (x : Lut). 2 ^ length x.leaves) u ts in
+    let base : u.base ≡ b = h.0 in
+    subst (λ (x : Lut). x.base + 2 ^ length x.leaves ≤ b + bits_of (u ∷ ts)) (sym e) (omega arith)
+bits_within b (u ∷ ts) t h (inr i) =
+    let s : bits_of (u ∷ ts) ≡ 2 ^ length u.leaves + bits_of ts = sum_by-cons (λ (x : Lut). 2 ^ length x.leaves) u ts in
+    let r : t.base + 2 ^ length t.leaves ≤ b + 2 ^ length u.leaves + bits_of ts = bits_within (b + 2 ^ length u.leaves) ts t h.1 i in
+    omega arith
+
+-- a test on two sides that are both within a bound
+either_within : (a b c d : Bool) (m n : ℕ) → (b ≡ true → m ≤ n) → (d ≡ true → m ≤ n) → ((a && b) || (c && d)) ≡ true → m ≤ n
+either_within a b c d m n l r h = elim (or_cases (a && b) (c && d) h) [ inl p ↦ l (and_parts a b p).1 | inr p ↦ r (and_parts c d p).1 ]
+
+-- a regular source is one of the sources
+pub regular_within : (s : Shape) (m : ℕ) → is_regular s m ≡ true → m ≤ last_source s
+regular_within s m h =
+    either_within (leb 1 m) (leb m s.regular) (ltb (s.regular + s.params) m) (leb m (last_source s)) m (last_source s)
+    (λ e. let l : m ≤ s.regular = leb-true m s.regular e in omega arith) (λ e. leb-true m (last_source s) e) h
+
+-- each table of a playable circuit has room for its literal, its leaves and its bits
+pub table_in_room : (c : TemplateValue) (s : Shape) (size bits : ℕ) → IsPlayable c s → HasRoom c s size → bits ≡ c.bits → (t : Lut) → In c.luts t → IsTableInRoom t bits size
+table_in_room c s size bits p r e t i = record {
+  literal = r.tables t i;
+  leaves = λ m j. let l : t.lit.0 < size = r.tables t i in let q : 2 * last_source s + 1 < size = r.sources in elim (p.leaves t m i j) [
+    | inl a ↦ (let w : m ≤ last_source s = regular_within s m a in omega arith)
+    | inr a ↦ (let b : m < t.lit.0 / 2 = p.below t m i j a in omega arith)
+  ];
+  bits_in = let w : t.base + 2 ^ length t.leaves ≤ 0 + bits_of c.luts = bits_within 0 c.luts t p.bases i in let q : c.bits ≡ bits_of c.luts = p.sum in omega arith;
+}
+
+-- the last table has the greatest literal
+pub last_greatest : (ts : List Lut) (t d : Lut) → AscendByLit ts → In ts t → t.lit.0 ≤ (get_or ts (length ts - 1) d).lit.0
+last_greatest [] t d a i = elim i [ ]
+last_greatest (u ∷ []) t d a (inl e) = subst (λ (x : Lut). x.lit.0 ≤ u.lit.0) (sym e) (omega arith)
+last_greatest (u ∷ []) t d a (inr i) = elim i [ ]
+last_greatest (u ∷ v ∷ ts) t d a (inl e) =
+    let l : u.lit.0 < v.lit.0 = a.0 v (inl refl) in
+    let r : v.lit.0 ≤ (get_or (v ∷ ts) (length (v ∷ ts) - 1) d).lit.0 = last_greatest (v ∷ ts) v d a.1 (inl refl) in
+    let s : t.lit.0 ≡ u.lit.0 = ap (λ (x : Lut). x.lit.0) e in
+    let same : length (u ∷ v ∷ ts) - 1 ≡ suc (length (v ∷ ts) - 1) = omega arith in
+    subst (λ n. t.lit.0 ≤ (get_or (u ∷ v ∷ ts) n d).lit.0) (sym same) (omega arith)
+last_greatest (u ∷ v ∷ ts) t d a (inr i) =
+    let r : t.lit.0 ≤ (get_or (v ∷ ts) (length (v ∷ ts) - 1) d).lit.0 = last_greatest (v ∷ ts) t d a.1 i in
+    let same : length (u ∷ v ∷ ts) - 1 ≡ suc (length (v ∷ ts) - 1) = omega arith in
+    subst (λ n. t.lit.0 ≤ (get_or (u ∷ v ∷ ts) n d).lit.0) (sym same) r
+
+-- a list that is written over from a place to its end
+pub filled-all : (bits bs : List Bool) (i : ℕ) → length bits ≡ i + length bs → filled bits i bs ≡ take i bits ++ bs
+filled-all bits [] i e = sym (append-nil (take i bits) ∙ take_all i bits (omega arith))
+filled-all bits (b ∷ bs) i e =
+    let n : length (slice_set bits i b) ≡ length bits = length-set bits i b in
+    filled-all (slice_set bits i b) bs (i + 1) (omega arith)
+    ∙ ap (λ xs. xs ++ bs) (take_more_set bits i b (omega arith))
+    ∙ append_assoc (take i bits) (b ∷ []) bs
+
+-- a list that is written over from its start
+pub filled-from_start : (bits bs : List Bool) → length bits ≡ length bs → filled bits 0 bs ≡ bs
+filled-from_start bits bs e = filled-all bits bs 0 (omega arith)
+
+-- each root of a playable circuit has room
+pub root_in_room : (c : TemplateValue) (s : Shape) (size l : ℕ) → HasRoom c s size → HasValue c s l → l < size
+root_in_room c s size l r (inl p) =
+    let q = plain_parts s l p in
+    let w : l / 2 ≤ last_source s = regular_within s (l / 2) q.1 in
+    let e : l ≡ 2 * (l / 2) = q.0 in
+    let b : 2 * last_source s + 1 < size = r.sources in omega arith
+root_in_room c s size l r (inr lut) = let w : lut.table.lit.0 < size = r.tables lut.table lut.in' in let e : lut.table.lit.0 ≡ l = lut.is in omega arith

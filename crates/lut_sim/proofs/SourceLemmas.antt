@@ -1,0 +1,55 @@
+-- The sources' values after both writes.
+use Rattle.std.proofs.Common.{◌≡◌, ℕ, ◌+◌, ◌-◌, ◌*◌, ◌<◌, ◌≤◌, Bool, true, false, ◌&&◌, leb, ltb, List, length, get_or, refl, ap, ◌∙◌, inl, inr, arith}
+use Rattle.std.proofs.lemmas.Bool.{or_cases, and_parts, leb-true, leb-false, ltb-true}
+use Rattle.list_words.proofs.Choice.{choose}
+use Rattle.lut_sim.specs.declared.shape.Shape.{Shape}
+use Rattle.lut_sim.specs.Sources.{last_source, is_regular, source_value}
+use Rattle.lut_sim.specs.Steps.{value_in, with_sources, with_tables, HaveSources}
+use Rattle.lut_sim.proofs.StepLemmas.{with_sources_at, with_sources_other, length-with_sources, with_tables_other}
+use Rattle.cover_pick.specs.Template.{TemplateValue}
+use Rattle.lut_sim.specs.Playable.{IsPlayable}
+use Rattle.lut_sim.specs.Cycle.{FitsTables}
+use Rattle.lut_sim.specs.Sim.{HasRoom}
+use Rattle.lut_sim.proofs.FitLemmas.{plain_of_regular, tables_fit, playable_fed}
+
+-- a regular source is an input or a latch
+pub data IsInputOrLatch (s : Shape) (n : ℕ) : Type 0 where
+  input : 1 ≤ n → n ≤ s.regular → IsInputOrLatch s n
+  latch : s.regular + s.params < n → n ≤ last_source s → IsInputOrLatch s n
+
+pub either_side : (s : Shape) (n : ℕ) → is_regular s n ≡ true → IsInputOrLatch s n
+either_side s n h = elim (or_cases (leb 1 n && leb n s.regular) (ltb (s.regular + s.params) n && leb n (last_source s)) h) [
+  | inl p ↦ (let q = and_parts (leb 1 n) (leb n s.regular) p in input (leb-true 1 n q.0) (leb-true n s.regular q.1))
+  | inr p ↦ (let q = and_parts (ltb (s.regular + s.params) n) (leb n (last_source s)) p in latch (ltb-true (s.regular + s.params) n q.0) (leb-true n (last_source s) q.1))
+]
+
+-- inputs first, then states from after the parameters on
+pub sources_set : (s : Shape) (inputs states vs : List Bool) → length inputs ≡ s.regular → length states ≡ s.latches → 2 * last_source s + 1 < length vs
+    → HaveSources s inputs states (with_sources (with_sources vs 1 inputs) (1 + (s.regular + s.params)) states)
+sources_set s inputs states vs li ls room = record { each = λ n r. at n (either_side s n r) }
+  where
+    first : List Bool
+    first = with_sources vs 1 inputs
+
+    at : (n : ℕ) → IsInputOrLatch s n → value_in (with_sources (with_sources vs 1 inputs) (1 + (s.regular + s.params)) states) (2 * n) ≡ source_value s inputs states n
+    at n (input low high) =
+        let e : 2 * n ≡ 2 * (1 + (n - 1)) = omega arith in
+        with_sources_other states (with_sources vs 1 inputs) (1 + (s.regular + s.params)) (2 * n) (λ i k q. omega arith)
+        ∙ ap (value_in (with_sources vs 1 inputs)) e
+        ∙ with_sources_at inputs vs 1 (n - 1) (omega arith) (omega arith)
+        ∙ choose (λ b. get_or inputs (n - 1) false ≡ b) (leb n s.regular) (get_or inputs (n - 1) false) (get_or states (n - 1 - (s.regular + s.params)) false) (λ _. refl) (λ no. absurd (let c = leb-false n s.regular no in omega arith))
+    at n (latch low high) =
+        let i : ℕ = n - 1 - (s.regular + s.params) in
+        let e : 2 * n ≡ 2 * (1 + (s.regular + s.params) + i) = omega arith in
+        let l : length (with_sources vs 1 inputs) ≡ length vs = length-with_sources inputs vs 1 in
+        ap (value_in (with_sources (with_sources vs 1 inputs) (1 + (s.regular + s.params)) states)) e
+        ∙ with_sources_at states (with_sources vs 1 inputs) (1 + (s.regular + s.params)) i (omega arith) (omega arith)
+        ∙ choose (λ b. get_or states i false ≡ b) (leb n s.regular) (get_or inputs (n - 1) false) (get_or states i false) (λ here. absurd (let c : n ≤ s.regular = leb-true n s.regular here in omega arith)) (λ _. refl)
+
+-- after the sources are set and all tables are played, the values of the literals fit
+pub played_fit : (c : TemplateValue) (s : Shape) (config inputs states vs : List Bool) → IsPlayable c s → HasRoom c s (length vs) → HaveSources s inputs states vs
+    → FitsTables c.luts s config inputs states (value_in (with_tables s config vs c.luts))
+played_fit c s config inputs states vs p r h = record {
+  source = λ n q. with_tables_other s config vs c.luts (2 * n) (λ t i e. plain_of_regular s n q) ∙ h.each n q;
+  table = λ t i n. tables_fit s config vs c.luts p.ascending (playable_fed c s p) r.tables t i n;
+}

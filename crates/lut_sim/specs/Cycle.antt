@@ -1,0 +1,34 @@
+-- One cycle of the tables, as a relation between the values of all literals: nothing is played in an order.
+use Rattle.std.specs.Prelude.{◌≡◌, ℕ, ◌+◌, ◌*◌, Bool, false, IsTrue, List, map, slice_index_or}
+use Rattle.list_words.specs.Members.{In}
+use Rattle.list_words.specs.Digits.{number}
+use Rattle.aig_core.specs.Roots.{lits_of}
+use Rattle.cover_pick.specs.declared.lut.Lut.{Lut}
+use Rattle.cover_pick.specs.Template.{TemplateValue}
+use Rattle.lut_sim.specs.declared.shape.Shape.{Shape}
+use Rattle.lut_sim.specs.Sources.{is_regular, is_plain, source_value}
+
+-- the values of a table's leaves: of their positive literals
+abbrev pub leaf_values : (ℕ → Bool) → List ℕ → List Bool
+leaf_values value leaves = map (λ m. value (2 * m)) leaves
+
+-- the address of a table's bit: its base plus the number of its leaves' values, leaf 0 the lowest digit
+abbrev pub address : (ℕ → Bool) → Lut → ℕ
+address value t = t.base + number (leaf_values value t.leaves)
+
+-- the values of the literals fit the tables: a regular source has its input or state, and a table the configuration bit at its address
+pub record FitsTables (luts : List Lut) (shape : Shape) (config inputs states : List Bool) (value : ℕ → Bool) : Type 0 where
+  pub source : (n : ℕ) → IsTrue (is_regular shape n) → value (2 * n) ≡ source_value shape inputs states n
+  pub table : (t : Lut) → In luts t → is_plain shape t.lit.0 ≡ false → value t.lit.0 ≡ slice_index_or config (address value t) false
+
+-- the outputs and next states of a cycle are the roots' values under values that fit
+pub record IsCycle (t : TemplateValue) (shape : Shape) (config inputs states outputs next : List Bool) : Type 0 where
+  pub value : ℕ → Bool
+  pub fits : FitsTables t.luts shape config inputs states value
+  pub outputs_are : outputs ≡ map value (lits_of t.outputs)
+  pub next_are : next ≡ map value (lits_of t.next)
+
+-- whatever values fit, the roots have these values under them
+pub record IsOnlyCycle (t : TemplateValue) (shape : Shape) (config inputs states outputs next : List Bool) : Type 0 where
+  pub outputs_are : (value : ℕ → Bool) → FitsTables t.luts shape config inputs states value → outputs ≡ map value (lits_of t.outputs)
+  pub next_are : (value : ℕ → Bool) → FitsTables t.luts shape config inputs states value → next ≡ map value (lits_of t.next)

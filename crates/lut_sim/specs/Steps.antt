@@ -1,0 +1,40 @@
+-- The lists that the steps of a cycle write: private helpers of the code.
+use Rattle.std.specs.Prelude.{◌≡◌, IsTrue, ℕ, ◌+◌, ◌*◌, ◌^◌, ◌<◌, ◌≤◌, Bool, false, if◌then◌else◌, List, [], ◌∷◌, length, slice_set, slice_index_or}
+use Rattle.list_words.specs.Members.{In}
+use Rattle.cover_pick.specs.declared.lut.Lut.{Lut}
+use Rattle.lut_sim.specs.declared.shape.Shape.{Shape}
+use Rattle.lut_sim.specs.Sources.{is_regular, is_plain, source_value}
+use Rattle.lut_sim.specs.Cycle.{address}
+
+-- the value of a literal
+abbrev pub value_in : List Bool → ℕ → Bool
+value_in values l = slice_index_or values l false
+
+-- bits as the values of the sources from n on
+abbrev pub with_sources : List Bool → ℕ → List Bool → List Bool
+with_sources values n [] = values
+with_sources values n (b ∷ bs) = with_sources (slice_set values (2 * n) b) (n + 1) bs
+
+-- a table's bit as the value of its literal, unless that is a regular source's
+abbrev pub with_table : Shape → List Bool → List Bool → Lut → List Bool
+with_table shape config values t = if is_plain shape t.lit.0 then values else slice_set values t.lit.0 (slice_index_or config (address (value_in values) t) false)
+
+-- the tables in order
+abbrev pub with_tables : Shape → List Bool → List Bool → List Lut → List Bool
+with_tables shape config values [] = values
+with_tables shape config values (t ∷ ts) = with_tables shape config (with_table shape config values t) ts
+
+-- bits written over a list from a place on
+abbrev pub filled : List Bool → ℕ → List Bool → List Bool
+filled bits i [] = bits
+filled bits i (b ∷ bs) = filled (slice_set bits i b) (i + 1) bs
+
+-- there is room for a table: for its literal, its leaves' literals, and its bits
+pub record IsTableInRoom (t : Lut) (bits size : ℕ) : Type 0 where
+  pub literal : t.lit.0 < size
+  pub leaves : (m : ℕ) → In t.leaves m → 2 * m < size
+  pub bits_in : t.base + 2 ^ length t.leaves ≤ bits
+
+-- each regular source has its value
+pub record HaveSources (shape : Shape) (inputs states values : List Bool) : Type 0 where
+  pub each : (n : ℕ) → IsTrue (is_regular shape n) → value_in values (2 * n) ≡ source_value shape inputs states n

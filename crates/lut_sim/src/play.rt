@@ -1,0 +1,119 @@
+//! A cycle on the values of the literals: the sources' values, then the tables' bits, then the roots' values.
+ghost use Rattle.std.specs.Prelude.{◌≡◌, ◌<◌, ℕ, ◌+◌, ◌-◌, ◌*◌, ◌≤◌, ◌^◌, length, map, drop};
+ghost use Rattle.list_words.specs.Members.{In};
+ghost use Rattle.list_words.specs.Digits.{number};
+ghost use Rattle.aig_core.specs.Roots.{lits_of};
+ghost use Rattle.lut_sim.specs.Sources.{last_source};
+ghost use Rattle.lut_sim.specs.Playable.{IsPlayable};
+ghost use Rattle.lut_sim.specs.Cycle.{FitsTables, leaf_values};
+ghost use Rattle.lut_sim.specs.Sim.{HasRoom};
+ghost use Rattle.lut_sim.specs.Steps.{value_in, with_sources, with_table, with_tables, filled, IsTableInRoom, HaveSources};
+
+use crate::shape::{Shape, is_plain};
+use aig_core::Lit;
+use cover_pick::{Lut, Template};
+use cut_enum::Cut;
+
+// The number of the values of a cut's leaves from a place on, the first the lowest digit.
+fn number_from(values: &[bool], cut: &Cut, place: usize) -> usize
+    requires room { (m : ℕ) → In cut.now m → 2 * m < length values.now }
+    requires within { place ≤ length cut.now }
+    ensures number { result ≡ number (leaf_values (value_in values.now) (drop place cut.now)) }
+    ensures small { result < 2 ^ (length cut.now - place) }
+{
+    if place == cut.len() {
+        return 0;
+    }
+    let leaf = cut.leaves()[place];
+    let digit = usize::from(values[leaf as usize * 2]);
+    let above = number_from(values, cut, place + 1);
+    digit + 2 * above
+}
+
+// Gives bits to the sources from the first on.
+fn set_sources(values: &mut [bool], first: usize, bits: &[bool])
+    requires { 2 * (first + length bits.now) ≤ length values.old + 1 }
+    ensures { values.new ≡ with_sources values.old first bits.now }
+{
+    let mut n = first;
+    for bit in bits {
+        values[2 * n] = *bit;
+        n += 1;
+    }
+}
+
+// Gives a table's bit to its literal.
+fn play_table(shape: &Shape, config: &[bool], table: &Lut, values: &mut [bool])
+    requires { IsTableInRoom table.now (length config.now) (length values.old) }
+    ensures { values.new ≡ with_table shape.now config.now values.old table.now }
+{
+    let address = table.base as usize + number_from(values, &table.leaves, 0);
+    if !is_plain(shape, table.lit) {
+        values[table.lit.0 as usize] = config[address];
+    }
+}
+
+// Plays the tables in order.
+fn play_tables(shape: &Shape, config: &[bool], tables: &[Lut], values: &mut [bool])
+    requires { (t : Lut) → In tables.now t → IsTableInRoom t (length config.now) (length values.old) }
+    ensures { values.new ≡ with_tables shape.now config.now values.old tables.now }
+{
+    for table in tables {
+        play_table(shape, config, table, values);
+    }
+}
+
+// Writes the values of some roots over bits.
+fn write_roots(values: &[bool], roots: &[Lit], bits: &mut [bool])
+    requires room { (l : ℕ) → In (lits_of roots.now) l → l < length values.now }
+    requires len { length bits.old ≡ length roots.now }
+    ensures { bits.new ≡ filled bits.old 0 (map (value_in values.now) (lits_of roots.now)) }
+{
+    let mut i = 0;
+    for root in roots {
+        bits[i] = values[root.0 as usize];
+        i += 1;
+    }
+}
+
+// Reads the values of some roots.
+pub fn read_roots(values: &[bool], roots: &[Lit], bits: &mut [bool])
+    requires room { (l : ℕ) → In (lits_of roots.now) l → l < length values.now }
+    requires len { length bits.old ≡ length roots.now }
+    ensures { bits.new ≡ map (value_in values.now) (lits_of roots.now) }
+{
+    write_roots(values, roots, bits);
+}
+
+// Gives all sources their values.
+fn set_all_sources(shape: &Shape, inputs: &[bool], states: &[bool], values: &mut [bool])
+    requires room { 2 * last_source shape.now + 1 < length values.old }
+    requires inputs { length inputs.now ≡ shape.now.regular }
+    requires states { length states.now ≡ shape.now.latches }
+    ensures sources { HaveSources shape.now inputs.now states.now values.new }
+{
+    let before_latches = shape.regular as usize + shape.params as usize;
+    set_sources(values, 1, inputs);
+    set_sources(values, 1 + before_latches, states);
+}
+
+// Plays a whole cycle into the values of the literals.
+pub fn play(
+    template: &Template,
+    shape: &Shape,
+    config: &[bool],
+    inputs: &[bool],
+    states: &[bool],
+    values: &mut [bool],
+)
+    requires playable { IsPlayable template.now shape.now }
+    requires room { HasRoom template.now shape.now (length values.old) }
+    requires config { length config.now ≡ template.now.bits }
+    requires inputs { length inputs.now ≡ shape.now.regular }
+    requires states { length states.now ≡ shape.now.latches }
+    ensures { FitsTables template.now.luts shape.now config.now inputs.now states.now (value_in values.new) }
+{
+    set_all_sources(shape, inputs, states, values);
+    let tables = template.luts.as_slice();
+    play_tables(shape, config, tables, values);
+}

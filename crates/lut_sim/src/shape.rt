@@ -1,0 +1,37 @@
+//! The shape of a circuit's sources.
+ghost use Rattle.std.specs.Prelude.{◌≡◌};
+ghost use Rattle.lut_sim.specs.Sources.{is_regular as regular_of, is_plain as plain_of};
+
+use aig_core::Lit;
+
+/// How many sources there are: the regular inputs first, then the parameters, then the latches.
+///
+/// Index 0 of a graph is the constant, so the sources have the indices from 1 on. Regular inputs and latches
+/// are the regular sources.
+#[derive(Clone, Copy, Debug, PartialEq, Eq)]
+pub struct Shape {
+    /// The inputs that change from cycle to cycle.
+    pub regular: u32,
+    /// The inputs that a configuration is made for.
+    pub params: u32,
+    /// The latches.
+    pub latches: u32,
+}
+
+// Is this a regular input or a latch?
+fn is_regular(shape: &Shape, n: u32) -> bool
+    ensures { result ≡ regular_of shape.now n }
+{
+    let n = u64::from(n);
+    let regular = u64::from(shape.regular);
+    let before_latches = regular + u64::from(shape.params);
+    let last = before_latches + u64::from(shape.latches);
+    (1 <= n && n <= regular) || (before_latches < n && n <= last)
+}
+
+// Is this the positive literal of a regular source?
+pub fn is_plain(shape: &Shape, lit: Lit) -> bool
+    ensures { result ≡ plain_of shape.now lit.0 }
+{
+    lit.0 % 2 == 0 && is_regular(shape, lit.0 / 2)
+}

@@ -1,0 +1,92 @@
+//! The simulator: a board that keeps what a cycle needs.
+ghost use Rattle.std.specs.Prelude.{◌≡◌, length, IfOk, replicate, false};
+ghost use Rattle.lut_sim.specs.Playable.{IsPlayable};
+
+use crate::board::{Board, literal_count};
+use crate::shape::Shape;
+use cover_pick::Template;
+use std::alloc::{AllocError, Global};
+use std::marker::Model;
+
+/// A circuit of tables, the states of its latches, and the outputs of its last cycle.
+#[derive(Drop)]
+pub struct Sim {
+    board: Board,
+}
+
+impl Model for Sim {
+    ghost use Rattle.lut_sim.specs.Sim.{SimValue, KeepsSim};
+
+    ghost Value = { SimValue };
+
+    ghost view = { λ s. record { template = s.board.template; shape = s.board.shape; outputs = s.board.outputs.items; states = s.board.states.items } };
+
+    ghost invariant = { λ s. KeepsSim s.board.template s.board.shape s.board.values.items s.board.outputs.items s.board.states.items };
+}
+
+impl Sim {
+    ghost use Rattle.lut_sim.specs.Cycle.{IsCycle, IsOnlyCycle};
+    ghost use Rattle.lut_sim.specs.Sim.{SimValue};
+
+    /// A circuit with its latches at `inits`, and all outputs false.
+    ///
+    /// It takes all the memory that its cycles need, a byte a literal, and time linear in this. `Err` comes only for
+    /// want of memory.
+    pub fn make(
+        alloc: Global,
+        template: Template,
+        shape: Shape,
+        inits: &[bool],
+    ) -> Result<Sim, AllocError>
+        requires playable { IsPlayable template shape }
+        requires inits { length inits.now ≡ shape.latches }
+        ensures { IfOk result (λ sim. sim ≡ record { template = template; shape = shape; outputs = replicate (length template.outputs) false; states = inits.now }) }
+    {
+        let values = vec![in alloc; false; literal_count(&template, &shape)]?;
+        let outputs = vec![in alloc; false; template.outputs.len()]?;
+        let states = Vec::from_slice(alloc, inits)?;
+        let board = Board {
+            template,
+            shape,
+            values,
+            outputs,
+            states,
+        };
+        Ok(Sim { board })
+    }
+
+    /// Plays one cycle under a configuration: the outputs and the next states follow from the inputs and the states.
+    ///
+    /// `config` has all bits in the order of their addresses, and may be any list of bits, as one with an upset bit.
+    /// `inputs` has a value for each regular input. Each table is played once, so that a cycle takes time linear in the
+    /// sources, the tables, their leaves and the roots. It takes no memory and can't be refused.
+    pub fn cycle(&mut self, config: &[bool], inputs: &[bool])
+        requires config { length config.now ≡ self.old.template.bits }
+        requires inputs { length inputs.now ≡ self.old.shape.regular }
+        ensures cycle { IsCycle self.old.template self.old.shape config.now inputs.now self.old.states self.new.outputs self.new.states }
+
+        // Whatever values of the literals fit the tables, the outputs and states are theirs.
+        ensures only { IsOnlyCycle self.old.template self.old.shape config.now inputs.now self.old.states self.new.outputs self.new.states }
+        ensures template { self.new.template ≡ self.old.template }
+        ensures shape { self.new.shape ≡ self.old.shape }
+    {
+        self.board.play(config, inputs);
+        self.board.read_roots();
+    }
+
+    /// The outputs of the last cycle, in order; all false before the first. It takes constant time.
+    pub fn outputs(&self) -> &[bool]
+        ensures value { result.now ≡ self.now.outputs }
+        ensures len { length result.now ≡ length self.now.template.outputs }
+    {
+        &self.board.outputs
+    }
+
+    /// The states of the latches after the last cycle, in their order; the inits before the first. It takes constant time.
+    pub fn states(&self) -> &[bool]
+        ensures value { result.now ≡ self.now.states }
+        ensures len { length result.now ≡ self.now.shape.latches }
+    {
+        &self.board.states
+    }
+}
