@@ -1,0 +1,12 @@
+pub mod PieceLemmas
+pub mod CycleLemmas
+pub mod PlayLemmas
+pub mod LineLemmas
+pub mod ReadLemmas
+pub mod EndLemmas
+pub mod PutLemmas
+pub mod DoneLemmas
+pub mod LeastLemmas
+pub mod OnceLemmas
+pub mod ClashLemmas
+pub mod RefusedLemmas

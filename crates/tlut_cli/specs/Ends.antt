@@ -1,0 +1,78 @@
+-- How a job ends: what each outcome says, and its cause.
+use Rattle.std.specs.Prelude.{◌≡◌, ℕ, ◌<◌, ◌≤◌, take, List, Option, Some}
+use Rattle.tl_io.specs.Causes.{Rose}
+use Rattle.tl_io.specs.Shelf.{Files, ShelfSeen}
+use Rattle.tlut_cli.specs.Words.{JobWords, file_word}
+use Rattle.tlut_cli.specs.Verdict.{Job, IsAccepted, IsRefused, Reaches}
+use Rattle.tlut_cli.specs.JobText.{AreLines, GrewByAll, GrewByPart}
+use Rattle.tlut_cli.specs.declared.outcome.File.{File}
+use Rattle.tlut_cli.specs.declared.outcome.Refusal.{Refusal}
+use Rattle.tlut_cli.specs.declared.outcome.Refusal.TheVariants.{TooLong, Unbuilt, TooManyNodes, NodeCuts, TotalCuts, Work}
+use Rattle.tlut_cli.specs.declared.outcome.Outcome.{Outcome}
+use Rattle.tlut_cli.specs.declared.outcome.Outcome.TheVariants as outcome
+
+-- a read fault has its cause: the count rose in this call and since the read began, and the shelf tells the name
+pub record IsReadFault (old new : ShelfSeen) (name : List ℕ) : Type 0 where
+  pub rose : Rose old.read_faults new.read_faults
+  pub rose_since : Rose new.before new.read_faults
+  pub told : new.name ≡ take 4096 name
+
+-- where the shelf tells its files, a fact about them
+abbrev pub Told : Option Files → (Files → Type 0) → Type 0
+Told told P = (files : Files) → told ≡ Some files → P files
+
+-- how many bytes of the file were given: more than the limit exactly where it is too long
+abbrev pub GivenAt : Refusal → ℕ → Type 0
+GivenAt TooLong given = 67108864 < given
+GivenAt (Unbuilt line) given = given ≤ 67108864
+GivenAt TooManyNodes given = given ≤ 67108864
+GivenAt (NodeCuts node) given = given ≤ 67108864
+GivenAt (TotalCuts node) given = given ≤ 67108864
+GivenAt Work given = given ≤ 67108864
+
+-- a file is refused
+pub record IsRefusedAt (job : JobWords) (old new : ShelfSeen) (file : File) (refusal : Refusal) : Type 0 where
+  pub given : GivenAt refusal new.given
+  pub is : Told old.files (λ files. IsRefused files job file refusal)
+
+-- a file could not be read
+pub record IsFaultAt (job : JobWords) (old new : ShelfSeen) (file : File) : Type 0 where
+  pub given : new.given ≤ 67108864
+  pub fault : IsReadFault old new (file_word job file)
+  pub reached : Told old.files (λ files. Reaches files job file)
+
+-- why a job was not begun
+abbrev pub Explains : JobWords → ShelfSeen → ShelfSeen → Outcome → Type 0
+Explains job old new (outcome.Refused file refusal) = IsRefusedAt job old new file refusal
+Explains job old new (outcome.ReadFault file) = IsFaultAt job old new file
+Explains job old new outcome.Memory = Unit {0}
+Explains job old new outcome.Done = ⊥
+Explains job old new outcome.Usage = ⊥
+Explains job old new outcome.WriteFault = ⊥
+Explains job old new outcome.PortFault = ⊥
+
+-- the accepted job with its lines, by which or by a part of which the output grew
+pub record HasLines (files : Files) (words : JobWords) (lines : List (List ℕ)) : Type 0 where
+  pub job : Job
+  pub accepted : IsAccepted files words job
+  pub are : AreLines job lines
+
+pub record IsDone (files : Files) (words : JobWords) (old new : Option (List ℕ)) : Type 0 where
+  pub lines : List (List ℕ)
+  pub has : HasLines files words lines
+  pub grew : GrewByAll old new lines
+
+pub record IsCutOff (files : Files) (words : JobWords) (old new : Option (List ℕ)) : Type 0 where
+  pub lines : List (List ℕ)
+  pub has : HasLines files words lines
+  pub grew : GrewByPart old new lines
+
+-- what an outcome says of the shelf and of the bytes of the output
+abbrev pub Ends : JobWords → ShelfSeen → ShelfSeen → Option (List ℕ) → Option (List ℕ) → Outcome → Type 0
+Ends job old new before after outcome.Done = (new.given ≤ 67108864) × Told old.files (λ files. IsDone files job before after)
+Ends job old new before after outcome.WriteFault = (new.given ≤ 67108864) × Told old.files (λ files. IsCutOff files job before after)
+Ends job old new before after (outcome.Refused file refusal) = IsRefusedAt job old new file refusal × (after ≡ before)
+Ends job old new before after (outcome.ReadFault file) = IsFaultAt job old new file × (after ≡ before)
+Ends job old new before after outcome.Memory = after ≡ before
+Ends job old new before after outcome.Usage = ⊥
+Ends job old new before after outcome.PortFault = ⊥

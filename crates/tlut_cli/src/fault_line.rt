@@ -1,0 +1,75 @@
+//! The line on the error output.
+ghost use Rattle.std.specs.Prelude.{◌≡◌, ◌≤◌, ℕ, List, map};
+ghost use Rattle.std.specs.List.{concat};
+ghost use Rattle.tl_io.specs.Causes.{HasCause, Rose};
+ghost use Rattle.tl_io.specs.Content.{Puts};
+ghost use Rattle.tlut_cli.specs.FaultLine.{Reports, line_of, refusal_line, numbered_line};
+
+use crate::outcome::{Outcome, Refusal};
+use itoa::Buffer;
+use tl_io::{Failed, Sink};
+
+// Puts the pieces one after another, up to the first that fails.
+fn put_all<S: Sink>(sink: &mut S, pieces: &[&[u8]]) -> Result<(), Failed>
+    ensures cause { HasCause (S.faults sink.old) (S.faults sink.new) result }
+    ensures grown { Puts (S.bytes sink.old) (S.bytes sink.new) (concat (map (λ piece. piece.now) pieces.now)) result }
+{
+    for piece in pieces {
+        sink.put(piece)?;
+    }
+    Ok(())
+}
+
+// Puts a line of a file's name, a word and a number.
+fn put_numbered<E: Sink>(err: &mut E, name: &[u8], word: &[u8], number: u32) -> Result<(), Failed>
+    ensures cause { HasCause (E.faults err.old) (E.faults err.new) result }
+    ensures grown { Puts (E.bytes err.old) (E.bytes err.new) (numbered_line name.now word.now number) result }
+{
+    let mut digits = Buffer::new();
+    let number = digits.format(number).as_bytes();
+    put_all(err, &[b"tlut: ", name, word, number, b"\n"])
+}
+
+// Puts the line of a refusal in the file of this name.
+fn put_refusal<E: Sink>(err: &mut E, name: &[u8], refusal: Refusal) -> Result<(), Failed>
+    ensures cause { HasCause (E.faults err.old) (E.faults err.new) result }
+    ensures grown { Puts (E.bytes err.old) (E.bytes err.new) (refusal_line name.now refusal) result }
+{
+    match refusal {
+        Refusal::TooLong => put_all(err, &[b"tlut: ", name, b": L1 FileTooLong\n"]),
+        Refusal::Unbuilt(line) => put_numbered(err, name, b": X1 Unbuilt line ", line),
+        Refusal::TooManyNodes => put_all(err, &[b"tlut: ", name, b": L3 TooManyNodes\n"]),
+        Refusal::NodeCuts(node) => put_numbered(err, name, b": L4 NodeCuts node ", node),
+        Refusal::TotalCuts(node) => put_numbered(err, name, b": L5 TotalCuts node ", node),
+        Refusal::Work => put_all(err, &[b"tlut: ", name, b": L6 Work\n"]),
+    }
+}
+
+// Puts the line of an outcome.
+fn put_outcome<E: Sink>(err: &mut E, name: &[u8], outcome: Outcome) -> Result<(), Failed>
+    ensures cause { HasCause (E.faults err.old) (E.faults err.new) result }
+    ensures grown { Puts (E.bytes err.old) (E.bytes err.new) (line_of name.now outcome) result }
+{
+    match outcome {
+        Outcome::Done => put_all(err, &[]),
+        Outcome::Usage => put_all(
+            err,
+            &[
+                b"tlut: usage: run K NETLIST PARAMS SCRIPT PORTS SPARES, spec K NETLIST PARAMS OUT, map K NETLIST PARAMS TEMPLATE PACK, bits PACK SCRIPT, gen N SEED\n",
+            ],
+        ),
+        Outcome::Refused(_, refusal) => put_refusal(err, name, refusal),
+        Outcome::ReadFault(_) => put_all(err, &[b"tlut: ", name, b": read failed\n"]),
+        Outcome::WriteFault => put_all(err, &[b"tlut: write failed\n"]),
+        Outcome::PortFault => put_all(err, &[b"tlut: port failed\n"]),
+        Outcome::Memory => put_all(err, &[b"tlut: out of memory\n"]),
+    }
+}
+
+/// Puts the fault line of an outcome. A failing sink changes nothing else.
+#[tactic(auto, using(crate::proofs::PutLemmas::reports))]
+pub fn report<E: Sink>(err: &mut E, name: &[u8], outcome: Outcome)
+    ensures reports { Reports (E.faults err.old) (E.faults err.new) (E.bytes err.old) (E.bytes err.new) (line_of name.now outcome) }
+{
+    let _ = put_outcome(err, name, outcome);
+}

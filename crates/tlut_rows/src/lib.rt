@@ -1,0 +1,16 @@
+//! The worked examples of the whole program, as tests of `tlut_cli::tlut` over the objects in memory of `tl_io`.
+//!
+//! A proof shows that the call keeps to its contract. It doesn't show that the contract says what a user of the
+//! program expects, nor that memory is there and a job is done at all. The tests here do: each is a job as a user
+//! would give it, and the exact bytes that the program must print, which were worked out by hand.
+//!
+//! - `tests/job.rt` has what a test is made of: files, words, a call, and what the call left.
+//! - `tests/mapping.rt` has accepted jobs: the header's numbers and the lines of the cycles.
+//! - `tests/refusals.rt` has jobs that are refused, each with its fault line.
+//! - `tests/faults.rt` has files that aren't there, and an output, or an error output, that fails.
+//!
+//! There is nothing here to call.
+#![tactic(auto)]
+
+#[cfg(test)]
+mod tests;
