@@ -5,7 +5,7 @@ use std::alloc::{AllocError, Global};
 use std::marker::Model;
 
 /// The bytes of one token, which contracts see as a list of numbers below 256.
-#[derive(Drop)]
+#[derive(Debug, Drop)]
 pub struct Name {
     bytes: Vec<u8>,
 }

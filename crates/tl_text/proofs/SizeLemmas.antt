@@ -1,0 +1,170 @@
+-- The words of a text's lines are no more than its bytes.
+use Rattle.std.proofs.Common.{◌≡◌, ℕ, ◌+◌, ◌-◌, ◌≤◌, ◌<◌, cond, eqb, List, [], ◌∷◌, ◌++◌, length, map, take, Option, Some, None, Result, Ok, Err, refl, subst, arith}
+use Rattle.std.specs.List.{list_any, position_or_len, suffix_len}
+use Rattle.std.proofs.lemmas.List.{length-take}
+use Rattle.list_words.proofs.Choice.{choose_one}
+use Rattle.tl_text.specs.declared.token.Token.{Token}
+use Rattle.tl_text.specs.declared.text_err.TextErr.{TextErr}
+use Rattle.tl_text.specs.declared.text_err.TextErr.TheVariants.{BadByte, TrailingSlash}
+use Rattle.tl_text.specs.LineValue.{LineValue, token_bytes, words_line}
+use Rattle.tl_text.specs.Lines.{before_first, physical_lines, is_bad, is_blank, ends_in, without_last, without_return, before_comment, content, goes_on, words, spans, has_slash_end, extended, with_physical, counted, put_before, closed, lines_from, lines_of}
+
+-- 1 for each word, and its bytes
+abbrev pub words_size : List (List ℕ) → ℕ
+words_size [] = 0
+words_size (word ∷ more) = 1 + length word + words_size more
+
+-- and of all lines
+abbrev pub lines_size : List ℕ → List LineValue → ℕ
+lines_size text [] = 0
+lines_size text (line ∷ lines) = words_size (words_line text line).words + lines_size text lines
+
+-- the same by the places of the tokens
+abbrev tokens_size : List Token → ℕ
+tokens_size [] = 0
+tokens_size (token ∷ tokens) = 1 + (token.end - token.start) + tokens_size tokens
+
+abbrev places_size : List LineValue → ℕ
+places_size [] = 0
+places_size (line ∷ lines) = tokens_size line.tokens + places_size lines
+
+word_small : (text : List ℕ) (token : Token) → length (token_bytes text token) ≤ token.end - token.start
+word_small text token = simp length-take (omega arith)
+
+words_small : (text : List ℕ) (tokens : List Token) → words_size (map (token_bytes text) tokens) ≤ tokens_size tokens
+words_small text [] = omega arith
+words_small text (token ∷ tokens) =
+    let h : length (token_bytes text token) ≤ token.end - token.start = word_small text token in
+    let r : words_size (map (token_bytes text) tokens) ≤ tokens_size tokens = words_small text tokens in omega arith
+
+lines_by_places : (text : List ℕ) (lines : List LineValue) → lines_size text lines ≤ places_size lines
+lines_by_places text [] = omega arith
+lines_by_places text (line ∷ lines) =
+    let h : words_size (map (token_bytes text) line.tokens) ≤ tokens_size line.tokens = words_small text line.tokens in
+    let r : lines_size text lines ≤ places_size lines = lines_by_places text lines in omega arith
+
+tokens-append : (xs ys : List Token) → tokens_size (xs ++ ys) ≡ tokens_size xs + tokens_size ys
+tokens-append [] ys = omega arith
+tokens-append (x ∷ xs) ys = let r : tokens_size (xs ++ ys) ≡ tokens_size xs + tokens_size ys = tokens-append xs ys in omega arith
+
+-- between two tokens stands a byte
+record AreShort (bs : List ℕ) : Type 0 where
+  outside : (at : ℕ) → tokens_size (spans at None bs) ≤ length bs + 1
+  inside : (at start : ℕ) → start ≤ at → tokens_size (spans at (Some start) bs) ≤ (at - start) + length bs + 1
+
+spans_short : (bs : List ℕ) → AreShort bs
+spans_short [] = record { outside = λ at. omega arith; inside = λ at start h. omega arith }
+spans_short (b ∷ bs) = record {
+  outside = λ at.
+      let o : tokens_size (spans (at + 1) None bs) ≤ length bs + 1 = (spans_short bs).outside (at + 1) in
+      let i : tokens_size (spans (at + 1) (Some at) bs) ≤ (at + 1 - at) + length bs + 1 = (spans_short bs).inside (at + 1) at (omega arith) in
+      choose_one (λ ts. tokens_size ts ≤ length (b ∷ bs) + 1) (is_blank b) (spans (at + 1) None bs) (spans (at + 1) (Some at) bs) (omega arith) (omega arith);
+  inside = λ at start h.
+      let o : tokens_size (spans (at + 1) None bs) ≤ length bs + 1 = (spans_short bs).outside (at + 1) in
+      let i : tokens_size (spans (at + 1) (Some start) bs) ≤ (at + 1 - start) + length bs + 1 = (spans_short bs).inside (at + 1) start (omega arith) in
+      choose_one (λ ts. tokens_size ts ≤ (at - start) + length (b ∷ bs) + 1) (is_blank b) (record { start = start; end = at } ∷ spans (at + 1) None bs) (spans (at + 1) (Some start) bs) (omega arith) (omega arith);
+}
+
+-- the parts of a line are no longer than the line
+take_short : (n : ℕ) (xs : List ℕ) → length (take n xs) ≤ length xs
+take_short n xs = simp length-take (omega arith)
+
+return_short : (rest : List (List ℕ)) (line : List ℕ) → length (without_return rest line) ≤ length line
+return_short [] line = omega arith
+return_short (next ∷ rest) line = choose_one (λ xs. length xs ≤ length line) (ends_in 13 line) (without_last line) line (take_short (length line - 1) line) (omega arith)
+
+content_short : (line : List ℕ) → length (content line) ≤ length line
+content_short line =
+    let b : length (before_comment line) ≤ length line = take_short (position_or_len (λ x. eqb x 35) line) line in
+    let t : length (content line) ≤ length (before_comment line) = take_short (length (before_comment line) - suffix_len is_blank (before_comment line)) (before_comment line) in omega arith
+
+words_short : (line : List ℕ) → length (words line) ≤ length line
+words_short line =
+    let c : length (content line) ≤ length line = content_short line in
+    let w : length (without_last (content line)) ≤ length (content line) = take_short (length (content line) - 1) (content line) in
+    choose_one (λ xs. length xs ≤ length line) (goes_on line) (without_last (content line)) (content line) (omega arith) (omega arith)
+
+-- a line that goes on, and what follows
+abbrev unfinished_size : Option LineValue → ℕ
+unfinished_size None = 0
+unfinished_size (Some line) = tokens_size line.tokens
+
+extended_size : (number : ℕ) (unfinished : Option LineValue) (tokens : List Token) → tokens_size (extended number unfinished tokens).tokens ≡ unfinished_size unfinished + tokens_size tokens
+extended_size number None tokens = omega arith
+extended_size number (Some line) tokens = tokens-append line.tokens tokens
+
+physical_size : (number at : ℕ) (unfinished : Option LineValue) (rest : List (List ℕ)) (line : List ℕ) → tokens_size (with_physical number at unfinished (without_return rest line)).tokens ≤ unfinished_size unfinished + (length line + 1)
+physical_size number at unfinished rest line =
+    let kept : List ℕ = without_return rest line in
+    let e : tokens_size (with_physical number at unfinished kept).tokens ≡ unfinished_size unfinished + tokens_size (spans at None (words kept)) = extended_size number unfinished (spans at None (words kept)) in
+    let s : tokens_size (spans at None (words kept)) ≤ length (words kept) + 1 = (spans_short (words kept)).outside at in
+    let w : length (words kept) ≤ length kept = words_short kept in
+    let r : length kept ≤ length line = return_short rest line in omega arith
+
+counted_size : (line : LineValue) (lines : List LineValue) → places_size (counted line lines) ≤ tokens_size line.tokens + places_size lines
+counted_size line lines = choose_one (λ ls. places_size ls ≤ tokens_size line.tokens + places_size lines) (eqb (length line.tokens) 0) lines (line ∷ lines) (omega arith) (omega arith)
+
+closed_size : (unfinished : Option LineValue) → places_size (closed unfinished) ≤ unfinished_size unfinished
+closed_size None = omega arith
+closed_size (Some line) = let h : places_size (counted line []) ≤ tokens_size line.tokens + 0 = counted_size line [] in omega arith
+
+-- the bytes of physical lines with their ends
+abbrev bytes_size : List (List ℕ) → ℕ
+bytes_size [] = 0
+bytes_size (line ∷ rest) = length line + 1 + bytes_size rest
+
+-- lines of no more than so much
+record AreWithin (most : ℕ) (result : Result (List LineValue) TextErr) : Type 0 where
+  each : (lines : List LineValue) → result ≡ Ok lines → places_size lines ≤ most
+
+within_err : (most : ℕ) (e : TextErr) → AreWithin most (Err e)
+within_err most e = record { each = λ lines h. absurd (let f : ⊥ = cc in f) }
+
+within_put : (most here later : ℕ) (line : LineValue) (result : Result (List LineValue) TextErr) → tokens_size line.tokens ≤ here → here + later ≤ most → AreWithin later result → AreWithin most (put_before line result)
+within_put most here later line (Err e) h m w = within_err most e
+within_put most here later line (Ok lines) h m w = record {
+  each = λ ls e.
+      let same : counted line lines ≡ ls = cc in
+      let c : places_size (counted line lines) ≤ tokens_size line.tokens + places_size lines = counted_size line lines in
+      let l : places_size lines ≤ later = w.each lines refl in
+      subst (λ xs. places_size xs ≤ most) same (omega arith);
+}
+
+lines_within : (number at : ℕ) (unfinished : Option LineValue) (ps : List (List ℕ)) (most : ℕ) → unfinished_size unfinished + bytes_size ps ≤ most → AreWithin most (lines_from number at unfinished ps)
+lines_within number at unfinished [] most h = record {
+  each = λ lines e.
+      let same : closed unfinished ≡ lines = cc in
+      let c : places_size (closed unfinished) ≤ unfinished_size unfinished = closed_size unfinished in
+      subst (λ xs. places_size xs ≤ most) same (omega arith);
+}
+lines_within number at unfinished (line ∷ rest) most h =
+    let kept : List ℕ = without_return rest line in
+    let made : LineValue = with_physical number at unfinished kept in
+    let size : tokens_size made.tokens ≤ unfinished_size unfinished + (length line + 1) = physical_size number at unfinished rest line in
+    let on : Result (List LineValue) TextErr = lines_from (number + 1) (at + length line + 1) (Some made) rest in
+    let after : Result (List LineValue) TextErr = put_before made (lines_from (number + 1) (at + length line + 1) None rest) in
+    choose_one (AreWithin most) (list_any is_bad kept) (Err (BadByte number)) (cond (has_slash_end (words kept)) (Err (TrailingSlash number)) (cond (goes_on kept) on after)) (within_err most (BadByte number))
+    (choose_one (AreWithin most) (has_slash_end (words kept)) (Err (TrailingSlash number)) (cond (goes_on kept) on after) (within_err most (TrailingSlash number))
+    (choose_one (AreWithin most) (goes_on kept) on after
+    (lines_within (number + 1) (at + length line + 1) (Some made) rest most (omega arith))
+    (within_put most (unfinished_size unfinished + (length line + 1)) (bytes_size rest) made (lines_from (number + 1) (at + length line + 1) None rest) size (omega arith)
+    (lines_within (number + 1) (at + length line + 1) None rest (bytes_size rest) (omega arith)))))
+
+-- physical lines have all bytes, and an end each
+before_first_size : (b : ℕ) (ps : List (List ℕ)) → 0 < bytes_size ps → bytes_size (before_first b ps) ≡ bytes_size ps + 1
+before_first_size b [] h = absurd (omega arith)
+before_first_size b (p ∷ ps) h = omega arith
+
+physical_lines_size : (text : List ℕ) → bytes_size (physical_lines text) ≡ length text + 1
+physical_lines_size [] = omega arith
+physical_lines_size (b ∷ bs) =
+    let r : bytes_size (physical_lines bs) ≡ length bs + 1 = physical_lines_size bs in
+    let f : bytes_size (before_first b (physical_lines bs)) ≡ bytes_size (physical_lines bs) + 1 = before_first_size b (physical_lines bs) (omega arith) in
+    choose_one (λ ps. bytes_size ps ≡ length (b ∷ bs) + 1) (eqb b 10) ([] ∷ physical_lines bs) (before_first b (physical_lines bs)) (omega arith) (omega arith)
+
+-- the words of the lines of a text are at most its bytes and one
+pub lines_small : (text : List ℕ) (lines : List LineValue) → lines_of text ≡ Ok lines → lines_size text lines ≤ length text + 1
+lines_small text lines are =
+    let p : bytes_size (physical_lines text) ≡ length text + 1 = physical_lines_size text in
+    let w : places_size lines ≤ length text + 1 = (lines_within 1 0 None (physical_lines text) (length text + 1) (omega arith)).each lines are in
+    let l : lines_size text lines ≤ places_size lines = lines_by_places text lines in omega arith

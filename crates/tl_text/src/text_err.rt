@@ -1,0 +1,38 @@
+//! Why a text has no lines.
+use std::alloc::{AllocError, AllocFailed};
+
+/// Why a text has no lines. The number is that of the physical line, counted from 1.
+#[derive(Clone, Copy, Debug, PartialEq, Eq, thiserror::Error)]
+pub enum TextErr {
+    /// T1: a byte below 32 that is no tab and no line feed, or the byte 127; a carriage return before a line feed is none.
+    #[error("bad byte in line {0}")]
+    BadByte(u32),
+    /// T2: a token ends in `\`.
+    #[error("trailing backslash in line {0}")]
+    TrailingSlash(u32),
+    /// There is no memory.
+    #[error("out of memory")]
+    Memory,
+}
+
+impl<T: Drop> From<AllocFailed<T>> for TextErr {
+    ghost use Rattle.std.specs.Prelude.{◌≡◌};
+    ghost use Rattle.tl_text.specs.declared.text_err.TextErr.TheVariants.{Memory};
+
+    ghost from_gives = { λ _ e. e ≡ Memory };
+
+    fn from(_: AllocFailed<T>) -> TextErr {
+        TextErr::Memory
+    }
+}
+
+impl From<AllocError> for TextErr {
+    ghost use Rattle.std.specs.Prelude.{◌≡◌};
+    ghost use Rattle.tl_text.specs.declared.text_err.TextErr.TheVariants.{Memory};
+
+    ghost from_gives = { λ _ e. e ≡ Memory };
+
+    fn from(_: AllocError) -> TextErr {
+        TextErr::Memory
+    }
+}
