@@ -1,1 +1,16 @@
 pub mod CoverValue
+pub mod SubcktValue
+pub mod LibraryValue
+pub mod Statement
+pub mod Once
+pub mod Rows
+pub mod Latches
+pub mod Connections
+pub mod Denotes
+pub mod Context
+pub mod LineFault
+pub mod ReadFault
+pub mod WellFormed
+pub mod Reading
+pub mod Size
+pub mod Inside

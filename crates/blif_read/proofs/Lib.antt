@@ -1,0 +1,15 @@
+pub mod FaultLemmas
+pub mod OnceLemmas
+pub mod FormedLemmas
+pub mod NamedLemmas
+pub mod PortLemmas
+pub mod EndsLemmas
+pub mod DenotedLemmas
+pub mod FitsLemmas
+pub mod BodyPortLemmas
+pub mod StepLemmas
+pub mod CompleteLemmas
+pub mod WellFormedLemmas
+pub mod SizeLemmas
+pub mod TextLemmas
+pub mod ReaderLemmas

@@ -1,0 +1,108 @@
+-- The ports that lines add to a model, and that no port stands twice in its list.
+use Rattle.std.proofs.Common.{◌≡◌, ◌⊎◌, ℕ, Bool, true, false, List, [], ◌∷◌, ◌++◌, None, refl, sym, ap, ◌∙◌, subst, inl, inr}
+use Rattle.std.proofs.lemmas.List.{append-nil, append_assoc}
+use Rattle.blif_read.specs.declared.keyword.Keyword.{Keyword}
+use Rattle.blif_read.specs.declared.keyword.Keyword.TheVariants.{Inputs, Outputs, Clock, Plain}
+use Rattle.blif_read.specs.declared.command.Body.{Body}
+use Rattle.blif_read.specs.declared.command.Command.{Command}
+use Rattle.blif_read.specs.CoverValue.{RowValue}
+use Rattle.blif_read.specs.LibraryValue.{ModelValue, Ports, input_ports, output_ports, clock_ports, ports_of}
+use Rattle.blif_read.specs.Statement.{StatementValue}
+use Rattle.blif_read.specs.Once.{AreOnce}
+use Rattle.blif_read.specs.Rows.{IsRow, alone, behind, AreRows, none, more}
+use Rattle.blif_read.specs.Denotes.{port_names, names_in, none}
+use Rattle.blif_read.specs.LineFault.{ports_fault}
+use Rattle.blif_read.specs.Reading.{with_command, with_ports}
+use Rattle.blif_read.proofs.OnceLemmas.{ports_once}
+
+abbrev pub line_of : Keyword → ℕ → List (List ℕ) → StatementValue
+line_of k n words = record { number = n; keyword = k; arguments = words }
+
+abbrev pub command_of : ℕ → Body → Command
+command_of n made = record { line = n; body = made }
+
+-- the ports of lines
+pub names_in-append : (p : Ports) (a b : List StatementValue) → names_in p (a ++ b) ≡ names_in p a ++ names_in p b
+names_in-append p [] b = refl
+names_in-append p (s ∷ ss) b =
+    ap (λ names. port_names p s.keyword s.arguments ++ names) (names_in-append p ss b) ∙ sym (append_assoc (port_names p s.keyword s.arguments) (names_in p ss) (names_in p b))
+
+abbrev names_ports : Keyword → Bool
+names_ports Inputs = true
+names_ports Outputs = true
+names_ports Clock = true
+names_ports other = false
+
+true_not_false : true ≡ false → ⊥
+true_not_false e = cc
+
+no_names : (p : Ports) (k : Keyword) (words : List (List ℕ)) → names_ports k ≡ false → port_names p k words ≡ []
+no_names input_ports Inputs words h = absurd (true_not_false h)
+no_names input_ports k words h = refl
+no_names output_ports Outputs words h = absurd (true_not_false h)
+no_names output_ports k words h = refl
+no_names clock_ports Clock words h = absurd (true_not_false h)
+no_names clock_ports k words h = refl
+
+row_keyword : {inputs : ℕ} {value : Bool} {s : StatementValue} {row : RowValue} → IsRow inputs value s row → s.keyword ≡ Plain
+row_keyword (alone _ k _ _) = k
+row_keyword (behind _ k _ _) = k
+
+pub names_in-rows : (p : Ports) {inputs : ℕ} {value : Bool} {lines : List StatementValue} {rows : List RowValue} → AreRows inputs value lines rows → names_in p lines ≡ []
+names_in-rows p none = refl
+names_in-rows p (more s ss row rows is are) =
+    ap (λ names. names ++ names_in p ss) (no_names p s.keyword s.arguments (ap names_ports (row_keyword is))) ∙ names_in-rows p are
+
+-- how the three kinds of ports grow
+abbrev pub port_keyword : Ports → Keyword
+port_keyword input_ports = Inputs
+port_keyword output_ports = Outputs
+port_keyword clock_ports = Clock
+
+pub is_port : (q : Ports) → (port_keyword q ≡ Inputs) ⊎ ((port_keyword q ≡ Outputs) ⊎ (port_keyword q ≡ Clock))
+is_port input_ports = inl refl
+is_port output_ports = inr (inl refl)
+is_port clock_ports = inr (inr refl)
+
+pub ports_grown : (p q : Ports) (m : ModelValue) (words : List (List ℕ)) → ports_of p (with_ports q words m) ≡ ports_of p m ++ port_names p (port_keyword q) words
+ports_grown input_ports input_ports m words = refl
+ports_grown input_ports output_ports m words = sym (append-nil m.inputs)
+ports_grown input_ports clock_ports m words = sym (append-nil m.inputs)
+ports_grown output_ports input_ports m words = sym (append-nil m.outputs)
+ports_grown output_ports output_ports m words = refl
+ports_grown output_ports clock_ports m words = sym (append-nil m.outputs)
+ports_grown clock_ports input_ports m words = sym (append-nil m.clocks)
+ports_grown clock_ports output_ports m words = sym (append-nil m.clocks)
+ports_grown clock_ports clock_ports m words = refl
+
+-- no port of a model stands twice in its list
+abbrev pub HasOnce : ModelValue → Type 0
+HasOnce m = (p : Ports) → AreOnce (ports_of p m)
+
+pub once_grown : (p q : Ports) (n : ℕ) (m : ModelValue) (words : List (List ℕ)) → HasOnce m → ports_fault n (ports_of q m) words ≡ None → AreOnce (ports_of p (with_ports q words m))
+once_grown input_ports input_ports n m words o h = ports_once n words m.inputs (o input_ports) h
+once_grown output_ports output_ports n m words o h = ports_once n words m.outputs (o output_ports) h
+once_grown clock_ports clock_ports n m words o h = ports_once n words m.clocks (o clock_ports) h
+once_grown input_ports output_ports n m words o h = o input_ports
+once_grown input_ports clock_ports n m words o h = o input_ports
+once_grown output_ports input_ports n m words o h = o output_ports
+once_grown output_ports clock_ports n m words o h = o output_ports
+once_grown clock_ports input_ports n m words o h = o clock_ports
+once_grown clock_ports output_ports n m words o h = o clock_ports
+
+pub ports_keep : (q : Ports) (words : List (List ℕ)) (m : ModelValue) → ((with_ports q words m).name ≡ m.name) × ((with_ports q words m).line ≡ m.line) × ((with_ports q words m).commands ≡ m.commands)
+ports_keep input_ports words m = (refl, refl, refl)
+ports_keep output_ports words m = (refl, refl, refl)
+ports_keep clock_ports words m = (refl, refl, refl)
+
+-- a command adds none
+pub ports_commanded : (p : Ports) (m : ModelValue) (n : ℕ) (made : Body) → ports_of p (with_command m n made) ≡ ports_of p m
+ports_commanded input_ports m n made = refl
+ports_commanded output_ports m n made = refl
+ports_commanded clock_ports m n made = refl
+
+pub once_commanded : (m : ModelValue) (n : ℕ) (made : Body) → HasOnce m → HasOnce (with_command m n made)
+once_commanded m n made o p = subst AreOnce (sym (ports_commanded p m n made)) (o p)
+
+pub quiet_line : (p : Ports) (k : Keyword) (n : ℕ) (words : List (List ℕ)) (ss : List StatementValue) → names_ports k ≡ false → names_in p ss ≡ [] → names_in p (line_of k n words ∷ ss) ≡ []
+quiet_line p k n words ss none_here none_there = ap (λ names. names ++ names_in p ss) (no_names p k words none_here) ∙ none_there

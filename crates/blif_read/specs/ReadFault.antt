@@ -1,0 +1,60 @@
+-- The refusal of a text: of its lines, else that of the first logical line that has one, else that it has no model.
+use Rattle.std.specs.Prelude.{◌≡◌, ℕ, Bool, true, false, List, [], ◌∷◌, Option, Some, None, Result, Ok, Err, if◌then◌else◌}
+use Rattle.std.specs.List.{list_any}
+use Rattle.tl_text.specs.LineValue.{LineValue}
+use Rattle.tl_text.specs.Lines.{lines_of}
+use Rattle.tl_text.specs.declared.text_err.TextErr.{TextErr}
+use Rattle.tl_text.specs.declared.text_err.TextErr.TheVariants as text
+use Rattle.blif_read.specs.declared.blif_err.BlifErr.{BlifErr}
+use Rattle.blif_read.specs.declared.blif_err.BlifErr.TheVariants.{BadByte, TrailingSlash, NotCommand, Unsupported, OutsideModel, Arity, BadRow, MixedRows, BadLatch, LatchKind, DuplicateModel, DuplicatePort, BadConnection, NoModel, Memory}
+use Rattle.blif_read.specs.declared.keyword.Keyword.{Keyword}
+use Rattle.blif_read.specs.declared.keyword.Keyword.TheVariants.{Model}
+use Rattle.blif_read.specs.Statement.{StatementValue, statements}
+use Rattle.blif_read.specs.Context.{context_of}
+use Rattle.blif_read.specs.LineFault.{or_later, line_fault}
+
+-- the refusal of the first statement that has one, each in its place behind the earlier ones
+abbrev pub first_fault : List StatementValue → List StatementValue → Option BlifErr
+first_fault earlier [] = None
+first_fault earlier (s ∷ ss) = or_later (line_fault (context_of earlier) s) (first_fault (s ∷ earlier) ss)
+
+abbrev pub is_model_keyword : Keyword → Bool
+is_model_keyword Model = true
+is_model_keyword keyword = false
+
+abbrev pub has_model : List StatementValue → Bool
+has_model ss = list_any (λ (s : StatementValue). is_model_keyword s.keyword) ss
+
+abbrev pub statements_fault : List StatementValue → Option BlifErr
+statements_fault ss = or_later (first_fault [] ss) (if has_model ss then None else Some NoModel)
+
+-- a refusal of the lines as one of the text
+abbrev pub blif_err : TextErr → BlifErr
+blif_err (text.BadByte n) = BadByte n
+blif_err (text.TrailingSlash n) = TrailingSlash n
+blif_err text.Memory = Memory
+
+abbrev pub lines_fault : List ℕ → Result (List LineValue) TextErr → Option BlifErr
+lines_fault bytes (Ok lines) = statements_fault (statements bytes lines)
+lines_fault bytes (Err e) = Some (blif_err e)
+
+abbrev pub read_fault : List ℕ → Option BlifErr
+read_fault bytes = lines_fault bytes (lines_of bytes)
+
+-- an answer is the refusal; want of memory is free
+abbrev pub IsFault : BlifErr → Option BlifErr → Type 0
+IsFault Memory fault = Unit {0}
+IsFault (BadByte n) fault = fault ≡ Some (BadByte n)
+IsFault (TrailingSlash n) fault = fault ≡ Some (TrailingSlash n)
+IsFault (NotCommand n) fault = fault ≡ Some (NotCommand n)
+IsFault (Unsupported n) fault = fault ≡ Some (Unsupported n)
+IsFault (OutsideModel n) fault = fault ≡ Some (OutsideModel n)
+IsFault (Arity n) fault = fault ≡ Some (Arity n)
+IsFault (BadRow n) fault = fault ≡ Some (BadRow n)
+IsFault (MixedRows n) fault = fault ≡ Some (MixedRows n)
+IsFault (BadLatch n) fault = fault ≡ Some (BadLatch n)
+IsFault (LatchKind n) fault = fault ≡ Some (LatchKind n)
+IsFault (DuplicateModel n name) fault = fault ≡ Some (DuplicateModel n name)
+IsFault (DuplicatePort n name) fault = fault ≡ Some (DuplicatePort n name)
+IsFault (BadConnection n) fault = fault ≡ Some (BadConnection n)
+IsFault NoModel fault = fault ≡ Some NoModel

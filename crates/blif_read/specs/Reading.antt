@@ -1,0 +1,200 @@
+-- The reader as one pass over the statements with an open model: what its code computes.
+-- The proofs show that it gives what a text denotes, and its refusals; no reader of the contracts needs it.
+use Rattle.std.specs.Prelude.{ℕ, ◌-◌, ◌==◌, Bool, true, false, if◌then◌else◌, List, [], ◌∷◌, ◌++◌, length, take, codes, bytes_eq, Option, Some, None, is_some, Result, Ok, Err, slice_index_or}
+use Rattle.std.specs.Option.{option_map}
+use Rattle.tl_text.specs.LineValue.{LineValue}
+use Rattle.tl_text.specs.Lines.{lines_of}
+use Rattle.tl_text.specs.declared.text_err.TextErr.{TextErr}
+use Rattle.blif_read.specs.declared.blif_err.BlifErr.{BlifErr}
+use Rattle.blif_read.specs.declared.blif_err.BlifErr.TheVariants.{NoModel}
+use Rattle.blif_read.specs.declared.keyword.Keyword.{Keyword}
+use Rattle.blif_read.specs.declared.keyword.Keyword.TheVariants as keyword
+use Rattle.blif_read.specs.declared.command.Body.{Body}
+use Rattle.blif_read.specs.declared.command.Body.TheVariants.{Cover, Latch, Subckt}
+use Rattle.blif_read.specs.declared.latch.Latch.{Latch as LatchValue}
+use Rattle.blif_read.specs.declared.subckt.Pair.{Pair}
+use Rattle.blif_read.specs.CoverValue.{CoverValue}
+use Rattle.blif_read.specs.SubcktValue.{SubcktValue}
+use Rattle.blif_read.specs.LibraryValue.{ModelValue, LibraryValue, Ports, input_ports, output_ports, clock_ports, ports_of}
+use Rattle.blif_read.specs.Statement.{StatementValue, statements}
+use Rattle.blif_read.specs.Context.{Context, CoverPlace, RowRead, row_of}
+use Rattle.blif_read.specs.LineFault.{line_fault, connection_of}
+use Rattle.blif_read.specs.ReadFault.{blif_err}
+
+-- a cover whose rows may follow, with its line
+pub record CoverRead : Type 0 where
+  pub line : ℕ
+  pub cover : CoverValue
+
+-- the open model, without the cover whose rows may follow
+pub record ModelRead : Type 0 where
+  pub model : ModelValue
+  pub cover : Option CoverRead
+
+-- the names of the models that began, the models that ended, and the open one
+pub record State : Type 0 where
+  pub names : List (List ℕ)
+  pub done : List ModelValue
+  pub current : Option ModelRead
+
+abbrev pub start : State
+start = record { names = []; done = []; current = None }
+
+-- the open model with its last cover
+abbrev pub with_command : ModelValue → ℕ → Body → ModelValue
+with_command m line body = record m { commands = m.commands ++ record { line = line; body = body } ∷ [] }
+
+abbrev pub with_cover : ModelValue → Option CoverRead → ModelValue
+with_cover m None = m
+with_cover m (Some c) = with_command m c.line (Cover c.cover)
+
+abbrev pub flushed : ModelRead → ModelValue
+flushed r = with_cover r.model r.cover
+
+-- the models with the open one
+abbrev pub with_current : List ModelValue → Option ModelRead → List ModelValue
+with_current done None = done
+with_current done (Some r) = done ++ flushed r ∷ []
+
+abbrev pub ended : State → List ModelValue
+ended s = with_current s.done s.current
+
+-- the place of the next line
+abbrev pub current_ports : Ports → Option ModelRead → List (List ℕ)
+current_ports p None = []
+current_ports p (Some r) = ports_of p r.model
+
+abbrev pub value_so_far : CoverValue → Option Bool
+value_so_far c = if length c.rows == 0 then None else Some c.value
+
+abbrev pub place_of_cover : Option CoverRead → Option CoverPlace
+place_of_cover c = option_map (λ (r : CoverRead). record { inputs = length r.cover.inputs; value = value_so_far r.cover }) c
+
+abbrev pub current_place : Option ModelRead → Option CoverPlace
+current_place None = None
+current_place (Some r) = place_of_cover r.cover
+
+abbrev pub context : State → Context
+context s = record {
+  is_open = is_some s.current;
+  models = s.names;
+  inputs = current_ports input_ports s.current;
+  outputs = current_ports output_ports s.current;
+  clocks = current_ports clock_ports s.current;
+  cover = current_place s.current;
+}
+
+-- what a line makes
+abbrev pub first_word : List (List ℕ) → List ℕ
+first_word [] = []
+first_word (word ∷ words) = word
+
+abbrev pub fresh : List (List ℕ) → ℕ → ModelRead
+fresh words line = record { model = record { name = first_word words; line = line; inputs = []; outputs = []; clocks = []; commands = [] }; cover = None }
+
+abbrev pub with_ports : Ports → List (List ℕ) → ModelValue → ModelValue
+with_ports input_ports names m = record m { inputs = m.inputs ++ names }
+with_ports output_ports names m = record m { outputs = m.outputs ++ names }
+with_ports clock_ports names m = record m { clocks = m.clocks ++ names }
+
+abbrev pub cover_of : List (List ℕ) → CoverValue
+cover_of names = record { inputs = take (length names - 1) names; output = slice_index_or names (length names - 1) []; value = true; rows = [] }
+
+abbrev pub with_row : CoverValue → Option RowRead → CoverValue
+with_row c None = c
+with_row c (Some row) = record c { value = row.value; rows = c.rows ++ record { cells = row.cells } ∷ [] }
+
+abbrev pub with_row_words : List (List ℕ) → CoverRead → CoverRead
+with_row_words words r = record { line = r.line; cover = with_row r.cover (row_of (length r.cover.inputs) words) }
+
+abbrev pub control_of : List ℕ → Option (List ℕ)
+control_of token = if bytes_eq token (codes "NIL") then None else Some token
+
+abbrev pub init_of : List ℕ → Bool
+init_of token = bytes_eq token (codes "1")
+
+abbrev pub latch_of : List (List ℕ) → LatchValue
+latch_of [] = record { input = []; output = []; control = None; init = false }
+latch_of (input ∷ []) = record { input = []; output = []; control = None; init = false }
+latch_of (input ∷ output ∷ []) = record { input = input; output = output; control = None; init = false }
+latch_of (input ∷ output ∷ init ∷ []) = record { input = input; output = output; control = None; init = init_of init }
+latch_of (input ∷ output ∷ kind ∷ control ∷ []) = record { input = input; output = output; control = control_of control; init = false }
+latch_of (input ∷ output ∷ kind ∷ control ∷ init ∷ more) = record { input = input; output = output; control = control_of control; init = init_of init }
+
+abbrev pub put_pair : Option Pair → List Pair → List Pair
+put_pair None pairs = pairs
+put_pair (Some pair) pairs = pair ∷ pairs
+
+abbrev pub pairs_of : List (List ℕ) → List Pair
+pairs_of [] = []
+pairs_of (word ∷ words) = put_pair (connection_of word) (pairs_of words)
+
+abbrev pub subckt_of : List (List ℕ) → SubcktValue
+subckt_of [] = record { model = []; pairs = [] }
+subckt_of (model ∷ words) = record { model = model; pairs = pairs_of words }
+
+-- the open model after a line
+abbrev pub row_read : List (List ℕ) → ModelRead → ModelRead
+row_read words r = record { model = r.model; cover = option_map (with_row_words words) r.cover }
+
+abbrev pub ports_read : Ports → List (List ℕ) → ModelRead → ModelRead
+ports_read p names r = record { model = with_ports p names (flushed r); cover = None }
+
+abbrev pub names_read : ℕ → List (List ℕ) → ModelRead → ModelRead
+names_read line names r = record { model = flushed r; cover = Some (record { line = line; cover = cover_of names }) }
+
+abbrev pub body_read : ℕ → Body → ModelRead → ModelRead
+body_read line body r = record { model = with_command (flushed r) line body; cover = None }
+
+abbrev pub model_after : Keyword → ℕ → List (List ℕ) → ModelRead → ModelRead
+model_after keyword.Plain line words r = row_read words r
+model_after keyword.Inputs line words r = ports_read input_ports words r
+model_after keyword.Outputs line words r = ports_read output_ports words r
+model_after keyword.Clock line words r = ports_read clock_ports words r
+model_after keyword.Names line words r = names_read line words r
+model_after keyword.Latch line words r = body_read line (Latch (latch_of words)) r
+model_after keyword.Subckt line words r = body_read line (Subckt (subckt_of words)) r
+model_after keyword.Model line words r = r
+model_after keyword.End line words r = r
+model_after keyword.Unknown line words r = r
+
+-- the state after a line that has no refusal
+abbrev pub next_by : Keyword → State → ℕ → List (List ℕ) → State
+next_by keyword.Model s line words = record { names = s.names ++ words; done = ended s; current = Some (fresh words line) }
+next_by keyword.End s line words = record { names = s.names; done = ended s; current = None }
+next_by other s line words = record { names = s.names; done = s.done; current = option_map (model_after other line words) s.current }
+
+abbrev pub next : State → StatementValue → State
+next s l = next_by l.keyword s l.number l.arguments
+
+abbrev pub or_fault : Option BlifErr → Result State BlifErr → Result State BlifErr
+or_fault None later = later
+or_fault (Some e) later = Err e
+
+abbrev pub steps : State → List StatementValue → Result State BlifErr
+steps s [] = Ok s
+steps s (l ∷ ls) = or_fault (line_fault (context s) l) (steps (next s l) ls)
+
+-- the library at the end
+abbrev pub library_at_end : List ModelValue → Result LibraryValue BlifErr
+library_at_end [] = Err NoModel
+library_at_end (m ∷ ms) = Ok (record { models = m ∷ ms })
+
+abbrev pub finished : Result State BlifErr → Result LibraryValue BlifErr
+finished (Ok s) = library_at_end (ended s)
+finished (Err e) = Err e
+
+abbrev pub library_read : List StatementValue → Result LibraryValue BlifErr
+library_read ss = finished (steps start ss)
+
+abbrev pub lines_read : List ℕ → Result (List LineValue) TextErr → Result LibraryValue BlifErr
+lines_read bytes (Ok lines) = library_read (statements bytes lines)
+lines_read bytes (Err e) = Err (blif_err e)
+
+abbrev pub text_read : List ℕ → Result LibraryValue BlifErr
+text_read bytes = lines_read bytes (lines_of bytes)
+
+-- the refusal of a result
+abbrev pub fault_of : {A : Type 0} → Result A BlifErr → Option BlifErr
+fault_of (Ok x) = None
+fault_of (Err e) = Some e

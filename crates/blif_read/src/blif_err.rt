@@ -1,0 +1,76 @@
+//! Why a text denotes no library.
+use std::alloc::{AllocError, AllocFailed};
+use tl_text::Name;
+
+/// Why a text denotes no library. Each number is that of a logical line, but for the first two that of a physical one;
+/// lines are counted from 1.
+#[derive(Debug, Drop, thiserror::Error)]
+pub enum BlifErr {
+    /// T1: a byte that no line may have.
+    #[error("bad byte in line {0}")]
+    BadByte(u32),
+    /// T2: a token ends in `\`.
+    #[error("trailing backslash in line {0}")]
+    TrailingSlash(u32),
+    /// B1: the line is no command and in no row's place.
+    #[error("no command in line {0}")]
+    NotCommand(u32),
+    /// B2: the first token begins with `.` and is no command of the profile.
+    #[error("unsupported command in line {0}")]
+    Unsupported(u32),
+    /// B3: no model is open.
+    #[error("outside of a model in line {0}")]
+    OutsideModel(u32),
+    /// B4: a command has too few or too many tokens.
+    #[error("wrong number of tokens in line {0}")]
+    Arity(u32),
+    /// B5: a row isn't of its form.
+    #[error("bad row in line {0}")]
+    BadRow(u32),
+    /// B6: a row's output character isn't that of the cover's first row.
+    #[error("mixed rows in line {0}")]
+    MixedRows(u32),
+    /// B7: the init or the type of a latch is none.
+    #[error("bad latch in line {0}")]
+    BadLatch(u32),
+    /// B8: the type of a latch is `fe`, `ah`, `al` or `as`.
+    #[error("kind of latch in line {0}")]
+    LatchKind(u32),
+    /// B9: a model of this name began earlier.
+    #[error("model repeated in line {0}")]
+    DuplicateModel(u32, Name),
+    /// B10: this name stands twice in the model's `.inputs`, `.outputs` or `.clock` lines.
+    #[error("port repeated in line {0}")]
+    DuplicatePort(u32, Name),
+    /// B11: a connection has no `=`, an empty side, or a formal that stood earlier in the line.
+    #[error("bad connection in line {0}")]
+    BadConnection(u32),
+    /// B12: the text has no `.model`.
+    #[error("no model")]
+    NoModel,
+    /// There is no memory.
+    #[error("out of memory")]
+    Memory,
+}
+
+impl<T: Drop> From<AllocFailed<T>> for BlifErr {
+    ghost use Rattle.std.specs.Prelude.{◌≡◌};
+    ghost use Rattle.blif_read.specs.declared.blif_err.BlifErr.TheVariants.{Memory};
+
+    ghost from_gives = { λ _ e. e ≡ Memory };
+
+    fn from(_: AllocFailed<T>) -> BlifErr {
+        BlifErr::Memory
+    }
+}
+
+impl From<AllocError> for BlifErr {
+    ghost use Rattle.std.specs.Prelude.{◌≡◌};
+    ghost use Rattle.blif_read.specs.declared.blif_err.BlifErr.TheVariants.{Memory};
+
+    ghost from_gives = { λ _ e. e ≡ Memory };
+
+    fn from(_: AllocError) -> BlifErr {
+        BlifErr::Memory
+    }
+}

@@ -1,0 +1,87 @@
+//! The `.subckt` lines.
+ghost use Rattle.std.specs.Prelude.{◌≡◌, ◌==◌, ◌<◌, [], length, None, Some, MatchResult, IfOk, position};
+ghost use Rattle.blif_read.specs.LineFault.{connection_of, split_at, connections_fault, subckt_fault};
+ghost use Rattle.blif_read.specs.ReadFault.{IsFault};
+ghost use Rattle.blif_read.specs.Reading.{pairs_of, subckt_of};
+
+use crate::blif_err::BlifErr;
+use crate::subckt::{Pair, Subckt};
+use std::alloc::{AllocError, Global};
+use tl_text::{Name, NameIndex};
+
+// The place of the first `=` of a word.
+fn sign(word: &[u8]) -> Option<usize>
+    ensures { result ≡ position (λ b. b == 61) word.now }
+{
+    word.iter().position(|b| *b == b'=')
+}
+
+// The connection that a word is, split at a place.
+fn split(alloc: Global, word: &[u8], place: usize) -> Result<Option<Pair>, AllocError>
+    requires { place < length word.now }
+    ensures { IfOk result (λ pair. pair ≡ split_at word.now (Some place)) }
+{
+    let formal = &word[..place];
+    if formal.is_empty() {
+        return Ok(None);
+    }
+    let actual = &word[place + 1..];
+    if actual.is_empty() {
+        return Ok(None);
+    }
+    let formal = Name::make(alloc, formal)?;
+    let actual = Name::make(alloc, actual)?;
+    Ok(Some(Pair { formal, actual }))
+}
+
+// The connection that a word is.
+fn connection(alloc: Global, word: &[u8]) -> Result<Option<Pair>, AllocError>
+    ensures { IfOk result (λ pair. pair ≡ connection_of word.now) }
+{
+    match sign(word) {
+        None => Ok(None),
+        Some(place) => {
+            let pair = split(alloc, word, place)?;
+            Ok(pair)
+        }
+    }
+}
+
+// The connections that words are.
+fn pairs(alloc: Global, number: u32, words: &[Name]) -> Result<Vec<Pair>, BlifErr>
+    ensures { MatchResult result
+        (λ pairs. (connections_fault number [] words.now ≡ None) × (pairs.items ≡ pairs_of words.now))
+        (λ e. IsFault e (connections_fault number [] words.now)) }
+{
+    let mut formals = NameIndex::new(alloc);
+    let mut pairs = Vec::new(alloc);
+    for word in words {
+        let Some(pair) = connection(alloc, word.bytes())? else {
+            return Err(BlifErr::BadConnection(number));
+        };
+        if formals.place(pair.formal.bytes()).is_some() {
+            return Err(BlifErr::BadConnection(number));
+        }
+        formals.add(alloc, pair.formal.bytes())?;
+        pairs.push(pair)?;
+    }
+    Ok(pairs)
+}
+
+/// The subcircuit that the words behind `.subckt` are.
+pub(crate) fn subckt_line(
+    alloc: Global,
+    number: u32,
+    mut words: Vec<Name>,
+) -> Result<Subckt, BlifErr>
+    ensures { MatchResult result (λ subckt. (subckt_fault number words.items ≡ None) × (subckt ≡ subckt_of words.items)) (λ e. IsFault e (subckt_fault number words.items)) }
+{
+    if words.is_empty() {
+        return Err(BlifErr::Arity(number));
+    }
+    let model = words.remove(0);
+    match pairs(alloc, number, &words) {
+        Ok(pairs) => Ok(Subckt { model, pairs }),
+        Err(e) => Err(e),
+    }
+}

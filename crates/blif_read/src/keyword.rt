@@ -1,0 +1,26 @@
+//! The first tokens of logical lines.
+
+/// What the first token of a logical line says.
+#[derive(Clone, Copy, Debug, PartialEq, Eq)]
+pub enum Keyword {
+    /// `.model`
+    Model,
+    /// `.inputs`
+    Inputs,
+    /// `.outputs`
+    Outputs,
+    /// `.clock`
+    Clock,
+    /// `.names`
+    Names,
+    /// `.latch`
+    Latch,
+    /// `.subckt`
+    Subckt,
+    /// `.end`
+    End,
+    /// Another token that begins with `.`.
+    Unknown,
+    /// A token that doesn't begin with `.`, as those of rows.
+    Plain,
+}

@@ -1,0 +1,91 @@
+//! The names of a model's ports of one direction.
+ghost use Rattle.std.specs.Prelude.{◌≡◌, ◌∷◌, [], ◌++◌, false, None, Some, MatchResult, if◌then◌else◌};
+ghost use Rattle.blif_read.specs.declared.blif_err.BlifErr.TheVariants.{DuplicatePort};
+ghost use Rattle.blif_read.specs.LineFault.{has, ports_fault};
+ghost use Rattle.blif_read.specs.ReadFault.{IsFault};
+
+use crate::blif_err::BlifErr;
+use std::alloc::Global;
+use std::marker::Model;
+use tl_text::{Name, NameIndex};
+
+/// Names of ports in order, each once and found by its hash.
+#[derive(Drop)]
+pub(crate) struct PortList {
+    names: Vec<Name>,
+    index: NameIndex,
+}
+
+impl Model for PortList {
+    ghost use Rattle.std.specs.Prelude.{◌≡◌, ℕ, List};
+
+    ghost Value = { List (List ℕ) };
+
+    ghost view = { λ p. p.names.items };
+
+    ghost invariant = { λ p. p.index ≡ p.names.items };
+}
+
+// Adds a name that isn't there yet.
+fn add(
+    alloc: Global,
+    number: u32,
+    names: &mut Vec<Name>,
+    index: &mut NameIndex,
+    name: Name,
+) -> Result<(), BlifErr>
+    requires { index.old ≡ names.old.items }
+    ensures { MatchResult result
+        (λ _. (has names.old.items name ≡ false) × (names.new.items ≡ names.old.items ++ name ∷ []) × (index.new ≡ names.new.items))
+        (λ e. IsFault e (if has names.old.items name then Some (DuplicatePort number name) else None)) }
+{
+    if index.place(name.bytes()).is_some() {
+        return Err(BlifErr::DuplicatePort(number, name));
+    }
+    index.add(alloc, name.bytes())?;
+    names.push(name)?;
+    Ok(())
+}
+
+impl PortList {
+    /// No names.
+    pub(crate) fn new(alloc: Global) -> PortList
+        ensures { result ≡ [] }
+    {
+        PortList {
+            names: Vec::new(alloc),
+            index: NameIndex::new(alloc),
+        }
+    }
+
+    /// The names in order.
+    pub(crate) fn names(self) -> Vec<Name>
+        ensures { result.items ≡ self }
+    {
+        self.names
+    }
+
+    /// The names with those of a line behind them.
+    pub(crate) fn with(
+        self,
+        alloc: Global,
+        number: u32,
+        names: Vec<Name>,
+    ) -> Result<PortList, BlifErr>
+        ensures { MatchResult result
+            (λ list. (ports_fault number self names.items ≡ None) × (list ≡ self ++ names.items))
+            (λ e. IsFault e (ports_fault number self names.items)) }
+    {
+        let PortList {
+            names: mut done,
+            mut index,
+        } = self;
+        for name in names {
+            match add(alloc, number, &mut done, &mut index, name) {
+                Ok(()) => {}
+                Err(e) => return Err(e),
+            }
+        }
+        Ok(PortList { names: done, index })
+    }
+}

@@ -1,0 +1,213 @@
+//! The reader: one pass over the logical lines of a text.
+ghost use Rattle.std.specs.Prelude.{◌≡◌, ◌∷◌, [], ◌++◌, length, None, Some, Ok, MatchResult, MatchOption, OnOk};
+ghost use Rattle.std.specs.Option.{option_map};
+ghost use Rattle.tl_text.specs.LineValue.{AreLinesIn};
+ghost use Rattle.blif_read.specs.declared.keyword.Keyword.TheVariants as keyword_;
+ghost use Rattle.blif_read.specs.Statement.{statements};
+ghost use Rattle.blif_read.specs.LineFault.{end_fault, line_fault, model_fault};
+ghost use Rattle.blif_read.specs.ReadFault.{IsFault};
+ghost use Rattle.blif_read.specs.Reading.{context, ended, fault_of, finished, library_at_end, library_read, model_after as after, next, next_by, steps};
+ghost use Rattle.blif_read.specs.Inside.{end_line_fault, inside_fault};
+
+use crate::blif_err::BlifErr;
+use crate::blif_model::{BlifModel, Library};
+use crate::keyword::Keyword;
+use crate::open_model::{OpenModel, begun, closed, model_after};
+use crate::statement::{Statement, line_statement};
+use std::alloc::{AllocError, Global};
+use std::marker::Model;
+use tl_text::{Line, Name, NameIndex};
+
+/// What is read so far: the names of the models, the models that ended, and the one whose lines are being read.
+#[derive(Drop)]
+struct Reader {
+    names: NameIndex,
+    done: Vec<BlifModel>,
+    current: Option<OpenModel>,
+}
+
+impl Model for Reader {
+    ghost use Rattle.blif_read.specs.Reading.{State};
+
+    ghost Value = { State };
+
+    ghost view = { λ r. record { names = r.names; done = r.done.items; current = r.current } };
+}
+
+// Ends the open model, if there is one.
+fn close(reader: &mut Reader) -> Result<(), AllocError>
+    ensures { OnOk result (reader.new ≡ record { names = reader.old.names; done = ended reader.old; current = None }) }
+{
+    match reader.current.take() {
+        None => Ok(()),
+        Some(model) => {
+            let model = closed(model)?;
+            reader.done.push(model)?;
+            Ok(())
+        }
+    }
+}
+
+// The word of a list of one.
+fn only(mut words: Vec<Name>) -> Option<Name>
+    ensures { MatchOption result (length words.items ≡ 1 → ⊥) (λ word. words.items ≡ word ∷ []) }
+{
+    if words.len() != 1 {
+        return None;
+    }
+    words.pop()
+}
+
+// The name of a model that begins, by the words behind `.model`, which is then among the names.
+fn new_name(
+    alloc: Global,
+    names: &mut NameIndex,
+    number: u32,
+    words: Vec<Name>,
+) -> Result<Name, BlifErr>
+    ensures { MatchResult result
+        (λ name. (model_fault number names.old words.items ≡ None) × (words.items ≡ name ∷ []) × (names.new ≡ names.old ++ words.items))
+        (λ e. IsFault e (model_fault number names.old words.items)) }
+{
+    let Some(name) = only(words) else {
+        return Err(BlifErr::Arity(number));
+    };
+    if names.place(name.bytes()).is_some() {
+        return Err(BlifErr::DuplicateModel(number, name));
+    }
+    names.add(alloc, name.bytes())?;
+    Ok(name)
+}
+
+// Begins a model, by the words behind `.model`.
+fn begin(alloc: Global, reader: &mut Reader, number: u32, words: Vec<Name>) -> Result<(), BlifErr>
+    ensures { MatchResult result
+        (λ _. (model_fault number reader.old.names words.items ≡ None) × (reader.new ≡ next_by keyword_.Model reader.old number words.items))
+        (λ e. IsFault e (model_fault number reader.old.names words.items)) }
+{
+    let name = match new_name(alloc, &mut reader.names, number, words) {
+        Ok(name) => name,
+        Err(e) => return Err(e),
+    };
+    close(reader)?;
+    reader.current = Some(begun(alloc, name, number));
+    Ok(())
+}
+
+// Ends the open model, by the words behind `.end`.
+fn end(reader: &mut Reader, number: u32, words: &[Name]) -> Result<(), BlifErr>
+    ensures { MatchResult result
+        (λ _. (end_line_fault reader.old.current number words.now ≡ None) × (reader.new ≡ next_by keyword_.End reader.old number words.now))
+        (λ e. IsFault e (end_line_fault reader.old.current number words.now)) }
+{
+    if reader.current.is_none() {
+        return Err(BlifErr::OutsideModel(number));
+    }
+    if !words.is_empty() {
+        return Err(BlifErr::Arity(number));
+    }
+    close(reader)?;
+    Ok(())
+}
+
+// Reads a line within the open model.
+fn inside(
+    alloc: Global,
+    reader: &mut Reader,
+    keyword: Keyword,
+    number: u32,
+    words: Vec<Name>,
+) -> Result<(), BlifErr>
+    ensures { MatchResult result
+        (λ _. (inside_fault keyword reader.old.current number words.items ≡ None) × (reader.new ≡ record { names = reader.old.names; done = reader.old.done; current = option_map (after keyword number words.items) reader.old.current }))
+        (λ e. IsFault e (inside_fault keyword reader.old.current number words.items)) }
+{
+    let Some(model) = reader.current.take() else {
+        return Err(BlifErr::OutsideModel(number));
+    };
+    match model_after(alloc, model, keyword, number, words) {
+        Ok(model) => {
+            reader.current = Some(model);
+            Ok(())
+        }
+        Err(e) => Err(e),
+    }
+}
+
+// Reads a line.
+fn step(alloc: Global, reader: &mut Reader, line: Statement) -> Result<(), BlifErr>
+    ensures { MatchResult result
+        (λ _. (line_fault (context reader.old) line ≡ None) × (reader.new ≡ next reader.old line))
+        (λ e. IsFault e (line_fault (context reader.old) line)) }
+{
+    let Statement {
+        number,
+        keyword,
+        arguments,
+    } = line;
+    match keyword {
+        Keyword::Unknown => Err(BlifErr::Unsupported(number)),
+        Keyword::Model => begin(alloc, reader, number, arguments),
+        Keyword::End => end(reader, number, &arguments),
+        _ => inside(alloc, reader, keyword, number, arguments),
+    }
+}
+
+// Reads lines.
+fn read_each(alloc: Global, reader: &mut Reader, text: &[u8], lines: &[Line]) -> Result<(), BlifErr>
+    requires { AreLinesIn text.now lines.now }
+    ensures { MatchResult result
+        (λ _. steps reader.old (statements text.now lines.now) ≡ Ok reader.new)
+        (λ e. IsFault e (fault_of (steps reader.old (statements text.now lines.now)))) }
+{
+    for line in lines {
+        let statement = line_statement(alloc, text, line)?;
+        match step(alloc, reader, statement) {
+            Ok(()) => {}
+            Err(e) => return Err(e),
+        }
+    }
+    Ok(())
+}
+
+// The library at the end of the text.
+fn finish(alloc: Global, reader: &mut Reader) -> Result<Library, BlifErr>
+    ensures { MatchResult result
+        (λ library. library_at_end (ended reader.old) ≡ Ok library)
+        (λ e. IsFault e (fault_of (library_at_end (ended reader.old)))) }
+{
+    close(reader)?;
+    let models = std::mem::replace(&mut reader.done, Vec::new(alloc));
+    if models.is_empty() {
+        return Err(BlifErr::NoModel);
+    }
+    Ok(Library { models })
+}
+
+// The library of lines, read from the start.
+fn run(alloc: Global, reader: &mut Reader, text: &[u8], lines: &[Line]) -> Result<Library, BlifErr>
+    requires { AreLinesIn text.now lines.now }
+    ensures { MatchResult result
+        (λ library. finished (steps reader.old (statements text.now lines.now)) ≡ Ok library)
+        (λ e. IsFault e (fault_of (finished (steps reader.old (statements text.now lines.now))))) }
+{
+    match read_each(alloc, reader, text, lines) {
+        Ok(()) => finish(alloc, reader),
+        Err(e) => Err(e),
+    }
+}
+
+/// The library of a text's logical lines.
+pub(crate) fn read_lines(alloc: Global, text: &[u8], lines: &[Line]) -> Result<Library, BlifErr>
+    requires { AreLinesIn text.now lines.now }
+    ensures { MatchResult result
+        (λ library. library_read (statements text.now lines.now) ≡ Ok library)
+        (λ e. IsFault e (fault_of (library_read (statements text.now lines.now)))) }
+{
+    let mut reader = Reader {
+        names: NameIndex::new(alloc),
+        done: Vec::new(alloc),
+        current: None,
+    };
+    run(alloc, &mut reader, text, lines)
+}
