@@ -1,6 +1,5 @@
 -- An accepted job isn't refused, so it is done where nothing fails.
-use Rattle.std.proofs.Common.{◌≡◌, ℕ, ◌/◌, ◌<◌, ◌≤◌, List, [], ◌∷◌, length, Option, Some, None, Result, Ok, Err, refl, sym, ap, ◌∙◌, subst, inl, inr, arith}
-use Rattle.std.specs.Result.{result_ok}
+use Rattle.std.proofs.Common.{◌≡◌, ℕ, ◌/◌, ◌<◌, ◌≤◌, List, length, Option, Some, None, refl, sym, ap, ◌∙◌, subst, inl, inr, arith}
 use Rattle.std.proofs.lemmas.Option.{same_Some}
 use Rattle.aig_core.specs.Aig.{Aig, first_and, node_count}
 use Rattle.aig_core.specs.declared.lit.Kind.TheVariants.{Regular, Parameter}
@@ -16,8 +15,7 @@ use Rattle.tl_io.specs.Causes.{Rose}
 use Rattle.tl_io.specs.Shelf.{Files, ShelfSeen}
 use Rattle.tlut_cli.specs.Netlist.{NetlistValue}
 use Rattle.tlut_cli.specs.NetlistGraph.{graph_of, netlist_roots}
-use Rattle.tlut_cli.specs.ThinText.{netlist_of}
-use Rattle.tlut_cli.specs.Script.{script_of}
+use Rattle.tlut_cli.specs.Texts.{IsNetlistText, IsParamsText, IsScriptText}
 use Rattle.tlut_cli.specs.Words.{JobWords}
 use Rattle.tlut_cli.specs.Mapped.{IsChosen, IsUnchosen, IsMapped, IsUnmapped, too_many, unchosen}
 use Rattle.tlut_cli.specs.Verdict.{HasText, IsOverlong, HasNetlist, Job, IsAccepted, IsRefused, overlong, netlist, params, mapping, script}
@@ -26,11 +24,12 @@ use Rattle.tlut_cli.specs.Statuses.{status_of}
 use Rattle.tlut_cli.specs.declared.outcome.File.{File}
 use Rattle.tlut_cli.specs.declared.outcome.File.TheVariants as file
 use Rattle.tlut_cli.specs.declared.outcome.Refusal.{Refusal}
-use Rattle.tlut_cli.specs.declared.outcome.Refusal.TheVariants.{TooLong, Unbuilt, TooManyNodes, NodeCuts, TotalCuts, Work}
+use Rattle.tlut_cli.specs.declared.outcome.Refusal.TheVariants.{NodeCuts, TotalCuts, Work}
 use Rattle.tlut_cli.specs.declared.outcome.Outcome.{Outcome}
 use Rattle.tlut_cli.specs.declared.outcome.Outcome.TheVariants as outcome
 use Rattle.tlut_cli.specs.declared.status.Status.{Status}
 use Rattle.tlut_cli.proofs.OnceLemmas.{light_or_overworked}
+use Rattle.tlut_cli.proofs.TextLemmas.{netlist_text_once, netlist_or_refused, params_or_refused, script_or_refused}
 
 -- a table is of a node of the graph
 table_inside : (g : Aig) (k : ℕ) (t : Lut) → IsTableOf g k t → t.lit.0 / 2 < node_count g
@@ -48,13 +47,11 @@ roots_inside g k roots luts bits m l i = elim (m.root l i) [
 
 -- A graph that has its chosen template isn't refused.
 chosen_or_unchosen : (g : Aig) (k : ℕ) (roots : RootsValue) (t : TemplateValue) (r : Refusal) → IsChosen g k roots t → IsUnchosen g k roots r → ⊥
-chosen_or_unchosen g k roots t TooLong c u = u
-chosen_or_unchosen g k roots t (Unbuilt line) c u = u
-chosen_or_unchosen g k roots t TooManyNodes c u = u
 chosen_or_unchosen g k roots t (NodeCuts n) c u = limit_excludes g k (cut_limit.NodeCuts n) c.rows (λ e. cc) u c.labelled.rows_are
 chosen_or_unchosen g k roots t (TotalCuts n) c u = limit_excludes g k (cut_limit.TotalCuts n) c.rows (λ e. cc) u c.labelled.rows_are
 chosen_or_unchosen g k roots t Work c u =
     light_or_overworked g k c.rows u.rows c.labels u.labels roots t (roots_inside g k (roots_of roots) t.luts t.bits c.mapping) c.labelled u.labelled c.chosen c.light u.too_much
+chosen_or_unchosen g k roots t other c u = u
 
 -- Nor is a netlist.
 pub mapped_or_unmapped : (n : NetlistValue) (k : ℕ) (t : TemplateValue) (r : Refusal) → IsMapped n k t → IsUnmapped n k r → ⊥
@@ -73,45 +70,34 @@ short_or_long files job f xs a b =
     let s : length xs ≤ 67108864 = a.short in
     let l : 67108864 < length b.text = b.long in omega arith
 
--- a result is of one kind, and has one value
-pub ok_or_err : {T E : Type 0} (r : Result T E) (v : T) (e : E) → r ≡ Ok v → r ≡ Err e → ⊥
-ok_or_err r v e a b = differ (sym a ∙ b)
-  where
-    differ : Ok v ≡ Err e → ⊥
-    differ k = cc
-
-ok_once : {T E : Type 0} (r : Result T E) (v w : T) → r ≡ Ok v → r ≡ Ok w → v ≡ w
-ok_once {T} {E} r v w a b = same_Some v w (ap (λ (x : Result T E). result_ok x) (sym a ∙ b))
-
 -- the files hold one netlist
 pub netlist_once : (files : Files) (job : JobWords) (n m : NetlistValue) → HasNetlist files job n → HasNetlist files job m → n ≡ m
 netlist_once files job n m a b =
     let e : a.text ≡ b.text = text_once files job file.Netlist a.text b.text a.there b.there in
-    ok_once (netlist_of a.text) n m a.denotes (ap (λ ts. netlist_of ts) e ∙ b.denotes)
+    netlist_text_once b.text n m (subst (λ ts. IsNetlistText ts n) e a.is) b.is
 
 -- no file of an accepted job is too long
 accepted_short : (files : Files) (words : JobWords) (job : Job) (f : File) → IsAccepted files words job → IsOverlong files words f → ⊥
 accepted_short files words job file.Netlist a o = short_or_long files words file.Netlist a.netlist.text a.netlist.there o
-accepted_short files words job file.Params a o = short_or_long files words file.Params [] a.params.there o
+accepted_short files words job file.Params a o = short_or_long files words file.Params a.params.text a.params.there o
 accepted_short files words job file.Script a o = short_or_long files words file.Script a.script.text a.script.there o
 
 -- An accepted job isn't refused, at any of its files, for any reason.
 pub accepted_not_refused : (files : Files) (words : JobWords) (job : Job) (f : File) (r : Refusal) → IsAccepted files words job → IsRefused files words f r → ⊥
 accepted_not_refused files words job f r a (overlong reaches long e) = accepted_short files words job f a long
-accepted_not_refused files words job f r a (netlist at text line there err e) =
+accepted_not_refused files words job f r a (netlist at text there refused) =
     let same : a.netlist.text ≡ text = text_once files words file.Netlist a.netlist.text text a.netlist.there there in
-    ok_or_err (netlist_of text) job.netlist line (ap (λ ts. netlist_of ts) (sym same) ∙ a.netlist.denotes) err
-accepted_not_refused files words job f r a (params at reaches b text there e) = differ (text_once files words file.Params [] (b ∷ text) a.params.there there)
-  where
-    differ : [] ≡ b ∷ text → ⊥
-    differ k = cc
+    netlist_or_refused text job.netlist r (subst (λ ts. IsNetlistText ts job.netlist) same a.netlist.is) refused
+accepted_not_refused files words job f r a (params at reaches text there refused) =
+    let same : a.params.text ≡ text = text_once files words file.Params a.params.text text a.params.there there in
+    params_or_refused text r (subst (λ ts. IsParamsText ts) same a.params.is) refused
 accepted_not_refused files words job f r a (mapping at n has none u) =
     mapped_or_unmapped n words.k job.template r (subst (λ (m : NetlistValue). IsMapped m words.k job.template) (netlist_once files words job.netlist n a.netlist has) a.mapped) u
-accepted_not_refused files words job f r a (script at n text line passes there err e) =
+accepted_not_refused files words job f r a (script at n text passes there refused) =
     let m : job.netlist ≡ n = netlist_once files words job.netlist n a.netlist passes.netlist in
     let same : a.script.text ≡ text = text_once files words file.Script a.script.text text a.script.there there in
-    ok_or_err (script_of (length n.inputs) text) job.vectors line
-    (ap (λ ts. script_of (length n.inputs) ts) (sym same) ∙ (ap (λ (i : NetlistValue). script_of (length i.inputs) a.script.text) (sym m) ∙ a.script.denotes)) err
+    script_or_refused (length n.inputs) text job.vectors r
+    (subst (λ (i : NetlistValue). IsScriptText (length i.inputs) text job.vectors) m (subst (λ ts. IsScriptText (length job.netlist.inputs) ts job.vectors) same a.script.is)) refused
 
 -- So the call that is lent its files is done, but for want of memory, where no read and no write fails.
 pub accepted_done : (words : List (List ℕ)) (old new : ShelfSeen) (before after : Option (List ℕ)) (faults_before faults_after : ℕ) (o : Outcome) (s : Status) → s ≡ status_of o → IsEnd words old new before after o

@@ -16,7 +16,7 @@ use Rattle.aig_core.specs.Aig.{Aig}
 use Rattle.aig_core.specs.Value.{xor, values_of, literal_value}
 use Rattle.aig_core.proofs.ValueLemmas.{values_old}
 use Rattle.tlut_cli.specs.Netlist.{NetlistValue, Fits, IsCycle, IsOnlyCycle}
-use Rattle.tlut_cli.specs.ThinText.{is_driven, is_cover_output}
+use Rattle.tlut_cli.specs.Built.{is_driven, is_cover_output}
 use Rattle.tlut_cli.specs.NetlistGraph.{input_literal, sources_of, reads_cover, root_at, IsWellFormed, IsCoverOver}
 use Rattle.tlut_cli.specs.Source.{input_value, cover_net, net_at, net_value, source_outputs, HasCover}
 

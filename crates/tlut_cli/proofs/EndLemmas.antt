@@ -1,16 +1,22 @@
 -- Why a job was not begun, seen from an earlier state of the shelf.
-use Rattle.std.proofs.Common.{◌≡◌, ℕ, ◌≤◌, List, [], ◌∷◌, length, refl, ◌∙◌, arith}
-use Rattle.tl_io.specs.Shelf.{Files, ShelfSeen}
+use Rattle.std.proofs.Common.{◌≡◌, ℕ, ◌≤◌, List, Some, refl, sym, ap, ◌∙◌, subst}
+use Rattle.tl_io.specs.Shelf.{ShelfSeen}
+use Rattle.tl_text.specs.declared.text_err.TextErr.{TextErr}
+use Rattle.tl_text.specs.declared.text_err.TextErr.TheVariants as text_err
+use Rattle.blif_read.specs.declared.blif_err.BlifErr.{BlifErr}
+use Rattle.blif_read.specs.declared.blif_err.BlifErr.TheVariants as blif_err
+use Rattle.tlut_cli.specs.Texts.{text_refusal, blif_refusal, NetlistRefusal, ParamsRefusal, ScriptRefusal}
+use Rattle.tlut_cli.specs.Texts as texts
 use Rattle.tlut_cli.specs.Words.{JobWords}
 use Rattle.tlut_cli.specs.Netlist.{NetlistValue}
 use Rattle.tlut_cli.specs.Mapped.{IsUnmapped, too_many, unchosen}
 use Rattle.tlut_cli.specs.Unmapped.{IsMapOutcome}
-use Rattle.tlut_cli.specs.Verdict.{HasText, HasNetlist, HasNoParams, Reaches, IsRefused, params, mapping}
+use Rattle.tlut_cli.specs.Verdict.{HasNetlist, HasNoParams, mapping}
 use Rattle.tlut_cli.specs.Ends.{Told, GivenAt, IsRefusedAt, IsFaultAt, Explains}
 use Rattle.tlut_cli.specs.declared.outcome.File.{File}
 use Rattle.tlut_cli.specs.declared.outcome.File.TheVariants as file
 use Rattle.tlut_cli.specs.declared.outcome.Refusal.{Refusal}
-use Rattle.tlut_cli.specs.declared.outcome.Refusal.TheVariants.{TooLong, Unbuilt, TooManyNodes, NodeCuts, TotalCuts, Work}
+use Rattle.tlut_cli.specs.declared.outcome.Refusal.TheVariants.{TooLong, Unbuilt}
 use Rattle.tlut_cli.specs.declared.outcome.Outcome.{Outcome}
 use Rattle.tlut_cli.specs.declared.outcome.Outcome.TheVariants as outcome
 use Rattle.tlut_cli.proofs.LineLemmas.{Rose-from}
@@ -34,23 +40,56 @@ Explains-from job old mid new outcome.Usage l e h = h
 Explains-from job old mid new outcome.WriteFault l e h = h
 Explains-from job old mid new outcome.PortFault l e h = h
 
--- a list that isn't empty is refused
-pub params_refused : (files : Files) (job : JobWords) (xs : List ℕ) → 1 ≤ length xs → Reaches files job file.Params → HasText files job file.Params xs → IsRefused files job file.Params (Unbuilt 1)
-params_refused files job [] h r t = absurd (omega arith)
-params_refused files job (b ∷ xs) h r t = params refl r b xs t refl
+-- a refusal but for an overlong file comes after a file within the limit
+given_else : (r : Refusal) (given : ℕ) → given ≤ 67108864 → (r ≡ TooLong → ⊥) → GivenAt r given
+given_else TooLong given g other = absurd (other refl)
+given_else r given g other = g
 
 -- a refusal of the mapping is no overlong file
 mapped_given : (n : NetlistValue) (k : ℕ) (r : Refusal) (given : ℕ) → given ≤ 67108864 → IsUnmapped n k r → GivenAt r given
-mapped_given n k TooLong given g (too_many h e) = absurd (differ e)
+mapped_given n k r given g u = given_else r given g (λ e. overlong (subst (λ q. IsUnmapped n k q) e u))
   where
-    differ : TooLong ≡ TooManyNodes → ⊥
-    differ e = cc
-mapped_given n k TooLong given g (unchosen h u) = absurd u
-mapped_given n k (Unbuilt line) given g u = g
-mapped_given n k TooManyNodes given g u = g
-mapped_given n k (NodeCuts node) given g u = g
-mapped_given n k (TotalCuts node) given g u = g
-mapped_given n k Work given g u = g
+    overlong : IsUnmapped n k TooLong → ⊥
+    overlong (too_many h e) = cc
+    overlong (unchosen h v) = v
+
+-- nor is a refusal of a text
+not_long : (e : TextErr) → text_refusal e ≡ Some TooLong → ⊥
+not_long (text_err.BadByte n) h = cc
+not_long (text_err.TrailingSlash n) h = cc
+not_long text_err.Memory h = cc
+
+blif_not_long : (e : BlifErr) → blif_refusal e ≡ Some TooLong → ⊥
+blif_not_long (blif_err.BadByte n) h = cc
+blif_not_long (blif_err.TrailingSlash n) h = cc
+blif_not_long (blif_err.NotCommand n) h = cc
+blif_not_long (blif_err.Unsupported n) h = cc
+blif_not_long (blif_err.OutsideModel n) h = cc
+blif_not_long (blif_err.Arity n) h = cc
+blif_not_long (blif_err.BadRow n) h = cc
+blif_not_long (blif_err.MixedRows n) h = cc
+blif_not_long (blif_err.BadLatch n) h = cc
+blif_not_long (blif_err.LatchKind n) h = cc
+blif_not_long (blif_err.DuplicateModel n name) h = cc
+blif_not_long (blif_err.DuplicatePort n name) h = cc
+blif_not_long (blif_err.BadConnection n) h = cc
+blif_not_long blif_err.NoModel h = cc
+blif_not_long blif_err.Memory h = cc
+
+unbuilt_not_long : (line : ℕ) → TooLong ≡ Unbuilt line → ⊥
+unbuilt_not_long line h = cc
+
+pub netlist_given : (text : List ℕ) (r : Refusal) (given : ℕ) → given ≤ 67108864 → NetlistRefusal text r → GivenAt r given
+netlist_given text r given g (texts.NetlistRefusal.fault e f is) = given_else r given g (λ q. blif_not_long e (is ∙ ap (λ x. Some x) q))
+netlist_given text r given g (texts.NetlistRefusal.unbuilt library line d err is) = given_else r given g (λ q. unbuilt_not_long line (sym q ∙ is))
+
+pub params_given : (text : List ℕ) (r : Refusal) (given : ℕ) → given ≤ 67108864 → ParamsRefusal text r → GivenAt r given
+params_given text r given g (texts.ParamsRefusal.fault e f is) = given_else r given g (λ q. not_long e (is ∙ ap (λ x. Some x) q))
+params_given text r given g (texts.ParamsRefusal.unbuilt line lines f is) = given_else r given g (λ q. unbuilt_not_long line.number (sym q ∙ is))
+
+pub script_given : (width : ℕ) (text : List ℕ) (r : Refusal) (given : ℕ) → given ≤ 67108864 → ScriptRefusal width text r → GivenAt r given
+script_given width text r given g (texts.ScriptRefusal.fault e f is) = given_else r given g (λ q. not_long e (is ∙ ap (λ x. Some x) q))
+script_given width text r given g (texts.ScriptRefusal.unbuilt lines line f err is) = given_else r given g (λ q. unbuilt_not_long line (sym q ∙ is))
 
 -- what the mapping answers explains the outcome
 pub map_explains : (job : JobWords) (old new : ShelfSeen) (n : NetlistValue) (o : Outcome) → new.given ≤ 67108864 → Told old.files (λ files. HasNetlist files job n) → Told old.files (λ files. HasNoParams files job)

@@ -18,13 +18,13 @@ use Rattle.tlut_cli.specs.Verdict.{Job}
 use Rattle.tlut_cli.specs.Ends.{Told}
 use Rattle.tlut_cli.specs.Call.{IsEnd, HasDone}
 use Rattle.tlut_cli.specs.Statuses.{status_of}
-use Rattle.tlut_cli.specs.declared.outcome.Refusal.TheVariants.{TooLong, Unbuilt, TooManyNodes, NodeCuts, TotalCuts, Work}
+use Rattle.tlut_cli.specs.declared.outcome.Refusal.TheVariants.{TooLong, TooManyNodes, NodeCuts, TotalCuts, Work}
 use Rattle.tlut_cli.specs.declared.outcome.Outcome.{Outcome}
 use Rattle.tlut_cli.specs.declared.outcome.Outcome.TheVariants as outcome
 use Rattle.tlut_cli.specs.declared.status.Status.{Status}
 use Rattle.tlut_cli.specs.declared.status.Status.TheVariants as status
 use Rattle.tlut_cli.specs.LeastDepth.{HasHeader, HasLeastDepth, HasFewLeaves, HasSmallTables}
-use Rattle.tlut_cli.proofs.ReadLemmas.{then_none}
+use Rattle.tlut_cli.proofs.ListLemmas.{then_none}
 
 -- a table's size is 2 at least
 size_of : (word : List ℕ) (k : ℕ) → k_of word ≡ Some k → 2 ≤ k
@@ -126,11 +126,11 @@ done_is words old new before after outcome.Done s e (inl u) h = absurd (differ u
     differ k = cc
 done_is words old new before after outcome.Done s e (inr run) h = λ files told. record { job = run.job; is = run.is; done = run.ends.1 files told }
 done_is words old new before after (outcome.Refused f TooLong) s e end h = not_done s status.Limit e (λ k. cc) h
-done_is words old new before after (outcome.Refused f (Unbuilt line)) s e end h = not_done s status.Refused e (λ k. cc) h
 done_is words old new before after (outcome.Refused f TooManyNodes) s e end h = not_done s status.Limit e (λ k. cc) h
 done_is words old new before after (outcome.Refused f (NodeCuts at)) s e end h = not_done s status.Limit e (λ k. cc) h
 done_is words old new before after (outcome.Refused f (TotalCuts at)) s e end h = not_done s status.Limit e (λ k. cc) h
 done_is words old new before after (outcome.Refused f Work) s e end h = not_done s status.Limit e (λ k. cc) h
+done_is words old new before after (outcome.Refused f other) s e end h = not_done s status.Refused e (λ k. cc) h
 done_is words old new before after (outcome.ReadFault f) s e end h = not_done s status.ReadFault e (λ k. cc) h
 done_is words old new before after outcome.Usage s e end h = not_done s status.Usage e (λ k. cc) h
 done_is words old new before after outcome.WriteFault s e end h = not_done s status.WriteFault e (λ k. cc) h

@@ -1,8 +1,11 @@
-pub mod PieceLemmas
+pub mod TextLemmas
+pub mod StopLemmas
 pub mod CycleLemmas
 pub mod PlayLemmas
 pub mod LineLemmas
-pub mod ReadLemmas
+pub mod ListLemmas
+pub mod ScriptLemmas
+pub mod BuiltLemmas
 pub mod EndLemmas
 pub mod PutLemmas
 pub mod DoneLemmas

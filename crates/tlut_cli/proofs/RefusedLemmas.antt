@@ -1,6 +1,5 @@
 -- A job is refused for one reason, so that reason is the answer where nothing fails.
-use Rattle.std.proofs.Common.{◌≡◌, ℕ, List, [], ◌∷◌, length, Option, Some, None, Result, Err, refl, sym, ap, ◌∙◌, subst, inl, inr, arith}
-use Rattle.std.specs.Result.{result_err}
+use Rattle.std.proofs.Common.{◌≡◌, ℕ, List, length, Option, Some, None, refl, sym, ap, ◌∙◌, subst, inl, inr, arith}
 use Rattle.std.proofs.lemmas.Option.{same_Some}
 use Rattle.aig_core.specs.Aig.{Aig}
 use Rattle.aig_core.specs.Roots.{RootsValue}
@@ -11,8 +10,7 @@ use Rattle.cut_enum.proofs.LimitLemmas.{limit_once, limit_excludes}
 use Rattle.tl_io.specs.Shelf.{Files, ShelfSeen}
 use Rattle.tlut_cli.specs.Netlist.{NetlistValue}
 use Rattle.tlut_cli.specs.NetlistGraph.{graph_of, netlist_roots}
-use Rattle.tlut_cli.specs.ThinText.{netlist_of}
-use Rattle.tlut_cli.specs.Script.{script_of}
+use Rattle.tlut_cli.specs.Texts.{IsNetlistText, NetlistRefusal, IsParamsText, ParamsRefusal, ScriptRefusal}
 use Rattle.tlut_cli.specs.Words.{JobWords}
 use Rattle.tlut_cli.specs.Mapped.{IsOverworked, IsUnchosen, IsMapped, IsUnmapped, too_many, unchosen}
 use Rattle.tlut_cli.specs.Verdict.{HasText, IsOverlong, HasNetlist, HasNoParams, Passes, Reaches, IsRefused, overlong, netlist, params, mapping, script}
@@ -21,15 +19,12 @@ use Rattle.tlut_cli.specs.Statuses.{status_of, refusal_status}
 use Rattle.tlut_cli.specs.declared.outcome.File.{File}
 use Rattle.tlut_cli.specs.declared.outcome.File.TheVariants as file
 use Rattle.tlut_cli.specs.declared.outcome.Refusal.{Refusal}
-use Rattle.tlut_cli.specs.declared.outcome.Refusal.TheVariants.{TooLong, Unbuilt, TooManyNodes, NodeCuts, TotalCuts, Work}
+use Rattle.tlut_cli.specs.declared.outcome.Refusal.TheVariants.{TooLong, NodeCuts, TotalCuts, Work}
 use Rattle.tlut_cli.specs.declared.outcome.Outcome.{Outcome}
 use Rattle.tlut_cli.specs.declared.outcome.Outcome.TheVariants as outcome
 use Rattle.tlut_cli.specs.declared.status.Status.{Status}
-use Rattle.tlut_cli.proofs.ClashLemmas.{mapped_or_unmapped, text_once, short_or_long, ok_or_err, netlist_once, accepted_not_refused}
-
--- a refused result has one error
-err_once : {T E : Type 0} (r : Result T E) (d e : E) → r ≡ Err d → r ≡ Err e → d ≡ e
-err_once {T} {E} r d e a b = same_Some d e (ap (λ (x : Result T E). result_err x) (sym a ∙ b))
+use Rattle.tlut_cli.proofs.ClashLemmas.{mapped_or_unmapped, text_once, short_or_long, netlist_once, accepted_not_refused}
+use Rattle.tlut_cli.proofs.TextLemmas.{netlist_or_refused, netlist_refused_once, params_or_refused, params_refused_once, script_refused_once}
 
 -- a limit and too much work exclude each other
 limit_or_overworked : (g : Aig) (k : ℕ) (roots : RootsValue) (e : CutErr) → (e ≡ cut_limit.Memory → ⊥) → IsLimit g k e → IsOverworked g k roots → ⊥
@@ -43,12 +38,6 @@ refusal_of cut_limit.Memory = Work
 
 -- a graph is refused for one reason
 unchosen_once : (g : Aig) (k : ℕ) (roots : RootsValue) (r s : Refusal) → IsUnchosen g k roots r → IsUnchosen g k roots s → r ≡ s
-unchosen_once g k roots TooLong s a b = absurd a
-unchosen_once g k roots (Unbuilt line) s a b = absurd a
-unchosen_once g k roots TooManyNodes s a b = absurd a
-unchosen_once g k roots r TooLong a b = absurd b
-unchosen_once g k roots r (Unbuilt line) a b = absurd b
-unchosen_once g k roots r TooManyNodes a b = absurd b
 unchosen_once g k roots (NodeCuts n) (NodeCuts m) a b = ap (λ e. refusal_of e) (limit_once g k (cut_limit.NodeCuts n) (cut_limit.NodeCuts m) (λ e. cc) (λ e. cc) a b)
 unchosen_once g k roots (NodeCuts n) (TotalCuts m) a b = ap (λ e. refusal_of e) (limit_once g k (cut_limit.NodeCuts n) (cut_limit.TotalCuts m) (λ e. cc) (λ e. cc) a b)
 unchosen_once g k roots (TotalCuts n) (NodeCuts m) a b = ap (λ e. refusal_of e) (limit_once g k (cut_limit.TotalCuts n) (cut_limit.NodeCuts m) (λ e. cc) (λ e. cc) a b)
@@ -58,6 +47,10 @@ unchosen_once g k roots (TotalCuts n) Work a b = absurd (limit_or_overworked g k
 unchosen_once g k roots Work (NodeCuts m) a b = absurd (limit_or_overworked g k roots (cut_limit.NodeCuts m) (λ e. cc) b a)
 unchosen_once g k roots Work (TotalCuts m) a b = absurd (limit_or_overworked g k roots (cut_limit.TotalCuts m) (λ e. cc) b a)
 unchosen_once g k roots Work Work a b = refl
+unchosen_once g k roots (NodeCuts n) other a b = absurd b
+unchosen_once g k roots (TotalCuts n) other a b = absurd b
+unchosen_once g k roots Work other a b = absurd b
+unchosen_once g k roots other s a b = absurd a
 
 -- and so is a netlist
 unmapped_once : (n : NetlistValue) (k : ℕ) (r s : Refusal) → IsUnmapped n k r → IsUnmapped n k s → r ≡ s
@@ -70,18 +63,15 @@ unmapped_once n k r s (unchosen few u) (unchosen again v) = unchosen_once (graph
 netlist_short : (files : Files) (job : JobWords) (n : NetlistValue) → HasNetlist files job n → IsOverlong files job file.Netlist → ⊥
 netlist_short files job n has long = short_or_long files job file.Netlist has.text has.there long
 
--- the list is empty or it isn't
-empty_or_not : (files : Files) (job : JobWords) (b : ℕ) (text : List ℕ) → HasNoParams files job → HasText files job file.Params (b ∷ text) → ⊥
-empty_or_not files job b text none there = differ (text_once files job file.Params [] (b ∷ text) none.there there)
-  where
-    differ : [] ≡ b ∷ text → ⊥
-    differ k = cc
+-- the list is read or refused
+params_or_not : (files : Files) (job : JobWords) (text : List ℕ) (r : Refusal) → HasNoParams files job → HasText files job file.Params text → ParamsRefusal text r → ⊥
+params_or_not files job text r none there refused =
+    params_or_refused text r (subst (λ ts. IsParamsText ts) (text_once files job file.Params none.text text none.there there) none.is) refused
 
--- the netlist is read or it isn't
-read_or_not : (files : Files) (job : JobWords) (n : NetlistValue) (text : List ℕ) (line : ℕ) → HasNetlist files job n → HasText files job file.Netlist text → netlist_of text ≡ Err line → ⊥
-read_or_not files job n text line has there err =
-    let same : has.text ≡ text = text_once files job file.Netlist has.text text has.there there in
-    ok_or_err (netlist_of text) n line (ap (λ ts. netlist_of ts) (sym same) ∙ has.denotes) err
+-- the netlist is read or refused
+read_or_not : (files : Files) (job : JobWords) (n : NetlistValue) (text : List ℕ) (r : Refusal) → HasNetlist files job n → HasText files job file.Netlist text → NetlistRefusal text r → ⊥
+read_or_not files job n text r has there refused =
+    netlist_or_refused text n r (subst (λ ts. IsNetlistText ts n) (text_once files job file.Netlist has.text text has.there there) has.is) refused
 
 -- the walk comes past the mapping or it doesn't
 mapped_or_not : (files : Files) (job : JobWords) (n m : NetlistValue) (r : Refusal) → Passes files job n → HasNetlist files job m → IsUnmapped m job.k r → ⊥
@@ -91,49 +81,48 @@ mapped_or_not files job n m r passes has u =
 -- where a file that the walk reaches is too long, there is no other refusal
 overlong_clash : (files : Files) (job : JobWords) (f e : File) (s : Refusal) → Reaches files job f → IsOverlong files job f → IsRefused files job e s → s ≡ TooLong
 overlong_clash files job f e s reach long (overlong again other is) = is
-overlong_clash files job file.Netlist e s reach long (netlist at text line there err is) = absurd (short_or_long files job file.Netlist text there long)
-overlong_clash files job file.Netlist e s reach long (params at again b text there is) = absurd (netlist_short_at e at again)
+overlong_clash files job file.Netlist e s reach long (netlist at text there refused) = absurd (short_or_long files job file.Netlist text there long)
+overlong_clash files job file.Netlist e s reach long (params at again text there refused) = absurd (netlist_short_at e at again)
   where
     netlist_short_at : (x : File) → x ≡ file.Params → Reaches files job file.Params → ⊥
     netlist_short_at x y h = netlist_short files job h.0 h.1 long
 overlong_clash files job file.Netlist e s reach long (mapping at n has none u) = absurd (netlist_short files job n has long)
-overlong_clash files job file.Netlist e s reach long (script at n text line passes there err is) = absurd (netlist_short files job n passes.netlist long)
-overlong_clash files job file.Params e s reach long (netlist at text line there err is) = absurd (read_or_not files job reach.0 text line reach.1 there err)
-overlong_clash files job file.Params e s reach long (params at again b text there is) = absurd (short_or_long files job file.Params (b ∷ text) there long)
-overlong_clash files job file.Params e s reach long (mapping at n has none u) = absurd (short_or_long files job file.Params [] none.there long)
-overlong_clash files job file.Params e s reach long (script at n text line passes there err is) = absurd (short_or_long files job file.Params [] passes.params.there long)
-overlong_clash files job file.Script e s reach long (netlist at text line there err is) = absurd (read_or_not files job reach.0 text line reach.1.netlist there err)
-overlong_clash files job file.Script e s reach long (params at again b text there is) = absurd (empty_or_not files job b text reach.1.params there)
+overlong_clash files job file.Netlist e s reach long (script at n text passes there refused) = absurd (netlist_short files job n passes.netlist long)
+overlong_clash files job file.Params e s reach long (netlist at text there refused) = absurd (read_or_not files job reach.0 text s reach.1 there refused)
+overlong_clash files job file.Params e s reach long (params at again text there refused) = absurd (short_or_long files job file.Params text there long)
+overlong_clash files job file.Params e s reach long (mapping at n has none u) = absurd (short_or_long files job file.Params none.text none.there long)
+overlong_clash files job file.Params e s reach long (script at n text passes there refused) = absurd (short_or_long files job file.Params passes.params.text passes.params.there long)
+overlong_clash files job file.Script e s reach long (netlist at text there refused) = absurd (read_or_not files job reach.0 text s reach.1.netlist there refused)
+overlong_clash files job file.Script e s reach long (params at again text there refused) = absurd (params_or_not files job text s reach.1.params there refused)
 overlong_clash files job file.Script e s reach long (mapping at n has none u) = absurd (mapped_or_not files job reach.0 n s reach.1 has u)
-overlong_clash files job file.Script e s reach long (script at n text line passes there err is) = absurd (short_or_long files job file.Script text there long)
+overlong_clash files job file.Script e s reach long (script at n text passes there refused) = absurd (short_or_long files job file.Script text there long)
 
 -- A job is refused for one reason.
 pub refused_once : (files : Files) (job : JobWords) (f e : File) (r s : Refusal) → IsRefused files job f r → IsRefused files job e s → r ≡ s
 refused_once files job f e r s (overlong reach long is) other = is ∙ sym (overlong_clash files job f e s reach long other)
 refused_once files job f e r s one (overlong reach long is) = overlong_clash files job e f r reach long one ∙ sym is
-refused_once files job f e r s (netlist at text line there err is) (netlist at2 text2 line2 there2 err2 is2) =
-    let same : text ≡ text2 = text_once files job file.Netlist text text2 there there2 in
-    is ∙ (ap (λ n. Unbuilt n) (err_once (netlist_of text) line line2 err (ap (λ ts. netlist_of ts) same ∙ err2)) ∙ sym is2)
-refused_once files job f e r s (netlist at text line there err is) (params at2 reach b text2 there2 is2) = absurd (read_or_not files job reach.0 text line reach.1 there err)
-refused_once files job f e r s (netlist at text line there err is) (mapping at2 n has none u) = absurd (read_or_not files job n text line has there err)
-refused_once files job f e r s (netlist at text line there err is) (script at2 n text2 line2 passes there2 err2 is2) = absurd (read_or_not files job n text line passes.netlist there err)
-refused_once files job f e r s (params at reach b text there is) (netlist at2 text2 line2 there2 err2 is2) = absurd (read_or_not files job reach.0 text2 line2 reach.1 there2 err2)
-refused_once files job f e r s (params at reach b text there is) (params at2 reach2 b2 text2 there2 is2) = is ∙ sym is2
-refused_once files job f e r s (params at reach b text there is) (mapping at2 n has none u) = absurd (empty_or_not files job b text none there)
-refused_once files job f e r s (params at reach b text there is) (script at2 n text2 line2 passes there2 err2 is2) = absurd (empty_or_not files job b text passes.params there)
-refused_once files job f e r s (mapping at n has none u) (netlist at2 text2 line2 there2 err2 is2) = absurd (read_or_not files job n text2 line2 has there2 err2)
-refused_once files job f e r s (mapping at n has none u) (params at2 reach b text there is2) = absurd (empty_or_not files job b text none there)
+refused_once files job f e r s (netlist at text there refused) (netlist at2 text2 there2 refused2) =
+    netlist_refused_once text2 r s (subst (λ ts. NetlistRefusal ts r) (text_once files job file.Netlist text text2 there there2) refused) refused2
+refused_once files job f e r s (netlist at text there refused) (params at2 reach text2 there2 refused2) = absurd (read_or_not files job reach.0 text r reach.1 there refused)
+refused_once files job f e r s (netlist at text there refused) (mapping at2 n has none u) = absurd (read_or_not files job n text r has there refused)
+refused_once files job f e r s (netlist at text there refused) (script at2 n text2 passes there2 refused2) = absurd (read_or_not files job n text r passes.netlist there refused)
+refused_once files job f e r s (params at reach text there refused) (netlist at2 text2 there2 refused2) = absurd (read_or_not files job reach.0 text2 s reach.1 there2 refused2)
+refused_once files job f e r s (params at reach text there refused) (params at2 reach2 text2 there2 refused2) =
+    params_refused_once text2 r s (subst (λ ts. ParamsRefusal ts r) (text_once files job file.Params text text2 there there2) refused) refused2
+refused_once files job f e r s (params at reach text there refused) (mapping at2 n has none u) = absurd (params_or_not files job text r none there refused)
+refused_once files job f e r s (params at reach text there refused) (script at2 n text2 passes there2 refused2) = absurd (params_or_not files job text r passes.params there refused)
+refused_once files job f e r s (mapping at n has none u) (netlist at2 text2 there2 refused2) = absurd (read_or_not files job n text2 s has there2 refused2)
+refused_once files job f e r s (mapping at n has none u) (params at2 reach text there refused2) = absurd (params_or_not files job text s none there refused2)
 refused_once files job f e r s (mapping at n has none u) (mapping at2 m has2 none2 v) =
     unmapped_once m job.k r s (subst (λ (x : NetlistValue). IsUnmapped x job.k r) (netlist_once files job n m has has2) u) v
-refused_once files job f e r s (mapping at n has none u) (script at2 m text line passes there err is2) = absurd (mapped_or_not files job m n r passes has u)
-refused_once files job f e r s (script at n text line passes there err is) (netlist at2 text2 line2 there2 err2 is2) = absurd (read_or_not files job n text2 line2 passes.netlist there2 err2)
-refused_once files job f e r s (script at n text line passes there err is) (params at2 reach b text2 there2 is2) = absurd (empty_or_not files job b text2 passes.params there2)
-refused_once files job f e r s (script at n text line passes there err is) (mapping at2 m has none u) = absurd (mapped_or_not files job n m s passes has u)
-refused_once files job f e r s (script at n text line passes there err is) (script at2 m text2 line2 passes2 there2 err2 is2) =
+refused_once files job f e r s (mapping at n has none u) (script at2 m text passes there refused2) = absurd (mapped_or_not files job m n r passes has u)
+refused_once files job f e r s (script at n text passes there refused) (netlist at2 text2 there2 refused2) = absurd (read_or_not files job n text2 s passes.netlist there2 refused2)
+refused_once files job f e r s (script at n text passes there refused) (params at2 reach text2 there2 refused2) = absurd (params_or_not files job text2 s passes.params there2 refused2)
+refused_once files job f e r s (script at n text passes there refused) (mapping at2 m has none u) = absurd (mapped_or_not files job n m s passes has u)
+refused_once files job f e r s (script at n text passes there refused) (script at2 m text2 passes2 there2 refused2) =
     let same : text ≡ text2 = text_once files job file.Script text text2 there there2 in
     let one : n ≡ m = netlist_once files job n m passes.netlist passes2.netlist in
-    let again : script_of (length n.inputs) text ≡ Err line2 = ap (λ ts. script_of (length n.inputs) ts) same ∙ (ap (λ (i : NetlistValue). script_of (length i.inputs) text2) one ∙ err2) in
-    is ∙ (ap (λ x. Unbuilt x) (err_once (script_of (length n.inputs) text) line line2 err again) ∙ sym is2)
+    script_refused_once (length m.inputs) text2 r s (subst (λ (i : NetlistValue). ScriptRefusal (length i.inputs) text2 r) one (subst (λ ts. ScriptRefusal (length n.inputs) ts r) same refused)) refused2
 
 -- So the refusal is answered where no read fails and memory suffices.
 pub refused_answered : (words : List (List ℕ)) (old new : ShelfSeen) (before after : Option (List ℕ)) (o : Outcome) (s : Status) → s ≡ status_of o → IsEnd words old new before after o → IsAnswered words old new s

@@ -7,7 +7,7 @@ use Rattle.tlut_cli.specs.Verdict.{Job, IsAccepted, IsRefused, Reaches}
 use Rattle.tlut_cli.specs.JobText.{AreLines, GrewByAll, GrewByPart}
 use Rattle.tlut_cli.specs.declared.outcome.File.{File}
 use Rattle.tlut_cli.specs.declared.outcome.Refusal.{Refusal}
-use Rattle.tlut_cli.specs.declared.outcome.Refusal.TheVariants.{TooLong, Unbuilt, TooManyNodes, NodeCuts, TotalCuts, Work}
+use Rattle.tlut_cli.specs.declared.outcome.Refusal.TheVariants.{TooLong}
 use Rattle.tlut_cli.specs.declared.outcome.Outcome.{Outcome}
 use Rattle.tlut_cli.specs.declared.outcome.Outcome.TheVariants as outcome
 
@@ -24,11 +24,7 @@ Told told P = (files : Files) → told ≡ Some files → P files
 -- how many bytes of the file were given: more than the limit exactly where it is too long
 abbrev pub GivenAt : Refusal → ℕ → Type 0
 GivenAt TooLong given = 67108864 < given
-GivenAt (Unbuilt line) given = given ≤ 67108864
-GivenAt TooManyNodes given = given ≤ 67108864
-GivenAt (NodeCuts node) given = given ≤ 67108864
-GivenAt (TotalCuts node) given = given ≤ 67108864
-GivenAt Work given = given ≤ 67108864
+GivenAt other given = given ≤ 67108864
 
 -- a file is refused
 pub record IsRefusedAt (job : JobWords) (old new : ShelfSeen) (file : File) (refusal : Refusal) : Type 0 where

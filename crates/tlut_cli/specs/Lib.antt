@@ -1,5 +1,6 @@
 pub mod Netlist
-pub mod ThinText
+pub mod Built
+pub mod Texts
 pub mod NetlistGraph
 pub mod Script
 pub mod Words
@@ -9,6 +10,7 @@ pub mod JobText
 pub mod FaultLine
 pub mod Statuses
 pub mod WordsSeen
+pub mod StopIs
 pub mod Stops
 pub mod Source
 pub mod Circuit

@@ -12,7 +12,7 @@ use Rattle.cover_pick.specs.Work.{work_of}
 use Rattle.tlut_cli.specs.Netlist.{NetlistValue}
 use Rattle.tlut_cli.specs.NetlistGraph.{graph_of, netlist_roots}
 use Rattle.tlut_cli.specs.declared.outcome.Refusal.{Refusal}
-use Rattle.tlut_cli.specs.declared.outcome.Refusal.TheVariants.{TooLong, Unbuilt, TooManyNodes, NodeCuts, TotalCuts, Work}
+use Rattle.tlut_cli.specs.declared.outcome.Refusal.TheVariants.{TooManyNodes, NodeCuts, TotalCuts, Work}
 
 -- the minimal cuts of all nodes of a graph and their labels, within the limits
 pub record IsLabelled (g : Aig) (k : ℕ) (rows : List (List (List ℕ))) (labels : LabelsValue) : Type 0 where
@@ -39,12 +39,10 @@ pub record IsOverworked (g : Aig) (k : ℕ) (roots : RootsValue) : Type 0 where
 
 -- what a graph is refused for when it is mapped
 abbrev pub IsUnchosen : Aig → ℕ → RootsValue → Refusal → Type 0
-IsUnchosen g k roots TooLong = ⊥
-IsUnchosen g k roots (Unbuilt line) = ⊥
-IsUnchosen g k roots TooManyNodes = ⊥
 IsUnchosen g k roots (NodeCuts node) = IsLimit g k (cut_limit.NodeCuts node)
 IsUnchosen g k roots (TotalCuts node) = IsLimit g k (cut_limit.TotalCuts node)
 IsUnchosen g k roots Work = IsOverworked g k roots
+IsUnchosen g k roots other = ⊥
 
 -- the chosen template of a netlist: its graph has at most 131,072 AND nodes
 pub record IsMapped (n : NetlistValue) (k : ℕ) (t : TemplateValue) : Type 0 where

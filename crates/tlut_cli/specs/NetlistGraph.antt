@@ -11,7 +11,7 @@ use Rattle.aig_core.specs.And.{Answer, with_pairs}
 use Rattle.aig_core.specs.Roots.{RootsValue}
 use Rattle.aig_build.specs.CoverGraph.{cover_of}
 use Rattle.tlut_cli.specs.Netlist.{NetlistValue}
-use Rattle.tlut_cli.specs.ThinText.{is_driven}
+use Rattle.tlut_cli.specs.Built.{is_driven}
 
 -- the sources alone
 abbrev pub sources_of : NetlistValue → Aig

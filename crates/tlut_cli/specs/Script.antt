@@ -1,40 +1,38 @@
 -- The scripts that are read so far: a `cycle` line a clock cycle, with the inputs' values.
-use Rattle.std.specs.Prelude.{ℕ, ◌+◌, Bool, true, false, ◌==◌, if◌then◌else◌, List, [], ◌∷◌, ◌++◌, length, codes, bytes_eq, Option, Some, None, Result, Ok, Err, is_some}
-use Rattle.std.specs.Option.{option_and_then}
-use Rattle.tlut_cli.specs.ThinText.{tokens_of, lines_of}
+use Rattle.std.specs.Prelude.{ℕ, Bool, true, false, ◌==◌, if◌then◌else◌, List, [], ◌∷◌, length, codes, bytes_eq, Option, Some, None, Result, Ok, Err}
+use Rattle.tl_text.specs.LineValue.{WordsLine}
 
--- the value that a byte writes
+-- the value that a character is
 abbrev pub bit_of : ℕ → Option Bool
 bit_of b = if b == 48 then Some false else if b == 49 then Some true else None
 
--- the values that some bytes write, behind others
-abbrev pub bits_onto : List Bool → List ℕ → Option (List Bool)
-bits_onto done [] = Some done
-bits_onto done (b ∷ bs) = option_and_then (λ v. bits_onto (done ++ v ∷ []) bs) (bit_of b)
+abbrev pub put_bit : Option Bool → Option (List Bool) → Option (List Bool)
+put_bit (Some bit) (Some bits) = Some (bit ∷ bits)
+put_bit (Some bit) None = None
+put_bit None bits = None
+
+abbrev pub bits_of : List ℕ → Option (List Bool)
+bits_of [] = Some []
+bits_of (b ∷ bs) = put_bit (bit_of b) (bits_of bs)
 
 -- the inputs' values of a token: one character for each, or `-` where there are none
 abbrev pub vector_of : ℕ → List ℕ → Option (List Bool)
 vector_of width token =
     if width == 0 then (if bytes_eq token (codes "-") then Some [] else None)
-    else if length token == width then bits_onto [] token
+    else if length token == width then bits_of token
     else None
 
 -- the inputs' values of a `cycle` line
 abbrev pub cycle_of : ℕ → List (List ℕ) → Option (List Bool)
 cycle_of width (word ∷ token ∷ []) = if bytes_eq word (codes "cycle") then vector_of width token else None
-cycle_of width tokens = None
+cycle_of width words = None
 
-abbrev pub or_none : Option (List Bool) → List Bool
-or_none None = []
-or_none (Some v) = v
+abbrev pub put_vector : ℕ → Option (List Bool) → Result (List (List Bool)) ℕ → Result (List (List Bool)) ℕ
+put_vector number (Some vector) (Ok vectors) = Ok (vector ∷ vectors)
+put_vector number (Some vector) (Err line) = Err line
+put_vector number None rest = Err number
 
--- the vectors of some lines behind others, or the number of the first line that is no cycle
-abbrev pub vectors_onto : ℕ → ℕ → List (List Bool) → List (List ℕ) → Result (List (List Bool)) ℕ
-vectors_onto width number done [] = Ok done
-vectors_onto width number done (line ∷ lines) =
-    if is_some (cycle_of width (tokens_of line)) then vectors_onto width (number + 1) (done ++ or_none (cycle_of width (tokens_of line)) ∷ []) lines
-    else Err number
-
--- the vectors of a script for this many inputs, or the first line that doesn't fit
-abbrev pub script_of : ℕ → List ℕ → Result (List (List Bool)) ℕ
-script_of width text = vectors_onto width 1 [] (lines_of text)
+-- the vectors of logical lines for this many inputs, or the number of the first line that is no cycle
+abbrev pub vectors_of : ℕ → List WordsLine → Result (List (List Bool)) ℕ
+vectors_of width [] = Ok []
+vectors_of width (line ∷ lines) = put_vector line.number (cycle_of width line.words) (vectors_of width lines)

@@ -7,14 +7,14 @@ use Rattle.tlut_cli.specs.Mapped.{IsUnchosen, IsUnmapped}
 use Rattle.tlut_cli.specs.declared.outcome.File.TheVariants.{Netlist, Params, Script}
 use Rattle.tlut_cli.specs.declared.outcome.Outcome.{Outcome}
 use Rattle.tlut_cli.specs.declared.outcome.Outcome.TheVariants as outcome
-use Rattle.tlut_cli.specs.declared.circuit.MapErr.{MapErr}
-use Rattle.tlut_cli.specs.declared.circuit.MapErr.TheVariants.{Refused, Memory}
+use Rattle.tlut_cli.specs.declared.stop.Stop.{Stop}
+use Rattle.tlut_cli.specs.declared.stop.Stop.TheVariants.{Refused, Memory}
 
-abbrev pub IsUnbuiltGraph : Aig → ℕ → RootsValue → MapErr → Type 0
+abbrev pub IsUnbuiltGraph : Aig → ℕ → RootsValue → Stop → Type 0
 IsUnbuiltGraph g k roots (Refused refusal) = IsUnchosen g k roots refusal
 IsUnbuiltGraph g k roots Memory = Unit {0}
 
-abbrev pub Unmaps : NetlistValue → ℕ → MapErr → Type 0
+abbrev pub Unmaps : NetlistValue → ℕ → Stop → Type 0
 Unmaps n k (Refused refusal) = IsUnmapped n k refusal
 Unmaps n k Memory = Unit {0}
 

@@ -1,17 +1,16 @@
 -- The verdict on a job's words and files, in the order of work: the first refusal, or the accepted job.
-use Rattle.std.specs.Prelude.{◌≡◌, ℕ, ◌<◌, ◌≤◌, Bool, List, [], ◌∷◌, length, Ok, Err, Some}
+use Rattle.std.specs.Prelude.{◌≡◌, ℕ, ◌<◌, ◌≤◌, Bool, List, length, Some}
 use Rattle.std.specs.FinMap.{get}
 use Rattle.tl_io.specs.Shelf.{Files}
 use Rattle.cover_pick.specs.Template.{TemplateValue}
 use Rattle.tlut_cli.specs.Netlist.{NetlistValue}
-use Rattle.tlut_cli.specs.ThinText.{netlist_of}
-use Rattle.tlut_cli.specs.Script.{script_of}
+use Rattle.tlut_cli.specs.Texts.{IsNetlistText, NetlistRefusal, IsParamsText, ParamsRefusal, IsScriptText, ScriptRefusal}
 use Rattle.tlut_cli.specs.Words.{JobWords, file_word}
 use Rattle.tlut_cli.specs.Mapped.{IsMapped, IsUnmapped}
 use Rattle.tlut_cli.specs.declared.outcome.File.{File}
 use Rattle.tlut_cli.specs.declared.outcome.File.TheVariants.{Netlist, Params, Script}
 use Rattle.tlut_cli.specs.declared.outcome.Refusal.{Refusal}
-use Rattle.tlut_cli.specs.declared.outcome.Refusal.TheVariants.{TooLong, Unbuilt}
+use Rattle.tlut_cli.specs.declared.outcome.Refusal.TheVariants.{TooLong}
 
 -- a file of the job is there and short enough, with this text
 pub record HasText (files : Files) (job : JobWords) (file : File) (text : List ℕ) : Type 0 where
@@ -28,17 +27,19 @@ pub record IsOverlong (files : Files) (job : JobWords) (file : File) : Type 0 wh
 pub record HasNetlist (files : Files) (job : JobWords) (n : NetlistValue) : Type 0 where
   pub text : List ℕ
   pub there : HasText files job Netlist text
-  pub denotes : netlist_of text ≡ Ok n
+  pub is : IsNetlistText text n
 
 -- the parameter list is empty
 pub record HasNoParams (files : Files) (job : JobWords) : Type 0 where
-  pub there : HasText files job Params []
+  pub text : List ℕ
+  pub there : HasText files job Params text
+  pub is : IsParamsText text
 
 -- the vectors of the script
 pub record HasScript (files : Files) (job : JobWords) (width : ℕ) (vectors : List (List Bool)) : Type 0 where
   pub text : List ℕ
   pub there : HasText files job Script text
-  pub denotes : script_of width text ≡ Ok vectors
+  pub is : IsScriptText width text vectors
 
 -- the walk comes past the netlist, the list and the mapping
 pub record Passes (files : Files) (job : JobWords) (n : NetlistValue) : Type 0 where
@@ -68,7 +69,7 @@ pub record IsAccepted (files : Files) (words : JobWords) (job : Job) : Type 0 wh
 -- the first refusal of the walk, at a file
 pub data IsRefused (files : Files) (job : JobWords) (file : File) (refusal : Refusal) : Type 0 where
   overlong : Reaches files job file → IsOverlong files job file → refusal ≡ TooLong → IsRefused files job file refusal
-  netlist : file ≡ Netlist → (text : List ℕ) (line : ℕ) → HasText files job Netlist text → netlist_of text ≡ Err line → refusal ≡ Unbuilt line → IsRefused files job file refusal
-  params : file ≡ Params → Reaches files job Params → (b : ℕ) (text : List ℕ) → HasText files job Params (b ∷ text) → refusal ≡ Unbuilt 1 → IsRefused files job file refusal
+  netlist : file ≡ Netlist → (text : List ℕ) → HasText files job Netlist text → NetlistRefusal text refusal → IsRefused files job file refusal
+  params : file ≡ Params → Reaches files job Params → (text : List ℕ) → HasText files job Params text → ParamsRefusal text refusal → IsRefused files job file refusal
   mapping : file ≡ Netlist → (n : NetlistValue) → HasNetlist files job n → HasNoParams files job → IsUnmapped n job.k refusal → IsRefused files job file refusal
-  script : file ≡ Script → (n : NetlistValue) (text : List ℕ) (line : ℕ) → Passes files job n → HasText files job Script text → script_of (length n.inputs) text ≡ Err line → refusal ≡ Unbuilt line → IsRefused files job file refusal
+  script : file ≡ Script → (n : NetlistValue) (text : List ℕ) → Passes files job n → HasText files job Script text → ScriptRefusal (length n.inputs) text refusal → IsRefused files job file refusal

@@ -51,12 +51,12 @@ fn run<S: Shelf, O: Sink>(alloc: Global, words: &[String], shelf: &mut S, out: &
 }
 
 // The file that a fault line tells.
-fn told_file(outcome: Outcome) -> Option<File>
-    ensures { result ≡ fault_file outcome }
+fn told_file(outcome: &Outcome) -> Option<File>
+    ensures { result ≡ fault_file outcome.now }
 {
     match outcome {
-        Outcome::Refused(file, _) => Some(file),
-        Outcome::ReadFault(file) => Some(file),
+        Outcome::Refused(file, _) => Some(*file),
+        Outcome::ReadFault(file) => Some(*file),
         Outcome::Done => None,
         Outcome::Usage => None,
         Outcome::WriteFault => None,
@@ -76,8 +76,8 @@ fn told_word(words: &[String], file: File) -> &str
 }
 
 // The word that a fault line tells.
-fn fault_name(words: &[String], outcome: Outcome) -> &str
-    ensures { result.now ≡ fault_word (map string_bytes words.now) outcome }
+fn fault_name<'a>(words: &'a [String], outcome: &Outcome) -> &'a str
+    ensures { result.now ≡ fault_word (map string_bytes words.now) outcome.now }
 {
     match told_file(outcome) {
         None => "",
@@ -136,6 +136,6 @@ pub fn tlut<S: Shelf, O: Sink, E: Sink>(
 {
     let _ports = ports;
     let outcome = run(alloc, words, shelf, out);
-    report(err, fault_name(words, outcome).as_bytes(), outcome);
+    report(err, fault_name(words, &outcome).as_bytes(), &outcome);
     outcome.status()
 }

@@ -17,6 +17,7 @@ ghost use Rattle.tlut_cli.specs.JobText.{PutsLines};
 use crate::netlist::Netlist;
 use crate::outcome::Refusal;
 use crate::script::Vector;
+use crate::stop::Stop;
 use aig_build::make_cover;
 use aig_core::{AigErr, Graph, Kind, Lit, Roots};
 use bit_fun::configuration;
@@ -25,7 +26,7 @@ use cut_enum::{CutErr, enumerate};
 use depth_label::labels;
 use lut_sim::{Shape, Sim};
 use run_text::{LineBuf, put_cycle, put_header};
-use std::alloc::{AllocError, AllocFailed, Global};
+use std::alloc::{AllocError, Global};
 use tl_io::{Failed, Sink};
 use tl_text::{Name, NameIndex};
 
@@ -38,35 +39,6 @@ pub struct Circuit {
     pub depth: u32,
     pub config: Vec<bool>,
     pub sim: Sim,
-}
-
-/// Why a netlist isn't mapped.
-#[derive(Clone, Copy, Debug, PartialEq, Eq)]
-pub enum MapErr {
-    Refused(Refusal),
-    Memory,
-}
-
-impl<T: Drop> From<AllocFailed<T>> for MapErr {
-    ghost use Rattle.std.specs.Prelude.{◌≡◌};
-    ghost use Rattle.tlut_cli.specs.declared.circuit.MapErr.TheVariants.{Memory};
-
-    ghost from_gives = { λ _ e. e ≡ Memory };
-
-    fn from(_: AllocFailed<T>) -> MapErr {
-        MapErr::Memory
-    }
-}
-
-impl From<AllocError> for MapErr {
-    ghost use Rattle.std.specs.Prelude.{◌≡◌};
-    ghost use Rattle.tlut_cli.specs.declared.circuit.MapErr.TheVariants.{Memory};
-
-    ghost from_gives = { λ _ e. e ≡ Memory };
-
-    fn from(_: AllocError) -> MapErr {
-        MapErr::Memory
-    }
 }
 
 // The literal of an input.
@@ -162,7 +134,7 @@ fn make_roots(alloc: Global, netlist: &Netlist, lit: Lit) -> Result<Roots, Alloc
 }
 
 // The chosen template of a graph.
-fn choose(alloc: Global, graph: &Graph, roots: &Roots, k: u8) -> Result<Template, MapErr>
+fn choose(alloc: Global, graph: &Graph, roots: &Roots, k: u8) -> Result<Template, Stop>
     requires least { 2 ≤ k }
     requires most { k ≤ 6 }
     requires roots { AreRoots graph.now (roots_of roots.now) }
@@ -171,18 +143,18 @@ fn choose(alloc: Global, graph: &Graph, roots: &Roots, k: u8) -> Result<Template
 {
     let table = match enumerate(alloc, graph, k) {
         Ok(table) => table,
-        Err(CutErr::NodeCuts(node)) => return Err(MapErr::Refused(Refusal::NodeCuts(node))),
-        Err(CutErr::TotalCuts(node)) => return Err(MapErr::Refused(Refusal::TotalCuts(node))),
-        Err(CutErr::Memory) => return Err(MapErr::Memory),
+        Err(CutErr::NodeCuts(node)) => return Err(Stop::Refused(Refusal::NodeCuts(node))),
+        Err(CutErr::TotalCuts(node)) => return Err(Stop::Refused(Refusal::TotalCuts(node))),
+        Err(CutErr::Memory) => return Err(Stop::Memory),
     };
     let labels = match labels(alloc, graph, &table) {
         Ok(labels) => labels,
-        Err(_) => return Err(MapErr::Memory),
+        Err(_) => return Err(Stop::Memory),
     };
     match pick(alloc, graph, roots, &table, &labels) {
         Ok(template) => Ok(template),
-        Err(PickErr::Work) => Err(MapErr::Refused(Refusal::Work)),
-        Err(PickErr::Memory) => Err(MapErr::Memory),
+        Err(PickErr::Work) => Err(Stop::Refused(Refusal::Work)),
+        Err(PickErr::Memory) => Err(Stop::Memory),
     }
 }
 
@@ -234,7 +206,7 @@ fn assemble(
 ///
 /// # Errors
 /// `Refused` for the first limit that the netlist's graph is over; `Memory` where there is none.
-pub fn map_netlist(alloc: Global, netlist: Netlist, k: u8) -> Result<Circuit, MapErr>
+pub fn map_netlist(alloc: Global, netlist: Netlist, k: u8) -> Result<Circuit, Stop>
     requires least { 2 ≤ k }
     requires most { k ≤ 6 }
     requires netlist { IsWellFormed netlist }
@@ -244,8 +216,8 @@ pub fn map_netlist(alloc: Global, netlist: Netlist, k: u8) -> Result<Circuit, Ma
     let graph = source_graph(alloc, &netlist)?;
     let (graph, lit) = match add_cover(alloc, graph, &netlist) {
         Ok(made) => made,
-        Err(AigErr::Full) => return Err(MapErr::Refused(Refusal::TooManyNodes)),
-        Err(AigErr::Memory) => return Err(MapErr::Memory),
+        Err(AigErr::Full) => return Err(Stop::Refused(Refusal::TooManyNodes)),
+        Err(AigErr::Memory) => return Err(Stop::Memory),
     };
     let roots = make_roots(alloc, &netlist, lit)?;
     let template = match choose(alloc, &graph, &roots, k) {
@@ -254,7 +226,7 @@ pub fn map_netlist(alloc: Global, netlist: Netlist, k: u8) -> Result<Circuit, Ma
     };
     match assemble(alloc, netlist, &graph, template) {
         Ok(circuit) => Ok(circuit),
-        Err(_) => Err(MapErr::Memory),
+        Err(_) => Err(Stop::Memory),
     }
 }
 

@@ -3,7 +3,7 @@ ghost use Rattle.std.specs.Prelude.{◌≡◌, ◌≤◌, ℕ, List, map};
 ghost use Rattle.std.specs.List.{concat};
 ghost use Rattle.tl_io.specs.Causes.{HasCause, Rose};
 ghost use Rattle.tl_io.specs.Content.{Puts};
-ghost use Rattle.tlut_cli.specs.FaultLine.{Reports, line_of, refusal_line, numbered_line};
+ghost use Rattle.tlut_cli.specs.FaultLine.{Reports, line_of, refusal_line, plain_line, numbered_line, named_line};
 
 use crate::outcome::{Outcome, Refusal};
 use itoa::Buffer;
@@ -20,6 +20,14 @@ fn put_all<S: Sink>(sink: &mut S, pieces: &[&[u8]]) -> Result<(), Failed>
     Ok(())
 }
 
+// Puts a line of a file's name and a word.
+fn put_plain<E: Sink>(err: &mut E, name: &[u8], word: &[u8]) -> Result<(), Failed>
+    ensures cause { HasCause (E.faults err.old) (E.faults err.new) result }
+    ensures grown { Puts (E.bytes err.old) (E.bytes err.new) (plain_line name.now word.now) result }
+{
+    put_all(err, &[b"tlut: ", name, word, b"\n"])
+}
+
 // Puts a line of a file's name, a word and a number.
 fn put_numbered<E: Sink>(err: &mut E, name: &[u8], word: &[u8], number: u32) -> Result<(), Failed>
     ensures cause { HasCause (E.faults err.old) (E.faults err.new) result }
@@ -30,25 +38,41 @@ fn put_numbered<E: Sink>(err: &mut E, name: &[u8], word: &[u8], number: u32) -> 
     put_all(err, &[b"tlut: ", name, word, number, b"\n"])
 }
 
-// Puts the line of a refusal in the file of this name.
-fn put_refusal<E: Sink>(err: &mut E, name: &[u8], refusal: Refusal) -> Result<(), Failed>
+// Puts a line of a file's name, a word, a number, and a name in the file.
+fn put_named<'a, E: Sink>(
+    err: &mut E,
+    name: &'a [u8],
+    word: &'a [u8],
+    number: u32,
+    told: &'a [u8],
+) -> Result<(), Failed>
     ensures cause { HasCause (E.faults err.old) (E.faults err.new) result }
-    ensures grown { Puts (E.bytes err.old) (E.bytes err.new) (refusal_line name.now refusal) result }
+    ensures grown { Puts (E.bytes err.old) (E.bytes err.new) (named_line name.now word.now number told.now) result }
 {
-    match refusal {
-        Refusal::TooLong => put_all(err, &[b"tlut: ", name, b": L1 FileTooLong\n"]),
-        Refusal::Unbuilt(line) => put_numbered(err, name, b": X1 Unbuilt line ", line),
-        Refusal::TooManyNodes => put_all(err, &[b"tlut: ", name, b": L3 TooManyNodes\n"]),
-        Refusal::NodeCuts(node) => put_numbered(err, name, b": L4 NodeCuts node ", node),
-        Refusal::TotalCuts(node) => put_numbered(err, name, b": L5 TotalCuts node ", node),
-        Refusal::Work => put_all(err, &[b"tlut: ", name, b": L6 Work\n"]),
+    let mut digits = Buffer::new();
+    let number = digits.format(number).as_bytes();
+    put_all(err, &[b"tlut: ", name, word, number, b" ", told, b"\n"])
+}
+
+// Puts the line of a refusal in the file of this name.
+fn put_refusal<E: Sink>(err: &mut E, name: &[u8], refusal: &Refusal) -> Result<(), Failed>
+    ensures cause { HasCause (E.faults err.old) (E.faults err.new) result }
+    ensures grown { Puts (E.bytes err.old) (E.bytes err.new) (refusal_line name.now refusal.now) result }
+{
+    let word = refusal.word();
+    match refusal.number() {
+        None => put_plain(err, name, word),
+        Some(number) => match refusal.name() {
+            None => put_numbered(err, name, word, number),
+            Some(told) => put_named(err, name, word, number, told.bytes()),
+        },
     }
 }
 
 // Puts the line of an outcome.
-fn put_outcome<E: Sink>(err: &mut E, name: &[u8], outcome: Outcome) -> Result<(), Failed>
+fn put_outcome<E: Sink>(err: &mut E, name: &[u8], outcome: &Outcome) -> Result<(), Failed>
     ensures cause { HasCause (E.faults err.old) (E.faults err.new) result }
-    ensures grown { Puts (E.bytes err.old) (E.bytes err.new) (line_of name.now outcome) result }
+    ensures grown { Puts (E.bytes err.old) (E.bytes err.new) (line_of name.now outcome.now) result }
 {
     match outcome {
         Outcome::Done => put_all(err, &[]),
@@ -59,7 +83,7 @@ fn put_outcome<E: Sink>(err: &mut E, name: &[u8], outcome: Outcome) -> Result<()
             ],
         ),
         Outcome::Refused(_, refusal) => put_refusal(err, name, refusal),
-        Outcome::ReadFault(_) => put_all(err, &[b"tlut: ", name, b": read failed\n"]),
+        Outcome::ReadFault(_) => put_plain(err, name, b": read failed"),
         Outcome::WriteFault => put_all(err, &[b"tlut: write failed\n"]),
         Outcome::PortFault => put_all(err, &[b"tlut: port failed\n"]),
         Outcome::Memory => put_all(err, &[b"tlut: out of memory\n"]),
@@ -68,8 +92,8 @@ fn put_outcome<E: Sink>(err: &mut E, name: &[u8], outcome: Outcome) -> Result<()
 
 /// Puts the fault line of an outcome. A failing sink changes nothing else.
 #[tactic(auto, using(crate::proofs::PutLemmas::reports))]
-pub fn report<E: Sink>(err: &mut E, name: &[u8], outcome: Outcome)
-    ensures reports { Reports (E.faults err.old) (E.faults err.new) (E.bytes err.old) (E.bytes err.new) (line_of name.now outcome) }
+pub fn report<E: Sink>(err: &mut E, name: &[u8], outcome: &Outcome)
+    ensures reports { Reports (E.faults err.old) (E.faults err.new) (E.bytes err.old) (E.bytes err.new) (line_of name.now outcome.now) }
 {
     let _ = put_outcome(err, name, outcome);
 }

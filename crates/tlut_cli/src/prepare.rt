@@ -10,12 +10,13 @@ ghost use Rattle.tlut_cli.specs.Verdict.{HasText, HasNetlist, HasNoParams, HasSc
 ghost use Rattle.tlut_cli.specs.Ends.{Told, Explains};
 ghost use Rattle.tlut_cli.specs.Prepared.{IsReady, IsPreparedFor};
 
-use crate::circuit::{Circuit, MapErr, map_netlist};
+use crate::built::read_netlist;
+use crate::circuit::{Circuit, map_netlist};
 use crate::netlist::Netlist;
 use crate::outcome::{File, Outcome, Refusal};
+use crate::params::read_params;
 use crate::script::{Vector, read_script};
 use crate::stop::Stop;
-use crate::thin_text::read_netlist;
 use crate::words::{Job, file_name};
 use run_text::LineBuf;
 use std::alloc::Global;
@@ -70,7 +71,7 @@ fn read_netlist_file<S: Shelf>(alloc: Global, job: &Job, shelf: &mut S) -> Resul
     };
     match read_netlist(alloc, &text) {
         Ok(netlist) => Ok(netlist),
-        Err(Stop::Unbuilt(line)) => Err(Outcome::Refused(File::Netlist, Refusal::Unbuilt(line))),
+        Err(Stop::Refused(refusal)) => Err(Outcome::Refused(File::Netlist, refusal)),
         Err(Stop::Memory) => Err(Outcome::Memory),
     }
 }
@@ -88,9 +89,10 @@ fn read_params_file<S: Shelf>(alloc: Global, job: &Job, shelf: &mut S) -> Result
         Ok(text) => text,
         Err(outcome) => return Err(outcome),
     };
-    match text.as_slice() {
-        [] => Ok(()),
-        [_, ..] => Err(Outcome::Refused(File::Params, Refusal::Unbuilt(1))),
+    match read_params(alloc, &text) {
+        Ok(()) => Ok(()),
+        Err(Stop::Refused(refusal)) => Err(Outcome::Refused(File::Params, refusal)),
+        Err(Stop::Memory) => Err(Outcome::Memory),
     }
 }
 
@@ -115,7 +117,7 @@ fn read_script_file<S: Shelf>(
     };
     match read_script(alloc, &text, netlist.inputs.len()) {
         Ok(vectors) => Ok(vectors),
-        Err(Stop::Unbuilt(line)) => Err(Outcome::Refused(File::Script, Refusal::Unbuilt(line))),
+        Err(Stop::Refused(refusal)) => Err(Outcome::Refused(File::Script, refusal)),
         Err(Stop::Memory) => Err(Outcome::Memory),
     }
 }
@@ -130,8 +132,8 @@ fn map_job(alloc: Global, job: &Job, netlist: Netlist) -> Result<Circuit, Outcom
 {
     match map_netlist(alloc, netlist, job.k) {
         Ok(circuit) => Ok(circuit),
-        Err(MapErr::Refused(refusal)) => Err(Outcome::Refused(File::Netlist, refusal)),
-        Err(MapErr::Memory) => Err(Outcome::Memory),
+        Err(Stop::Refused(refusal)) => Err(Outcome::Refused(File::Netlist, refusal)),
+        Err(Stop::Memory) => Err(Outcome::Memory),
     }
 }
 

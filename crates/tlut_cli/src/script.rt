@@ -1,16 +1,18 @@
 //! The scripts that are read so far.
-ghost use Rattle.std.specs.Prelude.{◌≡◌, ◌<◌, ◌≤◌, ◌+◌, ◌^◌, length, IfOk, IfErr, Ok, [], ℕ, List, Bool};
-ghost use Rattle.list_words.specs.Members.{In};
+ghost use Rattle.std.specs.Prelude.{◌≡◌, ◌≤◌, length, map, IfOk, IfErr, Ok, List, Bool};
 ghost use Rattle.std.specs.Option.{option_map};
-ghost use Rattle.tlut_cli.specs.Script.{bit_of, bits_onto, vector_of, cycle_of, script_of};
-ghost use Rattle.tlut_cli.specs.ThinText.{tokens_of};
-ghost use Rattle.tlut_cli.specs.Stops.{Stops};
+ghost use Rattle.list_words.specs.Members.{In};
+ghost use Rattle.tl_text.specs.declared.token.Token.{Token as TokenValue};
+ghost use Rattle.tl_text.specs.LineValue.{token_bytes, words_line, IsWithin, IsLineIn, AreLinesIn};
+ghost use Rattle.tlut_cli.specs.Script.{bit_of, bits_of, vector_of, cycle_of, vectors_of};
+ghost use Rattle.tlut_cli.specs.Texts.{IsScriptText};
+ghost use Rattle.tlut_cli.specs.Stops.{StopsAt, StopsScript};
 
-use crate::stop::Stop;
-use crate::thin_text::{lines, tokens};
+use crate::outcome::Refusal;
+use crate::stop::{Stop, text_stop};
 use std::alloc::{AllocError, Global};
 use std::marker::Model;
-use tl_text::Name;
+use tl_text::{Line, Token, lines};
 
 /// The inputs' values of a cycle.
 #[derive(Drop)]
@@ -48,7 +50,7 @@ fn bit(byte: u8) -> Option<bool>
 
 // The values that some bytes write.
 fn bits(alloc: Global, bytes: &[u8]) -> Result<Option<Vec<bool>>, AllocError>
-    ensures { IfOk result (λ bits. option_map (λ v. v.items) bits ≡ bits_onto [] bytes.now) }
+    ensures { IfOk result (λ bits. option_map (λ v. v.items) bits ≡ bits_of bytes.now) }
 {
     let mut done = Vec::new(alloc);
     for byte in bytes {
@@ -77,45 +79,54 @@ fn token_bits(alloc: Global, width: usize, token: &[u8]) -> Result<Option<Vec<bo
 }
 
 // The inputs' values of the tokens of a `cycle` line.
-fn cycle_bits(alloc: Global, width: usize, tokens: &[Name]) -> Result<Option<Vec<bool>>, AllocError>
-    ensures { IfOk result (λ bits. option_map (λ v. v.items) bits ≡ cycle_of width tokens.now) }
+fn cycle_bits(
+    alloc: Global,
+    width: usize,
+    text: &[u8],
+    tokens: &[Token],
+) -> Result<Option<Vec<bool>>, AllocError>
+    requires { (token : TokenValue) → In tokens.now token → IsWithin text.now token }
+    ensures { IfOk result (λ bits. option_map (λ v. v.items) bits ≡ cycle_of width (map (token_bytes text.now) tokens.now)) }
 {
     match tokens {
-        [word, token] if word.bytes() == b"cycle".as_slice() => token_bits(
-            alloc,
-            width,
-            token.bytes(),
-        ),
+        [word, token] => {
+            if word.bytes(text) == b"cycle".as_slice() {
+                return token_bits(alloc, width, token.bytes(text));
+            }
+            Ok(None)
+        }
         _ => Ok(None),
     }
 }
 
 // The inputs' values of a line.
-fn line_vector(alloc: Global, width: usize, line: &Name) -> Result<Option<Vector>, AllocError>
-    ensures { IfOk result (λ v. v ≡ cycle_of width (tokens_of line.now)) }
+fn line_vector(
+    alloc: Global,
+    width: usize,
+    text: &[u8],
+    line: &Line,
+) -> Result<Option<Vector>, AllocError>
+    requires { IsLineIn text.now line.now }
+    ensures { IfOk result (λ v. v ≡ cycle_of width (words_line text.now line.now).words) }
 {
-    let tokens = tokens(alloc, line.bytes())?;
-    match cycle_bits(alloc, width, &tokens)? {
+    match cycle_bits(alloc, width, text, &line.tokens)? {
         None => Ok(None),
         Some(bits) => Ok(Some(Vector { bits })),
     }
 }
 
-// The vectors of a script for this many inputs.
-fn denoted(alloc: Global, text: &[u8], width: usize) -> Result<Vec<Vector>, Stop>
-    requires { length text.now ≤ 67108864 }
-    ensures ok { IfOk result (λ v. script_of width text.now ≡ Ok v.items) }
-    ensures err { IfErr result (λ e. Stops e (script_of width text.now)) }
+// The vectors of some lines.
+fn vectors(alloc: Global, width: usize, text: &[u8], lines: &[Line]) -> Result<Vec<Vector>, Stop>
+    requires { AreLinesIn text.now lines.now }
+    ensures ok { IfOk result (λ v. vectors_of width (map (words_line text.now) lines.now) ≡ Ok v.items) }
+    ensures err { IfErr result (λ e. StopsAt (vectors_of width (map (words_line text.now) lines.now)) e) }
 {
-    let lines = lines(alloc, text)?;
     let mut done = Vec::new(alloc);
-    let mut number = 1;
-    for line in &lines {
-        match line_vector(alloc, width, line)? {
-            None => return Err(Stop::Unbuilt(number)),
+    for line in lines {
+        match line_vector(alloc, width, text, line)? {
+            None => return Err(Stop::Refused(Refusal::Unbuilt(line.number))),
             Some(vector) => done.push(vector)?,
         }
-        number += 1;
     }
     Ok(done)
 }
@@ -123,14 +134,19 @@ fn denoted(alloc: Global, text: &[u8], width: usize) -> Result<Vec<Vector>, Stop
 /// The vectors of a script for this many inputs.
 ///
 /// # Errors
-/// `Unbuilt` with the first line that is no `cycle` line of this many inputs; `Memory` where there is none.
+/// `Refused` with the refusal of the text's lines, else with the first line that is no `cycle` line of this many inputs;
+/// `Memory` where there is none.
 pub fn read_script(alloc: Global, text: &[u8], width: usize) -> Result<Vec<Vector>, Stop>
     requires { length text.now ≤ 67108864 }
-    ensures ok { IfOk result (λ v. script_of width text.now ≡ Ok v.items) }
+    ensures ok { IfOk result (λ v. IsScriptText width text.now v.items) }
     ensures widths { IfOk result (λ v. (x : List Bool) → In v.items x → length x ≡ width) }
-    ensures err { IfErr result (λ e. Stops e (script_of width text.now)) }
+    ensures err { IfErr result (λ e. StopsScript width text.now e) }
 {
-    match denoted(alloc, text, width) {
+    let lines = match lines(alloc, text) {
+        Ok(lines) => lines,
+        Err(error) => return Err(text_stop(error)),
+    };
+    match vectors(alloc, width, text, &lines) {
         Ok(vectors) => Ok(vectors),
         Err(stop) => Err(stop),
     }

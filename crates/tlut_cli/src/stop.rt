@@ -1,11 +1,17 @@
-//! Why a text isn't read.
-use std::alloc::{AllocError, AllocFailed};
+//! Why a text isn't read, or a netlist isn't mapped.
+ghost use Rattle.tlut_cli.specs.StopIs.{StopIs};
+ghost use Rattle.tlut_cli.specs.Texts.{text_refusal, blif_refusal};
 
-/// Why a text isn't read.
-#[derive(Clone, Copy, Debug, PartialEq, Eq)]
+use crate::outcome::Refusal;
+use blif_read::BlifErr;
+use std::alloc::{AllocError, AllocFailed};
+use tl_text::TextErr;
+
+/// Why a text isn't read, or a netlist isn't mapped.
+#[derive(Debug, Drop)]
 pub enum Stop {
-    /// The line, counted from 1, is of a form that isn't built yet.
-    Unbuilt(u32),
+    /// It is refused.
+    Refused(Refusal),
     /// There is no memory.
     Memory,
 }
@@ -30,4 +36,39 @@ impl From<AllocError> for Stop {
     fn from(_: AllocError) -> Stop {
         Stop::Memory
     }
+}
+
+/// The stop at a refusal of a text's lines.
+pub fn text_stop(error: TextErr) -> Stop
+    ensures { StopIs (text_refusal error) result }
+{
+    match error {
+        TextErr::BadByte(line) => Stop::Refused(Refusal::BadByte(line)),
+        TextErr::TrailingSlash(line) => Stop::Refused(Refusal::TrailingSlash(line)),
+        TextErr::Memory => Stop::Memory,
+    }
+}
+
+/// The stop at a refusal of a netlist.
+pub fn blif_stop(error: BlifErr) -> Stop
+    ensures { StopIs (blif_refusal error) result }
+{
+    let refusal = match error {
+        BlifErr::BadByte(line) => Refusal::BadByte(line),
+        BlifErr::TrailingSlash(line) => Refusal::TrailingSlash(line),
+        BlifErr::NotCommand(line) => Refusal::NotCommand(line),
+        BlifErr::Unsupported(line) => Refusal::Unsupported(line),
+        BlifErr::OutsideModel(line) => Refusal::OutsideModel(line),
+        BlifErr::Arity(line) => Refusal::Arity(line),
+        BlifErr::BadRow(line) => Refusal::BadRow(line),
+        BlifErr::MixedRows(line) => Refusal::MixedRows(line),
+        BlifErr::BadLatch(line) => Refusal::BadLatch(line),
+        BlifErr::LatchKind(line) => Refusal::LatchKind(line),
+        BlifErr::DuplicateModel(line, name) => Refusal::DuplicateModel(line, name),
+        BlifErr::DuplicatePort(line, name) => Refusal::DuplicatePort(line, name),
+        BlifErr::BadConnection(line) => Refusal::BadConnection(line),
+        BlifErr::NoModel => Refusal::NoModel,
+        BlifErr::Memory => return Stop::Memory,
+    };
+    Stop::Refused(refusal)
 }

@@ -1,6 +1,7 @@
 //! Accepted jobs.
 use crate::tests::job::{AND2, Row, accepted, assert_rows};
 use std::test::Fail;
+use tlut_cli::Status;
 
 const WIRE: &str = ".model w\n.inputs a\n.outputs a\n.end\n";
 
@@ -114,6 +115,37 @@ fn constants(rt: HostRuntime) -> Result<(), Fail> {
             "no output",
             "2",
             ".model k\n.inputs\n.outputs\n.end\n",
+            "cycle -\n",
+            "luts 0 bits 0 depth 0\ncycle - -\n",
+        ),
+    ];
+    assert_rows(&rt, rt.alloc(), &rows)
+}
+
+#[test]
+fn lines_in_all_their_forms(rt: HostRuntime) -> Result<(), Fail> {
+    let rows: [Row; 3] = [
+        Row {
+            title: "comments, joined lines, tabs and carriage returns",
+            k: "2",
+            netlist: "# two\r\n.model and2\n.inputs a \\\n\tb # both\n.outputs y\n\n.names\ta b y\n11 1",
+            params: "# none\n\n",
+            script: "# one cycle\ncycle \\\n  11 # both\n",
+            status: Status::Done,
+            out: "luts 1 bits 4 depth 1\ncycle 1 -\n",
+            err: "",
+        },
+        accepted(
+            "ports in any order, and a name that a tool made",
+            "2",
+            ".model m\n.names b a $auto$1\n10 1\n.outputs $auto$1\n.inputs a\n.inputs b\n",
+            "cycle 01\ncycle 10\n",
+            "luts 1 bits 4 depth 1\ncycle 1 -\ncycle 0 -\n",
+        ),
+        accepted(
+            "a model alone",
+            "2",
+            ".model m",
             "cycle -\n",
             "luts 0 bits 0 depth 0\ncycle - -\n",
         ),

@@ -9,7 +9,7 @@ use tl_io::{ConfigPort, MemPort};
 use tlut_cli::Status;
 
 #[test]
-fn netlists_that_are_not_built(rt: HostRuntime) -> Result<(), Fail> {
+fn commands_that_are_not_built(rt: HostRuntime) -> Result<(), Fail> {
     let rows: [Row; 7] = [
         refused(
             "a second cover",
@@ -19,12 +19,12 @@ fn netlists_that_are_not_built(rt: HostRuntime) -> Result<(), Fail> {
         refused(
             "a second row",
             ".model m\n.inputs a b\n.outputs y\n.names a b y\n1- 1\n-1 1\n.end\n",
-            "tlut: n.blif: X1 Unbuilt line 6\n",
+            "tlut: n.blif: X1 Unbuilt line 4\n",
         ),
         refused(
             "a row of an off-set",
             ".model m\n.inputs a b\n.outputs y\n.names a b y\n11 0\n.end\n",
-            "tlut: n.blif: X1 Unbuilt line 5\n",
+            "tlut: n.blif: X1 Unbuilt line 4\n",
         ),
         refused(
             "a latch",
@@ -32,18 +32,18 @@ fn netlists_that_are_not_built(rt: HostRuntime) -> Result<(), Fail> {
             "tlut: n.blif: X1 Unbuilt line 4\n",
         ),
         refused(
-            "an output that nothing drives",
-            ".model l\n.inputs a\n.outputs y\n.end\n",
-            "tlut: n.blif: X1 Unbuilt line 3\n",
-        ),
-        refused(
-            "a comment",
-            ".model m\n.inputs a # one\n.outputs a\n.end\n",
-            "tlut: n.blif: X1 Unbuilt line 2\n",
+            "a subcircuit",
+            ".model m\n.inputs a\n.outputs a\n.subckt f i=a\n.end\n.model f\n.end\n",
+            "tlut: n.blif: X1 Unbuilt line 4\n",
         ),
         refused(
             "a cover's input that is no input",
             ".model m\n.inputs a\n.outputs y\n.names a z y\n11 1\n.end\n",
+            "tlut: n.blif: X1 Unbuilt line 4\n",
+        ),
+        refused(
+            "a cover that drives an input",
+            ".model m\n.inputs a b\n.outputs b\n.names a b\n1 1\n.end\n",
             "tlut: n.blif: X1 Unbuilt line 4\n",
         ),
     ];
@@ -51,28 +51,112 @@ fn netlists_that_are_not_built(rt: HostRuntime) -> Result<(), Fail> {
 }
 
 #[test]
-fn netlists_with_a_wrong_end(rt: HostRuntime) -> Result<(), Fail> {
-    let rows: [Row; 5] = [
-        refused("an empty text", "", "tlut: n.blif: X1 Unbuilt line 1\n"),
+fn models_that_are_not_built(rt: HostRuntime) -> Result<(), Fail> {
+    let rows: [Row; 4] = [
         refused(
-            "no outputs",
-            ".model m\n.inputs a\n",
-            "tlut: n.blif: X1 Unbuilt line 3\n",
+            "an output that nothing drives",
+            "# one\n.model l\n.inputs a\n.outputs y\n.end\n",
+            "tlut: n.blif: X1 Unbuilt line 2\n",
         ),
         refused(
-            "no end",
-            ".model m\n.inputs a\n.outputs y\n.names a y\n1 1\n",
-            "tlut: n.blif: X1 Unbuilt line 6\n",
+            "a clock",
+            ".model m\n.inputs a\n.outputs a\n.clock c\n.end\n",
+            "tlut: n.blif: X1 Unbuilt line 1\n",
         ),
         refused(
-            "a line after the end",
-            ".model m\n.inputs a\n.outputs a\n.end\n\n",
+            "a second model",
+            ".model m\n.inputs a\n.outputs y\n.end\n.model n\n.end\n",
             "tlut: n.blif: X1 Unbuilt line 5\n",
         ),
         refused(
-            "an empty line",
-            ".model m\n\n.inputs a\n.outputs a\n.end\n",
-            "tlut: n.blif: X1 Unbuilt line 2\n",
+            "a latch before a second model",
+            ".model m\n.inputs d\n.latch d q\n.model n\n.end\n",
+            "tlut: n.blif: X1 Unbuilt line 3\n",
+        ),
+    ];
+    assert_rows(&rt, rt.alloc(), &rows)
+}
+
+#[test]
+fn lines_that_are_refused(rt: HostRuntime) -> Result<(), Fail> {
+    let rows: [Row; 8] = [
+        refused(
+            "a control byte, before all else",
+            ".gate x\n.inputs a\n\x01\n",
+            "tlut: n.blif: T1 BadByte line 3\n",
+        ),
+        refused(
+            "a trailing backslash",
+            ".model l\n.inputs a\\ b",
+            "tlut: n.blif: T2 TrailingSlash line 2\n",
+        ),
+        refused(
+            "no command",
+            ".model m\nx\n.end\n",
+            "tlut: n.blif: B1 NotCommand line 2\n",
+        ),
+        refused(
+            "a command of no profile",
+            ".model m\n.gate and2\n",
+            "tlut: n.blif: B2 Unsupported line 2\n",
+        ),
+        refused(
+            "a line outside of a model",
+            ".inputs a\n.model m\n",
+            "tlut: n.blif: B3 OutsideModel line 1\n",
+        ),
+        refused(
+            "two names of a model",
+            ".model m \\\nn\n",
+            "tlut: n.blif: B4 Arity line 1\n",
+        ),
+        refused(
+            "a row of a column too many",
+            ".model m\n.inputs a\n.names a y\n11 1\n",
+            "tlut: n.blif: B5 BadRow line 4\n",
+        ),
+        refused(
+            "rows of both kinds",
+            ".model m\n.names a y\n1 1\n0 0\n",
+            "tlut: n.blif: B6 MixedRows line 4\n",
+        ),
+    ];
+    assert_rows(&rt, rt.alloc(), &rows)
+}
+
+#[test]
+fn commands_and_models_that_are_refused(rt: HostRuntime) -> Result<(), Fail> {
+    let rows: [Row; 7] = [
+        refused(
+            "an init",
+            ".model m\n.latch d q 4\n",
+            "tlut: n.blif: B7 BadLatch line 2\n",
+        ),
+        refused(
+            "a kind of latch",
+            ".model l\n.inputs d clk\n.outputs q\n.latch d q fe clk 0\n.end\n",
+            "tlut: n.blif: B8 LatchKind line 4\n",
+        ),
+        refused(
+            "a model that began earlier",
+            ".model m\n.end\n.model m\n.end\n",
+            "tlut: n.blif: B9 DuplicateModel line 3 m\n",
+        ),
+        refused(
+            "a port that stands twice",
+            ".model m\n.inputs a\n.inputs b a\n",
+            "tlut: n.blif: B10 DuplicatePort line 3 a\n",
+        ),
+        refused(
+            "a connection of an empty side",
+            ".model m\n.subckt f a=\n",
+            "tlut: n.blif: B11 BadConnection line 2\n",
+        ),
+        refused("an empty text", "", "tlut: n.blif: B12 NoModel\n"),
+        refused(
+            "a text of comments",
+            "# one\n  # two\n",
+            "tlut: n.blif: B12 NoModel\n",
         ),
     ];
     assert_rows(&rt, rt.alloc(), &rows)
@@ -97,31 +181,31 @@ fn refused_text(
 }
 
 #[test]
-fn lists_and_scripts_that_are_not_built(rt: HostRuntime) -> Result<(), Fail> {
-    let rows: [Row; 6] = [
+fn lists_and_scripts_that_are_refused(rt: HostRuntime) -> Result<(), Fail> {
+    let rows: [Row; 7] = [
         refused_text(
             "a parameter",
-            "a 0\n",
+            "# the list\na 0\n",
             "cycle 11\n",
-            "tlut: n.par: X1 Unbuilt line 1\n",
+            "tlut: n.par: X1 Unbuilt line 2\n",
         ),
         refused_text(
-            "a parameter list of an empty line",
-            "\n",
+            "a bad byte in the list",
+            "\x7f",
             "cycle 11\n",
-            "tlut: n.par: X1 Unbuilt line 1\n",
+            "tlut: n.par: T1 BadByte line 1\n",
         ),
         refused_text("a set", "", "set p=1\n", "tlut: n.scr: X1 Unbuilt line 1\n"),
         refused_text(
-            "one value too many",
+            "one value too many, behind a line without tokens",
             "",
-            "cycle 11\ncycle 111\n",
-            "tlut: n.scr: X1 Unbuilt line 2\n",
+            "cycle 11\n\ncycle 111\n",
+            "tlut: n.scr: X1 Unbuilt line 3\n",
         ),
         refused_text(
             "one value too few",
             "",
-            "cycle 1\n",
+            "cycle \\\n1\n",
             "tlut: n.scr: X1 Unbuilt line 1\n",
         ),
         refused_text(
@@ -129,6 +213,12 @@ fn lists_and_scripts_that_are_not_built(rt: HostRuntime) -> Result<(), Fail> {
             "",
             "cycle 11\ncycle 10\ncycle 1-\n",
             "tlut: n.scr: X1 Unbuilt line 3\n",
+        ),
+        refused_text(
+            "a trailing backslash in the script",
+            "",
+            "set p=1\ncycle 1\\ 1\n",
+            "tlut: n.scr: T2 TrailingSlash line 2\n",
         ),
     ];
     assert_rows(&rt, rt.alloc(), &rows)
