@@ -9,6 +9,9 @@
 //! - `tests/refusals.rt` has jobs that are refused, each with its fault line.
 //! - `tests/faults.rt` has files that aren't there, and an output, or an error output, that fails.
 //!
+//! Definitions have worked examples too, as lemmas in `proofs/`: `TextExamples.antt` has a text with the library that it
+//! denotes and one text for each refusal, `JobExamples.antt` words, netlists, scripts, a cycle and fault lines.
+//!
 //! There is nothing here to call.
 #![tactic(auto)]
 

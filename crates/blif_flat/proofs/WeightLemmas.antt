@@ -1,0 +1,232 @@
+-- Weights are unique, they exist where those of the placed models do, and sums of capped weights are as good as sums of weights.
+use Rattle.std.proofs.Common.{◌≡◌, ℕ, zero, suc, ◌+◌, ◌<◌, ◌≤◌, Bool, true, false, cond, ltb, eqb, List, [], ◌∷◌, ◌++◌, length, get_or, take, set, length-set, Some, None, refl, sym, ap, subst, ◌∙◌, inl, inr, ◌⊎◌, bytes_eq, arith}
+use Rattle.std.specs.List.{slice_get, position, position_or_len, find}
+use Rattle.std.proofs.lemmas.List.Folds.{find_at}
+use Rattle.std.proofs.lemmas.Option.{none-some, same_Some, get_or_from_slice_get, slice_get-get_or, slice_get_within}
+use Rattle.std.proofs.lemmas.List.{get_or-set_same, get_or-set_other}
+use Rattle.std.proofs.lemmas.Bool.{cases_Bool, both_ways, eq-eqb, eqb-true}
+use Rattle.std.proofs.Math.Seq.{take-append_seam}
+use Rattle.list_words.specs.Members.{In}
+use Rattle.tl_text.specs.NameIndex.{place_of}
+use Rattle.tl_text.proofs.NameLemmas.{position-map}
+use Rattle.blif_read.specs.declared.command.Body.{Body}
+use Rattle.blif_read.specs.declared.command.Body.TheVariants.{Cover, Latch, Subckt}
+use Rattle.blif_read.specs.declared.command.Command.{Command}
+use Rattle.blif_read.specs.SubcktValue.{SubcktValue}
+use Rattle.blif_read.specs.LibraryValue.{ModelValue, LibraryValue}
+use Rattle.blif_flat.specs.Models.{subckts_of, with_subckt, model_named}
+use Rattle.blif_flat.specs.Weight.{own_weight, Weighs, weighs, WeighAll, none, more}
+use Rattle.std.specs.Prelude.{Result, Ok, Err, MatchResult}
+use Rattle.blif_flat.specs.declared.flat_err.FlatErr.{FlatErr}
+use Rattle.blif_flat.specs.declared.flat_err.FlatErr.TheVariants.{TooLarge}
+use Rattle.blif_flat.specs.Answers.{Refuses}
+use Rattle.blif_flat.specs.NameSets.{model_names}
+use Rattle.blif_flat.specs.Weighing.{HasWeight, capped, kept_at, body_kept, commands_kept, model_kept, IsAmong, IsBehind, AreChildrenFirst, IsKept}
+
+-- weights are unique
+same_first : {A : Type 0} (x y : A) (xs ys : List A) → x ∷ xs ≡ y ∷ ys → x ≡ y
+same_first x y xs ys e = cc
+
+same_rest : {A : Type 0} (x y : A) (xs ys : List A) → x ∷ xs ≡ y ∷ ys → xs ≡ ys
+same_rest x y xs ys e = cc
+
+same_child : (library : LibraryValue) (s t : SubcktValue) (a b : ModelValue) → s ≡ t → model_named library.models s.model ≡ Some a → model_named library.models t.model ≡ Some b → a ≡ b
+same_child library s t a b e p q = same_Some a b (sym p ∙ ap (λ (r : SubcktValue). model_named library.models r.model) e ∙ q)
+
+mutual
+  pub weighs_once : (library : LibraryValue) (m n : ModelValue) (v w : ℕ) → m ≡ n → Weighs library m v → Weighs library n w → v ≡ w
+  weighs_once library m n v w e (weighs inner all is) (weighs inner' all' is') =
+      let same : inner ≡ inner' = weigh_all_once library (subckts_of m.commands) (subckts_of n.commands) inner inner' (ap (λ (r : ModelValue). subckts_of r.commands) e) all all' in
+      let own : own_weight m ≡ own_weight n = ap own_weight e in
+      omega arith
+
+  weigh_all_once : (library : LibraryValue) (ss ts : List SubcktValue) (v w : ℕ) → ss ≡ ts → WeighAll library ss v → WeighAll library ts w → v ≡ w
+  weigh_all_once library ss ts v w e (none a b) (none c d) = b ∙ sym d
+  weigh_all_once library ss ts v w e (none a b) (more s rest child first others f g h i j) = let x : [] ≡ s ∷ rest = sym a ∙ e ∙ f in cc
+  weigh_all_once library ss ts v w e (more s rest child first others f g h i j) (none a b) = let x : s ∷ rest ≡ [] = sym f ∙ e ∙ a in cc
+  weigh_all_once library ss ts v w e (more s rest child first others f g h i j) (more s' rest' child' first' others' f' g' h' i' j') =
+      let x : s ∷ rest ≡ s' ∷ rest' = sym f ∙ e ∙ f' in
+      let p : first ≡ first' = weighs_once library child child' first first' (same_child library s s' child child' (same_first s s' rest rest' x) g g') h h' in
+      let q : others ≡ others' = weigh_all_once library rest rest' others others' (same_rest s s' rest rest' x) i i' in
+      omega arith
+
+-- the number at which a name is found is that of the model of the name
+place_is : {A : Type 0} (test : A → Bool) (xs : List A) (k : ℕ) (b : Bool) → cond b (Some (position_or_len test xs)) None ≡ Some k → position_or_len test xs ≡ k
+place_is test xs k true h = same_Some (position_or_len test xs) k h
+place_is test xs k false h = absurd (none-some k h)
+
+named_at_first : (models : List ModelValue) (name : List ℕ) → model_named models name ≡ find (λ (m : ModelValue). bytes_eq name m.name) models
+named_at_first [] name = refl
+named_at_first (m ∷ ms) name = ap (λ o. cond (bytes_eq name m.name) (Some m) o) (named_at_first ms name)
+
+pub named_at : (library : LibraryValue) (name : List ℕ) (k : ℕ) → place_of (model_names library.models) name ≡ Some k → model_named library.models name ≡ slice_get library.models k
+named_at library name k h =
+    let test : ModelValue → Bool = λ m. bytes_eq name m.name in
+    let at : position test library.models ≡ Some k = sym (position-map (bytes_eq name) (λ (m : ModelValue). m.name) library.models) ∙ h in
+    named_at_first library.models name ∙ find_at test library.models ∙ ap (λ i. slice_get library.models i) (place_is test library.models k (ltb (position_or_len test library.models) (length library.models)) at)
+
+-- a placed model whose weight is kept
+record IsChildKept (library : LibraryValue) (weights : List ℕ) (s : SubcktValue) : Type 0 where
+  child : ModelValue
+  named : model_named library.models s.model ≡ Some child
+  weight : ℕ
+  weighs : Weighs library child weight
+  kept : kept_at weights (place_of (model_names library.models) s.model) ≡ capped weight
+
+child_kept : (library : LibraryValue) (before weights : List ℕ) (s : SubcktValue) → IsAmong library before s.model → ((n : ℕ) → In before n → IsKept library weights n) → IsChildKept library weights s
+child_kept library before weights s a h =
+    let k : IsKept library weights a.number = h a.number a.among in
+    record {
+      child = k.model;
+      named = named_at library s.model a.number a.place ∙ k.at;
+      weight = k.weight;
+      weighs = k.weighs;
+      kept = ap (λ o. kept_at weights o) a.place ∙ get_or_from_slice_get weights a.number (capped k.weight) 0 k.kept;
+    }
+
+-- subcircuits have a weight, which is some sum where both are capped
+record IsSum (library : LibraryValue) (subckts : List SubcktValue) (sum : ℕ) : Type 0 where
+  inner : ℕ
+  all : WeighAll library subckts inner
+  is : capped inner ≡ capped sum
+
+body_sum : (library : LibraryValue) (weights : List ℕ) (body : Body) (ss : List SubcktValue) (sum : ℕ) → ((s : SubcktValue) → In (with_subckt body ss) s → IsChildKept library weights s)
+    → IsSum library ss sum → IsSum library (with_subckt body ss) (body_kept (model_names library.models) weights body + sum)
+body_sum library weights (Cover c) ss sum h r = record { inner = r.inner; all = r.all; is = let e : capped r.inner ≡ capped sum = r.is in omega arith }
+body_sum library weights (Latch l) ss sum h r = record { inner = r.inner; all = r.all; is = let e : capped r.inner ≡ capped sum = r.is in omega arith }
+body_sum library weights (Subckt s) ss sum h r =
+    let k : IsChildKept library weights s = h s (inl refl) in
+    let e : capped r.inner ≡ capped sum = r.is in
+    let f : kept_at weights (place_of (model_names library.models) s.model) ≡ capped k.weight = k.kept in
+    record { inner = k.weight + r.inner; all = more s ss k.child k.weight r.inner refl k.named k.weighs r.all refl; is = omega arith }
+
+in_rest : (body : Body) (ss : List SubcktValue) (s : SubcktValue) → In ss s → In (with_subckt body ss) s
+in_rest (Cover c) ss s h = h
+in_rest (Latch l) ss s h = h
+in_rest (Subckt t) ss s h = inr h
+
+commands_sum : (library : LibraryValue) (weights : List ℕ) (cs : List Command) → ((s : SubcktValue) → In (subckts_of cs) s → IsChildKept library weights s) → IsSum library (subckts_of cs) (commands_kept (model_names library.models) weights cs)
+commands_sum library weights [] h = record { inner = 0; all = none refl refl; is = refl }
+commands_sum library weights (c ∷ cs) h =
+    body_sum library weights c.body (subckts_of cs) (commands_kept (model_names library.models) weights cs) h (commands_sum library weights cs (λ s i. h s (in_rest c.body (subckts_of cs) s i)))
+
+-- what is kept of a model whose placed models are kept is its weight
+fresh_kept : (library : LibraryValue) (before weights news : List ℕ) (number : ℕ) (b : IsBehind library before number) → ((n : ℕ) → In before n → IsKept library weights n)
+    → slice_get news number ≡ Some (model_kept (model_names library.models) weights b.model) → IsKept library news number
+fresh_kept library before weights news number b h at =
+    let m : ModelValue = b.model in
+    let r : IsSum library (subckts_of m.commands) (commands_kept (model_names library.models) weights m.commands) = commands_sum library weights m.commands (λ s i. child_kept library before weights s (b.children s i) h) in
+    let w : Weighs library m (own_weight m + r.inner) = weighs r.inner r.all refl in
+    let e : capped r.inner ≡ capped (commands_kept (model_names library.models) weights m.commands) = r.is in
+    let same : capped (own_weight m + commands_kept (model_names library.models) weights m.commands) ≡ capped (own_weight m + r.inner) = omega arith in
+    record { model = m; at = b.at; weight = own_weight m + r.inner; weighs = w; kept = at ∙ ap Some same; once = λ v x. weighs_once library m m v (own_weight m + r.inner) refl x w }
+
+-- what is kept at other numbers stays
+kept_stays : (library : LibraryValue) (weights : List ℕ) (number value n : ℕ) → (n ≡ number → ⊥) → IsKept library weights n → IsKept library (set weights number value) n
+kept_stays library weights number value n other k =
+    let inside : n < length weights = slice_get_within weights n (capped k.weight) k.kept in
+    let len : length (set weights number value) ≡ length weights = length-set weights number value in
+    let e : get_or (set weights number value) n 0 ≡ get_or weights n 0 = get_or-set_other weights number n value 0 other in
+    let at : slice_get (set weights number value) n ≡ Some (capped k.weight) =
+    slice_get-get_or (set weights number value) n 0 (omega arith) ∙ ap Some (e ∙ get_or_from_slice_get weights n (capped k.weight) 0 k.kept) in
+    record { model = k.model; at = k.at; weight = k.weight; weighs = k.weighs; kept = at; once = k.once }
+
+slice_get-set_same : (xs : List ℕ) (i x : ℕ) → i < length xs → slice_get (set xs i x) i ≡ Some x
+slice_get-set_same xs i x h =
+    let len : length (set xs i x) ≡ length xs = length-set xs i x in
+    slice_get-get_or (set xs i x) i 0 (omega arith) ∙ ap Some (get_or-set_same xs i x 0 h)
+
+in_take : (xs : List ℕ) (i x : ℕ) → In (take (suc i) xs) x → In (take i xs) x ⊎ (slice_get xs i ≡ Some x)
+in_take [] i x h = absurd h
+in_take (y ∷ ys) zero x (inl e) = inr (ap Some (sym e))
+in_take (y ∷ ys) zero x (inr h) = absurd h
+in_take (y ∷ ys) (suc i) x (inl e) = inl (inl e)
+in_take (y ∷ ys) (suc i) x (inr h) = elim (in_take ys i x h) [ inl a ↦ inl (inr a) | inr b ↦ inr b ]
+
+-- the next model in the order
+pub kept_step : (library : LibraryValue) (order weights news : List ℕ) (i number : ℕ) → AreChildrenFirst library order → slice_get order i ≡ Some number → number < length weights
+    → ((m : ModelValue) → slice_get library.models number ≡ Some m → news ≡ set weights number (model_kept (model_names library.models) weights m))
+    → ((n : ℕ) → In (take i order) n → IsKept library weights n) → (n : ℕ) → In (take (suc i) order) n → IsKept library news n
+kept_step library order weights news i number first at inside is h n among =
+    let b : IsBehind library (take i order) number = first.each i number at in
+    let value : ℕ = model_kept (model_names library.models) weights b.model in
+    let e : news ≡ set weights number value = is b.model b.at in
+    let fresh : IsKept library (set weights number value) number =
+    fresh_kept library (take i order) weights (set weights number value) number b h (slice_get-set_same weights number value inside) in
+    subst (λ l. IsKept library l n) (sym e)
+    (elim (cases_Bool (eqb n number)) [
+      | inl t ↦ subst (λ x. IsKept library (set weights number value) x) (sym (eqb-true n number t)) fresh
+      | inr f ↦ kept_stays library weights number value n (λ s. both_ways (eqb n number) f (eq-eqb n number s)) (elim (in_take order i n among) [ inl a ↦ h n a | inr a ↦ absurd (both_ways (eqb n number) f (eq-eqb n number (same_Some n number (sym a ∙ at)))) ])
+    ])
+
+-- a number of the order is that of a model
+pub order_inside : (library : LibraryValue) (order : List ℕ) (i : ℕ) → AreChildrenFirst library order → i < length order → get_or order i 0 < length library.models
+order_inside library order i first h =
+    let b : IsBehind library (take i order) (get_or order i 0) = first.each i (get_or order i 0) (slice_get-get_or order i 0 h) in
+    slice_get_within library.models (get_or order i 0) b.model b.at
+
+-- the step of a loop over the order
+pub kept_next : (library : LibraryValue) (names : List (List ℕ)) (order weights news : List ℕ) (i : ℕ) → names ≡ model_names library.models → AreChildrenFirst library order → i < length order
+    → length weights ≡ length library.models
+    → ((m : ModelValue) → slice_get library.models (get_or order i 0) ≡ Some m → news ≡ set weights (get_or order i 0) (model_kept names weights m))
+    → ((n : ℕ) → In (take i order) n → IsKept library weights n)
+    → ((n : ℕ) → In (take (i + 1) order) n → IsKept library news n) × (length news ≡ length library.models)
+kept_next library names order weights news i same first h len is kept =
+    let number : ℕ = get_or order i 0 in
+    let at : slice_get order i ≡ Some number = slice_get-get_or order i 0 h in
+    let inside : number < length library.models = order_inside library order i first h in
+    let b : IsBehind library (take i order) number = first.each i number at in
+    let e : suc i ≡ i + 1 = omega arith in (
+      subst (λ j. (n : ℕ) → In (take j order) n → IsKept library news n) e
+          (kept_step library order weights news i number first at (omega arith) (subst (λ ns. (m : ModelValue) → slice_get library.models number ≡ Some m → news ≡ set weights number (model_kept ns weights m)) same is) kept),
+      ap length (is b.model b.at) ∙ length-set weights number (model_kept names weights b.model) ∙ len,
+    )
+
+-- what is kept tells whether a model is heavier than 2^22
+same_model : (library : LibraryValue) (weights : List ℕ) (number : ℕ) (m : ModelValue) (k : IsKept library weights number) → slice_get library.models number ≡ Some m → Weighs library m k.weight
+same_model library weights number m k at = subst (λ n. Weighs library n k.weight) (same_Some k.model m (sym k.at ∙ at)) k.weighs
+
+pub kept_light : (library : LibraryValue) (weights : List ℕ) (number kept : ℕ) (m : ModelValue) → IsKept library weights number → slice_get library.models number ≡ Some m → slice_get weights number ≡ Some kept
+    → kept ≤ 4194304 → HasWeight library m (λ w. w ≤ 4194304)
+kept_light library weights number kept m k at here h =
+    let e : kept ≡ capped k.weight = same_Some kept (capped k.weight) (sym here ∙ k.kept) in
+    record { weight = k.weight; weighs = same_model library weights number m k at; is = omega arith }
+
+pub kept_heavy : (library : LibraryValue) (weights : List ℕ) (number kept : ℕ) (m : ModelValue) → IsKept library weights number → slice_get library.models number ≡ Some m → slice_get weights number ≡ Some kept
+    → 4194304 < kept → HasWeight library m (λ w. 4194304 < w)
+kept_heavy library weights number kept m k at here h =
+    let e : kept ≡ capped k.weight = same_Some kept (capped k.weight) (sym here ∙ k.kept) in
+    record { weight = k.weight; weighs = same_model library weights number m k at; is = omega arith }
+
+-- one more model behind those that it places
+take_front : (xs ys : List ℕ) (i : ℕ) → i ≤ length xs → take i (xs ++ ys) ≡ take i xs
+take_front xs ys zero h = refl
+take_front [] ys (suc i) h = absurd (omega arith)
+take_front (x ∷ xs) ys (suc i) h = ap (λ l. x ∷ l) (take_front xs ys i (omega arith))
+
+push_cases : (xs : List ℕ) (y p i : ℕ) → slice_get (xs ++ y ∷ []) i ≡ Some p → (slice_get xs i ≡ Some p) ⊎ ((i ≡ length xs) × (y ≡ p))
+push_cases [] y p zero h = inr (refl, same_Some y p h)
+push_cases [] y p (suc i) h = absurd (none-some p h)
+push_cases (x ∷ xs) y p zero h = inl h
+push_cases (x ∷ xs) y p (suc i) h = elim (push_cases xs y p i h) [ inl e ↦ inl e | inr e ↦ inr (ap suc e.0, e.1) ]
+
+pub children_first_push : (library : LibraryValue) (order : List ℕ) (number : ℕ) → AreChildrenFirst library order → IsBehind library order number → AreChildrenFirst library (order ++ number ∷ [])
+children_first_push library order number first behind = record {
+  each = λ i n at. elim (push_cases order number n i at) [
+    | inl h ↦ (let inside : i < length order = slice_get_within order i n h in
+        subst (λ l. IsBehind library l n) (sym (take_front order (number ∷ []) i (omega arith))) (first.each i n h))
+    | inr h ↦ (let e : take i (order ++ number ∷ []) ≡ order = ap (λ j. take j (order ++ number ∷ [])) h.0 ∙ take-append_seam order (number ∷ []) in
+        subst (λ l. IsBehind library l n) (sym e) (subst (IsBehind library order) h.1 behind))
+  ];
+}
+
+pub children_first_none : (library : LibraryValue) → AreChildrenFirst library []
+children_first_none library = record { each = λ i n at. absurd (none-some n at) }
+
+-- what is told of the main model
+pub weight_told : (library : LibraryValue) (weights : List ℕ) (kept : ℕ) (main : ModelValue) (result : Result (Unit {0}) FlatErr) → IsKept library weights 0 → slice_get library.models 0 ≡ Some main → slice_get weights 0 ≡ Some kept
+    → MatchResult result (λ _. kept ≤ 4194304) (λ e. (e ≡ TooLarge) × (4194304 < kept))
+    → MatchResult result (λ _. HasWeight library main (λ w. w ≤ 4194304)) (λ e. Refuses e (λ r. (r ≡ TooLarge) × HasWeight library main (λ w. 4194304 < w)))
+weight_told library weights kept main (Ok u) k at here h = kept_light library weights 0 kept main k at here h
+weight_told library weights kept main (Err e) k at here h =
+    subst (λ x. Refuses x (λ r. (r ≡ TooLarge) × HasWeight library main (λ w. 4194304 < w))) (sym h.0) (refl, kept_heavy library weights 0 kept main k at here h.1)

@@ -1,0 +1,9 @@
+use Rattle.std.proofs.Common.{◌≡◌, drop}
+use Rattle.blif_read.specs.LibraryValue.{ModelValue}
+use Rattle.blif_flat.specs.DriverFaults.{undriven_in, input_actuals}
+use Rattle.blif_flat.specs.NameSets.{ports_value}
+use Rattle.blif_flat.proofs.drivers.check_actuals.Given as goal
+
+abbrev pub invariant-loop-pair : goal.invariant-loop-pair
+invariant-loop-pair l = (child : ModelValue) → l.ports ≡ ports_value child
+    → undriven_in l.model l.line l.driven (input_actuals child (drop l.pair-index l.pairs)) ≡ undriven_in l.model l.line l.driven (input_actuals child l.pairs)

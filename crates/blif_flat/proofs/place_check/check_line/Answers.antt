@@ -1,0 +1,31 @@
+use Rattle.std.proofs.Common.{◌≡◌, ◌∙◌, subst, sym, ap}
+use Rattle.blif_read.specs.SubcktValue.{SubcktValue}
+use Rattle.blif_flat.specs.Models.{has_name}
+use Rattle.blif_flat.specs.NameSets.{IsModelOf}
+use Rattle.blif_flat.specs.Stack.{chain_of}
+use Rattle.blif_flat.proofs.StackLemmas.{on_chain_read, recursive_err, child_err, child_ok}
+use Rattle.blif_flat.proofs.place_check.check_line.Goals as goal
+
+pub returns-then-is_on_chain-clause-err : goal.returns-then-is_on_chain-clause-err
+returns-then-is_on_chain-clause-err c =
+    let name : c.subckt.inside.model ≡ c.args.subckt.now.model = ap (λ (s : SubcktValue). s.model) c.subckt.view_is in
+    let found : IsModelOf c.args.models.now c.args.subckt.now.model c.in-Some.n = subst (λ x. IsModelOf c.args.models.now x c.in-Some.n) (c.bytes.ensures ∙ name) (c.in-Some.ensures.model c.args.models.now c.requires.index) in
+    let on : c.is_on_chain.result ≡ has_name (chain_of c.args.models.now c.args.walk.now.frames) c.args.subckt.now.model =
+    on_chain_read c.args.models.now c.args.walk.now c.args.subckt.now.model c.in-Some.n c.is_on_chain.result c.requires.walk found c.is_on_chain.ensures in
+    recursive_err c.args.models.now c.args.walk.now c.args.model.now c.args.line c.args.subckt.now c.in-Some.n c.subckt.inside.model c.in_ok-recursive_model-in-Some.field-0 found (sym on ∙ c.if-is_on_chain.true) name c.in_ok-recursive_model-in-Some.ensures
+
+pub returns-in-Ok-clause-ok : goal.returns-in-Ok-clause-ok
+returns-in-Ok-clause-ok c =
+    let name : c.subckt.inside.model ≡ c.args.subckt.now.model = ap (λ (s : SubcktValue). s.model) c.subckt.view_is in
+    let found : IsModelOf c.args.models.now c.args.subckt.now.model c.in-Some.n = subst (λ x. IsModelOf c.args.models.now x c.in-Some.n) (c.bytes.ensures ∙ name) (c.in-Some.ensures.model c.args.models.now c.requires.index) in
+    let on : c.is_on_chain.result ≡ has_name (chain_of c.args.models.now c.args.walk.now.frames) c.args.subckt.now.model =
+    on_chain_read c.args.models.now c.args.walk.now c.args.subckt.now.model c.in-Some.n c.is_on_chain.result c.requires.walk found c.is_on_chain.ensures in
+    child_ok c.args.models.now c.args.walk.now c.args.model.now c.args.line c.args.subckt.now c.in-Some.n found (sym on ∙ c.if-is_on_chain.false) c.in-Ok.ensures.ok
+
+pub returns-in-Err-clause-err : goal.returns-in-Err-clause-err
+returns-in-Err-clause-err c =
+    let name : c.subckt.inside.model ≡ c.args.subckt.now.model = ap (λ (s : SubcktValue). s.model) c.subckt.view_is in
+    let found : IsModelOf c.args.models.now c.args.subckt.now.model c.in-Some.n = subst (λ x. IsModelOf c.args.models.now x c.in-Some.n) (c.bytes.ensures ∙ name) (c.in-Some.ensures.model c.args.models.now c.requires.index) in
+    let on : c.is_on_chain.result ≡ has_name (chain_of c.args.models.now c.args.walk.now.frames) c.args.subckt.now.model =
+    on_chain_read c.args.models.now c.args.walk.now c.args.subckt.now.model c.in-Some.n c.is_on_chain.result c.requires.walk found c.is_on_chain.ensures in
+    child_err c.args.models.now c.args.walk.now c.args.model.now c.args.line c.args.subckt.now c.in-Some.n c.in-Err.error found (sym on ∙ c.if-is_on_chain.false) c.in-Err.ensures.err

@@ -1,0 +1,8 @@
+use Rattle.std.proofs.Common.{◌∙◌, ap}
+use Rattle.blif_flat.specs.declared.ports.Ports.{Ports}
+use Rattle.blif_flat.specs.Models.{has_name}
+use Rattle.blif_flat.proofs.NameSetLemmas.{has_inputs}
+use Rattle.blif_flat.proofs.ports.Ports.is_input.Goals as goal
+
+pub returns-clause-model : goal.returns-clause-model
+returns-clause-model c m e = c.is_among.ensures ∙ ap (λ (p : Ports). has_name p.inputs c.args.name.now) e ∙ has_inputs m c.args.name.now

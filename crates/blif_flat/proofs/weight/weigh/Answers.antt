@@ -1,0 +1,18 @@
+use Rattle.std.proofs.Common.{◌≡◌, ◌<◌, length, slice_index_or, arith}
+use Rattle.blif_flat.proofs.WeightLemmas.{order_inside, kept_next}
+use Rattle.blif_flat.proofs.weight.weigh.Goals as goal
+
+pub keep_weight-requires-clause-model : goal.keep_weight-requires-clause-model
+keep_weight-requires-clause-model c = order_inside c.args.library.now c.args.order.now c.loop-number.number-index c.requires.order c.loop-number-test.true
+
+pub keep_weight-requires-clause-room : goal.keep_weight-requires-clause-room
+keep_weight-requires-clause-room c =
+    let h : slice_index_or c.args.order.now c.loop-number.number-index 0 < length c.args.library.now.models = order_inside c.args.library.now c.args.order.now c.loop-number.number-index c.requires.order c.loop-number-test.true in
+    let e : length c.loop-number.weights.items ≡ length c.args.library.now.models = c.loop-number.invariant.len in
+    omega arith
+
+pub loop-number-preserved : goal.loop-number-preserved
+loop-number-preserved c =
+    let step = kept_next c.args.library.now c.args.index.now.names c.args.order.now c.loop-number.weights.items c.keep_weight.new.weights.items c.loop-number.number-index c.requires.names c.requires.order c.loop-number-test.true
+    c.loop-number.invariant.len c.keep_weight.ensures c.loop-number.invariant.kept in
+    record { kept = step.0; len = step.1 }

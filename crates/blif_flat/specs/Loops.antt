@@ -1,0 +1,47 @@
+-- Which cover reads which, and orders of the covers in which each one stands behind those that it reads.
+use Rattle.std.specs.Prelude.{◌≡◌, ℕ, List, [], ◌∷◌, Option, Some, None}
+use Rattle.list_words.specs.Members.{In}
+use Rattle.blif_read.specs.CoverValue.{CoverValue}
+use Rattle.blif_read.specs.LibraryValue.{LibraryValue}
+use Rattle.blif_flat.specs.Models.{Path}
+use Rattle.blif_flat.specs.Instances.{CoverAt}
+use Rattle.blif_flat.specs.Nets.{Net, input_net, latch_net, cover_net, Drives}
+use Rattle.blif_flat.specs.Drivers.{IsRead}
+use Rattle.blif_flat.specs.Places.{Place, cover_at}
+
+-- a function that gives each name's net, where each name that is read has one
+pub record AreNets (library : LibraryValue) (net : Path → List ℕ → Option Net) : Type 0 where
+  pub drives : (path : Path) (name : List ℕ) (e : Net) → net path name ≡ Some e → Drives library path name e
+  pub finds : (path : Path) (name : List ℕ) (e : Net) → Drives library path name e → net path name ≡ Some e
+  pub reads : (path : Path) (name : List ℕ) → IsRead library path name → (e : Net) × Drives library path name e
+
+-- the covers among the nets of names
+abbrev pub with_cover : Option Net → List Place → List Place
+with_cover None places = places
+with_cover (Some (input_net name)) places = places
+with_cover (Some (latch_net path i)) places = places
+with_cover (Some (cover_net path i)) places = record { path = path; command = i } ∷ places
+
+abbrev pub covers_among : (List ℕ → Option Net) → List (List ℕ) → List Place
+covers_among net [] = []
+covers_among net (name ∷ names) = with_cover (net name) (covers_among net names)
+
+abbrev pub reads_in : (List ℕ → Option Net) → Option CoverValue → List Place
+reads_in net None = []
+reads_in net (Some c) = covers_among net c.inputs
+
+-- the covers whose outputs a cover reads, left to right
+abbrev pub reads_of : LibraryValue → (Path → List ℕ → Option Net) → Place → List Place
+reads_of library net p = reads_in (net p.path) (cover_at library p)
+
+-- an order, the last first: what each one reads stands behind it in the list, and none stands twice
+abbrev pub IsAfter : {N : Type 0} → (N → List N) → List N → Type 0
+IsAfter reads [] = Unit {0}
+IsAfter reads (n ∷ ns) = ((m : _) → In (reads n) m → In ns m) × ((In ns n → ⊥) × IsAfter reads ns)
+
+-- an order of all covers, in which each comes after those that it reads
+pub record Ordered (library : LibraryValue) (net : Path → List ℕ → Option Net) : Type 0 where
+  pub order : List Place
+  pub after : IsAfter (reads_of library net) order
+  pub all : (path : Path) (i : ℕ) (c : CoverValue) → CoverAt library path i c → In order (record { path = path; command = i })
+  pub only : (p : Place) → In order p → (c : CoverValue) × CoverAt library p.path p.command c

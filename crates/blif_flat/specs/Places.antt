@@ -1,0 +1,62 @@
+-- The places of covers and latches: the instance, and the place among its model's commands; and flat order.
+use Rattle.std.specs.Prelude.{◌≡◌, ℕ, suc, Bool, true, false, ◌&&◌, ◌==◌, if◌then◌else◌, List, [], ◌∷◌, ◌++◌, Option, Some, None, bytes_eq}
+use Rattle.std.specs.Option.{option_and_then}
+use Rattle.blif_read.specs.declared.command.Body.{Body}
+use Rattle.blif_read.specs.declared.command.Body.TheVariants.{Cover, Latch, Subckt}
+use Rattle.blif_read.specs.declared.command.Command.{Command}
+use Rattle.blif_read.specs.declared.latch.Latch.{Latch as LatchValue}
+use Rattle.blif_read.specs.CoverValue.{CoverValue}
+use Rattle.blif_read.specs.SubcktValue.{SubcktValue}
+use Rattle.blif_read.specs.LibraryValue.{ModelValue, LibraryValue}
+use Rattle.blif_flat.specs.Models.{Path, body_at, subckts_of, model_named, model_at}
+
+pub record Place : Type 0 where
+  pub path : Path
+  pub command : ℕ
+
+abbrev pub same_place : Place → Place → Bool
+same_place p q = bytes_eq p.path q.path && (p.command == q.command)
+
+-- the cover and the latch of a place
+abbrev pub cover_in : Body → Option CoverValue
+cover_in (Cover c) = Some c
+cover_in (Latch l) = None
+cover_in (Subckt s) = None
+
+abbrev pub latch_in : Body → Option LatchValue
+latch_in (Cover c) = None
+latch_in (Latch l) = Some l
+latch_in (Subckt s) = None
+
+abbrev pub cover_at : LibraryValue → Place → Option CoverValue
+cover_at library p = option_and_then (λ (m : ModelValue). option_and_then cover_in (body_at m p.command)) (model_at library p.path)
+
+abbrev pub latch_at : LibraryValue → Place → Option LatchValue
+latch_at library p = option_and_then (λ (m : ModelValue). option_and_then latch_in (body_at m p.command)) (model_at library p.path)
+
+abbrev pub is_cover : Body → Bool
+is_cover (Cover c) = true
+is_cover (Latch l) = false
+is_cover (Subckt s) = false
+
+abbrev pub is_latch : Body → Bool
+is_latch (Cover c) = false
+is_latch (Latch l) = true
+is_latch (Subckt s) = false
+
+-- the places of an instance's own commands of a kind, in line order
+abbrev pub own_places : (Body → Bool) → Path → ℕ → List Command → List Place
+own_places kind path i [] = []
+own_places kind path i (c ∷ cs) = if kind c.body then record { path = path; command = i } ∷ own_places kind path (suc i) cs else own_places kind path (suc i) cs
+
+-- Flat order takes an instance's own commands of a kind in line order, then the instances of its `.subckt` lines in line order.
+mutual
+  pub data FlatOrder (library : LibraryValue) (kind : Body → Bool) : Path → ModelValue → List Place → Type 0 where
+    flat : {path : Path} {m : ModelValue} {places : List Place} (inner : List Place) → FlatUnder library kind path 0 (subckts_of m.commands) inner
+        → places ≡ own_places kind path 0 m.commands ++ inner → FlatOrder library kind path m places
+
+  pub data FlatUnder (library : LibraryValue) (kind : Body → Bool) : Path → ℕ → List SubcktValue → List Place → Type 0 where
+    none : {path : Path} {k : ℕ} {subckts : List SubcktValue} {places : List Place} → subckts ≡ [] → places ≡ [] → FlatUnder library kind path k subckts places
+    more : {path : Path} {k : ℕ} {subckts : List SubcktValue} {places : List Place} (s : SubcktValue) (rest : List SubcktValue) (child : ModelValue) (these others : List Place)
+        → subckts ≡ s ∷ rest → model_named library.models s.model ≡ Some child → FlatOrder library kind (k ∷ path) child these
+        → FlatUnder library kind path (suc k) rest others → places ≡ these ++ others → FlatUnder library kind path k subckts places

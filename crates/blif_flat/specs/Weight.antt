@@ -1,0 +1,36 @@
+-- The weight of a model: what it holds, and the weights of the models that it places.
+use Rattle.std.specs.Prelude.{◌≡◌, ℕ, ◌+◌, List, [], ◌∷◌, length, Option, Some, None}
+use Rattle.blif_read.specs.declared.command.Body.{Body}
+use Rattle.blif_read.specs.declared.command.Body.TheVariants.{Cover, Latch, Subckt}
+use Rattle.blif_read.specs.declared.command.Command.{Command}
+use Rattle.blif_read.specs.SubcktValue.{SubcktValue}
+use Rattle.blif_read.specs.LibraryValue.{ModelValue, LibraryValue}
+use Rattle.blif_flat.specs.Models.{subckts_of, model_named}
+
+abbrev pub control_weight : Option (List ℕ) → ℕ
+control_weight None = 0
+control_weight (Some name) = 1
+
+-- 1 for each name of a `.names` line, for each input, output and control of a latch, and for each connection
+abbrev pub body_weight : Body → ℕ
+body_weight (Cover c) = length c.inputs + 1
+body_weight (Latch l) = 2 + control_weight l.control
+body_weight (Subckt s) = length s.pairs
+
+abbrev pub commands_weight : List Command → ℕ
+commands_weight [] = 0
+commands_weight (c ∷ cs) = body_weight c.body + commands_weight cs
+
+-- 1 for the model itself, and 1 for each name of its ports
+abbrev pub own_weight : ModelValue → ℕ
+own_weight m = 1 + length m.inputs + length m.outputs + length m.clocks + commands_weight m.commands
+
+-- and for each `.subckt` line the weight of the model that it places
+mutual
+  pub data Weighs (library : LibraryValue) : ModelValue → ℕ → Type 0 where
+    weighs : {m : ModelValue} {w : ℕ} (inner : ℕ) → WeighAll library (subckts_of m.commands) inner → w ≡ own_weight m + inner → Weighs library m w
+
+  pub data WeighAll (library : LibraryValue) : List SubcktValue → ℕ → Type 0 where
+    none : {subckts : List SubcktValue} {w : ℕ} → subckts ≡ [] → w ≡ 0 → WeighAll library subckts w
+    more : {subckts : List SubcktValue} {w : ℕ} (s : SubcktValue) (rest : List SubcktValue) (child : ModelValue) (first others : ℕ) → subckts ≡ s ∷ rest
+        → model_named library.models s.model ≡ Some child → Weighs library child first → WeighAll library rest others → w ≡ first + others → WeighAll library subckts w

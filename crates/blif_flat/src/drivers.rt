@@ -1,0 +1,390 @@
+//! The names that are driven twice, and those that are read and aren't driven.
+ghost use Rattle.std.specs.Prelude.{◌≡◌, ℕ, List, [], ◌∷◌, ◌++◌, map, None, slice_get, MatchOption, MatchResult};
+ghost use Rattle.list_words.specs.Members.{In};
+ghost use Rattle.blif_read.specs.LibraryValue.{ModelValue, LibraryValue};
+ghost use Rattle.blif_read.specs.WellFormed.{IsWellFormed, IsWellFormedModel};
+ghost use Rattle.blif_flat.specs.declared.flat_err.FlatErr.TheVariants.{Memory};
+ghost use Rattle.blif_flat.specs.Models.{model_named, has_name, inputs_of};
+ghost use Rattle.blif_flat.specs.NameSets.{ports_value, model_names};
+ghost use Rattle.blif_flat.specs.DriverFaults.{output_actuals, input_actuals, driven_pairs, read_pairs, with_control, drives, reads, all_drives, twice_in, twice_fault, undriven_in, undriven_fault, model_fault, models_fault};
+ghost use Rattle.blif_flat.specs.DriverSteps.{Tells, Adds, ArePortsOf, AreOf, models_at, fault_of};
+
+use crate::flat_err::FlatErr;
+use crate::model_index::ModelIndex;
+use crate::name_set::{is_among, with_names};
+use crate::ports::Ports;
+use blif_read::{BlifModel, Body, Latch, Library, Pair, Subckt};
+use std::alloc::Global;
+use tl_text::{Name, NameIndex};
+
+fn copy_of(alloc: Global, name: &Name) -> Result<Name, FlatErr>
+    ensures { MatchResult result (λ copy. copy ≡ name.now) (λ e. e ≡ Memory) }
+{
+    Ok(Name::make(alloc, name.bytes())?)
+}
+
+// Adds a name that a line drives, unless it is driven already.
+fn drive(
+    alloc: Global,
+    model: &Name,
+    line: u32,
+    driven: &mut NameIndex,
+    name: &Name,
+) -> Result<(), FlatErr>
+    ensures { Adds result (twice_in model.now line driven.old (name.now ∷ [])) driven.old driven.new (name.now ∷ []) }
+{
+    if is_among(driven, name.bytes()) {
+        let model = copy_of(alloc, model)?;
+        let name = copy_of(alloc, name)?;
+        return Err(FlatErr::DoublyDriven(model, line, name));
+    }
+    driven.add(alloc, name.bytes())?;
+    Ok(())
+}
+
+// Tells a name that isn't driven.
+fn check_driven(
+    alloc: Global,
+    model: &Name,
+    line: u32,
+    driven: &NameIndex,
+    name: &Name,
+) -> Result<(), FlatErr>
+    ensures { Tells result (undriven_in model.now line driven.now (name.now ∷ [])) }
+{
+    if is_among(driven, name.bytes()) {
+        return Ok(());
+    }
+    let model = copy_of(alloc, model)?;
+    let name = copy_of(alloc, name)?;
+    Err(FlatErr::Undriven(model, line, name))
+}
+
+// The ports of the model of a name.
+fn ports_of<'a>(index: &ModelIndex, ports: &'a [Ports], name: &Name) -> Option<&'a Ports>
+    ensures { (library : LibraryValue) → AreOf library index.now.names ports.now
+        → MatchOption result (model_named library.models name.now ≡ None) (λ p. ArePortsOf library.models name.now p.now) }
+{
+    match index.find(name.bytes()) {
+        None => None,
+        Some(number) => ports.get(number as usize),
+    }
+}
+
+// Adds the actual of a connection of an output.
+fn drive_actual(
+    alloc: Global,
+    model: &Name,
+    line: u32,
+    driven: &mut NameIndex,
+    ports: &Ports,
+    pair: &Pair,
+) -> Result<(), FlatErr>
+    ensures { (child : ModelValue) → ports.now ≡ ports_value child
+        → Adds result (twice_in model.now line driven.old (output_actuals child (pair.now ∷ []))) driven.old driven.new (output_actuals child (pair.now ∷ [])) }
+{
+    if ports.is_output(pair.formal.bytes()) {
+        drive(alloc, model, line, driven, &pair.actual)
+    } else {
+        Ok(())
+    }
+}
+
+fn drive_actuals(
+    alloc: Global,
+    model: &Name,
+    line: u32,
+    driven: &mut NameIndex,
+    ports: &Ports,
+    pairs: &[Pair],
+) -> Result<(), FlatErr>
+    ensures { (child : ModelValue) → ports.now ≡ ports_value child
+        → Adds result (twice_in model.now line driven.old (output_actuals child pairs.now)) driven.old driven.new (output_actuals child pairs.now) }
+{
+    for pair in pairs {
+        match drive_actual(alloc, model, line, driven, ports, pair) {
+            Ok(()) => {}
+            Err(e) => return Err(e),
+        }
+    }
+    Ok(())
+}
+
+// Tells the actual of a connection of an input where it isn't driven.
+fn check_actual(
+    alloc: Global,
+    model: &Name,
+    line: u32,
+    driven: &NameIndex,
+    ports: &Ports,
+    pair: &Pair,
+) -> Result<(), FlatErr>
+    ensures { (child : ModelValue) → ports.now ≡ ports_value child → Tells result (undriven_in model.now line driven.now (input_actuals child (pair.now ∷ []))) }
+{
+    if ports.is_input(pair.formal.bytes()) {
+        check_driven(alloc, model, line, driven, &pair.actual)
+    } else {
+        Ok(())
+    }
+}
+
+fn check_actuals(
+    alloc: Global,
+    model: &Name,
+    line: u32,
+    driven: &NameIndex,
+    ports: &Ports,
+    pairs: &[Pair],
+) -> Result<(), FlatErr>
+    ensures { (child : ModelValue) → ports.now ≡ ports_value child → Tells result (undriven_in model.now line driven.now (input_actuals child pairs.now)) }
+{
+    for pair in pairs {
+        match check_actual(alloc, model, line, driven, ports, pair) {
+            Ok(()) => {}
+            Err(e) => return Err(e),
+        }
+    }
+    Ok(())
+}
+
+fn check_names(
+    alloc: Global,
+    model: &Name,
+    line: u32,
+    driven: &NameIndex,
+    names: &[Name],
+) -> Result<(), FlatErr>
+    ensures { Tells result (undriven_in model.now line driven.now names.now) }
+{
+    for name in names {
+        match check_driven(alloc, model, line, driven, name) {
+            Ok(()) => {}
+            Err(e) => return Err(e),
+        }
+    }
+    Ok(())
+}
+
+fn drive_subckt(
+    alloc: Global,
+    index: &ModelIndex,
+    ports: &[Ports],
+    model: &Name,
+    line: u32,
+    driven: &mut NameIndex,
+    subckt: &Subckt,
+) -> Result<(), FlatErr>
+    ensures { (library : LibraryValue) → AreOf library index.now.names ports.now
+        → Adds result (twice_in model.now line driven.old (driven_pairs (model_named library.models subckt.now.model) subckt.now.pairs))
+        driven.old driven.new (driven_pairs (model_named library.models subckt.now.model) subckt.now.pairs) }
+{
+    match ports_of(index, ports, &subckt.model) {
+        None => Ok(()),
+        Some(child) => drive_actuals(alloc, model, line, driven, child, &subckt.pairs),
+    }
+}
+
+// Adds the names that a command drives.
+fn drive_body(
+    alloc: Global,
+    index: &ModelIndex,
+    ports: &[Ports],
+    model: &Name,
+    line: u32,
+    driven: &mut NameIndex,
+    body: &Body,
+) -> Result<(), FlatErr>
+    ensures { (library : LibraryValue) → AreOf library index.now.names ports.now
+        → Adds result (twice_in model.now line driven.old (drives library body.now)) driven.old driven.new (drives library body.now) }
+{
+    match body {
+        Body::Cover(cover) => drive(alloc, model, line, driven, &cover.output),
+        Body::Latch(latch) => drive(alloc, model, line, driven, &latch.output),
+        Body::Subckt(subckt) => drive_subckt(alloc, index, ports, model, line, driven, subckt),
+    }
+}
+
+// Adds the names that a model's commands drive.
+fn drive_commands(
+    alloc: Global,
+    index: &ModelIndex,
+    ports: &[Ports],
+    model: &BlifModel,
+    driven: &mut NameIndex,
+) -> Result<(), FlatErr>
+    ensures { (library : LibraryValue) → AreOf library index.now.names ports.now
+        → Adds result (twice_fault library model.now.name driven.old model.now.commands) driven.old driven.new (all_drives library model.now.commands) }
+{
+    for command in &model.commands {
+        match drive_body(
+            alloc,
+            index,
+            ports,
+            &model.name,
+            command.line,
+            driven,
+            &command.body,
+        ) {
+            Ok(()) => {}
+            Err(e) => return Err(e),
+        }
+    }
+    Ok(())
+}
+
+fn check_subckt(
+    alloc: Global,
+    index: &ModelIndex,
+    ports: &[Ports],
+    model: &Name,
+    line: u32,
+    driven: &NameIndex,
+    subckt: &Subckt,
+) -> Result<(), FlatErr>
+    ensures { (library : LibraryValue) → AreOf library index.now.names ports.now
+        → Tells result (undriven_in model.now line driven.now (read_pairs (model_named library.models subckt.now.model) subckt.now.pairs)) }
+{
+    match ports_of(index, ports, &subckt.model) {
+        None => Ok(()),
+        Some(child) => check_actuals(alloc, model, line, driven, child, &subckt.pairs),
+    }
+}
+
+fn check_latch(
+    alloc: Global,
+    model: &Name,
+    line: u32,
+    driven: &NameIndex,
+    latch: &Latch,
+) -> Result<(), FlatErr>
+    ensures { Tells result (undriven_in model.now line driven.now (latch.now.input ∷ with_control latch.now.control)) }
+{
+    match check_driven(alloc, model, line, driven, &latch.input) {
+        Ok(()) => {}
+        Err(e) => return Err(e),
+    }
+    match &latch.control {
+        None => Ok(()),
+        Some(control) => check_driven(alloc, model, line, driven, control),
+    }
+}
+
+// Tells a name that a command reads and that isn't driven.
+fn check_body(
+    alloc: Global,
+    index: &ModelIndex,
+    ports: &[Ports],
+    model: &Name,
+    line: u32,
+    driven: &NameIndex,
+    body: &Body,
+) -> Result<(), FlatErr>
+    ensures { (library : LibraryValue) → AreOf library index.now.names ports.now
+        → Tells result (undriven_in model.now line driven.now (reads library body.now)) }
+{
+    match body {
+        Body::Cover(cover) => check_names(alloc, model, line, driven, &cover.inputs),
+        Body::Latch(latch) => check_latch(alloc, model, line, driven, latch),
+        Body::Subckt(subckt) => check_subckt(alloc, index, ports, model, line, driven, subckt),
+    }
+}
+
+// Tells a name that a model's commands read and that isn't driven.
+fn check_commands(
+    alloc: Global,
+    index: &ModelIndex,
+    ports: &[Ports],
+    model: &BlifModel,
+    driven: &NameIndex,
+) -> Result<(), FlatErr>
+    ensures { (library : LibraryValue) → AreOf library index.now.names ports.now
+        → Tells result (undriven_fault library model.now.name driven.now model.now.commands) }
+{
+    for command in &model.commands {
+        match check_body(
+            alloc,
+            index,
+            ports,
+            &model.name,
+            command.line,
+            driven,
+            &command.body,
+        ) {
+            Ok(()) => {}
+            Err(e) => return Err(e),
+        }
+    }
+    Ok(())
+}
+
+// The names of a model's inputs.
+fn driven_inputs(alloc: Global, model: &BlifModel) -> Result<NameIndex, FlatErr>
+    requires { IsWellFormedModel model.now }
+    ensures { MatchResult result (λ driven. driven ≡ inputs_of model.now) (λ e. e ≡ Memory) }
+{
+    let inputs = with_names(alloc, NameIndex::new(alloc), &model.inputs)?;
+    Ok(with_names(alloc, inputs, &model.clocks)?)
+}
+
+// Tells the first fault of a model's drivers.
+fn check_model(
+    alloc: Global,
+    index: &ModelIndex,
+    ports: &[Ports],
+    model: &BlifModel,
+) -> Result<(), FlatErr>
+    requires { IsWellFormedModel model.now }
+    ensures { (library : LibraryValue) → AreOf library index.now.names ports.now → Tells result (model_fault library model.now) }
+{
+    let mut driven = driven_inputs(alloc, model)?;
+    match drive_commands(alloc, index, ports, model, &mut driven) {
+        Ok(()) => {}
+        Err(e) => return Err(e),
+    }
+    match check_commands(alloc, index, ports, model, &driven) {
+        Ok(()) => {}
+        Err(e) => return Err(e),
+    }
+    check_names(alloc, &model.name, model.line, &driven, &model.outputs)
+}
+
+fn check_number(
+    alloc: Global,
+    library: &Library,
+    index: &ModelIndex,
+    ports: &[Ports],
+    number: u32,
+) -> Result<(), FlatErr>
+    requires form { (m : ModelValue) → In library.now.models m → IsWellFormedModel m }
+    requires ports { AreOf library.now index.now.names ports.now }
+    ensures { Tells result (fault_of library.now (slice_get library.now.models number)) }
+{
+    match library.models.get(number as usize) {
+        None => Ok(()),
+        Some(model) => check_model(alloc, index, ports, model),
+    }
+}
+
+/// Tells the first fault of the drivers of the models of these numbers, in this order: in each model the first name that a
+/// line drives and that is driven already, then the first that a line reads and that isn't driven, then the first output
+/// that isn't. The index and the ports are those of the library. `Err(Memory)` comes for want of memory. It takes time
+/// linear in the models of the order, on average over the hashes.
+pub(crate) fn check_drivers(
+    alloc: Global,
+    library: &Library,
+    index: &ModelIndex,
+    ports: &[Ports],
+    order: &[u32],
+) -> Result<(), FlatErr>
+    requires form { (m : ModelValue) → In library.now.models m → IsWellFormedModel m }
+    requires ports { AreOf library.now index.now.names ports.now }
+    ensures { Tells result (models_fault library.now (models_at library.now order.now)) }
+{
+    for &number in order {
+        match check_number(alloc, library, index, ports, number) {
+            Ok(()) => {}
+            Err(e) => return Err(e),
+        }
+    }
+    Ok(())
+}

@@ -1,0 +1,69 @@
+//! Why a library has no flat circuit.
+use crate::names::Names;
+use std::alloc::{AllocError, AllocFailed};
+use tl_text::Name;
+
+/// Why a library has no flat circuit. A model with a line and a name are the model's name, the number of the logical line
+/// in it, counted from 1, and the name that is told. A net is written as the ordinals of its instance, each followed by
+/// `/`, and the name at its driver.
+#[derive(Debug, Drop, thiserror::Error)]
+pub enum FlatErr {
+    /// F1: the line places no model of the library; the model's name is told.
+    #[error("unknown model in line {1}")]
+    UnknownModel(Name, u32, Name),
+    /// F2: a model places itself, by the models of this chain; the repeated one stands first and last.
+    #[error("recursive model")]
+    RecursiveModel(Names),
+    /// F3: this formal is neither an input nor an output of the placed model.
+    #[error("unknown formal in line {1}")]
+    UnknownFormal(Name, u32, Name),
+    /// F4: this input of the placed model isn't connected.
+    #[error("unconnected input in line {1}")]
+    Unconnected(Name, u32, Name),
+    /// L2: the weight of the main model exceeds 2^22.
+    #[error("too large")]
+    TooLarge,
+    /// F5: the line drives this name, which is driven already.
+    #[error("doubly driven in line {1}")]
+    DoublyDriven(Name, u32, Name),
+    /// F6: the line reads this name, which isn't driven.
+    #[error("undriven in line {1}")]
+    Undriven(Name, u32, Name),
+    /// F7: the control nets of two latches differ; the earlier one first.
+    #[error("second clock")]
+    SecondClock(Name, Name),
+    /// F8: the control net of a latch is no input of the main model.
+    #[error("clock is no input")]
+    ClockNotInput(Name),
+    /// F9: this clock net is the input of a cover or a latch, or a top output.
+    #[error("clock as data")]
+    ClockAsData(Name),
+    /// F10: the nets of a cycle of covers, each one reading the next, the last reading the first.
+    #[error("loop")]
+    Loop(Names),
+    /// There is no memory.
+    #[error("out of memory")]
+    Memory,
+}
+
+impl<T: Drop> From<AllocFailed<T>> for FlatErr {
+    ghost use Rattle.std.specs.Prelude.{◌≡◌};
+    ghost use Rattle.blif_flat.specs.declared.flat_err.FlatErr.TheVariants.{Memory};
+
+    ghost from_gives = { λ _ e. e ≡ Memory };
+
+    fn from(_: AllocFailed<T>) -> FlatErr {
+        FlatErr::Memory
+    }
+}
+
+impl From<AllocError> for FlatErr {
+    ghost use Rattle.std.specs.Prelude.{◌≡◌};
+    ghost use Rattle.blif_flat.specs.declared.flat_err.FlatErr.TheVariants.{Memory};
+
+    ghost from_gives = { λ _ e. e ≡ Memory };
+
+    fn from(_: AllocError) -> FlatErr {
+        FlatErr::Memory
+    }
+}

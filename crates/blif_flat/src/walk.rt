@@ -1,0 +1,197 @@
+//! The walk of the models.
+ghost use Rattle.std.specs.Prelude.{◌≡◌, ◌<◌, ◌^◌, ◌+◌, ℕ, [], length, map, replicate, slice_get, Some, IfOk, OnOk, IfErr};
+ghost use Rattle.list_words.specs.Members.{In};
+ghost use Rattle.blif_read.specs.Once.{AreOnce};
+ghost use Rattle.blif_read.specs.WellFormed.{IsWellFormed};
+ghost use Rattle.blif_flat.specs.Answers.{Refuses};
+ghost use Rattle.blif_flat.specs.NameSets.{ports_value, model_names};
+ghost use Rattle.blif_read.specs.LibraryValue.{ModelValue};
+ghost use Rattle.blif_read.specs.declared.command.Body.TheVariants.{Subckt as subckt_of};
+ghost use Rattle.blif_flat.specs.declared.walk_state.Mark.{Mark};
+ghost use Rattle.blif_flat.specs.declared.walk_state.Mark.TheVariants.{New};
+ghost use Rattle.blif_flat.specs.Stack.{models_at, IsWalk, IsStep, IsRun, Resumes, entered, advanced, fresh, placed_by};
+ghost use Rattle.blif_flat.specs.Walk.{walked, refused, WalksMain};
+
+use crate::flat_err::FlatErr;
+use crate::model_index::ModelIndex;
+use crate::place_check::check_line;
+use crate::ports::Ports;
+use crate::walk_state::{Frame, WalkState};
+use blif_read::{BlifModel, Body, Library, Subckt};
+use std::alloc::{AllocError, Global};
+
+// Goes on behind a command, and begins the model of a number, if it is new.
+fn place(walk: &mut WalkState, frame: Frame, n: u32) -> Result<(), AllocError>
+    requires within { n < length walk.old.marks }
+    requires room { frame.place + 1 < 2 ^ 64 }
+    ensures { OnOk result ((mark : Mark) → slice_get walk.old.marks n ≡ Some mark → walk.new ≡ placed_by (fresh mark) (advanced walk.old frame) n) }
+{
+    let new = walk.is_new(n);
+    walk.advance(frame)?;
+    if new {
+        walk.enter(n)?;
+    }
+    Ok(())
+}
+
+// A `.subckt` line of the innermost frame.
+fn step_subckt(
+    alloc: Global,
+    models: &[BlifModel],
+    index: &ModelIndex,
+    ports: &[Ports],
+    walk: &mut WalkState,
+    frame: Frame,
+    model: &BlifModel,
+    line: u32,
+    subckt: &Subckt,
+) -> Result<(), FlatErr>
+    requires index { index.now.names ≡ model_names models.now }
+    requires ports { ports.now ≡ map ports_value models.now }
+    requires names { AreOnce (model_names models.now) }
+    requires walk { IsWalk models.now walk.old }
+    requires top { slice_get walk.old.frames 0 ≡ Some frame }
+    requires model { slice_get models.now frame.model ≡ Some model.now }
+    requires room { frame.place + 1 < 2 ^ 64 }
+    requires command { slice_get model.now.commands frame.place ≡ Some (record { line = line; body = subckt_of subckt.now }) }
+    ensures ok { OnOk result (IsStep (record { models = models.now }) walk.old walk.new) }
+    ensures err { IfErr result (λ e. Refuses e (λ r. Resumes (record { models = models.now }) walk.old.frames (models_at models.now walk.old.begun) (refused r))) }
+{
+    let n = match check_line(alloc, models, index, ports, walk, model, line, subckt) {
+        Ok(n) => n,
+        Err(error) => return Err(error),
+    };
+    match place(walk, frame, n) {
+        Ok(()) => Ok(()),
+        Err(_) => Err(FlatErr::Memory),
+    }
+}
+
+// One step of the walk, at the innermost frame.
+fn step(
+    alloc: Global,
+    models: &[BlifModel],
+    index: &ModelIndex,
+    ports: &[Ports],
+    walk: &mut WalkState,
+    frame: Frame,
+) -> Result<(), FlatErr>
+    requires index { index.now.names ≡ model_names models.now }
+    requires ports { ports.now ≡ map ports_value models.now }
+    requires names { AreOnce (model_names models.now) }
+    requires walk { IsWalk models.now walk.old }
+    requires top { slice_get walk.old.frames 0 ≡ Some frame }
+    ensures ok { OnOk result (IsStep (record { models = models.now }) walk.old walk.new) }
+    ensures err { IfErr result (λ e. Refuses e (λ r. Resumes (record { models = models.now }) walk.old.frames (models_at models.now walk.old.begun) (refused r))) }
+{
+    let model = &models[frame.model as usize];
+    match model.commands.get(frame.place) {
+        None => {
+            walk.leave(frame);
+            Ok(())
+        }
+        Some(command) => match &command.body {
+            Body::Cover(_) => Ok(walk.advance(frame)?),
+            Body::Latch(_) => Ok(walk.advance(frame)?),
+            Body::Subckt(subckt) => match step_subckt(
+                alloc,
+                models,
+                index,
+                ports,
+                walk,
+                frame,
+                model,
+                command.line,
+                subckt,
+            ) {
+                Ok(()) => Ok(()),
+                Err(error) => Err(error),
+            },
+        },
+    }
+}
+
+// The walk from a state on, up to its end.
+fn run(
+    alloc: Global,
+    models: &[BlifModel],
+    index: &ModelIndex,
+    ports: &[Ports],
+    begun: WalkState,
+) -> Result<WalkState, FlatErr>
+    requires index { index.now.names ≡ model_names models.now }
+    requires ports { ports.now ≡ map ports_value models.now }
+    requires names { AreOnce (model_names models.now) }
+    requires walk { IsWalk models.now begun }
+    ensures ok { IfOk result (λ end. IsRun models.now begun end) }
+    ensures ended { IfOk result (λ end. end.frames ≡ []) }
+    ensures err { IfErr result (λ e. Refuses e (λ r. Resumes (record { models = models.now }) begun.frames (models_at models.now begun.begun) (refused r))) }
+{
+    let mut walk = begun;
+    while let Some(frame) = walk.top() {
+        match step(alloc, models, index, ports, &mut walk, frame) {
+            Ok(()) => {}
+            Err(error) => return Err(error),
+        }
+    }
+    Ok(walk)
+}
+
+// The state in which the main model is begun.
+fn main_begun(alloc: Global, count: usize) -> Result<WalkState, AllocError>
+    requires { 0 < count }
+    ensures { IfOk result (λ w. w ≡ entered (record { marks = replicate count New; begun = []; frames = [] }) 0) }
+{
+    let mut walk = WalkState::new(alloc, count)?;
+    walk.enter(0)?;
+    Ok(walk)
+}
+
+// The walk of models that have distinct names.
+fn walk_slice(
+    alloc: Global,
+    models: &[BlifModel],
+    index: &ModelIndex,
+    ports: &[Ports],
+) -> Result<Vec<u32>, FlatErr>
+    requires index { index.now.names ≡ model_names models.now }
+    requires ports { ports.now ≡ map ports_value models.now }
+    requires names { AreOnce (model_names models.now) }
+    requires some { 0 < length models.now }
+    ensures ok { IfOk result (λ v. (main : ModelValue) → slice_get models.now 0 ≡ Some main → WalksMain (record { models = models.now }) main (walked (models_at models.now v.items))) }
+    ensures within { IfOk result (λ v. (n : ℕ) → In v.items n → n < length models.now) }
+    ensures err { IfErr result (λ e. (main : ModelValue) → slice_get models.now 0 ≡ Some main → Refuses e (λ r. WalksMain (record { models = models.now }) main (refused r))) }
+{
+    let begun = main_begun(alloc, models.len())?;
+    match run(alloc, models, index, ports, begun) {
+        Ok(end) => Ok(end.into_begun()),
+        Err(error) => Err(error),
+    }
+}
+
+/// The numbers of the models that the walk from the main model begins, in this order. It takes time linear in the bytes of
+/// the walked models' ports and of their `.subckt` lines with the ports that these place, on average over the hashes, and
+/// no stack of calls: the chain of models that are being walked stands in memory.
+///
+/// # Errors
+/// The first of F1 to F4 in the walk: `UnknownModel`, `RecursiveModel`, `UnknownFormal`, `Unconnected`; `Memory` where
+/// there is none.
+pub(crate) fn walk_models(
+    alloc: Global,
+    library: &Library,
+    ports: &[Ports],
+) -> Result<Vec<u32>, FlatErr>
+    requires formed { IsWellFormed library.now }
+    requires few { length library.now.models < 2 ^ 32 }
+    requires ports { ports.now ≡ map ports_value library.now.models }
+    ensures ok { IfOk result (λ v. (main : ModelValue) → slice_get library.now.models 0 ≡ Some main → WalksMain library.now main (walked (models_at library.now.models v.items))) }
+    ensures within { IfOk result (λ v. (n : ℕ) → In v.items n → n < length library.now.models) }
+    ensures err { IfErr result (λ e. (main : ModelValue) → slice_get library.now.models 0 ≡ Some main → Refuses e (λ r. WalksMain library.now main (refused r))) }
+{
+    let models = library.models.as_slice();
+    let index = ModelIndex::make(alloc, models)?;
+    match walk_slice(alloc, models, &index, ports) {
+        Ok(begun) => Ok(begun),
+        Err(error) => Err(error),
+    }
+}
