@@ -14,19 +14,19 @@ use Rattle.blif_flat.specs.Loops.{IsAfter}
 use Rattle.blif_flat.specs.Walking.{Cycle, Meets, met, goes, MeetsAll, first, later, Posts, skips, posts, PostsAll, more}
 use Rattle.blif_flat.specs.CoverWalk.{WalkValue, cover_reads, path_of, unread, to_read, frames_work, new_work, walk_work, entered, pushed, finished, first_frame, other_frames, popped, cover_number, Looked, enters, hits, passes, MeetsLeft, PostsLeft, ArePassed, InRange, AreMarks, IsWalker, IsLater, cycle_at, Stepped, Ran, Visited, VisitedAll, AreLeft, numbers_from, up_to, from_number, IsCycle, IsOrder}
 
-set_here : {A : Type 0} (xs : List A) (i : ℕ) (y : A) → i < length xs → slice_get (slice_set xs i y) i ≡ Some y
+pub set_here : {A : Type 0} (xs : List A) (i : ℕ) (y : A) → i < length xs → slice_get (slice_set xs i y) i ≡ Some y
 set_here [] i y l = absurd (omega arith)
 set_here (x ∷ xs) zero y l = refl
 set_here (x ∷ xs) (suc i) y l = set_here xs i y (omega arith)
 
-set_other : {A : Type 0} (xs : List A) (i j : ℕ) (y : A) → (j ≡ i → ⊥) → slice_get (slice_set xs i y) j ≡ slice_get xs j
+pub set_other : {A : Type 0} (xs : List A) (i j : ℕ) (y : A) → (j ≡ i → ⊥) → slice_get (slice_set xs i y) j ≡ slice_get xs j
 set_other [] i j y o = refl
 set_other (x ∷ xs) zero zero y o = absurd (o refl)
 set_other (x ∷ xs) zero (suc j) y o = refl
 set_other (x ∷ xs) (suc i) zero y o = refl
 set_other (x ∷ xs) (suc i) (suc j) y o = set_other xs i j y (λ e. o (ap suc e))
 
-set_length : {A : Type 0} (xs : List A) (i : ℕ) (y : A) → length (slice_set xs i y) ≡ length xs
+pub set_length : {A : Type 0} (xs : List A) (i : ℕ) (y : A) → length (slice_set xs i y) ≡ length xs
 set_length [] i y = refl
 set_length (x ∷ xs) zero y = refl
 set_length (x ∷ xs) (suc i) y = ap suc (set_length xs i y)

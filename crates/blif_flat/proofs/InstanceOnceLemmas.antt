@@ -18,15 +18,15 @@ joined_once (x ∷ xs) ys a b apart = (
 )
 
 -- a path is that of an instance within another one, or below its subcircuits from number k on
-record IsWithin (path p : Path) : Type 0 where
-  inner : Path
-  is : p ≡ inner ++ path
+pub record IsWithin (path p : Path) : Type 0 where
+  pub inner : Path
+  pub is : p ≡ inner ++ path
 
-record IsBelow (path : Path) (k : ℕ) (p : Path) : Type 0 where
-  inner : Path
-  ordinal : ℕ
-  from : k ≤ ordinal
-  is : p ≡ inner ++ ordinal ∷ path
+pub record IsBelow (path : Path) (k : ℕ) (p : Path) : Type 0 where
+  pub inner : Path
+  pub ordinal : ℕ
+  pub from : k ≤ ordinal
+  pub is : p ≡ inner ++ ordinal ∷ path
 
 same_length : (xs ys path : Path) (i j : ℕ) → xs ++ i ∷ path ≡ ys ++ j ∷ path → length xs ≡ length ys
 same_length xs ys path i j e =
@@ -47,13 +47,13 @@ same_ordinal_at (x ∷ xs) (y ∷ ys) path i j n e =
 same_ordinal : (xs ys path : Path) (i j : ℕ) → xs ++ i ∷ path ≡ ys ++ j ∷ path → i ≡ j
 same_ordinal xs ys path i j e = same_ordinal_at xs ys path i j (same_length xs ys path i j e) e
 
-not_itself : (path : Path) (k : ℕ) → IsBelow path k path → ⊥
+pub not_itself : (path : Path) (k : ℕ) → IsBelow path k path → ⊥
 not_itself path k b =
     let a : length path ≡ length (b.inner ++ b.ordinal ∷ path) = ap length b.is in
     let c : length (b.inner ++ b.ordinal ∷ path) ≡ length b.inner + suc (length path) = length-append b.inner (b.ordinal ∷ path) in
     omega arith
 
-apart_below : (path : Path) (k : ℕ) (p : Path) → IsWithin (k ∷ path) p → IsBelow path (suc k) p → ⊥
+pub apart_below : (path : Path) (k : ℕ) (p : Path) → IsWithin (k ∷ path) p → IsBelow path (suc k) p → ⊥
 apart_below path k p w b =
     let same : k ≡ b.ordinal = same_ordinal w.inner b.inner path k b.ordinal (sym w.is ∙ b.is) in
     let from : suc k ≤ b.ordinal = b.from in

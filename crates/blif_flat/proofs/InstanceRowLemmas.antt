@@ -71,7 +71,7 @@ paths_from-length paths (r ∷ rows) =
     let b : length (paths ++ path_of paths r ∷ []) ≡ length paths + 1 = length-append paths (path_of paths r ∷ []) in
     omega arith
 
-paths_of-length : (rows : List Instance) → length (paths_of rows) ≡ length rows
+pub paths_of-length : (rows : List Instance) → length (paths_of rows) ≡ length rows
 paths_of-length rows = let a : length (paths_from [] rows) ≡ 0 + length rows = paths_from-length [] rows in omega arith
 
 outer_stays : (made extra : List Path) (o : Option ℕ) → ((p : ℕ) → o ≡ Some p → p < length made) → option_and_then (slice_get (made ++ extra)) o ≡ option_and_then (slice_get made) o

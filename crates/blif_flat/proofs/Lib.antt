@@ -55,4 +55,14 @@ pub mod CoverWalkLemmas
 pub mod InstanceOrderLemmas
 pub mod InstanceOnceLemmas
 pub mod InstanceRowLemmas
+pub mod WalkMapLemmas
+pub mod PlaceOnceLemmas
+pub mod NumberWalkLemmas
+pub mod PathTextLemmas
+pub mod NetTableLemmas
+pub mod NetFillLemmas
+pub mod NetSlotLemmas
+pub mod NetCopyLemmas
+pub mod NetOutLemmas
+pub mod NetInLemmas
 mod Examples

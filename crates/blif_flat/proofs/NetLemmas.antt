@@ -41,7 +41,7 @@ module _ (library : LibraryValue) (driven : IsDriven library) where
   HasNet path name = (net : Net) × Drives library path name net
 
   -- an output isn't driven by being an input
-  no_input : (path : Path) (k : ℕ) (pair : Pair) (a : ConnectionAt library path k pair) → IsTrue (is_output a.child pair.formal) → (driver : Driver) → IsDriver library (k ∷ path) pair.formal driver → driver ≡ by_input → ⊥
+  pub no_input : (path : Path) (k : ℕ) (pair : Pair) (a : ConnectionAt library path k pair) → IsTrue (is_output a.child pair.formal) → (driver : Driver) → IsDriver library (k ∷ path) pair.formal driver → driver ≡ by_input → ⊥
   no_input path k pair a out driver (input at i q) e = not_both a.child pair.formal (subst (λ m. IsTrue (is_input m pair.formal)) (same_Some at.model a.child (sym at.at ∙ child_at library path k pair a)) i) out
   no_input path k pair a out driver (latch i l at p q) e = subst IsNoInput (sym q ∙ e) tt
   no_input path k pair a out driver (cover i c at p q) e = subst IsNoInput (sym q ∙ e) tt
@@ -102,6 +102,10 @@ module _ (library : LibraryValue) (driven : IsDriven library) where
   driver_of (cover_output i c a p q) = (by_cover i, cover i c a p refl, q)
   driver_of (from_inside k pair a out p t) = (by_subckt k pair.formal, output k pair a out p refl, t)
   driver_of (from_outside k outer pair a i p q t) = (by_input, formal_driver k outer pair a i p q, at_actual k outer pair a p q t)
+
+  -- a name that has a net has a driver
+  pub has_its_driver : {path : Path} {name : List ℕ} {net : Net} → Drives library path name net → (driver : Driver) × IsDriver library path name driver
+  has_its_driver t = let r = driver_of t in (r.0, r.1)
 
   -- any net of a name comes through the name's driver
   through : {path : Path} {name : List ℕ} {net : Net} (driver : Driver) → IsDriver library path name driver → Drives library path name net → Through path name net driver

@@ -29,3 +29,6 @@ pub mod Line
 pub mod Stack
 pub mod CoverWalk
 pub mod InstanceRows
+pub mod RowPaths
+pub mod NetTable
+pub mod NetSlots

@@ -13,6 +13,7 @@
 //! - `walk.rt` walks the models (with `walk_state.rt`, `place_check.rt`, `line_check.rt`), `weight.rt` weighs them, and
 //!   `drivers.rt` finds names that are driven twice or not at all; `model_index.rt`, `ports.rt` and `name_set.rt` find names.
 //! - `instances.rt` lists the instances in flat order, and `cover_walk.rt` walks the covers for a loop and an order.
+//! - `nets.rt` has the table of the nets of all instances, and how connections fill it; `written.rt` writes nets' names.
 //! - `flat.rt`, `flat_err.rt` and `names.rt` have the types of a flat circuit and of its refusals.
 //!
 //! No walk recurses: each keeps its stack in memory.
@@ -27,11 +28,13 @@ mod line_check;
 mod model_index;
 mod name_set;
 mod names;
+mod nets;
 mod place_check;
 mod ports;
 mod walk;
 mod walk_state;
 mod weight;
+mod written;
 
 pub use flat::{Flat, FlatCover, FlatLatch, Net, OutPort};
 pub use flat_err::FlatErr;

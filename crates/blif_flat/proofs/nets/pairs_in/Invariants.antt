@@ -1,0 +1,12 @@
+use Rattle.std.proofs.Common.{◌≡◌, drop}
+use Rattle.blif_read.specs.LibraryValue.{ModelValue}
+use Rattle.blif_flat.specs.Models.{is_input}
+use Rattle.blif_flat.specs.NameSets.{ports_value}
+use Rattle.blif_flat.specs.NetSlots.{pairs_in, IsNets}
+use Rattle.blif_flat.proofs.nets.pairs_in.Given as goal
+
+abbrev pub invariant-loop-pair : goal.invariant-loop-pair
+invariant-loop-pair l = record {
+  copied : (child : ModelValue) → l.ports ≡ ports_value child → pairs_in (is_input child) l.inner l.outer l.nets (drop l.pair-index l.pairs) ≡ pairs_in (is_input child) l.inner l.outer l.initial.nets l.pairs;
+  nets : IsNets l.nets;
+}
