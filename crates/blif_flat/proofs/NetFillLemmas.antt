@@ -4,13 +4,11 @@ use Rattle.std.specs.Prelude.{slice_get, IsTrue, ◌&&◌}
 use Rattle.std.proofs.lemmas.Bool.{cases_Bool, cond-true, cond-false, and_parts, and_from}
 use Rattle.std.proofs.lemmas.Option.{none-some, same_Some, slice_get_within}
 use lib.Pointwise.{bytes_decides}
-use Rattle.blif_read.specs.declared.latch.Latch.{Latch as LatchValue}
 use Rattle.blif_read.specs.declared.subckt.Pair.{Pair}
-use Rattle.blif_read.specs.CoverValue.{CoverValue}
 use Rattle.blif_read.specs.LibraryValue.{ModelValue, LibraryValue}
 use Rattle.blif_flat.specs.declared.flat.Net.{Net as FlatNet}
 use Rattle.blif_flat.specs.Models.{Path, model_at, is_input, is_output}
-use Rattle.blif_flat.specs.Instances.{CoverAt, LatchAt, ConnectionAt}
+use Rattle.blif_flat.specs.Instances.{ConnectionAt}
 use Rattle.blif_flat.specs.Flat.{Places, IsNetOf}
 use Rattle.blif_flat.specs.NetTable.{IsSoundTable, HasOwn, HasOutputs, HasInputs, IsKeptIn, with_net}
 
@@ -71,10 +69,10 @@ sound_empty library at paths table empty = record { each = λ i path name number
 
 module _ (library : LibraryValue) (paths : List Path) where
   -- nothing is lost of the stages
-  pub own_kept : (table next : Table) (t : ℕ) → HasOwn library paths table t → IsKeptIn table next → HasOwn library paths next t
-  own_kept table next t own kept = record {
-    latch = λ i path c l h e a. kept.each i l.output (own.latch i path c l h e a);
-    cover = λ i path c r h e a. kept.each i r.output (own.cover i path c r h e a);
+  pub own_kept : (table next : Table) → HasOwn library paths table → IsKeptIn table next → HasOwn library paths next
+  own_kept table next own kept = record {
+    latch = λ i path c l e a. kept.each i l.output (own.latch i path c l e a);
+    cover = λ i path c r e a. kept.each i r.output (own.cover i path c r e a);
   }
 
   pub outputs_kept : (table next : Table) (t : ℕ) → HasOutputs library paths table t → IsKeptIn table next → HasOutputs library paths next t
@@ -84,9 +82,6 @@ module _ (library : LibraryValue) (paths : List Path) where
   inputs_kept table next t inputs kept = record { each = λ i path m name h e g is. kept.each i name (inputs.each i path m name h e g is) }
 
   -- the stages at their starts
-  pub own_start : (table : Table) → HasOwn library paths table 0
-  own_start table = record { latch = λ i path c l h e a n. absurd (omega arith); cover = λ i path c r h e a n. absurd (omega arith) }
-
   pub inputs_start : (table : Table) → HasInputs library paths table 0
   inputs_start table = record { each = λ i path m name h e g is n. absurd (omega arith) }
 
@@ -94,23 +89,6 @@ module _ (library : LibraryValue) (paths : List Path) where
   outputs_start table = record { each = λ i j path k pair a out e f h n. absurd (let g : j < length paths = slice_get_within paths j (k ∷ path) f in omega arith) }
 
   -- one more instance is done
-  pub own_step : (table next : Table) (t : ℕ) (path : Path) → HasOwn library paths table t → IsKeptIn table next → slice_get paths t ≡ Some path
-      → ((c : ℕ) (l : LatchValue) → LatchAt library path c l → next t l.output ≡ None → ⊥) → ((c : ℕ) (r : CoverValue) → CoverAt library path c r → next t r.output ≡ None → ⊥) → HasOwn library paths next (suc t)
-  own_step table next t path own kept here latches covers = record {
-    latch = λ i p c l h e a n. elim (before_or_at i t h) [
-      | inl b ↦ kept.each i l.output (own.latch i p c l b e a) n
-      | inr q ↦
-          (let f : slice_get paths t ≡ Some p = subst (λ x. slice_get paths x ≡ Some p) q e in
-          latches c l (subst (λ x. LatchAt library x c l) (same_Some p path (sym f ∙ here)) a) (subst (λ x. next x l.output ≡ None) q n))
-    ];
-    cover = λ i p c r h e a n. elim (before_or_at i t h) [
-      | inl b ↦ kept.each i r.output (own.cover i p c r b e a) n
-      | inr q ↦
-          (let f : slice_get paths t ≡ Some p = subst (λ x. slice_get paths x ≡ Some p) q e in
-          covers c r (subst (λ x. CoverAt library x c r) (same_Some p path (sym f ∙ here)) a) (subst (λ x. next x r.output ≡ None) q n))
-    ];
-  }
-
   pub inputs_step : (table next : Table) (t : ℕ) (path : Path) (m : ModelValue) → HasInputs library paths table t → IsKeptIn table next → slice_get paths t ≡ Some path → model_at library path ≡ Some m
       → ((name : List ℕ) → IsTrue (is_input m name) → next t name ≡ None → ⊥) → HasInputs library paths next (suc t)
   inputs_step table next t path m inputs kept here there all = record {

@@ -8,26 +8,23 @@ use Rattle.std.proofs.lemmas.Option.{none-some, same_Some, slice_get_within}
 use Rattle.list_words.specs.Members.{In}
 use Rattle.blif_read.specs.Once.{AreOnce}
 use Rattle.blif_read.specs.declared.command.Body.{Body}
-use Rattle.blif_read.specs.declared.command.Body.TheVariants.{Cover, Latch}
 use Rattle.blif_read.specs.declared.command.Command.{Command}
-use Rattle.blif_read.specs.declared.latch.Latch.{Latch as LatchValue}
 use Rattle.blif_read.specs.declared.subckt.Pair.{Pair}
-use Rattle.blif_read.specs.CoverValue.{CoverValue}
 use Rattle.blif_read.specs.LibraryValue.{ModelValue, LibraryValue}
 use Rattle.blif_flat.specs.declared.instances.Instance.{Instance}
 use Rattle.blif_flat.specs.declared.flat.Net.{Net as FlatNet}
-use Rattle.blif_flat.specs.declared.flat.Net.TheVariants.{Input as InputNumber, Latch as LatchNumber, Cover as CoverNumber}
+use Rattle.blif_flat.specs.declared.flat.Net.TheVariants.{Input as InputNumber}
 use Rattle.blif_flat.specs.Models.{Path, model_at, is_input, is_output, inputs_of}
-use Rattle.blif_flat.specs.Instances.{CoverAt, LatchAt, ConnectionAt}
-use Rattle.blif_flat.specs.Nets.{Net, input_net, latch_net, cover_net, Drives, main_input, latch_output, cover_output, from_inside, from_outside}
+use Rattle.blif_flat.specs.Instances.{ConnectionAt}
+use Rattle.blif_flat.specs.Nets.{Net, input_net, Drives, main_input, from_inside, from_outside}
 use Rattle.blif_flat.specs.Drivers.{Driver, by_input, IsDriver, input, latch, cover, output, input_actual, model_output, IsDriven}
-use Rattle.blif_flat.specs.Places.{Place, own_places, is_cover, is_latch}
+use Rattle.blif_flat.specs.Places.{Place, own_places}
 use Rattle.blif_flat.specs.InstanceOrder.{model_places, places_at}
 use Rattle.blif_flat.specs.InstanceRows.{path_under, path_of, paths_of, IsRow, AreInstances}
-use Rattle.blif_flat.specs.Flat.{Places, an_input, a_latch, a_cover, IsNetOf}
+use Rattle.blif_flat.specs.Flat.{Places, an_input, IsNetOf}
 use Rattle.blif_flat.specs.NetTable.{net_places, IsNetFound, AreNetsAt, IsSoundTable, HasOwn, HasOutputs, HasInputs, kind_count, base_of, own_number}
 use Rattle.blif_flat.proofs.NameLemmas.{In-get}
-use Rattle.blif_flat.proofs.PlaceLemmas.{place_of, command_of, child_at}
+use Rattle.blif_flat.proofs.PlaceLemmas.{place_of, child_at}
 use Rattle.blif_flat.proofs.InstanceOrderLemmas.{order_all}
 use Rattle.blif_flat.proofs.InstanceRowLemmas.{paths_of-length}
 use Rattle.blif_flat.proofs.InstanceOnceLemmas.{order_apart}
@@ -44,7 +41,7 @@ stands (y ∷ xs) x (inl e) = record { place = 0; at = ap Some (sym e) }
 stands (y ∷ xs) x (inr i) = let r = stands xs x i in record { place = suc r.place; at = r.at }
 
 -- and at one place only where the members stand once
-one_place : (xs : List Path) (x : Path) (i j : ℕ) → AreOnce xs → slice_get xs i ≡ Some x → slice_get xs j ≡ Some x → i ≡ j
+pub one_place : (xs : List Path) (x : Path) (i j : ℕ) → AreOnce xs → slice_get xs i ≡ Some x → slice_get xs j ≡ Some x → i ≡ j
 one_place [] x i j once a b = absurd (none-some x a)
 one_place (y ∷ xs) x zero zero once a b = refl
 one_place (y ∷ xs) x zero (suc j) once a b = absurd (once.0 (subst (In xs) (sym (same_Some y x a)) (In-get xs j x b)))
@@ -114,27 +111,6 @@ module _ (library : LibraryValue) where
       places_own kind paths i path m e at (kind_count kind (take c m.commands)) (place_of path c)
       (subst (λ j. slice_get (own_places kind path 0 m.commands) (kind_count kind (take c m.commands)) ≡ Some (place_of path j)) n (own_at kind path 0 m.commands c command d t))
 
-  -- the nets of an instance's own latches and covers
-  pub latch_number : (main : ModelValue) (paths : List Path) (i : ℕ) (path : Path) (c : ℕ) (l : LatchValue) (a : LatchAt library path c l) → slice_get paths i ≡ Some path
-      → IsNetOf library (net_places library main paths) path l.output (LatchNumber (own_number library is_latch paths i a.model c))
-  latch_number main paths i path c l a e =
-      let r = command_of (slice_get (a.model).commands c) (Latch l) a.is in
-      record {
-        net = latch_net path c;
-        drives = latch_output c l a refl refl;
-        numbered = a_latch (place_of path c) (own_number library is_latch paths i a.model c) refl (place_at is_latch paths i path a.model c r.0 e a.at r.1 (ap is_latch r.2)) refl;
-      }
-
-  pub cover_number : (main : ModelValue) (paths : List Path) (i : ℕ) (path : Path) (c : ℕ) (r : CoverValue) (a : CoverAt library path c r) → slice_get paths i ≡ Some path
-      → IsNetOf library (net_places library main paths) path r.output (CoverNumber (own_number library is_cover paths i a.model c))
-  cover_number main paths i path c r a e =
-      let z = command_of (slice_get (a.model).commands c) (Cover r) a.is in
-      record {
-        net = cover_net path c;
-        drives = cover_output c r a refl refl;
-        numbered = a_cover (place_of path c) (own_number library is_cover paths i a.model c) refl (place_at is_cover paths i path a.model c z.0 e a.at z.1 (ap is_cover z.2)) refl;
-      }
-
   -- the net of a main input, by its place among the inputs
   pub input_number : (main : ModelValue) (paths : List Path) (j : ℕ) (name : List ℕ) → model_at library [] ≡ Some main → IsTrue (is_input main name) → slice_get (inputs_of main) j ≡ Some name
       → IsNetOf library (net_places library main paths) [] name (InputNumber j)
@@ -150,7 +126,7 @@ module _ (library : LibraryValue) where
   inner_number path k pair a number t o = record { net = o.net; drives = from_outside k path pair a t refl refl o.drives; numbered = o.numbered }
 
 -- a list as long as another one has an element where that one has one
-item_there : {A B : Type 0} (xs : List A) (ys : List B) (i : ℕ) (x : A) → length xs ≡ length ys → slice_get xs i ≡ Some x → (y : B) × (slice_get ys i ≡ Some y)
+pub item_there : {A B : Type 0} (xs : List A) (ys : List B) (i : ℕ) (x : A) → length xs ≡ length ys → slice_get xs i ≡ Some x → (y : B) × (slice_get ys i ≡ Some y)
 item_there [] ys i x n e = absurd (none-some x e)
 item_there (z ∷ xs) [] i x n e = absurd (omega arith)
 item_there (z ∷ xs) (y ∷ ys) zero x n e = (y, refl)
@@ -196,13 +172,13 @@ module _ (library : LibraryValue) (rows : List Instance) (are : AreInstances lib
       let r : StandsAt (paths_of rows) path = stands (paths_of rows) path (order_all library are.main (paths_of rows) are.first are.order path m e) in
       (r.place, r.at)
 
-  module _ (driven : IsDriven library) (table : ℕ → List ℕ → Option FlatNet) (own : HasOwn library (paths_of rows) table (length (paths_of rows))) where
+  module _ (driven : IsDriven library) (table : ℕ → List ℕ → Option FlatNet) (own : HasOwn library (paths_of rows) table) where
     -- a driver that is no input has its number in the table, if its subcircuit stands from place t on
     driver_known : (t : ℕ) → HasOutputs library (paths_of rows) table t → (i : ℕ) (path : Path) (name : List ℕ) (driver : Driver) → slice_get (paths_of rows) i ≡ Some path → t ≤ suc i → IsDriver library path name driver
         → (driver ≡ by_input → ⊥) → table i name ≡ None → ⊥
     driver_known t outputs i path name driver e from (input a j q) off n = off q
-    driver_known t outputs i path name driver e from (latch c l a p q) off n = own.latch i path c l (slice_get_within (paths_of rows) i path e) e a (ap (table i) (sym p) ∙ n)
-    driver_known t outputs i path name driver e from (cover c r a p q) off n = own.cover i path c r (slice_get_within (paths_of rows) i path e) e a (ap (table i) (sym p) ∙ n)
+    driver_known t outputs i path name driver e from (latch c l a p q) off n = own.latch i path c l e a (ap (table i) (sym p) ∙ n)
+    driver_known t outputs i path name driver e from (cover c r a p q) off n = own.cover i path c r e a (ap (table i) (sym p) ∙ n)
     driver_known t outputs i path name driver e from (output k pair a out p q) off n =
         let child = instance_place (k ∷ path) a.child (child_at library path k pair a) in
         let later : i < child.0 = parent_earlier i child.0 k path e child.1 in
@@ -219,8 +195,8 @@ module _ (library : LibraryValue) (rows : List Instance) (are : AreInstances lib
       -- any driver of an instance whose inputs are known
       any_known : (t : ℕ) → HasInputs library (paths_of rows) table t → (i : ℕ) (path : Path) (name : List ℕ) (driver : Driver) → i < t → slice_get (paths_of rows) i ≡ Some path → IsDriver library path name driver → table i name ≡ None → ⊥
       any_known t inputs i path name driver h e (input a j q) n = inputs.each i path a.model name h e a.at j n
-      any_known t inputs i path name driver h e (latch c l a p q) n = own.latch i path c l (slice_get_within (paths_of rows) i path e) e a (ap (table i) (sym p) ∙ n)
-      any_known t inputs i path name driver h e (cover c r a p q) n = own.cover i path c r (slice_get_within (paths_of rows) i path e) e a (ap (table i) (sym p) ∙ n)
+      any_known t inputs i path name driver h e (latch c l a p q) n = own.latch i path c l e a (ap (table i) (sym p) ∙ n)
+      any_known t inputs i path name driver h e (cover c r a p q) n = own.cover i path c r e a (ap (table i) (sym p) ∙ n)
       any_known t inputs i path name driver h e (output k pair a out p q) n =
           let child = instance_place (k ∷ path) a.child (child_at library path k pair a) in
           outputs.each i child.0 path k pair a out e child.1 (omega arith) (ap (table i) (sym p) ∙ n)

@@ -22,13 +22,13 @@ abbrev pub IsKnown : LibraryValue → Places → (Path → List ℕ → Bool) �
 IsKnown library at value values j = (p : Place) (c : CoverValue) → slice_get at.covers j ≡ Some p → CoverAt library p.path p.command c → slice_get values j ≡ Some (value p.path c.output)
 
 -- the cover of a net, and those of others, among them all
-cover_first : (net : FlatNet) (nets : List FlatNet) (m : ℕ) → In (cover_numbers (net ∷ [])) m → In (cover_numbers (net ∷ nets)) m
+pub cover_first : (net : FlatNet) (nets : List FlatNet) (m : ℕ) → In (cover_numbers (net ∷ [])) m → In (cover_numbers (net ∷ nets)) m
 cover_first (Input j) nets m i = absurd i
 cover_first (Latch j) nets m i = absurd i
 cover_first (Cover j) nets m (inl e) = inl e
 cover_first (Cover j) nets m (inr i) = absurd i
 
-cover_later : (net : FlatNet) (nets : List FlatNet) (m : ℕ) → In (cover_numbers nets) m → In (cover_numbers (net ∷ nets)) m
+pub cover_later : (net : FlatNet) (nets : List FlatNet) (m : ℕ) → In (cover_numbers nets) m → In (cover_numbers (net ∷ nets)) m
 cover_later (Input j) nets m i = i
 cover_later (Latch j) nets m i = i
 cover_later (Cover j) nets m i = inr i

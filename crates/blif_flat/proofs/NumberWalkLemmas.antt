@@ -14,13 +14,14 @@ use Rattle.blif_flat.specs.declared.flat.OutPort.{OutPort}
 use Rattle.blif_flat.specs.declared.flat.FlatLatch.{FlatLatch}
 use Rattle.blif_flat.specs.FlatCoverValue.{FlatCoverValue}
 use Rattle.blif_flat.specs.FlatValue.{FlatValue}
-use Rattle.blif_flat.specs.Models.{Path, model_at}
+use Rattle.blif_flat.specs.Models.{Path}
 use Rattle.blif_flat.specs.Instances.{LatchAt}
 use Rattle.blif_flat.specs.Nets.{Net}
-use Rattle.blif_flat.specs.Places.{Place, same_place, latch_at, is_cover, is_latch, FlatOrder}
+use Rattle.blif_flat.specs.Places.{Place, same_place, latch_at, is_cover}
 use Rattle.blif_flat.specs.Loops.{AreNets, with_cover, covers_among, reads_in, reads_of}
 use Rattle.blif_flat.specs.LoopFault.{latch_covers, all_latch_covers, roots_of, from_node, AreWritten, LoopWalk, IsLoop}
 use Rattle.blif_flat.specs.Flat.{Places, IsNumbered, an_input, a_latch, a_cover, IsNetOf, AreNetsOf, none, more, cover_numbers, inputs_at, IsFlatCover, IsFlatLatch, IsFlat}
+use Rattle.blif_flat.specs.Ordering.{AreWalked, latch_nets, root_numbers}
 use Rattle.blif_flat.specs.Walking.{Cycle, MeetsAll}
 use Rattle.blif_flat.specs.CoverWalk.{cover_reads, InRange, numbers_from, from_number, IsCycle, IsOrder}
 use Rattle.blif_flat.proofs.PlaceLemmas.{same_place-is, same_place-refl, cover_at-is}
@@ -28,24 +29,6 @@ use Rattle.blif_flat.proofs.InstanceOrderLemmas.{member_parts}
 use Rattle.blif_flat.proofs.NameSetLemmas.{at_within}
 use Rattle.blif_flat.proofs.PlaceOnceLemmas.{apart_once, order_apart}
 use Rattle.blif_flat.proofs.WalkMapLemmas.{result_mapped, cycle_mapped, IsInside, nodes_inside, nodes_mapped}
-
--- the fields of a flat circuit by which its covers are walked
-pub record AreWalked (library : LibraryValue) (main : ModelValue) (at : Places) (outputs : List FlatNet) (covers : List FlatCoverValue) (latches : List FlatLatch) : Type 0 where
-  pub is_main : model_at library [] ≡ Some main
-  pub covers_order : FlatOrder library is_cover [] main at.covers
-  pub latches_order : FlatOrder library is_latch [] main at.latches
-  pub cover_count : length covers ≡ length at.covers
-  pub covers_are : (k : ℕ) (p : Place) (c : FlatCoverValue) → slice_get at.covers k ≡ Some p → slice_get covers k ≡ Some c → IsFlatCover library at p c
-  pub latch_count : length latches ≡ length at.latches
-  pub latches_are : (k : ℕ) (p : Place) (l : FlatLatch) → slice_get at.latches k ≡ Some p → slice_get latches k ≡ Some l → IsFlatLatch library at p l
-  pub outputs_are : AreNetsOf library at [] main.outputs outputs
-
-abbrev pub latch_nets : List FlatLatch → List FlatNet
-latch_nets latches = map (λ (l : FlatLatch). l.input) latches
-
--- the roots of the walk by their numbers
-abbrev pub root_numbers : List FlatNet → List FlatLatch → List ℕ
-root_numbers outputs latches = cover_numbers outputs ++ cover_numbers (latch_nets latches)
 
 pub flat_walked : (library : LibraryValue) (flat : FlatValue) (f : IsFlat library flat) → AreWalked library f.main f.at (map (λ (o : OutPort). o.net) flat.outputs) flat.covers flat.latches
 flat_walked library flat f = record {
@@ -96,7 +79,7 @@ first_numbers (Cover j) nets = refl
 first_mapped : (at : Places) (net : FlatNet) (nets : List FlatNet) → map (place_at at) (cover_numbers (net ∷ nets)) ≡ map (place_at at) (cover_numbers (net ∷ [])) ++ map (place_at at) (cover_numbers nets)
 first_mapped at net nets = ap (map (place_at at)) (first_numbers net nets) ∙ map-append (place_at at) (cover_numbers (net ∷ [])) (cover_numbers nets)
 
-latch_at-is : (library : LibraryValue) (p : Place) (l : LatchValue) → LatchAt library p.path p.command l → latch_at library p ≡ Some l
+pub latch_at-is : (library : LibraryValue) (p : Place) (l : LatchValue) → LatchAt library p.path p.command l → latch_at library p ≡ Some l
 latch_at-is library p l a = rw (a.at, a.is) refl
 
 module _ (library : LibraryValue) (at : Places) where

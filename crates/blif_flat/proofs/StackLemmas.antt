@@ -29,12 +29,12 @@ use Rattle.blif_flat.specs.Stack.{chain_step, chain_names, on_chain, fresh, IsPl
 use Rattle.blif_flat.proofs.NameSetLemmas.{no_match, same_match}
 
 -- lists by their places
-set_here : {A : Type 0} (xs : List A) (i : ℕ) (y : A) → i < length xs → slice_get (slice_set xs i y) i ≡ Some y
+pub set_here : {A : Type 0} (xs : List A) (i : ℕ) (y : A) → i < length xs → slice_get (slice_set xs i y) i ≡ Some y
 set_here [] i y l = absurd (omega arith)
 set_here (x ∷ xs) zero y l = refl
 set_here (x ∷ xs) (suc i) y l = set_here xs i y (omega arith)
 
-set_other : {A : Type 0} (xs : List A) (i j : ℕ) (y : A) → (j ≡ i → ⊥) → slice_get (slice_set xs i y) j ≡ slice_get xs j
+pub set_other : {A : Type 0} (xs : List A) (i j : ℕ) (y : A) → (j ≡ i → ⊥) → slice_get (slice_set xs i y) j ≡ slice_get xs j
 set_other [] i j y o = refl
 set_other (x ∷ xs) zero zero y o = absurd (o refl)
 set_other (x ∷ xs) zero (suc j) y o = refl
@@ -46,7 +46,7 @@ set_length [] i y = refl
 set_length (x ∷ xs) zero y = refl
 set_length (x ∷ xs) (suc i) y = ap suc (set_length xs i y)
 
-same_or : (i j : ℕ) → (i ≡ j) ⊎ (i ≡ j → ⊥)
+pub same_or : (i j : ℕ) → (i ≡ j) ⊎ (i ≡ j → ⊥)
 same_or i j = elim (cases_Bool (eqb i j)) [ inl t ↦ inl (eqb-true i j t) | inr f ↦ inr (λ e. both_ways (eqb i j) f (eq-eqb i j e)) ]
 
 pub drop_zero : {A : Type 0} (xs : List A) → drop 0 xs ≡ xs
@@ -59,7 +59,7 @@ name_at [] i a h = absurd (none-some a h)
 name_at (m ∷ ms) zero a h = inl (ap (λ (x : ModelValue). x.name) (sym (same_Some m a h)))
 name_at (m ∷ ms) (suc i) a h = inr (name_at ms i a h)
 
-same_number : (models : List ModelValue) (i j : ℕ) (a b : ModelValue) → AreOnce (model_names models) → slice_get models i ≡ Some a → slice_get models j ≡ Some b → a.name ≡ b.name → i ≡ j
+pub same_number : (models : List ModelValue) (i j : ℕ) (a b : ModelValue) → AreOnce (model_names models) → slice_get models i ≡ Some a → slice_get models j ≡ Some b → a.name ≡ b.name → i ≡ j
 same_number [] i j a b once p q e = absurd (none-some a p)
 same_number (m ∷ ms) zero zero a b once p q e = refl
 same_number (m ∷ ms) zero (suc j) a b once p q e = absurd (once.0 (subst (In (model_names ms)) (sym e ∙ ap (λ (x : ModelValue). x.name) (sym (same_Some m a p))) (name_at ms j b q)))
@@ -176,9 +176,9 @@ module _ (models : List ModelValue) (names : AreOnce (model_names models)) where
       frames_push fs n g each h (inl e) = subst (λ (f : Frame). f.model < length models) (sym e) h
       frames_push fs n g each h (inr i) = each g i
 
-  pub left-walk : (marks : List Mark) (begun : List ℕ) (f : Frame) (fs : List Frame) (m : ModelValue) → IsWalk models (record { marks = marks; begun = begun; frames = f ∷ fs }) → slice_get models f.model ≡ Some m
-      → IsWalk models (record { marks = slice_set marks f.model Done; begun = begun; frames = fs })
-  left-walk marks begun f fs m is at =
+  pub left-walk : (marks : List Mark) (begun order : List ℕ) (f : Frame) (fs : List Frame) (m : ModelValue) → IsWalk models (record { marks = marks; begun = begun; ended = order; frames = f ∷ fs }) → slice_get models f.model ≡ Some m
+      → IsWalk models (record { marks = slice_set marks f.model Done; begun = begun; ended = order ++ f.model ∷ []; frames = fs })
+  left-walk marks begun order f fs m is at =
       let C : List (List ℕ) = chain_of models fs in
       let B : List ModelValue = models_at models begun in
       let ec : chain_of models (f ∷ fs) ≡ m.name ∷ C = ap (λ o. with_chain o C) at in
@@ -206,9 +206,9 @@ module _ (models : List ModelValue) (names : AreOnce (model_names models)) where
       or_true true = refl
       or_true false = refl
 
-  pub advanced-walk : (marks : List Mark) (begun : List ℕ) (f : Frame) (fs : List Frame) (place : ℕ) → IsWalk models (record { marks = marks; begun = begun; frames = f ∷ fs })
-      → IsWalk models (record { marks = marks; begun = begun; frames = record { model = f.model; place = place } ∷ fs })
-  advanced-walk marks begun f fs place is = record {
+  pub advanced-walk : (marks : List Mark) (begun order : List ℕ) (f : Frame) (fs : List Frame) (place : ℕ) → IsWalk models (record { marks = marks; begun = begun; ended = order; frames = f ∷ fs })
+      → IsWalk models (record { marks = marks; begun = begun; ended = order; frames = record { model = f.model; place = place } ∷ fs })
+  advanced-walk marks begun order f fs place is = record {
     long = is.long;
     marks = is.marks;
     begun = is.begun;

@@ -30,10 +30,10 @@ pub record AreNetsAt (library : LibraryValue) (at : Places) (paths : List Path) 
 pub record IsSoundTable (library : LibraryValue) (at : Places) (paths : List Path) (table : ℕ → List ℕ → Option FlatNet) : Type 0 where
   pub each : (i : ℕ) (path : Path) (name : List ℕ) (number : FlatNet) → slice_get paths i ≡ Some path → table i name ≡ Some number → IsNetOf library at path name number
 
--- the outputs of the latches and covers of the instances before place t stand in it,
-pub record HasOwn (library : LibraryValue) (paths : List Path) (table : ℕ → List ℕ → Option FlatNet) (t : ℕ) : Type 0 where
-  pub latch : (i : ℕ) (path : Path) (c : ℕ) (l : LatchValue) → i < t → slice_get paths i ≡ Some path → LatchAt library path c l → ¬ (table i l.output ≡ None)
-  pub cover : (i : ℕ) (path : Path) (c : ℕ) (r : CoverValue) → i < t → slice_get paths i ≡ Some path → CoverAt library path c r → ¬ (table i r.output ≡ None)
+-- the outputs of the latches and covers of all instances stand in it,
+pub record HasOwn (library : LibraryValue) (paths : List Path) (table : ℕ → List ℕ → Option FlatNet) : Type 0 where
+  pub latch : (i : ℕ) (path : Path) (c : ℕ) (l : LatchValue) → slice_get paths i ≡ Some path → LatchAt library path c l → ¬ (table i l.output ≡ None)
+  pub cover : (i : ℕ) (path : Path) (c : ℕ) (r : CoverValue) → slice_get paths i ≡ Some path → CoverAt library path c r → ¬ (table i r.output ≡ None)
 
 -- the actuals of the output connections to the instances from place t on,
 pub record HasOutputs (library : LibraryValue) (paths : List Path) (table : ℕ → List ℕ → Option FlatNet) (t : ℕ) : Type 0 where

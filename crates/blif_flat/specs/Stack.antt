@@ -1,4 +1,4 @@
--- The walk's state: a mark for each model, the numbers of the models that were begun, and the frames of the models that are being walked, the innermost first.
+-- The walk's state: a mark for each model, the numbers of the models that were begun and of those that have ended, and the frames of the models that are being walked, the innermost first.
 use Rattle.std.specs.Prelude.{◌≡◌, ℕ, ◌+◌, ◌-◌, ◌<◌, Bool, true, false, List, [], ◌∷◌, ◌++◌, length, drop, Option, Some, None, slice_get, slice_set}
 use Rattle.list_words.specs.Members.{In}
 use Rattle.blif_read.specs.Once.{AreOnce}
@@ -10,11 +10,13 @@ use Rattle.blif_flat.specs.declared.walk_state.Mark.TheVariants.{New, OnChain, D
 use Rattle.blif_flat.specs.Models.{has_name}
 use Rattle.blif_flat.specs.Line.{add_chain}
 use Rattle.blif_flat.specs.NameSets.{IsModelOf}
+use Rattle.blif_flat.specs.Ending.{IsEnding}
 use Rattle.blif_flat.specs.Walk.{SubcktLine, subckt_lines, line_fault, is_walked, Walked, refused, walked, Walks}
 
 pub record WalkValue : Type 0 where
   pub marks : List Mark
   pub begun : List ℕ
+  pub ended : List ℕ
   pub frames : List Frame
 
 -- the models of these numbers
@@ -47,13 +49,13 @@ tail_of [] = []
 tail_of (f ∷ fs) = fs
 
 abbrev pub entered : WalkValue → ℕ → WalkValue
-entered w n = record { marks = slice_set w.marks n OnChain; begun = w.begun ++ n ∷ []; frames = record { model = n; place = 0 } ∷ w.frames }
+entered w n = record { marks = slice_set w.marks n OnChain; begun = w.begun ++ n ∷ []; ended = w.ended; frames = record { model = n; place = 0 } ∷ w.frames }
 
 abbrev pub left : WalkValue → Frame → WalkValue
-left w f = record { marks = slice_set w.marks f.model Done; begun = w.begun; frames = tail_of w.frames }
+left w f = record { marks = slice_set w.marks f.model Done; begun = w.begun; ended = w.ended ++ f.model ∷ []; frames = tail_of w.frames }
 
 abbrev pub advanced : WalkValue → Frame → WalkValue
-advanced w f = record { marks = w.marks; begun = w.begun; frames = record { model = f.model; place = f.place + 1 } ∷ tail_of w.frames }
+advanced w f = record { marks = w.marks; begun = w.begun; ended = w.ended; frames = record { model = f.model; place = f.place + 1 } ∷ tail_of w.frames }
 
 -- the state fits the models
 pub record IsWalk (models : List ModelValue) (w : WalkValue) : Type 0 where
@@ -100,6 +102,7 @@ work models w = news models w.marks + frames_work models w.frames
 pub record IsStep (library : LibraryValue) (old new : WalkValue) : Type 0 where
   pub walk : IsWalk library.models new
   pub resumes : (r : Walked) → Resumes library new.frames (models_at library.models new.begun) r → Resumes library old.frames (models_at library.models old.begun) r
+  pub ending : IsEnding library.models old.marks old.ended old.frames → IsEnding library.models new.marks new.ended new.frames
   pub less : work library.models new < work library.models old
 
 -- the chain from a name on, by the frames, the outermost first
@@ -135,3 +138,4 @@ placed_by false w n = w
 pub record IsRun (models : List ModelValue) (old new : WalkValue) : Type 0 where
   pub walk : IsWalk models new
   pub resumes : (r : Walked) → Resumes (record { models = models }) new.frames (models_at models new.begun) r → Resumes (record { models = models }) old.frames (models_at models old.begun) r
+  pub ending : IsEnding models old.marks old.ended old.frames → IsEnding models new.marks new.ended new.frames

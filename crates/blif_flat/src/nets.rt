@@ -55,6 +55,17 @@ fn slot_of(nets: &Nets, i: u32, name: &[u8]) -> Option<usize>
 }
 
 impl Nets {
+    /// The nets in these slots, of these names of the models, with these starts of the instances.
+    pub(crate) fn new(names: Vec<NameIndex>, starts: Vec<Start>, slots: Vec<Option<Net>>) -> Nets
+        ensures { result ≡ record { names = names.items; starts = starts.items; slots = slots.items } }
+    {
+        Nets {
+            names,
+            starts,
+            slots,
+        }
+    }
+
     /// The net of a name of an instance, by its place; `None` where nothing drives it, or where the instance or the name
     /// isn't there. It takes time linear in the name's bytes, on average over the hashes.
     pub(crate) fn net(&self, i: u32, name: &[u8]) -> Option<Net>
@@ -78,8 +89,8 @@ impl Nets {
         self.slots[k] = Some(net);
     }
 
-    // Puts a net in for a name of an instance, where it has a slot.
-    fn set(&mut self, i: u32, name: &[u8], net: Net)
+    /// Puts a net in for a name of an instance, where it has a slot. It takes the time of `net`.
+    pub(crate) fn set(&mut self, i: u32, name: &[u8], net: Net)
         requires { IsNets self.old }
         ensures found { self.new ≡ with_found self.old (slot_number self.old i name.now) net }
         ensures nets { IsNets self.new }
@@ -114,8 +125,9 @@ fn pair_out(nets: &mut Nets, ports: &Ports, inner: u32, outer: u32, pair: &Pair)
     }
 }
 
-// Copies the nets of the outputs of a subcircuit to their actuals.
-fn pairs_out(nets: &mut Nets, ports: &Ports, inner: u32, outer: u32, pairs: &[Pair])
+/// Copies the nets of the outputs of a subcircuit to their actuals. It takes time linear in the bytes of the pairs, on average
+/// over the hashes.
+pub(crate) fn pairs_out(nets: &mut Nets, ports: &Ports, inner: u32, outer: u32, pairs: &[Pair])
     requires { IsNets nets.old }
     ensures out { (child : ModelValue) → ports.now ≡ ports_value child → nets.new ≡ pairs_out (is_output child) inner outer nets.old pairs.now }
     ensures nets { IsNets nets.new }
@@ -136,8 +148,9 @@ fn pair_in(nets: &mut Nets, ports: &Ports, inner: u32, outer: u32, pair: &Pair)
     }
 }
 
-// Copies the nets of the actuals to the inputs of a subcircuit.
-fn pairs_in(nets: &mut Nets, ports: &Ports, inner: u32, outer: u32, pairs: &[Pair])
+/// Copies the nets of the actuals to the inputs of a subcircuit. It takes time linear in the bytes of the pairs, on average
+/// over the hashes.
+pub(crate) fn pairs_in(nets: &mut Nets, ports: &Ports, inner: u32, outer: u32, pairs: &[Pair])
     requires { IsNets nets.old }
     ensures inside { (child : ModelValue) → ports.now ≡ ports_value child → nets.new ≡ pairs_in (is_input child) inner outer nets.old pairs.now }
     ensures nets { IsNets nets.new }

@@ -1,6 +1,7 @@
 //! The ports of the models, each found by its hash.
 ghost use Rattle.std.specs.Prelude.{◌≡◌, ◌++◌, ◌∷◌, [], map, IfOk, OnOk};
 ghost use Rattle.list_words.specs.Members.{In};
+ghost use Rattle.tl_text.specs.NameIndex.{place_of};
 ghost use Rattle.blif_read.specs.LibraryValue.{ModelValue};
 ghost use Rattle.blif_read.specs.WellFormed.{IsWellFormedModel};
 ghost use Rattle.blif_flat.specs.Models.{has_name, is_input as input_of, is_output as output_of};
@@ -38,6 +39,13 @@ impl Ports {
         ensures model { (m : ModelValue) → self.now ≡ ports_value m → result ≡ input_of m name.now }
     {
         is_among(&self.inputs, name)
+    }
+
+    /// The place of a name among the inputs, counted from 0; `None` where it isn't one.
+    pub(crate) fn input_place(&self, name: &[u8]) -> Option<usize>
+        ensures { result ≡ place_of self.now.inputs name.now }
+    {
+        self.inputs.place(name)
     }
 
     /// Is the name among the outputs? It may be an input too.

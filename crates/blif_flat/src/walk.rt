@@ -10,13 +10,14 @@ ghost use Rattle.blif_read.specs.declared.command.Body.TheVariants.{Subckt as su
 ghost use Rattle.blif_flat.specs.declared.walk_state.Mark.{Mark};
 ghost use Rattle.blif_flat.specs.declared.walk_state.Mark.TheVariants.{New};
 ghost use Rattle.blif_flat.specs.Stack.{models_at, IsWalk, IsStep, IsRun, Resumes, entered, advanced, fresh, placed_by};
+ghost use Rattle.blif_flat.specs.Weighing.{AreChildrenFirst};
 ghost use Rattle.blif_flat.specs.Walk.{walked, refused, WalksMain};
 
 use crate::flat_err::FlatErr;
 use crate::model_index::ModelIndex;
 use crate::place_check::check_line;
 use crate::ports::Ports;
-use crate::walk_state::{Frame, WalkState};
+use crate::walk_state::{Frame, WalkOrders, WalkState};
 use blif_read::{BlifModel, Body, Library, Subckt};
 use std::alloc::{AllocError, Global};
 
@@ -86,10 +87,7 @@ fn step(
 {
     let model = &models[frame.model as usize];
     match model.commands.get(frame.place) {
-        None => {
-            walk.leave(frame);
-            Ok(())
-        }
+        None => Ok(walk.leave(frame)?),
         Some(command) => match &command.body {
             Body::Cover(_) => Ok(walk.advance(frame)?),
             Body::Latch(_) => Ok(walk.advance(frame)?),
@@ -140,7 +138,7 @@ fn run(
 // The state in which the main model is begun.
 fn main_begun(alloc: Global, count: usize) -> Result<WalkState, AllocError>
     requires { 0 < count }
-    ensures { IfOk result (λ w. w ≡ entered (record { marks = replicate count New; begun = []; frames = [] }) 0) }
+    ensures { IfOk result (λ w. w ≡ entered (record { marks = replicate count New; begun = []; ended = []; frames = [] }) 0) }
 {
     let mut walk = WalkState::new(alloc, count)?;
     walk.enter(0)?;
@@ -153,23 +151,26 @@ fn walk_slice(
     models: &[BlifModel],
     index: &ModelIndex,
     ports: &[Ports],
-) -> Result<Vec<u32>, FlatErr>
+) -> Result<WalkOrders, FlatErr>
     requires index { index.now.names ≡ model_names models.now }
     requires ports { ports.now ≡ map ports_value models.now }
     requires names { AreOnce (model_names models.now) }
     requires some { 0 < length models.now }
-    ensures ok { IfOk result (λ v. (main : ModelValue) → slice_get models.now 0 ≡ Some main → WalksMain (record { models = models.now }) main (walked (models_at models.now v.items))) }
-    ensures within { IfOk result (λ v. (n : ℕ) → In v.items n → n < length models.now) }
+    ensures ok { IfOk result (λ w. (main : ModelValue) → slice_get models.now 0 ≡ Some main → WalksMain (record { models = models.now }) main (walked (models_at models.now w.begun.items))) }
+    ensures within { IfOk result (λ w. (n : ℕ) → In w.begun.items n → n < length models.now) }
+    ensures children { IfOk result (λ w. AreChildrenFirst (record { models = models.now }) w.ended.items) }
+    ensures main { IfOk result (λ w. In w.ended.items 0) }
     ensures err { IfErr result (λ e. (main : ModelValue) → slice_get models.now 0 ≡ Some main → Refuses e (λ r. WalksMain (record { models = models.now }) main (refused r))) }
 {
     let begun = main_begun(alloc, models.len())?;
     match run(alloc, models, index, ports, begun) {
-        Ok(end) => Ok(end.into_begun()),
+        Ok(end) => Ok(end.into_orders()),
         Err(error) => Err(error),
     }
 }
 
-/// The numbers of the models that the walk from the main model begins, in this order. It takes time linear in the bytes of
+/// The numbers of the models that the walk from the main model begins, in this order, and in that in which their walks end:
+/// each model stands behind those that it places, and the main model is among them. It takes time linear in the bytes of
 /// the walked models' ports and of their `.subckt` lines with the ports that these place, on average over the hashes, and
 /// no stack of calls: the chain of models that are being walked stands in memory.
 ///
@@ -180,18 +181,20 @@ pub(crate) fn walk_models(
     alloc: Global,
     library: &Library,
     ports: &[Ports],
-) -> Result<Vec<u32>, FlatErr>
+) -> Result<WalkOrders, FlatErr>
     requires formed { IsWellFormed library.now }
     requires few { length library.now.models < 2 ^ 32 }
     requires ports { ports.now ≡ map ports_value library.now.models }
-    ensures ok { IfOk result (λ v. (main : ModelValue) → slice_get library.now.models 0 ≡ Some main → WalksMain library.now main (walked (models_at library.now.models v.items))) }
-    ensures within { IfOk result (λ v. (n : ℕ) → In v.items n → n < length library.now.models) }
+    ensures ok { IfOk result (λ w. (main : ModelValue) → slice_get library.now.models 0 ≡ Some main → WalksMain library.now main (walked (models_at library.now.models w.begun.items))) }
+    ensures within { IfOk result (λ w. (n : ℕ) → In w.begun.items n → n < length library.now.models) }
+    ensures children { IfOk result (λ w. AreChildrenFirst library.now w.ended.items) }
+    ensures main { IfOk result (λ w. In w.ended.items 0) }
     ensures err { IfErr result (λ e. (main : ModelValue) → slice_get library.now.models 0 ≡ Some main → Refuses e (λ r. WalksMain library.now main (refused r))) }
 {
     let models = library.models.as_slice();
     let index = ModelIndex::make(alloc, models)?;
     match walk_slice(alloc, models, &index, ports) {
-        Ok(begun) => Ok(begun),
+        Ok(walked) => Ok(walked),
         Err(error) => Err(error),
     }
 }

@@ -24,12 +24,22 @@ pub(crate) struct Frame {
     pub(crate) place: usize,
 }
 
-/// A mark for each model, the numbers of the models that were begun in order, and the frames of those that are being
-/// walked.
+/// The numbers of the walked models.
+#[derive(Drop)]
+pub(crate) struct WalkOrders {
+    /// In the order in which their walks begin.
+    pub(crate) begun: Vec<u32>,
+    /// In the order in which their walks end.
+    pub(crate) ended: Vec<u32>,
+}
+
+/// A mark for each model, the numbers of the models that were begun and of those that have ended, each in order, and the
+/// frames of those that are being walked.
 #[derive(Drop)]
 pub(crate) struct WalkState {
     marks: Vec<Mark>,
     begun: Vec<u32>,
+    ended: Vec<u32>,
     frames: Vec<Frame>,
 }
 
@@ -39,18 +49,19 @@ impl Model for WalkState {
 
     ghost Value = { WalkValue };
 
-    ghost view = { λ w. record { marks = w.marks.items; begun = w.begun.items; frames = reverse w.frames.items } };
+    ghost view = { λ w. record { marks = w.marks.items; begun = w.begun.items; ended = w.ended.items; frames = reverse w.frames.items } };
 }
 
 impl WalkState {
     /// The state before the first model is begun.
     pub(crate) fn new(alloc: Global, count: usize) -> Result<WalkState, AllocError>
-        ensures { IfOk result (λ w. w ≡ record { marks = replicate count New; begun = []; frames = [] }) }
+        ensures { IfOk result (λ w. w ≡ record { marks = replicate count New; begun = []; ended = []; frames = [] }) }
     {
         let marks = vec![in alloc; Mark::New; count]?;
         Ok(WalkState {
             marks,
             begun: Vec::new(alloc),
+            ended: Vec::new(alloc),
             frames: Vec::new(alloc),
         })
     }
@@ -113,12 +124,14 @@ impl WalkState {
     }
 
     /// Ends the model of the innermost frame, which is given.
-    pub(crate) fn leave(&mut self, frame: Frame)
+    pub(crate) fn leave(&mut self, frame: Frame) -> Result<(), AllocError>
         requires { frame.model < length self.old.marks }
-        ensures { self.new ≡ left self.old frame }
+        ensures { OnOk result (self.new ≡ left self.old frame) }
     {
+        self.ended.push(frame.model)?;
         let _last = self.frames.pop();
         self.marks[frame.model as usize] = Mark::Done;
+        Ok(())
     }
 
     /// Goes on behind the next command of the innermost frame, which is given.
@@ -134,10 +147,14 @@ impl WalkState {
         Ok(())
     }
 
-    /// The numbers of the models that were begun.
-    pub(crate) fn into_begun(self) -> Vec<u32>
-        ensures { result.items ≡ self.begun }
+    /// The numbers of the models that were begun, and of those that have ended.
+    pub(crate) fn into_orders(self) -> WalkOrders
+        ensures begun { result.begun.items ≡ self.begun }
+        ensures ended { result.ended.items ≡ self.ended }
     {
-        self.begun
+        WalkOrders {
+            begun: self.begun,
+            ended: self.ended,
+        }
     }
 }

@@ -1,5 +1,5 @@
 -- What every netlist of a library keeps.
-use Rattle.std.proofs.Common.{◌≡◌, ℕ, zero, suc, ◌+◌, ◌*◌, ◌<◌, ◌≤◌, Bool, true, false, not, ◌&&◌, eqb, nat_lt, List, [], ◌∷◌, ◌++◌, length, get_or, take, drop, bytes_eq, Option, Some, None, Ok, Err, refl, sym, ap, ◌∙◌, subst, inl, inr, arith}
+use Rattle.std.proofs.Common.{◌≡◌, ℕ, zero, suc, ◌+◌, ◌*◌, ◌<◌, ◌≤◌, Bool, true, false, not, ◌&&◌, eqb, nat_lt, List, [], ◌∷◌, ◌++◌, length, get_or, take, drop, bytes_eq, Some, None, Ok, Err, refl, sym, ap, ◌∙◌, subst, inl, inr, arith}
 use Rattle.std.specs.List.{slice_get, list_all}
 use Rattle.std.proofs.lemmas.Option.{none-some, same_Some, slice_get_within, get_or_from_slice_get}
 use Rattle.std.proofs.lemmas.Slice.Eq.{bytes_eq-Decides}
@@ -19,7 +19,7 @@ use Rattle.blif_read.specs.WellFormed as library_form
 use Rattle.blif_read.proofs.FitsLemmas.{once_has}
 use Rattle.tlut_cli.specs.Netlist.{NetlistValue}
 use Rattle.tlut_cli.specs.NetlistGraph.{IsWellFormed, IsCoverOver}
-use Rattle.tlut_cli.specs.Built.{is_input, is_built_cover, is_built, built_then, unbuilt_command, body_cover, cover_in, netlist_in, is_driven, has_built_ports, with_ports, with_commands, netlist_of_models, netlist_of}
+use Rattle.tlut_cli.specs.Built.{is_input, is_built_cover, is_built, are_built, body_cover, cover_in, netlist_in, is_driven, has_built_ports, is_built_model, netlist_or_line, netlist_of_models, netlist_of}
 use Rattle.tlut_cli.proofs.ListLemmas.{is_none, all_member, position_is, position_none}
 use Rattle.tlut_cli.proofs.TextLemmas.{ok_or_err, ok_once}
 
@@ -64,37 +64,28 @@ built_cover_over m cover built form =
       cells = form;
     }
 
-built_then_true : (b : Bool) (command : Command) (commands : List Command) → built_then b command commands ≡ None → b ≡ true
-built_then_true true command commands h = refl
-built_then_true false command commands h = absurd (none-some command.line (sym h))
-
 body_over : (m : ModelValue) (body : Body) (cover : CoverValue) → is_built m.inputs body ≡ true → IsWellFormedBody body → body_cover body ≡ Some cover → IsCoverOver m.inputs cover
 body_over m (Cover made) cover built form h = subst (IsCoverOver m.inputs) (same_Some made cover h) (built_cover_over m made built form)
 body_over m (Latch latch) cover built form h = absurd (none-some cover h)
 body_over m (Subckt subckt) cover built form h = absurd (none-some cover h)
 
-commands_over : (m : ModelValue) (commands : List Command) (cover : CoverValue) → unbuilt_command m.inputs commands ≡ None → ((command : Command) → In commands command → IsWellFormedBody command.body)
+commands_over : (m : ModelValue) (commands : List Command) (cover : CoverValue) → are_built m.inputs commands ≡ true → ((command : Command) → In commands command → IsWellFormedBody command.body)
     → cover_in commands ≡ Some cover → IsCoverOver m.inputs cover
 commands_over m [] cover built form h = absurd (none-some cover h)
 commands_over m (command ∷ commands) cover built form h =
-    body_over m command.body cover (built_then_true (is_built m.inputs command.body) command commands built) (form command (inl refl)) h
+    body_over m command.body cover (and_parts (is_built m.inputs command.body) (eqb (length commands) 0) built).0 (form command (inl refl)) h
 
 -- the parts of a model that is built
 record IsBuilt (m : ModelValue) (n : NetlistValue) : Type 0 where
-  commands : unbuilt_command m.inputs m.commands ≡ None
+  commands : are_built m.inputs m.commands ≡ true
   ports : has_built_ports m ≡ true
   is : netlist_in m ≡ n
 
-ports_built : (m : ModelValue) (n : NetlistValue) (b : Bool) → has_built_ports m ≡ b → with_ports b m ≡ Ok n → (b ≡ true) × (netlist_in m ≡ n)
-ports_built m n true e h = (refl, ok_once (Ok n) (netlist_in m) n (sym h) refl)
-ports_built m n false e h = absurd (ok_or_err (Err m.line) n m.line h refl)
-
-models_built : (m : ModelValue) (ms : List ModelValue) (n : NetlistValue) (o : Option ℕ) → unbuilt_command m.inputs m.commands ≡ o → with_commands o m ms ≡ Ok n → IsBuilt m n
-models_built m ms n (Some line) e h = absurd (ok_or_err (Err line) n line h refl)
-models_built m [] n None e h =
-    let p = ports_built m n (has_built_ports m) refl h in
-    record { commands = e; ports = p.0; is = p.1 }
-models_built m (second ∷ ms) n None e h = absurd (ok_or_err (Err second.line) n second.line h refl)
+model_built : (m : ModelValue) (n : NetlistValue) (b : Bool) → is_built_model m ≡ b → netlist_or_line b m ≡ Ok n → IsBuilt m n
+model_built m n true e h =
+    let parts = and_parts (are_built m.inputs m.commands) (has_built_ports m) e in
+    record { commands = parts.0; ports = parts.1; is = ok_once (Ok n) (netlist_in m) n (sym h) refl }
+model_built m n false e h = absurd (ok_or_err (Err m.line) n m.line h refl)
 
 model_formed : (m : ModelValue) (n : NetlistValue) → IsBuilt m n → IsWellFormedModel m → names_size m.inputs < 2 * 67108864 → IsWellFormed n
 model_formed m n built form small =
@@ -112,7 +103,7 @@ built_formed library n form small h = by_models library.models form.each small h
   where
     by_models : (models : List ModelValue) → ((m : ModelValue) → In models m → IsWellFormedModel m) → models_size models ≤ 67108865 → netlist_of_models models ≡ Ok n → IsWellFormed n
     by_models [] each size k = absurd (ok_or_err (Err 1) n 1 k refl)
-    by_models (m ∷ ms) each size k = model_formed m n (models_built m ms n (unbuilt_command m.inputs m.commands) refl k) (each m (inl refl)) (omega arith)
+    by_models (m ∷ ms) each size k = model_formed m n (model_built m n (is_built_model m) refl k) (each m (inl refl)) (omega arith)
 
 -- a name behind others of which none stands twice is new among them
 pub once_new : (names : List (List ℕ)) (i : ℕ) (d : List ℕ) → AreOnce names → i < length names → place_of (take i names) (get_or names i d) ≡ None

@@ -5,7 +5,9 @@ use Rattle.tl_text.specs.declared.text_err.TextErr.{TextErr}
 use Rattle.tl_text.specs.declared.text_err.TextErr.TheVariants as text_err
 use Rattle.blif_read.specs.declared.blif_err.BlifErr.{BlifErr}
 use Rattle.blif_read.specs.declared.blif_err.BlifErr.TheVariants as blif_err
-use Rattle.tlut_cli.specs.Texts.{text_refusal, blif_refusal, NetlistRefusal, ParamsRefusal, ScriptRefusal}
+use Rattle.blif_flat.specs.declared.flat_err.FlatErr.{FlatErr}
+use Rattle.blif_flat.specs.declared.flat_err.FlatErr.TheVariants as flat_err
+use Rattle.tlut_cli.specs.Texts.{text_refusal, blif_refusal, flat_refusal, NetlistRefusal, ParamsRefusal, ScriptRefusal}
 use Rattle.tlut_cli.specs.Texts as texts
 use Rattle.tlut_cli.specs.Words.{JobWords}
 use Rattle.tlut_cli.specs.Netlist.{NetlistValue}
@@ -76,12 +78,27 @@ blif_not_long (blif_err.BadConnection n) h = cc
 blif_not_long blif_err.NoModel h = cc
 blif_not_long blif_err.Memory h = cc
 
+flat_not_long : (e : FlatErr) → flat_refusal e ≡ Some TooLong → ⊥
+flat_not_long (flat_err.UnknownModel m n name) h = cc
+flat_not_long (flat_err.RecursiveModel chain) h = cc
+flat_not_long (flat_err.UnknownFormal m n name) h = cc
+flat_not_long (flat_err.Unconnected m n name) h = cc
+flat_not_long flat_err.TooLarge h = cc
+flat_not_long (flat_err.DoublyDriven m n name) h = cc
+flat_not_long (flat_err.Undriven m n name) h = cc
+flat_not_long (flat_err.SecondClock first second) h = cc
+flat_not_long (flat_err.ClockNotInput net) h = cc
+flat_not_long (flat_err.ClockAsData net) h = cc
+flat_not_long (flat_err.Loop nets) h = cc
+flat_not_long flat_err.Memory h = cc
+
 unbuilt_not_long : (line : ℕ) → TooLong ≡ Unbuilt line → ⊥
 unbuilt_not_long line h = cc
 
 pub netlist_given : (text : List ℕ) (r : Refusal) (given : ℕ) → given ≤ 67108864 → NetlistRefusal text r → GivenAt r given
 netlist_given text r given g (texts.NetlistRefusal.fault e f is) = given_else r given g (λ q. blif_not_long e (is ∙ ap (λ x. Some x) q))
-netlist_given text r given g (texts.NetlistRefusal.unbuilt library line d err is) = given_else r given g (λ q. unbuilt_not_long line (sym q ∙ is))
+netlist_given text r given g (texts.NetlistRefusal.unsound library e d f is) = given_else r given g (λ q. flat_not_long e (is ∙ ap (λ x. Some x) q))
+netlist_given text r given g (texts.NetlistRefusal.unbuilt library line d flat err is) = given_else r given g (λ q. unbuilt_not_long line (sym q ∙ is))
 
 pub params_given : (text : List ℕ) (r : Refusal) (given : ℕ) → given ≤ 67108864 → ParamsRefusal text r → GivenAt r given
 params_given text r given g (texts.ParamsRefusal.fault e f is) = given_else r given g (λ q. not_long e (is ∙ ap (λ x. Some x) q))

@@ -18,7 +18,7 @@ use Rattle.tlut_cli.specs.Verdict.{Job}
 use Rattle.tlut_cli.specs.Ends.{Told}
 use Rattle.tlut_cli.specs.Call.{IsEnd, HasDone}
 use Rattle.tlut_cli.specs.Statuses.{status_of}
-use Rattle.tlut_cli.specs.declared.outcome.Refusal.TheVariants.{TooLong, TooManyNodes, NodeCuts, TotalCuts, Work}
+use Rattle.tlut_cli.specs.declared.outcome.Refusal.TheVariants.{TooLong, TooLarge, TooManyNodes, NodeCuts, TotalCuts, Work}
 use Rattle.tlut_cli.specs.declared.outcome.Outcome.{Outcome}
 use Rattle.tlut_cli.specs.declared.outcome.Outcome.TheVariants as outcome
 use Rattle.tlut_cli.specs.declared.status.Status.{Status}
@@ -126,6 +126,7 @@ done_is words old new before after outcome.Done s e (inl u) h = absurd (differ u
     differ k = cc
 done_is words old new before after outcome.Done s e (inr run) h = λ files told. record { job = run.job; is = run.is; done = run.ends.1 files told }
 done_is words old new before after (outcome.Refused f TooLong) s e end h = not_done s status.Limit e (λ k. cc) h
+done_is words old new before after (outcome.Refused f TooLarge) s e end h = not_done s status.Limit e (λ k. cc) h
 done_is words old new before after (outcome.Refused f TooManyNodes) s e end h = not_done s status.Limit e (λ k. cc) h
 done_is words old new before after (outcome.Refused f (NodeCuts at)) s e end h = not_done s status.Limit e (λ k. cc) h
 done_is words old new before after (outcome.Refused f (TotalCuts at)) s e end h = not_done s status.Limit e (λ k. cc) h

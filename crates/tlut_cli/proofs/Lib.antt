@@ -6,8 +6,11 @@ pub mod LineLemmas
 pub mod ListLemmas
 pub mod ScriptLemmas
 pub mod BuiltLemmas
+pub mod SizeLemmas
 pub mod EndLemmas
 pub mod PutLemmas
+pub mod SpacedLemmas
+pub mod DetailedLemmas
 pub mod DoneLemmas
 pub mod LeastLemmas
 pub mod OnceLemmas

@@ -1,5 +1,5 @@
 -- Lists with a test, and choices whose value is known.
-use Rattle.std.proofs.Common.{◌≡◌, ℕ, zero, suc, ◌+◌, ◌<◌, Bool, true, false, not, cond, ltb, List, [], ◌∷◌, ◌++◌, length, get_or, Option, Some, None, is_some, refl, sym, ap, ◌∙◌, subst, inl, inr, arith}
+use Rattle.std.proofs.Common.{◌≡◌, ℕ, zero, suc, ◌+◌, ◌<◌, Bool, true, false, not, cond, ltb, List, [], ◌∷◌, length, get_or, Option, Some, None, is_some, refl, sym, ap, ◌∙◌, subst, inl, inr, arith}
 use Rattle.std.specs.List.{position, position_or_len, list_any, list_all}
 use Rattle.std.proofs.lemmas.Option.{none-some}
 use Rattle.std.proofs.lemmas.Bool.{and_parts, or_parts, cond-true, cond-false, lt-ltb, le-ltb, false≢true}
@@ -43,7 +43,3 @@ none_pass test (x ∷ xs) h =
 pub position_none : {A : Type 0} (test : A → Bool) (xs : List A) → list_any test xs ≡ false → position test xs ≡ None
 position_none test xs h =
     subst (λ q. cond (ltb q (length xs)) (Some q) None ≡ None) (sym (none_pass test xs h)) (cond-false (ltb (length xs) (length xs)) (Some (length xs)) None (le-ltb (length xs) (length xs) (omega arith)))
-
-pub last_member : {A : Type 0} (xs : List A) (x : A) → In (xs ++ x ∷ []) x
-last_member [] x = inl refl
-last_member (y ∷ ys) x = inr (last_member ys x)

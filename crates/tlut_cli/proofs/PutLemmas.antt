@@ -37,6 +37,17 @@ put_part told mid new front piece rest all e f n h g =
     let long : length front + n ≤ length all = omega (arith, h, ap length e, length-append front (piece ++ rest), length-append piece rest) in
     (length front + n, long, g ∙ (ap (λ (o : Option (List ℕ)). extended o (take n piece)) f ∙ (extended_twice told front (take n piece) ∙ ap (extended told) (sym cut))))
 
+-- a piece that failed behind others that were put, with or without a rest that wasn't
+pub put_failed : (told mid new : Option (List ℕ)) (front piece rest : List ℕ) → mid ≡ extended told front → (n : ℕ) × (n ≤ length piece) × (new ≡ extended mid (take n piece))
+    → (m : ℕ) × (m ≤ length (front ++ (piece ++ rest))) × (new ≡ extended told (take m (front ++ (piece ++ rest))))
+put_failed told mid new front piece rest f part = put_part told mid new front piece rest (front ++ (piece ++ rest)) refl f part.0 part.1 part.2
+
+-- one put behind another is both
+pub puts_behind : {E : Type 0} (told mid new : Option (List ℕ)) (front piece : List ℕ) (result : Result Unit E) → mid ≡ extended told front → Puts mid new piece result → Puts told new (front ++ piece) result
+puts_behind told mid new front piece (Ok u) f puts = puts ∙ (ap (λ (o : Option (List ℕ)). extended o piece) f ∙ extended_twice told front piece)
+puts_behind told mid new front piece (Err e) f puts =
+    put_part told mid new front piece [] (front ++ piece) (ap (λ (t : List ℕ). front ++ t) (sym (append-nil piece))) f puts.0 puts.1 puts.2
+
 -- what a put says is what a report says
 pub reports : {E : Type 0} (before now : ℕ) (old new : Option (List ℕ)) (line : List ℕ) (result : Result Unit E) → HasCause before now result → Puts old new line result → Reports before now old new line
 reports before now old new line (Ok u) cause puts = inl puts

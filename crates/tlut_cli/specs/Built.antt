@@ -1,4 +1,4 @@
--- Of the libraries that a text denotes, those that run so far: one model without clock names, of at most one cover.
+-- Of the libraries that flatten, those that run so far: the main model has no clock names and at most one command, a cover.
 use Rattle.std.specs.Prelude.{ℕ, Bool, true, false, ◌&&◌, ◌||◌, not, nat_lt, ◌==◌, List, [], ◌∷◌, length, bytes_eq, Option, Some, None, Result, Ok, Err, is_some}
 use Rattle.std.specs.List.{list_all}
 use Rattle.tl_text.specs.NameIndex.{place_of}
@@ -22,18 +22,10 @@ is_built inputs (Cover cover) = is_built_cover inputs cover
 is_built inputs (Latch latch) = false
 is_built inputs (Subckt subckt) = false
 
--- the line of the first command that isn't built: one cover is built, and none behind it
-abbrev pub first_line : List Command → Option ℕ
-first_line [] = None
-first_line (command ∷ commands) = Some command.line
-
-abbrev pub built_then : Bool → Command → List Command → Option ℕ
-built_then true command commands = first_line commands
-built_then false command commands = Some command.line
-
-abbrev pub unbuilt_command : List (List ℕ) → List Command → Option ℕ
-unbuilt_command inputs [] = None
-unbuilt_command inputs (command ∷ commands) = built_then (is_built inputs command.body) command commands
+-- at most one command, which is built
+abbrev pub are_built : List (List ℕ) → List Command → Bool
+are_built inputs [] = true
+are_built inputs (command ∷ commands) = is_built inputs command.body && (length commands == 0)
 
 -- the cover of a model whose commands are built
 abbrev pub body_cover : Body → Option CoverValue
@@ -60,23 +52,18 @@ is_driven n name = is_input n.inputs name || is_cover_output n.cover name
 abbrev pub has_built_ports : ModelValue → Bool
 has_built_ports m = (length m.clocks == 0) && list_all (is_driven (netlist_in m)) m.outputs
 
--- the netlist of the main model, or the line of the first command that isn't built, else of the second model, else of the main model
-abbrev pub with_ports : Bool → ModelValue → Result NetlistValue ℕ
-with_ports true m = Ok (netlist_in m)
-with_ports false m = Err m.line
+-- the netlist of the main model, or its line where it isn't built; models that aren't reached are free
+abbrev pub is_built_model : ModelValue → Bool
+is_built_model m = are_built m.inputs m.commands && has_built_ports m
 
-abbrev pub with_models : ModelValue → List ModelValue → Result NetlistValue ℕ
-with_models m [] = with_ports (has_built_ports m) m
-with_models m (second ∷ models) = Err second.line
-
-abbrev pub with_commands : Option ℕ → ModelValue → List ModelValue → Result NetlistValue ℕ
-with_commands None m models = with_models m models
-with_commands (Some line) m models = Err line
+abbrev pub netlist_or_line : Bool → ModelValue → Result NetlistValue ℕ
+netlist_or_line true m = Ok (netlist_in m)
+netlist_or_line false m = Err m.line
 
 abbrev pub netlist_of_models : List ModelValue → Result NetlistValue ℕ
 netlist_of_models [] = Err 1
-netlist_of_models (m ∷ models) = with_commands (unbuilt_command m.inputs m.commands) m models
+netlist_of_models (m ∷ models) = netlist_or_line (is_built_model m) m
 
--- the netlist of a library, or the line of what isn't built
+-- the netlist of a library, or the line of the main model where it isn't built
 abbrev pub netlist_of : LibraryValue → Result NetlistValue ℕ
 netlist_of library = netlist_of_models library.models

@@ -1,10 +1,10 @@
 -- The line on the error output.
-use Rattle.std.specs.Prelude.{◌≡◌, ℕ, ◌≤◌, ◌⊎◌, take, length, codes, decimal, [], ◌∷◌, List, Option, Some, None}
+use Rattle.std.specs.Prelude.{◌≡◌, ℕ, ◌≤◌, ◌⊎◌, take, length, codes, decimal, [], ◌∷◌, ◌++◌, List, Option, Some, None}
 use Rattle.std.specs.List.{concat}
 use Rattle.tl_io.specs.Causes.{Rose}
 use Rattle.tl_io.specs.Content.{extended}
 use Rattle.tlut_cli.specs.declared.outcome.Refusal.{Refusal}
-use Rattle.tlut_cli.specs.declared.outcome.Refusal.TheVariants.{TooLong, BadByte, TrailingSlash, NotCommand, Unsupported, OutsideModel, Arity, BadRow, MixedRows, BadLatch, LatchKind, DuplicateModel, DuplicatePort, BadConnection, NoModel, Unbuilt, TooManyNodes, NodeCuts, TotalCuts, Work}
+use Rattle.tlut_cli.specs.declared.outcome.Refusal.TheVariants.{TooLong, BadByte, TrailingSlash, NotCommand, Unsupported, OutsideModel, Arity, BadRow, MixedRows, BadLatch, LatchKind, DuplicateModel, DuplicatePort, BadConnection, NoModel, UnknownModel, RecursiveModel, UnknownFormal, Unconnected, DoublyDriven, Undriven, SecondClock, ClockNotInput, ClockAsData, Loop, TooLarge, Unbuilt, TooManyNodes, NodeCuts, TotalCuts, Work}
 use Rattle.tlut_cli.specs.declared.outcome.Outcome.{Outcome}
 use Rattle.tlut_cli.specs.declared.outcome.Outcome.TheVariants as outcome
 
@@ -37,6 +37,17 @@ refusal_word (DuplicateModel n told) = codes ": B9 DuplicateModel line "
 refusal_word (DuplicatePort n told) = codes ": B10 DuplicatePort line "
 refusal_word (BadConnection n) = codes ": B11 BadConnection line "
 refusal_word NoModel = codes ": B12 NoModel"
+refusal_word (UnknownModel m n told) = codes ": F1 UnknownModel model "
+refusal_word (RecursiveModel chain) = codes ": F2 RecursiveModel"
+refusal_word (UnknownFormal m n told) = codes ": F3 UnknownFormal model "
+refusal_word (Unconnected m n told) = codes ": F4 Unconnected model "
+refusal_word (DoublyDriven m n told) = codes ": F5 DoublyDriven model "
+refusal_word (Undriven m n told) = codes ": F6 Undriven model "
+refusal_word (SecondClock first second) = codes ": F7 SecondClock"
+refusal_word (ClockNotInput net) = codes ": F8 ClockNotInput"
+refusal_word (ClockAsData net) = codes ": F9 ClockAsData"
+refusal_word (Loop nets) = codes ": F10 Loop"
+refusal_word TooLarge = codes ": L2 TooLarge"
 refusal_word (Unbuilt n) = codes ": X1 Unbuilt line "
 refusal_word TooManyNodes = codes ": L3 TooManyNodes"
 refusal_word (NodeCuts n) = codes ": L4 NodeCuts node "
@@ -60,6 +71,17 @@ refusal_number (DuplicateModel n told) = Some n
 refusal_number (DuplicatePort n told) = Some n
 refusal_number (BadConnection n) = Some n
 refusal_number NoModel = None
+refusal_number (UnknownModel m n told) = Some n
+refusal_number (RecursiveModel chain) = None
+refusal_number (UnknownFormal m n told) = Some n
+refusal_number (Unconnected m n told) = Some n
+refusal_number (DoublyDriven m n told) = Some n
+refusal_number (Undriven m n told) = Some n
+refusal_number (SecondClock first second) = None
+refusal_number (ClockNotInput net) = None
+refusal_number (ClockAsData net) = None
+refusal_number (Loop nets) = None
+refusal_number TooLarge = None
 refusal_number (Unbuilt n) = Some n
 refusal_number TooManyNodes = None
 refusal_number (NodeCuts n) = Some n
@@ -72,6 +94,18 @@ refusal_name (DuplicateModel n told) = Some told
 refusal_name (DuplicatePort n told) = Some told
 refusal_name other = None
 
+-- a line of a file's name, a word, a model's name, a line in it, and a name there
+abbrev pub located_line : List ℕ → List ℕ → List ℕ → ℕ → List ℕ → List ℕ
+located_line name word model number told = concat (codes "tlut: " ∷ name ∷ word ∷ model ∷ codes " line " ∷ decimal number ∷ codes " " ∷ told ∷ codes "\n" ∷ [])
+
+-- a line of a file's name, a word, and names, each after a blank
+abbrev pub spaced : List (List ℕ) → List ℕ
+spaced [] = []
+spaced (told ∷ names) = codes " " ++ (told ++ spaced names)
+
+abbrev pub listed_line : List ℕ → List ℕ → List (List ℕ) → List ℕ
+listed_line name word names = concat (codes "tlut: " ∷ name ∷ word ∷ []) ++ (spaced names ++ codes "\n")
+
 abbrev pub detailed_line : List ℕ → List ℕ → Option ℕ → Option (List ℕ) → List ℕ
 detailed_line name word None told = plain_line name word
 detailed_line name word (Some number) None = numbered_line name word number
@@ -79,6 +113,16 @@ detailed_line name word (Some number) (Some told) = named_line name word number 
 
 -- the line of a refusal in the file of this name
 abbrev pub refusal_line : List ℕ → Refusal → List ℕ
+refusal_line name (UnknownModel m n told) = located_line name (refusal_word (UnknownModel m n told)) m n told
+refusal_line name (UnknownFormal m n told) = located_line name (refusal_word (UnknownFormal m n told)) m n told
+refusal_line name (Unconnected m n told) = located_line name (refusal_word (Unconnected m n told)) m n told
+refusal_line name (DoublyDriven m n told) = located_line name (refusal_word (DoublyDriven m n told)) m n told
+refusal_line name (Undriven m n told) = located_line name (refusal_word (Undriven m n told)) m n told
+refusal_line name (RecursiveModel chain) = listed_line name (refusal_word (RecursiveModel chain)) chain
+refusal_line name (SecondClock first second) = listed_line name (refusal_word (SecondClock first second)) (first ∷ second ∷ [])
+refusal_line name (ClockNotInput net) = listed_line name (refusal_word (ClockNotInput net)) (net ∷ [])
+refusal_line name (ClockAsData net) = listed_line name (refusal_word (ClockAsData net)) (net ∷ [])
+refusal_line name (Loop nets) = listed_line name (refusal_word (Loop nets)) nets
 refusal_line name refusal = detailed_line name (refusal_word refusal) (refusal_number refusal) (refusal_name refusal)
 
 -- the line of an outcome; none where the job is done

@@ -3,12 +3,13 @@ use Rattle.std.specs.Prelude.{ℕ}
 use Rattle.tlut_cli.specs.declared.status.Status.{Status}
 use Rattle.tlut_cli.specs.declared.status.Status.TheVariants as status
 use Rattle.tlut_cli.specs.declared.outcome.Refusal.{Refusal}
-use Rattle.tlut_cli.specs.declared.outcome.Refusal.TheVariants.{TooLong, TooManyNodes, NodeCuts, TotalCuts, Work}
+use Rattle.tlut_cli.specs.declared.outcome.Refusal.TheVariants.{TooLong, TooLarge, TooManyNodes, NodeCuts, TotalCuts, Work}
 use Rattle.tlut_cli.specs.declared.outcome.Outcome.{Outcome}
 use Rattle.tlut_cli.specs.declared.outcome.Outcome.TheVariants as outcome
 
 abbrev pub refusal_status : Refusal → Status
 refusal_status TooLong = status.Limit
+refusal_status TooLarge = status.Limit
 refusal_status TooManyNodes = status.Limit
 refusal_status (NodeCuts node) = status.Limit
 refusal_status (TotalCuts node) = status.Limit

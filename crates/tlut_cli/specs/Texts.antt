@@ -9,8 +9,12 @@ use Rattle.blif_read.specs.declared.blif_err.BlifErr.TheVariants as blif_err
 use Rattle.blif_read.specs.LibraryValue.{LibraryValue}
 use Rattle.blif_read.specs.Denotes.{Denotes}
 use Rattle.blif_read.specs.ReadFault.{read_fault}
+use Rattle.blif_flat.specs.declared.flat_err.FlatErr.{FlatErr}
+use Rattle.blif_flat.specs.declared.flat_err.FlatErr.TheVariants as flat_err
+use Rattle.blif_flat.specs.Faults.{IsFault}
+use Rattle.blif_flat.specs.Sound.{IsSound}
 use Rattle.tlut_cli.specs.declared.outcome.Refusal.{Refusal}
-use Rattle.tlut_cli.specs.declared.outcome.Refusal.TheVariants.{BadByte, TrailingSlash, NotCommand, Unsupported, OutsideModel, Arity, BadRow, MixedRows, BadLatch, LatchKind, DuplicateModel, DuplicatePort, BadConnection, NoModel, Unbuilt}
+use Rattle.tlut_cli.specs.declared.outcome.Refusal.TheVariants.{BadByte, TrailingSlash, NotCommand, Unsupported, OutsideModel, Arity, BadRow, MixedRows, BadLatch, LatchKind, DuplicateModel, DuplicatePort, BadConnection, NoModel, UnknownModel, RecursiveModel, UnknownFormal, Unconnected, TooLarge, DoublyDriven, Undriven, SecondClock, ClockNotInput, ClockAsData, Loop, Unbuilt}
 use Rattle.tlut_cli.specs.Netlist.{NetlistValue}
 use Rattle.tlut_cli.specs.Built.{netlist_of}
 use Rattle.tlut_cli.specs.Script.{vectors_of}
@@ -38,16 +42,37 @@ blif_refusal (blif_err.BadConnection n) = Some (BadConnection n)
 blif_refusal blif_err.NoModel = Some NoModel
 blif_refusal blif_err.Memory = None
 
--- a text denotes a library, which has this netlist
+abbrev pub flat_refusal : FlatErr → Option Refusal
+flat_refusal (flat_err.UnknownModel m n name) = Some (UnknownModel m n name)
+flat_refusal (flat_err.RecursiveModel chain) = Some (RecursiveModel chain)
+flat_refusal (flat_err.UnknownFormal m n name) = Some (UnknownFormal m n name)
+flat_refusal (flat_err.Unconnected m n name) = Some (Unconnected m n name)
+flat_refusal flat_err.TooLarge = Some TooLarge
+flat_refusal (flat_err.DoublyDriven m n name) = Some (DoublyDriven m n name)
+flat_refusal (flat_err.Undriven m n name) = Some (Undriven m n name)
+flat_refusal (flat_err.SecondClock first second) = Some (SecondClock first second)
+flat_refusal (flat_err.ClockNotInput net) = Some (ClockNotInput net)
+flat_refusal (flat_err.ClockAsData net) = Some (ClockAsData net)
+flat_refusal (flat_err.Loop nets) = Some (Loop nets)
+flat_refusal flat_err.Memory = None
+
+-- a library that flattens: it is sound, and no fault stands, its weight's neither
+pub record IsFlattened (library : LibraryValue) : Type 0 where
+  pub sound : IsSound library
+  pub clean : (fault : FlatErr) → ¬ (IsFault library fault)
+
+-- a text denotes a library that flattens and has this netlist
 pub record IsNetlistText (text : List ℕ) (n : NetlistValue) : Type 0 where
   pub library : LibraryValue
   pub denotes : Denotes text library
+  pub flattens : IsFlattened library
   pub is : netlist_of library ≡ Ok n
 
--- a netlist's text is refused: by its first refusal, else for what isn't built
+-- a netlist's text is refused: by its first refusal, else by its library's, else for what isn't built
 pub data NetlistRefusal (text : List ℕ) (refusal : Refusal) : Type 0 where
   fault : (e : BlifErr) → read_fault text ≡ Some e → blif_refusal e ≡ Some refusal → NetlistRefusal text refusal
-  unbuilt : (library : LibraryValue) (line : ℕ) → Denotes text library → netlist_of library ≡ Err line → refusal ≡ Unbuilt line → NetlistRefusal text refusal
+  unsound : (library : LibraryValue) (e : FlatErr) → Denotes text library → IsFault library e → flat_refusal e ≡ Some refusal → NetlistRefusal text refusal
+  unbuilt : (library : LibraryValue) (line : ℕ) → Denotes text library → IsFlattened library → netlist_of library ≡ Err line → refusal ≡ Unbuilt line → NetlistRefusal text refusal
 
 -- a list of parameters without any
 abbrev pub IsParamsText : List ℕ → Type 0

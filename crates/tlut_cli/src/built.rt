@@ -5,14 +5,15 @@ ghost use Rattle.blif_read.specs.Once.{AreOnce};
 ghost use Rattle.list_words.specs.Members.{In};
 ghost use Rattle.blif_read.specs.LibraryValue.{ModelValue};
 ghost use Rattle.blif_read.specs.WellFormed.{IsWellFormed as IsLibrary};
-ghost use Rattle.tlut_cli.specs.Built.{is_input as among, is_built_cover as built_cover, is_built as built, first_line as first_line_of, unbuilt_command as unbuilt, body_cover as cover_of, cover_in, is_driven as driven, netlist_of_models, netlist_of as netlist_of_library};
+ghost use Rattle.tlut_cli.specs.Built.{is_input as among, is_built_cover as built_cover, is_built as built, are_built as all_built, body_cover as cover_of, cover_in, is_driven as driven, netlist_of_models, netlist_of as netlist_of_library};
 ghost use Rattle.tlut_cli.specs.NetlistGraph.{IsWellFormed};
 ghost use Rattle.tlut_cli.specs.Texts.{IsNetlistText};
 ghost use Rattle.tlut_cli.specs.Stops.{StopsAt, StopsNetlist};
 
 use crate::netlist::Netlist;
 use crate::outcome::Refusal;
-use crate::stop::{Stop, blif_stop};
+use crate::stop::{Stop, blif_stop, flat_stop};
+use blif_flat::flatten;
 use blif_read::{BlifModel, Body, Command, Cover, Library, read};
 use std::alloc::{AllocError, Global};
 use tl_text::{Name, NameIndex};
@@ -64,29 +65,13 @@ fn is_built(inputs: &NameIndex, body: &Body) -> bool
     }
 }
 
-// The line of the first command.
-fn first_line(commands: &[Command]) -> Option<u32>
-    ensures { result ≡ first_line_of commands.now }
+// Is there at most one command, which is built?
+fn are_built(inputs: &NameIndex, commands: &[Command]) -> bool
+    ensures { result ≡ all_built inputs.now commands.now }
 {
     match commands {
-        [] => None,
-        [command, ..] => Some(command.line),
-    }
-}
-
-// The line of the first command that isn't built.
-fn unbuilt_command(inputs: &NameIndex, commands: &[Command]) -> Option<u32>
-    ensures { result ≡ unbuilt inputs.now commands.now }
-{
-    match commands {
-        [] => None,
-        [command, others @ ..] => {
-            if is_built(inputs, &command.body) {
-                first_line(others)
-            } else {
-                Some(command.line)
-            }
-        }
+        [] => true,
+        [command, others @ ..] => is_built(inputs, &command.body) && others.is_empty(),
     }
 }
 
@@ -131,68 +116,41 @@ fn all_driven(netlist: &Netlist) -> bool
     netlist.outputs.iter().all(|name| is_driven(netlist, name))
 }
 
-// The netlist of a model, or the line of what isn't built in it.
+// The netlist of a model, or its line where it isn't built.
 fn model_netlist(alloc: Global, model: BlifModel) -> Result<Netlist, Stop>
     requires { AreOnce model.inputs }
     ensures ok { IfOk result (λ n. netlist_of_models (model ∷ []) ≡ Ok n) }
     ensures err { IfErr result (λ e. StopsAt (netlist_of_models (model ∷ [])) e) }
 {
     let inputs = index_of(alloc, &model.inputs)?;
-    if let Some(line) = unbuilt_command(&inputs, &model.commands) {
-        return Err(Stop::Refused(Refusal::Unbuilt(line)));
-    }
     let line = model.line;
-    let clocked = !model.clocks.is_empty();
+    let built = are_built(&inputs, &model.commands) && model.clocks.is_empty();
     let netlist = Netlist {
         inputs,
         outputs: model.outputs,
         cover: first_cover(model.commands),
     };
-    if clocked || !all_driven(&netlist) {
+    if !built || !all_driven(&netlist) {
         return Err(Stop::Refused(Refusal::Unbuilt(line)));
     }
     Ok(netlist)
 }
 
-// The line of what isn't built in several models: a command of the first one, else the second one.
-fn second_line(alloc: Global, models: &[BlifModel]) -> Result<Option<u32>, AllocError>
-    requires { (m : ModelValue) → In models.now m → AreOnce m.inputs }
-    ensures { IfOk result (λ line. MatchOption line (length models.now ≤ 1) (λ n. netlist_of_models models.now ≡ Err n)) }
-{
-    match models {
-        [] => Ok(None),
-        [_] => Ok(None),
-        [first, second, ..] => {
-            let inputs = index_of(alloc, &first.inputs)?;
-            match unbuilt_command(&inputs, &first.commands) {
-                None => Ok(Some(second.line)),
-                Some(line) => Ok(Some(line)),
-            }
-        }
-    }
-}
-
-// The netlist of a library, or the line of what isn't built.
+// The netlist of a library, or the line of the main model where it isn't built.
 fn library_netlist(alloc: Global, library: Library) -> Result<Netlist, Stop>
     requires { IsLibrary library }
     ensures ok { IfOk result (λ n. netlist_of_library library ≡ Ok n) }
     ensures err { IfErr result (λ e. StopsAt (netlist_of_library library) e) }
 {
     let mut models = library.models;
-    if let Some(line) = second_line(alloc, &models)? {
-        return Err(Stop::Refused(Refusal::Unbuilt(line)));
-    }
-    match models.pop() {
-        None => Err(Stop::Memory),
-        Some(model) => model_netlist(alloc, model),
-    }
+    model_netlist(alloc, models.remove(0))
 }
 
 /// The netlist that a text denotes.
 ///
 /// # Errors
-/// `Refused` with the first refusal of the text, else with the line of what isn't built yet; `Memory` where there is
-/// none.
+/// `Refused` with the first refusal of the text, else with that of its library, else with the line of the main model where
+/// it isn't built yet; `Memory` where there is none.
 pub fn read_netlist(alloc: Global, text: &[u8]) -> Result<Netlist, Stop>
     requires { length text.now ≤ 67108864 }
     ensures ok { IfOk result (λ n. IsNetlistText text.now n) }
@@ -203,6 +161,10 @@ pub fn read_netlist(alloc: Global, text: &[u8]) -> Result<Netlist, Stop>
         Ok(library) => library,
         Err(error) => return Err(blif_stop(error)),
     };
+    match flatten(alloc, &library) {
+        Ok(_) => {}
+        Err(error) => return Err(flat_stop(error)),
+    }
     match library_netlist(alloc, library) {
         Ok(netlist) => Ok(netlist),
         Err(stop) => Err(stop),

@@ -1,13 +1,14 @@
 //! The line on the error output.
-ghost use Rattle.std.specs.Prelude.{◌≡◌, ◌≤◌, ℕ, List, map};
+ghost use Rattle.std.specs.Prelude.{◌≡◌, ◌≤◌, ℕ, [], ◌∷◌, List, map};
 ghost use Rattle.std.specs.List.{concat};
 ghost use Rattle.tl_io.specs.Causes.{HasCause, Rose};
 ghost use Rattle.tl_io.specs.Content.{Puts};
-ghost use Rattle.tlut_cli.specs.FaultLine.{Reports, line_of, refusal_line, plain_line, numbered_line, named_line};
+ghost use Rattle.tlut_cli.specs.FaultLine.{Reports, refusal_word, refusal_number, refusal_name, detailed_line, line_of, refusal_line, plain_line, numbered_line, named_line, located_line, spaced, listed_line};
 
 use crate::outcome::{Outcome, Refusal};
 use itoa::Buffer;
 use tl_io::{Failed, Sink};
+use tl_text::Name;
 
 // Puts the pieces one after another, up to the first that fails.
 fn put_all<S: Sink>(sink: &mut S, pieces: &[&[u8]]) -> Result<(), Failed>
@@ -54,10 +55,87 @@ fn put_named<'a, E: Sink>(
     put_all(err, &[b"tlut: ", name, word, number, b" ", told, b"\n"])
 }
 
-// Puts the line of a refusal in the file of this name.
-fn put_refusal<E: Sink>(err: &mut E, name: &[u8], refusal: &Refusal) -> Result<(), Failed>
+// Puts a line of a file's name, a word, a model's name, a line in it, and a name there.
+fn put_located<'a, E: Sink>(
+    err: &mut E,
+    name: &'a [u8],
+    word: &'a [u8],
+    model: &'a [u8],
+    number: u32,
+    told: &'a [u8],
+) -> Result<(), Failed>
     ensures cause { HasCause (E.faults err.old) (E.faults err.new) result }
-    ensures grown { Puts (E.bytes err.old) (E.bytes err.new) (refusal_line name.now refusal.now) result }
+    ensures grown { Puts (E.bytes err.old) (E.bytes err.new) (located_line name.now word.now model.now number told.now) result }
+{
+    let mut digits = Buffer::new();
+    let number = digits.format(number).as_bytes();
+    put_all(
+        err,
+        &[
+            b"tlut: ", name, word, model, b" line ", number, b" ", told, b"\n",
+        ],
+    )
+}
+
+// Puts names, each after a blank.
+fn put_spaced<E: Sink>(err: &mut E, names: &[Name]) -> Result<(), Failed>
+    ensures cause { HasCause (E.faults err.old) (E.faults err.new) result }
+    ensures grown { Puts (E.bytes err.old) (E.bytes err.new) (spaced names.now) result }
+{
+    for told in names {
+        put_all(err, &[b" ", told.bytes()])?;
+    }
+    Ok(())
+}
+
+// Puts a line of a file's name, a word, and names, each after a blank.
+fn put_listed<E: Sink>(err: &mut E, name: &[u8], word: &[u8], names: &[Name]) -> Result<(), Failed>
+    ensures cause { HasCause (E.faults err.old) (E.faults err.new) result }
+    ensures grown { Puts (E.bytes err.old) (E.bytes err.new) (listed_line name.now word.now names.now) result }
+{
+    put_all(err, &[b"tlut: ", name, word])?;
+    put_spaced(err, names)?;
+    put_all(err, &[b"\n"])
+}
+
+// Puts a line of a file's name, a word, and one name.
+fn put_told<E: Sink>(err: &mut E, name: &[u8], word: &[u8], told: &Name) -> Result<(), Failed>
+    ensures cause { HasCause (E.faults err.old) (E.faults err.new) result }
+    ensures grown { Puts (E.bytes err.old) (E.bytes err.new) (listed_line name.now word.now (told.now ∷ [])) result }
+{
+    put_all(err, &[b"tlut: ", name, word, b" ", told.bytes(), b"\n"])
+}
+
+// Puts a line of a file's name, a word, and two names.
+fn put_both<'a, E: Sink>(
+    err: &mut E,
+    name: &'a [u8],
+    word: &'a [u8],
+    first: &'a Name,
+    second: &'a Name,
+) -> Result<(), Failed>
+    ensures cause { HasCause (E.faults err.old) (E.faults err.new) result }
+    ensures grown { Puts (E.bytes err.old) (E.bytes err.new) (listed_line name.now word.now (first.now ∷ second.now ∷ [])) result }
+{
+    put_all(
+        err,
+        &[
+            b"tlut: ",
+            name,
+            word,
+            b" ",
+            first.bytes(),
+            b" ",
+            second.bytes(),
+            b"\n",
+        ],
+    )
+}
+
+// Puts the line of a refusal that has at most a number and a name.
+fn put_detailed<E: Sink>(err: &mut E, name: &[u8], refusal: &Refusal) -> Result<(), Failed>
+    ensures cause { HasCause (E.faults err.old) (E.faults err.new) result }
+    ensures grown { Puts (E.bytes err.old) (E.bytes err.new) (detailed_line name.now (refusal_word refusal.now) (refusal_number refusal.now) (refusal_name refusal.now)) result }
 {
     let word = refusal.word();
     match refusal.number() {
@@ -66,6 +144,29 @@ fn put_refusal<E: Sink>(err: &mut E, name: &[u8], refusal: &Refusal) -> Result<(
             None => put_numbered(err, name, word, number),
             Some(told) => put_named(err, name, word, number, told.bytes()),
         },
+    }
+}
+
+// Puts the line of a refusal in the file of this name.
+fn put_refusal<E: Sink>(err: &mut E, name: &[u8], refusal: &Refusal) -> Result<(), Failed>
+    ensures cause { HasCause (E.faults err.old) (E.faults err.new) result }
+    ensures grown { Puts (E.bytes err.old) (E.bytes err.new) (refusal_line name.now refusal.now) result }
+{
+    let word = refusal.word();
+    match refusal {
+        Refusal::UnknownModel(model, line, told)
+        | Refusal::UnknownFormal(model, line, told)
+        | Refusal::Unconnected(model, line, told)
+        | Refusal::DoublyDriven(model, line, told)
+        | Refusal::Undriven(model, line, told) => {
+            put_located(err, name, word, model.bytes(), *line, told.bytes())
+        }
+        Refusal::RecursiveModel(names) | Refusal::Loop(names) => {
+            put_listed(err, name, word, names.list())
+        }
+        Refusal::SecondClock(first, second) => put_both(err, name, word, first, second),
+        Refusal::ClockNotInput(net) | Refusal::ClockAsData(net) => put_told(err, name, word, net),
+        _ => put_detailed(err, name, refusal),
     }
 }
 

@@ -1,5 +1,6 @@
 //! How a call ends, with what its fault line tells.
 use crate::status::Status;
+use blif_flat::Names;
 use tl_text::Name;
 
 /// A file that a job reads.
@@ -11,11 +12,14 @@ pub enum File {
 }
 
 /// Why a file, or the circuit that a netlist denotes, is refused. A line is a logical one, but for T1 and T2 a physical
-/// one; lines are counted from 1.
+/// one; lines are counted from 1. A model, a line and a name are the model's name, the line in it, and the name that is told.
+/// A net is written as the ordinals of its instance, each followed by `/`, and the name at its driver.
 #[derive(Debug, Drop)]
 pub enum Refusal {
     /// L1: the file has more than 2^26 bytes.
     TooLong,
+    /// L2: the weight of the main model exceeds 2^22.
+    TooLarge,
     /// T1: the line has a byte that no line may have.
     BadByte(u32),
     /// T2: a token of the line ends in `\`.
@@ -44,6 +48,26 @@ pub enum Refusal {
     BadConnection(u32),
     /// B12: the netlist has no model.
     NoModel,
+    /// F1: the line places no model of the netlist; the model's name is told.
+    UnknownModel(Name, u32, Name),
+    /// F2: a model places itself, by the models of this chain; the repeated one stands first and last.
+    RecursiveModel(Names),
+    /// F3: this formal is neither an input nor an output of the placed model.
+    UnknownFormal(Name, u32, Name),
+    /// F4: this input of the placed model isn't connected.
+    Unconnected(Name, u32, Name),
+    /// F5: the line drives this name, which is driven already.
+    DoublyDriven(Name, u32, Name),
+    /// F6: the line reads this name, which isn't driven.
+    Undriven(Name, u32, Name),
+    /// F7: the control nets of two latches differ; the earlier one first.
+    SecondClock(Name, Name),
+    /// F8: the control net of a latch is no input of the main model.
+    ClockNotInput(Name),
+    /// F9: this clock net is the input of a cover or a latch, or a top output.
+    ClockAsData(Name),
+    /// F10: the nets of a cycle of covers, each one reading the next, the last reading the first.
+    Loop(Names),
     /// X1: the line is of a form that isn't built yet.
     Unbuilt(u32),
     /// L3: the graph has more than 131,072 AND nodes.
@@ -80,6 +104,7 @@ impl Refusal {
     {
         match self {
             Refusal::TooLong
+            | Refusal::TooLarge
             | Refusal::TooManyNodes
             | Refusal::NodeCuts(_)
             | Refusal::TotalCuts(_)
@@ -108,6 +133,17 @@ impl Refusal {
             Refusal::DuplicatePort(_, _) => b": B10 DuplicatePort line ",
             Refusal::BadConnection(_) => b": B11 BadConnection line ",
             Refusal::NoModel => b": B12 NoModel",
+            Refusal::UnknownModel(_, _, _) => b": F1 UnknownModel model ",
+            Refusal::RecursiveModel(_) => b": F2 RecursiveModel",
+            Refusal::UnknownFormal(_, _, _) => b": F3 UnknownFormal model ",
+            Refusal::Unconnected(_, _, _) => b": F4 Unconnected model ",
+            Refusal::DoublyDriven(_, _, _) => b": F5 DoublyDriven model ",
+            Refusal::Undriven(_, _, _) => b": F6 Undriven model ",
+            Refusal::SecondClock(_, _) => b": F7 SecondClock",
+            Refusal::ClockNotInput(_) => b": F8 ClockNotInput",
+            Refusal::ClockAsData(_) => b": F9 ClockAsData",
+            Refusal::Loop(_) => b": F10 Loop",
+            Refusal::TooLarge => b": L2 TooLarge",
             Refusal::Unbuilt(_) => b": X1 Unbuilt line ",
             Refusal::TooManyNodes => b": L3 TooManyNodes",
             Refusal::NodeCuts(_) => b": L4 NodeCuts node ",
@@ -136,6 +172,17 @@ impl Refusal {
             Refusal::DuplicatePort(number, _) => Some(*number),
             Refusal::BadConnection(number) => Some(*number),
             Refusal::NoModel => None,
+            Refusal::UnknownModel(_, number, _) => Some(*number),
+            Refusal::RecursiveModel(_) => None,
+            Refusal::UnknownFormal(_, number, _) => Some(*number),
+            Refusal::Unconnected(_, number, _) => Some(*number),
+            Refusal::DoublyDriven(_, number, _) => Some(*number),
+            Refusal::Undriven(_, number, _) => Some(*number),
+            Refusal::SecondClock(_, _) => None,
+            Refusal::ClockNotInput(_) => None,
+            Refusal::ClockAsData(_) => None,
+            Refusal::Loop(_) => None,
+            Refusal::TooLarge => None,
             Refusal::Unbuilt(number) => Some(*number),
             Refusal::TooManyNodes => None,
             Refusal::NodeCuts(number) => Some(*number),

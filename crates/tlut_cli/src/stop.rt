@@ -1,8 +1,9 @@
 //! Why a text isn't read, or a netlist isn't mapped.
 ghost use Rattle.tlut_cli.specs.StopIs.{StopIs};
-ghost use Rattle.tlut_cli.specs.Texts.{text_refusal, blif_refusal};
+ghost use Rattle.tlut_cli.specs.Texts.{text_refusal, blif_refusal, flat_refusal};
 
 use crate::outcome::Refusal;
+use blif_flat::FlatErr;
 use blif_read::BlifErr;
 use std::alloc::{AllocError, AllocFailed};
 use tl_text::TextErr;
@@ -69,6 +70,27 @@ pub fn blif_stop(error: BlifErr) -> Stop
         BlifErr::BadConnection(line) => Refusal::BadConnection(line),
         BlifErr::NoModel => Refusal::NoModel,
         BlifErr::Memory => return Stop::Memory,
+    };
+    Stop::Refused(refusal)
+}
+
+/// The stop at a refusal of a library.
+pub fn flat_stop(error: FlatErr) -> Stop
+    ensures { StopIs (flat_refusal error) result }
+{
+    let refusal = match error {
+        FlatErr::UnknownModel(model, line, told) => Refusal::UnknownModel(model, line, told),
+        FlatErr::RecursiveModel(chain) => Refusal::RecursiveModel(chain),
+        FlatErr::UnknownFormal(model, line, told) => Refusal::UnknownFormal(model, line, told),
+        FlatErr::Unconnected(model, line, told) => Refusal::Unconnected(model, line, told),
+        FlatErr::TooLarge => Refusal::TooLarge,
+        FlatErr::DoublyDriven(model, line, told) => Refusal::DoublyDriven(model, line, told),
+        FlatErr::Undriven(model, line, told) => Refusal::Undriven(model, line, told),
+        FlatErr::SecondClock(first, second) => Refusal::SecondClock(first, second),
+        FlatErr::ClockNotInput(net) => Refusal::ClockNotInput(net),
+        FlatErr::ClockAsData(net) => Refusal::ClockAsData(net),
+        FlatErr::Loop(nets) => Refusal::Loop(nets),
+        FlatErr::Memory => return Stop::Memory,
     };
     Stop::Refused(refusal)
 }

@@ -8,7 +8,7 @@ use Rattle.blif_read.specs.declared.command.Body.TheVariants.{Cover}
 use Rattle.blif_read.specs.CoverValue.{CoverValue, cover_value}
 use Rattle.blif_read.specs.LibraryValue.{ModelValue, LibraryValue}
 use Rattle.tlut_cli.specs.declared.outcome.File.TheVariants as file
-use Rattle.tlut_cli.specs.declared.outcome.Refusal.TheVariants.{TooLong, NoModel}
+use Rattle.tlut_cli.specs.declared.outcome.Refusal.TheVariants.{TooLong, NoModel, RecursiveModel, SecondClock, ClockNotInput, ClockAsData, Loop, TooLarge}
 use Rattle.tlut_cli.specs.declared.outcome.Outcome.TheVariants as outcome
 use Rattle.tlut_cli.specs.Words.{job_of}
 use Rattle.tlut_cli.specs.Netlist.{NetlistValue, Fits, IsCycle}
@@ -45,10 +45,18 @@ netlist = record { inputs = a ∷ b ∷ []; outputs = y ∷ []; cover = Some a_w
 one_model : netlist_of (record { models = model_with a_without_b ∷ [] }) ≡ Ok netlist
 one_model = refl
 
-a_second_model : netlist_of (record { models = model_with a_without_b ∷ record (model_with a_without_b) { line = 7 } ∷ [] }) ≡ Err 7
-a_second_model = refl
+-- a model that isn't reached is free
+an_unreached_model : netlist_of (record { models = model_with a_without_b ∷ record (model_with a_without_b) { line = 7; outputs = codes "z" ∷ [] } ∷ [] }) ≡ Ok netlist
+an_unreached_model = refl
 
-an_off_set : netlist_of (record { models = model_with (record a_without_b { value = false }) ∷ [] }) ≡ Err 4
+-- what isn't built is told by the line of the main model
+abbrev another_cover : CoverValue
+another_cover = record a_without_b { output = codes "z" }
+
+a_second_cover : netlist_of (record { models = record (model_with a_without_b) { line = 3; commands = record { line = 6; body = Cover a_without_b } ∷ record { line = 8; body = Cover another_cover } ∷ [] } ∷ [] }) ≡ Err 3
+a_second_cover = refl
+
+an_off_set : netlist_of (record { models = model_with (record a_without_b { value = false }) ∷ [] }) ≡ Err 1
 an_off_set = refl
 
 an_undriven_output : netlist_of (record { models = record (model_with a_without_b) { outputs = y ∷ codes "z" ∷ [] } ∷ [] }) ≡ Err 1
@@ -82,6 +90,24 @@ first_cycle = record { value = value; fits = record { input = inputs_fit; cover 
 -- fault lines, byte by byte
 no_model_line : line_of (codes "l.blif") (outcome.Refused file.Netlist NoModel) ≡ codes "tlut: l.blif: B12 NoModel\n"
 no_model_line = refl
+
+chain_line : line_of (codes "l.blif") (outcome.Refused file.Netlist (RecursiveModel (codes "m" ∷ codes "f" ∷ codes "m" ∷ []))) ≡ codes "tlut: l.blif: F2 RecursiveModel m f m\n"
+chain_line = refl
+
+clocks_line : line_of (codes "l.blif") (outcome.Refused file.Netlist (SecondClock (codes "c") (codes "0/e"))) ≡ codes "tlut: l.blif: F7 SecondClock c 0/e\n"
+clocks_line = refl
+
+no_input_line : line_of (codes "l.blif") (outcome.Refused file.Netlist (ClockNotInput (codes "0/k"))) ≡ codes "tlut: l.blif: F8 ClockNotInput 0/k\n"
+no_input_line = refl
+
+data_line : line_of (codes "l.blif") (outcome.Refused file.Netlist (ClockAsData (codes "c"))) ≡ codes "tlut: l.blif: F9 ClockAsData c\n"
+data_line = refl
+
+loop_line : line_of (codes "l.blif") (outcome.Refused file.Netlist (Loop (codes "y" ∷ codes "1/z" ∷ []))) ≡ codes "tlut: l.blif: F10 Loop y 1/z\n"
+loop_line = refl
+
+large_line : line_of (codes "l.blif") (outcome.Refused file.Netlist TooLarge) ≡ codes "tlut: l.blif: L2 TooLarge\n"
+large_line = refl
 
 long_line : line_of (codes "s.scr") (outcome.Refused file.Script TooLong) ≡ codes "tlut: s.scr: L1 FileTooLong\n"
 long_line = refl

@@ -1,5 +1,6 @@
 //! The worked examples, by what the program answers.
 mod faults;
+mod flat;
 mod job;
 mod mapping;
 mod refusals;

@@ -1,6 +1,6 @@
 //! Jobs that are refused.
 use crate::tests::job::{
-    AND2, Row, USAGE, WORDS, assert_ran, assert_rows, refused, run, run_with, shelf_of,
+    AND2, Row, USAGE, WORDS, accepted, assert_ran, assert_rows, refused, run, run_with, shelf_of,
 };
 use std::alloc::Global;
 use std::process::Abort;
@@ -10,68 +10,88 @@ use tlut_cli::Status;
 
 #[test]
 fn commands_that_are_not_built(rt: HostRuntime) -> Result<(), Fail> {
-    let rows: [Row; 7] = [
+    let rows: [Row; 6] = [
         refused(
             "a second cover",
             ".model m\n.inputs a b\n.outputs y\n.names a y\n1 1\n.names b z\n1 1\n.end\n",
-            "tlut: n.blif: X1 Unbuilt line 6\n",
+            "tlut: n.blif: X1 Unbuilt line 1\n",
         ),
         refused(
             "a second row",
-            ".model m\n.inputs a b\n.outputs y\n.names a b y\n1- 1\n-1 1\n.end\n",
-            "tlut: n.blif: X1 Unbuilt line 4\n",
+            "# rows\n.model m\n.inputs a b\n.outputs y\n.names a b y\n1- 1\n-1 1\n.end\n",
+            "tlut: n.blif: X1 Unbuilt line 2\n",
         ),
         refused(
             "a row of an off-set",
             ".model m\n.inputs a b\n.outputs y\n.names a b y\n11 0\n.end\n",
-            "tlut: n.blif: X1 Unbuilt line 4\n",
+            "tlut: n.blif: X1 Unbuilt line 1\n",
         ),
         refused(
             "a latch",
             ".model m\n.inputs d\n.outputs q\n.latch d q 0\n.end\n",
-            "tlut: n.blif: X1 Unbuilt line 4\n",
+            "tlut: n.blif: X1 Unbuilt line 1\n",
         ),
         refused(
             "a subcircuit",
-            ".model m\n.inputs a\n.outputs a\n.subckt f i=a\n.end\n.model f\n.end\n",
-            "tlut: n.blif: X1 Unbuilt line 4\n",
-        ),
-        refused(
-            "a cover's input that is no input",
-            ".model m\n.inputs a\n.outputs y\n.names a z y\n11 1\n.end\n",
-            "tlut: n.blif: X1 Unbuilt line 4\n",
-        ),
-        refused(
-            "a cover that drives an input",
-            ".model m\n.inputs a b\n.outputs b\n.names a b\n1 1\n.end\n",
-            "tlut: n.blif: X1 Unbuilt line 4\n",
-        ),
-    ];
-    assert_rows(&rt, rt.alloc(), &rows)
-}
-
-#[test]
-fn models_that_are_not_built(rt: HostRuntime) -> Result<(), Fail> {
-    let rows: [Row; 4] = [
-        refused(
-            "an output that nothing drives",
-            "# one\n.model l\n.inputs a\n.outputs y\n.end\n",
-            "tlut: n.blif: X1 Unbuilt line 2\n",
+            "\n\n.model m\n.inputs a\n.outputs a\n.subckt f i=a\n.end\n.model f\n.inputs i\n.end\n",
+            "tlut: n.blif: X1 Unbuilt line 3\n",
         ),
         refused(
             "a clock",
             ".model m\n.inputs a\n.outputs a\n.clock c\n.end\n",
             "tlut: n.blif: X1 Unbuilt line 1\n",
         ),
+    ];
+    assert_rows(&rt, rt.alloc(), &rows)
+}
+
+#[test]
+fn libraries_that_are_refused(rt: HostRuntime) -> Result<(), Fail> {
+    let rows: [Row; 5] = [
         refused(
-            "a second model",
-            ".model m\n.inputs a\n.outputs y\n.end\n.model n\n.end\n",
-            "tlut: n.blif: X1 Unbuilt line 5\n",
+            "a formal that is no port of the placed model",
+            ".model m\n.inputs a\n.outputs a\n.subckt f i=a\n.end\n.model f\n.end\n",
+            "tlut: n.blif: F3 UnknownFormal model m line 4 i\n",
         ),
+        refused(
+            "a cover's input that nothing drives",
+            ".model m\n.inputs a\n.outputs y\n.names a z y\n11 1\n.end\n",
+            "tlut: n.blif: F6 Undriven model m line 4 z\n",
+        ),
+        refused(
+            "a cover that drives an input",
+            ".model m\n.inputs a b\n.outputs b\n.names a b\n1 1\n.end\n",
+            "tlut: n.blif: F5 DoublyDriven model m line 4 b\n",
+        ),
+        refused(
+            "an output that nothing drives",
+            "# one\n.model l\n.inputs a\n.outputs y\n.end\n",
+            "tlut: n.blif: F6 Undriven model l line 2 y\n",
+        ),
+        refused(
+            "an output that nothing drives, before a second model",
+            ".model m\n.inputs a\n.outputs y\n.end\n.model n\n.end\n",
+            "tlut: n.blif: F6 Undriven model m line 1 y\n",
+        ),
+    ];
+    assert_rows(&rt, rt.alloc(), &rows)
+}
+
+#[test]
+fn second_models(rt: HostRuntime) -> Result<(), Fail> {
+    let rows: [Row; 2] = [
         refused(
             "a latch before a second model",
             ".model m\n.inputs d\n.latch d q\n.model n\n.end\n",
-            "tlut: n.blif: X1 Unbuilt line 3\n",
+            "tlut: n.blif: X1 Unbuilt line 1\n",
+        ),
+        // No line places it, so its output may be undriven.
+        accepted(
+            "a second model that isn't reached",
+            "2",
+            ".model m\n.inputs a\n.outputs a\n.end\n.model n\n.outputs z\n.end\n",
+            "cycle 1\n",
+            "luts 0 bits 0 depth 0\ncycle 1 -\n",
         ),
     ];
     assert_rows(&rt, rt.alloc(), &rows)

@@ -28,13 +28,13 @@ step_subckt-requires-clause-command c =
     slice_get_read c.deref.result.now (length c.deref.result.now) c.args.frame.place c.in-Some.command.now refl (ltb-true c.args.frame.place (length c.deref.result.now) (sym c.in-Some.ensures.lookup.0)) (search (rules, c.in-Some.ensures)) in
     ap (λ cs. slice_get cs c.args.frame.place) (sym cm) ∙ here ∙ ap (λ b. Some (record { line = c.in-Some.command.now.line; body = b })) c.in-Subckt.is
 
-pub returns-in-None-clause-ok : goal.returns-in-None-clause-ok
-returns-in-None-clause-ok c =
+pub returns-in_ok-leave-in-None-clause-ok : goal.returns-in_ok-leave-in-None-clause-ok
+returns-in_ok-leave-in-None-clause-ok c =
     let at : slice_get c.args.models.now c.args.frame.model ≡ Some c.index-models-frame.result =
     slice_get_read c.args.models.now (length c.args.models.now) c.args.frame.model c.index-models-frame.result refl (c.requires.walk.frames c.args.frame (at_member c.args.walk.now.frames 0 c.args.frame c.requires.top)) c.index-models-frame.is in
     let cm : c.deref.result.now ≡ c.index-models-frame.result.commands = c.deref.ensures.value ∙ ap (λ (m : ModelValue). m.commands) c.model.view_is in
     let none : slice_get c.deref.result.now c.args.frame.place ≡ None = slice_get_past c.deref.result.now c.args.frame.place (ltb-false c.args.frame.place (length c.deref.result.now) (sym c.in-None.ensures.lookup.0)) in
-    subst (IsStep (record { models = c.args.models.now }) c.args.walk.now) (sym c.leave.ensures)
+    subst (IsStep (record { models = c.args.models.now }) c.args.walk.now) (sym c.in_ok-leave-in-None.ensures)
     (leave_step c.args.models.now c.requires.names c.args.walk.now c.args.frame c.index-models-frame.result c.requires.walk c.requires.top at (ap (λ cs. slice_get cs c.args.frame.place) (sym cm) ∙ none))
 
 pub returns-in_ok-advance-in-Cover-clause-ok : goal.returns-in_ok-advance-in-Cover-clause-ok

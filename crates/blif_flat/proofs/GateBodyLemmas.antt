@@ -1,0 +1,31 @@
+-- What stands at a gate is what stands at its place.
+use Rattle.std.proofs.Common.{◌≡◌, ℕ, ◌<◌, List, length, Some, refl, sym, ap, ap₂, ◌∙◌, arith}
+use Rattle.std.specs.Prelude.{slice_get}
+use Rattle.std.proofs.lemmas.Option.{same_Some, slice_get_within}
+use Rattle.blif_read.specs.declared.latch.Latch.{Latch as LatchValue}
+use Rattle.blif_read.specs.LibraryValue.{LibraryValue}
+use Rattle.blif_flat.specs.declared.gates.Gate.{Gate}
+use Rattle.blif_flat.specs.declared.instances.Instance.{Instance}
+use Rattle.blif_flat.specs.Models.{Path, model_at}
+use Rattle.blif_flat.specs.Instances.{LatchAt}
+use Rattle.blif_flat.specs.Places.{Place, latch_at}
+use Rattle.blif_flat.specs.InstanceRows.{AreInstances, IsRow, paths_of}
+use Rattle.blif_flat.specs.Gates.{IsGateAt}
+use Rattle.blif_flat.specs.GateBodies.{body_in, numbered_body, place_body}
+use Rattle.blif_flat.proofs.InstanceRowLemmas.{paths_of-length}
+
+-- a row that has a path is there
+pub row_within : (rows : List Instance) (i : ℕ) (path : Path) → slice_get (paths_of rows) i ≡ Some path → i < length rows
+row_within rows i path e = let a = paths_of-length rows in let b = slice_get_within (paths_of rows) i path e in omega arith
+
+module _ (library : LibraryValue) (rows : List Instance) (are : AreInstances library rows) (g : Gate) (p : Place) (at : IsGateAt (paths_of rows) g p) where
+  pub gate_body : (row : Instance) → slice_get rows g.row ≡ Some row → numbered_body library row.model g.command ≡ place_body library p
+  gate_body row e =
+      let w : IsRow library (paths_of rows) g.row row = are.each g.row row e in
+      let same : w.path ≡ p.path = same_Some w.path p.path (sym w.at ∙ at.row) in
+      let model : slice_get library.models row.model ≡ model_at library p.path = w.number ∙ sym w.there ∙ ap (model_at library) same in
+      ap₂ body_in at.command model
+
+-- the latch of a place
+pub latch_at-some : (library : LibraryValue) (p : Place) (l : LatchValue) → LatchAt library p.path p.command l → latch_at library p ≡ Some l
+latch_at-some library p l a = rw (a.at, a.is) refl

@@ -1,0 +1,38 @@
+use Rattle.std.proofs.Common.{get_or}
+use Rattle.std.proofs.lemmas.Option.{slice_get-get_or}
+use Rattle.blif_flat.specs.declared.gates.Gate.{Gate}
+use Rattle.blif_flat.specs.Places.{is_latch}
+use Rattle.blif_flat.specs.InstanceRows.{paths_of}
+use Rattle.blif_flat.specs.InstanceOrder.{places_at}
+use Rattle.blif_flat.specs.ControlSteps.{input_at}
+use Rattle.blif_flat.proofs.WalkStepLemmas.{Refuses-map}
+use Rattle.blif_flat.proofs.GateWalkLemmas.{gate_within}
+use Rattle.blif_flat.proofs.ControlStepLemmas.{gate_passed, gate_refused, all_passed, came_end}
+use Rattle.blif_flat.proofs.controls.check_controls.Goals as goal
+
+abbrev no_gate : Gate
+no_gate = record { row = 0; command = 0 }
+
+pub check_control-requires-clause-here : goal.check_control-requires-clause-here
+check_control-requires-clause-here c =
+    gate_within c.args.rows.now c.args.latches.now (places_at c.args.library.now is_latch (paths_of c.args.rows.now)) c.requires.latches c.loop-gate.gate-index
+    (get_or c.args.latches.now c.loop-gate.gate-index no_gate) (slice_get-get_or c.args.latches.now c.loop-gate.gate-index no_gate c.loop-gate-test.true)
+
+pub returns-in-Err-clause-err : goal.returns-in-Err-clause-err
+returns-in-Err-clause-err c = Refuses-map _ _ c.in-Err.e
+    (λ r h. gate_refused c.args.library.now c.args.rows.now c.requires.rows c.args.latches.now c.requires.latches c.loop-gate.gate-index (input_at c.args.inputs.now c.loop-gate.first) c.loop-gate.invariant.came
+    (get_or c.args.latches.now c.loop-gate.gate-index no_gate) (slice_get-get_or c.args.latches.now c.loop-gate.gate-index no_gate c.loop-gate-test.true) r h)
+    c.in-Err.ensures.err
+
+pub loop-gate-preserved : goal.loop-gate-preserved
+loop-gate-preserved c = record {
+  within = c.in-Ok.ensures.within;
+  came = gate_passed c.args.library.now c.args.rows.now c.requires.rows c.args.latches.now c.requires.latches c.loop-gate.gate-index (input_at c.args.inputs.now c.loop-gate.first) c.loop-gate.invariant.came
+      (get_or c.args.latches.now c.loop-gate.gate-index no_gate) (slice_get-get_or c.args.latches.now c.loop-gate.gate-index no_gate c.loop-gate-test.true) (input_at c.args.inputs.now c.in-Ok.next) c.in-Ok.ensures.ok;
+}
+
+pub returns-clause-ok : goal.returns-clause-ok
+returns-clause-ok c = λ main at.
+    came_end c.args.library.now c.args.rows.now c.requires.rows c.args.inputs.now c.loop-gate.first c.loop-gate.invariant.within
+    (all_passed c.args.library.now c.args.rows.now c.requires.rows c.args.latches.now c.requires.latches c.loop-gate.gate-index (input_at c.args.inputs.now c.loop-gate.first) c.loop-gate.invariant.came c.loop-gate-test.false)
+    main (c.requires.inputs main at)

@@ -1,0 +1,23 @@
+use Rattle.std.proofs.Common.{◌≡◌, [], List, subst, sym, arith}
+use Rattle.std.proofs.lemmas.Option.{slice_get-get_or}
+use Rattle.blif_flat.specs.declared.gates.Gate.{Gate}
+use Rattle.blif_flat.specs.InstanceRows.{paths_of}
+use Rattle.blif_flat.specs.InstanceOrder.{places_at}
+use Rattle.blif_flat.specs.Gates.{kind_test, AreGatesAt}
+use Rattle.blif_flat.specs.GateRows.{with_rows}
+use Rattle.blif_flat.proofs.GateRowLemmas.{all_listed, all_gates, few_gates, row_commands}
+use Rattle.blif_flat.proofs.gates.gates.Goals as goal
+
+pub add_model-requires : goal.add_model-requires
+add_model-requires c m e = row_commands c.args.library.now c.args.rows.now c.requires.rows c.requires.light c.loop-row.row _ (slice_get-get_or c.args.rows.now c.loop-row.row _ c.loop-row-test.true) m e
+
+pub returns-clause-gates : goal.returns-clause-gates
+returns-clause-gates c =
+    let listed : c.loop-row.gates.items ≡ with_rows c.args.library.now.models (kind_test c.args.kind) 0 [] c.args.rows.now =
+    all_listed c.args.library.now.models (kind_test c.args.kind) c.args.rows.now c.loop-row.row c.loop-row.gates.items c.loop-row.invariant (omega arith) in
+    subst (λ (gates : List Gate). AreGatesAt (paths_of c.args.rows.now) gates (places_at c.args.library.now (kind_test c.args.kind) (paths_of c.args.rows.now))) (sym listed) (all_gates c.args.library.now c.args.rows.now c.requires.rows (kind_test c.args.kind))
+
+pub returns-clause-few : goal.returns-clause-few
+returns-clause-few c =
+    few_gates c.args.library.now c.args.rows.now c.requires.rows c.requires.light c.args.kind c.loop-row.gates.items
+    (all_listed c.args.library.now.models (kind_test c.args.kind) c.args.rows.now c.loop-row.row c.loop-row.gates.items c.loop-row.invariant (omega arith))

@@ -1,0 +1,7 @@
+use Rattle.std.proofs.Common.{◌≡◌, ◌++◌, map, drop}
+use Rattle.blif_flat.specs.declared.flat.OutPort.{OutPort}
+use Rattle.blif_flat.specs.Flat.{cover_numbers}
+use Rattle.blif_flat.proofs.loops.output_roots.Given as goal
+
+abbrev pub invariant-loop-port : goal.invariant-loop-port
+invariant-loop-port l = l.roots.items ++ cover_numbers (map (λ (o : OutPort). o.net) (drop l.port-index l.outputs)) ≡ cover_numbers (map (λ (o : OutPort). o.net) l.outputs)

@@ -1,0 +1,11 @@
+use Rattle.std.proofs.Common.{◌≡◌}
+use Rattle.blif_read.specs.LibraryValue.{LibraryValue}
+use Rattle.blif_flat.specs.NetSlots.{IsNets}
+use Rattle.blif_flat.specs.NetSteps.{links_in, AreLinesOf}
+use Rattle.blif_flat.proofs.net_links.links_in.Given as goal
+
+abbrev pub invariant-loop-j : goal.invariant-loop-j
+invariant-loop-j l = record {
+  inside : (library : LibraryValue) → AreLinesOf library l.lines l.ports → l.nets ≡ links_in library l.rows l.initial.nets l.j;
+  nets : IsNets l.nets;
+}

@@ -1,0 +1,10 @@
+-- The models of a library come past the walk, the weight and the drivers.
+use Rattle.blif_read.specs.LibraryValue.{LibraryValue}
+use Rattle.blif_flat.specs.Drivers.{IsDriven}
+use Rattle.blif_flat.specs.Faults.{IsConnected}
+use Rattle.blif_flat.specs.InstanceRows.{IsLight}
+
+pub record IsChecked (library : LibraryValue) : Type 0 where
+  pub connected : IsConnected library
+  pub driven : IsDriven library
+  pub light : IsLight library

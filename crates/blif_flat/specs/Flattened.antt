@@ -1,0 +1,9 @@
+-- What a flattened library keeps: the fields of its flat circuit are those of its hierarchical names, and evaluating them gives the values of the fitting maps.
+use Rattle.blif_read.specs.LibraryValue.{LibraryValue}
+use Rattle.blif_flat.specs.FlatValue.{FlatValue}
+use Rattle.blif_flat.specs.Flat.{IsFlat}
+use Rattle.blif_flat.specs.Evaluation.{Evaluates}
+
+pub record HasValues (library : LibraryValue) (flat : FlatValue) : Type 0 where
+  pub fields : IsFlat library flat
+  pub evaluates : Evaluates library flat fields.at
