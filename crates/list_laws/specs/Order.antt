@@ -1,6 +1,6 @@
 -- Lists of numbers in order, without repeats.
 use Rattle.std.specs.Prelude.{ℕ, ◌<◌, List, [], ◌∷◌}
-use Rattle.list_words.specs.Members.{In}
+use Rattle.list_laws.specs.Members.{In}
 
 abbrev pub IsAscending : List ℕ → Type 0
 IsAscending [] = Unit {0}

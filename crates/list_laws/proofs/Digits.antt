@@ -1,7 +1,7 @@
 -- The digits of the number of some digits are these digits.
 use Rattle.std.proofs.Common.{◌≡◌, ℕ, zero, suc, ◌+◌, ◌*◌, ◌/◌, ◌%◌, ◌^◌, ◌<◌, ◌≤◌, Bool, true, false, eqb, List, [], ◌∷◌, length, get_or, sym, ap, ◌∙◌, arith}
 use Rattle.std.proofs.Math.Nat.{pow-succ', div-div-eq-div-mul}
-use Rattle.list_words.specs.Digits.{bit_value, number, digit}
+use Rattle.list_laws.specs.Digits.{bit_value, number, digit}
 
 bit_value-small : (b : Bool) → bit_value b ≤ 1
 bit_value-small true = omega arith

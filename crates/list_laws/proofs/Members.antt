@@ -1,0 +1,55 @@
+-- Members of lists: by their places, of joined and of mapped lists.
+use Rattle.std.proofs.Common.{◌≡◌, ◌⊎◌, ℕ, zero, suc, ◌<◌, List, [], ◌∷◌, ◌++◌, length, get_or, map, Some, refl, sym, ap, ◌∙◌, inl, inr, arith}
+use Rattle.std.specs.Prelude.{slice_get}
+use Rattle.std.proofs.lemmas.Option.{none-some, same_Some}
+use Rattle.list_laws.specs.Members.{In}
+
+-- the element at a place is a member
+pub In-get_or : {A : Type 0} (xs : List A) (i : ℕ) (d : A) → i < length xs → In xs (get_or xs i d)
+In-get_or [] i d h = absurd (omega arith)
+In-get_or (x ∷ xs) zero d h = inl refl
+In-get_or (x ∷ xs) (suc i) d h = inr (In-get_or xs i d (omega arith))
+
+pub In-get : {A : Type 0} (xs : List A) (i : ℕ) (x : A) → slice_get xs i ≡ Some x → In xs x
+In-get [] i x e = absurd (none-some x e)
+In-get (y ∷ xs) zero x e = inl (sym (same_Some y x e))
+In-get (y ∷ xs) (suc i) x e = inr (In-get xs i x e)
+
+-- and a member stands at a place
+pub place_in : {A : Type 0} (xs : List A) (x : A) → In xs x → (i : ℕ) × (slice_get xs i ≡ Some x)
+place_in [] x h = absurd h
+place_in (y ∷ xs) x (inl e) = (0, ap Some (sym e))
+place_in (y ∷ xs) x (inr i) = let r = place_in xs x i in (suc r.0, r.1)
+
+-- the members of joined lists are those of both
+pub In-left : {A : Type 0} (xs ys : List A) (x : A) → In xs x → In (xs ++ ys) x
+In-left [] ys x h = absurd h
+In-left (y ∷ xs) ys x (inl e) = inl e
+In-left (y ∷ xs) ys x (inr i) = inr (In-left xs ys x i)
+
+pub In-right : {A : Type 0} (xs ys : List A) (x : A) → In ys x → In (xs ++ ys) x
+In-right [] ys x h = h
+In-right (y ∷ xs) ys x h = inr (In-right xs ys x h)
+
+pub In-append : {A : Type 0} (xs ys : List A) (x : A) → In (xs ++ ys) x → In xs x ⊎ In ys x
+In-append [] ys x i = inr i
+In-append (y ∷ xs) ys x (inl e) = inl (inl e)
+In-append (y ∷ xs) ys x (inr i) = elim (In-append xs ys x i) [ inl j ↦ inl (inr j) | inr j ↦ inr j ]
+
+-- of a list with one more at the end: an old one, or the new one
+pub In-push : {A : Type 0} (xs : List A) (y x : A) → In (xs ++ y ∷ []) x → In xs x ⊎ (x ≡ y)
+In-push xs y x i = elim (In-append xs (y ∷ []) x i) [ inl j ↦ inl j | inr j ↦ elim j [ inl e ↦ inr e | inr b ↦ absurd b ] ]
+
+pub In-pushed : {A : Type 0} (xs : List A) (y : A) → In (xs ++ y ∷ []) y
+In-pushed xs y = In-right xs (y ∷ []) y (inl refl)
+
+-- a member of a mapped list comes from a member
+pub In-map : {A B : Type 0} (f : A → B) (xs : List A) (x : A) → In xs x → In (map f xs) (f x)
+In-map f [] x h = h
+In-map f (y ∷ ys) x (inl e) = inl (ap f e)
+In-map f (y ∷ ys) x (inr i) = inr (In-map f ys x i)
+
+-- two functions that agree at each member map a list alike
+pub map_agree : {A B : Type 0} (f g : A → B) (xs : List A) → ((x : A) → In xs x → f x ≡ g x) → map f xs ≡ map g xs
+map_agree f g [] h = refl
+map_agree f g (x ∷ xs) h = ap (λ y. y ∷ map f xs) (h x (inl refl)) ∙ ap (λ ys. g x ∷ ys) (map_agree f g xs (λ z i. h z (inr i)))

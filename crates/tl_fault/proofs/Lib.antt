@@ -1,0 +1,2 @@
+pub mod OrMemoryLemmas
+pub mod PassedOn

@@ -1,0 +1,10 @@
+-- What is said of an error that may be want of memory, and more that follows from it.
+use Rattle.std.proofs.Common.{Option, Some, None}
+use Rattle.tl_fault.specs.OrMemory.{Unless, OrMemory}
+
+pub Unless-map : {R : Type 0} (refusal : Option R) (P Q : Type 0) → (P → Q) → Unless refusal P → Unless refusal Q
+Unless-map None P Q f h = tt
+Unless-map (Some r) P Q f h = f h
+
+pub OrMemory-map : {E R : Type 0} (refusal_of : E → Option R) (P Q : E → Type 0) (e : E) → ((r : E) → P r → Q r) → OrMemory refusal_of P e → OrMemory refusal_of Q e
+OrMemory-map refusal_of P Q e f h = Unless-map (refusal_of e) (P e) (Q e) (f e) h
