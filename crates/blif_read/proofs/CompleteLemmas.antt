@@ -19,6 +19,7 @@ use Rattle.blif_read.specs.LineFault.{has, model_fault, ports_fault, fault_by}
 use Rattle.blif_read.specs.Reading.{State, ModelRead, CoverRead, with_command, with_cover, flushed, ended, context, with_ports, ports_read, body_read, next_by, or_fault, steps, library_at_end, finished, lines_read, text_read, fresh}
 use Rattle.blif_read.proofs.FitsLemmas.{once_has, ports_fit, latch_fits, subckt_fits, cover_fits, names_fit}
 use Rattle.blif_read.proofs.StepLemmas.{step_over, within, between, value_after, with_last, cover_with, rows_steps}
+use Rattle.blif_read.proofs.PortLemmas.{ports_grown, ports_keep, ports_commanded}
 use Rattle.blif_read.proofs.BodyPortLemmas.{keyword_for, ports_line, which_ports, own_names, names_none, latch_none, subckt_none, end_none, skipped, rows_skipped}
 
 -- what follows the lines of a model: nothing, or a `.model` line
@@ -61,61 +62,30 @@ becomes_itself m t ss none b =
     same : (p : Ports) → ports_of p m ≡ ports_of p t
     same p = sym (b.ports p ∙ ap (λ names. ports_of p m ++ names) (none p) ∙ append-nil (ports_of p m))
 
--- a command changes no ports
-command_ports : (p : Ports) (m : ModelValue) (line : ℕ) (body : Body) → ports_of p (with_command m line body) ≡ ports_of p m
-command_ports input_ports m line body = refl
-command_ports output_ports m line body = refl
-command_ports clock_ports m line body = refl
-
+-- the last cover changes no ports
 flushed_ports : (p : Ports) (m : ModelValue) (c : Option CoverRead) → ports_of p (with_cover m c) ≡ ports_of p m
 flushed_ports p m None = refl
-flushed_ports p m (Some c) = command_ports p m c.line (Cover c.cover)
+flushed_ports p m (Some c) = ports_commanded p m c.line (Cover c.cover)
 
 becomes_command : (m t : ModelValue) (line : ℕ) (body : Body) (ss rest : List StatementValue) (commands : List Command) → ((p : Ports) → names_in p ss ≡ names_in p rest)
     → Becomes m ss (record { line = line; body = body } ∷ commands) t → Becomes (with_command m line body) rest commands t
 becomes_command m t line body ss rest commands same b = record {
   name = b.name;
   line = b.line;
-  ports = λ p. b.ports p ∙ ap (λ names. ports_of p m ++ names) (same p) ∙ ap (λ names. names ++ names_in p rest) (sym (command_ports p m line body));
+  ports = λ p. b.ports p ∙ ap (λ names. ports_of p m ++ names) (same p) ∙ ap (λ names. names ++ names_in p rest) (sym (ports_commanded p m line body));
   commands = b.commands ∙ sym (append_assoc m.commands (record { line = line; body = body } ∷ []) commands);
 }
 
 -- a line of ports adds its names to its list
-ports_added : (p q : Ports) (m : ModelValue) (names : List (List ℕ)) → ports_of p (with_ports q names m) ≡ ports_of p m ++ port_names p (keyword_for q) names
-ports_added input_ports input_ports m names = refl
-ports_added input_ports output_ports m names = sym (append-nil m.inputs)
-ports_added input_ports clock_ports m names = sym (append-nil m.inputs)
-ports_added output_ports input_ports m names = sym (append-nil m.outputs)
-ports_added output_ports output_ports m names = refl
-ports_added output_ports clock_ports m names = sym (append-nil m.outputs)
-ports_added clock_ports input_ports m names = sym (append-nil m.clocks)
-ports_added clock_ports output_ports m names = sym (append-nil m.clocks)
-ports_added clock_ports clock_ports m names = refl
-
-ports_name : (q : Ports) (m : ModelValue) (names : List (List ℕ)) → (with_ports q names m).name ≡ m.name
-ports_name input_ports m names = refl
-ports_name output_ports m names = refl
-ports_name clock_ports m names = refl
-
-ports_number : (q : Ports) (m : ModelValue) (names : List (List ℕ)) → (with_ports q names m).line ≡ m.line
-ports_number input_ports m names = refl
-ports_number output_ports m names = refl
-ports_number clock_ports m names = refl
-
-ports_commands : (q : Ports) (m : ModelValue) (names : List (List ℕ)) → (with_ports q names m).commands ≡ m.commands
-ports_commands input_ports m names = refl
-ports_commands output_ports m names = refl
-ports_commands clock_ports m names = refl
-
 becomes_ports : (q : Ports) (m t : ModelValue) (s : StatementValue) (ss : List StatementValue) (commands : List Command) → s.keyword ≡ keyword_for q → Becomes m (s ∷ ss) commands t → Becomes (with_ports q s.arguments m) ss commands t
 becomes_ports q m t s ss commands k b = record {
-  name = b.name ∙ sym (ports_name q m s.arguments);
-  line = b.line ∙ sym (ports_number q m s.arguments);
+  name = b.name ∙ sym (ports_keep q s.arguments m).0;
+  line = b.line ∙ sym (ports_keep q s.arguments m).1;
   ports = λ p. b.ports p
       ∙ ap (λ w. ports_of p m ++ (port_names p w s.arguments ++ names_in p ss)) k
       ∙ sym (append_assoc (ports_of p m) (port_names p (keyword_for q) s.arguments) (names_in p ss))
-      ∙ ap (λ names. names ++ names_in p ss) (sym (ports_added p q m s.arguments));
-  commands = b.commands ∙ ap (λ cs. cs ++ commands) (sym (ports_commands q m s.arguments));
+      ∙ ap (λ names. names ++ names_in p ss) (sym (ports_grown p q m s.arguments));
+  commands = b.commands ∙ ap (λ cs. cs ++ commands) (sym (ports_keep q s.arguments m).2);
 }
 
 ports_no_fault : (q : Ports) (names : List (List ℕ)) (done : List ModelValue) (r : ModelRead) (number : ℕ) (words : List (List ℕ)) → ports_fault number (ports_of q r.model) words ≡ None

@@ -17,7 +17,8 @@ use Rattle.blif_read.specs.Reading.{CoverRead, State, with_command, ended, value
 use Rattle.blif_read.proofs.FaultLemmas.{same_value, value_there, some_push}
 use Rattle.blif_read.proofs.OnceLemmas.{IsNewName}
 use Rattle.blif_read.proofs.FormedLemmas.{row_is}
-use Rattle.blif_read.proofs.PortLemmas.{line_of, command_of, names_in-append, names_in-rows, port_keyword, is_port, ports_grown, HasOnce, ports_keep, ports_commanded, quiet_line}
+use Rattle.blif_read.proofs.BodyPortLemmas.{keyword_for}
+use Rattle.blif_read.proofs.PortLemmas.{line_of, command_of, names_in-append, names_in-rows, is_port, ports_grown, HasOnce, ports_keep, ports_commanded, quiet_line}
 
 -- The end that the lines lead to, where no model is open: models that the lines denote.
 pub record EndsClosed (done : List ModelValue) (ss : List StatementValue) (t : State) : Type 0 where
@@ -100,12 +101,12 @@ header_denoted models words n done ss t new e =
     }) e.split e.denoted
 
 -- a line of ports
-pub open_ports : (q : Ports) (n : ℕ) (words : List (List ℕ)) (ls : List StatementValue) (done : List ModelValue) (m : ModelValue) (t : State) → EndsOpen done (with_ports q words m) ls t → EndsOpen done m (line_of (port_keyword q) n words ∷ ls) t
+pub open_ports : (q : Ports) (n : ℕ) (words : List (List ℕ)) (ls : List StatementValue) (done : List ModelValue) (m : ModelValue) (t : State) → EndsOpen done (with_ports q words m) ls t → EndsOpen done m (line_of (keyword_for q) n words ∷ ls) t
 open_ports q n words ls done m t e =
-    let l : StatementValue = line_of (port_keyword q) n words in
+    let l : StatementValue = line_of (keyword_for q) n words in
     let keep = ports_keep q words m in
     open_more done m (with_ports q words m) (l ∷ []) ls (l ∷ ls) [] t refl keep.0 keep.1
-    (λ p. ports_grown p q m words ∙ ap (λ x. ports_of p m ++ x) (sym (append-nil (port_names p (port_keyword q) words))))
+    (λ p. ports_grown p q m words ∙ ap (λ x. ports_of p m ++ x) (sym (append-nil (port_names p (keyword_for q) words))))
     (keep.2 ∙ sym (append-nil m.commands)) (λ lines commands are. ports_line l lines commands (is_port q) are) e
 
 -- a command, with the lines that it takes

@@ -4,7 +4,7 @@ use Rattle.std.specs.List.{position, position_or_len}
 use Rattle.std.proofs.lemmas.Bool.{cases_Bool, cond-true, cond-false, lt-ltb, ne_eqb, eq-eqb, and_from, or_from, not_from_false, false_from_ne_true}
 use Rattle.std.proofs.lemmas.Slice.Eq.{bytes_eq-Decides}
 use Rattle.std.proofs.Math.Seq.{take-append_seam, drop-append-add, get_or-append_seam}
-use Rattle.list_words.specs.Members.{In}
+use Rattle.list_laws.specs.Members.{In}
 use Rattle.tl_text.specs.Decimal.{bit_of}
 use Rattle.std.proofs.lemmas.List.{length-map}
 use Rattle.blif_read.specs.declared.blif_err.BlifErr.TheVariants.{BadConnection}

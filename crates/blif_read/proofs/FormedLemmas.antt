@@ -6,8 +6,8 @@ use Rattle.std.proofs.lemmas.List.Quantifiers.{position-Some}
 use Rattle.std.proofs.lemmas.Bool.{both_ways, and_parts, or_cases, or_parts, not-true, eqb-true, eqb-false}
 use Rattle.std.proofs.lemmas.Option.{none-some, same_Some}
 use Rattle.std.proofs.lemmas.Slice.Eq.{bytes_eq-Decides}
-use Rattle.list_words.specs.Members.{In}
-use Rattle.list_words.proofs.Choice.{choose}
+use Rattle.list_laws.specs.Members.{In}
+use Rattle.list_laws.proofs.Choice.{choose, none_else, none_both, some_then, some_else}
 use Rattle.tl_text.specs.Decimal.{bit_of}
 use Rattle.blif_read.specs.declared.blif_err.BlifErr.{BlifErr}
 use Rattle.blif_read.specs.declared.blif_err.BlifErr.TheVariants.{BadConnection}
@@ -23,7 +23,7 @@ use Rattle.blif_read.specs.Connections.{connection_token, IsConnection, formals,
 use Rattle.blif_read.specs.Context.{RowRead, cell_of, put_cell, cells_of, row_with, row_of}
 use Rattle.blif_read.specs.LineFault.{or_later, names_fault, init_fault, kind_fault, latch_fault, split_at, connection_of, repeats_formal, with_formal, connections_fault, subckt_fault}
 use Rattle.blif_read.specs.Reading.{cover_of, control_of, init_of, latch_of, put_pair, pairs_of, subckt_of}
-use Rattle.blif_read.proofs.OnceLemmas.{some_else, else_some, has_not, once_push}
+use Rattle.tl_text.proofs.NameLemmas.{not_there as name_not_there, once_push}
 
 -- two words that the test finds alike
 same_word : (a b : List ℕ) → bytes_eq a b ≡ true → a ≡ b
@@ -31,7 +31,7 @@ same_word a b h = (bytes_eq-Decides a b).0 h
 
 -- a latch: its init, its type, its control
 init_is : (n : ℕ) (init : List ℕ) → init_fault n init ≡ None → Starts init (init_of init)
-init_is n init h = elim (or_cases _ _ (else_some _ _ h)) [
+init_is n init h = elim (or_cases _ _ (none_else _ _ None h).0) [
   | inl a ↦ (let e : init ≡ codes "0" = same_word init (codes "0") a in zero_ (inl e) (ap init_of e))
   | inr b ↦ elim (or_cases _ _ b) [
     | inl a ↦ one (same_word init (codes "1") a) a
@@ -100,18 +100,14 @@ row_parts (Some cells) (Some value) row h = let e : record { cells = cells; valu
 row_parts (Some cells) None row h = absurd (none-some row h)
 row_parts None value row h = absurd (none-some row h)
 
-then_some : {A : Type 0} (b : Bool) (y : Option A) (x : A) → cond b y None ≡ Some x → (b ≡ true) × (y ≡ Some x)
-then_some true y x h = (refl, h)
-then_some false y x h = absurd (none-some x h)
-
 pub row_is : (inputs : ℕ) (words : List (List ℕ)) (row : RowRead) (s : StatementValue) → s.keyword ≡ Plain → s.arguments ≡ words → row_of inputs words ≡ Some row → IsRow inputs row.value s (record { cells = row.cells })
 row_is inputs [] row s k a h = absurd (none-some row h)
 row_is inputs (output ∷ []) row s k a h =
-    let p = then_some (eqb inputs 0) (row_with (Some []) (bit_of output)) row h in
+    let p = some_then (eqb inputs 0) (row_with (Some []) (bit_of output)) row h in
     let q = row_parts (Some []) (bit_of output) row p.1 in
     alone (eqb-true inputs 0 p.0) k (a ∙ ap (λ w. w ∷ []) (bit_is output row.value q.1)) (sym (same_Some [] row.cells q.0))
 row_is inputs (cells ∷ output ∷ []) row s k a h =
-    let p = then_some (not (eqb inputs 0) && eqb (length cells) inputs) (row_with (cells_of cells) (bit_of output)) row h in
+    let p = some_then (not (eqb inputs 0) && eqb (length cells) inputs) (row_with (cells_of cells) (bit_of output)) row h in
     let t = and_parts (not (eqb inputs 0)) (eqb (length cells) inputs) p.0 in
     let q = row_parts (cells_of cells) (bit_of output) row p.1 in
     let e : cells ≡ map cell_character row.cells = cells_are cells row.cells q.0 in
@@ -160,14 +156,10 @@ split_pair_is word k at apart =
       };
     }
 
-none_else : {A : Type 0} (b : Bool) (y : Option A) (x : A) → cond b None y ≡ Some x → (b ≡ false) × (y ≡ Some x)
-none_else true y x h = absurd (none-some x h)
-none_else false y x h = (refl, h)
-
 split_is : (word : List ℕ) (o : Option ℕ) (pair : Pair) → position (λ b. eqb b 61) word ≡ o → split_at word o ≡ Some pair → IsSplit word pair
 split_is word None pair at h = absurd (none-some pair h)
 split_is word (Some k) pair at h =
-    let p = none_else (eqb (length (take k word)) 0 || eqb (length (drop (k + 1) word)) 0) (Some (split_pair word k)) pair h in
+    let p = some_else (eqb (length (take k word)) 0 || eqb (length (drop (k + 1) word)) 0) (Some (split_pair word k)) pair h in
     subst (IsSplit word) (same_Some (split_pair word k) pair p.1) (split_pair_is word k at p.0)
 
 -- the connections of a line, of which no formal stood earlier
@@ -187,12 +179,12 @@ connection_put : (before : List (List ℕ)) (word : List ℕ) (words : List (Lis
     → ((pair : Pair) → o ≡ Some pair → AreOnce (before ++ pair.formal ∷ []) → AreConnections (before ++ pair.formal ∷ []) words pairs) → AreConnections before (word ∷ words) (put_pair o pairs)
 connection_put before word words None pairs at new once more = absurd (let f : ⊥ = cc in f)
 connection_put before word words (Some pair) pairs at new once more =
-    connection_more before word words pair pairs (split_is word (position (λ b. eqb b 61) word) pair refl at) (more pair refl (once_push before pair.formal once (has_not before pair.formal new)))
+    connection_more before word words pair pairs (split_is word (position (λ b. eqb b 61) word) pair refl at) (more pair refl (once_push before pair.formal once (name_not_there before pair.formal new)))
 
 connections_are : (n : ℕ) (words before : List (List ℕ)) → AreOnce before → connections_fault n before words ≡ None → AreConnections before words (pairs_of words)
 connections_are n [] before once h = record { words_are = refl; each = λ p i. absurd i; once = subst AreOnce (sym (append-nil before)) once }
 connections_are n (w ∷ ws) before once h =
-    let p = some_else (repeats_formal before (connection_of w)) (BadConnection n) (connections_fault n (with_formal before (connection_of w)) ws) h in
+    let p = none_both (repeats_formal before (connection_of w)) (BadConnection n) (connections_fault n (with_formal before (connection_of w)) ws) h in
     connection_put before w ws (connection_of w) (pairs_of ws) refl p.0 once
     (λ pair e new. connections_are n ws (before ++ pair.formal ∷ []) new (subst (λ o. connections_fault n (with_formal before o) ws ≡ None) e p.1))
 

@@ -1,3 +1,4 @@
+pub mod ErrLemmas
 pub mod FaultLemmas
 pub mod OnceLemmas
 pub mod FormedLemmas
@@ -11,5 +12,7 @@ pub mod StepLemmas
 pub mod CompleteLemmas
 pub mod WellFormedLemmas
 pub mod SizeLemmas
+pub mod CleanLemmas
 pub mod TextLemmas
+pub mod ReadExamples
 pub mod ReaderLemmas

@@ -14,6 +14,7 @@ use Rattle.blif_read.specs.Denotes.{port_names, names_in, none}
 use Rattle.blif_read.specs.LineFault.{ports_fault}
 use Rattle.blif_read.specs.Reading.{with_command, with_ports}
 use Rattle.blif_read.proofs.OnceLemmas.{ports_once}
+use Rattle.blif_read.proofs.BodyPortLemmas.{keyword_for, row_keyword}
 
 abbrev pub line_of : Keyword → ℕ → List (List ℕ) → StatementValue
 line_of k n words = record { number = n; keyword = k; arguments = words }
@@ -44,27 +45,18 @@ no_names output_ports k words h = refl
 no_names clock_ports Clock words h = absurd (true_not_false h)
 no_names clock_ports k words h = refl
 
-row_keyword : {inputs : ℕ} {value : Bool} {s : StatementValue} {row : RowValue} → IsRow inputs value s row → s.keyword ≡ Plain
-row_keyword (alone _ k _ _) = k
-row_keyword (behind _ k _ _) = k
-
 pub names_in-rows : (p : Ports) {inputs : ℕ} {value : Bool} {lines : List StatementValue} {rows : List RowValue} → AreRows inputs value lines rows → names_in p lines ≡ []
 names_in-rows p none = refl
-names_in-rows p (more s ss row rows is are) =
-    ap (λ names. names ++ names_in p ss) (no_names p s.keyword s.arguments (ap names_ports (row_keyword is))) ∙ names_in-rows p are
+names_in-rows p {inputs = inputs} {value = value} (more s ss row rows is are) =
+    ap (λ names. names ++ names_in p ss) (no_names p s.keyword s.arguments (ap names_ports (row_keyword inputs value s row is))) ∙ names_in-rows p are
 
 -- how the three kinds of ports grow
-abbrev pub port_keyword : Ports → Keyword
-port_keyword input_ports = Inputs
-port_keyword output_ports = Outputs
-port_keyword clock_ports = Clock
-
-pub is_port : (q : Ports) → (port_keyword q ≡ Inputs) ⊎ ((port_keyword q ≡ Outputs) ⊎ (port_keyword q ≡ Clock))
+pub is_port : (q : Ports) → (keyword_for q ≡ Inputs) ⊎ ((keyword_for q ≡ Outputs) ⊎ (keyword_for q ≡ Clock))
 is_port input_ports = inl refl
 is_port output_ports = inr (inl refl)
 is_port clock_ports = inr (inr refl)
 
-pub ports_grown : (p q : Ports) (m : ModelValue) (words : List (List ℕ)) → ports_of p (with_ports q words m) ≡ ports_of p m ++ port_names p (port_keyword q) words
+pub ports_grown : (p q : Ports) (m : ModelValue) (words : List (List ℕ)) → ports_of p (with_ports q words m) ≡ ports_of p m ++ port_names p (keyword_for q) words
 ports_grown input_ports input_ports m words = refl
 ports_grown input_ports output_ports m words = sym (append-nil m.inputs)
 ports_grown input_ports clock_ports m words = sym (append-nil m.inputs)

@@ -13,7 +13,8 @@ use Rattle.blif_read.specs.declared.subckt.Pair.{Pair}
 use Rattle.blif_read.specs.LibraryValue.{ModelValue}
 use Rattle.blif_read.specs.Statement.{StatementValue}
 use Rattle.blif_read.specs.LineFault.{has, connection_of, connections_fault, fault_by, line_fault}
-use Rattle.blif_read.specs.ReadFault.{IsFault}
+use Rattle.tl_fault.specs.OrMemory.{OrMemory}
+use Rattle.blif_read.specs.Refusals.{refusal_of}
 use Rattle.blif_read.specs.Reading.{ModelRead, State, context, model_after, next, next_by, pairs_of}
 use Rattle.blif_read.specs.Inside.{inside_fault}
 
@@ -109,8 +110,8 @@ next_inside k.Latch s number words m e = refl
 next_inside k.Subckt s number words m e = refl
 
 pub step_inside : (r : Result (Unit {0}) BlifErr) (s new : State) (line : StatementValue) → (line.keyword ≡ k.Model → ⊥) → (line.keyword ≡ k.End → ⊥) → (line.keyword ≡ k.Unknown → ⊥)
-    → MatchResult r (λ _. (inside_fault line.keyword s.current line.number line.arguments ≡ None) × (new ≡ after_inside s line.keyword line.number line.arguments)) (λ e. IsFault e (inside_fault line.keyword s.current line.number line.arguments))
-    → MatchResult r (λ _. (line_fault (context s) line ≡ None) × (new ≡ next s line)) (λ e. IsFault e (line_fault (context s) line))
+    → MatchResult r (λ _. (inside_fault line.keyword s.current line.number line.arguments ≡ None) × (new ≡ after_inside s line.keyword line.number line.arguments)) (OrMemory refusal_of (λ e. inside_fault line.keyword s.current line.number line.arguments ≡ Some e))
+    → MatchResult r (λ _. (line_fault (context s) line ≡ None) × (new ≡ next s line)) (OrMemory refusal_of (λ e. line_fault (context s) line ≡ Some e))
 step_inside (Ok x) s new line m e u h =
     (fault_inside line.keyword s.names s.done s.current line.number line.arguments m e u ∙ h.0, h.1 ∙ sym (next_inside line.keyword s line.number line.arguments m e))
-step_inside (Err x) s new line m e u h = subst (IsFault x) (sym (fault_inside line.keyword s.names s.done s.current line.number line.arguments m e u)) h
+step_inside (Err x) s new line m e u h = subst (λ o. OrMemory refusal_of (λ f. o ≡ Some f) x) (sym (fault_inside line.keyword s.names s.done s.current line.number line.arguments m e u)) h

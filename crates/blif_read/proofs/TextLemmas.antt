@@ -6,10 +6,14 @@ use Rattle.blif_read.specs.declared.blif_err.BlifErr.{BlifErr}
 use Rattle.blif_read.specs.declared.blif_err.BlifErr.TheVariants as blif_err
 use Rattle.blif_read.specs.LibraryValue.{LibraryValue}
 use Rattle.blif_read.specs.Denotes.{Denotes}
-use Rattle.blif_read.specs.ReadFault.{read_fault, IsFault}
+use Rattle.tl_fault.specs.OrMemory.{OrMemory}
+use Rattle.blif_read.specs.Refusals.{refusal_of}
+use Rattle.blif_read.specs.ReadFault.{read_fault}
 use Rattle.blif_read.specs.Reading.{fault_of, text_read}
 use Rattle.blif_read.proofs.FaultLemmas.{read_no_fault, read_fault_is}
 use Rattle.blif_read.proofs.CompleteLemmas.{denotes_read}
+use Rattle.blif_read.proofs.DenotedLemmas.{read_denotes}
+use Rattle.blif_read.specs.HasOneReading.{HasOneReading}
 
 pub denotes_once : (bytes : List ℕ) (a b : LibraryValue) → Denotes bytes a → Denotes bytes b → a ≡ b
 denotes_once bytes a b d e =
@@ -17,6 +21,13 @@ denotes_once bytes a b d e =
 
 pub denotes_no_fault : (bytes : List ℕ) (library : LibraryValue) (e : BlifErr) → Denotes bytes library → read_fault bytes ≡ Some e → ⊥
 denotes_no_fault bytes library e d fault = none-some e (sym (read_no_fault bytes library (denotes_read bytes library d)) ∙ fault)
+
+some_library : (bytes : List ℕ) (r : Result LibraryValue BlifErr) → text_read bytes ≡ r → read_fault bytes ≡ None → (library : LibraryValue) × Denotes bytes library
+some_library bytes (Ok library) is none = (library, read_denotes bytes library is)
+some_library bytes (Err error) is none = absurd (none-some error (sym none ∙ read_fault_is bytes error is))
+
+pub one_reading : (bytes : List ℕ) → HasOneReading bytes
+one_reading bytes = record { once = denotes_once bytes; not_both = λ library d. read_no_fault bytes library (denotes_read bytes library d); some = some_library bytes (text_read bytes) refl }
 
 -- what the one pass refuses is the text's refusal
 pub fault_is_read : (bytes : List ℕ) → fault_of (text_read bytes) ≡ read_fault bytes
@@ -27,7 +38,7 @@ fault_is_read bytes = by_result (text_read bytes) refl
     by_result (Err error) e = ap (λ (r : Result LibraryValue BlifErr). fault_of r) e ∙ sym (read_fault_is bytes error e)
 
 -- where nothing is refused, an error is want of memory
-pub only_memory : (e : BlifErr) → IsFault e None → e ≡ blif_err.Memory
+pub only_memory : (e : BlifErr) → OrMemory refusal_of (λ f. None ≡ Some f) e → e ≡ blif_err.Memory
 only_memory (blif_err.BadByte n) h = absurd (none-some (blif_err.BadByte n) h)
 only_memory (blif_err.TrailingSlash n) h = absurd (none-some (blif_err.TrailingSlash n) h)
 only_memory (blif_err.NotCommand n) h = absurd (none-some (blif_err.NotCommand n) h)

@@ -1,6 +1,6 @@
 -- Every library that a text denotes is well formed.
 use Rattle.std.proofs.Common.{◌≡◌, ℕ, Bool, List, length, sym, ap, ◌∙◌, subst, inl, inr}
-use Rattle.list_words.specs.Members.{In}
+use Rattle.list_laws.specs.Members.{In}
 use Rattle.blif_read.specs.declared.command.Command.{Command}
 use Rattle.blif_read.specs.CoverValue.{RowValue}
 use Rattle.blif_read.specs.LibraryValue.{ModelValue, LibraryValue}

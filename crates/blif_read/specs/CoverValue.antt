@@ -20,11 +20,12 @@ allows Any input = true
 allows One input = input
 allows Zero input = not input
 
--- a row matches where every cell allows its input's value
+-- a row matches where it has one cell for each input, and every cell allows its input's value
 abbrev pub matches : List Cell → List Bool → Bool
+matches [] [] = true
+matches [] (input ∷ inputs) = false
+matches (cell ∷ cells) [] = false
 matches (cell ∷ cells) (input ∷ inputs) = allows cell input && matches cells inputs
-matches [] inputs = true
-matches (cell ∷ cells) [] = true
 
 -- some row matches
 abbrev pub some_row : List RowValue → List Bool → Bool

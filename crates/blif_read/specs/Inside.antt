@@ -5,7 +5,7 @@ use Rattle.blif_read.specs.declared.blif_err.BlifErr.TheVariants.{OutsideModel}
 use Rattle.blif_read.specs.declared.command.Body.TheVariants.{Cover}
 use Rattle.blif_read.specs.declared.command.Command.{Command}
 use Rattle.blif_read.specs.declared.keyword.Keyword.{Keyword}
-use Rattle.blif_read.specs.declared.keyword.Keyword.TheVariants.{Inputs, Outputs, Clock, Names, Latch, Subckt, Plain}
+use Rattle.blif_read.specs.declared.keyword.Keyword.TheVariants.{Model, Inputs, Outputs, Clock, Names, Latch, Subckt, End, Unknown, Plain}
 use Rattle.blif_read.specs.LineFault.{ports_fault, names_fault, row_fault, latch_fault, subckt_fault, end_fault}
 use Rattle.blif_read.specs.Reading.{CoverRead, ModelRead, place_of_cover}
 
@@ -17,7 +17,9 @@ model_line_fault Clock r number words = ports_fault number r.model.clocks words
 model_line_fault Names r number words = names_fault number words
 model_line_fault Latch r number words = latch_fault number words
 model_line_fault Subckt r number words = subckt_fault number words
-model_line_fault keyword r number words = None
+model_line_fault Model r number words = None
+model_line_fault End r number words = None
+model_line_fault Unknown r number words = None
 
 abbrev pub inside_fault : Keyword → Option ModelRead → ℕ → List (List ℕ) → Option BlifErr
 inside_fault keyword None number words = Some (OutsideModel number)

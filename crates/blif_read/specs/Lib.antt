@@ -1,16 +1,21 @@
-pub mod CoverValue
-pub mod SubcktValue
-pub mod LibraryValue
-pub mod Statement
-pub mod Once
-pub mod Rows
-pub mod Latches
+-- What public clauses say.
 pub mod Connections
-pub mod Denotes
 pub mod Context
+pub mod CoverValue
+pub mod Denotes
+pub mod HasCleanNames
+pub mod HasOneReading
+pub mod Latches
+pub mod LibraryValue
 pub mod LineFault
+pub mod Once
 pub mod ReadFault
-pub mod WellFormed
-pub mod Reading
+pub mod Refusals
+pub mod Rows
 pub mod Size
+pub mod Statement
+pub mod SubcktValue
+pub mod WellFormed
+-- What only bodies are compared with.
 pub mod Inside
+pub mod Reading

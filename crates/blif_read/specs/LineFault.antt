@@ -105,24 +105,22 @@ abbrev pub end_fault : ℕ → List (List ℕ) → Option BlifErr
 end_fault number [] = None
 end_fault number (word ∷ words) = Some (Arity number)
 
--- the refusal of a line in an open model
-abbrev pub open_fault : Keyword → Context → ℕ → List (List ℕ) → Option BlifErr
-open_fault Plain context number words = row_fault number context.cover words
-open_fault Inputs context number words = ports_fault number context.inputs words
-open_fault Outputs context number words = ports_fault number context.outputs words
-open_fault Clock context number words = ports_fault number context.clocks words
-open_fault Names context number words = names_fault number words
-open_fault Latch context number words = latch_fault number words
-open_fault Subckt context number words = subckt_fault number words
-open_fault End context number words = end_fault number words
-open_fault Model context number words = model_fault number context.models words
-open_fault Unknown context number words = Some (Unsupported number)
+-- B3 where no model is open, else the refusal that the line has in one
+abbrev pub in_model : Bool → ℕ → Option BlifErr → Option BlifErr
+in_model is_open number fault = if is_open then fault else Some (OutsideModel number)
 
 -- the refusal of a line: B2 for another word with a dot, else B3 where no model is open and the line begins none
 abbrev pub fault_by : Keyword → Context → ℕ → List (List ℕ) → Option BlifErr
 fault_by Unknown context number words = Some (Unsupported number)
 fault_by Model context number words = model_fault number context.models words
-fault_by keyword context number words = if context.is_open then open_fault keyword context number words else Some (OutsideModel number)
+fault_by Plain context number words = in_model context.is_open number (row_fault number context.cover words)
+fault_by Inputs context number words = in_model context.is_open number (ports_fault number context.inputs words)
+fault_by Outputs context number words = in_model context.is_open number (ports_fault number context.outputs words)
+fault_by Clock context number words = in_model context.is_open number (ports_fault number context.clocks words)
+fault_by Names context number words = in_model context.is_open number (names_fault number words)
+fault_by Latch context number words = in_model context.is_open number (latch_fault number words)
+fault_by Subckt context number words = in_model context.is_open number (subckt_fault number words)
+fault_by End context number words = in_model context.is_open number (end_fault number words)
 
 abbrev pub line_fault : Context → StatementValue → Option BlifErr
 line_fault context s = fault_by s.keyword context s.number s.arguments

@@ -1,7 +1,2 @@
 -- Lists of names in which none stands twice.
-use Rattle.std.specs.Prelude.{ℕ, List, [], ◌∷◌}
-use Rattle.list_words.specs.Members.{In}
-
-abbrev pub AreOnce : List (List ℕ) → Type 0
-AreOnce [] = Unit {0}
-AreOnce (name ∷ names) = (¬ (In names name)) × AreOnce names
+pub use Rattle.tl_text.specs.Once.{AreOnce}

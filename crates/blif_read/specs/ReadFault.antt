@@ -6,9 +6,9 @@ use Rattle.tl_text.specs.Lines.{lines_of}
 use Rattle.tl_text.specs.declared.text_err.TextErr.{TextErr}
 use Rattle.tl_text.specs.declared.text_err.TextErr.TheVariants as text
 use Rattle.blif_read.specs.declared.blif_err.BlifErr.{BlifErr}
-use Rattle.blif_read.specs.declared.blif_err.BlifErr.TheVariants.{BadByte, TrailingSlash, NotCommand, Unsupported, OutsideModel, Arity, BadRow, MixedRows, BadLatch, LatchKind, DuplicateModel, DuplicatePort, BadConnection, NoModel, Memory}
+use Rattle.blif_read.specs.declared.blif_err.BlifErr.TheVariants.{BadByte, TrailingSlash, NoModel, Memory}
 use Rattle.blif_read.specs.declared.keyword.Keyword.{Keyword}
-use Rattle.blif_read.specs.declared.keyword.Keyword.TheVariants.{Model}
+use Rattle.blif_read.specs.declared.keyword.Keyword.TheVariants.{Model, Inputs, Outputs, Clock, Names, Latch, Subckt, End, Unknown, Plain}
 use Rattle.blif_read.specs.Statement.{StatementValue, statements}
 use Rattle.blif_read.specs.Context.{context_of}
 use Rattle.blif_read.specs.LineFault.{or_later, line_fault}
@@ -20,7 +20,15 @@ first_fault earlier (s ∷ ss) = or_later (line_fault (context_of earlier) s) (f
 
 abbrev pub is_model_keyword : Keyword → Bool
 is_model_keyword Model = true
-is_model_keyword keyword = false
+is_model_keyword Inputs = false
+is_model_keyword Outputs = false
+is_model_keyword Clock = false
+is_model_keyword Names = false
+is_model_keyword Latch = false
+is_model_keyword Subckt = false
+is_model_keyword End = false
+is_model_keyword Unknown = false
+is_model_keyword Plain = false
 
 abbrev pub has_model : List StatementValue → Bool
 has_model ss = list_any (λ (s : StatementValue). is_model_keyword s.keyword) ss
@@ -40,21 +48,3 @@ lines_fault bytes (Err e) = Some (blif_err e)
 
 abbrev pub read_fault : List ℕ → Option BlifErr
 read_fault bytes = lines_fault bytes (lines_of bytes)
-
--- an answer is the refusal; want of memory is free
-abbrev pub IsFault : BlifErr → Option BlifErr → Type 0
-IsFault Memory fault = Unit {0}
-IsFault (BadByte n) fault = fault ≡ Some (BadByte n)
-IsFault (TrailingSlash n) fault = fault ≡ Some (TrailingSlash n)
-IsFault (NotCommand n) fault = fault ≡ Some (NotCommand n)
-IsFault (Unsupported n) fault = fault ≡ Some (Unsupported n)
-IsFault (OutsideModel n) fault = fault ≡ Some (OutsideModel n)
-IsFault (Arity n) fault = fault ≡ Some (Arity n)
-IsFault (BadRow n) fault = fault ≡ Some (BadRow n)
-IsFault (MixedRows n) fault = fault ≡ Some (MixedRows n)
-IsFault (BadLatch n) fault = fault ≡ Some (BadLatch n)
-IsFault (LatchKind n) fault = fault ≡ Some (LatchKind n)
-IsFault (DuplicateModel n name) fault = fault ≡ Some (DuplicateModel n name)
-IsFault (DuplicatePort n name) fault = fault ≡ Some (DuplicatePort n name)
-IsFault (BadConnection n) fault = fault ≡ Some (BadConnection n)
-IsFault NoModel fault = fault ≡ Some NoModel

@@ -158,11 +158,22 @@ model_after keyword.Model line words r = r
 model_after keyword.End line words r = r
 model_after keyword.Unknown line words r = r
 
+-- the state with a line read by the open model
+abbrev pub line_read : Keyword → State → ℕ → List (List ℕ) → State
+line_read k s line words = record { names = s.names; done = s.done; current = option_map (model_after k line words) s.current }
+
 -- the state after a line that has no refusal
 abbrev pub next_by : Keyword → State → ℕ → List (List ℕ) → State
 next_by keyword.Model s line words = record { names = s.names ++ words; done = ended s; current = Some (fresh words line) }
 next_by keyword.End s line words = record { names = s.names; done = ended s; current = None }
-next_by other s line words = record { names = s.names; done = s.done; current = option_map (model_after other line words) s.current }
+next_by keyword.Inputs s line words = line_read keyword.Inputs s line words
+next_by keyword.Outputs s line words = line_read keyword.Outputs s line words
+next_by keyword.Clock s line words = line_read keyword.Clock s line words
+next_by keyword.Names s line words = line_read keyword.Names s line words
+next_by keyword.Latch s line words = line_read keyword.Latch s line words
+next_by keyword.Subckt s line words = line_read keyword.Subckt s line words
+next_by keyword.Unknown s line words = line_read keyword.Unknown s line words
+next_by keyword.Plain s line words = line_read keyword.Plain s line words
 
 abbrev pub next : State → StatementValue → State
 next s l = next_by l.keyword s l.number l.arguments

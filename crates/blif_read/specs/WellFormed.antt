@@ -1,6 +1,6 @@
 -- What every library that a text denotes keeps.
 use Rattle.std.specs.Prelude.{◌≡◌, ◌<◌, length, map}
-use Rattle.list_words.specs.Members.{In}
+use Rattle.list_laws.specs.Members.{In}
 use Rattle.blif_read.specs.declared.command.Body.{Body}
 use Rattle.blif_read.specs.declared.command.Body.TheVariants.{Cover, Latch, Subckt}
 use Rattle.blif_read.specs.declared.command.Command.{Command}

@@ -1,6 +1,7 @@
 //! Why a text denotes no library.
 use std::alloc::{AllocError, AllocFailed};
-use tl_text::Name;
+use tl_fault::{Details, Name, Refusal};
+use tl_text::TextErr;
 
 /// Why a text denotes no library. Each number is that of a logical line, but for the first two that of a physical one;
 /// lines are counted from 1.
@@ -72,5 +73,57 @@ impl From<AllocError> for BlifErr {
 
     fn from(_: AllocError) -> BlifErr {
         BlifErr::Memory
+    }
+}
+
+impl BlifErr {
+    ghost use Rattle.std.specs.Prelude.{◌≡◌};
+    ghost use Rattle.blif_read.specs.Refusals.{refusal_of};
+
+    /// What the refusal tells; none for want of memory.
+    pub fn refusal(self) -> Option<Refusal>
+        ensures { result ≡ refusal_of self }
+    {
+        match self {
+            BlifErr::BadByte(line) => TextErr::BadByte(line).refusal(),
+            BlifErr::TrailingSlash(line) => TextErr::TrailingSlash(line).refusal(),
+            BlifErr::NotCommand(line) => Some(Refusal::new(
+                "B1",
+                "NotCommand",
+                Details::Line(line),
+            )),
+            BlifErr::Unsupported(line) => Some(Refusal::new(
+                "B2",
+                "Unsupported",
+                Details::Line(line),
+            )),
+            BlifErr::OutsideModel(line) => Some(Refusal::new(
+                "B3",
+                "OutsideModel",
+                Details::Line(line),
+            )),
+            BlifErr::Arity(line) => Some(Refusal::new("B4", "Arity", Details::Line(line))),
+            BlifErr::BadRow(line) => Some(Refusal::new("B5", "BadRow", Details::Line(line))),
+            BlifErr::MixedRows(line) => Some(Refusal::new("B6", "MixedRows", Details::Line(line))),
+            BlifErr::BadLatch(line) => Some(Refusal::new("B7", "BadLatch", Details::Line(line))),
+            BlifErr::LatchKind(line) => Some(Refusal::new("B8", "LatchKind", Details::Line(line))),
+            BlifErr::DuplicateModel(line, name) => Some(Refusal::new(
+                "B9",
+                "DuplicateModel",
+                Details::Named(line, name),
+            )),
+            BlifErr::DuplicatePort(line, name) => Some(Refusal::new(
+                "B10",
+                "DuplicatePort",
+                Details::Named(line, name),
+            )),
+            BlifErr::BadConnection(line) => Some(Refusal::new(
+                "B11",
+                "BadConnection",
+                Details::Line(line),
+            )),
+            BlifErr::NoModel => Some(Refusal::new("B12", "NoModel", Details::Nothing)),
+            BlifErr::Memory => None,
+        }
     }
 }

@@ -1,7 +1,8 @@
 //! The `.subckt` lines.
 ghost use Rattle.std.specs.Prelude.{◌≡◌, ◌==◌, ◌<◌, [], length, None, Some, MatchResult, IfOk, position};
 ghost use Rattle.blif_read.specs.LineFault.{connection_of, split_at, connections_fault, subckt_fault};
-ghost use Rattle.blif_read.specs.ReadFault.{IsFault};
+ghost use Rattle.blif_read.specs.Refusals.{refusal_of};
+ghost use Rattle.tl_fault.specs.OrMemory.{OrMemory};
 ghost use Rattle.blif_read.specs.Reading.{pairs_of, subckt_of};
 
 use crate::blif_err::BlifErr;
@@ -51,7 +52,7 @@ fn connection(alloc: Global, word: &[u8]) -> Result<Option<Pair>, AllocError>
 fn pairs(alloc: Global, number: u32, words: &[Name]) -> Result<Vec<Pair>, BlifErr>
     ensures { MatchResult result
         (λ pairs. (connections_fault number [] words.now ≡ None) × (pairs.items ≡ pairs_of words.now))
-        (λ e. IsFault e (connections_fault number [] words.now)) }
+        (OrMemory refusal_of (λ e. connections_fault number [] words.now ≡ Some e)) }
 {
     let mut formals = NameIndex::new(alloc);
     let mut pairs = Vec::new(alloc);
@@ -74,14 +75,12 @@ pub(crate) fn subckt_line(
     number: u32,
     mut words: Vec<Name>,
 ) -> Result<Subckt, BlifErr>
-    ensures { MatchResult result (λ subckt. (subckt_fault number words.items ≡ None) × (subckt ≡ subckt_of words.items)) (λ e. IsFault e (subckt_fault number words.items)) }
+    ensures { MatchResult result (λ subckt. (subckt_fault number words.items ≡ None) × (subckt ≡ subckt_of words.items)) (OrMemory refusal_of (λ e. subckt_fault number words.items ≡ Some e)) }
 {
     if words.is_empty() {
         return Err(BlifErr::Arity(number));
     }
     let model = words.remove(0);
-    match pairs(alloc, number, &words) {
-        Ok(pairs) => Ok(Subckt { model, pairs }),
-        Err(e) => Err(e),
-    }
+    let pairs = pairs(alloc, number, &words)?;
+    Ok(Subckt { model, pairs })
 }

@@ -1,7 +1,8 @@
 //! The `.latch` lines.
-ghost use Rattle.std.specs.Prelude.{◌≡◌, List, ℕ, Option, ◌<◌, length, None, MatchResult};
+ghost use Rattle.std.specs.Prelude.{◌≡◌, Some, List, ℕ, Option, ◌<◌, length, None, MatchResult};
 ghost use Rattle.blif_read.specs.LineFault.{init_fault, kind_fault, latch_fault};
-ghost use Rattle.blif_read.specs.ReadFault.{IsFault};
+ghost use Rattle.blif_read.specs.Refusals.{refusal_of};
+ghost use Rattle.tl_fault.specs.OrMemory.{OrMemory};
 ghost use Rattle.blif_read.specs.Reading.{control_of, init_of, latch_of};
 
 use crate::blif_err::BlifErr;
@@ -10,7 +11,7 @@ use tl_text::Name;
 
 // Is a word an init?
 fn check_init(number: u32, init: &[u8]) -> Result<(), BlifErr>
-    ensures { MatchResult result (λ _. init_fault number init.now ≡ None) (λ e. IsFault e (init_fault number init.now)) }
+    ensures { MatchResult result (λ _. init_fault number init.now ≡ None) (OrMemory refusal_of (λ e. init_fault number init.now ≡ Some e)) }
 {
     if init == b"0".as_slice()
         || init == b"1".as_slice()
@@ -24,7 +25,7 @@ fn check_init(number: u32, init: &[u8]) -> Result<(), BlifErr>
 
 // Is a word the type of latch that there is?
 fn check_kind(number: u32, kind: &[u8]) -> Result<(), BlifErr>
-    ensures { MatchResult result (λ _. kind_fault number kind.now ≡ None) (λ e. IsFault e (kind_fault number kind.now)) }
+    ensures { MatchResult result (λ _. kind_fault number kind.now ≡ None) (OrMemory refusal_of (λ e. kind_fault number kind.now ≡ Some e)) }
 {
     if kind == b"re".as_slice() {
         return Ok(());
@@ -41,17 +42,15 @@ fn check_kind(number: u32, kind: &[u8]) -> Result<(), BlifErr>
 
 // Are words those of a latch?
 fn check(number: u32, words: &[Name]) -> Result<(), BlifErr>
-    ensures { MatchResult result (λ _. latch_fault number words.now ≡ None) (λ e. IsFault e (latch_fault number words.now)) }
+    ensures { MatchResult result (λ _. latch_fault number words.now ≡ None) (OrMemory refusal_of (λ e. latch_fault number words.now ≡ Some e)) }
 {
     match words {
         [_, _] => Ok(()),
         [_, _, init] => check_init(number, init.bytes()),
         [_, _, kind, _] => check_kind(number, kind.bytes()),
         [_, _, kind, _, init] => {
-            match check_kind(number, kind.bytes()) {
-                Ok(()) => check_init(number, init.bytes()),
-                Err(e) => Err(e),
-            }
+            check_kind(number, kind.bytes())?;
+            check_init(number, init.bytes())
         }
         _ => Err(BlifErr::Arity(number)),
     }
@@ -101,10 +100,8 @@ fn made(mut words: Vec<Name>) -> Latch
 
 /// The latch that the words behind `.latch` are.
 pub(crate) fn latch_line(number: u32, words: Vec<Name>) -> Result<Latch, BlifErr>
-    ensures { MatchResult result (λ latch. (latch_fault number words.items ≡ None) × (latch ≡ latch_of words.items)) (λ e. IsFault e (latch_fault number words.items)) }
+    ensures { MatchResult result (λ latch. (latch_fault number words.items ≡ None) × (latch ≡ latch_of words.items)) (OrMemory refusal_of (λ e. latch_fault number words.items ≡ Some e)) }
 {
-    match check(number, &words) {
-        Ok(()) => Ok(made(words)),
-        Err(e) => Err(e),
-    }
+    check(number, &words)?;
+    Ok(made(words))
 }

@@ -3,7 +3,8 @@ ghost use Rattle.std.specs.Prelude.{◌≡◌, [], length, None, Some, MatchResu
 ghost use Rattle.std.specs.Option.{option_map};
 ghost use Rattle.blif_read.specs.Context.{row_of};
 ghost use Rattle.blif_read.specs.LineFault.{mixed_fault, names_fault, row_fault, row_read_fault, same_bit};
-ghost use Rattle.blif_read.specs.ReadFault.{IsFault};
+ghost use Rattle.blif_read.specs.Refusals.{refusal_of};
+ghost use Rattle.tl_fault.specs.OrMemory.{OrMemory};
 ghost use Rattle.blif_read.specs.Reading.{cover_of, place_of_cover, value_so_far, with_row as cover_with_row, with_row_words};
 
 use crate::blif_err::BlifErr;
@@ -59,7 +60,7 @@ fn same(first: bool, second: bool) -> bool
 fn check_value(number: u32, cover: &Cover, value: bool) -> Result<(), BlifErr>
     ensures { MatchResult result
         (λ _. mixed_fault number (value_so_far cover.now) value ≡ None)
-        (λ e. IsFault e (mixed_fault number (value_so_far cover.now) value)) }
+        (OrMemory refusal_of (λ e. mixed_fault number (value_so_far cover.now) value ≡ Some e)) }
 {
     if cover.rows.is_empty() {
         return Ok(());
@@ -99,16 +100,13 @@ fn read_row(
 ) -> Result<OpenCover, BlifErr>
     ensures { MatchResult result
         (λ c. (row_read_fault number (value_so_far cover.cover) (row_of (length cover.cover.inputs) words.now) ≡ None) × (c ≡ with_row_words words.now cover))
-        (λ e. IsFault e (row_read_fault number (value_so_far cover.cover) (row_of (length cover.cover.inputs) words.now))) }
+        (OrMemory refusal_of (λ e. row_read_fault number (value_so_far cover.cover) (row_of (length cover.cover.inputs) words.now) ≡ Some e)) }
 {
     let OpenCover { line, cover } = cover;
     let Some(row) = row_line(alloc, cover.inputs.len(), words)? else {
         return Err(BlifErr::BadRow(number));
     };
-    match check_value(number, &cover, row.value) {
-        Ok(()) => {}
-        Err(e) => return Err(e),
-    }
+    check_value(number, &cover, row.value)?;
     let cover = with_row(cover, row)?;
     Ok(OpenCover { line, cover })
 }
@@ -122,13 +120,13 @@ pub(crate) fn read_cover_row(
 ) -> Result<Option<OpenCover>, BlifErr>
     ensures { MatchResult result
         (λ c. (row_fault number (place_of_cover cover) words.now ≡ None) × (c ≡ option_map (with_row_words words.now) cover))
-        (λ e. IsFault e (row_fault number (place_of_cover cover) words.now)) }
+        (OrMemory refusal_of (λ e. row_fault number (place_of_cover cover) words.now ≡ Some e)) }
 {
     match cover {
         None => Err(BlifErr::NotCommand(number)),
-        Some(cover) => match read_row(alloc, number, cover, words) {
-            Ok(cover) => Ok(Some(cover)),
-            Err(e) => Err(e),
-        },
+        Some(cover) => {
+            let cover = read_row(alloc, number, cover, words)?;
+            Ok(Some(cover))
+        }
     }
 }

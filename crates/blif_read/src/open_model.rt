@@ -1,9 +1,10 @@
 //! A model whose lines are being read.
-ghost use Rattle.std.specs.Prelude.{◌≡◌, ◌∷◌, [], None, MatchResult, IfOk};
+ghost use Rattle.std.specs.Prelude.{◌≡◌, Some, ◌∷◌, [], None, MatchResult, IfOk};
 ghost use Rattle.blif_read.specs.declared.command.Body.TheVariants.{Latch as LatchBody, Subckt as SubcktBody};
 ghost use Rattle.blif_read.specs.LibraryValue.{input_ports, output_ports, clock_ports};
 ghost use Rattle.blif_read.specs.LineFault.{latch_fault, names_fault, ports_fault, row_fault, subckt_fault};
-ghost use Rattle.blif_read.specs.ReadFault.{IsFault};
+ghost use Rattle.blif_read.specs.Refusals.{refusal_of};
+ghost use Rattle.tl_fault.specs.OrMemory.{OrMemory};
 ghost use Rattle.blif_read.specs.Reading.{body_read, flushed, fresh, latch_of, names_read, place_of_cover, ports_read, row_read, subckt_of};
 ghost use Rattle.blif_read.specs.Reading.{model_after as after};
 ghost use Rattle.blif_read.specs.Inside.{commands_with, model_line_fault};
@@ -68,7 +69,7 @@ fn with_inputs(
 ) -> Result<OpenModel, BlifErr>
     ensures { MatchResult result
         (λ m. (ports_fault number model.model.inputs names.items ≡ None) × (m ≡ ports_read input_ports names.items model))
-        (λ e. IsFault e (ports_fault number model.model.inputs names.items)) }
+        (OrMemory refusal_of (λ e. ports_fault number model.model.inputs names.items ≡ Some e)) }
 {
     let OpenModel {
         name,
@@ -80,18 +81,16 @@ fn with_inputs(
         cover,
     } = model;
     let commands = with_cover(commands, cover)?;
-    match inputs.with(alloc, number, names) {
-        Ok(inputs) => Ok(OpenModel {
-            name,
-            line,
-            inputs,
-            outputs,
-            clocks,
-            commands,
-            cover: None,
-        }),
-        Err(e) => Err(e),
-    }
+    let inputs = inputs.with(alloc, number, names)?;
+    Ok(OpenModel {
+        name,
+        line,
+        inputs,
+        outputs,
+        clocks,
+        commands,
+        cover: None,
+    })
 }
 
 fn with_outputs(
@@ -102,7 +101,7 @@ fn with_outputs(
 ) -> Result<OpenModel, BlifErr>
     ensures { MatchResult result
         (λ m. (ports_fault number model.model.outputs names.items ≡ None) × (m ≡ ports_read output_ports names.items model))
-        (λ e. IsFault e (ports_fault number model.model.outputs names.items)) }
+        (OrMemory refusal_of (λ e. ports_fault number model.model.outputs names.items ≡ Some e)) }
 {
     let OpenModel {
         name,
@@ -114,18 +113,16 @@ fn with_outputs(
         cover,
     } = model;
     let commands = with_cover(commands, cover)?;
-    match outputs.with(alloc, number, names) {
-        Ok(outputs) => Ok(OpenModel {
-            name,
-            line,
-            inputs,
-            outputs,
-            clocks,
-            commands,
-            cover: None,
-        }),
-        Err(e) => Err(e),
-    }
+    let outputs = outputs.with(alloc, number, names)?;
+    Ok(OpenModel {
+        name,
+        line,
+        inputs,
+        outputs,
+        clocks,
+        commands,
+        cover: None,
+    })
 }
 
 fn with_clocks(
@@ -136,7 +133,7 @@ fn with_clocks(
 ) -> Result<OpenModel, BlifErr>
     ensures { MatchResult result
         (λ m. (ports_fault number model.model.clocks names.items ≡ None) × (m ≡ ports_read clock_ports names.items model))
-        (λ e. IsFault e (ports_fault number model.model.clocks names.items)) }
+        (OrMemory refusal_of (λ e. ports_fault number model.model.clocks names.items ≡ Some e)) }
 {
     let OpenModel {
         name,
@@ -148,18 +145,16 @@ fn with_clocks(
         cover,
     } = model;
     let commands = with_cover(commands, cover)?;
-    match clocks.with(alloc, number, names) {
-        Ok(clocks) => Ok(OpenModel {
-            name,
-            line,
-            inputs,
-            outputs,
-            clocks,
-            commands,
-            cover: None,
-        }),
-        Err(e) => Err(e),
-    }
+    let clocks = clocks.with(alloc, number, names)?;
+    Ok(OpenModel {
+        name,
+        line,
+        inputs,
+        outputs,
+        clocks,
+        commands,
+        cover: None,
+    })
 }
 
 // The model with a command.
@@ -197,7 +192,7 @@ fn with_names(
 ) -> Result<OpenModel, BlifErr>
     ensures { MatchResult result
         (λ m. (names_fault number names.items ≡ None) × (m ≡ names_read number names.items model))
-        (λ e. IsFault e (names_fault number names.items)) }
+        (OrMemory refusal_of (λ e. names_fault number names.items ≡ Some e)) }
 {
     let Some(next) = open_cover(alloc, number, names) else {
         return Err(BlifErr::Arity(number));
@@ -232,7 +227,7 @@ fn with_row_line(
 ) -> Result<OpenModel, BlifErr>
     ensures { MatchResult result
         (λ m. (row_fault number (place_of_cover model.cover) words.now ≡ None) × (m ≡ row_read words.now model))
-        (λ e. IsFault e (row_fault number (place_of_cover model.cover) words.now)) }
+        (OrMemory refusal_of (λ e. row_fault number (place_of_cover model.cover) words.now ≡ Some e)) }
 {
     let OpenModel {
         name,
@@ -243,30 +238,26 @@ fn with_row_line(
         commands,
         cover,
     } = model;
-    match read_cover_row(alloc, number, cover, words) {
-        Ok(cover) => Ok(OpenModel {
-            name,
-            line,
-            inputs,
-            outputs,
-            clocks,
-            commands,
-            cover,
-        }),
-        Err(e) => Err(e),
-    }
+    let cover = read_cover_row(alloc, number, cover, words)?;
+    Ok(OpenModel {
+        name,
+        line,
+        inputs,
+        outputs,
+        clocks,
+        commands,
+        cover,
+    })
 }
 
 // The model with the latch that a line's words are.
 fn with_latch(model: OpenModel, number: u32, words: Vec<Name>) -> Result<OpenModel, BlifErr>
     ensures { MatchResult result
         (λ m. (latch_fault number words.items ≡ None) × (m ≡ body_read number (LatchBody (latch_of words.items)) model))
-        (λ e. IsFault e (latch_fault number words.items)) }
+        (OrMemory refusal_of (λ e. latch_fault number words.items ≡ Some e)) }
 {
-    match latch_line(number, words) {
-        Ok(latch) => Ok(with_body(model, number, Body::Latch(latch))?),
-        Err(e) => Err(e),
-    }
+    let latch = latch_line(number, words)?;
+    Ok(with_body(model, number, Body::Latch(latch))?)
 }
 
 // The model with the subcircuit that a line's words are.
@@ -278,12 +269,10 @@ fn with_subckt(
 ) -> Result<OpenModel, BlifErr>
     ensures { MatchResult result
         (λ m. (subckt_fault number words.items ≡ None) × (m ≡ body_read number (SubcktBody (subckt_of words.items)) model))
-        (λ e. IsFault e (subckt_fault number words.items)) }
+        (OrMemory refusal_of (λ e. subckt_fault number words.items ≡ Some e)) }
 {
-    match subckt_line(alloc, number, words) {
-        Ok(subckt) => Ok(with_body(model, number, Body::Subckt(subckt))?),
-        Err(e) => Err(e),
-    }
+    let subckt = subckt_line(alloc, number, words)?;
+    Ok(with_body(model, number, Body::Subckt(subckt))?)
 }
 
 /// The model with a line that begins and ends none.
@@ -296,7 +285,7 @@ pub(crate) fn model_after(
 ) -> Result<OpenModel, BlifErr>
     ensures { MatchResult result
         (λ m. (model_line_fault keyword model number words.items ≡ None) × (m ≡ after keyword number words.items model))
-        (λ e. IsFault e (model_line_fault keyword model number words.items)) }
+        (OrMemory refusal_of (λ e. model_line_fault keyword model number words.items ≡ Some e)) }
 {
     match keyword {
         Keyword::Plain => with_row_line(alloc, model, number, &words),

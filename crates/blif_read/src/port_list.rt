@@ -2,7 +2,8 @@
 ghost use Rattle.std.specs.Prelude.{◌≡◌, ◌∷◌, [], ◌++◌, false, None, Some, MatchResult, if◌then◌else◌};
 ghost use Rattle.blif_read.specs.declared.blif_err.BlifErr.TheVariants.{DuplicatePort};
 ghost use Rattle.blif_read.specs.LineFault.{has, ports_fault};
-ghost use Rattle.blif_read.specs.ReadFault.{IsFault};
+ghost use Rattle.blif_read.specs.Refusals.{refusal_of};
+ghost use Rattle.tl_fault.specs.OrMemory.{OrMemory};
 
 use crate::blif_err::BlifErr;
 use std::alloc::Global;
@@ -37,7 +38,7 @@ fn add(
     requires { index.old ≡ names.old.items }
     ensures { MatchResult result
         (λ _. (has names.old.items name ≡ false) × (names.new.items ≡ names.old.items ++ name ∷ []) × (index.new ≡ names.new.items))
-        (λ e. IsFault e (if has names.old.items name then Some (DuplicatePort number name) else None)) }
+        (OrMemory refusal_of (λ e. (if has names.old.items name then Some (DuplicatePort number name) else None) ≡ Some e)) }
 {
     if index.place(name.bytes()).is_some() {
         return Err(BlifErr::DuplicatePort(number, name));
@@ -74,17 +75,14 @@ impl PortList {
     ) -> Result<PortList, BlifErr>
         ensures { MatchResult result
             (λ list. (ports_fault number self names.items ≡ None) × (list ≡ self ++ names.items))
-            (λ e. IsFault e (ports_fault number self names.items)) }
+            (OrMemory refusal_of (λ e. ports_fault number self names.items ≡ Some e)) }
     {
         let PortList {
             names: mut done,
             mut index,
         } = self;
         for name in names {
-            match add(alloc, number, &mut done, &mut index, name) {
-                Ok(()) => {}
-                Err(e) => return Err(e),
-            }
+            add(alloc, number, &mut done, &mut index, name)?;
         }
         Ok(PortList { names: done, index })
     }

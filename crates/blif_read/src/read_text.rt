@@ -1,8 +1,13 @@
 //! The library that a text denotes.
-ghost use Rattle.std.specs.Prelude.{◌≡◌, ◌+◌, ◌≤◌, length, None, Ok, IfOk, MatchResult};
+ghost use Rattle.std.specs.Prelude.{◌≡◌, Some, ◌+◌, ◌≤◌, length, None, Ok, IfOk, MatchResult};
+ghost use Rattle.tl_text.specs.declared.logical_lines.TheConstants.{MOST_BYTES};
 ghost use Rattle.blif_read.specs.LibraryValue.{LibraryValue};
 ghost use Rattle.blif_read.specs.Denotes.{Denotes};
-ghost use Rattle.blif_read.specs.ReadFault.{blif_err, read_fault, IsFault};
+ghost use Rattle.blif_read.specs.HasCleanNames.{HasCleanNames};
+ghost use Rattle.blif_read.specs.HasOneReading.{HasOneReading};
+ghost use Rattle.blif_read.specs.ReadFault.{blif_err, read_fault};
+ghost use Rattle.blif_read.specs.Refusals.{refusal_of};
+ghost use Rattle.tl_fault.specs.OrMemory.{OrMemory};
 ghost use Rattle.blif_read.specs.Reading.{fault_of, text_read};
 ghost use Rattle.blif_read.specs.Size.{library_size};
 ghost use Rattle.blif_read.specs.WellFormed.{IsWellFormed};
@@ -26,16 +31,12 @@ fn lines_err(error: TextErr) -> BlifErr
 
 // The library of a text, in one pass.
 fn read_once(alloc: Global, text: &[u8]) -> Result<Library, BlifErr>
-    requires { length text.now ≤ 67108864 }
-    ensures { MatchResult result (λ library. text_read text.now ≡ Ok library) (λ e. IsFault e (fault_of (text_read text.now))) }
+    requires { length text.now ≤ MOST_BYTES }
+    ensures { MatchResult result (λ library. text_read text.now ≡ Ok library) (OrMemory refusal_of (λ e. fault_of (text_read text.now) ≡ Some e)) }
 {
-    let lines = match lines(alloc, text) {
-        Ok(lines) => lines,
-        Err(error) => return Err(lines_err(error)),
-    };
-    match read_lines(alloc, text, &lines) {
-        Ok(library) => Ok(library),
-        Err(error) => Err(error),
+    match lines(alloc, text) {
+        Ok(lines) => read_lines(alloc, text, &lines),
+        Err(error) => Err(lines_err(error)),
     }
 }
 
@@ -46,21 +47,28 @@ fn read_once(alloc: Global, text: &[u8]) -> Result<Library, BlifErr>
 /// The first refusal of the text, by the table of `specs/ReadFault.antt`: T1 and T2 of its physical lines, else B1 to B11 of
 /// the first logical line that has one, else B12; `Memory` where there is none.
 pub fn read(alloc: Global, text: &[u8]) -> Result<Library, BlifErr>
-    requires { length text.now ≤ 67108864 }
+    requires { length text.now ≤ MOST_BYTES }
 
     // The text denotes the library, and the library that a text denotes is answered, but for want of memory.
     ensures denoted { IfOk result (λ library. Denotes text.now library) }
     ensures complete { (library : LibraryValue) → Denotes text.now library → MatchResult result (λ answer. answer ≡ library) (λ e. e ≡ BlifErr.Memory) }
 
     // A refusal is the text's first one, and a text that has one gives no library.
-    ensures fault { MatchResult result (λ _. read_fault text.now ≡ None) (λ e. IsFault e (read_fault text.now)) }
+    ensures fault { MatchResult result (λ _. read_fault text.now ≡ None) (OrMemory refusal_of (λ e. read_fault text.now ≡ Some e)) }
 
-    // What the library keeps: its form, and a size within the text's.
+    // Whatever the answer: a text has a library or a refusal, never both, and one library at most.
+    ensures one_reading { HasOneReading text.now }
+
+    // What the library keeps: its form, clean names, and a size within the text's.
     ensures well_formed { IfOk result IsWellFormed }
+    ensures clean { IfOk result HasCleanNames }
     ensures small { IfOk result (λ library. library_size library ≤ length text.now + 1) }
+
+    // Each library that the text denotes keeps the same, whatever the answer.
+    ensures always_well_formed { (library : LibraryValue) → Denotes text.now library → IsWellFormed library }
+    ensures always_clean { (library : LibraryValue) → Denotes text.now library → HasCleanNames library }
+    ensures always_small { (library : LibraryValue) → Denotes text.now library → library_size library ≤ length text.now + 1 }
 {
-    match read_once(alloc, text) {
-        Ok(library) => Ok(library),
-        Err(error) => Err(error),
-    }
+    let library = read_once(alloc, text)?;
+    Ok(library)
 }

@@ -5,7 +5,8 @@ ghost use Rattle.tl_text.specs.LineValue.{AreLinesIn};
 ghost use Rattle.blif_read.specs.declared.keyword.Keyword.TheVariants as keyword_;
 ghost use Rattle.blif_read.specs.Statement.{statements};
 ghost use Rattle.blif_read.specs.LineFault.{end_fault, line_fault, model_fault};
-ghost use Rattle.blif_read.specs.ReadFault.{IsFault};
+ghost use Rattle.blif_read.specs.Refusals.{refusal_of};
+ghost use Rattle.tl_fault.specs.OrMemory.{OrMemory};
 ghost use Rattle.blif_read.specs.Reading.{context, ended, fault_of, finished, library_at_end, library_read, model_after as after, next, next_by, steps};
 ghost use Rattle.blif_read.specs.Inside.{end_line_fault, inside_fault};
 
@@ -67,7 +68,7 @@ fn new_name(
 ) -> Result<Name, BlifErr>
     ensures { MatchResult result
         (λ name. (model_fault number names.old words.items ≡ None) × (words.items ≡ name ∷ []) × (names.new ≡ names.old ++ words.items))
-        (λ e. IsFault e (model_fault number names.old words.items)) }
+        (OrMemory refusal_of (λ e. model_fault number names.old words.items ≡ Some e)) }
 {
     let Some(name) = only(words) else {
         return Err(BlifErr::Arity(number));
@@ -83,12 +84,9 @@ fn new_name(
 fn begin(alloc: Global, reader: &mut Reader, number: u32, words: Vec<Name>) -> Result<(), BlifErr>
     ensures { MatchResult result
         (λ _. (model_fault number reader.old.names words.items ≡ None) × (reader.new ≡ next_by keyword_.Model reader.old number words.items))
-        (λ e. IsFault e (model_fault number reader.old.names words.items)) }
+        (OrMemory refusal_of (λ e. model_fault number reader.old.names words.items ≡ Some e)) }
 {
-    let name = match new_name(alloc, &mut reader.names, number, words) {
-        Ok(name) => name,
-        Err(e) => return Err(e),
-    };
+    let name = new_name(alloc, &mut reader.names, number, words)?;
     close(reader)?;
     reader.current = Some(begun(alloc, name, number));
     Ok(())
@@ -98,7 +96,7 @@ fn begin(alloc: Global, reader: &mut Reader, number: u32, words: Vec<Name>) -> R
 fn end(reader: &mut Reader, number: u32, words: &[Name]) -> Result<(), BlifErr>
     ensures { MatchResult result
         (λ _. (end_line_fault reader.old.current number words.now ≡ None) × (reader.new ≡ next_by keyword_.End reader.old number words.now))
-        (λ e. IsFault e (end_line_fault reader.old.current number words.now)) }
+        (OrMemory refusal_of (λ e. end_line_fault reader.old.current number words.now ≡ Some e)) }
 {
     if reader.current.is_none() {
         return Err(BlifErr::OutsideModel(number));
@@ -120,25 +118,21 @@ fn inside(
 ) -> Result<(), BlifErr>
     ensures { MatchResult result
         (λ _. (inside_fault keyword reader.old.current number words.items ≡ None) × (reader.new ≡ record { names = reader.old.names; done = reader.old.done; current = option_map (after keyword number words.items) reader.old.current }))
-        (λ e. IsFault e (inside_fault keyword reader.old.current number words.items)) }
+        (OrMemory refusal_of (λ e. inside_fault keyword reader.old.current number words.items ≡ Some e)) }
 {
     let Some(model) = reader.current.take() else {
         return Err(BlifErr::OutsideModel(number));
     };
-    match model_after(alloc, model, keyword, number, words) {
-        Ok(model) => {
-            reader.current = Some(model);
-            Ok(())
-        }
-        Err(e) => Err(e),
-    }
+    let model = model_after(alloc, model, keyword, number, words)?;
+    reader.current = Some(model);
+    Ok(())
 }
 
 // Reads a line.
 fn step(alloc: Global, reader: &mut Reader, line: Statement) -> Result<(), BlifErr>
     ensures { MatchResult result
         (λ _. (line_fault (context reader.old) line ≡ None) × (reader.new ≡ next reader.old line))
-        (λ e. IsFault e (line_fault (context reader.old) line)) }
+        (OrMemory refusal_of (λ e. line_fault (context reader.old) line ≡ Some e)) }
 {
     let Statement {
         number,
@@ -158,14 +152,11 @@ fn read_each(alloc: Global, reader: &mut Reader, text: &[u8], lines: &[Line]) ->
     requires { AreLinesIn text.now lines.now }
     ensures { MatchResult result
         (λ _. steps reader.old (statements text.now lines.now) ≡ Ok reader.new)
-        (λ e. IsFault e (fault_of (steps reader.old (statements text.now lines.now)))) }
+        (OrMemory refusal_of (λ e. fault_of (steps reader.old (statements text.now lines.now)) ≡ Some e)) }
 {
     for line in lines {
         let statement = line_statement(alloc, text, line)?;
-        match step(alloc, reader, statement) {
-            Ok(()) => {}
-            Err(e) => return Err(e),
-        }
+        step(alloc, reader, statement)?;
     }
     Ok(())
 }
@@ -174,7 +165,7 @@ fn read_each(alloc: Global, reader: &mut Reader, text: &[u8], lines: &[Line]) ->
 fn finish(alloc: Global, reader: &mut Reader) -> Result<Library, BlifErr>
     ensures { MatchResult result
         (λ library. library_at_end (ended reader.old) ≡ Ok library)
-        (λ e. IsFault e (fault_of (library_at_end (ended reader.old)))) }
+        (OrMemory refusal_of (λ e. fault_of (library_at_end (ended reader.old)) ≡ Some e)) }
 {
     close(reader)?;
     let models = std::mem::replace(&mut reader.done, Vec::new(alloc));
@@ -189,12 +180,10 @@ fn run(alloc: Global, reader: &mut Reader, text: &[u8], lines: &[Line]) -> Resul
     requires { AreLinesIn text.now lines.now }
     ensures { MatchResult result
         (λ library. finished (steps reader.old (statements text.now lines.now)) ≡ Ok library)
-        (λ e. IsFault e (fault_of (finished (steps reader.old (statements text.now lines.now))))) }
+        (OrMemory refusal_of (λ e. fault_of (finished (steps reader.old (statements text.now lines.now))) ≡ Some e)) }
 {
-    match read_each(alloc, reader, text, lines) {
-        Ok(()) => finish(alloc, reader),
-        Err(e) => Err(e),
-    }
+    read_each(alloc, reader, text, lines)?;
+    finish(alloc, reader)
 }
 
 /// The library of a text's logical lines.
@@ -202,7 +191,7 @@ pub(crate) fn read_lines(alloc: Global, text: &[u8], lines: &[Line]) -> Result<L
     requires { AreLinesIn text.now lines.now }
     ensures { MatchResult result
         (λ library. library_read (statements text.now lines.now) ≡ Ok library)
-        (λ e. IsFault e (fault_of (library_read (statements text.now lines.now)))) }
+        (OrMemory refusal_of (λ e. fault_of (library_read (statements text.now lines.now)) ≡ Some e)) }
 {
     let mut reader = Reader {
         names: NameIndex::new(alloc),

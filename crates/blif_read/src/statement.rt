@@ -1,6 +1,6 @@
 //! A logical line as its keyword and its arguments.
 ghost use Rattle.std.specs.Prelude.{◌≡◌, ℕ, ◌<◌, length, map, IfOk};
-ghost use Rattle.list_words.specs.Members.{In};
+ghost use Rattle.list_laws.specs.Members.{In};
 ghost use Rattle.tl_text.specs.LineValue.{IsWithin, IsLineIn, token_bytes, words_line};
 ghost use Rattle.blif_read.specs.Statement.{begins_with_dot as begins_with, keyword_of, statement_of, statement_at};
 ghost use Rattle.tl_text.specs.declared.token.Token.{Token};

@@ -3,7 +3,7 @@ use crate::{BlifErr, BlifModel, Body, Cell, Command, Cover, Latch, Library, Subc
 use std::alloc::{AllocError, Global};
 use std::process::Abort;
 use std::test::Fail;
-use tl_text::Name;
+use tl_text::{MOST_BYTES, Name};
 
 // A mark and a number below 100.
 fn put_number(out: &mut Vec<u8>, mark: &[u8], number: u32) -> Result<(), AllocError> {
@@ -141,7 +141,7 @@ fn put_library(out: &mut Vec<u8>, library: &Library) -> Result<(), AllocError> {
 
 // What a text is read as.
 fn shown(rt: &impl Abort, alloc: Global, text: &[u8]) -> Result<Vec<u8>, AllocError> {
-    assert!(rt; text.len() <= 67108864);
+    assert!(rt; text.len() <= MOST_BYTES);
     let mut out = Vec::new(alloc);
     match read(alloc, text) {
         Ok(library) => put_library(&mut out, &library)?,
@@ -351,7 +351,7 @@ fn many_covers(alloc: Global, count: u32) -> Result<Vec<u8>, AllocError> {
 #[test]
 fn a_hundred_thousand_covers(rt: HostRuntime) -> Result<(), Fail> {
     let text = many_covers(rt.alloc(), 100000)?;
-    assert!(rt; text.len() <= 67108864);
+    assert!(rt; text.len() <= MOST_BYTES);
     let library = read(rt.alloc(), &text)?;
     assert_eq!(rt; library.models.len(), 1);
     let model = &library.models[0];

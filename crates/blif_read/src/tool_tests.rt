@@ -4,6 +4,7 @@ use crate::{Library, read};
 use std::alloc::Global;
 use std::process::Abort;
 use std::test::Fail;
+use tl_text::MOST_BYTES;
 
 // A full adder as Yosys 0.23 writes it after `synth`.
 const YOSYS: &[u8] =
@@ -36,7 +37,7 @@ fn assert_covers(
     text: &[u8],
     wanted: &[(u32, usize, usize, bool)],
 ) -> Result<(), Fail> {
-    assert!(rt; text.len() <= 67108864);
+    assert!(rt; text.len() <= MOST_BYTES);
     match read(alloc, text) {
         Ok(library) => {
             let covers = covers(alloc, &library)?;

@@ -8,8 +8,9 @@ use Rattle.tl_text.specs.declared.text_err.TextErr.{TextErr}
 use Rattle.tl_text.specs.declared.text_err.TextErr.TheVariants.{BadByte, TrailingSlash, Memory}
 use Rattle.tl_text.specs.LineValue.{LineValue}
 use Rattle.tl_text.specs.Lines.{is_bad, has_slash_end, words, goes_on, with_physical, physical_lines, before_first, lines_from, lines_of, closed, put_before, without_return, without_last, ends_in}
-use Rattle.tl_text.specs.Reading.{Reading, line_result, with_line, all_lines, Gives}
-use Rattle.tl_text.specs.TextFault.{IsTextFault}
+use Rattle.tl_text.specs.Reading.{Reading, line_result, with_line, all_lines}
+use Rattle.tl_fault.specs.OrMemory.{OrMemory}
+use Rattle.tl_text.specs.Refusals.{refusal_of}
 
 -- lines before those of a result
 abbrev pub prepended : List LineValue → Result (List LineValue) TextErr → Result (List LineValue) TextErr
@@ -156,16 +157,8 @@ reads_end text i number start s end =
     ∙ line_read number start s line []
 
 -- a refused line refuses the text
-pub read_refused : (after : Reading) (number at : ℕ) (rest : List (List ℕ)) (r : Result Reading TextErr) (lines : Result (List LineValue) TextErr) (e : TextErr)
-    → Gives {A = Unit {0}} (λ _. after) (Err e) r → lines ≡ read_on number at rest r → IsTextFault e lines
-read_refused after number at rest r lines (BadByte n) gives is = is ∙ ap (read_on number at rest) gives
-read_refused after number at rest r lines (TrailingSlash n) gives is = is ∙ ap (read_on number at rest) gives
-read_refused after number at rest r lines Memory gives is = tt
-
--- what was read is the answer
-pub all_read : {A : Type 0} (view : A → List LineValue) (found : List LineValue) (lines : Result (List LineValue) TextErr) (result : Result A TextErr)
-    → Gives view result (Ok found) → lines ≡ Ok found → MatchResult result (λ x. lines ≡ Ok (view x)) (λ e. IsTextFault e lines)
-all_read view found lines (Ok x) gives is = is ∙ gives
-all_read view found lines (Err (BadByte n)) gives is = is ∙ gives
-all_read view found lines (Err (TrailingSlash n)) gives is = is ∙ gives
-all_read view found lines (Err Memory) gives is = tt
+pub read_refused : (number at : ℕ) (rest : List (List ℕ)) (r : Result Reading TextErr) (lines : Result (List LineValue) TextErr) (e : TextErr)
+    → OrMemory refusal_of (λ f. r ≡ Err f) e → lines ≡ read_on number at rest r → OrMemory refusal_of (λ f. lines ≡ Err f) e
+read_refused number at rest r lines (BadByte n) gives is = is ∙ ap (read_on number at rest) gives
+read_refused number at rest r lines (TrailingSlash n) gives is = is ∙ ap (read_on number at rest) gives
+read_refused number at rest r lines Memory gives is = tt

@@ -2,12 +2,15 @@
 use Rattle.std.proofs.Common.{◌≡◌, ℕ, ◌+◌, ◌-◌, ◌≤◌, ◌<◌, cond, eqb, List, [], ◌∷◌, ◌++◌, length, map, take, Option, Some, None, Result, Ok, Err, refl, subst, arith}
 use Rattle.std.specs.List.{list_any, position_or_len, suffix_len}
 use Rattle.std.proofs.lemmas.List.{length-take}
-use Rattle.list_words.proofs.Choice.{choose_one}
+use Rattle.list_laws.proofs.Choice.{choose_one}
 use Rattle.tl_text.specs.declared.token.Token.{Token}
 use Rattle.tl_text.specs.declared.text_err.TextErr.{TextErr}
 use Rattle.tl_text.specs.declared.text_err.TextErr.TheVariants.{BadByte, TrailingSlash}
 use Rattle.tl_text.specs.LineValue.{LineValue, token_bytes, words_line}
-use Rattle.tl_text.specs.Lines.{before_first, physical_lines, is_bad, is_blank, ends_in, without_last, without_return, before_comment, content, goes_on, words, spans, has_slash_end, extended, with_physical, counted, put_before, closed, lines_from, lines_of}
+use Rattle.tl_text.specs.Lines.{before_first, physical_lines, is_bad, ends_in, without_last, without_return, before_comment, content, goes_on, words, has_slash_end, extended, with_physical, counted, put_before, closed, lines_from, lines_of}
+use Rattle.tl_text.specs.Tokens.{is_blank, tokens_at}
+use Rattle.tl_text.specs.Spans.{spans}
+use Rattle.tl_text.proofs.SpanLemmas.{spans_tokens}
 
 -- 1 for each word, and its bytes
 abbrev pub words_size : List (List ℕ) → ℕ
@@ -65,6 +68,9 @@ spans_short (b ∷ bs) = record {
       choose_one (λ ts. tokens_size ts ≤ (at - start) + length (b ∷ bs) + 1) (is_blank b) (record { start = start; end = at } ∷ spans (at + 1) None bs) (spans (at + 1) (Some start) bs) (omega arith) (omega arith);
 }
 
+tokens_short : (at : ℕ) (bs : List ℕ) → tokens_size (tokens_at at bs) ≤ length bs + 1
+tokens_short at bs = subst (λ ts. tokens_size ts ≤ length bs + 1) (spans_tokens at bs) ((spans_short bs).outside at)
+
 -- the parts of a line are no longer than the line
 take_short : (n : ℕ) (xs : List ℕ) → length (take n xs) ≤ length xs
 take_short n xs = simp length-take (omega arith)
@@ -96,8 +102,8 @@ extended_size number (Some line) tokens = tokens-append line.tokens tokens
 physical_size : (number at : ℕ) (unfinished : Option LineValue) (rest : List (List ℕ)) (line : List ℕ) → tokens_size (with_physical number at unfinished (without_return rest line)).tokens ≤ unfinished_size unfinished + (length line + 1)
 physical_size number at unfinished rest line =
     let kept : List ℕ = without_return rest line in
-    let e : tokens_size (with_physical number at unfinished kept).tokens ≡ unfinished_size unfinished + tokens_size (spans at None (words kept)) = extended_size number unfinished (spans at None (words kept)) in
-    let s : tokens_size (spans at None (words kept)) ≤ length (words kept) + 1 = (spans_short (words kept)).outside at in
+    let e : tokens_size (with_physical number at unfinished kept).tokens ≡ unfinished_size unfinished + tokens_size (tokens_at at (words kept)) = extended_size number unfinished (tokens_at at (words kept)) in
+    let s : tokens_size (tokens_at at (words kept)) ≤ length (words kept) + 1 = tokens_short at (words kept) in
     let w : length (words kept) ≤ length kept = words_short kept in
     let r : length kept ≤ length line = return_short rest line in omega arith
 

@@ -1,6 +1,12 @@
-pub mod NameIndex
+-- What public clauses say.
+pub mod Clean
+pub mod Decimal
 pub mod LineValue
 pub mod Lines
+pub mod NameIndex
+pub mod Once
+pub mod Refusals
+pub mod Tokens
+-- What only bodies are compared with.
 pub mod Reading
-pub mod Decimal
-pub mod TextFault
+pub mod Spans

@@ -1,7 +1,7 @@
 -- Logical lines as contracts see them.
 use Rattle.std.specs.Prelude.{ℕ, ◌<◌, ◌≤◌, List, map, length}
 use Rattle.std.specs.List.{slice_range}
-use Rattle.list_words.specs.Members.{In}
+use Rattle.list_laws.specs.Members.{In}
 use Rattle.tl_text.specs.declared.token.Token.{Token}
 
 -- a logical line: the number of its first physical line, and its tokens

@@ -5,6 +5,7 @@ use Rattle.tl_text.specs.declared.token.Token.{Token}
 use Rattle.tl_text.specs.declared.text_err.TextErr.{TextErr}
 use Rattle.tl_text.specs.declared.text_err.TextErr.TheVariants.{BadByte, TrailingSlash}
 use Rattle.tl_text.specs.LineValue.{LineValue}
+use Rattle.tl_text.specs.Tokens.{is_blank, tokens_at}
 
 -- Physical lines: what stands between the line feeds (10). The last one is what stands behind the last line feed.
 abbrev pub before_first : ℕ → List (List ℕ) → List (List ℕ)
@@ -18,9 +19,6 @@ physical_lines (b ∷ bs) = if b == 10 then [] ∷ physical_lines bs else before
 -- A byte that no line may have: one below 32 but the tab (9), or 127.
 abbrev pub is_bad : ℕ → Bool
 is_bad b = (nat_lt b 32 && not (b == 9)) || (b == 127)
-
-abbrev pub is_blank : ℕ → Bool
-is_blank b = (b == 32) || (b == 9)
 
 -- does a line end in this byte
 abbrev pub ends_in : ℕ → List ℕ → Bool
@@ -52,13 +50,6 @@ goes_on line = ends_in 92 (content line)
 abbrev pub words : List ℕ → List ℕ
 words line = if goes_on line then without_last (content line) else content line
 
--- The tokens of bytes that start at a place: the runs between blanks and tabs. The option is where an unfinished token starts.
-abbrev pub spans : ℕ → Option ℕ → List ℕ → List Token
-spans at None [] = []
-spans at (Some start) [] = record { start = start; end = at } ∷ []
-spans at None (b ∷ bs) = if is_blank b then spans (at + 1) None bs else spans (at + 1) (Some at) bs
-spans at (Some start) (b ∷ bs) = if is_blank b then record { start = start; end = at } ∷ spans (at + 1) None bs else spans (at + 1) (Some start) bs
-
 -- does a token end in `\`
 abbrev pub has_slash_end : List ℕ → Bool
 has_slash_end [] = false
@@ -72,7 +63,7 @@ extended number (Some line) tokens = record { number = line.number; tokens = lin
 
 -- the line that a physical line makes or goes on with
 abbrev pub with_physical : ℕ → ℕ → Option LineValue → List ℕ → LineValue
-with_physical number at unfinished line = extended number unfinished (spans at None (words line))
+with_physical number at unfinished line = extended number unfinished (tokens_at at (words line))
 
 -- a line before others; one without tokens doesn't count
 abbrev pub counted : LineValue → List LineValue → List LineValue

@@ -2,7 +2,7 @@
 use Rattle.std.specs.Prelude.{◌≡◌, ℕ, if◌then◌else◌, ◌==◌, List, [], ◌∷◌, ◌++◌, length, Option, Some, None, Result, Ok, Err}
 use Rattle.std.specs.List.{list_any}
 use Rattle.tl_text.specs.declared.text_err.TextErr.{TextErr}
-use Rattle.tl_text.specs.declared.text_err.TextErr.TheVariants.{BadByte, TrailingSlash, Memory}
+use Rattle.tl_text.specs.declared.text_err.TextErr.TheVariants.{BadByte, TrailingSlash}
 use Rattle.tl_text.specs.LineValue.{LineValue}
 use Rattle.tl_text.specs.Lines.{is_bad, has_slash_end, goes_on, words, with_physical}
 
@@ -32,10 +32,3 @@ line_result number at line s =
     if list_any is_bad line then Err (BadByte number)
     else if has_slash_end (words line) then Err (TrailingSlash number)
     else Ok (line_added number at line s)
-
--- a result is the one of the definition, and want of memory is free
-abbrev pub Gives : {A B : Type 0} → (A → B) → Result A TextErr → Result B TextErr → Type 0
-Gives view (Ok x) s = s ≡ Ok (view x)
-Gives view (Err Memory) s = Unit {0}
-Gives view (Err (BadByte n)) s = s ≡ Err (BadByte n)
-Gives view (Err (TrailingSlash n)) s = s ≡ Err (TrailingSlash n)

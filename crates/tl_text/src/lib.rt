@@ -16,17 +16,13 @@
 //!
 //! [`decimal`] and [`bit`] read the number or the bit that a token writes (`specs/Decimal.antt`).
 //!
-//! A [`Name`] holds the bytes of one token. Names are compared byte by byte, so that upper and lower case differ, and
-//! contracts see a name as the plain list of its bytes.
-//!
-//! A [`NameIndex`] numbers names: the *place* of a name is how many others were added before it. Each name is there once,
-//! and contracts see the list of the names in the order of their places (`specs/NameIndex.antt`).
+//! A [`Name`] holds the bytes of one token, and a [`NameIndex`] numbers names: the *place* of a name is how many others were
+//! added before it. Each name is there once, and contracts see the list of the names in the order of their places (`specs/NameIndex.antt`).
 #![tactic(auto)]
 
 mod decimals;
 mod line;
 mod logical_lines;
-mod name;
 mod name_index;
 mod physical_line;
 mod reader;
@@ -37,8 +33,8 @@ mod token;
 
 pub use decimals::{bit, decimal};
 pub use line::Line;
-pub use logical_lines::lines;
-pub use name::Name;
+pub use logical_lines::{MOST_BYTES, lines};
 pub use name_index::NameIndex;
 pub use text_err::TextErr;
+pub use tl_fault::Name;
 pub use token::Token;

@@ -1,8 +1,12 @@
 //! The logical lines of a text.
-ghost use Rattle.std.specs.Prelude.{◌≡◌, ◌≤◌, length, Ok, MatchResult, IfOk};
-ghost use Rattle.tl_text.specs.LineValue.{AreLinesIn};
+ghost use Rattle.std.specs.Prelude.{◌≡◌, ◌≤◌, ℕ, List, length, Ok, Err, MatchResult, IfOk};
+ghost use Rattle.tl_fault.specs.OrMemory.{OrMemory};
+ghost use Rattle.tl_text.specs.declared.logical_lines.TheConstants.{MOST_BYTES};
+ghost use Rattle.tl_text.specs.Clean.{AreCleanIn};
+ghost use Rattle.tl_text.specs.LineValue.{LineValue, AreLinesIn};
 ghost use Rattle.tl_text.specs.Lines.{lines_of};
-ghost use Rattle.tl_text.specs.TextFault.{IsTextFault};
+ghost use Rattle.tl_text.specs.Refusals.{refusal_of};
+ghost use Rattle.tl_text.specs.Tokens.{AreRuns, tokens_at};
 
 use crate::line::Line;
 use crate::physical_line::cut_end;
@@ -10,16 +14,22 @@ use crate::reader::Reader;
 use crate::text_err::TextErr;
 use std::alloc::Global;
 
-/// The logical lines of a text of at most 64 MiB that have a token, in order. Each token stands in the text. It takes time
+/// The most bytes that a text may have: 64 MiB.
+pub const MOST_BYTES: usize = 67_108_864;
+
+/// The logical lines of a text of at most [`MOST_BYTES`] bytes that have a token, in order. Each token stands in the text. It takes time
 /// and memory linear in the text.
 ///
 /// # Errors
 /// `BadByte` (T1) or `TrailingSlash` (T2), whichever comes first: the first physical line counts, and in one line T1.
 /// `Memory` only where there is none.
 pub fn lines(alloc: Global, text: &[u8]) -> Result<Vec<Line>, TextErr>
-    requires { length text.now ≤ 67108864 }
-    ensures answer { MatchResult result (λ v. lines_of text.now ≡ Ok v.items) (λ e. IsTextFault e (lines_of text.now)) }
+    requires { length text.now ≤ MOST_BYTES }
+    ensures answer { MatchResult result (λ v. lines_of text.now ≡ Ok v.items) (OrMemory refusal_of (λ e. lines_of text.now ≡ Err e)) }
     ensures places { IfOk result (λ v. AreLinesIn text.now v.items) }
+    ensures clean { IfOk result (λ v. AreCleanIn text.now v.items) }
+    ensures always_clean { (found : List LineValue) → lines_of text.now ≡ Ok found → AreCleanIn text.now found }
+    ensures runs { (at : ℕ) (bytes : List ℕ) → AreRuns at bytes (tokens_at at bytes) }
 {
     let mut reader = Reader::new(alloc);
     let mut number = 1;
@@ -27,16 +37,11 @@ pub fn lines(alloc: Global, text: &[u8]) -> Result<Vec<Line>, TextErr>
     for (i, b) in text.iter().enumerate() {
         if *b == b'\n' {
             let line = cut_end(&text[start..i], b'\r');
-            match reader.read(alloc, number, start as u32, line) {
-                Ok(()) => {}
-                Err(e) => return Err(e),
-            }
+            reader.read(alloc, number, start as u32, line)?;
             number += 1;
             start = i + 1;
         }
     }
-    match reader.read(alloc, number, start as u32, &text[start..]) {
-        Ok(()) => reader.finish(),
-        Err(e) => Err(e),
-    }
+    reader.read(alloc, number, start as u32, &text[start..])?;
+    Ok(reader.finish()?)
 }

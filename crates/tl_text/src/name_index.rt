@@ -1,12 +1,14 @@
 //! Names, numbered in the order in which they were first seen.
 ghost use Rattle.std.specs.Prelude.{◌≡◌, ℕ, [], ◌∷◌, ◌++◌, length, None, Some, IfOk, OnOk, OnErr};
 ghost use Rattle.tl_text.specs.NameIndex.{place_of, names_of};
+ghost use Rattle.tl_text.specs.Once.{AreOnce};
 
 use indexmap::IndexSet;
 use std::alloc::{AllocError, Global};
 use std::marker::Model;
 
-/// Names in the order in which they were added, each found by its hash. Contracts see the list of the names.
+/// Names in the order in which they were added, each found by its hash. Contracts see the list of the names. None is in it
+/// twice, which is a law of the type.
 #[derive(Drop)]
 pub struct NameIndex {
     names: IndexSet<Vec<u8>>,
@@ -19,6 +21,10 @@ impl Model for NameIndex {
     ghost Value = { List (List ℕ) };
 
     ghost view = { λ n. names_of n.names.keys };
+
+    ghost use Rattle.tl_text.specs.Once.{AreOnce};
+
+    ghost invariant = { λ n. AreOnce (names_of n.names.keys) };
 }
 
 impl NameIndex {
@@ -31,9 +37,10 @@ impl NameIndex {
         }
     }
 
-    /// How many names there are, in constant time.
+    /// How many names there are, in constant time. Each is there once.
     pub fn len(&self) -> usize
-        ensures { result ≡ length self.now }
+        ensures value { result ≡ length self.now }
+        ensures once { AreOnce self.now }
     {
         self.names.len()
     }

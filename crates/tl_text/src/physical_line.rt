@@ -1,7 +1,8 @@
 //! The parts of one physical line.
 ghost use Rattle.std.specs.Prelude.{◌≡◌, ◌==◌, ℕ, ◌+◌, ◌-◌, ◌^◌, ◌<◌, None, ◌++◌, length, if◌then◌else◌, OnOk};
 ghost use Rattle.std.specs.List.{list_any, suffix_len, position_or_len};
-ghost use Rattle.tl_text.specs.Lines.{is_bad, is_blank, content, words, ends_in, without_last, spans, has_slash_end as slash_ends};
+ghost use Rattle.tl_text.specs.Lines.{is_bad, content, words, ends_in, without_last, has_slash_end as slash_ends};
+ghost use Rattle.tl_text.specs.Tokens.{is_blank, tokens_at};
 
 use crate::token::Token;
 use std::alloc::AllocError;
@@ -82,9 +83,9 @@ pub fn has_slash_end(line: &[u8]) -> bool
 }
 
 // Adds the tokens of bytes that start at a place. On `Err` some of them may stand there.
-pub fn push_spans(tokens: &mut Vec<Token>, at: u32, line: &[u8]) -> Result<(), AllocError>
+pub fn push_tokens(tokens: &mut Vec<Token>, at: u32, line: &[u8]) -> Result<(), AllocError>
     requires { at + length line.now < 2 ^ 32 }
-    ensures { OnOk result (tokens.new.items ≡ tokens.old.items ++ spans at None line.now) }
+    ensures { OnOk result (tokens.new.items ≡ tokens.old.items ++ tokens_at at line.now) }
 {
     let mut open = None;
     let mut here = at;

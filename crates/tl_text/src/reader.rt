@@ -1,10 +1,12 @@
 //! The reader of physical lines.
-ghost use Rattle.std.specs.Prelude.{◌≡◌, ◌+◌, ◌^◌, ◌<◌, [], length, Ok, OnOk};
+ghost use Rattle.std.specs.Prelude.{◌≡◌, ◌+◌, ◌^◌, ◌<◌, [], length, Ok, Err, IfOk, OnOk, MatchResult};
+ghost use Rattle.tl_fault.specs.OrMemory.{OrMemory};
 ghost use Rattle.tl_text.specs.Lines.{extended};
-ghost use Rattle.tl_text.specs.Reading.{with_line, all_lines, line_result, Gives};
+ghost use Rattle.tl_text.specs.Reading.{with_line, all_lines, line_result};
+ghost use Rattle.tl_text.specs.Refusals.{refusal_of};
 
 use crate::line::Line;
-use crate::physical_line::{content_of, cut_end, has_bad, has_end, has_slash_end, push_spans};
+use crate::physical_line::{content_of, cut_end, has_bad, has_end, has_slash_end, push_tokens};
 use crate::text_err::TextErr;
 use std::alloc::{AllocError, Global};
 use std::marker::Model;
@@ -61,7 +63,7 @@ impl Reader {
     // Reads a physical line that starts at a place. After an `Err` the reader is of no use.
     pub fn read(&mut self, alloc: Global, number: u32, at: u32, line: &[u8]) -> Result<(), TextErr>
         requires { at + length line.now < 2 ^ 32 }
-        ensures { Gives (λ _. self.new) result (line_result number at line.now self.old) }
+        ensures { MatchResult result (λ _. line_result number at line.now self.old ≡ Ok self.new) (OrMemory refusal_of (λ e. line_result number at line.now self.old ≡ Err e)) }
     {
         if has_bad(line) {
             return Err(TextErr::BadByte(number));
@@ -72,7 +74,7 @@ impl Reader {
             return Err(TextErr::TrailingSlash(number));
         }
         let mut open = line_to_extend(alloc, self.unfinished.take(), number);
-        push_spans(&mut open.tokens, at, words)?;
+        push_tokens(&mut open.tokens, at, words)?;
         if has_end(content, b'\\') {
             self.unfinished = Some(open);
         } else {
@@ -82,8 +84,8 @@ impl Reader {
     }
 
     // All lines. The end of the text ends the line that goes on.
-    pub fn finish(self) -> Result<Vec<Line>, TextErr>
-        ensures { Gives (λ v. v.items) result (Ok (all_lines self.done self.unfinished)) }
+    pub fn finish(self) -> Result<Vec<Line>, AllocError>
+        ensures { IfOk result (λ v. v.items ≡ all_lines self.done self.unfinished) }
     {
         let Reader {
             mut done,

@@ -1,5 +1,5 @@
 //! Texts by hand, with the lines and numbers that they have.
-use crate::{TextErr, bit, decimal, lines};
+use crate::{MOST_BYTES, TextErr, bit, decimal, lines};
 use std::alloc::{AllocError, Global};
 use std::process::Abort;
 use std::test::Fail;
@@ -13,7 +13,7 @@ fn put_number(out: &mut Vec<u8>, mark: &[u8], number: u32) -> Result<(), AllocEr
 
 // The lines of a text, each as its number, and its tokens with a blank before each; or the refusal.
 fn shown(rt: &impl Abort, alloc: Global, text: &[u8]) -> Result<Vec<u8>, AllocError> {
-    assert!(rt; text.len() <= 67108864);
+    assert!(rt; text.len() <= MOST_BYTES);
     let mut out = Vec::new(alloc);
     match lines(alloc, text) {
         Ok(lines) => {

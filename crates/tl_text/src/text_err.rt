@@ -1,5 +1,6 @@
 //! Why a text has no lines.
 use std::alloc::{AllocError, AllocFailed};
+use tl_fault::{Details, Refusal};
 
 /// Why a text has no lines. The number is that of the physical line, counted from 1.
 #[derive(Clone, Copy, Debug, PartialEq, Eq, thiserror::Error)]
@@ -34,5 +35,25 @@ impl From<AllocError> for TextErr {
 
     fn from(_: AllocError) -> TextErr {
         TextErr::Memory
+    }
+}
+
+impl TextErr {
+    ghost use Rattle.std.specs.Prelude.{◌≡◌};
+    ghost use Rattle.tl_text.specs.Refusals.{refusal_of};
+
+    /// What the refusal tells; none for want of memory.
+    pub fn refusal(self) -> Option<Refusal>
+        ensures { result ≡ refusal_of self }
+    {
+        match self {
+            TextErr::BadByte(line) => Some(Refusal::new("T1", "BadByte", Details::Line(line))),
+            TextErr::TrailingSlash(line) => Some(Refusal::new(
+                "T2",
+                "TrailingSlash",
+                Details::Line(line),
+            )),
+            TextErr::Memory => None,
+        }
     }
 }

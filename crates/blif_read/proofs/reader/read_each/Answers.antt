@@ -1,5 +1,5 @@
 use Rattle.std.proofs.Common.{sym, subst, get_or}
-use Rattle.list_words.proofs.Members.{In-get_or}
+use Rattle.list_laws.proofs.Members.{In-get_or}
 use Rattle.tl_text.specs.LineValue.{LineValue, IsLineIn}
 use Rattle.blif_read.proofs.reader.read_each.Goals as goal
 

@@ -1,14 +1,15 @@
-use Rattle.std.proofs.Common.{◌≡◌, subst, None, MatchResult}
+use Rattle.std.proofs.Common.{◌≡◌, subst, None, Some, MatchResult}
 use Rattle.blif_read.specs.Statement.{StatementValue}
 use Rattle.blif_read.specs.LineFault.{line_fault}
-use Rattle.blif_read.specs.ReadFault.{IsFault}
+use Rattle.tl_fault.specs.OrMemory.{OrMemory}
+use Rattle.blif_read.specs.Refusals.{refusal_of}
 use Rattle.blif_read.specs.Reading.{context, next}
 use Rattle.blif_read.proofs.ReaderLemmas.{step_inside}
 use Rattle.blif_read.proofs.reader.step.Goals as goal
 
 pub returns-in_default : goal.returns-in_default
 returns-in_default c =
-    subst (λ (l : StatementValue). MatchResult c.inside.result (λ _. (line_fault (context c.args.reader.now) l ≡ None) × (c.inside.new.reader ≡ next c.args.reader.now l)) (λ e. IsFault e (line_fault (context c.args.reader.now) l)))
+    subst (λ (l : StatementValue). MatchResult c.inside.result (λ _. (line_fault (context c.args.reader.now) l ≡ None) × (c.inside.new.reader ≡ next c.args.reader.now l)) (OrMemory refusal_of (λ e. line_fault (context c.args.reader.now) l ≡ Some e)))
     c.line.view_is
     (step_inside c.inside.result c.args.reader.now c.inside.new.reader (record { number = c.line.inside.number; keyword = c.line.inside.keyword; arguments = c.line.inside.arguments.items })
     c.in_default.not-Model c.in_default.not-End c.in_default.not-Unknown c.inside.ensures)

@@ -1,4 +1,4 @@
-use Rattle.list_words.proofs.Members.{In-get_or}
+use Rattle.list_laws.proofs.Members.{In-get_or}
 use Rattle.blif_read.proofs.statement.words.Goals as goal
 
 pub bytes-requires : goal.bytes-requires

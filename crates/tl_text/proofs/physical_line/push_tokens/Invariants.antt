@@ -1,0 +1,10 @@
+use Rattle.std.proofs.Common.{◌≡◌, ◌+◌, ◌++◌, drop}
+use Rattle.tl_text.specs.Tokens.{tokens_at}
+use Rattle.tl_text.specs.Spans.{spans}
+use Rattle.tl_text.proofs.physical_line.push_tokens.Given as goal
+
+abbrev pub invariant-loop-b : goal.invariant-loop-b
+invariant-loop-b l = record {
+  here : l.here ≡ l.at + l.b-index;
+  same : l.tokens.items ++ spans l.here l.open (drop l.b-index l.line) ≡ l.initial.tokens.items ++ tokens_at l.at l.line;
+}
