@@ -1,6 +1,6 @@
 -- Any two maps that fit agree on every driven name: each has there the value of the name's net, and they agree on the covers along their order.
 use Rattle.std.proofs.Common.{◌≡◌, ℕ, Bool, false, List, [], ◌∷◌, map, Option, Some, None, refl, sym, ap, ap₂, ◌∙◌, subst, inl, inr}
-use Rattle.list_words.specs.Members.{In}
+use Rattle.list_laws.specs.Members.{In}
 use Rattle.blif_read.specs.CoverValue.{CoverValue, cover_value}
 use Rattle.blif_read.specs.LibraryValue.{LibraryValue}
 use Rattle.blif_flat.specs.Models.{Path}
@@ -9,7 +9,8 @@ use Rattle.blif_flat.specs.Nets.{Net, input_net, latch_net, cover_net, Drives, m
 use Rattle.blif_flat.specs.Cycle.{Fits}
 use Rattle.blif_flat.specs.Drivers.{IsRead, cover_input}
 use Rattle.blif_flat.specs.Places.{Place, same_place, cover_at}
-use Rattle.blif_flat.specs.Loops.{AreNets, reads_of, Ordered}
+use Rattle.blif_flat.specs.Loops.{AreNets, reads_of}
+use Rattle.blif_flat.specs.CoverOrder.{Ordered}
 use Rattle.blif_flat.proofs.FindLemmas.{Decided}
 use Rattle.blif_flat.proofs.PlaceLemmas.{place_of, same_place-is, same_place-refl, cover_at-is}
 use Rattle.blif_flat.proofs.OrderLemmas.{rules_agree}

@@ -19,9 +19,9 @@ use Rattle.blif_flat.specs.InstanceOrder.{places_at}
 use Rattle.blif_flat.specs.ClockFaults.{is_gate}
 use Rattle.blif_flat.specs.ClockSteps.{input_name, clock_test}
 use Rattle.blif_flat.specs.CoverWalk.{cover_reads}
-use Rattle.blif_flat.specs.Walking.{PostsAll}
-use Rattle.blif_flat.specs.Weight.{own_weight, Weighs, weighs}
-use Rattle.blif_flat.specs.Flat.{Places, AreNetsOf, IsControl, with_control, most_underscores, IsFlat}
+use Rattle.blif_flat.specs.DepthFirst.{PostsAll}
+use Rattle.blif_flat.specs.Weight.{most_weight, own_weight, Weighs, weighs}
+use Rattle.blif_flat.specs.Flat.{Places, AreNetsOf, IsControl, with_control_net, most_underscores, IsFlat}
 use Rattle.blif_flat.specs.RegularNets.{regular_numbers, IsRegular, regular_places, AreFlatCovers, AreFlatLatches}
 use Rattle.blif_flat.specs.Ordering.{AreCounted, root_numbers}
 use Rattle.blif_flat.specs.Stages.{IsCircuit, AreClockNets}
@@ -33,19 +33,19 @@ filtered_more true x ys n h = omega arith
 filtered_more false x ys n h = omega arith
 
 -- a filtered list is no longer
-filtered_below : {A : Type 0} (test : A → Bool) (xs : List A) → length (filter test xs) ≤ length xs
+pub filtered_below : {A : Type 0} (test : A → Bool) (xs : List A) → length (filter test xs) ≤ length xs
 filtered_below test [] = omega arith
 filtered_below test (x ∷ xs) = filtered_more (test x) x (filter test xs) (length xs) (filtered_below test xs)
 
 -- a main model that isn't too heavy has few inputs
-own_below : (library : LibraryValue) (main : ModelValue) (w : ℕ) → Weighs library main w → own_weight main ≤ w
+pub own_below : (library : LibraryValue) (main : ModelValue) (w : ℕ) → Weighs library main w → own_weight main ≤ w
 own_below library main w (weighs inner all e) = omega arith
 
-pub few_inputs : (library : LibraryValue) → IsLight library → (main : ModelValue) → model_at library [] ≡ Some main → length (inputs_of main) ≤ 4194304
+pub few_inputs : (library : LibraryValue) → IsLight library → (main : ModelValue) → model_at library [] ≡ Some main → length (inputs_of main) ≤ most_weight
 few_inputs library light main at =
     let same : light.main ≡ main = same_Some light.main main (sym light.first ∙ at) in
     let below : own_weight main ≤ light.weight = subst (λ m. own_weight m ≤ light.weight) same (own_below library light.main light.weight light.weighs) in
-    let bound : light.weight ≤ 4194304 = light.light in
+    let bound : light.weight ≤ most_weight = light.light in
     let others : List (List ℕ) = filter (λ name. not (has_name main.inputs name)) main.clocks in
     let sum : length (main.inputs ++ others) ≡ length main.inputs + length others = length-append main.inputs others in
     let less : length others ≤ length main.clocks = filtered_below (λ name. not (has_name main.inputs name)) main.clocks in
@@ -62,9 +62,9 @@ module _ (library : LibraryValue) (main : ModelValue) (at : model_at library [] 
   abbrev places : Places
   places = regular_places library main test paths
 
-  pub few_marks : IsLight library → length clocks.marks.items ≤ 4194304
+  pub few_marks : IsLight library → length clocks.marks.items ≤ most_weight
   few_marks light =
-      let all : length (inputs_of main) ≤ 4194304 = few_inputs library light main at in
+      let all : length (inputs_of main) ≤ most_weight = few_inputs library light main at in
       let same : length clocks.marks.items ≡ length (inputs_of main) = ap length known.marks ∙ length-map (inputs_of main) test in
       omega arith
 
@@ -94,11 +94,11 @@ module _ (library : LibraryValue) (main : ModelValue) (at : model_at library [] 
     names_known names h = h (regular numbers numbers_are)
 
   module _ (covers : List FlatCoverValue) (covers_are : AreFlatCovers library places covers) where
-    pub few_covers : length covers ≤ 4194304
+    pub few_covers : length covers ≤ most_weight
     few_covers =
         let same : length covers ≡ length (places_at library is_cover paths) = covers_are.count in
         let gates : length circuit.covers.items ≡ length (places_at library is_cover paths) = is.covers.count in
-        let few : length circuit.covers.items ≤ 4194304 = is.few in
+        let few : length circuit.covers.items ≤ most_weight = is.few in
         omega arith
 
     module _ (latches : List FlatLatch) (latches_are : AreFlatLatches library places latches) (outputs : List OutPort)
@@ -134,7 +134,7 @@ module _ (library : LibraryValue) (main : ModelValue) (at : model_at library [] 
           (subst₂ (λ (y : List FlatLatch) (z : List OutPort). PostsAll (cover_reads covers) [] (root_numbers (map (λ (x : OutPort). x.net) z) y) order) l o h)
 
       pub fields : (flat : FlatValue) → flat.covers ≡ covers → flat.latches ≡ latches → flat.outputs ≡ outputs → flat.model ≡ main.name → flat.inputs ≡ filter (λ name. not (test name)) main.inputs
-          → flat.control ≡ input_name main clocks.control → flat.clocks ≡ with_control main.clocks flat.control → map (λ (o : OutPort). o.name) outputs ≡ main.outputs
+          → flat.control ≡ input_name main clocks.control → flat.clocks ≡ with_control_net main.clocks flat.control → map (λ (o : OutPort). o.name) outputs ≡ main.outputs
           → PostsAll (cover_reads covers) [] (root_numbers (map (λ (o : OutPort). o.net) outputs) latches) (reverse flat.order) → flat.under ≡ most_underscores (main.inputs ++ (main.clocks ++ main.outputs)) → IsFlat library flat
       fields flat c l o model inputs control clock_names names order under = record {
         main = main;

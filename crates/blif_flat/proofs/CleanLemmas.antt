@@ -1,7 +1,7 @@
 -- A model of an instance has no refusal of drivers, where none of F1 to F6 stands and no subcircuit has a formal twice.
 use Rattle.std.proofs.Common.{◌≡◌, ℕ, List, [], ◌∷◌, Some, None, refl, sym, ap, ◌∙◌, subst, inl, inr}
 use Rattle.std.proofs.lemmas.Option.{none-some}
-use Rattle.list_words.specs.Members.{In}
+use Rattle.list_laws.specs.Members.{In}
 use Rattle.blif_read.specs.declared.command.Command.{Command}
 use Rattle.blif_read.specs.LibraryValue.{ModelValue, LibraryValue}
 use Rattle.blif_read.specs.WellFormed.{IsWellFormed}

@@ -8,18 +8,14 @@ use Rattle.blif_read.specs.declared.latch.Latch.{Latch as LatchValue}
 use Rattle.blif_read.specs.LibraryValue.{LibraryValue}
 use Rattle.blif_flat.specs.Models.{has_name}
 use Rattle.blif_flat.specs.Instances.{LatchAt}
-use Rattle.blif_flat.specs.Nets.{Net, input_net, latch_net, cover_net, Drives, IsClock, listed, controls}
+use Rattle.blif_flat.specs.Nets.{input_net, Drives, IsClock, listed, controls}
 use Rattle.blif_flat.specs.Places.{Place, is_latch, FlatOrder}
 use Rattle.blif_flat.specs.Sound.{IsSound}
 use Rattle.blif_flat.proofs.FindLemmas.{Decided, same_name, Member, find_member}
 use Rattle.blif_flat.proofs.PlaceLemmas.{place_of, one_latch, has_latch}
 use Rattle.blif_flat.proofs.NetLemmas.{one_net}
+use Rattle.blif_flat.proofs.ControlLemmas.{name_of}
 use Rattle.blif_flat.proofs.FlatLemmas.{flat_exists, flat_all}
-
-abbrev input_of : Net → List ℕ
-input_of (input_net name) = name
-input_of (latch_net path i) = []
-input_of (cover_net path i) = []
 
 module _ (library : LibraryValue) (sound : IsSound library) where
   -- the latch of a place is controlled by a main input
@@ -42,7 +38,7 @@ module _ (library : LibraryValue) (sound : IsSound library) where
           | inl q ↦ inl (record { latch = l; at = a; control = control; is = e; drives = subst (λ y. Drives library p.path control (input_net y)) q r.1 })
           | inr o ↦ inr (λ k.
               let same : k.control ≡ control = same_Some k.control control (sym (same_control l a k) ∙ e) in
-              o (ap input_of (one_net library sound.driven r.1 (subst (λ y. Drives library p.path y (input_net name)) same k.drives))))
+              o (ap name_of (one_net library sound.driven r.1 (subst (λ y. Drives library p.path y (input_net name)) same k.drives))))
         ]
 
     does_control : Decided (Controls name p)

@@ -1,5 +1,5 @@
 -- Lists that are taken apart in two ways.
-use Rattle.std.proofs.Common.{◌≡◌, List, [], ◌∷◌, Option, Some, None, sym, ap, ◌∙◌}
+use Rattle.std.proofs.Common.{◌≡◌, List, [], ◌∷◌, Option, Some, None, refl, sym, ap, ◌∙◌}
 use Rattle.std.proofs.lemmas.Option.{none-some, same_Some}
 
 module _ {A : Type 0} where
@@ -19,3 +19,9 @@ module _ {A : Type 0} where
 
   pub same_rest : {ns : List A} (x y : A) (xs ys : List A) → ns ≡ x ∷ xs → ns ≡ y ∷ ys → xs ≡ ys
   same_rest x y xs ys a b = ap rest_of (sym a ∙ b)
+
+  pub cons_first : (x y : A) (xs ys : List A) → x ∷ xs ≡ y ∷ ys → x ≡ y
+  cons_first x y xs ys e = same_first x y xs ys refl e
+
+  pub cons_rest : (x y : A) (xs ys : List A) → x ∷ xs ≡ y ∷ ys → xs ≡ ys
+  cons_rest x y xs ys e = same_rest x y xs ys refl e

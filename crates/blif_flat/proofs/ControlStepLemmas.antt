@@ -2,6 +2,7 @@
 use Rattle.std.proofs.Common.{◌≡◌, ℕ, ◌+◌, ◌<◌, ◌≤◌, List, [], ◌∷◌, length, drop, drop_of_length-le, Option, Some, None, refl, sym, ap, ◌∙◌, subst, inl, inr, arith}
 use Rattle.std.specs.Prelude.{slice_get}
 use Rattle.std.proofs.lemmas.Option.{same_Some, slice_get_within}
+use Rattle.list_laws.proofs.Places.{at_within, drop_get}
 use Rattle.blif_read.specs.declared.command.Body.TheVariants.{Latch as LatchBody}
 use Rattle.blif_read.specs.declared.latch.Latch.{Latch as LatchValue}
 use Rattle.blif_read.specs.LibraryValue.{ModelValue, LibraryValue}
@@ -25,14 +26,13 @@ use Rattle.blif_flat.specs.NetMade.{AreAllNets}
 use Rattle.blif_flat.specs.Gates.{IsGateAt, AreGatesAt}
 use Rattle.blif_flat.specs.ClockSteps.{IsControlled}
 use Rattle.blif_flat.specs.ControlSteps.{input_at, IsKept, IsSecond, IsMet, IsRefused, not_input, another, ControlNext, ControlFault, AreFree, IsControlSoFar, CameTo}
-use Rattle.blif_flat.proofs.NameSetLemmas.{at_within}
 use Rattle.blif_flat.proofs.PlaceLemmas.{place_of, one_latch}
 use Rattle.blif_flat.proofs.NetLemmas.{net_of_driver}
 use Rattle.blif_flat.proofs.FlatLemmas.{flat_all}
 use Rattle.blif_flat.proofs.GateBodyLemmas.{latch_at-some}
 use Rattle.blif_flat.proofs.InstanceRowLemmas.{paths_of-length}
 use Rattle.blif_flat.proofs.NetFoundLemmas.{latch_of, cover_of, none_found, input_found, latch_found, cover_found}
-use Rattle.blif_flat.proofs.GateWalkLemmas.{drop_there, HasPlace, has_place, flat_places, place_within, latch_place}
+use Rattle.blif_flat.proofs.GateWalkLemmas.{HasPlace, has_place, flat_places, place_within, latch_place}
 
 -- inputs by their numbers
 module _ (inputs : List (List ℕ)) (first : Option ℕ) (j : ℕ) where
@@ -152,7 +152,7 @@ module _ (library : LibraryValue) (rows : List Instance) (are : AreInstances lib
     next_latch = latch_place library rows are i next_place.place next_place.at
 
     came_first : CameTo library latch_places (next_place.place ∷ drop (i + 1) latch_places) first
-    came_first = subst (λ ps. CameTo library latch_places ps first) (drop_there latch_places i next_place.place next_place.at) came
+    came_first = subst (λ ps. CameTo library latch_places ps first) (drop_get latch_places i next_place.place next_place.at) came
 
     pub gate_passed : (next : Option (List ℕ))
         → ((p : Place) (l : LatchValue) → IsGateAt (paths_of rows) g p → LatchAt library p.path p.command l → ControlNext library p.path l.control first next)

@@ -1,43 +1,19 @@
 -- Steps of a depth-first walk with marks and a stack.
-use Rattle.std.proofs.Common.{◌≡◌, ℕ, zero, suc, ◌+◌, ◌<◌, ◌≤◌, true, false, eqb, List, [], ◌∷◌, ◌++◌, length, drop, Option, Some, None, refl, sym, ap, ◌∙◌, subst, subst₂, inl, inr, ◌⊎◌, arith, eqb-true, eq-eqb, drop_of_length-le, get_or, ◌-◌, reverse, replicate}
+use Rattle.std.proofs.Common.{◌≡◌, ℕ, zero, suc, ◌+◌, ◌<◌, ◌≤◌, true, false, eqb, List, [], ◌∷◌, ◌++◌, length, drop, Option, Some, None, refl, sym, ap, ◌∙◌, subst, subst₂, inl, inr, arith, drop_of_length-le, get_or, ◌-◌, reverse, replicate}
 use Rattle.std.specs.Prelude.{slice_get, slice_set, is_some}
-use Rattle.std.proofs.lemmas.Bool.{both_ways, cases_Bool, true≢false, false≢true}
+use Rattle.std.proofs.lemmas.Bool.{cases_Bool, true≢false, false≢true}
 use Rattle.std.proofs.lemmas.List.{reverse-append}
 use Rattle.std.proofs.lemmas.Option.{none-some, same_Some, slice_get_within, slice_get-get_or}
-use Rattle.list_words.specs.Members.{In}
+use Rattle.list_laws.specs.Members.{In}
+use Rattle.list_laws.proofs.Places.{drop_get, set_here, set_other, set_length, same_or}
 use Rattle.blif_flat.specs.declared.flat.Net.{Net}
 use Rattle.blif_flat.specs.declared.flat.Net.TheVariants.{Input, Latch, Cover}
 use Rattle.blif_flat.specs.declared.cover_walk.Frame.{Frame}
 use Rattle.blif_flat.specs.FlatCoverValue.{FlatCoverValue}
 use Rattle.blif_flat.specs.Flat.{cover_numbers, inputs_at}
-use Rattle.blif_flat.specs.Loops.{IsAfter}
-use Rattle.blif_flat.specs.Walking.{Cycle, Meets, met, goes, MeetsAll, first, later, Posts, skips, posts, PostsAll, more}
-use Rattle.blif_flat.specs.CoverWalk.{WalkValue, cover_reads, path_of, unread, to_read, frames_work, new_work, walk_work, entered, pushed, finished, first_frame, other_frames, popped, cover_number, Looked, enters, hits, passes, MeetsLeft, PostsLeft, ArePassed, InRange, AreMarks, IsWalker, IsLater, cycle_at, Stepped, Ran, Visited, VisitedAll, AreLeft, numbers_from, up_to, from_number, IsCycle, IsOrder}
-
-pub set_here : {A : Type 0} (xs : List A) (i : ℕ) (y : A) → i < length xs → slice_get (slice_set xs i y) i ≡ Some y
-set_here [] i y l = absurd (omega arith)
-set_here (x ∷ xs) zero y l = refl
-set_here (x ∷ xs) (suc i) y l = set_here xs i y (omega arith)
-
-pub set_other : {A : Type 0} (xs : List A) (i j : ℕ) (y : A) → (j ≡ i → ⊥) → slice_get (slice_set xs i y) j ≡ slice_get xs j
-set_other [] i j y o = refl
-set_other (x ∷ xs) zero zero y o = absurd (o refl)
-set_other (x ∷ xs) zero (suc j) y o = refl
-set_other (x ∷ xs) (suc i) zero y o = refl
-set_other (x ∷ xs) (suc i) (suc j) y o = set_other xs i j y (λ e. o (ap suc e))
-
-pub set_length : {A : Type 0} (xs : List A) (i : ℕ) (y : A) → length (slice_set xs i y) ≡ length xs
-set_length [] i y = refl
-set_length (x ∷ xs) zero y = refl
-set_length (x ∷ xs) (suc i) y = ap suc (set_length xs i y)
-
-same_or : (i j : ℕ) → (i ≡ j) ⊎ (i ≡ j → ⊥)
-same_or i j = elim (cases_Bool (eqb i j)) [ inl t ↦ inl (eqb-true i j t) | inr f ↦ inr (λ e. both_ways (eqb i j) f (eq-eqb i j e)) ]
-
-pub drop_get : {A : Type 0} (xs : List A) (i : ℕ) (x : A) → slice_get xs i ≡ Some x → drop i xs ≡ x ∷ drop (i + 1) xs
-drop_get [] i x e = absurd (none-some x e)
-drop_get (y ∷ xs) zero x e = ap (λ z. z ∷ xs) (same_Some y x e)
-drop_get (y ∷ xs) (suc i) x e = let n : suc i + 1 ≡ suc (i + 1) = omega arith in subst (λ z. drop i xs ≡ x ∷ drop z (y ∷ xs)) (sym n) (drop_get xs i x e)
+use Rattle.blif_flat.specs.CoverOrder.{IsAfter}
+use Rattle.blif_flat.specs.DepthFirst.{Repeat, Meets, met, goes, MeetsAll, first, later, Posts, skips, posts, PostsAll, more}
+use Rattle.blif_flat.specs.CoverWalk.{WalkValue, cover_reads, path_of, unread, to_read, frames_work, new_work, walk_work, entered, pushed, finished, first_frame, other_frames, popped, cover_number, Looked, enters, hits, passes, MeetsLeft, PostsLeft, ArePassed, InRange, AreMarks, IsWalker, IsLater, repeat_at, Stepped, Ran, Visited, VisitedAll, AreLeft, numbers_from, up_to, from_number, IsNumberLoop, IsOrder}
 
 module _ {N : Type 0} (next : N → List N) where
   all_none : (path ns : List N) → ((n : N) → In ns n → Meets next path n None) → MeetsAll next path ns None
@@ -54,12 +30,12 @@ module _ {N : Type 0} (next : N → List N) where
       (after.0 c (subst (λ x. In (next x) c) e j))))
 
   -- several nodes and then others
-  pub meets_append : {path xs : List N} {r : Option (Cycle N)} → MeetsAll next path xs r → r ≡ None → (ys : List N) (s : Option (Cycle N)) → MeetsAll next path ys s → MeetsAll next path (xs ++ ys) s
+  pub meets_append : {path xs : List N} {r : Option (Repeat N)} → MeetsAll next path xs r → r ≡ None → (ys : List N) (s : Option (Repeat N)) → MeetsAll next path ys s → MeetsAll next path (xs ++ ys) s
   meets_append {path} {xs} (MeetsAll.none q t) e ys s h = subst (λ x. MeetsAll next path (x ++ ys) s) (sym q) h
   meets_append {path} {xs} (first n rest c q w t) e ys s h = absurd (none-some c (sym e ∙ t))
   meets_append {path} {xs} (later n rest q w ws) e ys s h = subst (λ x. MeetsAll next path (x ++ ys) s) (sym q) (later n (rest ++ ys) refl w (meets_append ws e ys s h))
 
-  pub found_append : {path xs : List N} {r : Option (Cycle N)} → MeetsAll next path xs r → (c : Cycle N) → r ≡ Some c → (ys : List N) → MeetsAll next path (xs ++ ys) (Some c)
+  pub found_append : {path xs : List N} {r : Option (Repeat N)} → MeetsAll next path xs r → (c : Repeat N) → r ≡ Some c → (ys : List N) → MeetsAll next path (xs ++ ys) (Some c)
   found_append {path} {xs} (MeetsAll.none q t) c e ys = absurd (none-some c (sym t ∙ e))
   found_append {path} {xs} (first n rest d q w t) c e ys = subst (λ x. MeetsAll next path (x ++ ys) (Some c)) (sym q) (first n (rest ++ ys) d refl w (sym e ∙ t))
   found_append {path} {xs} (later n rest q w ws) c e ys = subst (λ x. MeetsAll next path (x ++ ys) (Some c)) (sym q) (later n (rest ++ ys) refl w (found_append ws c e ys))
@@ -167,7 +143,7 @@ module _ (covers : List FlatCoverValue) where
 
   -- what is left to meet, step by step
   module _ (f : Frame) (fs : List Frame) where
-    meets_same : to_read covers f ≡ to_read covers (onward f) → (r : Option (Cycle ℕ)) → MeetsLeft covers (onward f ∷ fs) r → MeetsLeft covers (f ∷ fs) r
+    meets_same : to_read covers f ≡ to_read covers (onward f) → (r : Option (Repeat ℕ)) → MeetsLeft covers (onward f ∷ fs) r → MeetsLeft covers (f ∷ fs) r
     meets_same e r h = elim h [
       | inl p ↦ inl (p.0, (subst (λ y. MeetsAll (cover_reads covers) (f.cover ∷ path_of fs) y (Some p.0)) (sym e) (p.1).0, (p.1).1))
       | inr p ↦ inr (subst (λ y. MeetsAll (cover_reads covers) (f.cover ∷ path_of fs) y None) (sym e) p.0, p.1)
@@ -176,14 +152,14 @@ module _ (covers : List FlatCoverValue) where
     posts_same : (done : List ℕ) → to_read covers f ≡ to_read covers (onward f) → (r : List ℕ) → PostsLeft covers done (onward f ∷ fs) r → PostsLeft covers done (f ∷ fs) r
     posts_same done e r p = (p.0, (subst (λ y. PostsAll (cover_reads covers) done y p.0) (sym e) (p.1).0, (p.1).1))
 
-    meets_end : to_read covers f ≡ [] → (r : Option (Cycle ℕ)) → MeetsLeft covers fs r → MeetsLeft covers (f ∷ fs) r
+    meets_end : to_read covers f ≡ [] → (r : Option (Repeat ℕ)) → MeetsLeft covers fs r → MeetsLeft covers (f ∷ fs) r
     meets_end e r h = inr (MeetsAll.none e refl, h)
 
     posts_end : (done : List ℕ) → to_read covers f ≡ [] → (r : List ℕ) → PostsLeft covers (f.cover ∷ done) fs r → PostsLeft covers done (f ∷ fs) r
     posts_end done e r p = (done, (PostsAll.none e refl, p))
 
     module _ (m : ℕ) (e : to_read covers f ≡ m ∷ to_read covers (onward f)) where
-      meets_none : Meets (cover_reads covers) (f.cover ∷ path_of fs) m None → (r : Option (Cycle ℕ)) → MeetsLeft covers (onward f ∷ fs) r → MeetsLeft covers (f ∷ fs) r
+      meets_none : Meets (cover_reads covers) (f.cover ∷ path_of fs) m None → (r : Option (Repeat ℕ)) → MeetsLeft covers (onward f ∷ fs) r → MeetsLeft covers (f ∷ fs) r
       meets_none d r h = elim h [
         | inl p ↦ inl (p.0, (later m (to_read covers (onward f)) e d (p.1).0, (p.1).1))
         | inr p ↦ inr (later m (to_read covers (onward f)) e d p.0, p.1)
@@ -192,7 +168,7 @@ module _ (covers : List FlatCoverValue) where
       posts_skip : (done : List ℕ) → In done m → (r : List ℕ) → PostsLeft covers done (onward f ∷ fs) r → PostsLeft covers done (f ∷ fs) r
       posts_skip done i r p = (p.0, (more m (to_read covers (onward f)) done e (skips i refl) (p.1).0, (p.1).1))
 
-      meets_enter : (In (f.cover ∷ path_of fs) m → ⊥) → (r : Option (Cycle ℕ)) → MeetsLeft covers (begin m ∷ onward f ∷ fs) r → MeetsLeft covers (f ∷ fs) r
+      meets_enter : (In (f.cover ∷ path_of fs) m → ⊥) → (r : Option (Repeat ℕ)) → MeetsLeft covers (begin m ∷ onward f ∷ fs) r → MeetsLeft covers (f ∷ fs) r
       meets_enter off r h = elim h [
         | inl p ↦ inl (p.0, (first m (to_read covers (onward f)) p.0 e (goes off (p.1).0) refl, (p.1).1))
         | inr p ↦ meets_none (goes off p.0) r p.1
@@ -339,7 +315,7 @@ module _ (covers : List FlatCoverValue) where
 
   pub later_found : (w v u : WalkValue) (found : Option ℕ) → is_some found ≡ true → IsLater covers w v → Stepped covers v u found → Ran covers w u found
   later_found w v u None t l s = absurd (false≢true t)
-  later_found w v u (Some c) t l s = record { meets = l.meets (Some (cycle_at u c)) s.meets }
+  later_found w v u (Some c) t l s = record { meets = l.meets (Some (repeat_at u c)) s.meets }
 
   pub later_end : (w v u : WalkValue) → IsLater covers w v → first_frame v.stack ≡ None → u ≡ popped v → Ran covers w u None
   later_end w v u l e p = subst (λ x. Ran covers w x None) (sym (p ∙ popped_empty v e)) (record { later = l; empty = no_frames v.stack e })
@@ -364,7 +340,7 @@ module _ (covers : List FlatCoverValue) where
       passed = (λ m i. inr i, subst (λ s. ArePassed covers w.order (root ∷ w.order) s) (sym empty) tt);
     }
 
-    root_meets : (r : Option (Cycle ℕ)) → MeetsLeft covers (entered w root).stack r → Meets (cover_reads covers) [] root r
+    root_meets : (r : Option (Repeat ℕ)) → MeetsLeft covers (entered w root).stack r → Meets (cover_reads covers) [] root r
     root_meets r h = elim (subst (λ s. MeetsLeft covers (record { cover = root; next = 0 } ∷ s) r) empty h) [
       | inl p ↦ goes (λ i. i) (subst (λ x. MeetsAll (cover_reads covers) (root ∷ []) (cover_reads covers root) x) (sym (p.1).1) (p.1).0)
       | inr p ↦ goes (λ i. i) (subst (λ x. MeetsAll (cover_reads covers) (root ∷ []) (cover_reads covers root) x) (sym p.1) p.0)
@@ -380,7 +356,7 @@ module _ (covers : List FlatCoverValue) where
       meets = root_meets None (ran.later.meets None (subst (λ s. MeetsLeft covers s None) (sym ran.empty) refl));
       posts = root_posts e v.order (ran.later.posts v.order (subst (λ s. PostsLeft covers v.order s v.order) (sym ran.empty) refl));
     }
-    visited_ran e v (Some c) ran = record { meets = root_meets (Some (cycle_at v c)) ran.meets }
+    visited_ran e v (Some c) ran = record { meets = root_meets (Some (repeat_at v c)) ran.meets }
 
   -- several roots in turn
   module _ (w : WalkValue) (roots : List ℕ) where
@@ -398,7 +374,7 @@ module _ (covers : List FlatCoverValue) where
 
     pub left_found : (v u : WalkValue) (left rest : List ℕ) (n : ℕ) (found : Option ℕ) → is_some found ≡ true → left ≡ n ∷ rest → AreLeft covers w v roots left → Visited covers v u n found → VisitedAll covers w u roots found
     left_found v u left rest n None t e l d = absurd (false≢true t)
-    left_found v u left rest n (Some c) t e l d = record { meets = l.meets (Some (cycle_at u c)) (first n rest (cycle_at u c) e d.meets refl) }
+    left_found v u left rest n (Some c) t e l d = record { meets = l.meets (Some (repeat_at u c)) (first n rest (repeat_at u c) e d.meets refl) }
 
     pub left_end : (v : WalkValue) (left : List ℕ) → left ≡ [] → AreLeft covers w v roots left → VisitedAll covers w v roots None
     left_end v left e l = record { walker = l.walker; empty = l.empty; meets = l.meets None (MeetsAll.none e refl); posts = l.posts v.order (PostsAll.none e refl) }
@@ -447,7 +423,7 @@ module _ {N : Type 0} (next : N → List N) where
     | inr j ↦ posts_here ps m j
   ]
 
--- the nodes of a cycle
+-- the nodes of a loop
 pub up_to-reverse : (n : ℕ) (path : List ℕ) → reverse (up_to n path) ≡ from_number n path
 up_to-reverse n [] = refl
 up_to-reverse n (m ∷ path) = elim (cases_Bool (eqb n m)) [
@@ -488,14 +464,14 @@ module _ (covers : List FlatCoverValue) where
     passed = tt;
   }
 
-  pub cycle_of_roots : (w v : WalkValue) (roots : List ℕ) (c : ℕ) (nodes : List ℕ) → VisitedAll covers w v roots (Some c) → nodes ≡ from_number c (path_of v.stack) → IsCycle covers roots nodes
-  cycle_of_roots w v roots c nodes d e = record { cycle = cycle_at v c; meets = found_append (cover_reads covers) d.meets (cycle_at v c) refl (numbers_from 0 (length covers)); nodes_are = e }
+  pub loop_of_roots : (w v : WalkValue) (roots : List ℕ) (c : ℕ) (nodes : List ℕ) → VisitedAll covers w v roots (Some c) → nodes ≡ from_number c (path_of v.stack) → IsNumberLoop covers roots nodes
+  loop_of_roots w v roots c nodes d e = record { repeat = repeat_at v c; meets = found_append (cover_reads covers) d.meets (repeat_at v c) refl (numbers_from 0 (length covers)); nodes_are = e }
 
-  pub cycle_of_others : (w v u : WalkValue) (roots : List ℕ) (c : ℕ) (nodes : List ℕ) → VisitedAll covers w v roots None → VisitedAll covers v u (numbers_from 0 (length covers)) (Some c)
-      → nodes ≡ from_number c (path_of u.stack) → IsCycle covers roots nodes
-  cycle_of_others w v u roots c nodes d h e = record {
-    cycle = cycle_at u c;
-    meets = meets_append (cover_reads covers) d.meets refl (numbers_from 0 (length covers)) (Some (cycle_at u c)) h.meets;
+  pub loop_of_others : (w v u : WalkValue) (roots : List ℕ) (c : ℕ) (nodes : List ℕ) → VisitedAll covers w v roots None → VisitedAll covers v u (numbers_from 0 (length covers)) (Some c)
+      → nodes ≡ from_number c (path_of u.stack) → IsNumberLoop covers roots nodes
+  loop_of_others w v u roots c nodes d h e = record {
+    repeat = repeat_at u c;
+    meets = meets_append (cover_reads covers) d.meets refl (numbers_from 0 (length covers)) (Some (repeat_at u c)) h.meets;
     nodes_are = e;
   }
 

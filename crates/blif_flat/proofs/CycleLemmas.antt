@@ -1,22 +1,19 @@
 -- What a walk meets again leads to itself, so a sound library has no loop; and a walk has one result.
 use Rattle.std.proofs.Common.{◌≡◌, List, [], ◌∷◌, ◌++◌, Option, Some, refl, sym, ◌∙◌, subst, inl, inr}
 use Rattle.std.proofs.lemmas.Option.{none-some}
-use Rattle.list_words.specs.Members.{In}
+use Rattle.list_laws.specs.Members.{In}
 use Rattle.blif_read.specs.LibraryValue.{LibraryValue}
 use Rattle.blif_flat.specs.Places.{Place}
 use Rattle.blif_flat.specs.Loops.{reads_of}
 use Rattle.blif_flat.specs.LoopFault.{roots_of, LoopWalk}
 use Rattle.blif_flat.specs.Sound.{IsSound}
-use Rattle.blif_flat.specs.Walking.{Cycle, Meets, met, goes, MeetsAll, none, first, later}
+use Rattle.blif_flat.specs.DepthFirst.{Repeat, Meets, met, goes, MeetsAll, none, first, later}
 use Rattle.blif_flat.proofs.ConsLemmas.{not_empty, same_first, same_rest}
-use Rattle.blif_flat.proofs.PostLemmas.{Reaches, at_once, further, acyclic}
+use Rattle.blif_flat.proofs.PostLemmas.{Reaches, at_once, one_more}
+use Rattle.blif_flat.proofs.DependLemmas.{reaches_depends}
 use Rattle.blif_flat.proofs.LoopLemmas.{HasCover, read_cover, start_cover}
 
 module _ {N : Type 0} (next : N → List N) where
-  one_more : {n m : N} → Reaches next n m → (k : N) → In (next m) k → Reaches next n k
-  one_more {n} {m} (at_once i) k j = further m i (at_once j)
-  one_more (further q i r) k j = further q i (one_more r k j)
-
   module _ (P : N → Type 0) (closed : (n m : N) → P n → In (next n) m → P m) where
     -- a node that leads to itself
     pub record IsCyclic : Type 0 where
@@ -25,37 +22,37 @@ module _ {N : Type 0} (next : N → List N) where
       pub cyclic : Reaches next node node
 
     mutual
-      node_cyclic : {path : List N} {n : N} {result : Option (Cycle N)} → Meets next path n result → (cycle : Cycle N) → result ≡ Some cycle → P n → ((m : N) → In path m → Reaches next m n) → IsCyclic
-      node_cyclic {path} {n} (met i q) cycle e p h = record { node = n; is = p; cyclic = h n i }
-      node_cyclic {path} {n} (goes off w) cycle e p h = nodes_cyclic w cycle e (λ k j. closed n k p j) (λ k j m i. elim i as (λ _. Reaches next m k) [
+      node_cyclic : {path : List N} {n : N} {result : Option (Repeat N)} → Meets next path n result → (repeat : Repeat N) → result ≡ Some repeat → P n → ((m : N) → In path m → Reaches next m n) → IsCyclic
+      node_cyclic {path} {n} (met i q) repeat e p h = record { node = n; is = p; cyclic = h n i }
+      node_cyclic {path} {n} (goes off w) repeat e p h = nodes_cyclic w repeat e (λ k j. closed n k p j) (λ k j m i. elim i as (λ _. Reaches next m k) [
         | inl s ↦ subst (λ x. Reaches next x k) (sym s) (at_once j)
-        | inr o ↦ one_more (h m o) k j
+        | inr o ↦ one_more next (h m o) k j
       ])
 
-      nodes_cyclic : {path ns : List N} {result : Option (Cycle N)} → MeetsAll next path ns result → (cycle : Cycle N) → result ≡ Some cycle → ((n : N) → In ns n → P n)
+      nodes_cyclic : {path ns : List N} {result : Option (Repeat N)} → MeetsAll next path ns result → (repeat : Repeat N) → result ≡ Some repeat → ((n : N) → In ns n → P n)
           → ((n : N) → In ns n → (m : N) → In path m → Reaches next m n) → IsCyclic
-      nodes_cyclic (none a q) cycle e p h = absurd (none-some cycle (sym q ∙ e))
-      nodes_cyclic (first n rest own a w q) cycle e p h = let i = subst (λ l. In l n) (sym a) (inl refl) in node_cyclic w own refl (p n i) (h n i)
-      nodes_cyclic (later n rest a w ws) cycle e p h = nodes_cyclic ws cycle e (λ m i. p m (subst (λ l. In l m) (sym a) (inr i))) (λ m i. h m (subst (λ l. In l m) (sym a) (inr i)))
+      nodes_cyclic (none a q) repeat e p h = absurd (none-some repeat (sym q ∙ e))
+      nodes_cyclic (first n rest own a w q) repeat e p h = let i = subst (λ l. In l n) (sym a) (inl refl) in node_cyclic w own refl (p n i) (h n i)
+      nodes_cyclic (later n rest a w ws) repeat e p h = nodes_cyclic ws repeat e (λ m i. p m (subst (λ l. In l m) (sym a) (inr i))) (λ m i. h m (subst (λ l. In l m) (sym a) (inr i)))
 
-    pub meets_cyclic : (ns : List N) (cycle : Cycle N) → MeetsAll next [] ns (Some cycle) → ((n : N) → In ns n → P n) → IsCyclic
-    meets_cyclic ns cycle w p = nodes_cyclic w cycle refl p (λ n i m j. absurd j)
+    pub meets_cyclic : (ns : List N) (repeat : Repeat N) → MeetsAll next [] ns (Some repeat) → ((n : N) → In ns n → P n) → IsCyclic
+    meets_cyclic ns repeat w p = nodes_cyclic w repeat refl p (λ n i m j. absurd j)
 
   -- another walk from the same list, at the same node
-  node_again : {path ns : List N} {result : Option (Cycle N)} (n m : N) (rest others : List N) → ns ≡ n ∷ rest → ns ≡ m ∷ others → Meets next path m result → Meets next path n result
+  node_again : {path ns : List N} {result : Option (Repeat N)} (n m : N) (rest others : List N) → ns ≡ n ∷ rest → ns ≡ m ∷ others → Meets next path m result → Meets next path n result
   node_again {path} {ns} {result} n m rest others a b w = subst (λ x. Meets next path x result) (same_first m n others rest b a) w
 
-  rest_again : {path ns : List N} {result : Option (Cycle N)} (n m : N) (rest others : List N) → ns ≡ n ∷ rest → ns ≡ m ∷ others → MeetsAll next path others result → MeetsAll next path rest result
+  rest_again : {path ns : List N} {result : Option (Repeat N)} (n m : N) (rest others : List N) → ns ≡ n ∷ rest → ns ≡ m ∷ others → MeetsAll next path others result → MeetsAll next path rest result
   rest_again {path} {ns} {result} n m rest others a b w = subst (λ x. MeetsAll next path x result) (same_rest m n others rest b a) w
 
   mutual
-    node_once : {path : List N} {n : N} {result other : Option (Cycle N)} → Meets next path n result → Meets next path n other → result ≡ other
+    node_once : {path : List N} {n : N} {result other : Option (Repeat N)} → Meets next path n result → Meets next path n other → result ≡ other
     node_once (met i q) (met j r) = q ∙ sym r
     node_once (met i q) (goes off v) = absurd (off i)
     node_once (goes off w) (met j r) = absurd (off j)
     node_once (goes off w) (goes on v) = meets_once w v
 
-    pub meets_once : {path ns : List N} {result other : Option (Cycle N)} → MeetsAll next path ns result → MeetsAll next path ns other → result ≡ other
+    pub meets_once : {path ns : List N} {result other : Option (Repeat N)} → MeetsAll next path ns result → MeetsAll next path ns other → result ≡ other
     meets_once (none a q) (none b r) = q ∙ sym r
     meets_once (none a q) (first m others c b v r) = absurd (not_empty m others a b)
     meets_once (none a q) (later m others b v vs) = absurd (not_empty m others a b)
@@ -67,9 +64,7 @@ module _ {N : Type 0} (next : N → List N) where
     meets_once (later n rest a w ws) (later m others b v vs) = meets_once ws (rest_again n m rest others a b vs)
 
 -- no F10
-pub sound-loops : (library : LibraryValue) → IsSound library → (cycle : Cycle Place) → LoopWalk library (Some cycle) → ⊥
-sound-loops library sound cycle w =
-    let ordered = sound.loops w.net w.nets in
-    let r = meets_cyclic (reads_of library w.net) (HasCover library) (read_cover library w.net w.nets) (roots_of library w.net w.main w.latches ++ w.covers) cycle w.meets (start_cover library w) in
-    let p : Place = r.node in
-    acyclic (reads_of library w.net) ordered.order p ordered.after (ordered.all p.path p.command (r.is).0 (r.is).1) r.cyclic
+pub sound-loops : (library : LibraryValue) → IsSound library → (repeat : Repeat Place) → LoopWalk library (Some repeat) → ⊥
+sound-loops library sound repeat w =
+    let r = meets_cyclic (reads_of library w.net) (HasCover library) (read_cover library w.net w.nets) (roots_of library w.net w.main w.latches ++ w.covers) repeat w.meets (start_cover library w) in
+    sound.no_loop r.node (reaches_depends library w.net w.nets (read_cover library w.net w.nets) r.is r.cyclic)

@@ -1,7 +1,7 @@
 -- Where the walk of the data finds no fault, no clock net is data.
 use Rattle.std.proofs.Common.{◌≡◌, ℕ, List, [], ◌∷◌, Option, Some, None, refl, sym, ◌∙◌, subst, inl, inr}
 use Rattle.std.proofs.lemmas.Option.{none-some}
-use Rattle.list_words.specs.Members.{In}
+use Rattle.list_laws.specs.Members.{In}
 use Rattle.blif_read.specs.declared.command.Body.TheVariants.{Cover, Latch}
 use Rattle.blif_read.specs.declared.latch.Latch.{Latch as LatchValue}
 use Rattle.blif_read.specs.CoverValue.{CoverValue}

@@ -1,7 +1,8 @@
 -- The walk of the data has one result.
 use Rattle.std.proofs.Common.{◌≡◌, ℕ, List, [], ◌∷◌, ◌++◌, Option, Some, None, refl, sym, ap, ◌∙◌, subst, inl, inr}
 use Rattle.std.proofs.lemmas.Option.{none-some}
-use Rattle.list_words.specs.Members.{In}
+use Rattle.list_laws.specs.Members.{In}
+use Rattle.list_laws.proofs.Members.{In-right}
 use Rattle.blif_read.specs.LibraryValue.{ModelValue, LibraryValue}
 use Rattle.blif_flat.specs.declared.flat_err.FlatErr.{FlatErr}
 use Rattle.blif_flat.specs.declared.flat_err.FlatErr.TheVariants.{ClockAsData}
@@ -11,7 +12,6 @@ use Rattle.blif_flat.specs.Drivers.{IsDriven}
 use Rattle.blif_flat.specs.Places.{Place}
 use Rattle.blif_flat.specs.ClockFaults.{data_of, ClockAmong, none, first, ClockData, outputs, here, later}
 use Rattle.blif_flat.proofs.ConsLemmas.{not_empty, same_first, same_rest}
-use Rattle.blif_flat.proofs.MemberLemmas.{In-right}
 use Rattle.blif_flat.proofs.NetLemmas.{one_net}
 use Rattle.blif_flat.proofs.ControlLemmas.{name_of}
 use Rattle.blif_flat.proofs.DataLemmas.{among_none}

@@ -3,18 +3,20 @@ use Rattle.std.proofs.Common.{◌≡◌, ℕ, ◌+◌, ◌≤◌, Bool, true, fa
 use Rattle.std.specs.Prelude.{slice_get, IfOk, IfErr}
 use Rattle.std.specs.Option.{option_map}
 use Rattle.std.proofs.lemmas.Option.{slice_get-map}
+use Rattle.list_laws.proofs.Places.{drop_get}
+use Rattle.tl_fault.specs.OrMemory.{OrMemory}
 use Rattle.blif_read.specs.LibraryValue.{ModelValue, LibraryValue}
 use Rattle.blif_flat.specs.declared.flat.Net.{Net as FlatNet}
 use Rattle.blif_flat.specs.declared.flat.Net.TheVariants.{Input, Latch, Cover}
 use Rattle.blif_flat.specs.declared.flat_err.FlatErr.{FlatErr}
 use Rattle.blif_flat.specs.declared.gates.Gate.{Gate}
 use Rattle.blif_flat.specs.declared.instances.Instance.{Instance}
-use Rattle.blif_flat.specs.Answers.{Refuses}
+use Rattle.blif_flat.specs.Refusals.{refusal_of}
 use Rattle.blif_flat.specs.Models.{Path, model_at, inputs_of}
 use Rattle.blif_flat.specs.Nets.{input_net, latch_net, cover_net, Drives, IsClock}
 use Rattle.blif_flat.specs.Drivers.{IsDriven}
 use Rattle.blif_flat.specs.Places.{Place}
-use Rattle.blif_flat.specs.InstanceOrder.{InstanceOrder, instance, places_at}
+use Rattle.blif_flat.specs.InstanceOrder.{places_at}
 use Rattle.blif_flat.specs.InstanceRows.{AreInstances, paths_of}
 use Rattle.blif_flat.specs.ClockFaults.{is_gate, data_of, ClockAmong, none, first, ClockData, outputs, here, later}
 use Rattle.blif_flat.specs.Gates.{AreGatesAt}
@@ -24,23 +26,20 @@ use Rattle.blif_flat.specs.ClockSteps.{AreMarks}
 use Rattle.blif_flat.specs.DriverFaults.{or_later}
 use Rattle.blif_flat.specs.DriverSteps.{Tells}
 use Rattle.blif_flat.specs.DataSteps.{marked_name, clock_named, clock_fault, names_fault}
-use Rattle.blif_flat.proofs.WalkStepLemmas.{Refuses-map}
 use Rattle.blif_flat.proofs.NetLemmas.{one_net}
 use Rattle.blif_flat.proofs.NetFoundLemmas.{none_found, input_found, latch_found, cover_found}
-use Rattle.blif_flat.proofs.GateWalkLemmas.{drop_there, HasPlace, has_place}
+use Rattle.blif_flat.proofs.GateWalkLemmas.{HasPlace, has_place}
+use Rattle.blif_flat.proofs.InstanceOrderLemmas.{order_first}
+use Rattle.tl_fault.proofs.OrMemoryLemmas.{OrMemory-map}
 
 -- what a result tells
 pub tells_ok : (result : Result (Unit {0}) FlatErr) (fault : Option FlatErr) (P : Type 0) → Tells result fault → (fault ≡ None → P) → IfOk result (λ x. P)
 tells_ok (Ok x) fault P t h = h t
 tells_ok (Err e) fault P t h = tt
 
-pub tells_err : (result : Result (Unit {0}) FlatErr) (fault : Option FlatErr) (P : FlatErr → Type 0) → Tells result fault → ((r : FlatErr) → fault ≡ Some r → P r) → IfErr result (λ e. Refuses e P)
+pub tells_err : (result : Result (Unit {0}) FlatErr) (fault : Option FlatErr) (P : FlatErr → Type 0) → Tells result fault → ((r : FlatErr) → fault ≡ Some r → P r) → IfErr result (λ e. OrMemory refusal_of P e)
 tells_err (Ok x) fault P t h = tt
-tells_err (Err e) fault P t h = Refuses-map (λ r. fault ≡ Some r) P e h t
-
--- the main model's instance is the first one
-first_path : (library : LibraryValue) {m : ModelValue} {paths : List Path} → InstanceOrder library [] m paths → slice_get paths 0 ≡ Some []
-first_path library (instance inner under z) = ap (λ l. slice_get l 0) z
+tells_err (Err e) fault P t h = OrMemory-map refusal_of (λ r. fault ≡ Some r) P e h t
 
 module _ (library : LibraryValue) (driven : IsDriven library) (rows : List Instance) (are : AreInstances library rows) (nets : NetsValue) (all : AreAllNets library rows nets)
     (inputs : List (List ℕ)) (inputs_are : (main : ModelValue) → model_at library [] ≡ Some main → inputs ≡ inputs_of main)
@@ -107,14 +106,14 @@ module _ (library : LibraryValue) (driven : IsDriven library) (rows : List Insta
 
       pub gate_passed : names_fault inputs marks nets g.row (data_of library gate_place.place) ≡ None → (main : ModelValue) (result : Option FlatErr)
           → ClockData library main (drop (i + 1) (places_at library is_gate (paths_of rows))) result → ClockData library main (drop i (places_at library is_gate (paths_of rows))) result
-      gate_passed e main result d = later gate_place.place (drop (i + 1) gate_places) (drop_there gate_places i gate_place.place gate_place.at) (gate_said None e) d
+      gate_passed e main result d = later gate_place.place (drop (i + 1) gate_places) (drop_get gate_places i gate_place.place gate_place.at) (gate_said None e) d
 
       pub gate_refused : (fault : FlatErr) → names_fault inputs marks nets g.row (data_of library gate_place.place) ≡ Some fault → (main : ModelValue)
           → ClockData library main (drop i (places_at library is_gate (paths_of rows))) (Some fault)
-      gate_refused fault e main = here gate_place.place (drop (i + 1) gate_places) fault (drop_there gate_places i gate_place.place gate_place.at) (gate_said (Some fault) e) refl
+      gate_refused fault e main = here gate_place.place (drop (i + 1) gate_places) fault (drop_get gate_places i gate_place.place gate_place.at) (gate_said (Some fault) e) refl
 
     -- then the outputs
     pub outputs_said : length gates ≤ i → (main : ModelValue) (result : Option FlatErr) → names_fault inputs marks nets 0 main.outputs ≡ result
         → ClockData library main (drop i (places_at library is_gate (paths_of rows))) result
     outputs_said h main result e =
-        outputs (drop_of_length-le gate_places (let n = ats.count in omega arith)) (names_said 0 [] (first_path library are.order) main.outputs result e)
+        outputs (drop_of_length-le gate_places (let n = ats.count in omega arith)) (names_said 0 [] (order_first library are.order) main.outputs result e)

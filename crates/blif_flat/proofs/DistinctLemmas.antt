@@ -1,7 +1,8 @@
 -- No two drivers of a model's commands are the same one, where no subcircuit has a formal twice.
 use Rattle.std.proofs.Common.{◌≡◌, ℕ, suc, List, [], ◌∷◌, ◌++◌, Option, Some, None, refl, sym, ap, ◌∙◌, subst, inl, inr, arith}
 use Rattle.std.proofs.lemmas.Bool.{cases_Bool, cond-true, cond-false}
-use Rattle.list_words.specs.Members.{In}
+use Rattle.list_laws.specs.Members.{In}
+use Rattle.list_laws.proofs.Members.{In-append}
 use Rattle.blif_read.specs.declared.command.Body.{Body}
 use Rattle.blif_read.specs.declared.command.Body.TheVariants.{Cover, Latch, Subckt}
 use Rattle.blif_read.specs.declared.command.Command.{Command}
@@ -12,7 +13,6 @@ use Rattle.blif_read.specs.Once.{AreOnce}
 use Rattle.blif_read.specs.Connections.{formals}
 use Rattle.blif_flat.specs.Models.{subckts_of, model_named, is_output}
 use Rattle.blif_flat.specs.Drivers.{Driver, by_latch, by_cover, by_subckt}
-use Rattle.blif_flat.proofs.NameLemmas.{In-parts}
 use Rattle.blif_flat.proofs.TagLemmas.{Tag, tag, pair_tags, subckt_tags, body_tags, behind, tags, Source, from_cover, from_latch, from_subckt, of_pair, tag_source}
 use Rattle.blif_flat.proofs.InstanceLemmas.{subckt_in, subckt_more}
 use Rattle.blif_flat.proofs.DrivenLemmas.{formal_in}
@@ -24,7 +24,7 @@ AreDistinct (t ∷ ts) = ((u : Tag) → In ts u → t.driver ≡ u.driver → �
 distinct_joined : (xs ys : List Tag) → AreDistinct xs → AreDistinct ys → ((t u : Tag) → In xs t → In ys u → t.driver ≡ u.driver → ⊥) → AreDistinct (xs ++ ys)
 distinct_joined [] ys a b h = b
 distinct_joined (x ∷ xs) ys a b h = (
-  λ u i e. elim (In-parts xs ys u i) [ inl j ↦ a.0 u j e | inr j ↦ h x u (inl refl) j e ],
+  λ u i e. elim (In-append xs ys u i) [ inl j ↦ a.0 u j e | inr j ↦ h x u (inl refl) j e ],
   distinct_joined xs ys a.1 b (λ t u i j. h t u (inr i) j),
 )
 

@@ -2,7 +2,8 @@
 use Rattle.std.proofs.Common.{◌≡◌, ℕ, List, [], ◌∷◌, Some, None, sym, ap, ◌∙◌, subst, inl, inr, ◌⊎◌}
 use Rattle.std.specs.Prelude.{IsTrue, slice_get}
 use Rattle.std.proofs.lemmas.Option.{same_Some}
-use Rattle.list_words.specs.Members.{In}
+use Rattle.list_laws.specs.Members.{In}
+use Rattle.list_laws.proofs.Members.{In-get}
 use Rattle.blif_read.specs.declared.subckt.Pair.{Pair}
 use Rattle.blif_read.specs.SubcktValue.{SubcktValue}
 use Rattle.blif_read.specs.LibraryValue.{ModelValue, LibraryValue}
@@ -14,7 +15,7 @@ use Rattle.blif_flat.specs.Instances.{ConnectionAt}
 use Rattle.blif_flat.specs.Drivers.{Driver, InstanceAt, IsDriver, input, latch, cover, output, IsRead, cover_input, latch_input, latch_control, input_actual, model_output, IsDriven}
 use Rattle.blif_flat.specs.DriverFaults.{models_fault}
 use Rattle.blif_flat.specs.Walk.{unknown_formal, open_input, walked, WalksMain}
-use Rattle.blif_flat.proofs.NameLemmas.{In-get, input_in}
+use Rattle.blif_flat.proofs.NameLemmas.{input_in}
 use Rattle.blif_flat.proofs.PlaceLemmas.{inside}
 use Rattle.blif_flat.proofs.LineFaultLemmas.{formal_is, input_connected}
 use Rattle.blif_flat.proofs.WalkedLemmas.{line_of, named_in, Fine, main_fine, fine_ends, fine_holds, fine_placed, fine_at}

@@ -4,35 +4,23 @@ use Rattle.std.proofs.lemmas.Bool.{cases_Bool}
 use Rattle.blif_read.specs.declared.subckt.Pair.{Pair}
 use Rattle.blif_read.specs.LibraryValue.{ModelValue, LibraryValue}
 use Rattle.blif_flat.specs.declared.flat_err.FlatErr.{FlatErr}
-use Rattle.blif_flat.specs.declared.flat_err.FlatErr.TheVariants.{UnknownModel, RecursiveModel, UnknownFormal, Unconnected, TooLarge, DoublyDriven, Undriven, SecondClock, ClockNotInput, ClockAsData, Loop, Memory}
+use Rattle.blif_flat.specs.Refusals.{refusal_of}
 use Rattle.blif_flat.specs.Models.{has_name, is_input, is_output}
-use Rattle.blif_flat.specs.Answers.{Refuses, IsFault}
+use Rattle.blif_flat.specs.Answers.{IsTold}
 use Rattle.blif_flat.specs.DriverFaults.{or_later, output_actuals, input_actuals, twice_in, undriven_in, models_fault}
-use Rattle.blif_flat.specs.DriverSteps.{with_model, models_at, fault_of}
+use Rattle.blif_flat.specs.DriverSteps.{fault_of}
+use Rattle.blif_flat.specs.NumberedModels.{with_model, models_at}
 use Rattle.std.specs.List.{slice_get}
-
--- a refusal of which more holds
-refuses_more : (e : FlatErr) (P Q : FlatErr → Type 0) → ((r : FlatErr) → P r → Q r) → Refuses e P → Refuses e Q
-refuses_more Memory P Q f h = tt
-refuses_more (UnknownModel m n name) P Q f h = f _ h
-refuses_more (RecursiveModel chain) P Q f h = f _ h
-refuses_more (UnknownFormal m n name) P Q f h = f _ h
-refuses_more (Unconnected m n name) P Q f h = f _ h
-refuses_more TooLarge P Q f h = f _ h
-refuses_more (DoublyDriven m n name) P Q f h = f _ h
-refuses_more (Undriven m n name) P Q f h = f _ h
-refuses_more (SecondClock first second) P Q f h = f _ h
-refuses_more (ClockNotInput net) P Q f h = f _ h
-refuses_more (ClockAsData net) P Q f h = f _ h
-refuses_more (Loop nets) P Q f h = f _ h
+use Rattle.list_laws.proofs.Items.{drop_at}
+use Rattle.tl_fault.proofs.OrMemoryLemmas.{OrMemory-map}
 
 -- a first refusal is told whatever comes later
 or_first : (fault later : Option FlatErr) (r : FlatErr) → fault ≡ Some r → or_later fault later ≡ Some r
 or_first (Some e) later r h = h
 or_first None later r h = ap (λ f. or_later f later) h
 
-pub fault_first : (e : FlatErr) (fault later : Option FlatErr) → IsFault e fault → IsFault e (or_later fault later)
-fault_first e fault later h = refuses_more e (λ r. fault ≡ Some r) (λ r. or_later fault later ≡ Some r) (or_first fault later) h
+pub fault_first : (e : FlatErr) (fault later : Option FlatErr) → IsTold e fault → IsTold e (or_later fault later)
+fault_first e fault later h = OrMemory-map refusal_of (λ r. fault ≡ Some r) (λ r. or_later fault later ≡ Some r) e (or_first fault later) h
 
 -- and a later one where the first is none
 pub later_only : (fault later : Option FlatErr) → fault ≡ None → or_later fault later ≡ later
@@ -59,12 +47,6 @@ output_actuals-cons child pair pairs = elim (cases_Bool (is_output child pair.fo
 pub input_actuals-cons : (child : ModelValue) (pair : Pair) (pairs : List Pair) → input_actuals child (pair ∷ pairs) ≡ input_actuals child (pair ∷ []) ++ input_actuals child pairs
 input_actuals-cons child pair pairs = elim (cases_Bool (is_input child pair.formal)) [ inl t ↦ rw t refl | inr f ↦ rw f refl ]
 
--- the rest of a list at an element
-pub drop_at : {A : Type 0} (xs : List A) (i : ℕ) (x : A) → i < length xs → x ≡ get_or xs i x → drop i xs ≡ x ∷ drop (i + 1) xs
-drop_at xs i x h e =
-    let s : suc i ≡ i + 1 = omega arith in
-    drop-cons xs i x h ∙ ap (λ y. y ∷ drop (suc i) xs) (sym e) ∙ ap (λ j. x ∷ drop j xs) s
-
 -- the first connection of the rest, and those behind it
 pub read_split : (child : ModelValue) (model : List ℕ) (line : ℕ) (driven : List (List ℕ)) (pairs : List Pair) (i : ℕ) (pair : Pair) → i < length pairs → pair ≡ get_or pairs i pair
     → undriven_in model line driven (input_actuals child (drop i pairs)) ≡ or_later (undriven_in model line driven (input_actuals child (pair ∷ []))) (undriven_in model line driven (input_actuals child (drop (i + 1) pairs)))
@@ -89,8 +71,8 @@ names_split child driven pairs i pair h e =
     ∙ sym (append_assoc driven (output_actuals child (pair ∷ [])) (output_actuals child (drop (i + 1) pairs)))
 
 -- a refusal of a first part is that of the whole, and without one the whole is the later part
-pub told : (e : FlatErr) (whole first later all : Option FlatErr) → whole ≡ or_later first later → whole ≡ all → IsFault e first → IsFault e all
-told e whole first later all split same h = subst (IsFault e) (sym split ∙ same) (fault_first e first later h)
+pub told : (e : FlatErr) (whole first later all : Option FlatErr) → whole ≡ or_later first later → whole ≡ all → IsTold e first → IsTold e all
+told e whole first later all split same h = subst (IsTold e) (sym split ∙ same) (fault_first e first later h)
 
 pub gone_on : (whole first later all : Option FlatErr) → whole ≡ or_later first later → whole ≡ all → first ≡ None → later ≡ all
 gone_on whole first later all split same h = sym (later_only first later h) ∙ sym split ∙ same
@@ -101,8 +83,8 @@ models_with library (Some m) ms = refl
 
 -- the first model of some numbers, and those behind it
 pub models_split : (library : LibraryValue) (numbers : List ℕ) (i : ℕ) → i < length numbers
-    → models_fault library (models_at library (drop i numbers)) ≡ or_later (fault_of library (slice_get library.models (get_or numbers i 0))) (models_fault library (models_at library (drop (i + 1) numbers)))
+    → models_fault library (models_at library.models (drop i numbers)) ≡ or_later (fault_of library (slice_get library.models (get_or numbers i 0))) (models_fault library (models_at library.models (drop (i + 1) numbers)))
 models_split library numbers i h =
     let s : suc i ≡ i + 1 = omega arith in
-    ap (λ ns. models_fault library (models_at library ns)) (drop-cons numbers i 0 h ∙ ap (λ j. get_or numbers i 0 ∷ drop j numbers) s)
-    ∙ models_with library (slice_get library.models (get_or numbers i 0)) (models_at library (drop (i + 1) numbers))
+    ap (λ ns. models_fault library (models_at library.models ns)) (drop-cons numbers i 0 h ∙ ap (λ j. get_or numbers i 0 ∷ drop j numbers) s)
+    ∙ models_with library (slice_get library.models (get_or numbers i 0)) (models_at library.models (drop (i + 1) numbers))

@@ -1,8 +1,10 @@
 -- The steps of the walk keep the order in which the walks of models end.
 use Rattle.std.proofs.Common.{◌≡◌, ℕ, suc, ◌+◌, ◌<◌, ◌≤◌, List, [], ◌∷◌, ◌++◌, length, Option, Some, None, refl, sym, ap, ◌∙◌, subst, inl, inr, arith}
 use Rattle.std.specs.List.{slice_get, slice_set}
-use Rattle.std.proofs.lemmas.Option.{none-some, same_Some, slice_get_within, slice_get_cases}
-use Rattle.list_words.specs.Members.{In, Within}
+use Rattle.std.proofs.lemmas.Option.{none-some, same_Some, slice_get_within}
+use Rattle.list_laws.specs.Members.{In, Within}
+use Rattle.list_laws.proofs.Places.{past_end, set_here, set_other, same_or}
+use Rattle.list_laws.proofs.Members.{In-left, In-right, place_in}
 use Rattle.tl_text.specs.NameIndex.{place_of}
 use Rattle.blif_read.specs.Once.{AreOnce}
 use Rattle.blif_read.specs.declared.command.Body.{Body}
@@ -18,11 +20,10 @@ use Rattle.blif_flat.specs.NameSets.{model_names, IsModelOf, Finds}
 use Rattle.blif_flat.specs.Walk.{SubcktLine, with_line}
 use Rattle.blif_flat.specs.Weighing.{IsAmong}
 use Rattle.blif_flat.specs.Ending.{HasPlaced, HavePlaced, IsEnding}
-use Rattle.blif_flat.proofs.MemberLemmas.{In-left, In-right}
 use Rattle.blif_flat.proofs.NameSetLemmas.{finds}
-use Rattle.blif_flat.proofs.InstanceLemmas.{place_in, subckt_command}
+use Rattle.blif_flat.proofs.InstanceLemmas.{subckt_command}
 use Rattle.blif_flat.proofs.WeightLemmas.{children_first_push, children_first_none}
-use Rattle.blif_flat.proofs.StackLemmas.{set_here, set_other, same_or, same_number}
+use Rattle.blif_flat.proofs.StackLemmas.{same_number}
 
 -- the place of a name among those of the models is the number of its model
 found_number : (models : List ModelValue) (name : List ℕ) (n : ℕ) → AreOnce (model_names models) → IsModelOf models name n → (o : Option ℕ) → Finds models name o → o ≡ Some n
@@ -37,10 +38,6 @@ place_found models name n names is = found_number models name n names is (place_
 -- a command that adds no line places no model
 no_subckt : (n : ℕ) (b : Body) (lines : List SubcktLine) (s : SubcktValue) → with_line n b lines ≡ lines → b ≡ Subckt s → ⊥
 no_subckt n b lines s e q = let k : suc (length lines) ≡ length lines = ap length (subst (λ x. with_line n x lines ≡ lines) q e) in omega arith
-
--- a place at which no element stands is past the end
-past_end : {A : Type 0} (xs : List A) (i : ℕ) → slice_get xs i ≡ None → length xs ≤ i
-past_end xs i h = elim (slice_get_cases xs i).1 [ inl r ↦ absurd (none-some r.0 (sym h ∙ r.2)) | inr r ↦ r.0 ]
 
 -- more numbers, among which the models stand as well
 more_inside : (inside xs ys : List ℕ) → Within xs ys → Within (inside ++ xs) (inside ++ ys)

@@ -1,13 +1,16 @@
 -- Evaluating a flat circuit in its order gives each cover the value of any map that fits.
-use Rattle.std.proofs.Common.{◌≡◌, ℕ, ◌<◌, ◌≤◌, Bool, false, eqb, List, [], ◌∷◌, map, length, replicate, Option, Some, sym, ap, ap₂, ◌∙◌, subst, inl, inr, ◌⊎◌, arith, eqb-true, eq-eqb, slice_set}
+use Rattle.std.proofs.Common.{◌≡◌, ℕ, ◌<◌, Bool, false, eqb, List, [], ◌∷◌, map, length, replicate, Option, Some, sym, ap, ap₂, ◌∙◌, subst, inl, inr, ◌⊎◌, arith, eqb-true, eq-eqb, slice_set}
 use Rattle.std.specs.Prelude.{slice_get}
 use Rattle.std.specs.Option.{option_and_then}
 use Rattle.std.proofs.lemmas.Bool.{both_ways, cases_Bool}
 use Rattle.std.proofs.lemmas.List.{length-set, length-replicate}
-use Rattle.std.proofs.lemmas.Option.{same_Some, slice_get_within, slice_get_cases}
-use Rattle.list_words.specs.Members.{In}
+use Rattle.std.proofs.lemmas.Option.{same_Some, slice_get_within}
+use Rattle.list_laws.specs.Members.{In}
+use Rattle.list_laws.proofs.Places.{at_within, set_here, set_other}
 use Rattle.blif_read.specs.CoverValue.{CoverValue, cover_value}
 use Rattle.blif_read.specs.LibraryValue.{ModelValue, LibraryValue}
+use Rattle.blif_flat.specs.declared.flat.Net.{Net as FlatNet}
+use Rattle.blif_flat.specs.declared.flat.Net.TheVariants.{Input, Latch, Cover}
 use Rattle.blif_flat.specs.FlatCoverValue.{FlatCoverValue}
 use Rattle.blif_flat.specs.FlatValue.{FlatValue}
 use Rattle.blif_flat.specs.Models.{Path, body_at}
@@ -15,15 +18,14 @@ use Rattle.blif_flat.specs.Instances.{CoverAt}
 use Rattle.blif_flat.specs.Cycle.{Fits}
 use Rattle.blif_flat.specs.Places.{Place, cover_in}
 use Rattle.blif_flat.specs.Flat.{Places, reads_at, inputs_at, cover_numbers, IsFlatCover, IsFlat}
-use Rattle.blif_flat.specs.Evaluation.{cover_behind, net_value, value_of, gate_value, evaluated, AreGiven, Evaluates}
+use Rattle.blif_flat.specs.Evaluation.{cover_behind, net_value, value_of, gate_value, evaluated, flat_values, AreGiven, Evaluates}
 use Rattle.blif_flat.proofs.PlaceLemmas.{cover_at-is}
-use Rattle.blif_flat.proofs.SetLemmas.{set_here, set_other}
 use Rattle.blif_flat.proofs.PostLemmas.{nodes_after}
 use Rattle.blif_flat.proofs.ForwardLemmas.{IsForward, reversed_forward}
-use Rattle.blif_flat.proofs.NumberLemmas.{IsKnown, numbers_value}
+use Rattle.blif_flat.proofs.NumberLemmas.{IsKnown, number_value, numbers_value}
 
 -- the cover behind a flat one is the one of its place
-behind_is : (library : LibraryValue) (at : Places) (p : Place) (c : FlatCoverValue) (i : IsFlatCover library at p c) → cover_behind library c ≡ Some i.cover
+pub behind_is : (library : LibraryValue) (at : Places) (p : Place) (c : FlatCoverValue) (i : IsFlatCover library at p c) → cover_behind library c ≡ Some i.cover
 behind_is library at p c i =
     ap₂ (λ (o : Option ModelValue) (n : ℕ). option_and_then (λ (m : ModelValue). option_and_then cover_in (body_at m n)) o) i.model i.command
     ∙ cover_at-is library p.path p.command i.cover i.is
@@ -32,9 +34,6 @@ done_next : (j k : ℕ) (ks done : List ℕ) → In done j ⊎ In (k ∷ ks) j �
 done_next j k ks done (inl i) = inl (inr i)
 done_next j k ks done (inr (inl e)) = inl (inl e)
 done_next j k ks done (inr (inr i)) = inr i
-
-item_within : {A : Type 0} (xs : List A) (k : ℕ) → k < length xs → (x : A) × (slice_get xs k ≡ Some x)
-item_within xs k l = elim (slice_get_cases xs k).1 [ inl c ↦ (c.0, c.2) | inr c ↦ absurd (let past : length xs ≤ k = c.0 in omega arith) ]
 
 module _ (library : LibraryValue) (flat : FlatValue) (f : IsFlat library flat) (x : List ℕ → Bool) (s : Path → ℕ → Bool) (xs ss : List Bool) (value : Path → List ℕ → Bool)
     (given : AreGiven flat f.at x s xs ss) (fits : Fits library x s value) where
@@ -57,7 +56,7 @@ module _ (library : LibraryValue) (flat : FlatValue) (f : IsFlat library flat) (
       let within : k < length (f.at).covers = slice_get_within (f.at).covers k p g in
       let count : length flat.covers ≡ length (f.at).covers = f.cover_count in
       let here : k < length flat.covers = omega arith in
-      let flat_cover = item_within flat.covers k here in
+      let flat_cover = at_within flat.covers k here in
       set_here values k (gate_value library (slice_get flat.covers k) xs ss values) (let l : k < length values = omega arith in l)
       ∙ ap Some (gate_at values k known p c flat_cover.0 g a flat_cover.1)
 
@@ -78,9 +77,20 @@ module _ (library : LibraryValue) (flat : FlatValue) (f : IsFlat library flat) (
       (λ m q. elim q [ inl e ↦ subst (λ y. IsKnown library f.at value (slice_set values k b) y) (sym e) new | inr r ↦ still_known values k b m new (known m r) ])
       j (done_next j k ks done i)
 
+-- the cover of a net's number
+number_cover : (number : FlatNet) (m : ℕ) → In (cover_numbers (number ∷ [])) m → number ≡ Cover m
+number_cover (Input j) m i = absurd i
+number_cover (Latch j) m i = absurd i
+number_cover (Cover j) m (inl e) = ap Cover (sym e)
+number_cover (Cover j) m (inr i) = absurd i
+
 pub flat_evaluates : (library : LibraryValue) (flat : FlatValue) (f : IsFlat library flat) → Evaluates library flat f.at
 flat_evaluates library flat f = record {
   each = λ x s xs ss value given fits k i p c g a.
       evaluated_known library flat f x s xs ss value given fits flat.order [] (replicate (length flat.covers) false)
       (reversed_forward (reads_at flat) flat.order (nodes_after (reads_at flat) f.order tt)) (length-replicate (length flat.covers) false) (λ j q. absurd q) k (inr i) p c g a;
+  names = λ x s xs ss value given fits path name net number drives numbered among.
+      number_value library flat f x s xs ss value given fits (flat_values library flat xs ss) path name number (record { net = net; drives = drives; numbered = numbered })
+      (λ m i. evaluated_known library flat f x s xs ss value given fits flat.order [] (replicate (length flat.covers) false)
+      (reversed_forward (reads_at flat) flat.order (nodes_after (reads_at flat) f.order tt)) (length-replicate (length flat.covers) false) (λ j q. absurd q) m (inr (among m (number_cover number m i))));
 }

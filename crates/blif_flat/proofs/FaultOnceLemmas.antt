@@ -10,12 +10,12 @@ use Rattle.blif_flat.specs.Nets.{cover_net}
 use Rattle.blif_flat.specs.Drivers.{IsDriven}
 use Rattle.blif_flat.specs.Places.{Place, is_latch, FlatOrder}
 use Rattle.blif_flat.specs.Walk.{Walked, refused, walked, WalksMain}
-use Rattle.blif_flat.specs.Weight.{Weighs}
+use Rattle.blif_flat.specs.Weight.{most_weight, Weighs}
 use Rattle.blif_flat.specs.DriverFaults.{models_fault}
 use Rattle.blif_flat.specs.ClockFaults.{Clocks, is_gate, ClockData}
-use Rattle.blif_flat.specs.Walking.{Cycle}
+use Rattle.blif_flat.specs.DepthFirst.{Repeat}
 use Rattle.blif_flat.specs.LoopFault.{from_node, AreWritten, none, more, IsLoop}
-use Rattle.blif_flat.specs.Faults.{IsWalked, IsConnected, IsClocked, IsFault, in_walk, too_large, in_drivers, in_controls, in_data, in_loops}
+use Rattle.blif_flat.specs.Faults.{IsWalked, IsConnected, IsClocked, IsFault, HasOneFault, in_walk, too_large, in_drivers, in_controls, in_data, in_loops}
 use Rattle.blif_flat.proofs.WalkLemmas.{walk_main_once}
 use Rattle.blif_flat.proofs.DrivenLemmas.{walked_driven}
 use Rattle.blif_flat.proofs.ClockOnceLemmas.{clocks_once}
@@ -54,9 +54,9 @@ module _ (library : LibraryValue) where
 
   same_loop : (f g : FlatErr) → IsLoop library f → IsLoop library g → f ≡ g
   same_loop f g a b =
-      let e : a.cycle ≡ b.cycle = same_Some a.cycle b.cycle (loop_once library (Some a.cycle) (Some b.cycle) a.walk b.walk) in
-      let n : a.names ≡ b.names = same_names (from_node a.cycle.node a.cycle.path) (from_node b.cycle.node b.cycle.path) a.names b.names
-      (ap (λ (c : Cycle Place). from_node c.node c.path) e) a.written b.written in
+      let e : a.repeat ≡ b.repeat = same_Some a.repeat b.repeat (loop_once library (Some a.repeat) (Some b.repeat) a.walk b.walk) in
+      let n : a.names ≡ b.names = same_names (from_node a.repeat.node a.repeat.path) (from_node b.repeat.node b.repeat.path) a.names b.names
+      (ap (λ (c : Repeat Place). from_node c.node c.path) e) a.written b.written in
       a.is ∙ ap Loop n ∙ sym b.is
 
   module _ (formed : IsWellFormed library) where
@@ -80,7 +80,7 @@ module _ (library : LibraryValue) where
     walk_first : (main : ModelValue) (f : FlatErr) (ms : List ModelValue) → model_at library [] ≡ Some main → WalksMain library main (refused f) → IsWalked library ms → ⊥
     walk_first main f ms at w a = refused_or_walked main a.main f ms at a.at w a.walks
 
-    weight_first : (main : ModelValue) (weight : ℕ) (ms : List ModelValue) → model_at library [] ≡ Some main → Weighs library main weight → 4194304 < weight → IsWalked library ms → ⊥
+    weight_first : (main : ModelValue) (weight : ℕ) (ms : List ModelValue) → model_at library [] ≡ Some main → Weighs library main weight → most_weight < weight → IsWalked library ms → ⊥
     weight_first main weight ms at w heavy a = not_heavy library a.main main a.weight weight a.at a.weighs a.light at w heavy
 
     drivers_first : (ms : List ModelValue) (f : FlatErr) → IsWalked library ms → models_fault library ms ≡ Some f → IsConnected library → ⊥
@@ -102,7 +102,7 @@ module _ (library : LibraryValue) where
     walk_only f g main at w (in_data a ps o c) = absurd (walk_first main f a.past.models at w a.past.past)
     walk_only f g main at w (in_loops a ps o c l) = absurd (walk_first main f a.past.models at w a.past.past)
 
-    weight_only : (f g : FlatErr) (main : ModelValue) (ms : List ModelValue) (weight : ℕ) → model_at library [] ≡ Some main → WalksMain library main (walked ms) → Weighs library main weight → 4194304 < weight
+    weight_only : (f g : FlatErr) (main : ModelValue) (ms : List ModelValue) (weight : ℕ) → model_at library [] ≡ Some main → WalksMain library main (walked ms) → Weighs library main weight → most_weight < weight
         → f ≡ TooLarge → IsFault library g → f ≡ g
     weight_only f g main ms weight at w y heavy is (in_walk other at_other v) = absurd (refused_or_walked other main g ms at_other at v w)
     weight_only f g main ms weight at w y heavy is (too_large other ns own at_other v z more_heavy too) = is ∙ sym too
@@ -150,3 +150,6 @@ fault_once library formed f g (in_drivers ms a e) b = drivers_only library forme
 fault_once library formed f g (in_controls a ps o c) b = controls_only library formed f g a ps o c b
 fault_once library formed f g (in_data a ps o c) b = data_only library formed f g a ps o c b
 fault_once library formed f g (in_loops a ps o c l) b = loops_only library formed f g a ps o c l b
+
+pub one_fault : (library : LibraryValue) → IsWellFormed library → HasOneFault library
+one_fault library formed = record { once = fault_once library formed }

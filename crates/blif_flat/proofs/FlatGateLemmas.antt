@@ -1,12 +1,13 @@
 -- The flat covers and latches of gates are those of their places.
-use Rattle.std.proofs.Common.{◌≡◌, ℕ, zero, suc, List, [], ◌∷◌, ◌++◌, map, length, drop, drop_of_length-le, append-nil, ◌<◌, ◌≤◌, Some, refl, sym, ap, ◌∙◌, subst, arith, true}
+use Rattle.std.proofs.Common.{◌≡◌, ℕ, zero, suc, List, [], ◌∷◌, ◌++◌, map, length, drop, drop_of_length-le, append-nil, ◌≤◌, Some, refl, sym, ap, ◌∙◌, subst}
 use Rattle.std.specs.Prelude.{slice_get}
 use Rattle.std.specs.Option.{option_and_then}
 use Rattle.std.proofs.lemmas.List.{length-map}
-use Rattle.std.proofs.lemmas.Option.{none-some, same_Some, slice_get_within}
-use Rattle.list_words.specs.Members.{In}
+use Rattle.std.proofs.lemmas.Option.{none-some, same_Some}
+use Rattle.list_laws.specs.Members.{In}
+use Rattle.list_laws.proofs.Members.{In-get}
 use Rattle.blif_read.specs.declared.command.Body.{Body}
-use Rattle.blif_read.specs.declared.command.Body.TheVariants.{Cover, Latch, Subckt}
+use Rattle.blif_read.specs.declared.command.Body.TheVariants.{Cover, Latch}
 use Rattle.blif_read.specs.declared.latch.Latch.{Latch as LatchValue}
 use Rattle.blif_read.specs.CoverValue.{CoverValue}
 use Rattle.blif_read.specs.LibraryValue.{ModelValue, LibraryValue}
@@ -20,15 +21,15 @@ use Rattle.blif_flat.specs.Places.{Place, cover_in, latch_in, is_cover, is_latch
 use Rattle.blif_flat.specs.InstanceOrder.{places_at}
 use Rattle.blif_flat.specs.InstanceRows.{paths_of, AreInstances}
 use Rattle.blif_flat.specs.Gates.{IsGateAt, AreGatesAt}
+use Rattle.blif_flat.specs.GateBodies.{body_in, gate_body}
 use Rattle.blif_flat.specs.Flat.{Places, AreNetsOf, IsFlatCover, IsFlatLatch}
 use Rattle.blif_flat.specs.NetSlots.{NetsValue}
 use Rattle.blif_flat.specs.NetMade.{AreAllNets}
 use Rattle.blif_flat.specs.RegularNets.{IsRegular, regular_places, AreFlatCovers, AreFlatLatches}
-use Rattle.blif_flat.specs.FieldSteps.{row_model, gate_body, inputs_or, flat_cover, made_latch, latch_or, flat_latch, regular_nets}
-use Rattle.blif_flat.proofs.KindLemmas.{IsOfKind, flat_only}
+use Rattle.blif_flat.specs.FieldSteps.{row_model, inputs_or, flat_cover, made_latch, latch_or, flat_latch, regular_nets}
+use Rattle.blif_flat.proofs.KindLemmas.{IsOfKind, flat_only, is_cover-some, is_latch-some}
 use Rattle.blif_flat.proofs.InstanceOrderLemmas.{order_places}
-use Rattle.blif_flat.proofs.InstanceRowLemmas.{paths_of-length}
-use Rattle.blif_flat.proofs.NameSetLemmas.{at_within, at_member}
+use Rattle.blif_flat.proofs.GateBodyLemmas.{place_model, gate_row, gate_place}
 use Rattle.blif_flat.proofs.NetLemmas.{net_of_driver}
 use Rattle.blif_flat.proofs.RegularNetLemmas.{IsNoClock, net_is, nets_are}
 
@@ -41,17 +42,6 @@ mapped_at f (x ∷ xs) (suc k) y e = mapped_at f xs k y e
 -- the last step of a list that is mapped one by one
 pub all_mapped : {A B : Type 0} (f : A → B) (made : List B) (xs : List A) (i : ℕ) → made ++ map f (drop i xs) ≡ map f xs → length xs ≤ i → made ≡ map f xs
 all_mapped f made xs i e h = sym (append-nil made) ∙ sym (ap (λ l. made ++ map f l) (drop_of_length-le xs h)) ∙ e
-
--- what a body of a kind is
-is_cover-some : (b : Body) → is_cover b ≡ true → (c : CoverValue) × (b ≡ Cover c)
-is_cover-some (Cover c) t = (c, refl)
-is_cover-some (Latch l) t = absurd (cc)
-is_cover-some (Subckt s) t = absurd (cc)
-
-is_latch-some : (b : Body) → is_latch b ≡ true → (l : LatchValue) × (b ≡ Latch l)
-is_latch-some (Cover c) t = absurd (cc)
-is_latch-some (Latch l) t = (l, refl)
-is_latch-some (Subckt s) t = absurd (cc)
 
 module _ (library : LibraryValue) (rows : List Instance) (are : AreInstances library rows) where
   -- each cover and each latch among the places of the instances
@@ -67,31 +57,12 @@ module _ (library : LibraryValue) (rows : List Instance) (are : AreInstances lib
       let l = is_latch-some o.body o.kind_is in
       (l.0, record { model = o.model; at = o.at; is = o.is ∙ ap Some l.1 })
 
-  -- the model of a gate is that of its instance
-  record IsRowOf (g : Gate) (p : Place) : Type 0 where
-    row : Instance
-    here : slice_get rows g.row ≡ Some row
-    model : slice_get library.models row.model ≡ model_at library p.path
-
-  pub row_inside : (g : Gate) (p : Place) → IsGateAt (paths_of rows) g p → g.row < length rows
-  row_inside g p w =
-      let inside : g.row < length (paths_of rows) = slice_get_within (paths_of rows) g.row p.path w.row in
-      let same : length (paths_of rows) ≡ length rows = paths_of-length rows in
-      omega arith
-
-  row_of : (g : Gate) (p : Place) → IsGateAt (paths_of rows) g p → IsRowOf g p
-  row_of g p w =
-      let r = at_within rows g.row (row_inside g p w) in
-      let i = are.each g.row r.0 r.1 in
-      let same : i.path ≡ p.path = same_Some i.path p.path (sym i.at ∙ w.row) in
-      record { row = r.0; here = r.1; model = i.number ∙ sym i.there ∙ ap (model_at library) same }
-
+  -- the model and the body of a gate are those of its place
   gate_model : (g : Gate) (p : Place) → IsGateAt (paths_of rows) g p → slice_get library.models (row_model (slice_get rows g.row)) ≡ model_at library p.path
-  gate_model g p w = let r = row_of g p w in ap (λ o. slice_get library.models (row_model o)) r.here ∙ r.model
+  gate_model g p w = let r = gate_row library rows are g p w in ap (λ o. slice_get library.models (row_model o)) r.1 ∙ place_model library rows are g p w r.0 r.1
 
   gate_body-is : (g : Gate) (p : Place) (m : ModelValue) (b : Body) → IsGateAt (paths_of rows) g p → model_at library p.path ≡ Some m → body_at m p.command ≡ Some b → gate_body library rows g ≡ Some b
-  gate_body-is g p m b w at is =
-      ap (option_and_then (λ (x : ModelValue). body_at x g.command)) (gate_model g p w ∙ at) ∙ ap (body_at m) w.command ∙ is
+  gate_body-is g p m b w at is = gate_place library rows are g p w ∙ ap (body_in p.command) at ∙ is
 
   module _ (driven : IsDriven library) (numbers : List ℕ) (r : IsRegular library numbers) (n : NetsValue) (nets : AreAllNets library rows n) where
     abbrev at : Places
@@ -145,7 +116,7 @@ module _ (library : LibraryValue) (rows : List Instance) (are : AreInstances lib
       count = length-map gates (flat_cover library rows n numbers) ∙ w.count;
       each = λ k p c e f. (
           let g = mapped_at (flat_cover library rows n numbers) gates k c f in
-          subst (IsFlatCover library at p) (sym g.2) (cover_is g.0 p (w.each k g.0 p g.1 e) (at_member (places_at library is_cover (paths_of rows)) k p e)));
+          subst (IsFlatCover library at p) (sym g.2) (cover_is g.0 p (w.each k g.0 p g.1 e) (In-get (places_at library is_cover (paths_of rows)) k p e)));
     }
 
     pub latches_are : (gates : List Gate) → AreGatesAt (paths_of rows) gates (places_at library is_latch (paths_of rows))
@@ -154,5 +125,5 @@ module _ (library : LibraryValue) (rows : List Instance) (are : AreInstances lib
       count = length-map gates (flat_latch library rows n numbers) ∙ w.count;
       each = λ k p l e f. (
           let g = mapped_at (flat_latch library rows n numbers) gates k l f in
-          subst (IsFlatLatch library at p) (sym g.2) (latch_is g.0 p (w.each k g.0 p g.1 e) (at_member (places_at library is_latch (paths_of rows)) k p e)));
+          subst (IsFlatLatch library at p) (sym g.2) (latch_is g.0 p (w.each k g.0 p g.1 e) (In-get (places_at library is_latch (paths_of rows)) k p e)));
     }

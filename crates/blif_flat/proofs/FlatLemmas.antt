@@ -4,8 +4,9 @@ use Rattle.std.specs.Prelude.{slice_get}
 use Rattle.std.specs.Option.{option_and_then}
 use Rattle.std.proofs.lemmas.Bool.{both_ways}
 use Rattle.std.proofs.lemmas.Option.{none-some, same_Some}
-use Rattle.list_words.specs.Members.{In}
-use Rattle.list_words.proofs.Choice.{choose}
+use Rattle.list_laws.specs.Members.{In}
+use Rattle.list_laws.proofs.Choice.{choose}
+use Rattle.list_laws.proofs.Members.{In-left, In-right}
 use Rattle.blif_read.specs.declared.command.Body.{Body}
 use Rattle.blif_read.specs.declared.command.Command.{Command}
 use Rattle.blif_read.specs.SubcktValue.{SubcktValue}
@@ -13,7 +14,6 @@ use Rattle.blif_read.specs.LibraryValue.{ModelValue, LibraryValue}
 use Rattle.blif_flat.specs.Models.{Path, body_at, subckts_of, model_named, placed, model_at}
 use Rattle.blif_flat.specs.Drivers.{Ends, ends}
 use Rattle.blif_flat.specs.Places.{Place, own_places, FlatOrder, flat, FlatUnder, none, more}
-use Rattle.blif_flat.proofs.MemberLemmas.{In-left, In-right}
 use Rattle.blif_flat.proofs.PlaceLemmas.{place_of, command_of, placed-is, inside}
 
 module _ (library : LibraryValue) (kind : Body → Bool) where

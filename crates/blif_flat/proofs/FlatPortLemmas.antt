@@ -3,15 +3,14 @@ use Rattle.std.proofs.Common.{◌≡◌, ℕ, zero, suc, ◌+◌, ◌<◌, max, 
 use Rattle.std.specs.Prelude.{slice_get}
 use Rattle.std.proofs.lemmas.Bool.{cases_Bool, and_from}
 use Rattle.std.proofs.lemmas.Option.{none-some, same_Some, slice_get_read}
-use Rattle.list_words.specs.Members.{In}
+use Rattle.list_laws.specs.Members.{In}
 use Rattle.blif_read.specs.LibraryValue.{ModelValue, LibraryValue}
 use Rattle.blif_flat.specs.declared.flat.Net.{Net as FlatNet}
 use Rattle.blif_flat.specs.declared.flat.OutPort.{OutPort}
 use Rattle.blif_flat.specs.declared.instances.Instance.{Instance}
-use Rattle.blif_flat.specs.Models.{Path, has_name, is_input, is_output, inputs_of}
+use Rattle.blif_flat.specs.Models.{has_name, is_input, is_output, inputs_of}
 use Rattle.blif_flat.specs.Nets.{Net, input_net, Drives, main_input}
 use Rattle.blif_flat.specs.Drivers.{IsDriven, model_output}
-use Rattle.blif_flat.specs.InstanceOrder.{InstanceOrder, instance}
 use Rattle.blif_flat.specs.InstanceRows.{paths_of, AreInstances}
 use Rattle.blif_flat.specs.Flat.{AreNetsOf, underscores, most_underscores}
 use Rattle.blif_flat.specs.NetSlots.{NetsValue}
@@ -19,8 +18,9 @@ use Rattle.blif_flat.specs.NetMade.{AreAllNets}
 use Rattle.blif_flat.specs.RegularNets.{IsRegular, regular_places}
 use Rattle.blif_flat.specs.FieldSteps.{regular_nets, out_port, outputs_or, with_unmarked, unmarked_after}
 use Rattle.blif_flat.proofs.NetLemmas.{net_of_driver}
-use Rattle.blif_flat.proofs.RegularLemmas.{has_member}
 use Rattle.blif_flat.proofs.RegularNetLemmas.{IsNoClock, nets_are}
+use Rattle.blif_flat.proofs.NameLemmas.{in_has}
+use Rattle.blif_flat.proofs.InstanceOrderLemmas.{order_first}
 
 -- the names and the nets of ports
 port_names : (numbers : List ℕ) (n : NetsValue) (names : List (List ℕ)) → map (λ (o : OutPort). o.name) (map (out_port numbers n) names) ≡ names
@@ -31,9 +31,6 @@ port_nets : (numbers : List ℕ) (n : NetsValue) (names : List (List ℕ)) → m
 port_nets numbers n [] = refl
 port_nets numbers n (name ∷ names) = ap (λ (l : List FlatNet). (out_port numbers n name).net ∷ l) (port_nets numbers n names)
 
-first_path : (library : LibraryValue) {path : Path} {m : ModelValue} {paths : List Path} → InstanceOrder library path m paths → slice_get paths 0 ≡ Some path
-first_path library (instance inner under z) = ap (λ l. slice_get l 0) z
-
 module _ (library : LibraryValue) (rows : List Instance) (are : AreInstances library rows) (driven : IsDriven library)
     (numbers : List ℕ) (r : IsRegular library numbers) (n : NetsValue) (nets : AreAllNets library rows n) where
   -- an output of the main model is an input too, or driven inside
@@ -41,7 +38,7 @@ module _ (library : LibraryValue) (rows : List Instance) (are : AreInstances lib
   output_driven name i = elim (cases_Bool (is_input r.main name)) [
     | inl t ↦ (input_net name, main_input refl (record { model = r.main; at = r.is_main; is = t }) refl)
     | inr f ↦ (
-        let out : is_output r.main name ≡ true = and_from (not (is_input r.main name)) (has_name r.main.outputs name) (ap not f) (has_member r.main.outputs name i) in
+        let out : is_output r.main name ≡ true = and_from (not (is_input r.main name)) (has_name r.main.outputs name) (ap not f) (in_has r.main.outputs name i) in
         let d = driven.driven [] name (model_output r.main r.is_main out) in
         net_of_driver library driven [] name d.0 d.1)
   ]
@@ -61,7 +58,7 @@ module _ (library : LibraryValue) (rows : List Instance) (are : AreInstances lib
   output_nets ports names e f =
       let all : map (λ (o : OutPort). o.net) ports ≡ regular_nets numbers n 0 r.main.outputs = ap (map (λ (o : OutPort). o.net)) e ∙ port_nets numbers n names ∙ ap (regular_nets numbers n 0) (f ∙ main_outputs) in
       subst (AreNetsOf library (regular_places library r.main r.test (paths_of rows)) [] r.main.outputs) (sym all)
-      (nets_are library numbers r rows n nets 0 [] (first_path library are.order) r.main.outputs output_no_clock)
+      (nets_are library numbers r rows n nets 0 [] (order_first library are.order) r.main.outputs output_no_clock)
 
 -- the names whose marks are off, one by one
 no_marks : (kept names : List (List ℕ)) → unmarked_after kept names [] ≡ kept

@@ -1,5 +1,5 @@
 -- The gates that are listed row by row stand at the places of all instances in flat order.
-use Rattle.std.proofs.Common.{◌≡◌, ℕ, zero, suc, ◌+◌, ◌<◌, ◌≤◌, ◌^◌, Bool, List, [], ◌∷◌, ◌++◌, length, drop, Option, Some, None, refl, sym, ap, ◌∙◌, subst, subst₂, inl, inr, ◌⊎◌, append_assoc, arith}
+use Rattle.std.proofs.Common.{◌≡◌, ℕ, suc, ◌+◌, ◌<◌, ◌≤◌, ◌^◌, Bool, List, [], ◌∷◌, ◌++◌, length, drop, Option, Some, None, refl, sym, ap, ◌∙◌, subst, subst₂, inl, inr, append_assoc, arith}
 use Rattle.std.specs.Prelude.{slice_get}
 use Rattle.std.proofs.lemmas.Bool.{cases_Bool}
 use Rattle.std.proofs.lemmas.List.{length-append, append-nil}
@@ -16,19 +16,11 @@ use Rattle.blif_flat.specs.InstanceOrder.{model_places, places_at}
 use Rattle.blif_flat.specs.InstanceRows.{AreInstances, IsLight, paths_of}
 use Rattle.blif_flat.specs.Gates.{kind_test, IsGateAt, AreGatesAt}
 use Rattle.blif_flat.specs.GateRows.{with_commands, with_model, with_rows}
-use Rattle.blif_flat.proofs.NameSetLemmas.{none_left}
+use Rattle.blif_flat.specs.Weight.{most_weight}
+use Rattle.list_laws.proofs.Places.{drop_past}
+use Rattle.list_laws.proofs.TwoLists.{pushed_pair}
 use Rattle.blif_flat.proofs.InstanceWeightLemmas.{light_commands, light_places}
 use Rattle.blif_flat.proofs.RowModelLemmas.{AreModelsOf, models_rest, models_of}
-
--- two lists of one length, and what stands in both when each has one more
-pushed_pair : {A B : Type 0} (xs : List A) (ys : List B) (x : A) (y : B) (k : ℕ) (a : A) (b : B) → length xs ≡ length ys → slice_get (xs ++ x ∷ []) k ≡ Some a → slice_get (ys ++ y ∷ []) k ≡ Some b
-    → ((slice_get xs k ≡ Some a) × (slice_get ys k ≡ Some b)) ⊎ ((a ≡ x) × (b ≡ y))
-pushed_pair [] [] x y zero a b n e f = inr (sym (same_Some x a e), sym (same_Some y b f))
-pushed_pair [] [] x y (suc k) a b n e f = absurd (none-some a e)
-pushed_pair [] (z ∷ ys) x y k a b n e f = absurd (omega arith)
-pushed_pair (z ∷ xs) [] x y k a b n e f = absurd (omega arith)
-pushed_pair (z ∷ xs) (w ∷ ys) x y zero a b n e f = inl (e, f)
-pushed_pair (z ∷ xs) (w ∷ ys) x y (suc k) a b n e f = let m : suc (length xs) ≡ suc (length ys) = n in pushed_pair xs ys x y k a b (omega arith) e f
 
 module _ (kind : Body → Bool) (paths : List Path) where
   module _ (row : ℕ) (path : Path) (at : slice_get paths row ≡ Some path) where
@@ -82,7 +74,7 @@ module _ (kind : Body → Bool) (paths : List Path) where
 -- behind the last row all gates are listed
 pub all_listed : (models : List ModelValue) (kind : Body → Bool) (rows : List Instance) (row : ℕ) (gates : List Gate) → with_rows models kind row gates (drop row rows) ≡ with_rows models kind 0 [] rows → length rows ≤ row
     → gates ≡ with_rows models kind 0 [] rows
-all_listed models kind rows row gates e h = ap (with_rows models kind row gates) (sym (none_left rows row h)) ∙ e
+all_listed models kind rows row gates e h = ap (with_rows models kind row gates) (sym (drop_past rows row h)) ∙ e
 
 module _ (library : LibraryValue) (rows : List Instance) (are : AreInstances library rows) where
   -- the gates of all rows
@@ -91,11 +83,11 @@ module _ (library : LibraryValue) (rows : List Instance) (are : AreInstances lib
       rows_gates kind (paths_of rows) library 0 rows (paths_of rows) [] [] (models_of library rows are) (λ j p e. subst (λ n. slice_get (paths_of rows) n ≡ Some p) (let z : j ≡ 0 + j = omega arith in z) e)
       (record { count = refl; each = λ k g p e f. absurd (none-some g e) })
 
-  pub few_gates : IsLight library → (kind : GateKind) (gates : List Gate) → gates ≡ with_rows library.models (kind_test kind) 0 [] rows → length gates ≤ 4194304
+  pub few_gates : IsLight library → (kind : GateKind) (gates : List Gate) → gates ≡ with_rows library.models (kind_test kind) 0 [] rows → length gates ≤ most_weight
   few_gates light kind gates is =
       let all : AreGatesAt (paths_of rows) (with_rows library.models (kind_test kind) 0 [] rows) (places_at library (kind_test kind) (paths_of rows)) = all_gates (kind_test kind) in
       let a : length gates ≡ length (places_at library (kind_test kind) (paths_of rows)) = ap length is ∙ all.count in
-      let b : length (places_at library (kind_test kind) (paths_of rows)) ≤ 4194304 = light_places library light kind are.main (paths_of rows) are.first are.order in
+      let b : length (places_at library (kind_test kind) (paths_of rows)) ≤ most_weight = light_places library light kind are.main (paths_of rows) are.first are.order in
       omega arith
 
   -- the commands of a row's model are few
@@ -103,5 +95,5 @@ module _ (library : LibraryValue) (rows : List Instance) (are : AreInstances lib
   row_commands light i row e m at =
       let r = are.each i row e in
       let same : r.model ≡ m = same_Some r.model m (sym r.number ∙ at) in
-      let few : length m.commands ≤ 4194304 = light_commands library light r.path m (r.there ∙ ap Some same) in
+      let few : length m.commands ≤ most_weight = light_commands library light r.path m (r.there ∙ ap Some same) in
       omega arith

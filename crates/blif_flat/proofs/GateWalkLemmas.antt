@@ -1,9 +1,10 @@
 -- Gates one by one: each stands at the next place.
-use Rattle.std.proofs.Common.{◌≡◌, ℕ, ◌+◌, ◌<◌, Bool, true, List, [], ◌∷◌, ◌++◌, length, drop, Some, None, refl, sym, ap, ◌∙◌, subst, arith}
+use Rattle.std.proofs.Common.{◌≡◌, ℕ, ◌<◌, Bool, List, [], ◌++◌, length, Some, None, refl, sym, ap, ◌∙◌, subst, arith}
 use Rattle.std.specs.Prelude.{slice_get}
-use Rattle.std.proofs.lemmas.Option.{none-some, slice_get_within, get_or_from_slice_get}
+use Rattle.std.proofs.lemmas.Option.{none-some, slice_get_within}
+use Rattle.list_laws.proofs.Members.{In-get}
+use Rattle.list_laws.proofs.Places.{at_within}
 use Rattle.blif_read.specs.declared.command.Body.{Body}
-use Rattle.blif_read.specs.declared.command.Body.TheVariants.{Cover, Latch, Subckt}
 use Rattle.blif_read.specs.declared.latch.Latch.{Latch as LatchValue}
 use Rattle.blif_read.specs.CoverValue.{CoverValue}
 use Rattle.blif_read.specs.LibraryValue.{LibraryValue}
@@ -17,16 +18,10 @@ use Rattle.blif_flat.specs.Written.{path_text, IsWritten, of_latch}
 use Rattle.blif_flat.specs.InstanceOrder.{places_at}
 use Rattle.blif_flat.specs.InstanceRows.{AreInstances, paths_of}
 use Rattle.blif_flat.specs.Gates.{IsGateAt, AreGatesAt}
-use Rattle.blif_flat.proofs.NameSetLemmas.{at_within, at_member}
-use Rattle.blif_flat.proofs.DriverStepLemmas.{drop_at}
 use Rattle.blif_flat.proofs.InstanceOrderLemmas.{order_places}
-use Rattle.blif_flat.proofs.KindLemmas.{IsOfKind, flat_only}
+use Rattle.blif_flat.proofs.KindLemmas.{IsOfKind, flat_only, is_cover-some, is_latch-some}
 use Rattle.blif_flat.proofs.NoFaultLemmas.{is_latch_at}
 use Rattle.blif_flat.proofs.GateBodyLemmas.{row_within, latch_at-some}
-
--- the rest of a list at an element
-pub drop_there : {A : Type 0} (xs : List A) (i : ℕ) (x : A) → slice_get xs i ≡ Some x → drop i xs ≡ x ∷ drop (i + 1) xs
-drop_there xs i x e = drop_at xs i x (slice_get_within xs i x e) (sym (get_or_from_slice_get xs i x x e))
 
 module _ (paths : List Path) (gates : List Gate) (places : List Place) (are : AreGatesAt paths gates places) where
   -- the place of a gate
@@ -48,29 +43,19 @@ module _ (paths : List Path) (gates : List Gate) (places : List Place) (are : Ar
 pub gate_within : (rows : List Instance) (gates : List Gate) (places : List Place) → AreGatesAt (paths_of rows) gates places → (k : ℕ) (g : Gate) → slice_get gates k ≡ Some g → g.row < length rows
 gate_within rows gates places are k g e = let h = has_place (paths_of rows) gates places are k g e in row_within rows g.row h.place.path h.is.row
 
-latch_is : (b : Body) → is_latch b ≡ true → (l : LatchValue) × (b ≡ Latch l)
-latch_is (Cover c) e = cc
-latch_is (Latch l) e = (l, refl)
-latch_is (Subckt s) e = cc
-
-cover_is : (b : Body) → is_cover b ≡ true → (c : CoverValue) × (b ≡ Cover c)
-cover_is (Cover c) e = (c, refl)
-cover_is (Latch l) e = cc
-cover_is (Subckt s) e = cc
-
 module _ (library : LibraryValue) (rows : List Instance) (are : AreInstances library rows) where
   pub flat_places : (kind : Body → Bool) → FlatOrder library kind [] are.main (places_at library kind (paths_of rows))
   flat_places kind = order_places library kind are.order are.first
 
   of_kind : (kind : Body → Bool) (k : ℕ) (p : Place) → slice_get (places_at library kind (paths_of rows)) k ≡ Some p → IsOfKind library kind p
-  of_kind kind k p e = flat_only library kind are.main (places_at library kind (paths_of rows)) are.first (flat_places kind) p (at_member (places_at library kind (paths_of rows)) k p e)
+  of_kind kind k p e = flat_only library kind are.main (places_at library kind (paths_of rows)) are.first (flat_places kind) p (In-get (places_at library kind (paths_of rows)) k p e)
 
   -- a latch stands at a place of latches, and a cover at one of covers
   pub latch_place : (k : ℕ) (p : Place) → slice_get (places_at library is_latch (paths_of rows)) k ≡ Some p → (l : LatchValue) × LatchAt library p.path p.command l
-  latch_place k p e = let o = of_kind is_latch k p e in let l = latch_is o.body o.kind_is in (l.0, record { model = o.model; at = o.at; is = o.is ∙ ap Some l.1 })
+  latch_place k p e = let o = of_kind is_latch k p e in let l = is_latch-some o.body o.kind_is in (l.0, record { model = o.model; at = o.at; is = o.is ∙ ap Some l.1 })
 
   pub cover_place : (k : ℕ) (p : Place) → slice_get (places_at library is_cover (paths_of rows)) k ≡ Some p → (c : CoverValue) × CoverAt library p.path p.command c
-  cover_place k p e = let o = of_kind is_cover k p e in let c = cover_is o.body o.kind_is in (c.0, record { model = o.model; at = o.at; is = o.is ∙ ap Some c.1 })
+  cover_place k p e = let o = of_kind is_cover k p e in let c = is_cover-some o.body o.kind_is in (c.0, record { model = o.model; at = o.at; is = o.is ∙ ap Some c.1 })
 
   -- the net of a latch or a cover is written as its output at its instance
   module _ (latches : List Gate) (ats : AreGatesAt (paths_of rows) latches (places_at library is_latch (paths_of rows))) (k : ℕ) (g : Gate) (here : slice_get latches k ≡ Some g)

@@ -1,9 +1,10 @@
 -- The drivers and the reads of an instance are those of its model's commands, and its ports.
-use Rattle.std.proofs.Common.{◌≡◌, ℕ, suc, true, not, List, [], ◌∷◌, Option, Some, None, refl, sym, ap, ap₂, ◌∙◌, subst, inl, inr, ◌⊎◌}
+use Rattle.std.proofs.Common.{◌≡◌, ℕ, true, not, List, [], ◌∷◌, Option, Some, None, refl, sym, ap, ap₂, ◌∙◌, subst, inl, inr, ◌⊎◌}
 use Rattle.std.specs.Prelude.{slice_get}
 use Rattle.std.proofs.lemmas.Bool.{cases_Bool, and_from, and_parts, not_from_false, cond-true, cond-false}
 use Rattle.std.proofs.lemmas.Option.{none-some, same_Some}
-use Rattle.list_words.specs.Members.{In}
+use Rattle.list_laws.specs.Members.{In}
+use Rattle.list_laws.proofs.Members.{In-left, In-right, In-append, In-get, place_in}
 use Rattle.blif_read.specs.declared.command.Body.{Body}
 use Rattle.blif_read.specs.declared.command.Body.TheVariants.{Cover, Latch, Subckt}
 use Rattle.blif_read.specs.declared.command.Command.{Command}
@@ -14,17 +15,10 @@ use Rattle.blif_flat.specs.Models.{Path, body_at, with_subckt, subckts_of, model
 use Rattle.blif_flat.specs.Instances.{LatchAt}
 use Rattle.blif_flat.specs.Drivers.{Driver, by_input, IsDriver, input, latch, cover, output, IsRead, cover_input, latch_input, latch_control, input_actual, model_output}
 use Rattle.blif_flat.specs.DriverFaults.{input_actuals, read_pairs, with_control, reads, all_drives, driven_names}
-use Rattle.blif_flat.proofs.MemberLemmas.{In-left, In-right}
-use Rattle.blif_flat.proofs.NameLemmas.{In-parts, In-get, has_in, in_has, input_in, in_input}
+use Rattle.blif_flat.proofs.NameLemmas.{has_in, in_has, input_in, in_input}
 use Rattle.blif_flat.proofs.PlaceLemmas.{command_of, body_of}
 use Rattle.blif_flat.proofs.TagLemmas.{Tag, tag, tags, tag_names, In-names, names_in, Source, from_cover, from_latch, from_subckt, tag_in, tag_source}
 use Rattle.blif_flat.proofs.RepeatLemmas.{AreNew, new_apart, new_once, IsClean}
-
--- a member stands at a place
-pub place_in : {A : Type 0} (xs : List A) (x : A) → In xs x → (i : ℕ) × (slice_get xs i ≡ Some x)
-place_in [] x i = absurd i
-place_in (y ∷ xs) x (inl e) = (0, ap Some (sym e))
-place_in (y ∷ xs) x (inr i) = let r = place_in xs x i in (suc r.0, r.1)
 
 -- the command of a subcircuit
 pub record CommandOf (commands : List Command) (s : SubcktValue) : Type 0 where
@@ -118,7 +112,7 @@ module _ (library : LibraryValue) (path : Path) (m : ModelValue) (at : model_at 
 
   -- the driven names are those with a driver
   pub name_driver : (name : List ℕ) → In (driven_names library m) name → (driver : Driver) × IsDriver library path name driver
-  name_driver name i = elim (In-parts (inputs_of m) (all_drives library m.commands) name i) [
+  name_driver name i = elim (In-append (inputs_of m) (all_drives library m.commands) name i) [
     | inl j ↦ (by_input, input (record { model = m; at = at }) (in_input m name j) refl)
     | inr j ↦ (let r = names_in own_tags name (subst (λ ns. In ns name) (sym (tag_names library (λ x. x) (λ k. k) m.commands)) j) in
         ((r.tag).driver, subst (λ n. IsDriver library path n (r.tag).driver) r.is (tag_driver r.tag r.member)))

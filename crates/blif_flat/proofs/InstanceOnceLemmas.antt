@@ -1,19 +1,19 @@
 -- Each instance stands once in flat order.
 use Rattle.std.proofs.Common.{◌≡◌, ℕ, suc, ◌+◌, ◌≤◌, List, [], ◌∷◌, ◌++◌, length, refl, sym, ap, ◌∙◌, subst, inl, inr, append_assoc, arith}
 use Rattle.std.proofs.lemmas.List.{length-append}
-use Rattle.list_words.specs.Members.{In}
+use Rattle.list_laws.specs.Members.{In}
+use Rattle.list_laws.proofs.Members.{In-append}
 use Rattle.blif_read.specs.Once.{AreOnce}
 use Rattle.blif_read.specs.SubcktValue.{SubcktValue}
 use Rattle.blif_read.specs.LibraryValue.{ModelValue, LibraryValue}
 use Rattle.blif_flat.specs.Models.{Path}
 use Rattle.blif_flat.specs.InstanceOrder.{InstanceOrder, instance, InstancesUnder, none, more}
-use Rattle.blif_flat.proofs.InstanceOrderLemmas.{member_parts}
 
 -- lists apart, in which none stands twice
 joined_once : (xs ys : List Path) → AreOnce xs → AreOnce ys → ((p : Path) → In xs p → In ys p → ⊥) → AreOnce (xs ++ ys)
 joined_once [] ys a b apart = b
 joined_once (x ∷ xs) ys a b apart = (
-  λ (i : In (xs ++ ys) x). elim (member_parts xs ys x i) [ inl j ↦ a.0 j | inr j ↦ apart x (inl refl) j ],
+  λ (i : In (xs ++ ys) x). elim (In-append xs ys x i) [ inl j ↦ a.0 j | inr j ↦ apart x (inl refl) j ],
   joined_once xs ys a.1 b (λ p i j. apart p (inr i) j),
 )
 
@@ -69,7 +69,7 @@ module _ (library : LibraryValue) where
 
     under_below : {path : Path} {k : ℕ} {subckts : List SubcktValue} {paths : List Path} → InstancesUnder library path k subckts paths → (p : Path) → In paths p → IsBelow path k p
     under_below (none a b) p i = absurd (subst (λ l. In l p) b i)
-    under_below {path} {k} (more s rest child these others e named order under z) p i = elim (member_parts these others p (subst (λ l. In l p) z i)) [
+    under_below {path} {k} (more s rest child these others e named order under z) p i = elim (In-append these others p (subst (λ l. In l p) z i)) [
       | inl j ↦ (let w = order_within order p j in record { inner = w.inner; ordinal = k; from = omega arith; is = w.is })
       | inr j ↦ (let b = under_below under p j in let from : suc k ≤ b.ordinal = b.from in record { inner = b.inner; ordinal = b.ordinal; from = omega arith; is = b.is })
     ]

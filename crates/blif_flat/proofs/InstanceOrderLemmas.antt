@@ -1,9 +1,10 @@
 -- The instances in flat order: each instance once its hierarchy ends has one order, all instances within it stand there, and their own places in turn are in flat order.
-use Rattle.std.proofs.Common.{◌≡◌, ℕ, zero, suc, ◌+◌, Bool, List, [], ◌∷◌, ◌++◌, Some, refl, sym, ap, ap₂, ◌∙◌, subst, subst₂, inl, inr, ◌⊎◌, append_assoc, arith}
+use Rattle.std.proofs.Common.{◌≡◌, ℕ, zero, suc, ◌+◌, Bool, List, [], ◌∷◌, ◌++◌, Some, refl, sym, ap, ap₂, ◌∙◌, subst, subst₂, inl, inr, append_assoc, arith}
 use Rattle.std.specs.Prelude.{slice_get}
 use Rattle.std.specs.Option.{option_and_then}
 use Rattle.std.proofs.lemmas.Option.{none-some, same_Some}
-use Rattle.list_words.specs.Members.{In}
+use Rattle.list_laws.specs.Members.{In}
+use Rattle.list_laws.proofs.Members.{In-left, In-right, In-append}
 use Rattle.blif_read.specs.declared.command.Body.{Body}
 use Rattle.blif_read.specs.SubcktValue.{SubcktValue}
 use Rattle.blif_read.specs.LibraryValue.{ModelValue, LibraryValue}
@@ -11,19 +12,8 @@ use Rattle.blif_flat.specs.Models.{Path, subckts_of, model_named, placed, model_
 use Rattle.blif_flat.specs.Drivers.{Ends, ends}
 use Rattle.blif_flat.specs.Places.{FlatOrder, flat, FlatUnder, none as flat_none, more as flat_more}
 use Rattle.blif_flat.specs.InstanceOrder.{InstanceOrder, instance, InstancesUnder, none, more, model_places, places_at}
-use Rattle.blif_flat.proofs.MemberLemmas.{In-left, In-right}
 use Rattle.blif_flat.proofs.PlaceLemmas.{placed-is, inside}
-
-same_first : {A : Type 0} (x y : A) (xs ys : List A) → x ∷ xs ≡ y ∷ ys → x ≡ y
-same_first x y xs ys e = cc
-
-same_rest : {A : Type 0} (x y : A) (xs ys : List A) → x ∷ xs ≡ y ∷ ys → xs ≡ ys
-same_rest x y xs ys e = cc
-
-pub member_parts : {A : Type 0} (xs ys : List A) (x : A) → In (xs ++ ys) x → In xs x ⊎ In ys x
-member_parts [] ys x h = inr h
-member_parts (y ∷ xs) ys x (inl e) = inl (inl e)
-member_parts (y ∷ xs) ys x (inr i) = elim (member_parts xs ys x i) [ inl a ↦ inl (inr a) | inr b ↦ inr b ]
+use Rattle.blif_flat.proofs.ConsLemmas.{cons_first, cons_rest}
 
 -- the subcircuits from number k on are those of the model there
 pub record AreFrom (m : ModelValue) (k : ℕ) (subckts : List SubcktValue) : Type 0 where
@@ -80,8 +70,8 @@ module _ (library : LibraryValue) where
     under_same path k ss ts ps qs e (more s rest child these others f named order under z) (none a b) = let x : s ∷ rest ≡ [] = sym f ∙ e ∙ a in cc
     under_same path k ss ts ps qs e (more s rest child these others f named order under z) (more s' rest' child' these' others' f' named' order' under' z') =
         let x : s ∷ rest ≡ s' ∷ rest' = sym f ∙ e ∙ f' in
-        let p : these ≡ these' = order_same (k ∷ path) child child' these these' (same_child s s' child child' (same_first s s' rest rest' x) named named') order order' in
-        let q : others ≡ others' = under_same path (suc k) rest rest' others others' (same_rest s s' rest rest' x) under under' in
+        let p : these ≡ these' = order_same (k ∷ path) child child' these these' (same_child s s' child child' (cons_first s s' rest rest' x) named named') order order' in
+        let q : others ≡ others' = under_same path (suc k) rest rest' others others' (cons_rest s s' rest rest' x) under under' in
         z ∙ ap₂ (λ (a b : List Path). a ++ b) p q ∙ sym z'
 
   pub order_once : (path : Path) (m : ModelValue) (ps qs : List Path) → InstanceOrder library path m ps → InstanceOrder library path m qs → ps ≡ qs
@@ -101,7 +91,7 @@ module _ (library : LibraryValue) where
     under_known : {path : Path} {k : ℕ} {subckts : List SubcktValue} {paths : List Path} → InstancesUnder library path k subckts paths → (m : ModelValue) → model_at library path ≡ Some m → AreFrom m k subckts
         → (p : Path) → In paths p → IsInstance p
     under_known (none a b) m at h p i = absurd (subst (λ l. In l p) b i)
-    under_known {path} {k} {subckts} (more s rest child these others e named order under z) m at h p i = elim (member_parts these others p (subst (λ l. In l p) z i)) [
+    under_known {path} {k} {subckts} (more s rest child these others e named order under z) m at h p i = elim (In-append these others p (subst (λ l. In l p) z i)) [
       | inl j ↦ order_known order (placed_at path m k s child at (from_first m k subckts s rest h e) named) p j
       | inr j ↦ under_known under m at (from_rest m k subckts s rest h e) p j
     ]
@@ -169,3 +159,7 @@ module _ (library : LibraryValue) where
       let here : placed library k m ≡ Some c.0 = placed-is library m k s e ∙ c.1 in
       (c.0, c.1, order_exists known c.0 (t k c.0 here) (k ∷ path) (placed_at path m k s c.0 at e c.1))) 0 (subckts_of m.commands) (from_start m) in
       (path ∷ r.0, instance r.0 r.1 refl)
+
+-- the first instance is the main model's own
+pub order_first : (library : LibraryValue) {path : Path} {m : ModelValue} {paths : List Path} → InstanceOrder library path m paths → slice_get paths 0 ≡ Some path
+order_first library (instance inner under e) = ap (λ (l : List Path). slice_get l 0) e

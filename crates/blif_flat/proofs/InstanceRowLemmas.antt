@@ -1,9 +1,10 @@
 -- The rows of instances: those that wait are put behind the others one by one, and in the end they are all instances in flat order.
-use Rattle.std.proofs.Common.{◌≡◌, ℕ, zero, suc, ◌+◌, ◌<◌, ◌≤◌, List, [], ◌∷◌, ◌++◌, length, min, Option, Some, None, refl, sym, ap, ◌∙◌, subst, inl, inr, ◌⊎◌, append_assoc, reverse, arith}
+use Rattle.std.proofs.Common.{◌≡◌, ℕ, suc, ◌+◌, ◌<◌, ◌≤◌, List, [], ◌∷◌, ◌++◌, length, min, Option, Some, None, refl, sym, ap, ◌∙◌, subst, inl, inr, append_assoc, reverse, arith}
 use Rattle.std.specs.Prelude.{slice_get}
 use Rattle.std.specs.Option.{option_and_then}
 use Rattle.std.proofs.lemmas.List.{length-append, append-nil, reverse-append, reverse-reverse}
 use Rattle.std.proofs.lemmas.Option.{none-some, same_Some, slice_get_within}
+use Rattle.list_laws.proofs.Places.{get_before, get_end, get_pushed}
 use Rattle.tl_text.specs.NameIndex.{place_of}
 use Rattle.blif_read.specs.declared.command.Body.{Body}
 use Rattle.blif_read.specs.declared.command.Body.TheVariants.{Cover, Latch, Subckt}
@@ -13,33 +14,12 @@ use Rattle.blif_read.specs.LibraryValue.{ModelValue, LibraryValue}
 use Rattle.blif_flat.specs.declared.instances.Instance.{Instance}
 use Rattle.blif_flat.specs.Models.{Path, subckts_of, with_subckt, model_named, model_at}
 use Rattle.blif_flat.specs.NameSets.{model_names, Finds}
-use Rattle.blif_flat.specs.Weight.{own_weight, Weighs, weighs, WeighAll, none as weigh_none, more as weigh_more}
+use Rattle.blif_flat.specs.Weight.{most_weight, own_weight, Weighs, weighs, WeighAll, none as weigh_none, more as weigh_more}
 use Rattle.blif_flat.specs.InstanceOrder.{InstanceOrder, instance, InstancesUnder, none as under_none, more as under_more}
 use Rattle.blif_flat.specs.InstanceRows.{path_under, path_of, paths_from, paths_of, IsRow, AreInstances, IsLight, number_or_zero, entry_of, with_entry, entries_from, entries_at, IsWaiting, Waits, none, more, Listed}
 use Rattle.blif_flat.proofs.NameSetLemmas.{finds}
 use Rattle.blif_flat.proofs.InstanceOrderLemmas.{AreFrom, from_start, from_first, from_rest, placed_at}
-
-same_first : {A : Type 0} (x y : A) (xs ys : List A) → x ∷ xs ≡ y ∷ ys → x ≡ y
-same_first x y xs ys e = cc
-
-same_rest : {A : Type 0} (x y : A) (xs ys : List A) → x ∷ xs ≡ y ∷ ys → xs ≡ ys
-same_rest x y xs ys e = cc
-
--- what stands in a list before more, and behind it
-get_before : {A : Type 0} (xs ys : List A) (i : ℕ) → i < length xs → slice_get (xs ++ ys) i ≡ slice_get xs i
-get_before [] ys i h = absurd (omega arith)
-get_before (x ∷ xs) ys zero h = refl
-get_before (x ∷ xs) ys (suc i) h = get_before xs ys i (omega arith)
-
-get_end : {A : Type 0} (xs : List A) (y : A) (ys : List A) → slice_get (xs ++ y ∷ ys) (length xs) ≡ Some y
-get_end [] y ys = refl
-get_end (x ∷ xs) y ys = get_end xs y ys
-
-get_pushed : {A : Type 0} (xs : List A) (y : A) (i : ℕ) (x : A) → slice_get (xs ++ y ∷ []) i ≡ Some x → (slice_get xs i ≡ Some x) ⊎ ((i ≡ length xs) × (x ≡ y))
-get_pushed [] y zero x e = inr (refl, sym (same_Some y x e))
-get_pushed [] y (suc i) x e = absurd (none-some x e)
-get_pushed (z ∷ xs) y zero x e = inl e
-get_pushed (z ∷ xs) y (suc i) x e = elim (get_pushed xs y i x e) [ inl a ↦ inl a | inr a ↦ inr (ap suc a.0, a.1) ]
+use Rattle.blif_flat.proofs.ConsLemmas.{cons_first, cons_rest}
 
 -- the rows of the subcircuits of some commands
 body_entries : (names : List (List ℕ)) (parent k : ℕ) (entries : List Instance) (body : Body) (ss : List SubcktValue) → k ≡ length entries
@@ -182,7 +162,7 @@ module _ (library : LibraryValue) where
   next made row rest p (none a b) = let x : row ∷ rest ≡ [] = sym p ∙ a in cc
   next made row rest p (more row' rest' m these others e w order waits z) =
       let x : row' ∷ rest' ≡ row ∷ rest = sym e ∙ p in
-      let same : row' ≡ row = same_first row' row rest' rest x in
+      let same : row' ≡ row = cons_first row' row rest' rest x in
       let parts = order_parts order in
       record {
         model = m;
@@ -190,7 +170,7 @@ module _ (library : LibraryValue) where
         inner = parts.0;
         under = subst (λ r. InstancesUnder library (path_of made r) 0 (subckts_of m.commands) parts.0) same parts.1;
         others = others;
-        waits = subst (λ l. Waits library made l others) (same_rest row' row rest' rest x) waits;
+        waits = subst (λ l. Waits library made l others) (cons_rest row' row rest' rest x) waits;
         split = z ∙ ap (λ l. l ++ others) (parts.2 ∙ ap (λ r. path_of made r ∷ parts.0) same);
       }
 
@@ -198,14 +178,14 @@ module _ (library : LibraryValue) where
   pub record IsNext (rows : List Instance) (row : Instance) : Type 0 where
     pub model : ModelValue
     pub number : slice_get library.models row.model ≡ Some model
-    pub room : length rows < 4194304
-    pub few : length (subckts_of model.commands) ≤ 4194304
+    pub room : length rows < most_weight
+    pub few : length (subckts_of model.commands) ≤ most_weight
 
   pub next_known : (rows : List Instance) (row : Instance) (rest : List Instance) → Listed library rows (row ∷ rest) → IsNext rows row
   next_known rows row rest l =
       let made : List Path = paths_of rows in
       let n : Next made row rest l.rest = next made row rest refl l.waits in
-      let a : length (made ++ l.rest) ≤ 4194304 = l.few in
+      let a : length (made ++ l.rest) ≤ most_weight = l.few in
       let b : length (made ++ l.rest) ≡ length made + length l.rest = length-append made l.rest in
       let c : length l.rest ≡ suc (length (n.inner ++ n.others)) = ap length n.split in
       let d : length (n.inner ++ n.others) ≡ length n.inner + length n.others = length-append n.inner n.others in
@@ -253,11 +233,11 @@ module _ (library : LibraryValue) where
         first = l.first;
         rest = n.inner ++ n.others;
         order = subst (λ x. InstanceOrder library [] l.main x) full_now l.order;
-        few = subst (λ x. length x ≤ 4194304) full_now l.few;
+        few = subst (λ x. length x ≤ most_weight) full_now l.few;
         waits = subst (λ x. Waits library x (entries_at names (length rows) 0 (subckts_of m.commands) ++ rest) (n.inner ++ n.others)) grown waits_now;
         each = λ i r e. subst (λ x. IsRow library x i r) grown (elim (get_pushed rows row i r e) [
           | inl a ↦ row_stays made (path ∷ []) i r (l.each i r a)
-          | inr a ↦ subst (λ j. IsRow library (made ++ path ∷ []) j r) (count ∙ sym a.0) (subst (λ x. IsRow library (made ++ path ∷ []) (length made) x) (sym a.1) (row_new made row n.model n.waiting))
+          | inr a ↦ subst (λ j. IsRow library (made ++ path ∷ []) j r) (count ∙ sym a.0) (subst (λ x. IsRow library (made ++ path ∷ []) (length made) x) a.1 (row_new made row n.model n.waiting))
         ]);
       }
 
@@ -266,7 +246,7 @@ module _ (library : LibraryValue) where
   listed_start h =
       let r : HasFew [] h.main h.weight = order_weighed h.weighs [] in
       let few : length r.paths ≤ h.weight = r.few in
-      let light : h.weight ≤ 4194304 = h.light in
+      let light : h.weight ≤ most_weight = h.light in
       record {
         main = h.main;
         first = h.first;
@@ -285,7 +265,7 @@ module _ (library : LibraryValue) where
   pub listed_all : (rows : List Instance) → Listed library rows [] → AreInstances library rows
   listed_all rows l =
       let full : paths_of rows ++ l.rest ≡ paths_of rows = ap (λ x. paths_of rows ++ x) (nothing_waits refl l.waits) ∙ append-nil (paths_of rows) in
-      let few : length (paths_of rows) ≤ 4194304 = subst (λ x. length x ≤ 4194304) full l.few in
+      let few : length (paths_of rows) ≤ most_weight = subst (λ x. length x ≤ most_weight) full l.few in
       let e : length (paths_of rows) ≡ length rows = paths_of-length rows in
       record { main = l.main; first = l.first; order = subst (λ x. InstanceOrder library [] l.main x) full l.order; each = l.each; few = omega arith }
 
@@ -318,5 +298,5 @@ module _ (library : LibraryValue) where
       subst (λ x. Listed library x (reverse stack)) (sym r) (subst (λ x. Listed library [] x) (sym now) (listed_start h))
 
   -- a main model whose kept weight is at most 2^22
-  pub light_kept : (main : ModelValue) (w kept : ℕ) → model_at library [] ≡ Some main → Weighs library main w → kept ≡ min w 4194305 → kept ≤ 4194304 → IsLight library
+  pub light_kept : (main : ModelValue) (w kept : ℕ) → model_at library [] ≡ Some main → Weighs library main w → kept ≡ min w (most_weight + 1) → kept ≤ most_weight → IsLight library
   light_kept main w kept first h is light = record { main = main; first = first; weight = w; weighs = h; light = omega arith }

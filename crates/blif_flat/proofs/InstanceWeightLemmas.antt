@@ -14,7 +14,7 @@ use Rattle.blif_flat.specs.declared.gates.GateKind.TheVariants.{Cover, Latch, Ei
 use Rattle.blif_flat.specs.Models.{Path, subckts_of, with_subckt, model_named, model_at}
 use Rattle.blif_flat.specs.Places.{own_places}
 use Rattle.blif_flat.specs.Gates.{kind_test}
-use Rattle.blif_flat.specs.Weight.{body_weight, commands_weight, own_weight, Weighs, weighs, WeighAll, none as weigh_none, more as weigh_more}
+use Rattle.blif_flat.specs.Weight.{most_weight, body_weight, commands_weight, own_weight, Weighs, weighs, WeighAll, none as weigh_none, more as weigh_more}
 use Rattle.blif_flat.specs.InstanceOrder.{InstanceOrder, instance, InstancesUnder, none, more, model_places, places_at}
 use Rattle.blif_flat.specs.InstanceRows.{IsLight}
 use Rattle.blif_flat.proofs.ConsLemmas.{not_empty, same_first, same_rest}
@@ -39,7 +39,7 @@ gate_weighs Cover (SubcktBody s) t = absurd (both_ways false refl t)
 gate_weighs Latch (SubcktBody s) t = absurd (both_ways false refl t)
 gate_weighs Either (SubcktBody s) t = absurd (both_ways false refl t)
 
-own_few : (kind : GateKind) (path : Path) (i : ℕ) (cs : List Command) → length (own_places (kind_test kind) path i cs) ≤ commands_weight cs
+pub own_few : (kind : GateKind) (path : Path) (i : ℕ) (cs : List Command) → length (own_places (kind_test kind) path i cs) ≤ commands_weight cs
 own_few kind path i [] = omega arith
 own_few kind path i (c ∷ cs) =
     let rest : length (own_places (kind_test kind) path (suc i) cs) ≤ commands_weight cs = own_few kind path (suc i) cs in
@@ -109,10 +109,10 @@ module _ (library : LibraryValue) where
       omega arith
 
   -- the model of an instance weighs no more than the main model
-  record IsWithin (m : ModelValue) (most : ℕ) : Type 0 where
-    weight : ℕ
-    weighs : Weighs library m weight
-    within : weight ≤ most
+  pub record IsWithin (m : ModelValue) (most : ℕ) : Type 0 where
+    pub weight : ℕ
+    pub weighs : Weighs library m weight
+    pub within : weight ≤ most
 
   subckt_within : {subckts : List SubcktValue} {w : ℕ} → WeighAll library subckts w → (k : ℕ) (s : SubcktValue) (child : ModelValue) → slice_get subckts k ≡ Some s → model_named library.models s.model ≡ Some child → IsWithin child w
   subckt_within (weigh_none a b) k s child e named = absurd (none-some s (sym (ap (λ l. slice_get l k) a) ∙ e))
@@ -131,7 +131,7 @@ module _ (library : LibraryValue) where
       let h : r.weight ≤ inner = r.within in
       record { weight = r.weight; weighs = r.weighs; within = omega arith }
 
-  instance_within : (main : ModelValue) (w : ℕ) → model_at library [] ≡ Some main → Weighs library main w → (path : Path) (m : ModelValue) → model_at library path ≡ Some m → IsWithin m w
+  pub instance_within : (main : ModelValue) (w : ℕ) → model_at library [] ≡ Some main → Weighs library main w → (path : Path) (m : ModelValue) → model_at library path ≡ Some m → IsWithin m w
   instance_within main w first h [] m e = record { weight = w; weighs = subst (λ x. Weighs library x w) (same_Some main m (sym first ∙ e)) h; within = omega arith }
   instance_within main w first h (k ∷ outer) m e =
       let u = inside library outer k m e in
@@ -142,20 +142,20 @@ module _ (library : LibraryValue) where
       record { weight = q.weight; weighs = q.weighs; within = omega arith }
 
   -- so the commands of an instance's model are few
-  pub light_commands : IsLight library → (path : Path) (m : ModelValue) → model_at library path ≡ Some m → length m.commands ≤ 4194304
+  pub light_commands : IsLight library → (path : Path) (m : ModelValue) → model_at library path ≡ Some m → length m.commands ≤ most_weight
   light_commands light path m e =
       let r = instance_within light.main light.weight light.first light.weighs path m e in
       let a : length m.commands ≤ r.weight = commands_few r.weighs in
       let b : r.weight ≤ light.weight = r.within in
-      let c : light.weight ≤ 4194304 = light.light in
+      let c : light.weight ≤ most_weight = light.light in
       omega arith
 
   -- and what all instances hold is little
-  pub light_held : IsLight library → (main : ModelValue) (paths : List Path) → model_at library [] ≡ Some main → InstanceOrder library [] main paths → held_by library paths ≤ 4194304
+  pub light_held : IsLight library → (main : ModelValue) (paths : List Path) → model_at library [] ≡ Some main → InstanceOrder library [] main paths → held_by library paths ≤ most_weight
   light_held light main paths first order =
       let twin : light.main ≡ main = same_Some light.main main (sym light.first ∙ first) in
       let e : held_by library paths ≡ light.weight = order_weight order first (subst (λ x. Weighs library x light.weight) twin light.weighs) in
-      let c : light.weight ≤ 4194304 = light.light in
+      let c : light.weight ≤ most_weight = light.light in
       omega arith
 
   model_few : (kind : GateKind) (path : Path) (o : Option ModelValue) → length (model_places (kind_test kind) path o) ≤ held o
@@ -171,8 +171,8 @@ module _ (library : LibraryValue) where
       length-append (model_places (kind_test kind) path (model_at library path)) (places_at library (kind_test kind) paths) in
       omega arith
 
-  pub light_places : IsLight library → (kind : GateKind) (main : ModelValue) (paths : List Path) → model_at library [] ≡ Some main → InstanceOrder library [] main paths → length (places_at library (kind_test kind) paths) ≤ 4194304
+  pub light_places : IsLight library → (kind : GateKind) (main : ModelValue) (paths : List Path) → model_at library [] ≡ Some main → InstanceOrder library [] main paths → length (places_at library (kind_test kind) paths) ≤ most_weight
   light_places light kind main paths first order =
       let a : length (places_at library (kind_test kind) paths) ≤ held_by library paths = places_few kind paths in
-      let b : held_by library paths ≤ 4194304 = light_held light main paths first order in
+      let b : held_by library paths ≤ most_weight = light_held light main paths first order in
       omega arith

@@ -1,21 +1,31 @@
 -- What stands in flat order: commands of the kind, at their places.
-use Rattle.std.proofs.Common.{◌≡◌, ℕ, suc, ◌+◌, Bool, true, List, [], ◌∷◌, ◌++◌, Some, refl, sym, ap, ◌∙◌, subst, inl, inr, ◌⊎◌, arith}
+use Rattle.std.proofs.Common.{◌≡◌, ℕ, suc, ◌+◌, Bool, true, List, [], ◌∷◌, Some, refl, sym, ap, ◌∙◌, subst, inl, inr, arith}
 use Rattle.std.specs.Prelude.{slice_get}
 use Rattle.std.specs.Option.{option_and_then}
-use Rattle.list_words.specs.Members.{In}
-use Rattle.list_words.proofs.Choice.{choose}
+use Rattle.list_laws.specs.Members.{In}
+use Rattle.list_laws.proofs.Choice.{choose}
+use Rattle.list_laws.proofs.Members.{In-append}
 use Rattle.blif_read.specs.declared.command.Body.{Body}
+use Rattle.blif_read.specs.declared.command.Body.TheVariants.{Cover, Latch, Subckt}
 use Rattle.blif_read.specs.declared.command.Command.{Command}
+use Rattle.blif_read.specs.declared.latch.Latch.{Latch as LatchValue}
+use Rattle.blif_read.specs.CoverValue.{CoverValue}
 use Rattle.blif_read.specs.SubcktValue.{SubcktValue}
 use Rattle.blif_read.specs.LibraryValue.{ModelValue, LibraryValue}
 use Rattle.blif_flat.specs.Models.{Path, body_at, subckts_of, placed, model_at}
-use Rattle.blif_flat.specs.Places.{Place, own_places, FlatOrder, flat, FlatUnder, none, more}
+use Rattle.blif_flat.specs.Places.{Place, is_cover, is_latch, own_places, FlatOrder, flat, FlatUnder, none, more}
 use Rattle.blif_flat.proofs.PlaceLemmas.{place_of, body_of, placed-is}
 
-pub In-either : {A : Type 0} (xs ys : List A) (x : A) → In (xs ++ ys) x → In xs x ⊎ In ys x
-In-either [] ys x i = inr i
-In-either (y ∷ xs) ys x (inl e) = inl (inl e)
-In-either (y ∷ xs) ys x (inr i) = elim (In-either xs ys x i) [ inl j ↦ inl (inr j) | inr j ↦ inr j ]
+-- what a body of a kind is
+pub is_cover-some : (b : Body) → is_cover b ≡ true → (c : CoverValue) × (b ≡ Cover c)
+is_cover-some (Cover c) t = (c, refl)
+is_cover-some (Latch l) t = absurd (cc)
+is_cover-some (Subckt s) t = absurd (cc)
+
+pub is_latch-some : (b : Body) → is_latch b ≡ true → (l : LatchValue) × (b ≡ Latch l)
+is_latch-some (Cover c) t = absurd (cc)
+is_latch-some (Latch l) t = (l, refl)
+is_latch-some (Subckt s) t = absurd (cc)
 
 module _ (library : LibraryValue) (kind : Body → Bool) where
   -- a command of the kind stands at a place
@@ -39,7 +49,7 @@ module _ (library : LibraryValue) (kind : Body → Bool) where
 
   mutual
     order_only : {path : Path} {m : ModelValue} {places : List Place} → FlatOrder library kind path m places → model_at library path ≡ Some m → (p : Place) → In places p → IsOfKind p
-    order_only {path} {m} (flat inner u z) at p i = elim (In-either (own_places kind path 0 m.commands) inner p (subst (λ l. In l p) z i)) as (λ _. IsOfKind p) [
+    order_only {path} {m} (flat inner u z) at p i = elim (In-append (own_places kind path 0 m.commands) inner p (subst (λ l. In l p) z i)) as (λ _. IsOfKind p) [
       | inl j ↦ own_only path m at 0 m.commands (λ k c q. subst (λ n. slice_get m.commands n ≡ Some c) (let y : k ≡ 0 + k = omega arith in y) q) p j
       | inr j ↦ under_only u m at (λ k s q. subst (λ n. slice_get (subckts_of m.commands) n ≡ Some s) (let y : k ≡ 0 + k = omega arith in y) q) p j
     ]
@@ -51,7 +61,7 @@ module _ (library : LibraryValue) (kind : Body → Bool) where
         let here : slice_get (subckts_of m.commands) k ≡ Some s = subst (λ n. slice_get (subckts_of m.commands) n ≡ Some s) (let y : k + 0 ≡ k = omega arith in y)
         (h 0 s (subst (λ l. slice_get l 0 ≡ Some s) (sym a) refl)) in
         let there : model_at library (k ∷ path) ≡ Some child = ap (option_and_then (placed library k)) at ∙ placed-is library m k s here ∙ b in
-        elim (In-either these others p (subst (λ l. In l p) z i)) as (λ _. IsOfKind p) [
+        elim (In-append these others p (subst (λ l. In l p) z i)) as (λ _. IsOfKind p) [
           | inl j ↦ order_only w there p j
           | inr j ↦ under_only u m at (λ n t q. subst (λ x. slice_get (subckts_of m.commands) x ≡ Some t) (let y : k + suc n ≡ suc k + n = omega arith in y)
               (h (suc n) t (subst (λ l. slice_get l (suc n) ≡ Some t) (sym a) q))) p j

@@ -1,6 +1,5 @@
 pub mod FindLemmas
 pub mod ConsLemmas
-pub mod MemberLemmas
 pub mod PlaceLemmas
 pub mod DriverLemmas
 pub mod NetLemmas
@@ -16,7 +15,6 @@ pub mod ForwardLemmas
 pub mod FitLemmas
 pub mod RegularLemmas
 pub mod NumberLemmas
-pub mod SetLemmas
 pub mod EvaluateLemmas
 pub mod NameLemmas
 pub mod LineFaultLemmas
@@ -34,7 +32,11 @@ pub mod DataLemmas
 pub mod SameNetLemmas
 pub mod MeetLemmas
 pub mod KindLemmas
+pub mod ListGeneral
+pub mod DependLemmas
 pub mod LoopLemmas
+pub mod LoopFreeLemmas
+pub mod OrderedLemmas
 pub mod SoundLemmas
 pub mod NoFaultLemmas
 pub mod CycleLemmas
@@ -92,4 +94,9 @@ pub mod FlatGateLemmas
 pub mod FlatPortLemmas
 pub mod LoopOrderLemmas
 pub mod SmallLemmas
+pub mod FewLemmas
+pub mod BoundLemmas
 mod Examples
+mod FlatExamples
+mod LoopExamples
+mod RunExamples

@@ -1,30 +1,21 @@
 -- What the refusals of a `.subckt` line say: F1 to F4 of it don't stand, or one does.
-use Rattle.std.proofs.Common.{◌≡◌, ℕ, Bool, true, false, ◌||◌, cond, List, [], ◌∷◌, Option, Some, None, refl, sym, ap, ◌∙◌, subst, inl, inr, ◌⊎◌, bytes_eq}
+use Rattle.std.proofs.Common.{◌≡◌, ℕ, true, false, ◌||◌, List, [], ◌∷◌, Option, Some, None, refl, sym, ap, ◌∙◌, subst, inl, inr, ◌⊎◌, bytes_eq}
 use Rattle.std.specs.Prelude.{IsTrue, not}
 use Rattle.std.proofs.lemmas.Bool.{both_ways, cases_Bool, or_cases, or_left, or_right, and_from, not_from_false, false≢true}
-use Rattle.std.proofs.lemmas.Option.{none-some}
 use lib.Pointwise.{bytes_decides}
-use Rattle.list_words.specs.Members.{In}
+use Rattle.list_laws.specs.Members.{In}
+use Rattle.list_laws.proofs.Choice.{none_else, none_both}
 use Rattle.blif_read.specs.declared.subckt.Pair.{Pair}
 use Rattle.blif_read.specs.LibraryValue.{ModelValue, LibraryValue}
 use Rattle.blif_flat.specs.Models.{model_named, has_name, is_input, is_output, inputs_of}
 use Rattle.blif_flat.specs.Walk.{SubcktLine, unknown_formal, is_connected, open_input, input_fault, formal_fault, placed_fault, line_fault}
 
--- the outcome of a test that chooses between something and an option that isn't there
-pub cond_none : {A : Type 0} (b : Bool) (x : A) (o : Option A) → cond b o (Some x) ≡ None → (b ≡ true) × (o ≡ None)
-cond_none true x o e = (refl, e)
-cond_none false x o e = absurd (none-some x (sym e))
-
-pub none_cond : {A : Type 0} (b : Bool) (x : A) (o : Option A) → cond b (Some x) o ≡ None → (b ≡ false) × (o ≡ None)
-none_cond true x o e = absurd (none-some x (sym e))
-none_cond false x o e = (refl, e)
-
 -- each formal of a connection is an input or an output
 pub formal_known : (child : ModelValue) (pairs : List Pair) → unknown_formal child pairs ≡ None → (pair : Pair) → In pairs pair → (is_input child pair.formal || has_name child.outputs pair.formal) ≡ true
 formal_known child [] e pair i = absurd i
 formal_known child (p ∷ pairs) e pair (inl q) = subst (λ (y : Pair). (is_input child y.formal || has_name child.outputs y.formal) ≡ true) (sym q)
-    (cond_none (is_input child p.formal || has_name child.outputs p.formal) p.formal (unknown_formal child pairs) e).0
-formal_known child (p ∷ pairs) e pair (inr i) = formal_known child pairs (cond_none (is_input child p.formal || has_name child.outputs p.formal) p.formal (unknown_formal child pairs) e).1 pair i
+    (none_else (is_input child p.formal || has_name child.outputs p.formal) p.formal (unknown_formal child pairs) e).0
+formal_known child (p ∷ pairs) e pair (inr i) = formal_known child pairs (none_else (is_input child p.formal || has_name child.outputs p.formal) p.formal (unknown_formal child pairs) e).1 pair i
 
 pub formal_is : (child : ModelValue) (pairs : List Pair) → unknown_formal child pairs ≡ None → (pair : Pair) → In pairs pair → IsTrue (is_input child pair.formal) ⊎ IsTrue (is_output child pair.formal)
 formal_is child pairs e pair i = elim (cases_Bool (is_input child pair.formal)) [
@@ -53,8 +44,8 @@ in_connected (p ∷ pairs) name pair (inr i) e = or_right (bytes_eq name p.forma
 
 pub input_connected : (pairs : List Pair) (names : List (List ℕ)) → open_input pairs names ≡ None → (name : List ℕ) → In names name → Connected pairs name
 input_connected pairs [] e name i = absurd i
-input_connected pairs (n ∷ names) e name (inl q) = subst (Connected pairs) (sym q) (connected_in pairs n (cond_none (is_connected pairs n) n (open_input pairs names) e).0)
-input_connected pairs (n ∷ names) e name (inr i) = input_connected pairs names (cond_none (is_connected pairs n) n (open_input pairs names) e).1 name i
+input_connected pairs (n ∷ names) e name (inl q) = subst (Connected pairs) (sym q) (connected_in pairs n (none_else (is_connected pairs n) n (open_input pairs names) e).0)
+input_connected pairs (n ∷ names) e name (inr i) = input_connected pairs names (none_else (is_connected pairs n) n (open_input pairs names) e).1 name i
 
 -- and so no refusal stands
 pub no_unknown_formal : (child : ModelValue) (pairs : List Pair) → ((pair : Pair) → In pairs pair → (is_input child pair.formal || has_name child.outputs pair.formal) ≡ true) → unknown_formal child pairs ≡ None
@@ -90,7 +81,7 @@ no_formal_fault m l child (Some name) e = absurd (cc)
 no_placed_fault : (library : LibraryValue) (chain : List (List ℕ)) (m : ModelValue) (l : SubcktLine) (o : Option ModelValue) → model_named library.models l.subckt.model ≡ o → placed_fault chain m l o ≡ None → IsFree library chain l
 no_placed_fault library chain m l None n e = absurd (cc)
 no_placed_fault library chain m l (Some child) n e =
-    let c = none_cond (has_name chain l.subckt.model) _ (formal_fault m l child (unknown_formal child l.subckt.pairs)) e in
+    let c = none_both (has_name chain l.subckt.model) _ (formal_fault m l child (unknown_formal child l.subckt.pairs)) e in
     let f = no_formal_fault m l child (unknown_formal child l.subckt.pairs) c.1 in
     record { placed = record { child = child; named = n; formals = f.0; inputs = f.1 }; off = c.0 }
 

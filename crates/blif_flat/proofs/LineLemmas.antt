@@ -10,7 +10,7 @@ use Rattle.blif_read.specs.LibraryValue.{ModelValue}
 use Rattle.blif_flat.specs.declared.ports.Ports.{Ports}
 use Rattle.blif_flat.specs.declared.flat_err.FlatErr.{FlatErr}
 use Rattle.blif_flat.specs.declared.flat_err.FlatErr.TheVariants.{UnknownModel, RecursiveModel, UnknownFormal, Unconnected, TooLarge, DoublyDriven, Undriven, SecondClock, ClockNotInput, ClockAsData, Loop, Memory}
-use Rattle.blif_flat.specs.Answers.{IsFault}
+use Rattle.blif_flat.specs.Answers.{IsTold}
 use Rattle.blif_flat.specs.Models.{has_name, is_input, inputs_of}
 use Rattle.blif_flat.specs.NameSets.{with_names, ports_value}
 use Rattle.blif_flat.specs.Walk.{unknown_formal, is_connected, open_input, input_fault, formal_fault}
@@ -81,7 +81,7 @@ open_second child pairs h =
     ∙ open_filtered pairs child.inputs child.clocks h
 
 -- the answered fault
-none_fault : (e : FlatErr) (fault : Option FlatErr) → IsFault e None → IsFault e fault
+none_fault : (e : FlatErr) (fault : Option FlatErr) → IsTold e None → IsTold e fault
 none_fault Memory fault h = tt
 none_fault (UnknownModel m n name) fault h = absurd (none-some (UnknownModel m n name) h)
 none_fault (RecursiveModel chain) fault h = absurd (none-some (RecursiveModel chain) h)
@@ -95,12 +95,12 @@ none_fault (ClockNotInput net) fault h = absurd (none-some (ClockNotInput net) h
 none_fault (ClockAsData net) fault h = absurd (none-some (ClockAsData net) h)
 none_fault (Loop nets) fault h = absurd (none-some (Loop nets) h)
 
-formal_faults : (m : ModelValue) (line : ℕ) (s : SubcktValue) (child : ModelValue) (e : FlatErr) (o : Option (List ℕ)) → IsFault e (option_map (λ n. UnknownFormal m.name line n) o)
-    → IsFault e (formal_fault m (record { line = line; subckt = s }) child o)
+formal_faults : (m : ModelValue) (line : ℕ) (s : SubcktValue) (child : ModelValue) (e : FlatErr) (o : Option (List ℕ)) → IsTold e (option_map (λ n. UnknownFormal m.name line n) o)
+    → IsTold e (formal_fault m (record { line = line; subckt = s }) child o)
 formal_faults m line s child e (Some name) h = h
 formal_faults m line s child e None h = none_fault e (formal_fault m (record { line = line; subckt = s }) child None) h
 
-input_faults : (m : ModelValue) (line : ℕ) (e : FlatErr) (o : Option (List ℕ)) → IsFault e (option_map (λ n. Unconnected m.name line n) o) → IsFault e (input_fault m line o)
+input_faults : (m : ModelValue) (line : ℕ) (e : FlatErr) (o : Option (List ℕ)) → IsTold e (option_map (λ n. Unconnected m.name line n) o) → IsTold e (input_fault m line o)
 input_faults m line e (Some name) h = h
 input_faults m line e None h = h
 
@@ -114,11 +114,11 @@ foreign_read : (m : ModelValue) (s : SubcktValue) (child : ModelValue) (ports : 
 foreign_read m s child ports name pairs r = ap (λ p. foreign_formal p pairs) r.ports_are ∙ ap (foreign_formal (ports_value child)) r.pairs_are ∙ foreign_is child s.pairs
 
 pub formals_err : (m : ModelValue) (line : ℕ) (s : SubcktValue) (child : ModelValue) (ports : Ports) (name : List ℕ) (pairs : List Pair) (e : FlatErr) → IsRead m s child ports name pairs
-    → IsFault e (option_map (λ n. UnknownFormal name line n) (foreign_formal ports pairs)) → IsFault e (ports_fault m line s child)
+    → IsTold e (option_map (λ n. UnknownFormal name line n) (foreign_formal ports pairs)) → IsTold e (ports_fault m line s child)
 formals_err m line s child ports name pairs e r h =
     formal_faults m line s child e (unknown_formal child s.pairs)
-    (subst (λ o. IsFault e (option_map (λ n. UnknownFormal m.name line n) o)) (foreign_read m s child ports name pairs r)
-    (subst (λ k. IsFault e (option_map (λ n. UnknownFormal k line n) (foreign_formal ports pairs))) r.name_is h))
+    (subst (λ o. IsTold e (option_map (λ n. UnknownFormal m.name line n) o)) (foreign_read m s child ports name pairs r)
+    (subst (λ k. IsTold e (option_map (λ n. UnknownFormal k line n) (foreign_formal ports pairs))) r.name_is h))
 
 formals_ok : (m : ModelValue) (line : ℕ) (s : SubcktValue) (child : ModelValue) (ports : Ports) (name : List ℕ) (pairs : List Pair) → IsRead m s child ports name pairs → foreign_formal ports pairs ≡ None
     → ports_fault m line s child ≡ input_fault m line (open_input s.pairs (inputs_of child))
@@ -128,26 +128,26 @@ open_read : (s : SubcktValue) (pairs : List Pair) (index names mine : List (List
 open_read s pairs index names mine p i n =
     ap (λ x. open_among x names) i ∙ ap (λ x. open_among (with_names [] (formals x)) names) p ∙ ap (open_among (with_names [] (formals s.pairs))) n ∙ open_is s.pairs mine
 
-first_fault : (m : ModelValue) (line : ℕ) (s : SubcktValue) (child : ModelValue) (e : FlatErr) (o : Option (List ℕ)) → open_input s.pairs child.inputs ≡ o → IsFault e (option_map (λ n. Unconnected m.name line n) o)
-    → IsFault e (input_fault m line (open_input s.pairs (inputs_of child)))
-first_fault m line s child e (Some name) q h = subst (λ x. IsFault e (input_fault m line x)) (sym (open_first child s.pairs name q)) h
+first_fault : (m : ModelValue) (line : ℕ) (s : SubcktValue) (child : ModelValue) (e : FlatErr) (o : Option (List ℕ)) → open_input s.pairs child.inputs ≡ o → IsTold e (option_map (λ n. Unconnected m.name line n) o)
+    → IsTold e (input_fault m line (open_input s.pairs (inputs_of child)))
+first_fault m line s child e (Some name) q h = subst (λ x. IsTold e (input_fault m line x)) (sym (open_first child s.pairs name q)) h
 first_fault m line s child e None q h = none_fault e (input_fault m line (open_input s.pairs (inputs_of child))) h
 
-unconnected_read : (line : ℕ) (e : FlatErr) (a b : List ℕ) (x y : Option (List ℕ)) → a ≡ b → x ≡ y → IsFault e (option_map (λ n. Unconnected a line n) x) → IsFault e (option_map (λ n. Unconnected b line n) y)
-unconnected_read line e a b x y p q h = subst (λ o. IsFault e (option_map (λ n. Unconnected b line n) o)) q (subst (λ k. IsFault e (option_map (λ n. Unconnected k line n) x)) p h)
+unconnected_read : (line : ℕ) (e : FlatErr) (a b : List ℕ) (x y : Option (List ℕ)) → a ≡ b → x ≡ y → IsTold e (option_map (λ n. Unconnected a line n) x) → IsTold e (option_map (λ n. Unconnected b line n) y)
+unconnected_read line e a b x y p q h = subst (λ o. IsTold e (option_map (λ n. Unconnected b line n) o)) q (subst (λ k. IsTold e (option_map (λ n. Unconnected k line n) x)) p h)
 
 pub inputs_err : (m : ModelValue) (line : ℕ) (s : SubcktValue) (child : ModelValue) (ports : Ports) (name : List ℕ) (pairs pairs' : List Pair) (index names : List (List ℕ)) (e : FlatErr) → IsRead m s child ports name pairs
     → foreign_formal ports pairs ≡ None → pairs' ≡ s.pairs → index ≡ with_names [] (formals pairs') → names ≡ child.inputs
-    → IsFault e (option_map (λ n. Unconnected name line n) (open_among index names)) → IsFault e (ports_fault m line s child)
+    → IsTold e (option_map (λ n. Unconnected name line n) (open_among index names)) → IsTold e (ports_fault m line s child)
 inputs_err m line s child ports name pairs pairs' index names e r absent p i n h =
-    subst (IsFault e) (sym (formals_ok m line s child ports name pairs r absent))
+    subst (IsTold e) (sym (formals_ok m line s child ports name pairs r absent))
     (first_fault m line s child e (open_input s.pairs child.inputs) refl (unconnected_read line e name m.name (open_among index names) (open_input s.pairs child.inputs) r.name_is (open_read s pairs' index names child.inputs p i n) h))
 
 pub clocks_err : (m : ModelValue) (line : ℕ) (s : SubcktValue) (child : ModelValue) (ports : Ports) (name : List ℕ) (pairs pairs' : List Pair) (index names clocks : List (List ℕ)) (e : FlatErr) → IsRead m s child ports name pairs
     → foreign_formal ports pairs ≡ None → pairs' ≡ s.pairs → index ≡ with_names [] (formals pairs') → names ≡ child.inputs → open_among index names ≡ None → clocks ≡ child.clocks
-    → IsFault e (option_map (λ n. Unconnected name line n) (open_among index clocks)) → IsFault e (ports_fault m line s child)
+    → IsTold e (option_map (λ n. Unconnected name line n) (open_among index clocks)) → IsTold e (ports_fault m line s child)
 clocks_err m line s child ports name pairs pairs' index names clocks e r absent p i n none k h =
-    subst (IsFault e) (sym (formals_ok m line s child ports name pairs r absent ∙ ap (input_fault m line) (open_second child s.pairs (sym (open_read s pairs' index names child.inputs p i n) ∙ none))))
+    subst (IsTold e) (sym (formals_ok m line s child ports name pairs r absent ∙ ap (input_fault m line) (open_second child s.pairs (sym (open_read s pairs' index names child.inputs p i n) ∙ none))))
     (input_faults m line e (open_input s.pairs child.clocks) (unconnected_read line e name m.name (open_among index clocks) (open_input s.pairs child.clocks) r.name_is (open_read s pairs' index clocks child.clocks p i k) h))
 
 pub line_ok : (m : ModelValue) (line : ℕ) (s : SubcktValue) (child : ModelValue) (ports : Ports) (name : List ℕ) (pairs pairs' : List Pair) (index names clocks : List (List ℕ)) → IsRead m s child ports name pairs

@@ -1,7 +1,8 @@
--- Where the walk of the covers meets none again, the covers have an order in which each comes after those that it reads.
+-- Where the walk of the covers meets none again, the covers have an order in which each comes after those that it reads, and none depends on itself.
 use Rattle.std.proofs.Common.{◌≡◌, ◌⊎◌, ℕ, true, List, [], ◌∷◌, ◌++◌, Option, Some, None, refl, sym, subst, inl, inr}
 use Rattle.std.proofs.lemmas.Bool.{both_ways, cases_Bool, false≢true}
-use Rattle.list_words.specs.Members.{In}
+use Rattle.list_laws.specs.Members.{In}
+use Rattle.list_laws.proofs.Members.{In-right, In-append}
 use Rattle.blif_read.specs.declared.command.Body.{Body}
 use Rattle.blif_read.specs.declared.command.Body.TheVariants.{Cover, Latch, Subckt}
 use Rattle.blif_read.specs.declared.latch.Latch.{Latch as LatchValue}
@@ -11,15 +12,17 @@ use Rattle.blif_flat.specs.Models.{Path, body_at, model_at}
 use Rattle.blif_flat.specs.Instances.{CoverAt}
 use Rattle.blif_flat.specs.Nets.{Net, input_net, latch_net, cover_net, Drives, main_input, latch_output, cover_output, from_inside, from_outside}
 use Rattle.blif_flat.specs.Places.{Place, same_place, cover_at, latch_at, is_cover}
-use Rattle.blif_flat.specs.Loops.{AreNets, with_cover, covers_among, reads_in, reads_of, Ordered}
+use Rattle.blif_flat.specs.Loops.{AreNets, with_cover, covers_among, reads_in, reads_of, Depends}
+use Rattle.blif_flat.specs.CoverOrder.{Ordered}
 use Rattle.blif_flat.specs.LoopFault.{latch_covers, all_latch_covers, roots_of, LoopWalk}
 use Rattle.blif_flat.proofs.FindLemmas.{Decided}
-use Rattle.blif_flat.proofs.MemberLemmas.{In-right}
 use Rattle.blif_flat.proofs.PlaceLemmas.{place_of, same_place-is, same_place-refl}
 use Rattle.blif_flat.proofs.FlatLemmas.{flat_all}
-use Rattle.blif_flat.proofs.KindLemmas.{In-either, IsOfKind, flat_only}
+use Rattle.blif_flat.proofs.KindLemmas.{IsOfKind, flat_only}
 use Rattle.blif_flat.proofs.SameNetLemmas.{same_nets}
 use Rattle.blif_flat.proofs.MeetLemmas.{meets_none}
+use Rattle.blif_flat.proofs.PostLemmas.{acyclic}
+use Rattle.blif_flat.proofs.DependLemmas.{depends_reaches, depends_cover}
 
 -- whether a place stands in a list can be decided
 one_place : (p q : Place) → Decided (p ≡ q)
@@ -78,13 +81,13 @@ module _ (library : LibraryValue) where
 
     at_latches : (latches : List Place) (q : Place) → In (all_latch_covers library net latches) q → HasCover q
     at_latches [] q i = absurd i
-    at_latches (p ∷ latches) q i = elim (In-either (latch_covers (net p.path) (latch_at library p)) (all_latch_covers library net latches) q i) as (λ _. HasCover q) [
+    at_latches (p ∷ latches) q i = elim (In-append (latch_covers (net p.path) (latch_at library p)) (all_latch_covers library net latches) q i) as (λ _. HasCover q) [
       | inl j ↦ at_latch p.path (latch_at library p) q j
       | inr j ↦ at_latches latches q j
     ]
 
-    root_cover : (main : ModelValue) (latches : List Place) (q : Place) → In (roots_of library net main latches) q → HasCover q
-    root_cover main latches q i = elim (In-either (covers_among (net []) main.outputs) (all_latch_covers library net latches) q i) as (λ _. HasCover q) [
+    pub root_cover : (main : ModelValue) (latches : List Place) (q : Place) → In (roots_of library net main latches) q → HasCover q
+    root_cover main latches q i = elim (In-append (covers_among (net []) main.outputs) (all_latch_covers library net latches) q i) as (λ _. HasCover q) [
       | inl j ↦ among_covers [] main.outputs q j
       | inr j ↦ at_latches latches q j
     ]
@@ -94,12 +97,12 @@ module _ (library : LibraryValue) where
   body_cover p m at (Latch l) e t = absurd (false≢true t)
   body_cover p m at (Subckt s) e t = absurd (false≢true t)
 
-  kind_cover : (p : Place) → IsOfKind library is_cover p → HasCover p
+  pub kind_cover : (p : Place) → IsOfKind library is_cover p → HasCover p
   kind_cover p k = body_cover p k.model k.at k.body k.is k.kind_is
 
   -- each node at which the walk begins is a cover
   pub start_cover : {result : _} (w : LoopWalk library result) (p : Place) → In (roots_of library w.net w.main w.latches ++ w.covers) p → HasCover p
-  start_cover w p i = elim (In-either (roots_of library w.net w.main w.latches) w.covers p i) as (λ _. HasCover p) [
+  start_cover w p i = elim (In-append (roots_of library w.net w.main w.latches) w.covers p i) as (λ _. HasCover p) [
     | inl j ↦ root_cover w.net w.nets w.main w.latches p j
     | inr j ↦ kind_cover p (flat_only library is_cover w.main w.covers w.at w.covers_are p j)
   ]
@@ -118,3 +121,10 @@ module _ (library : LibraryValue) where
   -- no F10, whatever function gives the nets
   pub loops-ordered : LoopWalk library None → (net : Path → List ℕ → Option Net) → AreNets library net → Ordered library net
   loops-ordered w net nets = subst (Ordered library) (same_nets library w.net net w.nets nets) (walk_ordered w)
+
+  -- so no cover depends on itself
+  pub walk_free : LoopWalk library None → (p : Place) → Depends library p p → ⊥
+  walk_free w p d =
+      let ordered = walk_ordered w in
+      let h : HasCover p = depends_cover library d in
+      acyclic (reads_of library w.net) ordered.order p ordered.after (ordered.all p.path p.command h.0 h.1) (depends_reaches library w.net w.nets d)

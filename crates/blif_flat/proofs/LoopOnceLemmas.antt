@@ -9,7 +9,7 @@ use Rattle.blif_flat.specs.Nets.{Net}
 use Rattle.blif_flat.specs.Places.{Place, is_cover, is_latch, own_places, FlatOrder, flat, FlatUnder, none, more}
 use Rattle.blif_flat.specs.Loops.{reads_of}
 use Rattle.blif_flat.specs.LoopFault.{roots_of, LoopWalk}
-use Rattle.blif_flat.specs.Walking.{Cycle, MeetsAll}
+use Rattle.blif_flat.specs.DepthFirst.{Repeat, MeetsAll}
 use Rattle.blif_flat.proofs.ConsLemmas.{not_empty, same_first, same_rest}
 use Rattle.blif_flat.proofs.SameNetLemmas.{same_nets}
 use Rattle.blif_flat.proofs.CycleLemmas.{meets_once}
@@ -32,7 +32,7 @@ module _ (library : LibraryValue) where
   abbrev start_of : (Path → List ℕ → Option Net) → ModelValue → List Place → List Place → List Place
   start_of net main latches covers = roots_of library net main latches ++ covers
 
-  module _ (result other : Option (Cycle Place)) (w : LoopWalk library result) (v : LoopWalk library other) where
+  module _ (result other : Option (Repeat Place)) (w : LoopWalk library result) (v : LoopWalk library other) where
     same_main : v.main ≡ w.main
     same_main = same_Some v.main w.main (sym v.at ∙ w.at)
 

@@ -1,9 +1,11 @@
--- A cycle of covers by their numbers is written by their gates, and the order of the numbers is one of the covers.
+-- A loop of covers by their numbers is written by their gates, and the order of the numbers is one of the covers.
 use Rattle.std.proofs.Common.{◌≡◌, ℕ, ◌+◌, ◌<◌, List, [], ◌∷◌, ◌++◌, map, length, take, get_or, Some, None, refl, sym, ap, ap₂, ◌∙◌, subst, arith}
 use Rattle.std.specs.Prelude.{slice_get, All}
 use Rattle.std.proofs.lemmas.List.{map-append, take_more}
 use Rattle.std.proofs.lemmas.Option.{slice_get_within, slice_get-get_or}
-use Rattle.list_words.specs.Members.{In}
+use Rattle.list_laws.specs.Members.{In}
+use Rattle.list_laws.proofs.Members.{In-get}
+use Rattle.list_laws.proofs.Places.{at_within}
 use Rattle.blif_read.specs.CoverValue.{CoverValue}
 use Rattle.blif_read.specs.LibraryValue.{LibraryValue}
 use Rattle.blif_flat.specs.declared.flat.FlatLatch.{FlatLatch}
@@ -20,20 +22,20 @@ use Rattle.blif_flat.specs.Places.{Place, is_cover}
 use Rattle.blif_flat.specs.InstanceOrder.{places_at}
 use Rattle.blif_flat.specs.InstanceRows.{paths_of, AreInstances}
 use Rattle.blif_flat.specs.Gates.{IsGateAt, AreGatesAt}
-use Rattle.blif_flat.specs.CoverWalk.{InRange, IsCycle, IsOrder}
+use Rattle.blif_flat.specs.CoverWalk.{InRange, IsNumberLoop, IsOrder}
 use Rattle.blif_flat.specs.Written.{IsWritten}
 use Rattle.blif_flat.specs.LoopFault.{AreWritten, none, LoopWalk, IsLoop}
 use Rattle.blif_flat.specs.Ordering.{AreCounted, root_numbers}
 use Rattle.blif_flat.specs.LoopSteps.{IsWrittenAt, AreWrittenAt}
-use Rattle.blif_flat.proofs.FlatGateLemmas.{row_inside, cover_there}
-use Rattle.blif_flat.proofs.NameSetLemmas.{at_within, at_member}
+use Rattle.blif_flat.proofs.FlatGateLemmas.{cover_there}
+use Rattle.blif_flat.proofs.GateBodyLemmas.{row_within}
 use Rattle.blif_flat.proofs.NetLemmas.{nets, are_nets}
-use Rattle.blif_flat.proofs.NumberWalkLemmas.{place_or, place_at, in_range, root_below, order_mapped, cycle_mapped_to, loop_fault}
+use Rattle.blif_flat.proofs.NumberWalkLemmas.{place_or, place_at, in_range, root_below, order_mapped, loop_mapped, loop_fault}
 use Rattle.blif_flat.proofs.PathTextLemmas.{written_more}
 
 -- what holds of the members holds of all elements
 pub all_members : {A : Type 0} (P : A → Type 0) (xs : List A) → ((x : A) → In xs x → P x) → All P xs
-all_members P xs h k d b = h (get_or xs k d) (at_member xs k (get_or xs k d) (slice_get-get_or xs k d b))
+all_members P xs h k d b = h (get_or xs k d) (In-get xs k (get_or xs k d) (slice_get-get_or xs k d b))
 
 module _ (library : LibraryValue) where
   module _ (rows : List Instance) (are : AreInstances library rows) (gates : List Gate) (w : AreGatesAt (paths_of rows) gates (places_at library is_cover (paths_of rows))) where
@@ -56,7 +58,7 @@ module _ (library : LibraryValue) where
     pub number_row : (k : ℕ) (d : Gate) → k < length gates → (get_or gates k d).row < length rows
     number_row k d b =
         let h = here k (get_or gates k d) (slice_get-get_or gates k d b) in
-        row_inside library rows are (get_or gates k d) h.place h.gate
+        row_within rows (get_or gates k d).row h.place.path h.gate.row
 
     -- the text of a gate's cover is that of its number
     pub written_here : (k : ℕ) (d : Gate) (text : List ℕ) → k < length gates
@@ -67,7 +69,7 @@ module _ (library : LibraryValue) where
         let g : Gate = get_or gates k d in
         let h : IsHere k g = here k g (slice_get-get_or gates k d b) in
         let p : Place = h.place in
-        let c = cover_there library rows are p (at_member gate_places k p h.at) in
+        let c = cover_there library rows are p (In-get gate_places k p h.at) in
         let command : g.command ≡ p.command = h.gate.command in
         record {
           place = p;
@@ -111,20 +113,20 @@ module _ (library : LibraryValue) where
     pub walked_clean : (roots order : List ℕ) → roots ≡ root_numbers outputs latches → IsOrder covers roots order → LoopWalk library None
     walked_clean roots order e o = order_mapped library w.main w.at outputs covers latches w.walked (nets library driven) (are_nets library driven) order (subst (λ l. IsOrder covers l order) e o)
 
-    -- the covers of a cycle have gates, whose texts tell the loop
-    pub cycle_inside : (gates : List Gate) → AreGatesAt paths gates (places_at library is_cover paths) → (roots nodes : List ℕ) → roots ≡ root_numbers outputs latches → IsCycle covers roots nodes
+    -- the covers of a loop have gates, whose texts tell the loop
+    pub loop_inside : (gates : List Gate) → AreGatesAt paths gates (places_at library is_cover paths) → (roots nodes : List ℕ) → roots ≡ root_numbers outputs latches → IsNumberLoop covers roots nodes
         → (m : ℕ) → In nodes m → m < length gates
-    cycle_inside gates g roots nodes e c m i =
-        let p = cycle_mapped_to library w.main w.at outputs covers latches w.walked (nets library driven) (are_nets library driven) nodes (subst (λ l. IsCycle covers l nodes) e c) in
+    loop_inside gates g roots nodes e c m i =
+        let p = loop_mapped library w.main w.at outputs covers latches w.walked (nets library driven) (are_nets library driven) nodes (subst (λ l. IsNumberLoop covers l nodes) e c) in
         let below : m < length w.at.covers = p.below m i in
         let same : length w.at.covers ≡ length (places_at library is_cover paths) = ap length w.covers_at in
         let count : length gates ≡ length (places_at library is_cover paths) = g.count in
         omega arith
 
-    pub cycle_loop : (roots nodes : List ℕ) (texts : List (List ℕ)) → roots ≡ root_numbers outputs latches → IsCycle covers roots nodes → AreWrittenAt library (places_at library is_cover paths) nodes texts
+    pub loop_told : (roots nodes : List ℕ) (texts : List (List ℕ)) → roots ≡ root_numbers outputs latches → IsNumberLoop covers roots nodes → AreWrittenAt library (places_at library is_cover paths) nodes texts
         → IsLoop library (Loop texts)
-    cycle_loop roots nodes texts e c a =
+    loop_told roots nodes texts e c a =
         let same : a.places ≡ map (place_at w.at) nodes = places_of w.at.covers nodes a.places (ap (λ l. map (slice_get l) nodes) w.covers_at ∙ a.at) in
         loop_fault library w.main w.at outputs covers latches w.walked (nets library driven) (are_nets library driven) nodes
-        (cycle_mapped_to library w.main w.at outputs covers latches w.walked (nets library driven) (are_nets library driven) nodes (subst (λ l. IsCycle covers l nodes) e c))
+        (loop_mapped library w.main w.at outputs covers latches w.walked (nets library driven) (are_nets library driven) nodes (subst (λ l. IsNumberLoop covers l nodes) e c))
         texts (subst (λ l. AreWritten library l texts) same a.written)

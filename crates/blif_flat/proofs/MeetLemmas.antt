@@ -1,9 +1,9 @@
 -- A walk that meets nothing again gives an order of the nodes that it comes to.
 use Rattle.std.proofs.Common.{◌≡◌, List, [], ◌∷◌, Option, None, refl, sym, ◌∙◌, subst, inl, inr, ◌⊎◌}
 use Rattle.std.proofs.lemmas.Option.{none-some}
-use Rattle.list_words.specs.Members.{In}
-use Rattle.blif_flat.specs.Walking.{Cycle, Meets, met, goes, MeetsAll, none, first, later}
-use Rattle.blif_flat.specs.Loops.{IsAfter}
+use Rattle.list_laws.specs.Members.{In}
+use Rattle.blif_flat.specs.DepthFirst.{Repeat, Meets, met, goes, MeetsAll, none, first, later}
+use Rattle.blif_flat.specs.CoverOrder.{IsAfter}
 
 -- nodes are told apart, and P holds of what a node goes to where it holds of the node
 module _ {N : Type 0} (next : N → List N) (has : (ns : List N) (n : N) → In ns n ⊎ (In ns n → ⊥)) (P : N → Type 0) (closed : (n m : N) → P n → In (next n) m → P m) where
@@ -51,16 +51,16 @@ module _ {N : Type 0} (next : N → List N) (has : (ns : List N) (n : N) → In 
   }
 
   mutual
-    node_order : {path : List N} {n : N} {result : Option (Cycle N)} → Meets next path n result → result ≡ None → (before : List N) → IsDone path before → P n → Order path before (n ∷ [])
+    node_order : {path : List N} {n : N} {result : Option (Repeat N)} → Meets next path n result → result ≡ None → (before : List N) → IsDone path before → P n → Order path before (n ∷ [])
     node_order {path} {n} (met i q) e before d p = absurd (none-some (record { node = n; path = path }) (sym e ∙ q))
     node_order {path} {n} (goes off w) e before d p = elim (has before n) as (λ _. Order path before (n ∷ [])) [
       | inl old ↦ old_node path before n d old
       | inr new ↦ new_node path before n p off (nodes_order w e before (onto_path path before n d new) (λ m i. closed n m p i))
     ]
 
-    nodes_order : {path ns : List N} {result : Option (Cycle N)} → MeetsAll next path ns result → result ≡ None → (before : List N) → IsDone path before → ((m : N) → In ns m → P m) → Order path before ns
+    nodes_order : {path ns : List N} {result : Option (Repeat N)} → MeetsAll next path ns result → result ≡ None → (before : List N) → IsDone path before → ((m : N) → In ns m → P m) → Order path before ns
     nodes_order {path} (none a q) e before d p = subst (Order path before) (sym a) (record { order = before; done = d; all = λ m i. absurd i; keeps = λ m i. i })
-    nodes_order (first n rest cycle a w q) e before d p = absurd (none-some cycle (sym e ∙ q))
+    nodes_order (first n rest repeat a w q) e before d p = absurd (none-some repeat (sym e ∙ q))
     nodes_order {path} (later n rest a w ws) e before d p =
         let r = node_order w refl before d (p n (subst (λ l. In l n) (sym a) (inl refl))) in
         subst (Order path before) (sym a) (then_nodes path before n rest r (nodes_order ws e r.order r.done (λ m i. p m (subst (λ l. In l m) (sym a) (inr i)))))

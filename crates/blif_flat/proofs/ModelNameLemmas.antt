@@ -6,7 +6,7 @@ use Rattle.std.proofs.lemmas.Bool.{cases_Bool, cond-true, cond-false, ltb-true}
 use Rattle.std.proofs.lemmas.List.{length-append, length-map}
 use Rattle.std.proofs.lemmas.List.Folds.{find_at}
 use Rattle.std.proofs.lemmas.Option.{none-some, same_Some, cond_some}
-use Rattle.list_words.specs.Members.{In}
+use Rattle.list_laws.specs.Members.{In}
 use Rattle.tl_text.specs.NameIndex.{place_of}
 use Rattle.blif_read.specs.declared.command.Body.{Body}
 use Rattle.blif_read.specs.declared.command.Body.TheVariants.{Cover, Latch, Subckt}
@@ -18,9 +18,10 @@ use Rattle.blif_flat.specs.ModelNames.{control_names, body_names, commands_names
 use Rattle.blif_flat.specs.NameSets.{with_name, with_names}
 use Rattle.blif_flat.specs.NetStarts.{distinct_names}
 use Rattle.blif_flat.specs.Weight.{control_weight, body_weight, commands_weight, own_weight}
-use Rattle.blif_flat.proofs.DriverStepLemmas.{drop_at}
-use Rattle.blif_flat.proofs.NameSetLemmas.{has_with_names, same_match, at_within}
-use Rattle.blif_flat.proofs.RegularLemmas.{has_member}
+use Rattle.list_laws.proofs.Items.{drop_at}
+use Rattle.list_laws.proofs.Places.{at_within}
+use Rattle.blif_flat.proofs.NameSetLemmas.{has_with_names, same_match}
+use Rattle.blif_flat.proofs.NameLemmas.{in_has}
 
 -- names are added in turn
 pub with_names-append : (names some more : List (List ℕ)) → with_names names (some ++ more) ≡ with_names (with_names names some) more
@@ -80,7 +81,7 @@ distinct_few m =
 
 -- and all its names are among them
 pub distinct_has : (m : ModelValue) (name : List ℕ) → In (all_names m) name → has_name (distinct_names m) name ≡ true
-distinct_has m name i = has_with_names [] (all_names m) name ∙ has_member (all_names m) name i
+distinct_has m name i = has_with_names [] (all_names m) name ∙ in_has (all_names m) name i
 
 -- at the place of a name stands the name
 found_is : (name : List ℕ) (names : List (List ℕ)) (x : List ℕ) → find (bytes_eq name) names ≡ Some x → name ≡ x

@@ -1,24 +1,12 @@
 -- Names and other members of lists, and the test of names.
-use Rattle.std.proofs.Common.{◌≡◌, ℕ, zero, suc, Bool, true, not, List, [], ◌∷◌, ◌++◌, Some, sym, ap, ◌∙◌, subst, inl, inr, ◌⊎◌, bytes_eq}
-use Rattle.std.specs.Prelude.{slice_get, filter}
+use Rattle.std.proofs.Common.{◌≡◌, ℕ, Bool, true, not, List, [], ◌∷◌, sym, ap, ◌∙◌, subst, inl, inr, bytes_eq}
+use Rattle.std.specs.Prelude.{filter}
 use Rattle.std.proofs.lemmas.Bool.{both_ways, cases_Bool, or_cases, or_left, or_right, cond-true, cond-false, false≢true, not_from_false}
-use Rattle.std.proofs.lemmas.Option.{none-some, same_Some}
 use lib.Pointwise.{bytes_decides}
-use Rattle.list_words.specs.Members.{In}
+use Rattle.list_laws.specs.Members.{In}
+use Rattle.list_laws.proofs.Members.{In-left, In-right, In-append}
 use Rattle.blif_read.specs.LibraryValue.{ModelValue}
 use Rattle.blif_flat.specs.Models.{has_name, is_input, inputs_of}
-use Rattle.blif_flat.proofs.MemberLemmas.{In-left, In-right}
-
-pub In-parts : {A : Type 0} (xs ys : List A) (x : A) → In (xs ++ ys) x → In xs x ⊎ In ys x
-In-parts [] ys x i = inr i
-In-parts (y ∷ xs) ys x (inl e) = inl (inl e)
-In-parts (y ∷ xs) ys x (inr i) = elim (In-parts xs ys x i) [ inl j ↦ inl (inr j) | inr j ↦ inr j ]
-
--- what stands at a place is a member
-pub In-get : {A : Type 0} (xs : List A) (i : ℕ) (x : A) → slice_get xs i ≡ Some x → In xs x
-In-get [] i x e = absurd (none-some x e)
-In-get (y ∷ xs) zero x e = inl (sym (same_Some y x e))
-In-get (y ∷ xs) (suc i) x e = inr (In-get xs i x e)
 
 -- the test of names says whether a name is a member
 pub has_in : (names : List (List ℕ)) (name : List ℕ) → has_name names name ≡ true → In names name
@@ -55,7 +43,7 @@ input_in m name t = elim (cases_Bool (has_name m.inputs name)) [
 ]
 
 pub in_input : (m : ModelValue) (name : List ℕ) → In (inputs_of m) name → is_input m name ≡ true
-in_input m name i = elim (In-parts m.inputs (filter (λ n. not (has_name m.inputs n)) m.clocks) name i) [
+in_input m name i = elim (In-append m.inputs (filter (λ n. not (has_name m.inputs n)) m.clocks) name i) [
   | inl j ↦ or_left (has_name m.inputs name) (has_name m.clocks name) (in_has m.inputs name j)
   | inr j ↦ or_right (has_name m.inputs name) (has_name m.clocks name) (in_has m.clocks name (in_kept (λ n. not (has_name m.inputs n)) m.clocks name j))
 ]

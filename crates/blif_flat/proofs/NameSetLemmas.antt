@@ -1,31 +1,20 @@
 -- Names of which none stands twice, added one by one, and found.
-use Rattle.std.proofs.Common.{◌≡◌, ℕ, zero, suc, ◌+◌, ◌<◌, ◌≤◌, Bool, true, false, not, ◌||◌, cond, ltb, List, [], ◌∷◌, ◌++◌, length, get_or, drop, filter, bytes_eq, Option, Some, None, is_some, refl, sym, ap, ◌∙◌, subst, inl, inr, arith, append_assoc}
-use Rattle.std.specs.List.{position, position_or_len, list_any, slice_get}
-use Rattle.std.proofs.lemmas.Bool.{ltb-true, cases_Bool, cond-true, cond-false, or_parts, both_ways, ltb-false, le-ltb}
+use Rattle.std.proofs.Common.{◌≡◌, ℕ, suc, ◌+◌, ◌<◌, ◌≤◌, Bool, true, false, not, ◌||◌, ltb, List, [], ◌∷◌, ◌++◌, length, drop, filter, bytes_eq, Option, Some, None, is_some, refl, sym, ap, ◌∙◌, subst, inl, inr, arith, append_assoc}
+use Rattle.std.specs.List.{position_or_len, slice_get}
+use Rattle.std.proofs.lemmas.Bool.{ltb-true, cases_Bool, cond-true, cond-false, both_ways, ltb-false}
 use Rattle.std.proofs.lemmas.List.{length-map, append-nil}
 use Rattle.std.proofs.lemmas.List.Folds.{list_any-append}
-use Rattle.std.proofs.lemmas.Option.{none-some, same_Some, slice_get_past, slice_get_read}
+use Rattle.std.proofs.lemmas.Option.{none-some, slice_get_past}
 use lib.Pointwise.{bytes_decides}
-use Rattle.list_words.specs.Members.{In}
+use Rattle.list_laws.specs.Members.{In}
+use Rattle.list_laws.proofs.FirstPlace.{position_none, list_any-position_none}
+use Rattle.list_laws.proofs.Places.{drop_past, at_within}
 use Rattle.tl_text.specs.NameIndex.{place_of}
-use Rattle.tl_text.proofs.NameLemmas.{list_any-position_none}
 use Rattle.blif_read.specs.LibraryValue.{ModelValue, input_ports, output_ports, clock_ports}
 use Rattle.blif_read.specs.WellFormed.{IsWellFormedModel}
 use Rattle.blif_read.specs.Once.{AreOnce}
 use Rattle.blif_flat.specs.Models.{has_name, is_input, inputs_of, model_named}
 use Rattle.blif_flat.specs.NameSets.{with_name, with_names, ports_value, model_names, Finds}
-
--- a test that nothing passes has no place
-none_pass : {A : Type 0} (test : A → Bool) (xs : List A) → list_any test xs ≡ false → position_or_len test xs ≡ length xs
-none_pass test [] h = refl
-none_pass test (x ∷ xs) h =
-    let p = or_parts (test x) (list_any test xs) h in
-    let rest : position_or_len test xs ≡ length xs = none_pass test xs p.1 in
-    ap (λ b. cond (not b) (1 + position_or_len test xs) 0) p.0 ∙ (let e : 1 + position_or_len test xs ≡ suc (length xs) = omega arith in e)
-
-pub position_none : {A : Type 0} (test : A → Bool) (xs : List A) → list_any test xs ≡ false → position test xs ≡ None
-position_none test xs h =
-    subst (λ q. cond (ltb q (length xs)) (Some q) None ≡ None) (sym (none_pass test xs h)) (cond-false (ltb (length xs) (length xs)) (Some (length xs)) None (le-ltb (length xs) (length xs) (omega arith)))
 
 -- a name has a place exactly where it is among the names
 some_when : {A : Type 0} (o : Option A) (b : Bool) → (b ≡ false → o ≡ None) → (o ≡ None → b ≡ false) → is_some o ≡ b
@@ -119,17 +108,6 @@ made_ports m form =
     let i : with_names (with_names [] m.inputs) m.clocks ≡ inputs_of m = ap (λ i. with_names i m.clocks) (new_names m.inputs (form.ports input_ports)) ∙ more_names m.inputs m.clocks (form.ports clock_ports) in
     let o : with_names [] m.outputs ≡ m.outputs = new_names m.outputs (form.ports output_ports) in cc
 
--- elements by their numbers
-pub at_within : {A : Type 0} (xs : List A) (i : ℕ) → i < length xs → (x : A) × (slice_get xs i ≡ Some x)
-at_within [] i h = absurd (omega arith)
-at_within (x ∷ xs) zero h = (x, refl)
-at_within (x ∷ xs) (suc i) h = at_within xs i (omega arith)
-
-pub at_member : {A : Type 0} (xs : List A) (i : ℕ) (x : A) → slice_get xs i ≡ Some x → In xs x
-at_member [] i x h = absurd (none-some x h)
-at_member (y ∷ ys) zero x h = inl (sym (same_Some y x h))
-at_member (y ∷ ys) (suc i) x h = inr (at_member ys i x h)
-
 -- the model of a name
 next_at : {A : Type 0} (x : A) (xs : List A) (i : ℕ) → slice_get xs i ≡ slice_get (x ∷ xs) (1 + i)
 next_at x xs i = let e : suc i ≡ 1 + i = omega arith in subst (λ j. slice_get xs i ≡ slice_get (x ∷ xs) j) e refl
@@ -153,9 +131,6 @@ finds ms name =
           subst (Finds ms name) (sym (cond-false (ltb p (length (model_names ms))) (Some p) None f)) (named_at ms name ∙ slice_get_past ms p (omega arith)))
     ]
 
-pub member_at : {A : Type 0} (xs : List A) (i : ℕ) (x : A) → i < length xs → x ≡ get_or xs i x → In xs x
-member_at xs i x h e = at_member xs i x (slice_get_read xs (length xs) i x refl h e)
-
 pub same_model_names : (names : List (List ℕ)) (models : List ModelValue) → names ≡ with_names [] (model_names models) → AreOnce (model_names models) → names ≡ model_names models
 same_model_names names models e once = e ∙ new_names (model_names models) once
 
@@ -172,11 +147,5 @@ ports_of_parts m form none inputs both none' outputs given clocks given' a b d e
     let y : outputs ≡ with_names [] m.outputs = cc in
     ap (λ ns. record { inputs = ns; outputs = outputs }) x ∙ ap (λ ns. record { inputs = with_names (with_names [] m.inputs) m.clocks; outputs = ns }) y ∙ made_ports m form
 
-pub none_left : {A : Type 0} (xs : List A) (i : ℕ) → length xs ≤ i → drop i xs ≡ []
-none_left [] zero h = refl
-none_left [] (suc i) h = refl
-none_left (x ∷ xs) zero h = absurd (omega arith)
-none_left (x ∷ xs) (suc i) h = none_left xs i (omega arith)
-
 pub all_names : (names all : List (List ℕ)) (models : List ModelValue) (i : ℕ) → with_names names (model_names (drop i models)) ≡ all → length models ≤ i → names ≡ all
-all_names names all models i e h = ap (λ ms. with_names names (model_names ms)) (sym (none_left models i h)) ∙ e
+all_names names all models i e h = ap (λ ms. with_names names (model_names ms)) (sym (drop_past models i h)) ∙ e

@@ -4,6 +4,8 @@ use Rattle.std.specs.Option.{option_and_then}
 use Rattle.std.specs.Prelude.{slice_get, IsTrue}
 use Rattle.std.proofs.lemmas.Bool.{or_cases}
 use Rattle.std.proofs.lemmas.Option.{same_Some}
+use Rattle.list_laws.proofs.TwoLists.{item_there}
+use Rattle.list_laws.proofs.Places.{at_within}
 use Rattle.blif_read.specs.declared.command.Body.TheVariants.{Cover, Latch}
 use Rattle.blif_read.specs.declared.subckt.Pair.{Pair}
 use Rattle.blif_read.specs.LibraryValue.{ModelValue, LibraryValue}
@@ -23,11 +25,10 @@ use Rattle.blif_flat.specs.NetMade.{HasSlots, AreEmptyNets, IsNext, AreAllNets}
 use Rattle.blif_flat.specs.NetSlots.{NetsValue, table_of, IsNets}
 use Rattle.blif_flat.specs.NetSteps.{cover_output, latch_output, with_covers, with_latches, with_inputs, link_at, linked_out, linked_in, links_out, links_in}
 use Rattle.blif_flat.proofs.NameLemmas.{has_in}
-use Rattle.blif_flat.proofs.NameSetLemmas.{at_within}
 use Rattle.blif_flat.proofs.PlaceLemmas.{child_at}
 use Rattle.blif_flat.proofs.InstanceRowLemmas.{paths_of-length}
 use Rattle.blif_flat.proofs.InstanceOnceLemmas.{order_apart}
-use Rattle.blif_flat.proofs.NetTableLemmas.{one_place, item_there, formal_known, actual_known, table_found}
+use Rattle.blif_flat.proofs.NetTableLemmas.{one_place, formal_known, actual_known, table_found}
 use Rattle.blif_flat.proofs.NetFillLemmas.{sound_empty, own_kept, outputs_kept, inputs_start, outputs_start, inputs_step, outputs_step}
 use Rattle.blif_flat.proofs.NetOutLemmas.{next_same, next_on, pairs_next, pairs_known}
 use Rattle.blif_flat.proofs.NetInLemmas.{inputs_next, inputs_known}

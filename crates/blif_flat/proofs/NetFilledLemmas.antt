@@ -2,6 +2,7 @@
 use Rattle.std.proofs.Common.{◌≡◌, ◌<◌, ◌≤◌, List, [], ◌∷◌, length, map, get_or, Some, refl, sym, ap, ◌∙◌, subst, arith}
 use Rattle.std.specs.Prelude.{slice_get}
 use Rattle.std.proofs.lemmas.Option.{none-some, same_Some, slice_get_read}
+use Rattle.list_laws.proofs.Members.{In-get}
 use Rattle.blif_read.specs.LibraryValue.{ModelValue, LibraryValue}
 use Rattle.blif_read.specs.SubcktValue.{SubcktValue}
 use Rattle.blif_read.specs.WellFormed.{IsWellFormed}
@@ -18,7 +19,7 @@ use Rattle.blif_flat.specs.Gates.{AreGatesAt}
 use Rattle.blif_flat.specs.NetMade.{AreEmptyNets, AreAllNets}
 use Rattle.blif_flat.specs.NetSlots.{NetsValue}
 use Rattle.blif_flat.specs.NetSteps.{with_covers, with_latches, with_inputs, links_out, links_in, AreLinesOf}
-use Rattle.blif_flat.proofs.NameLemmas.{In-get}
+use Rattle.blif_flat.specs.Weight.{most_weight}
 use Rattle.blif_flat.proofs.NetMainLemmas.{few_inputs}
 use Rattle.blif_flat.proofs.NetAllLemmas.{all_nets}
 
@@ -43,7 +44,7 @@ module _ (library : LibraryValue) (rows : List Instance) (models : List ModelVal
   -- the main model's inputs are few
   pub inputs_fit : length p.inputs < 4294967296
   inputs_fit =
-      let few : length (inputs_of main) ≤ 4194304 = few_inputs library main rows are main_at empty (formed.each main (In-get library.models 0 main main_at)) start.nets start.slots in
+      let few : length (inputs_of main) ≤ most_weight = few_inputs library main rows are main_at empty (formed.each main (In-get library.models 0 main main_at)) start.nets start.slots in
       let same : length p.inputs ≡ length (inputs_of main) = ap length inputs_are in
       omega arith
 

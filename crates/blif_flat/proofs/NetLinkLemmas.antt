@@ -3,7 +3,10 @@ use Rattle.std.proofs.Common.{◌≡◌, ℕ, zero, suc, ◌<◌, List, [], ◌�
 use Rattle.std.specs.Prelude.{slice_get}
 use Rattle.std.specs.Option.{option_and_then}
 use Rattle.std.proofs.lemmas.Option.{none-some, same_Some, slice_get_within}
-use Rattle.list_words.specs.Members.{In}
+use Rattle.list_laws.specs.Members.{In}
+use Rattle.list_laws.proofs.TwoLists.{item_there}
+use Rattle.list_laws.proofs.Members.{In-left, In-right}
+use Rattle.list_laws.proofs.Places.{at_within}
 use Rattle.blif_read.specs.declared.command.Body.{Body}
 use Rattle.blif_read.specs.declared.command.Body.TheVariants.{Cover, Latch, Subckt}
 use Rattle.blif_read.specs.declared.command.Command.{Command}
@@ -16,11 +19,9 @@ use Rattle.blif_flat.specs.Instances.{ConnectionAt}
 use Rattle.blif_flat.specs.InstanceRows.{path_of, paths_of, IsRow, AreInstances}
 use Rattle.blif_flat.specs.ModelNames.{body_names, commands_names, all_names}
 use Rattle.blif_flat.specs.NetSteps.{Link, line_of, link_of, link_under, link_at}
-use Rattle.blif_flat.proofs.MemberLemmas.{In-left, In-right}
-use Rattle.blif_flat.proofs.NameSetLemmas.{at_within}
 use Rattle.blif_flat.proofs.PlaceLemmas.{Inside, inside}
 use Rattle.blif_flat.proofs.InstanceRowLemmas.{paths_of-length}
-use Rattle.blif_flat.proofs.NetTableLemmas.{item_there, HasParent, has_parent}
+use Rattle.blif_flat.proofs.NetTableLemmas.{HasParent, has_parent}
 use Rattle.blif_flat.proofs.NetOwnLemmas.{commands_within}
 
 -- the actuals of a subcircuit are among the names of its model

@@ -4,20 +4,19 @@ use Rattle.std.specs.Prelude.{slice_get, IsTrue}
 use Rattle.std.specs.List.{list_any, IsDistinct, AllByRecursion}
 use Rattle.std.proofs.lemmas.Bool.{cases_Bool, both_ways, or_cases, or_parts, cond-true, cond-false, false≢true}
 use Rattle.std.proofs.lemmas.List.{length-map}
-use Rattle.std.proofs.lemmas.List.Quantifiers.{position-Some}
 use Rattle.std.proofs.lemmas.Map.Steps.{length-le_from_distinct_below}
-use Rattle.std.proofs.lemmas.Option.{same_Some, slice_get-get_or}
+use Rattle.std.proofs.lemmas.Option.{same_Some}
 use lib.Pointwise.{bytes_decides}
-use Rattle.list_words.specs.Members.{In}
+use Rattle.list_laws.specs.Members.{In}
+use Rattle.list_laws.proofs.Members.{In-left, In-right, In-append, In-get}
 use Rattle.tl_text.specs.NameIndex.{place_of}
 use Rattle.blif_read.specs.LibraryValue.{ModelValue, LibraryValue, input_ports, clock_ports}
 use Rattle.blif_read.specs.Once.{AreOnce}
 use Rattle.blif_read.specs.WellFormed.{IsWellFormedModel}
 use Rattle.blif_flat.specs.declared.flat.Net.TheVariants.{Input as InputNumber}
 use Rattle.blif_flat.specs.declared.instances.Instance.{Instance}
-use Rattle.blif_flat.specs.Models.{Path, has_name, is_input, inputs_of, model_at}
+use Rattle.blif_flat.specs.Models.{has_name, is_input, inputs_of, model_at}
 use Rattle.blif_flat.specs.NameSets.{with_name, with_names}
-use Rattle.blif_flat.specs.InstanceOrder.{InstanceOrder, instance}
 use Rattle.blif_flat.specs.InstanceRows.{paths_of, AreInstances, number_or_zero}
 use Rattle.blif_flat.specs.Flat.{Places}
 use Rattle.blif_flat.specs.ModelNames.{commands_names, all_names}
@@ -25,25 +24,17 @@ use Rattle.blif_flat.specs.NetTable.{IsSoundTable, net_places}
 use Rattle.blif_flat.specs.NetMade.{HasSlots, IsNext}
 use Rattle.blif_flat.specs.NetSlots.{NetsValue, slot_number, table_of, IsNets}
 use Rattle.blif_flat.specs.NetSteps.{with_place, with_inputs}
-use Rattle.blif_flat.proofs.MemberLemmas.{In-left, In-right}
-use Rattle.blif_flat.proofs.NameLemmas.{In-parts, In-get, has_in, in_has, in_input, input_in}
+use Rattle.blif_flat.specs.Weight.{most_weight}
+use Rattle.blif_flat.proofs.NameLemmas.{has_in, in_has, in_input, input_in}
 use Rattle.blif_flat.proofs.NameSetLemmas.{more_names, place_some}
 use Rattle.blif_flat.proofs.NetTableLemmas.{is_some_of, input_number}
 use Rattle.blif_flat.proofs.NetOutLemmas.{next_same, next_on}
 use Rattle.blif_flat.proofs.NetOwnLemmas.{IsOwn, named_next, named_known, slots_on}
-
--- the first instance is the main model's own
-order_first : (library : LibraryValue) {path : Path} {m : ModelValue} {paths : List Path} → InstanceOrder library path m paths → slice_get paths 0 ≡ Some path
-order_first library (instance inner under e) = ap (λ (l : List Path). slice_get l 0) e
+use Rattle.blif_flat.proofs.InstanceOrderLemmas.{order_first}
+use Rattle.blif_flat.proofs.ModelNameLemmas.{place_is}
 
 pub first_path : (library : LibraryValue) (rows : List Instance) → AreInstances library rows → slice_get (paths_of rows) 0 ≡ Some []
 first_path library rows are = order_first library are.order
-
--- a name stands at its place
-place_is : (names : List (List ℕ)) (name : List ℕ) (j : ℕ) → place_of names name ≡ Some j → slice_get names j ≡ Some name
-place_is names name j e =
-    let p = position-Some (bytes_eq name) names j name e in
-    slice_get-get_or names j name p.0 ∙ ap Some (sym ((bytes_decides name _).0 p.1))
 
 -- the inputs of a model are among its names
 pub input_named : (m : ModelValue) (name : List ℕ) → IsTrue (is_input m name) → In (all_names m) name
@@ -59,7 +50,7 @@ once_more : (names : List (List ℕ)) (name : List ℕ) → AreOnce names → ha
 once_more [] name once f = ((λ i. i), tt)
 once_more (x ∷ names) name once f =
     let p = or_parts (bytes_eq name x) (has_name names name) f in (
-      λ (i : In (names ++ name ∷ []) x). elim (In-parts names (name ∷ []) x i) [
+      λ (i : In (names ++ name ∷ []) x). elim (In-append names (name ∷ []) x i) [
         | inl j ↦ once.0 j
         | inr j ↦ elim j [ inl e ↦ both_ways (bytes_eq name x) p.0 ((bytes_decides name x).1 (sym e)) | inr n ↦ n ]
       ],
@@ -113,10 +104,10 @@ module _ (library : LibraryValue) (main : ModelValue) (rows : List Instance) (ar
       let s = is_some_of (slot_number n 0 name) (slots.each 0 [] main name (first_path library rows are) first (input_named main name (in_input main name i))) in
       s.1 ∙ ap Some (sym (ap number_or_zero s.1))
 
-  pub few_inputs : (n : NetsValue) → IsWellFormedModel main → IsNets n → HasSlots library (paths_of rows) n → length (inputs_of main) ≤ 4194304
+  pub few_inputs : (n : NetsValue) → IsWellFormedModel main → IsNets n → HasSlots library (paths_of rows) n → length (inputs_of main) ≤ most_weight
   few_inputs n form is slots =
       let number : List ℕ → ℕ = λ name. number_or_zero (slot_number n 0 name) in
-      let long : length n.slots ≤ 4194304 = is.few in
+      let long : length n.slots ≤ most_weight = is.few in
       let few : length (inputs_of main) ≤ length n.slots = few_names number (inputs_of main) (length n.slots) (inputs_once main form)
       (λ x i. is.within 0 x (number x) (input_slot n slots x i))
       (λ x y i j e. (is.apart 0 0 x y (number x) (input_slot n slots x i) (input_slot n slots y j ∙ ap Some (sym e))).1) in

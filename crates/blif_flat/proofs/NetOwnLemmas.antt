@@ -3,7 +3,9 @@ use Rattle.std.proofs.Common.{◌≡◌, ℕ, zero, suc, ◌+◌, Bool, List, []
 use Rattle.std.specs.Prelude.{slice_get, IsTrue}
 use Rattle.std.specs.Option.{option_and_then}
 use Rattle.std.proofs.lemmas.Option.{none-some, same_Some, option_and_then_some}
-use Rattle.list_words.specs.Members.{In}
+use Rattle.list_laws.specs.Members.{In}
+use Rattle.list_laws.proofs.TwoLists.{item_there}
+use Rattle.list_laws.proofs.Members.{In-left, In-right}
 use Rattle.blif_read.specs.declared.command.Body.{Body}
 use Rattle.blif_read.specs.declared.command.Body.TheVariants.{Cover, Latch, Subckt}
 use Rattle.blif_read.specs.declared.command.Command.{Command}
@@ -25,12 +27,12 @@ use Rattle.blif_flat.specs.ModelNames.{body_names, commands_names, all_names}
 use Rattle.blif_flat.specs.NetTable.{IsSoundTable, net_places, own_number}
 use Rattle.blif_flat.specs.NetMade.{HasSlots, IsNext}
 use Rattle.blif_flat.specs.NetSlots.{NetsValue, table_of, IsNets}
-use Rattle.blif_flat.specs.NetSteps.{gate_body, cover_output, latch_output, with_named, with_gates}
-use Rattle.blif_flat.proofs.MemberLemmas.{In-left, In-right}
+use Rattle.blif_flat.specs.GateBodies.{body_in, gate_body}
+use Rattle.blif_flat.specs.NetSteps.{cover_output, latch_output, with_named, with_gates}
 use Rattle.blif_flat.proofs.PlaceLemmas.{place_of, command_of}
-use Rattle.blif_flat.proofs.InstanceRowLemmas.{paths_of-length}
+use Rattle.blif_flat.proofs.GateBodyLemmas.{gate_place}
 use Rattle.blif_flat.proofs.InstanceOnceLemmas.{order_apart}
-use Rattle.blif_flat.proofs.NetTableLemmas.{one_place, item_there, place_at}
+use Rattle.blif_flat.proofs.NetTableLemmas.{one_place, place_at}
 use Rattle.blif_flat.proofs.NetSlotLemmas.{copied-nets}
 use Rattle.blif_flat.proofs.NetCopyLemmas.{copied-kept, copied-known, copied-slots, copied-sound}
 use Rattle.blif_flat.proofs.NetOutLemmas.{next_same, next_on}
@@ -132,25 +134,13 @@ module _ (library : LibraryValue) (main : ModelValue) (rows : List Instance) (ar
 
   gate_command : (g : Gate) (path : Path) (b : Body) → slice_get (paths_of rows) g.row ≡ Some path → gate_body library rows g ≡ Some b → IsCommandOf g path b
   gate_command g path b here e =
-      option_and_then_some (λ (row : Instance). option_and_then (λ (m : ModelValue). body_at m g.command) (slice_get library.models row.model)) (slice_get rows g.row) b e (λ row f h.
-      let r = are.each g.row row f in
-      let same : r.path ≡ path = same_Some r.path path (sym r.at ∙ here) in
-      record {
-        model = r.model;
-        there = ap (model_at library) (sym same) ∙ r.there;
-        is = sym (ap (option_and_then (λ (m : ModelValue). body_at m g.command)) r.number) ∙ h;
-      })
+      let place : gate_body library rows g ≡ body_in g.command (model_at library path) = gate_place library rows are g (record { path = path; command = g.command }) (record { row = here; command = refl }) in
+      option_and_then_some (λ (m : ModelValue). body_at m g.command) (model_at library path) b (sym place ∙ e) (λ m f h. record { model = m; there = f; is = h })
 
   -- and the body that a gate's row has at its command
   command_body : (g : Gate) (path : Path) (m : ModelValue) (b : Body) → slice_get (paths_of rows) g.row ≡ Some path → model_at library path ≡ Some m → body_at m g.command ≡ Some b → gate_body library rows g ≡ Some b
   command_body g path m b here there is =
-      let row = item_there (paths_of rows) rows g.row path (paths_of-length rows) here in
-      let r = are.each g.row row.0 row.1 in
-      let same : r.path ≡ path = same_Some r.path path (sym r.at ∙ here) in
-      let model : r.model ≡ m = same_Some r.model m (sym r.there ∙ ap (model_at library) same ∙ there) in
-      ap (option_and_then (λ (x : Instance). option_and_then (λ (y : ModelValue). body_at y g.command) (slice_get library.models x.model))) row.1
-      ∙ ap (option_and_then (λ (y : ModelValue). body_at y g.command)) r.number
-      ∙ ap (λ (y : ModelValue). body_at y g.command) model ∙ is
+      gate_place library rows are g (record { path = path; command = g.command }) (record { row = here; command = refl }) ∙ ap (body_in g.command) there ∙ is
 
   cover_body : (b : Body) (name : List ℕ) → cover_output b ≡ Some name → (c : CoverValue) × (b ≡ Cover c) × (c.output ≡ name)
   cover_body (Cover c) name e = (c, refl, same_Some c.output name e)

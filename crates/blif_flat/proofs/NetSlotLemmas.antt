@@ -10,8 +10,9 @@ use Rattle.blif_flat.specs.declared.flat.Net.{Net as FlatNet}
 use Rattle.blif_flat.specs.declared.nets.Start.{Start}
 use Rattle.blif_flat.specs.NetTable.{with_net}
 use Rattle.blif_flat.specs.NetSlots.{NetsValue, name_place, slot_number, slot_at, table_of, with_slot, with_found, copied, pair_out, pairs_out, pair_in, pairs_in, IsNets}
-use Rattle.blif_flat.proofs.DriverStepLemmas.{drop_at}
-use Rattle.blif_flat.proofs.CoverWalkLemmas.{set_here, set_other, set_length}
+use Rattle.blif_flat.specs.Weight.{most_weight}
+use Rattle.list_laws.proofs.Items.{drop_at}
+use Rattle.list_laws.proofs.Places.{set_here, set_other, set_length}
 
 -- the slot of a name, and why there is none
 pub no_start : (n : NetsValue) (i : ℕ) (name : List ℕ) → slice_get n.starts i ≡ None → slot_number n i name ≡ None
@@ -26,8 +27,8 @@ slot_by_place n i name s ns o e f g = ap (option_and_then (λ (s : Start). name_
     ∙ ap (option_map (λ (p : ℕ). s.first + p)) (sym g)
 
 -- a slot has a small number
-pub slot_fits : (n : NetsValue) (is : IsNets n) (i : ℕ) (name : List ℕ) (k : ℕ) → Some k ≡ slot_number n i name → k < 4194304
-slot_fits n is i name k e = let h : k < length n.slots = is.within i name k (sym e) in let f : length n.slots ≤ 4194304 = is.few in omega arith
+pub slot_fits : (n : NetsValue) (is : IsNets n) (i : ℕ) (name : List ℕ) (k : ℕ) → Some k ≡ slot_number n i name → k < most_weight
+slot_fits n is i name k e = let h : k < length n.slots = is.within i name k (sym e) in let f : length n.slots ≤ most_weight = is.few in omega arith
 
 -- a filled slot changes the table at its name only
 option_apart : (slots : List (Option FlatNet)) (k : ℕ) (number : FlatNet) (o : Option ℕ) → (o ≡ Some k → ⊥) → slot_at (slice_set slots k (Some number)) o ≡ slot_at slots o
@@ -54,7 +55,7 @@ with_slot-table n is i name k number e j other = elim (cases_Bool (eqb j i && by
 -- and names keep their own slots
 pub with_slot-nets : (n : NetsValue) (k : ℕ) (number : FlatNet) → IsNets n → IsNets (with_slot n k number)
 with_slot-nets n k number is = record {
-  few = let long : length (slice_set n.slots k (Some number)) ≡ length n.slots = set_length n.slots k (Some number) in let h : length n.slots ≤ 4194304 = is.few in omega arith;
+  few = let long : length (slice_set n.slots k (Some number)) ≡ length n.slots = set_length n.slots k (Some number) in let h : length n.slots ≤ most_weight = is.few in omega arith;
   within = λ i name j e. let long : length (slice_set n.slots k (Some number)) ≡ length n.slots = set_length n.slots k (Some number) in let h : j < length n.slots = is.within i name j e in omega arith;
   apart = λ i j name other s e f. is.apart i j name other s e f;
 }

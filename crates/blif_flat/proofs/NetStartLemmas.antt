@@ -5,6 +5,7 @@ use Rattle.std.specs.Option.{option_map, option_and_then}
 use Rattle.std.proofs.lemmas.Bool.{both_ways}
 use Rattle.std.proofs.lemmas.List.{length-replicate}
 use Rattle.std.proofs.lemmas.Option.{none-some, same_Some, slice_get-map, slice_get_within}
+use Rattle.list_laws.proofs.Places.{at_within}
 use Rattle.tl_text.specs.NameIndex.{place_of}
 use Rattle.blif_read.specs.LibraryValue.{ModelValue, LibraryValue}
 use Rattle.blif_flat.specs.declared.flat.Net.{Net as FlatNet}
@@ -15,7 +16,8 @@ use Rattle.blif_flat.specs.InstanceRows.{AreInstances, IsLight, paths_of}
 use Rattle.blif_flat.specs.NetSlots.{NetsValue, name_place, slot_number, slot_at, IsNets}
 use Rattle.blif_flat.specs.NetMade.{HasSlots, AreEmptyNets}
 use Rattle.blif_flat.specs.NetStarts.{distinct_names, count_in, name_count, starts_from, slot_count}
-use Rattle.blif_flat.proofs.NameSetLemmas.{place_some, at_within}
+use Rattle.blif_flat.specs.Weight.{most_weight}
+use Rattle.blif_flat.proofs.NameSetLemmas.{place_some}
 use Rattle.blif_flat.proofs.ModelNameLemmas.{distinct_few, distinct_has, place_within, place_is}
 use Rattle.blif_flat.proofs.InstanceWeightLemmas.{held, held_by, light_held}
 use Rattle.blif_flat.proofs.RowModelLemmas.{AreModelsOf, models_rest, models_of}
@@ -140,10 +142,10 @@ module _ (library : LibraryValue) where
       omega arith
 
   module _ (light : IsLight library) (rows : List Instance) (are : AreInstances library rows) where
-    pub few_slots : slot_count all_distinct rows ≤ 4194304
+    pub few_slots : slot_count all_distinct rows ≤ most_weight
     few_slots =
         let a : slot_count all_distinct rows ≤ held_by library (paths_of rows) = held_slots rows (paths_of rows) (models_of library rows are) in
-        let b : held_by library (paths_of rows) ≤ 4194304 = light_held library light are.main (paths_of rows) are.first are.order in
+        let b : held_by library (paths_of rows) ≤ most_weight = light_held library light are.main (paths_of rows) are.first are.order in
         omega arith
 
     abbrev made_nets : NetsValue
@@ -154,7 +156,7 @@ module _ (library : LibraryValue) where
 
     are_nets : IsNets made_nets
     are_nets = record {
-      few = let a : length made_nets.slots ≡ slot_count all_distinct rows = slots_long in let b : slot_count all_distinct rows ≤ 4194304 = few_slots in omega arith;
+      few = let a : length made_nets.slots ≡ slot_count all_distinct rows = slots_long in let b : slot_count all_distinct rows ≤ most_weight = few_slots in omega arith;
       within = λ i name k e.
           let a : length made_nets.slots ≡ slot_count all_distinct rows = slots_long in
           let b : k < 0 + slot_count all_distinct rows = slots_below all_distinct rows 0 i name k e in

@@ -5,7 +5,10 @@ use Rattle.std.specs.Option.{option_and_then}
 use Rattle.std.proofs.lemmas.Bool.{cases_Bool, cond-true}
 use Rattle.std.proofs.lemmas.List.{length-append}
 use Rattle.std.proofs.lemmas.Option.{none-some, same_Some, slice_get_within}
-use Rattle.list_words.specs.Members.{In}
+use Rattle.list_laws.specs.Members.{In}
+use Rattle.list_laws.proofs.Members.{place_in, In-get}
+use Rattle.list_laws.proofs.Places.{get_left}
+use Rattle.list_laws.proofs.TwoLists.{get_right, item_there}
 use Rattle.blif_read.specs.Once.{AreOnce}
 use Rattle.blif_read.specs.declared.command.Body.{Body}
 use Rattle.blif_read.specs.declared.command.Command.{Command}
@@ -23,22 +26,11 @@ use Rattle.blif_flat.specs.InstanceOrder.{model_places, places_at}
 use Rattle.blif_flat.specs.InstanceRows.{path_under, path_of, paths_of, IsRow, AreInstances}
 use Rattle.blif_flat.specs.Flat.{Places, an_input, IsNetOf}
 use Rattle.blif_flat.specs.NetTable.{net_places, IsNetFound, AreNetsAt, IsSoundTable, HasOwn, HasOutputs, HasInputs, kind_count, base_of, own_number}
-use Rattle.blif_flat.proofs.NameLemmas.{In-get}
 use Rattle.blif_flat.proofs.PlaceLemmas.{place_of, child_at}
 use Rattle.blif_flat.proofs.InstanceOrderLemmas.{order_all}
 use Rattle.blif_flat.proofs.InstanceRowLemmas.{paths_of-length}
 use Rattle.blif_flat.proofs.InstanceOnceLemmas.{order_apart}
 use Rattle.blif_flat.proofs.NetLemmas.{no_input, has_its_driver}
-
--- a member stands at a place
-record StandsAt {A : Type 0} (xs : List A) (x : A) : Type 0 where
-  place : ℕ
-  at : slice_get xs place ≡ Some x
-
-stands : {A : Type 0} (xs : List A) (x : A) → In xs x → StandsAt xs x
-stands [] x i = absurd i
-stands (y ∷ xs) x (inl e) = record { place = 0; at = ap Some (sym e) }
-stands (y ∷ xs) x (inr i) = let r = stands xs x i in record { place = suc r.place; at = r.at }
 
 -- and at one place only where the members stand once
 pub one_place : (xs : List Path) (x : Path) (i j : ℕ) → AreOnce xs → slice_get xs i ≡ Some x → slice_get xs j ≡ Some x → i ≡ j
@@ -47,16 +39,6 @@ one_place (y ∷ xs) x zero zero once a b = refl
 one_place (y ∷ xs) x zero (suc j) once a b = absurd (once.0 (subst (In xs) (sym (same_Some y x a)) (In-get xs j x b)))
 one_place (y ∷ xs) x (suc i) zero once a b = absurd (once.0 (subst (In xs) (sym (same_Some y x b)) (In-get xs i x a)))
 one_place (y ∷ xs) x (suc i) (suc j) once a b = ap suc (one_place xs x i j once.1 a b)
-
--- what stands in the first of two lists, and in the second
-get_left : {A : Type 0} (xs ys : List A) (i : ℕ) (x : A) → slice_get xs i ≡ Some x → slice_get (xs ++ ys) i ≡ Some x
-get_left [] ys i x e = absurd (none-some x e)
-get_left (y ∷ xs) ys zero x e = e
-get_left (y ∷ xs) ys (suc i) x e = get_left xs ys i x e
-
-get_right : {A : Type 0} (xs ys : List A) (i : ℕ) (x : A) → slice_get ys i ≡ Some x → slice_get (xs ++ ys) (length xs + i) ≡ Some x
-get_right [] ys i x e = subst (λ n. slice_get ys n ≡ Some x) (let q : i ≡ 0 + i = omega arith in q) e
-get_right (y ∷ xs) ys i x e = subst (λ n. slice_get (y ∷ (xs ++ ys)) n ≡ Some x) (let q : suc (length xs + i) ≡ suc (length xs) + i = omega arith in q) (get_right xs ys i x e)
 
 -- a command of a kind stands among its model's own ones behind those of the kind before it
 own_at : (kind : Body → Bool) (path : Path) (i : ℕ) (cs : List Command) (j : ℕ) (c : Command) → slice_get cs j ≡ Some c → IsTrue (kind c.body)
@@ -125,13 +107,6 @@ module _ (library : LibraryValue) where
       → IsNetOf library at path pair.actual number → IsNetOf library at (k ∷ path) pair.formal number
   inner_number path k pair a number t o = record { net = o.net; drives = from_outside k path pair a t refl refl o.drives; numbered = o.numbered }
 
--- a list as long as another one has an element where that one has one
-pub item_there : {A B : Type 0} (xs : List A) (ys : List B) (i : ℕ) (x : A) → length xs ≡ length ys → slice_get xs i ≡ Some x → (y : B) × (slice_get ys i ≡ Some y)
-item_there [] ys i x n e = absurd (none-some x e)
-item_there (z ∷ xs) [] i x n e = absurd (omega arith)
-item_there (z ∷ xs) (y ∷ ys) zero x n e = (y, refl)
-item_there (z ∷ xs) (y ∷ ys) (suc i) x n e = let m : suc (length xs) ≡ suc (length ys) = n in item_there xs ys i x (omega arith) e
-
 -- the row of an inner instance, and the place of the instance that it stands in
 pub record HasParent (paths : List Path) (row : Instance) (k : ℕ) (outer : Path) : Type 0 where
   pub place : ℕ
@@ -169,8 +144,7 @@ module _ (library : LibraryValue) (rows : List Instance) (are : AreInstances lib
   -- every instance has a place
   pub instance_place : (path : Path) (m : ModelValue) → model_at library path ≡ Some m → (i : ℕ) × (slice_get (paths_of rows) i ≡ Some path)
   instance_place path m e =
-      let r : StandsAt (paths_of rows) path = stands (paths_of rows) path (order_all library are.main (paths_of rows) are.first are.order path m e) in
-      (r.place, r.at)
+      place_in (paths_of rows) path (order_all library are.main (paths_of rows) are.first are.order path m e)
 
   module _ (driven : IsDriven library) (table : ℕ → List ℕ → Option FlatNet) (own : HasOwn library (paths_of rows) table) where
     -- a driver that is no input has its number in the table, if its subcircuit stands from place t on

@@ -2,7 +2,8 @@
 use Rattle.std.proofs.Common.{◌≡◌, ℕ, List, [], ◌∷◌, Option, Some, None, refl, sym, ap, ◌∙◌, subst, inl, inr}
 use Rattle.std.specs.Option.{option_and_then}
 use Rattle.std.proofs.lemmas.Option.{none-some, same_Some, option_and_then_some}
-use Rattle.list_words.specs.Members.{In}
+use Rattle.list_laws.specs.Members.{In}
+use Rattle.list_laws.proofs.Members.{In-right}
 use Rattle.blif_read.specs.declared.command.Body.{Body}
 use Rattle.blif_read.specs.declared.command.Body.TheVariants.{Cover, Latch, Subckt}
 use Rattle.blif_read.specs.declared.latch.Latch.{Latch as LatchValue}
@@ -15,7 +16,6 @@ use Rattle.blif_flat.specs.Nets.{input_net, Drives, IsClock}
 use Rattle.blif_flat.specs.Places.{Place, cover_in, latch_in, cover_at, latch_at}
 use Rattle.blif_flat.specs.ClockFaults.{Clocks, stop, free, no_input, second, same, data_inputs, data_of, ClockAmong, none, first, ClockData, outputs, here, later}
 use Rattle.blif_flat.specs.Sound.{IsData, cover_data, latch_data, IsSound}
-use Rattle.blif_flat.proofs.MemberLemmas.{In-right}
 use Rattle.blif_flat.proofs.NetLemmas.{one_net}
 
 module _ (library : LibraryValue) where

@@ -1,7 +1,7 @@
 -- The values of nets by their numbers: of the inputs and the latches those given, and of the covers those known.
 use Rattle.std.proofs.Common.{◌≡◌, ℕ, Bool, false, List, [], ◌∷◌, map, Some, refl, sym, ap, ap₂, ◌∙◌, subst, inl, inr, unwrap_or}
 use Rattle.std.specs.Prelude.{slice_get}
-use Rattle.list_words.specs.Members.{In}
+use Rattle.list_laws.specs.Members.{In}
 use Rattle.blif_read.specs.CoverValue.{CoverValue}
 use Rattle.blif_read.specs.LibraryValue.{LibraryValue}
 use Rattle.blif_flat.specs.declared.flat.Net.{Net as FlatNet}

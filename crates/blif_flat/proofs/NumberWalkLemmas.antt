@@ -4,8 +4,9 @@ use Rattle.std.specs.Prelude.{slice_get, if◌then◌else◌}
 use Rattle.std.proofs.lemmas.Bool.{both_ways, cases_Bool}
 use Rattle.std.proofs.lemmas.List.{map-append}
 use Rattle.std.proofs.lemmas.Option.{slice_get_within}
-use Rattle.list_words.specs.Members.{In}
-use Rattle.blif_read.specs.declared.latch.Latch.{Latch as LatchValue}
+use Rattle.list_laws.specs.Members.{In}
+use Rattle.list_laws.proofs.Members.{In-append}
+use Rattle.list_laws.proofs.Places.{at_within}
 use Rattle.blif_read.specs.LibraryValue.{ModelValue, LibraryValue}
 use Rattle.blif_flat.specs.declared.flat_err.FlatErr.TheVariants.{Loop}
 use Rattle.blif_flat.specs.declared.flat.Net.{Net as FlatNet}
@@ -15,20 +16,19 @@ use Rattle.blif_flat.specs.declared.flat.FlatLatch.{FlatLatch}
 use Rattle.blif_flat.specs.FlatCoverValue.{FlatCoverValue}
 use Rattle.blif_flat.specs.FlatValue.{FlatValue}
 use Rattle.blif_flat.specs.Models.{Path}
-use Rattle.blif_flat.specs.Instances.{LatchAt}
 use Rattle.blif_flat.specs.Nets.{Net}
 use Rattle.blif_flat.specs.Places.{Place, same_place, latch_at, is_cover}
 use Rattle.blif_flat.specs.Loops.{AreNets, with_cover, covers_among, reads_in, reads_of}
 use Rattle.blif_flat.specs.LoopFault.{latch_covers, all_latch_covers, roots_of, from_node, AreWritten, LoopWalk, IsLoop}
 use Rattle.blif_flat.specs.Flat.{Places, IsNumbered, an_input, a_latch, a_cover, IsNetOf, AreNetsOf, none, more, cover_numbers, inputs_at, IsFlatCover, IsFlatLatch, IsFlat}
 use Rattle.blif_flat.specs.Ordering.{AreWalked, latch_nets, root_numbers}
-use Rattle.blif_flat.specs.Walking.{Cycle, MeetsAll}
-use Rattle.blif_flat.specs.CoverWalk.{cover_reads, InRange, numbers_from, from_number, IsCycle, IsOrder}
+use Rattle.blif_flat.specs.DepthFirst.{Repeat, MeetsAll}
+use Rattle.blif_flat.specs.CoverWalk.{cover_reads, InRange, numbers_from, from_number, IsNumberLoop, IsOrder}
 use Rattle.blif_flat.proofs.PlaceLemmas.{same_place-is, same_place-refl, cover_at-is}
-use Rattle.blif_flat.proofs.InstanceOrderLemmas.{member_parts}
-use Rattle.blif_flat.proofs.NameSetLemmas.{at_within}
-use Rattle.blif_flat.proofs.PlaceOnceLemmas.{apart_once, order_apart}
-use Rattle.blif_flat.proofs.WalkMapLemmas.{result_mapped, cycle_mapped, IsInside, nodes_inside, nodes_mapped}
+use Rattle.blif_flat.proofs.ListGeneral.{apart_once}
+use Rattle.blif_flat.proofs.PlaceOnceLemmas.{order_apart}
+use Rattle.blif_flat.proofs.WalkMapLemmas.{result_mapped, repeat_mapped, IsInside, nodes_inside, nodes_mapped}
+use Rattle.blif_flat.proofs.GateBodyLemmas.{latch_at-some}
 
 pub flat_walked : (library : LibraryValue) (flat : FlatValue) (f : IsFlat library flat) → AreWalked library f.main f.at (map (λ (o : OutPort). o.net) flat.outputs) flat.covers flat.latches
 flat_walked library flat f = record {
@@ -79,9 +79,6 @@ first_numbers (Cover j) nets = refl
 first_mapped : (at : Places) (net : FlatNet) (nets : List FlatNet) → map (place_at at) (cover_numbers (net ∷ nets)) ≡ map (place_at at) (cover_numbers (net ∷ [])) ++ map (place_at at) (cover_numbers nets)
 first_mapped at net nets = ap (map (place_at at)) (first_numbers net nets) ∙ map-append (place_at at) (cover_numbers (net ∷ [])) (cover_numbers nets)
 
-pub latch_at-is : (library : LibraryValue) (p : Place) (l : LatchValue) → LatchAt library p.path p.command l → latch_at library p ≡ Some l
-latch_at-is library p l a = rw (a.at, a.is) refl
-
 module _ (library : LibraryValue) (at : Places) where
   -- the covers among numbered nets are numbered
   with_below : (number : FlatNet) (e : Net) → IsNumbered at e number → (numbers : List FlatNet) (m : ℕ) → (In (cover_numbers numbers) m → m < length at.covers)
@@ -115,7 +112,7 @@ module _ (library : LibraryValue) (at : Places) where
     among_mapped path (more name names number numbers o os) = one_mapped path name number o (covers_among (net path) names) numbers (among_mapped path os)
 
     latch_mapped : (p : Place) (l : FlatLatch) → IsFlatLatch library at p l → latch_covers (net p.path) (latch_at library p) ≡ map (place_at at) (cover_numbers (l.input ∷ []))
-    latch_mapped p l o = ap (latch_covers (net p.path)) (latch_at-is library p o.latch o.is) ∙ one_mapped p.path (o.latch).input l.input o.input [] [] refl
+    latch_mapped p l o = ap (latch_covers (net p.path)) (latch_at-some library p o.latch o.is) ∙ one_mapped p.path (o.latch).input l.input o.input [] [] refl
 
     latches_mapped : (ps : List Place) (ls : List FlatLatch) → length ls ≡ length ps → ((k : ℕ) (p : Place) (l : FlatLatch) → slice_get ps k ≡ Some p → slice_get ls k ≡ Some l → IsFlatLatch library at p l)
         → all_latch_covers library net ps ≡ map (place_at at) (cover_numbers (latch_nets ls))
@@ -172,7 +169,7 @@ module _ (library : LibraryValue) (main : ModelValue) (at : Places) (outputs : L
       one_number_at n m p.0 q.0 p.1 q.1 e
 
   roots_below : (m : ℕ) → In (root_numbers outputs latches) m → m < length at.covers
-  roots_below m i = elim (member_parts (cover_numbers outputs) (cover_numbers (latch_nets latches)) m i) as (λ _. m < length at.covers) [
+  roots_below m i = elim (In-append (cover_numbers outputs) (cover_numbers (latch_nets latches)) m i) as (λ _. m < length at.covers) [
     | inl j ↦ among_below library at [] w.outputs_are m j
     | inr j ↦ latches_below library at at.latches latches w.latch_count w.latches_are m j
   ]
@@ -184,12 +181,12 @@ module _ (library : LibraryValue) (main : ModelValue) (at : Places) (outputs : L
   starts = root_numbers outputs latches ++ numbers_from 0 (length covers)
 
   starts_below : (m : ℕ) → In starts m → m < length at.covers
-  starts_below m i = elim (member_parts (root_numbers outputs latches) (numbers_from 0 (length covers)) m i) as (λ _. m < length at.covers) [
+  starts_below m i = elim (In-append (root_numbers outputs latches) (numbers_from 0 (length covers)) m i) as (λ _. m < length at.covers) [
     | inl j ↦ roots_below m j
     | inr j ↦ (let b : m < 0 + length covers = numbers_below 0 (length covers) m j in let e : length covers ≡ length at.covers = w.cover_count in omega arith)
   ]
 
-  -- the cycle of numbers is one of places
+  -- the loop of numbers is one of places
   same_number : (n m : ℕ) → n < length at.covers → m < length at.covers → (b : Bool) → eqb n m ≡ b → same_place (place_at at n) (place_at at m) ≡ b
   same_number n m p q true e = subst (λ k. same_place (place_at at n) (place_at at k) ≡ true) (eqb-true n m e) (same_place-refl (place_at at n))
   same_number n m p q false e = elim (cases_Bool (same_place (place_at at n) (place_at at m))) [
@@ -211,7 +208,7 @@ module _ (library : LibraryValue) (main : ModelValue) (at : Places) (outputs : L
   within_case : (b : Bool) (k : ℕ) (xs : List ℕ) (m : ℕ) → k < length at.covers → (In xs m → m < length at.covers) → In (if b then k ∷ [] else xs ++ k ∷ []) m → m < length at.covers
   within_case true k xs m l h (inl e) = subst (λ x. x < length at.covers) (sym e) l
   within_case true k xs m l h (inr i) = absurd i
-  within_case false k xs m l h i = elim (member_parts xs (k ∷ []) m i) as (λ _. m < length at.covers) [
+  within_case false k xs m l h i = elim (In-append xs (k ∷ []) m i) as (λ _. m < length at.covers) [
     | inl j ↦ h j
     | inr j ↦ elim j as (λ _. m < length at.covers) [ inl e ↦ subst (λ x. x < length at.covers) (sym e) l | inr o ↦ absurd o ]
   ]
@@ -245,7 +242,7 @@ module _ (library : LibraryValue) (main : ModelValue) (at : Places) (outputs : L
         ∙ ap₂ (λ (x y : List Place). x ++ y) (sym same_roots) (all_places at (length covers) w.cover_count)
 
     -- what the walk of the numbers finds, the walk of the places does
-    pub walk_mapped : (result : Option (Cycle ℕ)) → MeetsAll (cover_reads covers) [] starts result → LoopWalk library (result_mapped (place_at at) result)
+    pub walk_mapped : (result : Option (Repeat ℕ)) → MeetsAll (cover_reads covers) [] starts result → LoopWalk library (result_mapped (place_at at) result)
     walk_mapped result m = record {
       main = main;
       at = w.is_main;
@@ -263,29 +260,29 @@ module _ (library : LibraryValue) (main : ModelValue) (at : Places) (outputs : L
     pub order_mapped : (order : List ℕ) → IsOrder covers (root_numbers outputs latches) order → LoopWalk library None
     order_mapped order o = walk_mapped None o.meets
 
-    -- a cycle of the numbers: the places have a loop, of the places of these numbers
-    pub record IsPlaceCycle (nodes : List ℕ) : Type 0 where
-      pub cycle : Cycle Place
-      pub walk : LoopWalk library (Some cycle)
-      pub nodes_are : from_node cycle.node cycle.path ≡ map (place_at at) nodes
+    -- a loop of the numbers: the places have a loop, of the places of these numbers
+    pub record IsPlaceLoop (nodes : List ℕ) : Type 0 where
+      pub repeat : Repeat Place
+      pub walk : LoopWalk library (Some repeat)
+      pub nodes_are : from_node repeat.node repeat.path ≡ map (place_at at) nodes
       pub below : (m : ℕ) → In nodes m → m < length at.covers
 
-    pub cycle_mapped_to : (nodes : List ℕ) → IsCycle covers (root_numbers outputs latches) nodes → IsPlaceCycle nodes
-    cycle_mapped_to nodes c =
-        let own : Cycle ℕ = c.cycle in
+    pub loop_mapped : (nodes : List ℕ) → IsNumberLoop covers (root_numbers outputs latches) nodes → IsPlaceLoop nodes
+    loop_mapped nodes c =
+        let own : Repeat ℕ = c.repeat in
         let i : IsInside (cover_reads covers) (λ k. k < length at.covers) (λ n k p j. below n k j) own =
         nodes_inside (cover_reads covers) (λ k. k < length at.covers) (λ n k p j. below n k j) c.meets own refl starts_below (λ k j. absurd j) in
         record {
-          cycle = cycle_mapped (place_at at) own;
+          repeat = repeat_mapped (place_at at) own;
           walk = walk_mapped (Some own) c.meets;
           nodes_are = from_mapped own.node own.path i.node i.path ∙ sym (ap (map (place_at at)) c.nodes_are);
           below = λ m j. from_within own.node own.path i.path m (subst (λ l. In l m) c.nodes_are j);
         }
 
-    -- F10 of a cycle of numbers, by the names of its places
-    pub loop_fault : (nodes : List ℕ) → IsPlaceCycle nodes → (names : List (List ℕ)) → AreWritten library (map (place_at at) nodes) names → IsLoop library (Loop names)
+    -- F10 of a loop of numbers, by the names of its places
+    pub loop_fault : (nodes : List ℕ) → IsPlaceLoop nodes → (names : List (List ℕ)) → AreWritten library (map (place_at at) nodes) names → IsLoop library (Loop names)
     loop_fault nodes p names written = record {
-      cycle = p.cycle;
+      repeat = p.repeat;
       walk = p.walk;
       names = names;
       written = subst (λ l. AreWritten library l names) (sym p.nodes_are) written;

@@ -1,8 +1,8 @@
 -- Values along an order, in which each node stands behind those that it reads: each node has the value that its rule gives, and no others do.
 use Rattle.std.proofs.Common.{◌≡◌, Bool, true, false, cond, List, [], ◌∷◌, refl, sym, ◌∙◌, subst, inl, inr}
 use Rattle.std.proofs.lemmas.Bool.{cond-true, cond-false, false_from_ne_true}
-use Rattle.list_words.specs.Members.{In}
-use Rattle.blif_flat.specs.Loops.{IsAfter}
+use Rattle.list_laws.specs.Members.{In}
+use Rattle.blif_flat.specs.CoverOrder.{IsAfter}
 
 -- the values along an order, the last first, where a node's rule is given the values so far
 abbrev pub evaluated : {N : Type 0} → (N → N → Bool) → (N → (N → Bool) → Bool) → List N → N → Bool

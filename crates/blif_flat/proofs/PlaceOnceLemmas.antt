@@ -2,35 +2,16 @@
 use Rattle.std.proofs.Common.{◌≡◌, ℕ, zero, suc, ◌≤◌, Bool, true, false, ◌⊎◌, List, [], ◌∷◌, ◌++◌, Some, refl, sym, ap, ◌∙◌, subst, inl, inr, append_assoc, arith}
 use Rattle.std.specs.Prelude.{slice_get, if◌then◌else◌}
 use Rattle.std.proofs.lemmas.Option.{none-some}
-use Rattle.list_words.specs.Members.{In}
+use Rattle.list_laws.specs.Members.{In}
+use Rattle.list_laws.proofs.Members.{In-get, In-append}
 use Rattle.blif_read.specs.declared.command.Body.{Body}
 use Rattle.blif_read.specs.declared.command.Command.{Command}
 use Rattle.blif_read.specs.SubcktValue.{SubcktValue}
 use Rattle.blif_read.specs.LibraryValue.{ModelValue, LibraryValue}
 use Rattle.blif_flat.specs.Models.{Path}
 use Rattle.blif_flat.specs.Places.{Place, own_places, FlatOrder, flat, FlatUnder, none, more}
-use Rattle.blif_flat.proofs.InstanceOrderLemmas.{member_parts}
 use Rattle.blif_flat.proofs.InstanceOnceLemmas.{IsWithin, IsBelow, not_itself, apart_below}
-use Rattle.blif_flat.proofs.NameLemmas.{In-get}
-
--- a list in which nothing stands twice
-abbrev pub AreApart : {A : Type 0} → List A → Type 0
-AreApart [] = Unit {0}
-AreApart (x ∷ xs) = (In xs x → ⊥) × AreApart xs
-
-joined_apart : {A : Type 0} (xs ys : List A) → AreApart xs → AreApart ys → ((p : A) → In xs p → In ys p → ⊥) → AreApart (xs ++ ys)
-joined_apart [] ys a b apart = b
-joined_apart (x ∷ xs) ys a b apart = (
-  λ (i : In (xs ++ ys) x). elim (member_parts xs ys x i) [ inl j ↦ a.0 j | inr j ↦ apart x (inl refl) j ],
-  joined_apart xs ys a.1 b (λ p i j. apart p (inr i) j),
-)
-
-pub apart_once : {A : Type 0} (xs : List A) (i j : ℕ) (x : A) → AreApart xs → slice_get xs i ≡ Some x → slice_get xs j ≡ Some x → i ≡ j
-apart_once [] i j x a e f = absurd (none-some x e)
-apart_once (y ∷ xs) zero zero x a e f = refl
-apart_once (y ∷ xs) zero (suc j) x a e f = absurd (a.0 (In-get xs j y (f ∙ sym e)))
-apart_once (y ∷ xs) (suc i) zero x a e f = absurd (a.0 (In-get xs i y (e ∙ sym f)))
-apart_once (y ∷ xs) (suc i) (suc j) x a e f = ap suc (apart_once xs i j x a.1 e f)
+use Rattle.blif_flat.proofs.ListGeneral.{AreApart, joined_apart}
 
 own_case : {A : Type 0} (b : Bool) (x : A) (xs : List A) (p : A) → In (if b then x ∷ xs else xs) p → (p ≡ x) ⊎ In xs p
 own_case true x xs p i = i
@@ -62,14 +43,14 @@ module _ (library : LibraryValue) (kind : Body → Bool) where
 
   mutual
     order_within : {path : Path} {m : ModelValue} {places : List Place} → FlatOrder library kind path m places → (p : Place) → In places p → IsWithin path p.path
-    order_within {path} {m} (flat inner under z) p i = elim (member_parts (own_places kind path 0 m.commands) inner p (subst (λ l. In l p) z i)) [
+    order_within {path} {m} (flat inner under z) p i = elim (In-append (own_places kind path 0 m.commands) inner p (subst (λ l. In l p) z i)) [
       | inl j ↦ record { inner = []; is = (own_from path 0 m.commands p j).is }
       | inr j ↦ (let b = under_below under p j in record { inner = b.inner ++ b.ordinal ∷ []; is = b.is ∙ sym (append_assoc b.inner (b.ordinal ∷ []) path) })
     ]
 
     under_below : {path : Path} {k : ℕ} {subckts : List SubcktValue} {places : List Place} → FlatUnder library kind path k subckts places → (p : Place) → In places p → IsBelow path k p.path
     under_below (none a b) p i = absurd (subst (λ l. In l p) b i)
-    under_below {path} {k} (more s rest child these others e named order under z) p i = elim (member_parts these others p (subst (λ l. In l p) z i)) [
+    under_below {path} {k} (more s rest child these others e named order under z) p i = elim (In-append these others p (subst (λ l. In l p) z i)) [
       | inl j ↦ (let w = order_within order p j in record { inner = w.inner; ordinal = k; from = omega arith; is = w.is })
       | inr j ↦ (let b = under_below under p j in let from : suc k ≤ b.ordinal = b.from in record { inner = b.inner; ordinal = b.ordinal; from = omega arith; is = b.is })
     ]

@@ -1,14 +1,18 @@
 -- A postorder, the last first, is an order: each node stands before those that it goes to, and none stands twice.
 use Rattle.std.proofs.Common.{◌≡◌, List, [], ◌∷◌, sym, subst, subst₂, refl, inl, inr, ◌⊎◌}
-use Rattle.list_words.specs.Members.{In}
-use Rattle.blif_flat.specs.Walking.{Posts, skips, posts, PostsAll, none, more}
-use Rattle.blif_flat.specs.Loops.{IsAfter}
+use Rattle.list_laws.specs.Members.{In}
+use Rattle.blif_flat.specs.DepthFirst.{Posts, skips, posts, PostsAll, none, more}
+use Rattle.blif_flat.specs.CoverOrder.{IsAfter}
 
 module _ {N : Type 0} (next : N → List N) where
   -- n leads to m by one step or more
   pub data Reaches : N → N → Type 0 where
     at_once : {n m : N} → In (next n) m → Reaches n m
     further : {n m : N} (k : N) → In (next n) k → Reaches k m → Reaches n m
+
+  pub one_more : {n m : N} → Reaches n m → (k : N) → In (next m) k → Reaches n k
+  one_more {n} {m} (at_once i) k j = further m i (at_once j)
+  one_more (further q i r) k j = further q i (one_more r k j)
 
   -- in an order what a node leads to stands behind it, so none leads to itself
   step_stands : (order : List N) (n m : N) → IsAfter next order → In order n → In (next n) m → In order m
@@ -101,3 +105,18 @@ module _ {N : Type 0} (next : N → List N) where
     pub nodes_after : {done ns result : List N} → PostsAll next done ns result → IsAfter next done → IsAfter next result
     nodes_after (none a q) after = subst (IsAfter next) (sym q) after
     nodes_after (more n rest below a p ps) after = nodes_after ps (node_after p after)
+
+  -- what holds of the nodes visited, and of what those go to, holds of all done
+  module _ (P : N → Type 0) (closed : (n m : N) → P n → In (next n) m → P m) where
+    mutual
+      node_only : {done result : List N} {n : N} → Posts next done n result → P n → ((m : N) → In done m → P m) → (m : N) → In result m → P m
+      node_only (skips j q) p h m i = h m (subst (λ l. In l m) q i)
+      node_only {n = n} (posts below new d q) p h m i = elim (subst (λ l. In l m) q i) as (λ _. P m) [
+        | inl e ↦ subst P (sym e) p
+        | inr j ↦ nodes_only d (λ k r. closed n k p r) h m j
+      ]
+
+      pub nodes_only : {done ns result : List N} → PostsAll next done ns result → ((n : N) → In ns n → P n) → ((m : N) → In done m → P m) → (m : N) → In result m → P m
+      nodes_only (none a q) p h m i = h m (subst (λ l. In l m) q i)
+      nodes_only (more n rest below a d ps) p h m i =
+          nodes_only ps (λ k j. p k (subst (λ l. In l k) (sym a) (inr j))) (node_only d (p n (subst (λ l. In l n) (sym a) (inl refl))) h) m i

@@ -4,7 +4,8 @@ use Rattle.std.specs.Prelude.{slice_get, not}
 use Rattle.std.proofs.lemmas.Bool.{or_cases, or_left, or_right, and_parts, false≢true, false_from_ne_true}
 use Rattle.std.proofs.lemmas.Option.{none-some, same_Some}
 use lib.Pointwise.{bytes_decides}
-use Rattle.list_words.specs.Members.{In}
+use Rattle.list_laws.specs.Members.{In}
+use Rattle.list_laws.proofs.Members.{In-append, place_in}
 use Rattle.blif_read.specs.declared.command.Body.{Body}
 use Rattle.blif_read.specs.declared.command.Body.TheVariants.{Cover, Latch, Subckt}
 use Rattle.blif_read.specs.declared.command.Command.{Command}
@@ -16,11 +17,10 @@ use Rattle.blif_flat.specs.Models.{Path, with_subckt, subckts_of, model_named, p
 use Rattle.blif_flat.specs.Instances.{ConnectionAt}
 use Rattle.blif_flat.specs.Drivers.{Ends, ends, IsDriven}
 use Rattle.blif_flat.specs.Walk.{SubcktLine, with_line, subckt_lines, line_fault, Walked, refused, walked, Walks, stop, refuse, again, inside, onward, WalksMain}
-use Rattle.blif_flat.proofs.NameLemmas.{In-parts, in_input}
+use Rattle.blif_flat.proofs.NameLemmas.{in_input}
 use Rattle.blif_flat.proofs.PlaceLemmas.{placed-is}
 use Rattle.blif_flat.proofs.LineFaultLemmas.{Connected, no_unknown_formal, no_open_input, no_line_fault}
 use Rattle.blif_flat.proofs.WalkedLemmas.{named_is, main_named}
-use Rattle.blif_flat.proofs.InstanceLemmas.{place_in}
 
 -- the subcircuit of a line
 line_subckt : (n : ℕ) (b : Body) (subckts : List SubcktValue) (lines : List SubcktLine) (l : SubcktLine) → (In lines l → In subckts l.subckt) → In (with_line n b lines) l → In (with_subckt b subckts) l.subckt
@@ -174,7 +174,7 @@ module _ (library : LibraryValue) where
     walked_at {chain} {m} {before} {lines} (onward l rest child after e g t n w v) ms q path at all h x i =
         let c = child_of path m l at (head_in m lines l rest e all) in
         let here : model_at library (c.ordinal ∷ path) ≡ Some child = c.at ∙ ap Some (walks_into path m child l c n) in
-        walked_at v ms q path at (rest_in m lines l rest e all) (walked_at w after refl (c.ordinal ∷ path) here (λ k j. j) (λ y j. elim (In-parts before (child ∷ []) y j) [
+        walked_at v ms q path at (rest_in m lines l rest e all) (walked_at w after refl (c.ordinal ∷ path) here (λ k j. j) (λ y j. elim (In-append before (child ∷ []) y j) [
           | inl z ↦ h y z
           | inr z ↦ (elim z [ inl s ↦ (c.ordinal ∷ path, here ∙ ap Some (sym s)) | inr o ↦ absurd o ])
         ])) x i

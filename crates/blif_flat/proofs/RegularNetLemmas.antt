@@ -4,7 +4,7 @@ use Rattle.std.specs.Prelude.{slice_get}
 use Rattle.std.proofs.lemmas.Bool.{cases_Bool, both_ways}
 use Rattle.std.proofs.lemmas.List.Elements.{filter-append}
 use Rattle.std.proofs.lemmas.Option.{none-some, same_Some}
-use Rattle.list_words.specs.Members.{In}
+use Rattle.list_laws.specs.Members.{In}
 use Rattle.blif_read.specs.LibraryValue.{LibraryValue}
 use Rattle.blif_flat.specs.declared.flat.Net.{Net as FlatNet}
 use Rattle.blif_flat.specs.declared.flat.Net.TheVariants.{Input}
@@ -18,7 +18,8 @@ use Rattle.blif_flat.specs.NetSlots.{NetsValue, table_of}
 use Rattle.blif_flat.specs.NetMade.{AreAllNets}
 use Rattle.blif_flat.specs.RegularNets.{regular_numbers, renumbered, IsRegular, regular_places}
 use Rattle.blif_flat.specs.FieldSteps.{renumbered_or, regular_net, regular_nets}
-use Rattle.blif_flat.proofs.RegularLemmas.{has_member, In-filter}
+use Rattle.blif_flat.proofs.RegularLemmas.{In-filter}
+use Rattle.blif_flat.proofs.NameLemmas.{in_has}
 
 -- an element that isn't marked has a number, counted on from n, and stands there among those that aren't marked
 record IsKept {A : Type 0} (test : A → Bool) (n : ℕ) (xs : List A) (j : ℕ) (x : A) : Type 0 where
@@ -65,7 +66,7 @@ module _ (library : LibraryValue) (numbers : List ℕ) (r : IsRegular library nu
   clock_marked : (name : List ℕ) → In r.main.clocks name → r.test name ≡ true
   clock_marked name i = elim (cases_Bool (r.test name)) [
     | inl t ↦ t
-    | inr f ↦ absurd (r.tells.no name f (listed r.main r.is_main (has_member r.main.clocks name i)))
+    | inr f ↦ absurd (r.tells.no name f (listed r.main r.is_main (in_has r.main.clocks name i)))
   ]
 
   not_marked : (name : List ℕ) → (IsClock library name → ⊥) → r.test name ≡ false

@@ -2,16 +2,16 @@
 use Rattle.std.proofs.Common.{◌≡◌, ℕ, true, false, List, [], ◌∷◌, ◌++◌, Option, Some, None, refl, sym, ap, ◌∙◌, subst, inl, inr, append_assoc, append-nil}
 use Rattle.std.proofs.lemmas.Bool.{both_ways, false_from_ne_true}
 use Rattle.std.proofs.lemmas.Option.{none-some}
-use Rattle.list_words.specs.Members.{In}
+use Rattle.list_laws.specs.Members.{In}
+use Rattle.list_laws.proofs.Choice.{none_else, none_both}
+use Rattle.list_laws.proofs.Members.{In-left, In-right, In-append}
 use Rattle.blif_read.specs.declared.command.Command.{Command}
 use Rattle.blif_read.specs.LibraryValue.{ModelValue, LibraryValue}
 use Rattle.blif_flat.specs.declared.flat_err.FlatErr.{FlatErr}
 use Rattle.blif_flat.specs.declared.flat_err.FlatErr.TheVariants.{DoublyDriven, Undriven}
 use Rattle.blif_flat.specs.Models.{has_name, inputs_of}
 use Rattle.blif_flat.specs.DriverFaults.{or_later, drives, reads, all_drives, driven_names, twice_in, twice_fault, undriven_in, undriven_fault, model_fault, models_fault}
-use Rattle.blif_flat.proofs.MemberLemmas.{In-left, In-right}
-use Rattle.blif_flat.proofs.NameLemmas.{In-parts, has_in, in_has}
-use Rattle.blif_flat.proofs.LineFaultLemmas.{cond_none, none_cond}
+use Rattle.blif_flat.proofs.NameLemmas.{has_in, in_has}
 use Rattle.blif_flat.proofs.TagLemmas.{Tag, names, In-names}
 
 none_of : (first later : Option FlatErr) → or_later first later ≡ None → (first ≡ None) × (later ≡ None)
@@ -38,7 +38,7 @@ new_later driven (x ∷ xs) ys a = subst (λ ns. AreNew ns ys) (append_assoc dri
 twice_new : (model : List ℕ) (line : ℕ) (driven names : List (List ℕ)) → twice_in model line driven names ≡ None → AreNew driven names
 twice_new model line driven [] e = tt
 twice_new model line driven (name ∷ rest) e =
-    let c = none_cond (has_name driven name) (DoublyDriven model line name) (twice_in model line (driven ++ name ∷ []) rest) e in
+    let c = none_both (has_name driven name) (DoublyDriven model line name) (twice_in model line (driven ++ name ∷ []) rest) e in
     (c.0, twice_new model line (driven ++ name ∷ []) rest c.1)
 
 new_twice : (model : List ℕ) (line : ℕ) (driven names : List (List ℕ)) → AreNew driven names → twice_in model line driven names ≡ None
@@ -85,7 +85,7 @@ apart_new driven [] h a = tt
 apart_new driven (t ∷ ts) h a = (
   false_from_ne_true (has_name driven t.name) (λ y. h t (inl refl) (has_in driven t.name y)),
   apart_new (driven ++ t.name ∷ []) ts
-      (λ u i d. elim (In-parts driven (t.name ∷ []) u.name d) [
+      (λ u i d. elim (In-append driven (t.name ∷ []) u.name d) [
         | inl j ↦ h u (inr i) j
         | inr j ↦ (elim j [ inl e ↦ a.0 u i (sym e) | inr o ↦ o ])
       ]) a.1,
@@ -95,9 +95,9 @@ apart_new driven (t ∷ ts) h a = (
 all_driven : (model : List ℕ) (line : ℕ) (driven names : List (List ℕ)) → undriven_in model line driven names ≡ None → (name : List ℕ) → In names name → In driven name
 all_driven model line driven [] e name i = absurd i
 all_driven model line driven (n ∷ rest) e name (inl q) =
-    subst (In driven) (sym q) (has_in driven n (cond_none (has_name driven n) (Undriven model line n) (undriven_in model line driven rest) e).0)
+    subst (In driven) (sym q) (has_in driven n (none_else (has_name driven n) (Undriven model line n) (undriven_in model line driven rest) e).0)
 all_driven model line driven (n ∷ rest) e name (inr i) =
-    all_driven model line driven rest (cond_none (has_name driven n) (Undriven model line n) (undriven_in model line driven rest) e).1 name i
+    all_driven model line driven rest (none_else (has_name driven n) (Undriven model line n) (undriven_in model line driven rest) e).1 name i
 
 driven_all : (model : List ℕ) (line : ℕ) (driven names : List (List ℕ)) → ((name : List ℕ) → In names name → In driven name) → undriven_in model line driven names ≡ None
 driven_all model line driven [] h = refl

@@ -12,7 +12,7 @@ use Rattle.blif_flat.specs.Faults.{IsClocked}
 use Rattle.blif_flat.proofs.DrivenLemmas.{walked_driven}
 use Rattle.blif_flat.proofs.ControlLemmas.{clocks-input, clocks-one}
 use Rattle.blif_flat.proofs.DataLemmas.{data-output, data-clock}
-use Rattle.blif_flat.proofs.LoopLemmas.{loops-ordered}
+use Rattle.blif_flat.proofs.LoopLemmas.{walk_free}
 
 pub sound_of : (library : LibraryValue) → IsWellFormed library → (main : ModelValue) → model_at library [] ≡ Some main → IsDriven library
     → (latches : List Place) → FlatOrder library is_latch [] main latches → Clocks library None latches None
@@ -27,7 +27,7 @@ sound_of library formed main at driven latches latches_are clocks gates gates_ar
   one_control = clocks-one library main at latches latches_are clocks driven;
   no_clock_data = data-clock library main at gates gates_are clear;
   no_clock_output = data-output library main clear;
-  loops = loops-ordered library walk;
+  no_loop = walk_free library walk;
 }
 
 -- so is a well-formed one that comes past all stages

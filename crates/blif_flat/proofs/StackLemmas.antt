@@ -1,11 +1,12 @@
 -- The steps of the walk keep its state, and each one is a rule of the walk.
-use Rattle.std.proofs.Common.{◌≡◌, ℕ, zero, suc, ◌+◌, ◌<◌, Bool, true, false, ◌||◌, eqb, List, [], ◌∷◌, ◌++◌, length, drop, bytes_eq, Option, Some, None, refl, sym, ap, ◌∙◌, subst, inl, inr, ◌⊎◌, arith, eqb-true, eq-eqb}
+use Rattle.std.proofs.Common.{◌≡◌, ℕ, zero, suc, ◌+◌, ◌<◌, Bool, true, false, ◌||◌, List, [], ◌∷◌, ◌++◌, length, drop, bytes_eq, Option, Some, None, refl, sym, ap, ◌∙◌, subst, inl, inr, arith}
 use Rattle.std.specs.List.{slice_get, slice_set}
-use Rattle.std.proofs.lemmas.Bool.{cases_Bool, both_ways, false≢true, cond-true, cond-false}
+use Rattle.std.proofs.lemmas.Bool.{both_ways, false≢true, cond-true, cond-false}
 use lib.Pointwise.{bytes_decides}
 use Rattle.std.proofs.lemmas.List.Folds.{list_any-append}
 use Rattle.std.proofs.lemmas.Option.{none-some, same_Some, slice_get_within}
-use Rattle.list_words.specs.Members.{In}
+use Rattle.list_laws.specs.Members.{In}
+use Rattle.list_laws.proofs.Places.{set_here, set_other, set_length, same_or}
 use Rattle.blif_read.specs.Once.{AreOnce}
 use Rattle.blif_read.specs.LibraryValue.{ModelValue, LibraryValue}
 use Rattle.blif_flat.specs.declared.flat_err.FlatErr.{FlatErr}
@@ -15,40 +16,23 @@ use Rattle.blif_flat.specs.declared.walk_state.Mark.TheVariants.{New, OnChain, D
 use Rattle.blif_flat.specs.Models.{has_name, model_named}
 use Rattle.blif_flat.specs.NameSets.{model_names}
 use Rattle.blif_flat.specs.Walk.{SubcktLine, subckt_lines, is_walked, line_fault, Walked, refused, walked, Walks, stop, refuse, again, inside, onward}
-use Rattle.blif_flat.specs.Stack.{WalkValue, with_model, models_at, with_chain, chain_of, mark_of, entered, IsWalk, Resumes, ended, failed, resumed, new_work, news}
+use Rattle.blif_flat.specs.NumberedModels.{with_model, models_at}
+use Rattle.blif_flat.specs.Stack.{WalkValue, with_chain, chain_of, mark_of, entered, IsWalk, Resumes, ended, failed, resumed, new_work, news}
 use Rattle.std.proofs.Common.{reverse, append_assoc}
 use Rattle.std.proofs.lemmas.Grind.{reverse_onto}
 use Rattle.std.proofs.lemmas.List.{append-nil}
 use Rattle.blif_flat.specs.declared.flat_err.FlatErr.TheVariants.{RecursiveModel}
-use Rattle.blif_flat.specs.Answers.{IsFault}
+use Rattle.blif_flat.specs.Answers.{IsTold}
 use Rattle.blif_flat.specs.Line.{ports_fault}
 use Rattle.blif_read.specs.SubcktValue.{SubcktValue}
 use Rattle.blif_flat.specs.NameSets.{IsModelOf}
 use Rattle.blif_flat.specs.Walk.{chain_from, placed_fault, formal_fault, unknown_formal}
 use Rattle.blif_flat.specs.Stack.{chain_step, chain_names, on_chain, fresh, IsPlacing}
-use Rattle.blif_flat.proofs.NameSetLemmas.{no_match, same_match}
+use Rattle.blif_flat.proofs.NameSetLemmas.{no_match}
+use Rattle.blif_flat.proofs.NameLemmas.{in_has}
+use Rattle.blif_flat.proofs.WalkedLemmas.{named_is}
 
 -- lists by their places
-pub set_here : {A : Type 0} (xs : List A) (i : ℕ) (y : A) → i < length xs → slice_get (slice_set xs i y) i ≡ Some y
-set_here [] i y l = absurd (omega arith)
-set_here (x ∷ xs) zero y l = refl
-set_here (x ∷ xs) (suc i) y l = set_here xs i y (omega arith)
-
-pub set_other : {A : Type 0} (xs : List A) (i j : ℕ) (y : A) → (j ≡ i → ⊥) → slice_get (slice_set xs i y) j ≡ slice_get xs j
-set_other [] i j y o = refl
-set_other (x ∷ xs) zero zero y o = absurd (o refl)
-set_other (x ∷ xs) zero (suc j) y o = refl
-set_other (x ∷ xs) (suc i) zero y o = refl
-set_other (x ∷ xs) (suc i) (suc j) y o = set_other xs i j y (λ e. o (ap suc e))
-
-set_length : {A : Type 0} (xs : List A) (i : ℕ) (y : A) → length (slice_set xs i y) ≡ length xs
-set_length [] i y = refl
-set_length (x ∷ xs) zero y = refl
-set_length (x ∷ xs) (suc i) y = ap suc (set_length xs i y)
-
-pub same_or : (i j : ℕ) → (i ≡ j) ⊎ (i ≡ j → ⊥)
-same_or i j = elim (cases_Bool (eqb i j)) [ inl t ↦ inl (eqb-true i j t) | inr f ↦ inr (λ e. both_ways (eqb i j) f (eq-eqb i j e)) ]
-
 pub drop_zero : {A : Type 0} (xs : List A) → drop 0 xs ≡ xs
 drop_zero [] = refl
 drop_zero (x ∷ xs) = refl
@@ -69,28 +53,12 @@ same_number (m ∷ ms) (suc i) (suc j) a b once p q e = ap suc (same_number ms i
 other_name : (models : List ModelValue) (i j : ℕ) (a b : ModelValue) → AreOnce (model_names models) → slice_get models i ≡ Some a → slice_get models j ≡ Some b → (i ≡ j → ⊥) → bytes_eq a.name b.name ≡ false
 other_name models i j a b once p q o = no_match a.name b.name (λ e. o (same_number models i j a b once p q e))
 
-pub in_has : (names : List (List ℕ)) (n : List ℕ) → In names n → has_name names n ≡ true
-in_has [] n i = absurd i
-in_has (x ∷ xs) n (inl e) = ap (λ b. b || has_name xs n) ((bytes_decides n x).1 e)
-in_has (x ∷ xs) n (inr i) = ap (λ b. bytes_eq n x || b) (in_has xs n i) ∙ or_true (bytes_eq n x)
-  where
-    or_true : (b : Bool) → (b || true) ≡ true
-    or_true true = refl
-    or_true false = refl
-
 absent : (names : List (List ℕ)) (n : List ℕ) → (In names n → ⊥) → has_name names n ≡ false
 absent [] n o = refl
 absent (x ∷ xs) n o = ap (λ b. b || has_name xs n) (no_match n x (λ e. o (inl e))) ∙ absent xs n (λ i. o (inr i))
 
 pub same_bytes : (n : List ℕ) → bytes_eq n n ≡ true
 same_bytes n = (bytes_decides n n).1 refl
-
-pub named_name : (models : List ModelValue) (name : List ℕ) (m : ModelValue) → model_named models name ≡ Some m → name ≡ m.name
-named_name [] name m h = absurd (none-some m h)
-named_name (x ∷ xs) name m h = elim (cases_Bool (bytes_eq name x.name)) [
-  | inl t ↦ same_match name x.name t ∙ ap (λ (y : ModelValue). y.name) (same_Some x m (sym (cond-true (bytes_eq name x.name) (Some x) (model_named xs name) t) ∙ h))
-  | inr f ↦ named_name xs name m (sym (cond-false (bytes_eq name x.name) (Some x) (model_named xs name) f) ∙ h)
-]
 
 pub models_at-push : (models : List ModelValue) (ns : List ℕ) (n : ℕ) (m : ModelValue) → slice_get models n ≡ Some m → models_at models (ns ++ n ∷ []) ≡ models_at models ns ++ m ∷ []
 models_at-push models [] n m h = ap (λ o. with_model o []) h
@@ -110,11 +78,6 @@ pub new_mark : (a b : Bool) → mark_of a b ≡ New → (a ≡ false) × (b ≡ 
 new_mark true b e = absurd (cc)
 new_mark false true e = absurd (cc)
 new_mark false false e = (refl, refl)
-
-pub old_mark : (a b : Bool) → (a ≡ true → b ≡ true) → (mark_of a b ≡ New → ⊥) → b ≡ true
-old_mark true b h o = h refl
-old_mark false true h o = refl
-old_mark false false h o = absurd (o refl)
 
 mark_read : (marks : List Mark) (n : ℕ) (k : Mark) (a b : Bool) → slice_get marks n ≡ Some (mark_of a b) → slice_get marks n ≡ Some k → mark_of a b ≡ k
 mark_read marks n k a b p q = same_Some (mark_of a b) k (sym p ∙ q)
@@ -325,14 +288,14 @@ pub on_chain_read : (models : List ModelValue) (w : WalkValue) (name : List ℕ)
 on_chain_read models w name n b is found h =
     h (mark_of (has_name (chain_of models w.frames) found.model.name) (is_walked (models_at models w.begun) found.model.name)) (is.marks n found.model found.at)
     ∙ on_chain_mark (has_name (chain_of models w.frames) found.model.name) (is_walked (models_at models w.begun) found.model.name)
-    ∙ ap (has_name (chain_of models w.frames)) (sym (named_name models name found.model found.named))
+    ∙ ap (has_name (chain_of models w.frames)) (sym (named_is models name found.model found.named))
 
 pub recursive_err : (models : List ModelValue) (w : WalkValue) (m : ModelValue) (line : ℕ) (s : SubcktValue) (n : ℕ) (name : List ℕ) (e : FlatErr) → IsModelOf models s.model n → has_name (chain_of models w.frames) s.model ≡ true → name ≡ s.model
-    → e ≡ RecursiveModel (chain_from name (chain_of models w.frames) ++ name ∷ []) → IsFault e (line_fault (record { models = models }) (chain_of models w.frames) m (record { line = line; subckt = s }))
+    → e ≡ RecursiveModel (chain_from name (chain_of models w.frames) ++ name ∷ []) → IsTold e (line_fault (record { models = models }) (chain_of models w.frames) m (record { line = line; subckt = s }))
 recursive_err models w m line s n name e found on same is =
     let C : List (List ℕ) = chain_of models w.frames in
     let l : SubcktLine = record { line = line; subckt = s } in
-    subst (λ x. IsFault x (line_fault (record { models = models }) C m l)) (sym (is ∙ ap (λ x. RecursiveModel (chain_from x C ++ x ∷ [])) same))
+    subst (λ x. IsTold x (line_fault (record { models = models }) C m l)) (sym (is ∙ ap (λ x. RecursiveModel (chain_from x C ++ x ∷ [])) same))
     (ap (placed_fault C m l) found.named ∙ cond-true (has_name C s.model) (Some (RecursiveModel (chain_from s.model C ++ s.model ∷ []))) (formal_fault m l found.model (unknown_formal found.model s.pairs)) on)
 
 placed_line : (models : List ModelValue) (w : WalkValue) (m : ModelValue) (line : ℕ) (s : SubcktValue) (n : ℕ) (found : IsModelOf models s.model n) → has_name (chain_of models w.frames) s.model ≡ false
@@ -343,8 +306,8 @@ placed_line models w m line s n found off =
     ap (placed_fault C m l) found.named ∙ cond-false (has_name C s.model) (Some (RecursiveModel (chain_from s.model C ++ s.model ∷ []))) (formal_fault m l found.model (unknown_formal found.model s.pairs)) off
 
 pub child_err : (models : List ModelValue) (w : WalkValue) (m : ModelValue) (line : ℕ) (s : SubcktValue) (n : ℕ) (e : FlatErr) → IsModelOf models s.model n → has_name (chain_of models w.frames) s.model ≡ false
-    → ((child : ModelValue) → slice_get models n ≡ Some child → IsFault e (ports_fault m line s child)) → IsFault e (line_fault (record { models = models }) (chain_of models w.frames) m (record { line = line; subckt = s }))
-child_err models w m line s n e found off h = subst (IsFault e) (sym (placed_line models w m line s n found off)) (h found.model found.at)
+    → ((child : ModelValue) → slice_get models n ≡ Some child → IsTold e (ports_fault m line s child)) → IsTold e (line_fault (record { models = models }) (chain_of models w.frames) m (record { line = line; subckt = s }))
+child_err models w m line s n e found off h = subst (IsTold e) (sym (placed_line models w m line s n found off)) (h found.model found.at)
 
 pub child_ok : (models : List ModelValue) (w : WalkValue) (m : ModelValue) (line : ℕ) (s : SubcktValue) (n : ℕ) → IsModelOf models s.model n → has_name (chain_of models w.frames) s.model ≡ false
     → ((child : ModelValue) → slice_get models n ≡ Some child → ports_fault m line s child ≡ None) → IsPlacing models w m (record { line = line; subckt = s }) n

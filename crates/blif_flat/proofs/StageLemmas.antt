@@ -2,13 +2,14 @@
 use Rattle.std.proofs.Common.{◌≡◌, List, [], Some, None, sym, ◌∙◌, subst}
 use Rattle.std.specs.Prelude.{Bool}
 use Rattle.std.proofs.lemmas.Option.{same_Some}
+use Rattle.tl_fault.specs.OrMemory.{OrMemory}
 use Rattle.blif_read.specs.declared.command.Body.{Body}
 use Rattle.blif_read.specs.LibraryValue.{ModelValue, LibraryValue}
 use Rattle.blif_read.specs.WellFormed.{IsWellFormed}
 use Rattle.blif_flat.specs.declared.flat_err.FlatErr.{FlatErr}
 use Rattle.blif_flat.specs.declared.instances.Instance.{Instance}
 use Rattle.blif_flat.specs.declared.clock_check.ClockNets.{ClockNets}
-use Rattle.blif_flat.specs.Answers.{Refuses}
+use Rattle.blif_flat.specs.Refusals.{refusal_of}
 use Rattle.blif_flat.specs.Models.{model_at}
 use Rattle.blif_flat.specs.Places.{is_latch, FlatOrder}
 use Rattle.blif_flat.specs.InstanceRows.{AreInstances, paths_of}
@@ -16,12 +17,12 @@ use Rattle.blif_flat.specs.InstanceOrder.{places_at}
 use Rattle.blif_flat.specs.ClockFaults.{Clocks, is_gate, ClockData}
 use Rattle.blif_flat.specs.LoopFault.{LoopWalk, IsLoop}
 use Rattle.blif_flat.specs.Sound.{IsSound}
-use Rattle.blif_flat.specs.Faults.{IsConnected, IsClocked, IsFault, in_controls, in_data, in_loops}
+use Rattle.blif_flat.specs.Faults.{IsConnected, IsClocked, IsFault, HasNoFault, in_controls, in_data, in_loops}
 use Rattle.blif_flat.specs.Stages.{AreClockNets}
 use Rattle.blif_flat.proofs.InstanceOrderLemmas.{order_places}
 use Rattle.blif_flat.proofs.SoundLemmas.{past_sound}
 use Rattle.blif_flat.proofs.ExcludedLemmas.{past_excluded}
-use Rattle.blif_flat.proofs.WalkStepLemmas.{Refuses-map}
+use Rattle.tl_fault.proofs.OrMemoryLemmas.{OrMemory-map}
 
 module _ (library : LibraryValue) (rows : List Instance) (are : AreInstances library rows) where
   -- the covers and latches of all instances are in flat order
@@ -29,9 +30,9 @@ module _ (library : LibraryValue) (rows : List Instance) (are : AreInstances lib
   rows_order kind main at =
       subst (λ m. FlatOrder library kind [] m (places_at library kind (paths_of rows))) (same_Some are.main main (sym are.first ∙ at)) (order_places library kind are.order are.first)
 
-  pub control_refused : IsConnected library → (e : FlatErr) → Refuses e (λ r. Clocks library None (places_at library is_latch (paths_of rows)) (Some r)) → Refuses e (λ r. IsFault library r)
+  pub control_refused : IsConnected library → (e : FlatErr) → OrMemory refusal_of (λ r. Clocks library None (places_at library is_latch (paths_of rows)) (Some r)) e → OrMemory refusal_of (IsFault library) e
   control_refused past e h =
-      Refuses-map (λ r. Clocks library None (places_at library is_latch (paths_of rows)) (Some r)) (λ r. IsFault library r) e
+      OrMemory-map refusal_of (λ r. Clocks library None (places_at library is_latch (paths_of rows)) (Some r)) (IsFault library) e
       (λ r c. in_controls past (places_at library is_latch (paths_of rows)) (rows_order is_latch past.past.main past.past.at) c) h
 
   module _ (past : IsConnected library) where
@@ -42,22 +43,22 @@ module _ (library : LibraryValue) (rows : List Instance) (are : AreInstances lib
     gates_order = rows_order is_gate past.past.main past.past.at
 
     pub data_refused : Clocks library None (places_at library is_latch (paths_of rows)) None → (e : FlatErr)
-        → Refuses e (λ r. (main : ModelValue) → model_at library [] ≡ Some main → ClockData library main (places_at library is_gate (paths_of rows)) (Some r)) → Refuses e (λ r. IsFault library r)
+        → OrMemory refusal_of (λ r. (main : ModelValue) → model_at library [] ≡ Some main → ClockData library main (places_at library is_gate (paths_of rows)) (Some r)) e → OrMemory refusal_of (IsFault library) e
     data_refused clean e h =
-        Refuses-map (λ r. (main : ModelValue) → model_at library [] ≡ Some main → ClockData library main (places_at library is_gate (paths_of rows)) (Some r)) (λ r. IsFault library r) e
+        OrMemory-map refusal_of (λ r. (main : ModelValue) → model_at library [] ≡ Some main → ClockData library main (places_at library is_gate (paths_of rows)) (Some r)) (IsFault library) e
         (λ r d. in_data (clocked clean) (places_at library is_gate (paths_of rows)) gates_order (d past.past.main past.past.at)) h
 
     module _ (main : ModelValue) (at : model_at library [] ≡ Some main) (clocks : ClockNets) (are_clocks : AreClockNets library main rows clocks) where
       clear : ClockData library past.past.main (places_at library is_gate (paths_of rows)) None
       clear = subst (λ m. ClockData library m (places_at library is_gate (paths_of rows)) None) (same_Some main past.past.main (sym at ∙ past.past.at)) are_clocks.clear
 
-      pub loop_refused : (e : FlatErr) → Refuses e (λ r. IsLoop library r) → Refuses e (λ r. IsFault library r)
+      pub loop_refused : (e : FlatErr) → OrMemory refusal_of (IsLoop library) e → OrMemory refusal_of (IsFault library) e
       loop_refused e h =
-          Refuses-map (λ r. IsLoop library r) (λ r. IsFault library r) e
+          OrMemory-map refusal_of (IsLoop library) (IsFault library) e
           (λ r l. in_loops (clocked are_clocks.controlled.clean) (places_at library is_gate (paths_of rows)) gates_order clear l) h
 
       pub all_sound : IsWellFormed library → LoopWalk library None → IsSound library
       all_sound formed walk = past_sound library formed (clocked are_clocks.controlled.clean) (places_at library is_gate (paths_of rows)) gates_order clear walk
 
-      pub none_stands : IsWellFormed library → LoopWalk library None → (fault : FlatErr) → IsFault library fault → ⊥
-      none_stands formed walk fault f = past_excluded library formed (clocked are_clocks.controlled.clean) (places_at library is_gate (paths_of rows)) gates_order clear walk fault f
+      pub none_stands : IsWellFormed library → LoopWalk library None → HasNoFault library
+      none_stands formed walk = record { none = past_excluded library formed (clocked are_clocks.controlled.clean) (places_at library is_gate (paths_of rows)) gates_order clear walk }

@@ -4,7 +4,8 @@ use Rattle.std.specs.Prelude.{slice_get}
 use Rattle.std.specs.Option.{option_map}
 use Rattle.std.proofs.lemmas.Bool.{cases_Bool, cond-true, cond-false}
 use Rattle.std.proofs.lemmas.Option.{none-some, same_Some}
-use Rattle.list_words.specs.Members.{In}
+use Rattle.list_laws.specs.Members.{In}
+use Rattle.list_laws.proofs.Members.{In-left, In-right, In-append}
 use Rattle.blif_read.specs.declared.command.Body.{Body}
 use Rattle.blif_read.specs.declared.command.Body.TheVariants.{Cover, Latch, Subckt}
 use Rattle.blif_read.specs.declared.command.Command.{Command}
@@ -16,8 +17,6 @@ use Rattle.blif_read.specs.LibraryValue.{ModelValue, LibraryValue}
 use Rattle.blif_flat.specs.Models.{with_subckt, subckts_of, model_named, is_output}
 use Rattle.blif_flat.specs.Drivers.{Driver, by_latch, by_cover, by_subckt}
 use Rattle.blif_flat.specs.DriverFaults.{output_actuals, driven_pairs, drives, all_drives}
-use Rattle.blif_flat.proofs.MemberLemmas.{In-left, In-right}
-use Rattle.blif_flat.proofs.NameLemmas.{In-parts}
 
 pub record Tag : Type 0 where
   pub driver : Driver
@@ -198,7 +197,7 @@ module _ (library : LibraryValue) where
 
   pub tag_source : (place ordinal : ℕ → ℕ) (cs : List Command) (t : Tag) → In (tags library place ordinal cs) t → Source library place ordinal cs t
   tag_source place ordinal [] t i = absurd i
-  tag_source place ordinal (d ∷ cs) t i = elim (In-parts (body_tags library (place 0) (ordinal 0) d.body) (tags library (λ j. place (suc j)) (behind d.body ordinal) cs) t i) [
+  tag_source place ordinal (d ∷ cs) t i = elim (In-append (body_tags library (place 0) (ordinal 0) d.body) (tags library (λ j. place (suc j)) (behind d.body ordinal) cs) t i) [
     | inl j ↦ body_source place ordinal d cs t d.body refl j
     | inr j ↦ later_source place ordinal d cs t (tag_source (λ j. place (suc j)) (behind d.body ordinal) cs t j)
   ]

@@ -1,6 +1,6 @@
 -- The values of nets and of covers, under values of the main inputs, the latches and the covers.
 use Rattle.std.proofs.Common.{◌≡◌, ℕ, Bool, false, List, [], ◌∷◌, map, Option, Some, None, refl, ap, ap₂, inl, inr}
-use Rattle.list_words.specs.Members.{In}
+use Rattle.list_laws.specs.Members.{In}
 use Rattle.blif_read.specs.CoverValue.{CoverValue, cover_value}
 use Rattle.blif_read.specs.LibraryValue.{LibraryValue}
 use Rattle.blif_flat.specs.Models.{Path}

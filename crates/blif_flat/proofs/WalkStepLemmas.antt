@@ -1,32 +1,36 @@
 -- Each step of the walk in code is a step of the definition.
-use Rattle.std.proofs.Common.{◌≡◌, ℕ, zero, suc, ◌+◌, ◌-◌, ◌<◌, ◌≤◌, Bool, true, false, ◌||◌, List, [], ◌∷◌, ◌++◌, length, drop, replicate, Option, Some, None, refl, sym, ap, ◌∙◌, subst, inl, inr, bytes_eq, arith}
+use Rattle.std.proofs.Common.{◌≡◌, ℕ, suc, ◌+◌, ◌-◌, ◌<◌, ◌≤◌, Bool, true, false, ◌||◌, List, [], ◌∷◌, ◌++◌, length, drop, replicate, Option, Some, None, refl, sym, ap, ◌∙◌, subst, inl, inr, bytes_eq, arith}
 use Rattle.std.specs.List.{slice_get, slice_set}
 use Rattle.std.proofs.lemmas.Bool.{both_ways, or_left, or_right}
 use Rattle.std.proofs.lemmas.List.{length-replicate}
 use Rattle.std.proofs.lemmas.Option.{none-some, same_Some, slice_get_within}
 use lib.Pointwise.{bytes_decides}
-use Rattle.list_words.specs.Members.{In}
+use Rattle.list_laws.specs.Members.{In}
+use Rattle.list_laws.proofs.Places.{past_end, drop_get, drop_past, replicate_at}
+use Rattle.tl_fault.specs.OrMemory.{OrMemory}
 use Rattle.blif_read.specs.declared.command.Body.TheVariants.{Subckt}
 use Rattle.blif_read.specs.declared.command.Command.{Command}
 use Rattle.blif_read.specs.Once.{AreOnce}
 use Rattle.blif_read.specs.SubcktValue.{SubcktValue}
 use Rattle.blif_read.specs.LibraryValue.{ModelValue}
 use Rattle.blif_flat.specs.declared.flat_err.FlatErr.{FlatErr}
-use Rattle.blif_flat.specs.declared.flat_err.FlatErr.TheVariants.{UnknownModel, RecursiveModel, UnknownFormal, Unconnected, TooLarge, DoublyDriven, Undriven, SecondClock, ClockNotInput, ClockAsData, Loop, Memory}
 use Rattle.blif_flat.specs.declared.walk_state.Frame.{Frame}
 use Rattle.blif_flat.specs.declared.walk_state.Mark.{Mark}
 use Rattle.blif_flat.specs.declared.walk_state.Mark.TheVariants.{New, OnChain, Done}
-use Rattle.blif_flat.specs.Answers.{Refuses, IsFault}
+use Rattle.blif_flat.specs.Refusals.{refusal_of}
+use Rattle.blif_flat.specs.Answers.{IsTold}
 use Rattle.blif_flat.specs.Models.{has_name}
 use Rattle.blif_flat.specs.NameSets.{model_names}
 use Rattle.blif_flat.specs.Walk.{SubcktLine, subckt_lines, with_line, is_walked, line_fault, Walked, refused, walked, Walks, WalksMain}
-use Rattle.blif_flat.specs.Stack.{WalkValue, with_chain, models_at, chain_of, mark_of, tail_of, entered, left, advanced, IsWalk, IsPlacing, Resumes, ended, failed, resumed, new_work, news, frame_work, IsStep, fresh, placed_by, IsRun}
+use Rattle.blif_flat.specs.NumberedModels.{models_at}
+use Rattle.blif_flat.specs.Stack.{WalkValue, with_chain, chain_of, mark_of, tail_of, entered, left, advanced, IsWalk, IsPlacing, Resumes, ended, failed, resumed, new_work, news, frame_work, IsStep, fresh, placed_by, IsReached}
 use Rattle.blif_flat.specs.Weighing.{AreChildrenFirst}
 use Rattle.blif_flat.specs.Ending.{IsEnding}
 use Rattle.blif_flat.proofs.LineFaultLemmas.{free_line}
-use Rattle.blif_flat.proofs.WalkedLemmas.{walk_keeps}
+use Rattle.blif_flat.proofs.WalkedLemmas.{walk_keeps, named_is}
 use Rattle.blif_flat.proofs.EndingLemmas.{ending_left, ending_skipped, ending_begun, ending_again, ending_entered}
-use Rattle.blif_flat.proofs.StackLemmas.{same_bytes, drop_zero, named_name, models_at-push, entered-walk, left-walk, advanced-walk, news_set, resumes-cases, resumes-end, resumes-skip, resumes-refuse, resumes-again, resumes-enter}
+use Rattle.blif_flat.proofs.StackLemmas.{same_bytes, drop_zero, models_at-push, entered-walk, left-walk, advanced-walk, news_set, resumes-cases, resumes-end, resumes-skip, resumes-refuse, resumes-again, resumes-enter}
+use Rattle.tl_fault.proofs.OrMemoryLemmas.{OrMemory-map}
 
 frame_least : (o : Option ModelValue) (place : ℕ) → 1 ≤ frame_work o place
 frame_least None place = omega arith
@@ -37,15 +41,10 @@ top_is [] f h = absurd (none-some f h)
 top_is (g ∷ fs) f h = ap (λ x. x ∷ fs) (same_Some g f h)
 
 drop_none : {A : Type 0} (xs : List A) (i : ℕ) → slice_get xs i ≡ None → drop i xs ≡ []
-drop_none [] zero h = refl
-drop_none [] (suc i) h = refl
-drop_none (x ∷ xs) zero h = absurd (none-some x (sym h))
-drop_none (x ∷ xs) (suc i) h = drop_none xs i h
+drop_none xs i h = drop_past xs i (past_end xs i h)
 
 drop_suc : {A : Type 0} (xs : List A) (i : ℕ) (x : A) → slice_get xs i ≡ Some x → drop i xs ≡ x ∷ drop (suc i) xs
-drop_suc [] i x h = absurd (none-some x h)
-drop_suc (y ∷ ys) zero x h = ap (λ z. z ∷ ys) (same_Some y x h) ∙ ap (λ zs. x ∷ zs) (sym (drop_zero ys))
-drop_suc (y ∷ ys) (suc i) x h = drop_suc ys i x h
+drop_suc xs i x h = drop_get xs i x h ∙ (let s : i + 1 ≡ suc i = omega arith in ap (λ j. x ∷ drop j xs) s)
 
 lines_at : (commands : List Command) (i : ℕ) (c : Command) → slice_get commands i ≡ Some c → subckt_lines (drop i commands) ≡ with_line c.line c.body (subckt_lines (drop (i + 1) commands))
 lines_at commands i c h =
@@ -148,55 +147,36 @@ module _ (models : List ModelValue) (names : AreOnce (model_names models)) where
       let a : Bool = has_name (chain_of models w.frames) child.name in
       let b : Bool = is_walked (models_at models w.begun) child.name in
       let k : slice_get w.marks n ≡ Some (mark_of a b) = is.marks n child good.child.at in
-      let same : s.model ≡ child.name = named_name models s.model child good.child.named in
+      let same : s.model ≡ child.name = named_is models s.model child good.child.named in
       let off : a ≡ false = ap (has_name (chain_of models w.frames)) (sym same) ∙ (free_line (record { models = models }) (chain_of models w.frames) m (record { line = line; subckt = s }) good.clean).off in
       subst (IsStep (record { models = models }) w) (sym (h (mark_of a b) k))
       (subst (λ fs. IsStep (record { models = models }) (record { marks = w.marks; begun = w.begun; ended = w.ended; frames = fs }) (placed_by (fresh (mark_of a b)) (advanced w f) n)) (sym e)
       (place_core w.marks w.begun w.ended f (tail_of w.frames) m (record { line = line; subckt = s }) n (subst (λ fs. IsWalk models (record { marks = w.marks; begun = w.begun; ended = w.ended; frames = fs })) e is) at here
       (subst (λ fs. IsPlacing models (record { marks = w.marks; begun = w.begun; ended = w.ended; frames = fs }) m (record { line = line; subckt = s }) n) e good) a b off k
-      (ap (is_walked (models_at models w.begun)) (named_name models s.model child good.child.named))))
+      (ap (is_walked (models_at models w.begun)) (named_is models s.model child good.child.named))))
 
 -- the refusals
-pub Refuses-map : (P Q : FlatErr → Type 0) (e : FlatErr) → ((r : FlatErr) → P r → Q r) → Refuses e P → Refuses e Q
-Refuses-map P Q Memory f h = tt
-Refuses-map P Q (UnknownModel m n name) f h = f (UnknownModel m n name) h
-Refuses-map P Q (RecursiveModel chain) f h = f (RecursiveModel chain) h
-Refuses-map P Q (UnknownFormal m n name) f h = f (UnknownFormal m n name) h
-Refuses-map P Q (Unconnected m n name) f h = f (Unconnected m n name) h
-Refuses-map P Q TooLarge f h = f TooLarge h
-Refuses-map P Q (DoublyDriven m n name) f h = f (DoublyDriven m n name) h
-Refuses-map P Q (Undriven m n name) f h = f (Undriven m n name) h
-Refuses-map P Q (SecondClock first second) f h = f (SecondClock first second) h
-Refuses-map P Q (ClockNotInput net) f h = f (ClockNotInput net) h
-Refuses-map P Q (ClockAsData net) f h = f (ClockAsData net) h
-Refuses-map P Q (Loop nets) f h = f (Loop nets) h
-
 pub refuse_step : (models : List ModelValue) (w : WalkValue) (f : Frame) (m : ModelValue) (line : ℕ) (s : SubcktValue) (e : FlatErr) → slice_get w.frames 0 ≡ Some f → slice_get models f.model ≡ Some m
-    → slice_get m.commands f.place ≡ Some (record { line = line; body = Subckt s }) → IsFault e (line_fault (record { models = models }) (chain_of models w.frames) m (record { line = line; subckt = s }))
-    → Refuses e (λ r. Resumes (record { models = models }) w.frames (models_at models w.begun) (refused r))
+    → slice_get m.commands f.place ≡ Some (record { line = line; body = Subckt s }) → IsTold e (line_fault (record { models = models }) (chain_of models w.frames) m (record { line = line; subckt = s }))
+    → OrMemory refusal_of (λ r. Resumes (record { models = models }) w.frames (models_at models w.begun) (refused r)) e
 refuse_step models w f m line s e top at here h =
     let q : w.frames ≡ f ∷ tail_of w.frames = top_is w.frames f top in
-    Refuses-map (λ r. line_fault (record { models = models }) (chain_of models w.frames) m (record { line = line; subckt = s }) ≡ Some r) (λ r. Resumes (record { models = models }) w.frames (models_at models w.begun) (refused r)) e
+    OrMemory-map refusal_of (λ r. line_fault (record { models = models }) (chain_of models w.frames) m (record { line = line; subckt = s }) ≡ Some r) (λ r. Resumes (record { models = models }) w.frames (models_at models w.begun) (refused r)) e
     (λ r k. subst (λ fs. Resumes (record { models = models }) fs (models_at models w.begun) (refused r)) (sym q)
     (resumes-refuse (record { models = models }) f (tail_of w.frames) m (models_at models w.begun) (record { line = line; subckt = s }) (subckt_lines (drop (f.place + 1) m.commands)) r at (lines_at m.commands f.place (record { line = line; body = Subckt s }) here)
     (subst (λ fs. line_fault (record { models = models }) (chain_of models fs) m (record { line = line; subckt = s }) ≡ Some r) q k))) h
 
 -- the walk as a whole
-pub run_start : (models : List ModelValue) (w : WalkValue) → IsWalk models w → IsRun models w w
+pub run_start : (models : List ModelValue) (w : WalkValue) → IsWalk models w → IsReached models w w
 run_start models w is = record { walk = is; resumes = λ r h. h; ending = λ e. e }
 
-pub run_step : (models : List ModelValue) (w v u : WalkValue) → IsRun models w v → IsStep (record { models = models }) v u → IsRun models w u
+pub run_step : (models : List ModelValue) (w v u : WalkValue) → IsReached models w v → IsStep (record { models = models }) v u → IsReached models w u
 run_step models w v u run step = record { walk = step.walk; resumes = λ r h. run.resumes r (step.resumes r h); ending = λ e. step.ending (run.ending e) }
 
-pub run_refuses : (models : List ModelValue) (w v : WalkValue) (e : FlatErr) → IsRun models w v → Refuses e (λ r. Resumes (record { models = models }) v.frames (models_at models v.begun) (refused r))
-    → Refuses e (λ r. Resumes (record { models = models }) w.frames (models_at models w.begun) (refused r))
+pub run_refuses : (models : List ModelValue) (w v : WalkValue) (e : FlatErr) → IsReached models w v → OrMemory refusal_of (λ r. Resumes (record { models = models }) v.frames (models_at models v.begun) (refused r)) e
+    → OrMemory refusal_of (λ r. Resumes (record { models = models }) w.frames (models_at models w.begun) (refused r)) e
 run_refuses models w v e run h =
-    Refuses-map (λ r. Resumes (record { models = models }) v.frames (models_at models v.begun) (refused r)) (λ r. Resumes (record { models = models }) w.frames (models_at models w.begun) (refused r)) e (λ r k. run.resumes (refused r) k) h
-
-replicate_at : {A : Type 0} (n i : ℕ) (x : A) → i < n → slice_get (replicate n x) i ≡ Some x
-replicate_at zero i x h = absurd (omega arith)
-replicate_at (suc n) zero x h = refl
-replicate_at (suc n) (suc i) x h = replicate_at n i x (omega arith)
+    OrMemory-map refusal_of (λ r. Resumes (record { models = models }) v.frames (models_at models v.begun) (refused r)) (λ r. Resumes (record { models = models }) w.frames (models_at models w.begun) (refused r)) e (λ r k. run.resumes (refused r) k) h
 
 blank_walk : (models : List ModelValue) (count : ℕ) → count ≡ length models → IsWalk models (record { marks = replicate count New; begun = []; ended = []; frames = [] })
 blank_walk models count e = record {
@@ -230,7 +210,7 @@ main_resumed models main r at h = resumes-cases (record { models = models }) (re
     ended_is after (failed f fs m fault e at' w q) = absurd (cc)
     ended_is after (resumed f fs m last e at' w k) = absurd (cc)
 
-pub main_ok : (models : List ModelValue) (count : ℕ) (main : ModelValue) (w v : WalkValue) → slice_get models 0 ≡ Some main → w ≡ entered (record { marks = replicate count New; begun = []; ended = []; frames = [] }) 0 → IsRun models w v → v.frames ≡ []
+pub main_ok : (models : List ModelValue) (count : ℕ) (main : ModelValue) (w v : WalkValue) → slice_get models 0 ≡ Some main → w ≡ entered (record { marks = replicate count New; begun = []; ended = []; frames = [] }) 0 → IsReached models w v → v.frames ≡ []
     → WalksMain (record { models = models }) main (walked (models_at models v.begun))
 main_ok models count main w v at is run done =
     main_resumed models main (walked (models_at models v.begun)) at
@@ -243,7 +223,7 @@ in_walked (x ∷ ms) m (inl e) = or_left (bytes_eq m.name x.name) (is_walked ms 
 in_walked (x ∷ ms) m (inr i) = or_right (bytes_eq m.name x.name) (is_walked ms m.name) (in_walked ms m i)
 
 main_ending : (models : List ModelValue) (count : ℕ) (main : ModelValue) (w v : WalkValue) → count ≡ length models → slice_get models 0 ≡ Some main → w ≡ entered (record { marks = replicate count New; begun = []; ended = []; frames = [] }) 0
-    → IsRun models w v → IsEnding models v.marks v.ended v.frames
+    → IsReached models w v → IsEnding models v.marks v.ended v.frames
 main_ending models count main w v e at is run =
     let k : 0 < length models = slice_get_within models 0 main at in
     let blank : IsEnding models (slice_set (replicate count New) 0 OnChain) [] (record { model = 0; place = 0 } ∷ []) =
@@ -257,11 +237,11 @@ main_ending models count main w v e at is run =
         let x : New ≡ Done = same_Some New Done (sym (replicate_at count n New (omega arith)) ∙ h) in cc
 
 pub main_children : (models : List ModelValue) (count : ℕ) (main : ModelValue) (w v : WalkValue) → count ≡ length models → slice_get models 0 ≡ Some main → w ≡ entered (record { marks = replicate count New; begun = []; ended = []; frames = [] }) 0
-    → IsRun models w v → AreChildrenFirst (record { models = models }) v.ended
+    → IsReached models w v → AreChildrenFirst (record { models = models }) v.ended
 main_children models count main w v e at is run = (main_ending models count main w v e at is run).children
 
 pub main_ended : (models : List ModelValue) (count : ℕ) (main : ModelValue) (w v : WalkValue) → count ≡ length models → slice_get models 0 ≡ Some main → w ≡ entered (record { marks = replicate count New; begun = []; ended = []; frames = [] }) 0
-    → IsRun models w v → v.frames ≡ [] → In v.ended 0
+    → IsReached models w v → v.frames ≡ [] → In v.ended 0
 main_ended models count main w v e at is run none =
     let ms : List ModelValue = models_at models v.begun in
     let walks : WalksMain (record { models = models }) main (walked ms) = main_ok models count main w v at is run none in
@@ -270,9 +250,9 @@ main_ended models count main w v e at is run none =
     (main_ending models count main w v e at is run).done 0 (run.walk.marks 0 main at ∙ ap (λ b. Some (mark_of b (is_walked ms main.name))) off ∙ ap (λ b. Some (mark_of false b)) was)
 
 pub main_err : (models : List ModelValue) (count : ℕ) (main : ModelValue) (w : WalkValue) (e : FlatErr) → slice_get models 0 ≡ Some main → w ≡ entered (record { marks = replicate count New; begun = []; ended = []; frames = [] }) 0
-    → Refuses e (λ r. Resumes (record { models = models }) w.frames (models_at models w.begun) (refused r)) → Refuses e (λ r. WalksMain (record { models = models }) main (refused r))
+    → OrMemory refusal_of (λ r. Resumes (record { models = models }) w.frames (models_at models w.begun) (refused r)) e → OrMemory refusal_of (λ r. WalksMain (record { models = models }) main (refused r)) e
 main_err models count main w e at is h =
-    Refuses-map (λ r. Resumes (record { models = models }) w.frames (models_at models w.begun) (refused r)) (λ r. WalksMain (record { models = models }) main (refused r)) e
+    OrMemory-map refusal_of (λ r. Resumes (record { models = models }) w.frames (models_at models w.begun) (refused r)) (λ r. WalksMain (record { models = models }) main (refused r)) e
     (λ r k. main_resumed models main (refused r) at (subst (λ (x : WalkValue). Resumes (record { models = models }) x.frames (models_at models x.begun) (refused r)) is k)) h
 
 pub no_top : (frames : List Frame) (o : Option Frame) → o ≡ slice_get frames 0 → o ≡ None → frames ≡ []

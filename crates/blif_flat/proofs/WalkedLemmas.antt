@@ -4,7 +4,8 @@ use Rattle.std.specs.Prelude.{slice_get}
 use Rattle.std.proofs.lemmas.Bool.{both_ways, or_left, or_right, or_cases, false≢true}
 use Rattle.std.proofs.lemmas.Option.{none-some, same_Some, option_and_then_some}
 use lib.Pointwise.{bytes_decides}
-use Rattle.list_words.specs.Members.{In}
+use Rattle.list_laws.specs.Members.{In}
+use Rattle.list_laws.proofs.Members.{In-left, In-right, In-append, In-get}
 use Rattle.blif_read.specs.declared.command.Body.{Body}
 use Rattle.blif_read.specs.declared.command.Body.TheVariants.{Cover, Latch, Subckt}
 use Rattle.blif_read.specs.declared.command.Command.{Command}
@@ -13,8 +14,6 @@ use Rattle.blif_read.specs.LibraryValue.{ModelValue, LibraryValue}
 use Rattle.blif_flat.specs.Models.{Path, with_subckt, subckts_of, model_named, placed, model_at, has_name}
 use Rattle.blif_flat.specs.Drivers.{Ends, ends}
 use Rattle.blif_flat.specs.Walk.{SubcktLine, with_line, subckt_lines, is_walked, Walked, walked, Walks, stop, refuse, again, inside, onward, WalksMain}
-use Rattle.blif_flat.proofs.MemberLemmas.{In-left, In-right}
-use Rattle.blif_flat.proofs.NameLemmas.{In-parts, In-get}
 use Rattle.blif_flat.proofs.LineFaultLemmas.{IsPlaced, free_line}
 
 -- the line of a subcircuit
@@ -103,7 +102,7 @@ module _ (library : LibraryValue) (P : ModelValue → Type 0) where
   after_line chain lines l rest ms e g a = record { sane = a.sane; good = λ k i. elim (subst (λ ls. In ls k) e i) [ inl q ↦ subst IsGood (sym q) g | inr j ↦ a.good k j ] }
 
   begun : (chain : List (List ℕ)) (before : List ModelValue) (child : ModelValue) → model_named library.models child.name ≡ Some child → Sane chain before → Sane (child.name ∷ chain) (before ++ child ∷ [])
-  begun chain before child n sane m i = elim (In-parts before (child ∷ []) m i) [
+  begun chain before child n sane m i = elim (In-append before (child ∷ []) m i) [
     | inl j ↦ ((sane m j).0, elim (sane m j).1 [ inl y ↦ inl (or_right (bytes_eq m.name child.name) (has_name chain m.name) y) | inr y ↦ inr y ])
     | inr j ↦ (elim j [
       | inl q ↦ (

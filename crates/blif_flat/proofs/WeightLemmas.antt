@@ -1,4 +1,4 @@
--- Weights are unique, they exist where those of the placed models do, and sums of capped weights are as good as sums of weights.
+-- The weight of a model exists where those of the placed models do, and sums of capped weights are as good as sums of weights.
 use Rattle.std.proofs.Common.{◌≡◌, ℕ, zero, suc, ◌+◌, ◌<◌, ◌≤◌, Bool, true, false, cond, ltb, eqb, List, [], ◌∷◌, ◌++◌, length, get_or, take, set, length-set, Some, None, refl, sym, ap, subst, ◌∙◌, inl, inr, ◌⊎◌, bytes_eq, arith}
 use Rattle.std.specs.List.{slice_get, position, position_or_len, find}
 use Rattle.std.proofs.lemmas.List.Folds.{find_at}
@@ -6,7 +6,8 @@ use Rattle.std.proofs.lemmas.Option.{none-some, same_Some, get_or_from_slice_get
 use Rattle.std.proofs.lemmas.List.{get_or-set_same, get_or-set_other}
 use Rattle.std.proofs.lemmas.Bool.{cases_Bool, both_ways, eq-eqb, eqb-true}
 use Rattle.std.proofs.Math.Seq.{take-append_seam}
-use Rattle.list_words.specs.Members.{In}
+use Rattle.list_laws.specs.Members.{In}
+use Rattle.list_laws.proofs.Places.{get_pushed}
 use Rattle.tl_text.specs.NameIndex.{place_of}
 use Rattle.tl_text.proofs.NameLemmas.{position-map}
 use Rattle.blif_read.specs.declared.command.Body.{Body}
@@ -15,40 +16,16 @@ use Rattle.blif_read.specs.declared.command.Command.{Command}
 use Rattle.blif_read.specs.SubcktValue.{SubcktValue}
 use Rattle.blif_read.specs.LibraryValue.{ModelValue, LibraryValue}
 use Rattle.blif_flat.specs.Models.{subckts_of, with_subckt, model_named}
-use Rattle.blif_flat.specs.Weight.{own_weight, Weighs, weighs, WeighAll, none, more}
+use Rattle.blif_flat.specs.Weight.{most_weight, own_weight, Weighs, weighs, WeighAll, none, more}
 use Rattle.std.specs.Prelude.{Result, Ok, Err, MatchResult}
+use Rattle.tl_fault.specs.OrMemory.{OrMemory}
 use Rattle.blif_flat.specs.declared.flat_err.FlatErr.{FlatErr}
 use Rattle.blif_flat.specs.declared.flat_err.FlatErr.TheVariants.{TooLarge}
-use Rattle.blif_flat.specs.Answers.{Refuses}
+use Rattle.blif_flat.specs.Refusals.{refusal_of}
 use Rattle.blif_flat.specs.NameSets.{model_names}
 use Rattle.blif_flat.specs.Weighing.{HasWeight, capped, kept_at, body_kept, commands_kept, model_kept, IsAmong, IsBehind, AreChildrenFirst, IsKept}
-
--- weights are unique
-same_first : {A : Type 0} (x y : A) (xs ys : List A) → x ∷ xs ≡ y ∷ ys → x ≡ y
-same_first x y xs ys e = cc
-
-same_rest : {A : Type 0} (x y : A) (xs ys : List A) → x ∷ xs ≡ y ∷ ys → xs ≡ ys
-same_rest x y xs ys e = cc
-
-same_child : (library : LibraryValue) (s t : SubcktValue) (a b : ModelValue) → s ≡ t → model_named library.models s.model ≡ Some a → model_named library.models t.model ≡ Some b → a ≡ b
-same_child library s t a b e p q = same_Some a b (sym p ∙ ap (λ (r : SubcktValue). model_named library.models r.model) e ∙ q)
-
-mutual
-  pub weighs_once : (library : LibraryValue) (m n : ModelValue) (v w : ℕ) → m ≡ n → Weighs library m v → Weighs library n w → v ≡ w
-  weighs_once library m n v w e (weighs inner all is) (weighs inner' all' is') =
-      let same : inner ≡ inner' = weigh_all_once library (subckts_of m.commands) (subckts_of n.commands) inner inner' (ap (λ (r : ModelValue). subckts_of r.commands) e) all all' in
-      let own : own_weight m ≡ own_weight n = ap own_weight e in
-      omega arith
-
-  weigh_all_once : (library : LibraryValue) (ss ts : List SubcktValue) (v w : ℕ) → ss ≡ ts → WeighAll library ss v → WeighAll library ts w → v ≡ w
-  weigh_all_once library ss ts v w e (none a b) (none c d) = b ∙ sym d
-  weigh_all_once library ss ts v w e (none a b) (more s rest child first others f g h i j) = let x : [] ≡ s ∷ rest = sym a ∙ e ∙ f in cc
-  weigh_all_once library ss ts v w e (more s rest child first others f g h i j) (none a b) = let x : s ∷ rest ≡ [] = sym f ∙ e ∙ a in cc
-  weigh_all_once library ss ts v w e (more s rest child first others f g h i j) (more s' rest' child' first' others' f' g' h' i' j') =
-      let x : s ∷ rest ≡ s' ∷ rest' = sym f ∙ e ∙ f' in
-      let p : first ≡ first' = weighs_once library child child' first first' (same_child library s s' child child' (same_first s s' rest rest' x) g g') h h' in
-      let q : others ≡ others' = weigh_all_once library rest rest' others others' (same_rest s s' rest rest' x) i i' in
-      omega arith
+use Rattle.blif_flat.proofs.WeighLemmas.{weighs_once}
+use Rattle.blif_flat.proofs.InstanceLemmas.{subckt_more}
 
 -- the number at which a name is found is that of the model of the name
 place_is : {A : Type 0} (test : A → Bool) (xs : List A) (k : ℕ) (b : Bool) → cond b (Some (position_or_len test xs)) None ≡ Some k → position_or_len test xs ≡ k
@@ -100,15 +77,10 @@ body_sum library weights (Subckt s) ss sum h r =
     let f : kept_at weights (place_of (model_names library.models) s.model) ≡ capped k.weight = k.kept in
     record { inner = k.weight + r.inner; all = more s ss k.child k.weight r.inner refl k.named k.weighs r.all refl; is = omega arith }
 
-in_rest : (body : Body) (ss : List SubcktValue) (s : SubcktValue) → In ss s → In (with_subckt body ss) s
-in_rest (Cover c) ss s h = h
-in_rest (Latch l) ss s h = h
-in_rest (Subckt t) ss s h = inr h
-
 commands_sum : (library : LibraryValue) (weights : List ℕ) (cs : List Command) → ((s : SubcktValue) → In (subckts_of cs) s → IsChildKept library weights s) → IsSum library (subckts_of cs) (commands_kept (model_names library.models) weights cs)
 commands_sum library weights [] h = record { inner = 0; all = none refl refl; is = refl }
 commands_sum library weights (c ∷ cs) h =
-    body_sum library weights c.body (subckts_of cs) (commands_kept (model_names library.models) weights cs) h (commands_sum library weights cs (λ s i. h s (in_rest c.body (subckts_of cs) s i)))
+    body_sum library weights c.body (subckts_of cs) (commands_kept (model_names library.models) weights cs) h (commands_sum library weights cs (λ s i. h s (subckt_more c.body (subckts_of cs) s i)))
 
 -- what is kept of a model whose placed models are kept is its weight
 fresh_kept : (library : LibraryValue) (before weights news : List ℕ) (number : ℕ) (b : IsBehind library before number) → ((n : ℕ) → In before n → IsKept library weights n)
@@ -187,13 +159,13 @@ same_model : (library : LibraryValue) (weights : List ℕ) (number : ℕ) (m : M
 same_model library weights number m k at = subst (λ n. Weighs library n k.weight) (same_Some k.model m (sym k.at ∙ at)) k.weighs
 
 pub kept_light : (library : LibraryValue) (weights : List ℕ) (number kept : ℕ) (m : ModelValue) → IsKept library weights number → slice_get library.models number ≡ Some m → slice_get weights number ≡ Some kept
-    → kept ≤ 4194304 → HasWeight library m (λ w. w ≤ 4194304)
+    → kept ≤ most_weight → HasWeight library m (λ w. w ≤ most_weight)
 kept_light library weights number kept m k at here h =
     let e : kept ≡ capped k.weight = same_Some kept (capped k.weight) (sym here ∙ k.kept) in
     record { weight = k.weight; weighs = same_model library weights number m k at; is = omega arith }
 
 pub kept_heavy : (library : LibraryValue) (weights : List ℕ) (number kept : ℕ) (m : ModelValue) → IsKept library weights number → slice_get library.models number ≡ Some m → slice_get weights number ≡ Some kept
-    → 4194304 < kept → HasWeight library m (λ w. 4194304 < w)
+    → most_weight < kept → HasWeight library m (λ w. most_weight < w)
 kept_heavy library weights number kept m k at here h =
     let e : kept ≡ capped k.weight = same_Some kept (capped k.weight) (sym here ∙ k.kept) in
     record { weight = k.weight; weighs = same_model library weights number m k at; is = omega arith }
@@ -204,15 +176,9 @@ take_front xs ys zero h = refl
 take_front [] ys (suc i) h = absurd (omega arith)
 take_front (x ∷ xs) ys (suc i) h = ap (λ l. x ∷ l) (take_front xs ys i (omega arith))
 
-push_cases : (xs : List ℕ) (y p i : ℕ) → slice_get (xs ++ y ∷ []) i ≡ Some p → (slice_get xs i ≡ Some p) ⊎ ((i ≡ length xs) × (y ≡ p))
-push_cases [] y p zero h = inr (refl, same_Some y p h)
-push_cases [] y p (suc i) h = absurd (none-some p h)
-push_cases (x ∷ xs) y p zero h = inl h
-push_cases (x ∷ xs) y p (suc i) h = elim (push_cases xs y p i h) [ inl e ↦ inl e | inr e ↦ inr (ap suc e.0, e.1) ]
-
 pub children_first_push : (library : LibraryValue) (order : List ℕ) (number : ℕ) → AreChildrenFirst library order → IsBehind library order number → AreChildrenFirst library (order ++ number ∷ [])
 children_first_push library order number first behind = record {
-  each = λ i n at. elim (push_cases order number n i at) [
+  each = λ i n at. elim (get_pushed order number i n at) [
     | inl h ↦ (let inside : i < length order = slice_get_within order i n h in
         subst (λ l. IsBehind library l n) (sym (take_front order (number ∷ []) i (omega arith))) (first.each i n h))
     | inr h ↦ (let e : take i (order ++ number ∷ []) ≡ order = ap (λ j. take j (order ++ number ∷ [])) h.0 ∙ take-append_seam order (number ∷ []) in
@@ -225,8 +191,8 @@ children_first_none library = record { each = λ i n at. absurd (none-some n at)
 
 -- what is told of the main model
 pub weight_told : (library : LibraryValue) (weights : List ℕ) (kept : ℕ) (main : ModelValue) (result : Result (Unit {0}) FlatErr) → IsKept library weights 0 → slice_get library.models 0 ≡ Some main → slice_get weights 0 ≡ Some kept
-    → MatchResult result (λ _. kept ≤ 4194304) (λ e. (e ≡ TooLarge) × (4194304 < kept))
-    → MatchResult result (λ _. HasWeight library main (λ w. w ≤ 4194304)) (λ e. Refuses e (λ r. (r ≡ TooLarge) × HasWeight library main (λ w. 4194304 < w)))
+    → MatchResult result (λ _. kept ≤ most_weight) (λ e. (e ≡ TooLarge) × (most_weight < kept))
+    → MatchResult result (λ _. HasWeight library main (λ w. w ≤ most_weight)) (λ e. OrMemory refusal_of (λ r. (r ≡ TooLarge) × HasWeight library main (λ w. most_weight < w)) e)
 weight_told library weights kept main (Ok u) k at here h = kept_light library weights 0 kept main k at here h
 weight_told library weights kept main (Err e) k at here h =
-    subst (λ x. Refuses x (λ r. (r ≡ TooLarge) × HasWeight library main (λ w. 4194304 < w))) (sym h.0) (refl, kept_heavy library weights 0 kept main k at here h.1)
+    subst (λ x. OrMemory refusal_of (λ r. (r ≡ TooLarge) × HasWeight library main (λ w. most_weight < w)) x) (sym h.0) (refl, kept_heavy library weights 0 kept main k at here h.1)

@@ -1,6 +1,6 @@
 -- The refusals of clocks: the controls of the latches in flat order, then clock nets that are data.
 use Rattle.std.specs.Prelude.{◌≡◌, ◌⊎◌, ℕ, Bool, true, false, List, [], ◌∷◌, ◌++◌, Option, Some, None}
-use Rattle.list_words.specs.Members.{In}
+use Rattle.list_laws.specs.Members.{In}
 use Rattle.blif_read.specs.declared.command.Body.{Body}
 use Rattle.blif_read.specs.declared.command.Body.TheVariants.{Cover, Latch, Subckt}
 use Rattle.blif_read.specs.declared.latch.Latch.{Latch as LatchValue}

@@ -1,15 +1,15 @@
 -- The depth-first walk of the covers of a flat circuit, with its stack in memory: marks are 0 for new, 1 on the path and 2 done; the order and the stack stand last first.
 use Rattle.std.specs.Prelude.{◌≡◌, ℕ, zero, suc, ◌+◌, ◌<◌, ◌⊎◌, ◌==◌, if◌then◌else◌, List, [], ◌∷◌, ◌++◌, length, drop, reverse, Option, Some, None, slice_get, slice_set}
-use Rattle.list_words.specs.Members.{In}
+use Rattle.list_laws.specs.Members.{In}
 use Rattle.blif_flat.specs.declared.flat.Net.{Net}
 use Rattle.blif_flat.specs.declared.flat.Net.TheVariants.{Input, Latch, Cover}
 use Rattle.blif_flat.specs.declared.cover_walk.Frame.{Frame}
 use Rattle.blif_flat.specs.declared.cover_walk.Found.{Found}
-use Rattle.blif_flat.specs.declared.cover_walk.Found.TheVariants.{Cycle as found_cycle, Order as found_order}
+use Rattle.blif_flat.specs.declared.cover_walk.Found.TheVariants.{Loop as found_loop, Order as found_order}
 use Rattle.blif_flat.specs.FlatCoverValue.{FlatCoverValue}
 use Rattle.blif_flat.specs.Flat.{cover_numbers, inputs_at}
-use Rattle.blif_flat.specs.Loops.{IsAfter}
-use Rattle.blif_flat.specs.Walking.{Cycle, Meets, MeetsAll, Posts, PostsAll}
+use Rattle.blif_flat.specs.CoverOrder.{IsAfter}
+use Rattle.blif_flat.specs.DepthFirst.{Repeat, Meets, MeetsAll, Posts, PostsAll}
 
 pub record WalkValue : Type 0 where
   pub marks : List ℕ
@@ -78,10 +78,10 @@ pub data Looked (w : WalkValue) (n : ℕ) (v : WalkValue) (found : Option ℕ) :
   passes : (m : ℕ) → slice_get w.marks n ≡ Some m → ¬ (m ≡ 0) → ¬ (m ≡ 1) → v ≡ w → found ≡ None → Looked w n v found
 
 -- what the rest of the walk finds, where the frames' covers are begun
-abbrev pub MeetsLeft : List FlatCoverValue → List Frame → Option (Cycle ℕ) → Type 0
+abbrev pub MeetsLeft : List FlatCoverValue → List Frame → Option (Repeat ℕ) → Type 0
 MeetsLeft covers [] result = result ≡ None
 MeetsLeft covers (f ∷ fs) result =
-    ((cycle : Cycle ℕ) × (MeetsAll (cover_reads covers) (f.cover ∷ path_of fs) (to_read covers f) (Some cycle) × (result ≡ Some cycle)))
+    ((repeat : Repeat ℕ) × (MeetsAll (cover_reads covers) (f.cover ∷ path_of fs) (to_read covers f) (Some repeat) × (result ≡ Some repeat)))
     ⊎ (MeetsAll (cover_reads covers) (f.cover ∷ path_of fs) (to_read covers f) None × MeetsLeft covers fs result)
 
 -- the order that the rest of the walk makes
@@ -121,15 +121,15 @@ pub record IsWalker (covers : List FlatCoverValue) (w : WalkValue) : Type 0 wher
 -- v stands later in the walk than w
 pub record IsLater (covers : List FlatCoverValue) (w v : WalkValue) : Type 0 where
   pub walker : IsWalker covers v
-  pub meets : (result : Option (Cycle ℕ)) → MeetsLeft covers v.stack result → MeetsLeft covers w.stack result
+  pub meets : (result : Option (Repeat ℕ)) → MeetsLeft covers v.stack result → MeetsLeft covers w.stack result
   pub posts : (result : List ℕ) → PostsLeft covers v.order v.stack result → PostsLeft covers w.order w.stack result
 
--- the cycle of a node that was met on the path
-abbrev pub cycle_at : WalkValue → ℕ → Cycle ℕ
-cycle_at v c = record { node = c; path = path_of v.stack }
+-- the repeat of a node that was met on the path
+abbrev pub repeat_at : WalkValue → ℕ → Repeat ℕ
+repeat_at v c = record { node = c; path = path_of v.stack }
 
 pub record IsMet (covers : List FlatCoverValue) (w v : WalkValue) (c : ℕ) : Type 0 where
-  pub meets : MeetsLeft covers w.stack (Some (cycle_at v c))
+  pub meets : MeetsLeft covers w.stack (Some (repeat_at v c))
 
 -- one step of the walk
 pub record IsStep (covers : List FlatCoverValue) (w v : WalkValue) : Type 0 where
@@ -157,7 +157,7 @@ pub record IsDone (covers : List FlatCoverValue) (w v : WalkValue) (root : ℕ) 
   pub posts : Posts (cover_reads covers) w.order root v.order
 
 pub record IsMetFrom (covers : List FlatCoverValue) (v : WalkValue) (root c : ℕ) : Type 0 where
-  pub meets : Meets (cover_reads covers) [] root (Some (cycle_at v c))
+  pub meets : Meets (cover_reads covers) [] root (Some (repeat_at v c))
 
 abbrev pub Visited : List FlatCoverValue → WalkValue → WalkValue → ℕ → Option ℕ → Type 0
 Visited covers w v root None = IsDone covers w v root
@@ -171,7 +171,7 @@ pub record AreDone (covers : List FlatCoverValue) (w v : WalkValue) (roots : Lis
   pub posts : PostsAll (cover_reads covers) w.order roots v.order
 
 pub record IsMetFromAll (covers : List FlatCoverValue) (v : WalkValue) (roots : List ℕ) (c : ℕ) : Type 0 where
-  pub meets : MeetsAll (cover_reads covers) [] roots (Some (cycle_at v c))
+  pub meets : MeetsAll (cover_reads covers) [] roots (Some (repeat_at v c))
 
 abbrev pub VisitedAll : List FlatCoverValue → WalkValue → WalkValue → List ℕ → Option ℕ → Type 0
 VisitedAll covers w v roots None = AreDone covers w v roots
@@ -181,7 +181,7 @@ VisitedAll covers w v roots (Some c) = IsMetFromAll covers v roots c
 pub record AreLeft (covers : List FlatCoverValue) (w v : WalkValue) (roots left : List ℕ) : Type 0 where
   pub walker : IsWalker covers v
   pub empty : v.stack ≡ []
-  pub meets : (result : Option (Cycle ℕ)) → MeetsAll (cover_reads covers) [] left result → MeetsAll (cover_reads covers) [] roots result
+  pub meets : (result : Option (Repeat ℕ)) → MeetsAll (cover_reads covers) [] left result → MeetsAll (cover_reads covers) [] roots result
   pub posts : (result : List ℕ) → PostsAll (cover_reads covers) v.order left result → PostsAll (cover_reads covers) w.order roots result
 
 -- n numbers, from a first one on
@@ -198,11 +198,11 @@ abbrev pub from_number : ℕ → List ℕ → List ℕ
 from_number n [] = []
 from_number n (m ∷ path) = if n == m then m ∷ [] else from_number n path ++ m ∷ []
 
--- what the walk of the roots and then of all covers finds: the first cycle, each of its covers reading the next, the last reading the first; or else the roots' order
-pub record IsCycle (covers : List FlatCoverValue) (roots nodes : List ℕ) : Type 0 where
-  pub cycle : Cycle ℕ
-  pub meets : MeetsAll (cover_reads covers) [] (roots ++ numbers_from 0 (length covers)) (Some cycle)
-  pub nodes_are : nodes ≡ from_number cycle.node cycle.path
+-- what the walk of the roots and then of all covers finds: the first loop, each of its covers reading the next, the last reading the first; or else the roots' order
+pub record IsNumberLoop (covers : List FlatCoverValue) (roots nodes : List ℕ) : Type 0 where
+  pub repeat : Repeat ℕ
+  pub meets : MeetsAll (cover_reads covers) [] (roots ++ numbers_from 0 (length covers)) (Some repeat)
+  pub nodes_are : nodes ≡ from_number repeat.node repeat.path
 
 -- an order of all covers, the last first: each one stands behind those that it reads
 pub record AreAllAfter (covers : List FlatCoverValue) (all : List ℕ) : Type 0 where
@@ -218,5 +218,5 @@ pub record IsOrder (covers : List FlatCoverValue) (roots order : List ℕ) : Typ
   pub all_after : AreAllAfter covers all
 
 abbrev pub IsFound : List FlatCoverValue → List ℕ → Found → Type 0
-IsFound covers roots (found_cycle nodes) = IsCycle covers roots nodes.items
+IsFound covers roots (found_loop nodes) = IsNumberLoop covers roots nodes.items
 IsFound covers roots (found_order order) = IsOrder covers roots order.items

@@ -1,20 +1,20 @@
 -- What the steps of a search for faults of drivers tell.
-use Rattle.std.specs.Prelude.{◌≡◌, ℕ, List, [], ◌∷◌, ◌++◌, Option, Some, None, Result, MatchResult, map, slice_get}
+use Rattle.std.specs.Prelude.{◌≡◌, ℕ, List, ◌++◌, Option, Some, None, Result, MatchResult, map}
 use Rattle.blif_read.specs.LibraryValue.{ModelValue, LibraryValue}
 use Rattle.blif_flat.specs.declared.flat_err.FlatErr.{FlatErr}
 use Rattle.blif_flat.specs.declared.ports.Ports.{Ports}
 use Rattle.blif_flat.specs.Models.{model_named}
 use Rattle.blif_flat.specs.NameSets.{ports_value, model_names}
 use Rattle.blif_flat.specs.DriverFaults.{model_fault}
-use Rattle.blif_flat.specs.Answers.{IsFault}
+use Rattle.blif_flat.specs.Answers.{IsTold}
 
 -- a result tells a fault, exactly
 abbrev pub Tells : Result (Unit {0}) FlatErr → Option FlatErr → Type 0
-Tells result fault = MatchResult result (λ _. fault ≡ None) (λ e. IsFault e fault)
+Tells result fault = MatchResult result (λ _. fault ≡ None) (λ e. IsTold e fault)
 
 -- and without one these names are added
 abbrev pub Adds : Result (Unit {0}) FlatErr → Option FlatErr → List (List ℕ) → List (List ℕ) → List (List ℕ) → Type 0
-Adds result fault old new names = MatchResult result (λ _. (fault ≡ None) × (new ≡ old ++ names)) (λ e. IsFault e fault)
+Adds result fault old new names = MatchResult result (λ _. (fault ≡ None) × (new ≡ old ++ names)) (λ e. IsTold e fault)
 
 -- the ports are those of the model of this name
 pub record ArePortsOf (models : List ModelValue) (name : List ℕ) (ports : Ports) : Type 0 where
@@ -26,15 +26,6 @@ pub record ArePortsOf (models : List ModelValue) (name : List ℕ) (ports : Port
 pub record AreOf (library : LibraryValue) (names : List (List ℕ)) (ports : List Ports) : Type 0 where
   pub names_are : names ≡ model_names library.models
   pub ports_are : ports ≡ map ports_value library.models
-
--- the models of these numbers
-abbrev pub with_model : Option ModelValue → List ModelValue → List ModelValue
-with_model None models = models
-with_model (Some m) models = m ∷ models
-
-abbrev pub models_at : LibraryValue → List ℕ → List ModelValue
-models_at library [] = []
-models_at library (number ∷ numbers) = with_model (slice_get library.models number) (models_at library numbers)
 
 -- the first fault of the drivers of the model of a number
 abbrev pub fault_of : LibraryValue → Option ModelValue → Option FlatErr

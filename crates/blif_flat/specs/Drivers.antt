@@ -1,6 +1,6 @@
 -- What drives and what reads a name within one instance.
 use Rattle.std.specs.Prelude.{◌≡◌, ◌⊎◌, ℕ, List, ◌∷◌, Some, slice_get, IsTrue}
-use Rattle.list_words.specs.Members.{In}
+use Rattle.list_laws.specs.Members.{In}
 use Rattle.blif_read.specs.declared.latch.Latch.{Latch as LatchValue}
 use Rattle.blif_read.specs.declared.subckt.Pair.{Pair}
 use Rattle.blif_read.specs.CoverValue.{CoverValue}

@@ -1,6 +1,6 @@
 -- The order in which the walks of models end, and how far it is: the models that are done stand in it, behind those that they place.
 use Rattle.std.specs.Prelude.{◌≡◌, ℕ, ◌<◌, List, [], ◌∷◌, ◌++◌, Some, slice_get}
-use Rattle.list_words.specs.Members.{In}
+use Rattle.list_laws.specs.Members.{In}
 use Rattle.blif_read.specs.declared.command.Body.TheVariants.{Subckt}
 use Rattle.blif_read.specs.declared.command.Command.{Command}
 use Rattle.blif_read.specs.SubcktValue.{SubcktValue}

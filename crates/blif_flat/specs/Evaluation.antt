@@ -1,7 +1,7 @@
 -- A flat circuit evaluated: each cover of the order in turn, from the values of the nets that it reads.
 use Rattle.std.specs.Prelude.{◌≡◌, ℕ, Bool, false, List, [], ◌∷◌, length, map, replicate, Option, Some, None, slice_get, slice_set, unwrap_or}
 use Rattle.std.specs.Option.{option_and_then}
-use Rattle.list_words.specs.Members.{In}
+use Rattle.list_laws.specs.Members.{In}
 use Rattle.blif_read.specs.CoverValue.{CoverValue, cover_value}
 use Rattle.blif_read.specs.LibraryValue.{ModelValue, LibraryValue}
 use Rattle.blif_flat.specs.declared.flat.Net.{Net as FlatNet}
@@ -12,7 +12,8 @@ use Rattle.blif_flat.specs.Models.{Path, body_at}
 use Rattle.blif_flat.specs.Instances.{CoverAt}
 use Rattle.blif_flat.specs.Cycle.{Fits}
 use Rattle.blif_flat.specs.Places.{Place, cover_in}
-use Rattle.blif_flat.specs.Flat.{Places}
+use Rattle.blif_flat.specs.Nets.{Net, Drives}
+use Rattle.blif_flat.specs.Flat.{Places, IsNumbered}
 
 -- the cover behind a flat one
 abbrev pub cover_behind : LibraryValue → FlatCoverValue → Option CoverValue
@@ -49,3 +50,7 @@ pub record Evaluates (library : LibraryValue) (flat : FlatValue) (at : Places) :
   pub each : (x : List ℕ → Bool) (s : Path → ℕ → Bool) (xs ss : List Bool) (value : Path → List ℕ → Bool) → AreGiven flat at x s xs ss → Fits library x s value
       → (k : ℕ) → In flat.order k → (p : Place) (c : CoverValue) → slice_get at.covers k ≡ Some p → CoverAt library p.path p.command c
       → slice_get (flat_values library flat xs ss) k ≡ Some (value p.path c.output)
+  -- and so it gives any name whose net is an input, a latch or a cover in the order the value of the name
+  pub names : (x : List ℕ → Bool) (s : Path → ℕ → Bool) (xs ss : List Bool) (value : Path → List ℕ → Bool) → AreGiven flat at x s xs ss → Fits library x s value
+      → (path : Path) (name : List ℕ) (net : Net) (number : FlatNet) → Drives library path name net → IsNumbered at net number → ((k : ℕ) → number ≡ Cover k → In flat.order k)
+      → net_value xs ss (flat_values library flat xs ss) number ≡ value path name

@@ -12,7 +12,7 @@ use Rattle.blif_flat.specs.declared.flat.OutPort.{OutPort}
 use Rattle.blif_flat.specs.declared.gates.Gate.{Gate}
 use Rattle.blif_flat.specs.declared.instances.Instance.{Instance}
 use Rattle.blif_flat.specs.FlatCoverValue.{FlatCoverValue}
-use Rattle.blif_flat.specs.Models.{body_at}
+use Rattle.blif_flat.specs.GateBodies.{gate_body}
 use Rattle.blif_flat.specs.Places.{cover_in, latch_in}
 use Rattle.blif_flat.specs.NetSlots.{NetsValue, table_of}
 use Rattle.blif_flat.specs.RegularNets.{renumbered}
@@ -32,13 +32,6 @@ regular_nets numbers n i names = map (regular_net numbers n i) names
 abbrev pub row_model : Option Instance → ℕ
 row_model None = 0
 row_model (Some row) = row.model
-
--- the body of a gate's command
-abbrev pub numbered_body : LibraryValue → ℕ → ℕ → Option Body
-numbered_body library model command = option_and_then (λ (m : ModelValue). body_at m command) (slice_get library.models model)
-
-abbrev pub gate_body : LibraryValue → List Instance → Gate → Option Body
-gate_body library rows g = numbered_body library (row_model (slice_get rows g.row)) g.command
 
 -- the flat cover of a gate
 abbrev pub inputs_or : Option CoverValue → List (List ℕ)

@@ -13,7 +13,7 @@ use Rattle.blif_flat.specs.Models.{Path, model_at, has_name}
 use Rattle.blif_flat.specs.Instances.{CoverAt, LatchAt}
 use Rattle.blif_flat.specs.Nets.{Net, input_net, latch_net, cover_net, Drives, IsClock}
 use Rattle.blif_flat.specs.Places.{Place, is_cover, is_latch, FlatOrder}
-use Rattle.blif_flat.specs.Walking.{PostsAll}
+use Rattle.blif_flat.specs.DepthFirst.{PostsAll}
 
 -- the drivers by whose places the nets are numbered
 pub record Places : Type 0 where
@@ -49,9 +49,9 @@ pub data IsControl (library : LibraryValue) (control : Option (List ℕ)) : Type
   some_latch : (path : Path) (i : ℕ) (l : LatchValue) (own name : List ℕ) → LatchAt library path i l → l.control ≡ Some own → Drives library path own (input_net name) → control ≡ Some name → IsControl library control
   no_latch : ((path : Path) (i : ℕ) (l : LatchValue) → LatchAt library path i l → l.control ≡ None) → control ≡ None → IsControl library control
 
-abbrev pub with_control : List (List ℕ) → Option (List ℕ) → List (List ℕ)
-with_control clocks None = clocks
-with_control clocks (Some name) = if has_name clocks name then clocks else clocks ++ name ∷ []
+abbrev pub with_control_net : List (List ℕ) → Option (List ℕ) → List (List ℕ)
+with_control_net clocks None = clocks
+with_control_net clocks (Some name) = if has_name clocks name then clocks else clocks ++ name ∷ []
 
 -- the covers among nets, and the roots: the outputs, then the latch inputs
 abbrev pub cover_numbers : List FlatNet → List ℕ
@@ -102,7 +102,7 @@ pub record IsFlat (library : LibraryValue) (flat : FlatValue) : Type 0 where
   pub tells : TellsClocks library test
   pub inputs : flat.inputs ≡ filter (λ name. not (test name)) main.inputs
   pub control : IsControl library flat.control
-  pub clocks : flat.clocks ≡ with_control main.clocks flat.control
+  pub clocks : flat.clocks ≡ with_control_net main.clocks flat.control
   pub at : Places
   pub places : at.inputs ≡ flat.inputs
   pub covers_order : FlatOrder library is_cover [] main at.covers

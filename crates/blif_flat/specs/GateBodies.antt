@@ -1,8 +1,10 @@
--- The bodies of commands, by the number of the model and by the place.
-use Rattle.std.specs.Prelude.{ℕ, Option, slice_get}
+-- The bodies of commands, by the number of the model, by the place, and by the gate.
+use Rattle.std.specs.Prelude.{ℕ, List, Option, slice_get}
 use Rattle.std.specs.Option.{option_and_then}
 use Rattle.blif_read.specs.declared.command.Body.{Body}
 use Rattle.blif_read.specs.LibraryValue.{ModelValue, LibraryValue}
+use Rattle.blif_flat.specs.declared.gates.Gate.{Gate}
+use Rattle.blif_flat.specs.declared.instances.Instance.{Instance}
 use Rattle.blif_flat.specs.Models.{body_at, model_at}
 use Rattle.blif_flat.specs.Places.{Place}
 
@@ -14,6 +16,10 @@ body_in command model = option_and_then (λ (m : ModelValue). body_at m command)
 abbrev pub numbered_body : LibraryValue → ℕ → ℕ → Option Body
 numbered_body library model command = body_in command (slice_get library.models model)
 
--- and of a place
+-- of a place
 abbrev pub place_body : LibraryValue → Place → Option Body
 place_body library p = body_in p.command (model_at library p.path)
+
+-- and of a gate, by its row
+abbrev pub gate_body : LibraryValue → List Instance → Gate → Option Body
+gate_body library rows g = option_and_then (λ (row : Instance). numbered_body library row.model g.command) (slice_get rows g.row)

@@ -9,8 +9,9 @@ use Rattle.blif_read.specs.SubcktValue.{SubcktValue}
 use Rattle.blif_read.specs.LibraryValue.{ModelValue, LibraryValue}
 use Rattle.blif_flat.specs.declared.instances.Instance.{Instance}
 use Rattle.blif_flat.specs.Models.{Path, model_at}
-use Rattle.blif_flat.specs.Weight.{Weighs}
+pub use Rattle.blif_flat.specs.Weight.{IsLight}
 use Rattle.blif_flat.specs.InstanceOrder.{InstanceOrder}
+use Rattle.blif_flat.specs.Weight.{most_weight}
 
 -- the path of a row: its ordinal before the path of the instance that it stands in
 abbrev pub path_under : ℕ → Option Path → Path
@@ -44,15 +45,7 @@ pub record AreInstances (library : LibraryValue) (rows : List Instance) : Type 0
   pub first : model_at library [] ≡ Some main
   pub order : InstanceOrder library [] main (paths_of rows)
   pub each : (i : ℕ) (row : Instance) → slice_get rows i ≡ Some row → IsRow library (paths_of rows) i row
-  pub few : length rows ≤ 4194304
-
--- the main model has a weight of at most 2^22
-pub record IsLight (library : LibraryValue) : Type 0 where
-  pub main : ModelValue
-  pub first : model_at library [] ≡ Some main
-  pub weight : ℕ
-  pub weighs : Weighs library main weight
-  pub light : weight ≤ 4194304
+  pub few : length rows ≤ most_weight
 
 -- the row of a subcircuit of this ordinal, and those of a model's subcircuits in line order
 abbrev pub number_or_zero : Option ℕ → ℕ
@@ -93,6 +86,6 @@ pub record Listed (library : LibraryValue) (rows pending : List Instance) : Type
   pub first : model_at library [] ≡ Some main
   pub rest : List Path
   pub order : InstanceOrder library [] main (paths_of rows ++ rest)
-  pub few : length (paths_of rows ++ rest) ≤ 4194304
+  pub few : length (paths_of rows ++ rest) ≤ most_weight
   pub waits : Waits library (paths_of rows) pending rest
   pub each : (i : ℕ) (row : Instance) → slice_get rows i ≡ Some row → IsRow library (paths_of rows) i row

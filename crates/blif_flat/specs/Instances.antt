@@ -1,6 +1,6 @@
 -- The covers, latches and connections of the instances, and the main model's inputs.
 use Rattle.std.specs.Prelude.{◌≡◌, ℕ, List, [], Some, slice_get, IsTrue}
-use Rattle.list_words.specs.Members.{In}
+use Rattle.list_laws.specs.Members.{In}
 use Rattle.blif_read.specs.declared.command.Body.TheVariants.{Cover, Latch}
 use Rattle.blif_read.specs.declared.latch.Latch.{Latch as LatchValue}
 use Rattle.blif_read.specs.declared.subckt.Pair.{Pair}

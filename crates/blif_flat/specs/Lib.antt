@@ -1,3 +1,5 @@
+-- What public clauses say.
+pub mod Refusals
 pub mod Models
 pub mod Instances
 pub mod Nets
@@ -11,8 +13,7 @@ pub mod Law
 pub mod Walk
 pub mod Weight
 pub mod DriverFaults
-pub mod Answers
-pub mod Walking
+pub mod DepthFirst
 pub mod Written
 pub mod ClockFaults
 pub mod LoopFault
@@ -21,11 +22,18 @@ pub mod FlatCoverValue
 pub mod FlatValue
 pub mod Flat
 pub mod Evaluation
+pub mod Flattened
+pub mod FlatCycle
+pub mod Bounds
+-- What only bodies are compared with.
+pub mod Answers
+pub mod CoverOrder
 pub mod InstanceOrder
 pub mod NameSets
 pub mod Weighing
 pub mod DriverSteps
 pub mod Line
+pub mod NumberedModels
 pub mod Stack
 pub mod CoverWalk
 pub mod InstanceRows
@@ -37,11 +45,9 @@ pub mod ModelNames
 pub mod NetMade
 pub mod ClockSteps
 pub mod RegularNets
-pub mod Flattened
 pub mod Checked
 pub mod Ordering
 pub mod Stages
-pub mod FlatCycle
 pub mod Ending
 pub mod GateRows
 pub mod NetStarts

@@ -1,5 +1,5 @@
 -- F10: a cover whose value depends on itself through covers. The covers are walked depth first and left to right from the outputs, the latch inputs, and then all covers
--- in flat order; the first cover that is met again on the current path closes the cycle, which is told from it on.
+-- in flat order; the first cover that is met again on the current path closes the loop, which is told from it on.
 use Rattle.std.specs.Prelude.{◌≡◌, ℕ, if◌then◌else◌, List, [], ◌∷◌, ◌++◌, Option, Some, None}
 use Rattle.blif_read.specs.declared.latch.Latch.{Latch as LatchValue}
 use Rattle.blif_read.specs.LibraryValue.{ModelValue, LibraryValue}
@@ -9,7 +9,7 @@ use Rattle.blif_flat.specs.Models.{Path, model_at}
 use Rattle.blif_flat.specs.Nets.{Net, cover_net}
 use Rattle.blif_flat.specs.Places.{Place, same_place, latch_at, is_cover, is_latch, FlatOrder}
 use Rattle.blif_flat.specs.Loops.{AreNets, covers_among, reads_of}
-use Rattle.blif_flat.specs.Walking.{Cycle, MeetsAll}
+use Rattle.blif_flat.specs.DepthFirst.{Repeat, MeetsAll}
 use Rattle.blif_flat.specs.Written.{IsWritten}
 
 -- the covers at the latches' inputs
@@ -25,7 +25,7 @@ all_latch_covers library net (p ∷ places) = latch_covers (net p.path) (latch_a
 abbrev pub roots_of : LibraryValue → (Path → List ℕ → Option Net) → ModelValue → List Place → List Place
 roots_of library net main latches = covers_among (net []) main.outputs ++ all_latch_covers library net latches
 
--- the cycle in the order in which each one reads the next: the path from the node's place on
+-- the loop in the order in which each one reads the next: the path from the node's place on
 abbrev pub from_node : Place → List Place → List Place
 from_node p [] = []
 from_node p (q ∷ path) = if same_place p q then q ∷ [] else from_node p path ++ q ∷ []
@@ -36,7 +36,7 @@ pub data AreWritten (library : LibraryValue) : List Place → List (List ℕ) �
       → AreWritten library (p ∷ places) (text ∷ texts)
 
 -- what the walk finds
-pub record LoopWalk (library : LibraryValue) (result : Option (Cycle Place)) : Type 0 where
+pub record LoopWalk (library : LibraryValue) (result : Option (Repeat Place)) : Type 0 where
   pub main : ModelValue
   pub at : model_at library [] ≡ Some main
   pub covers : List Place
@@ -48,8 +48,8 @@ pub record LoopWalk (library : LibraryValue) (result : Option (Cycle Place)) : T
   pub meets : MeetsAll (reads_of library net) [] (roots_of library net main latches ++ covers) result
 
 pub record IsLoop (library : LibraryValue) (fault : FlatErr) : Type 0 where
-  pub cycle : Cycle Place
-  pub walk : LoopWalk library (Some cycle)
+  pub repeat : Repeat Place
+  pub walk : LoopWalk library (Some repeat)
   pub names : List (List ℕ)
-  pub written : AreWritten library (from_node cycle.node cycle.path) names
+  pub written : AreWritten library (from_node repeat.node repeat.path) names
   pub is : fault ≡ Loop names

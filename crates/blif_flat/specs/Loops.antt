@@ -1,6 +1,6 @@
--- Which cover reads which, and orders of the covers in which each one stands behind those that it reads.
+-- Which cover reads which, and which depends on which.
 use Rattle.std.specs.Prelude.{◌≡◌, ℕ, List, [], ◌∷◌, Option, Some, None}
-use Rattle.list_words.specs.Members.{In}
+use Rattle.list_laws.specs.Members.{In}
 use Rattle.blif_read.specs.CoverValue.{CoverValue}
 use Rattle.blif_read.specs.LibraryValue.{LibraryValue}
 use Rattle.blif_flat.specs.Models.{Path}
@@ -34,14 +34,15 @@ reads_in net (Some c) = covers_among net c.inputs
 abbrev pub reads_of : LibraryValue → (Path → List ℕ → Option Net) → Place → List Place
 reads_of library net p = reads_in (net p.path) (cover_at library p)
 
--- an order, the last first: what each one reads stands behind it in the list, and none stands twice
-abbrev pub IsAfter : {N : Type 0} → (N → List N) → List N → Type 0
-IsAfter reads [] = Unit {0}
-IsAfter reads (n ∷ ns) = ((m : _) → In (reads n) m → In ns m) × ((In ns n → ⊥) × IsAfter reads ns)
+-- a cover reads another: the other's net drives a name among its inputs
+pub record ReadsCover (library : LibraryValue) (p q : Place) : Type 0 where
+  pub cover : CoverValue
+  pub is : CoverAt library p.path p.command cover
+  pub name : List ℕ
+  pub input : In cover.inputs name
+  pub drives : Drives library p.path name (cover_net q.path q.command)
 
--- an order of all covers, in which each comes after those that it reads
-pub record Ordered (library : LibraryValue) (net : Path → List ℕ → Option Net) : Type 0 where
-  pub order : List Place
-  pub after : IsAfter (reads_of library net) order
-  pub all : (path : Path) (i : ℕ) (c : CoverValue) → CoverAt library path i c → In order (record { path = path; command = i })
-  pub only : (p : Place) → In order p → (c : CoverValue) × CoverAt library p.path p.command c
+-- a cover's value depends on another one's: it reads the other, or one whose value depends on the other's
+pub data Depends (library : LibraryValue) : Place → Place → Type 0 where
+  direct : {p q : Place} → ReadsCover library p q → Depends library p q
+  through : {p q : Place} (between : Place) → ReadsCover library p between → Depends library between q → Depends library p q

@@ -1,6 +1,6 @@
 -- The nets of the instances before any is known, and when all are.
 use Rattle.std.specs.Prelude.{◌≡◌, ℕ, List, [], None, Some, slice_get}
-use Rattle.list_words.specs.Members.{In}
+use Rattle.list_laws.specs.Members.{In}
 use Rattle.blif_read.specs.LibraryValue.{ModelValue, LibraryValue}
 use Rattle.blif_flat.specs.declared.instances.Instance.{Instance}
 use Rattle.blif_flat.specs.Models.{Path, model_at}

@@ -5,6 +5,7 @@ use Rattle.tl_text.specs.NameIndex.{place_of}
 use Rattle.blif_read.specs.declared.subckt.Pair.{Pair}
 use Rattle.blif_flat.specs.declared.flat.Net.{Net as FlatNet}
 use Rattle.blif_flat.specs.declared.nets.Start.{Start}
+use Rattle.blif_flat.specs.Weight.{most_weight}
 
 -- the names of the models, the model and the first slot of each instance, and the slots
 pub record NetsValue : Type 0 where
@@ -32,7 +33,7 @@ with_slot n k number = record { names = n.names; starts = n.starts; slots = slic
 
 -- each name of each instance has its own slot, of at most 2^22
 pub record IsNets (n : NetsValue) : Type 0 where
-  pub few : length n.slots ≤ 4194304
+  pub few : length n.slots ≤ most_weight
   pub within : (i : ℕ) (name : List ℕ) (k : ℕ) → slot_number n i name ≡ Some k → k < length n.slots
   pub apart : (i j : ℕ) (name other : List ℕ) (k : ℕ) → slot_number n i name ≡ Some k → slot_number n j other ≡ Some k → (i ≡ j) × (name ≡ other)
 

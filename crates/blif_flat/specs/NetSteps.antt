@@ -12,13 +12,10 @@ use Rattle.blif_flat.specs.declared.flat.Net.TheVariants.{Input as InputNumber, 
 use Rattle.blif_flat.specs.declared.gates.Gate.{Gate}
 use Rattle.blif_flat.specs.declared.instances.Instance.{Instance}
 use Rattle.blif_flat.specs.declared.ports.Ports.{Ports}
-use Rattle.blif_flat.specs.Models.{body_at, subckts_of, is_input, is_output}
+use Rattle.blif_flat.specs.Models.{subckts_of, is_input, is_output}
+use Rattle.blif_flat.specs.GateBodies.{gate_body}
 use Rattle.blif_flat.specs.NameSets.{ports_value}
 use Rattle.blif_flat.specs.NetSlots.{NetsValue, slot_number, with_found, pairs_out, pairs_in}
-
--- the body of a gate's command
-abbrev pub gate_body : LibraryValue → List Instance → Gate → Option Body
-gate_body library rows g = option_and_then (λ (row : Instance). option_and_then (λ (m : ModelValue). body_at m g.command) (slice_get library.models row.model)) (slice_get rows g.row)
 
 abbrev pub cover_output : Body → Option (List ℕ)
 cover_output (Cover c) = Some c.output

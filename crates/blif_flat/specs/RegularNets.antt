@@ -1,6 +1,6 @@
 -- Nets are numbered anew by the main model's inputs without its clock nets.
 use Rattle.std.specs.Prelude.{◌≡◌, ℕ, ◌+◌, Bool, not, if◌then◌else◌, List, [], ◌∷◌, filter, length, map, Some, slice_get}
-use Rattle.list_words.specs.Members.{In}
+use Rattle.list_laws.specs.Members.{In}
 use Rattle.blif_read.specs.LibraryValue.{ModelValue, LibraryValue}
 use Rattle.blif_flat.specs.declared.flat.Net.{Net as FlatNet}
 use Rattle.blif_flat.specs.declared.flat.Net.TheVariants.{Input, Latch, Cover}

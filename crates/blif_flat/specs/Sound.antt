@@ -1,15 +1,16 @@
 -- Sound libraries: well formed, and none of F1 to F10 stands.
-use Rattle.std.specs.Prelude.{◌≡◌, ℕ, List, [], Some, Option}
-use Rattle.list_words.specs.Members.{In}
+use Rattle.std.specs.Prelude.{◌≡◌, ℕ, List, [], Some}
+use Rattle.list_laws.specs.Members.{In}
 use Rattle.blif_read.specs.declared.latch.Latch.{Latch as LatchValue}
 use Rattle.blif_read.specs.CoverValue.{CoverValue}
 use Rattle.blif_read.specs.LibraryValue.{ModelValue, LibraryValue}
 use Rattle.blif_read.specs.WellFormed.{IsWellFormed}
 use Rattle.blif_flat.specs.Models.{Path, model_at}
 use Rattle.blif_flat.specs.Instances.{CoverAt, LatchAt}
-use Rattle.blif_flat.specs.Nets.{Net, input_net, Drives, IsClock}
+use Rattle.blif_flat.specs.Nets.{input_net, Drives, IsClock}
 use Rattle.blif_flat.specs.Drivers.{IsDriven}
-use Rattle.blif_flat.specs.Loops.{AreNets, Ordered}
+use Rattle.blif_flat.specs.Places.{Place}
+use Rattle.blif_flat.specs.Loops.{Depends}
 
 -- a name of an instance is an input of a cover or a latch
 pub data IsData (library : LibraryValue) (path : Path) (name : List ℕ) : Type 0 where
@@ -28,5 +29,5 @@ pub record IsSound (library : LibraryValue) : Type 0 where
   -- no clock net is the input of a cover or a latch, or a top output (no F9)
   pub no_clock_data : (path : Path) (name net : List ℕ) → IsData library path name → Drives library path name (input_net net) → ¬ (IsClock library net)
   pub no_clock_output : (name net : List ℕ) → In main.outputs name → Drives library [] name (input_net net) → ¬ (IsClock library net)
-  -- no cover depends on itself through covers (no F10): the covers have an order
-  pub loops : (net : Path → List ℕ → Option Net) → AreNets library net → Ordered library net
+  -- no cover's value depends on itself through covers (no F10)
+  pub no_loop : (p : Place) → ¬ (Depends library p p)

@@ -1,6 +1,6 @@
 -- The walk's state: a mark for each model, the numbers of the models that were begun and of those that have ended, and the frames of the models that are being walked, the innermost first.
 use Rattle.std.specs.Prelude.{◌≡◌, ℕ, ◌+◌, ◌-◌, ◌<◌, Bool, true, false, List, [], ◌∷◌, ◌++◌, length, drop, Option, Some, None, slice_get, slice_set}
-use Rattle.list_words.specs.Members.{In}
+use Rattle.list_laws.specs.Members.{In}
 use Rattle.blif_read.specs.Once.{AreOnce}
 use Rattle.blif_read.specs.LibraryValue.{ModelValue, LibraryValue}
 use Rattle.blif_flat.specs.declared.flat_err.FlatErr.{FlatErr}
@@ -10,6 +10,7 @@ use Rattle.blif_flat.specs.declared.walk_state.Mark.TheVariants.{New, OnChain, D
 use Rattle.blif_flat.specs.Models.{has_name}
 use Rattle.blif_flat.specs.Line.{add_chain}
 use Rattle.blif_flat.specs.NameSets.{IsModelOf}
+use Rattle.blif_flat.specs.NumberedModels.{models_at}
 use Rattle.blif_flat.specs.Ending.{IsEnding}
 use Rattle.blif_flat.specs.Walk.{SubcktLine, subckt_lines, line_fault, is_walked, Walked, refused, walked, Walks}
 
@@ -18,15 +19,6 @@ pub record WalkValue : Type 0 where
   pub begun : List ℕ
   pub ended : List ℕ
   pub frames : List Frame
-
--- the models of these numbers
-abbrev pub with_model : Option ModelValue → List ModelValue → List ModelValue
-with_model None ms = ms
-with_model (Some m) ms = m ∷ ms
-
-abbrev pub models_at : List ModelValue → List ℕ → List ModelValue
-models_at models [] = []
-models_at models (n ∷ ns) = with_model (slice_get models n) (models_at models ns)
 
 -- the names of the models that are being walked
 abbrev pub with_chain : Option ModelValue → List (List ℕ) → List (List ℕ)
@@ -134,8 +126,8 @@ abbrev pub placed_by : Bool → WalkValue → ℕ → WalkValue
 placed_by true w n = entered w n
 placed_by false w n = w
 
--- some steps of the walk
-pub record IsRun (models : List ModelValue) (old new : WalkValue) : Type 0 where
+-- some steps of the walk lead here
+pub record IsReached (models : List ModelValue) (old new : WalkValue) : Type 0 where
   pub walk : IsWalk models new
   pub resumes : (r : Walked) → Resumes (record { models = models }) new.frames (models_at models new.begun) r → Resumes (record { models = models }) old.frames (models_at models old.begun) r
   pub ending : IsEnding models old.marks old.ended old.frames → IsEnding models new.marks new.ended new.frames

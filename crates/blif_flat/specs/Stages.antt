@@ -13,13 +13,14 @@ use Rattle.blif_flat.specs.Gates.{AreGatesAt}
 use Rattle.blif_flat.specs.NetMade.{AreAllNets}
 use Rattle.blif_flat.specs.ClockSteps.{input_name, IsControlled, clock_test}
 use Rattle.blif_flat.specs.Flat.{TellsClocks}
+use Rattle.blif_flat.specs.Weight.{most_weight}
 
 -- the instances of a library, their covers and latches, and the nets of all their names
 pub record IsCircuit (library : LibraryValue) (c : Circuit) : Type 0 where
   pub rows : AreInstances library c.rows.items
   pub covers : AreGatesAt (paths_of c.rows.items) c.covers.items (places_at library is_cover (paths_of c.rows.items))
   pub latches : AreGatesAt (paths_of c.rows.items) c.latches.items (places_at library is_latch (paths_of c.rows.items))
-  pub few : length c.covers.items ≤ 4194304
+  pub few : length c.covers.items ≤ most_weight
   pub nets : AreAllNets library c.rows.items c.nets
 
 -- its control net, and the clock nets among the main model's inputs, past F7 to F9

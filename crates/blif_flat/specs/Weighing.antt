@@ -1,6 +1,6 @@
 -- The weights that are kept of a library's models: each up to 2^22 + 1, which tells those above 2^22.
 use Rattle.std.specs.Prelude.{◌≡◌, ℕ, ◌+◌, min, List, [], ◌∷◌, take, Option, Some, None, slice_get, get_or}
-use Rattle.list_words.specs.Members.{In}
+use Rattle.list_laws.specs.Members.{In}
 use Rattle.tl_text.specs.NameIndex.{place_of}
 use Rattle.blif_read.specs.declared.command.Body.{Body}
 use Rattle.blif_read.specs.declared.command.Body.TheVariants.{Cover, Latch, Subckt}
@@ -9,10 +9,10 @@ use Rattle.blif_read.specs.SubcktValue.{SubcktValue}
 use Rattle.blif_read.specs.LibraryValue.{ModelValue, LibraryValue}
 use Rattle.blif_flat.specs.Models.{subckts_of}
 use Rattle.blif_flat.specs.NameSets.{model_names}
-use Rattle.blif_flat.specs.Weight.{own_weight, Weighs}
+use Rattle.blif_flat.specs.Weight.{most_weight, own_weight, Weighs}
 
 abbrev pub capped : ℕ → ℕ
-capped n = min n 4194305
+capped n = min n (most_weight + 1)
 
 -- what is kept of a model by its number, and nothing of one that isn't there
 abbrev pub kept_at : List ℕ → Option ℕ → ℕ

@@ -1,11 +1,11 @@
 -- The weight of a model: what it holds, and the weights of the models that it places.
-use Rattle.std.specs.Prelude.{◌≡◌, ℕ, ◌+◌, List, [], ◌∷◌, length, Option, Some, None}
+use Rattle.std.specs.Prelude.{◌≡◌, ℕ, ◌+◌, ◌≤◌, List, [], ◌∷◌, length, Option, Some, None}
 use Rattle.blif_read.specs.declared.command.Body.{Body}
 use Rattle.blif_read.specs.declared.command.Body.TheVariants.{Cover, Latch, Subckt}
 use Rattle.blif_read.specs.declared.command.Command.{Command}
 use Rattle.blif_read.specs.SubcktValue.{SubcktValue}
 use Rattle.blif_read.specs.LibraryValue.{ModelValue, LibraryValue}
-use Rattle.blif_flat.specs.Models.{subckts_of, model_named}
+use Rattle.blif_flat.specs.Models.{subckts_of, model_named, model_at}
 
 abbrev pub control_weight : Option (List ℕ) → ℕ
 control_weight None = 0
@@ -21,6 +21,10 @@ abbrev pub commands_weight : List Command → ℕ
 commands_weight [] = 0
 commands_weight (c ∷ cs) = body_weight c.body + commands_weight cs
 
+-- the most that a main model may weigh
+abbrev pub most_weight : ℕ
+most_weight = 4194304
+
 -- 1 for the model itself, and 1 for each name of its ports
 abbrev pub own_weight : ModelValue → ℕ
 own_weight m = 1 + length m.inputs + length m.outputs + length m.clocks + commands_weight m.commands
@@ -34,3 +38,11 @@ mutual
     none : {subckts : List SubcktValue} {w : ℕ} → subckts ≡ [] → w ≡ 0 → WeighAll library subckts w
     more : {subckts : List SubcktValue} {w : ℕ} (s : SubcktValue) (rest : List SubcktValue) (child : ModelValue) (first others : ℕ) → subckts ≡ s ∷ rest
         → model_named library.models s.model ≡ Some child → Weighs library child first → WeighAll library rest others → w ≡ first + others → WeighAll library subckts w
+
+-- the main model isn't too heavy
+pub record IsLight (library : LibraryValue) : Type 0 where
+  pub main : ModelValue
+  pub first : model_at library [] ≡ Some main
+  pub weight : ℕ
+  pub weighs : Weighs library main weight
+  pub light : weight ≤ most_weight

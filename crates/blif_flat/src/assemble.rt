@@ -1,8 +1,9 @@
 //! The flat circuit of a library, from its circuit and its clock nets.
 ghost use Rattle.std.specs.Prelude.{◌≡◌, ◌<◌, ◌^◌, ℕ, List, ◌++◌, Some, None, IfOk, IfErr, length, slice_get};
-ghost use Rattle.list_words.specs.Members.{In};
+ghost use Rattle.list_laws.specs.Members.{In};
+ghost use Rattle.tl_fault.specs.OrMemory.{OrMemory};
 ghost use Rattle.blif_read.specs.LibraryValue.{ModelValue};
-ghost use Rattle.blif_flat.specs.Answers.{Refuses};
+ghost use Rattle.blif_flat.specs.Refusals.{refusal_of};
 ghost use Rattle.blif_flat.specs.ClockSteps.{input_name};
 ghost use Rattle.blif_flat.specs.Drivers.{IsDriven};
 ghost use Rattle.blif_flat.specs.Flat.{IsFlat};
@@ -61,7 +62,7 @@ pub(crate) fn assemble(
     requires clocks { AreClockNets library.now main.now circuit.now.rows.items clocks.now }
     ensures flat { IfOk result (λ flat. IsFlat library.now flat) }
     ensures clean { IfOk result (λ _. LoopWalk library.now None) }
-    ensures err { IfErr result (λ e. Refuses e (λ r. IsLoop library.now r)) }
+    ensures err { IfErr result (OrMemory refusal_of (IsLoop library.now)) }
 {
     let numbers = regular_numbers(alloc, &clocks.marks)?;
     let covers = flat_covers(
@@ -81,7 +82,7 @@ pub(crate) fn assemble(
         &circuit.latches,
     )?;
     let outputs = flat_outputs(alloc, library, &circuit.rows, &circuit.nets, &numbers)?;
-    let order = match cover_order(
+    let order = cover_order(
         alloc,
         library,
         &circuit.rows,
@@ -89,10 +90,7 @@ pub(crate) fn assemble(
         &covers,
         &latches,
         &outputs,
-    ) {
-        Ok(order) => order,
-        Err(e) => return Err(e),
-    };
+    )?;
     let model = Name::make(alloc, main.name.bytes())?;
     let regular = regular_inputs(alloc, main, &clocks.marks)?;
     let control = name_of(alloc, inputs, clocks.control)?;

@@ -1,11 +1,13 @@
 //! Flattening.
 ghost use Rattle.std.specs.Prelude.{◌≡◌, ◌<◌, ◌^◌, ℕ, List, ◌++◌, Some, IfOk, IfErr, length, slice_get};
-ghost use Rattle.list_words.specs.Members.{In};
+ghost use Rattle.list_laws.specs.Members.{In};
+ghost use Rattle.tl_fault.specs.OrMemory.{OrMemory};
 ghost use Rattle.blif_read.specs.LibraryValue.{ModelValue};
 ghost use Rattle.blif_read.specs.WellFormed.{IsWellFormed};
-ghost use Rattle.blif_flat.specs.Answers.{Refuses};
-ghost use Rattle.blif_flat.specs.Faults.{IsFault};
-ghost use Rattle.blif_flat.specs.declared.flat_err.FlatErr.{FlatErr as FlatErrValue};
+ghost use Rattle.blif_flat.specs.Refusals.{refusal_of};
+ghost use Rattle.blif_flat.specs.Faults.{IsFault, HasOneFault, HasNoFault};
+ghost use Rattle.blif_flat.specs.Bounds.{IsWithinBounds};
+ghost use Rattle.blif_flat.specs.Weight.{IsLight};
 ghost use Rattle.blif_flat.specs.Flattened.{HasValues};
 ghost use Rattle.blif_flat.specs.FlatCycle.{HasCycles};
 ghost use Rattle.blif_flat.specs.Law.{HasOneCycle};
@@ -37,10 +39,13 @@ fn main_model(library: &Library) -> &BlifModel
 /// stands twice in a list, each row of a cover has a cell for each input, and no connection's formal stands twice in its line.
 /// It has fewer than 2^32 models, and the names of the main model's ports have fewer than 2^32 bytes each.
 ///
-/// `Ok` comes exactly where the library is sound, that is where no fault stands, unless there is no memory. Then the law of
-/// the cycle relation holds: for all values of inputs and latches there are values of all nets that fit them, and they are the
-/// only ones. The flat circuit's fields are those of the library's hierarchical names; evaluating its covers in its order
-/// gives these values, and so the outputs and the next states of each cycle.
+/// `Ok` comes exactly where the library is sound and not too heavy, that is where no fault stands, unless there is no memory.
+/// A library has one fault at most.
+///
+/// In every sound library the law of the cycle relation holds: for all values of inputs and latches there are values of all
+/// nets that fit them, and they are the only ones. The flat circuit's fields are those of the library's hierarchical names;
+/// evaluating its covers in its order gives these values, and so the outputs and the next states of each cycle, and of each
+/// run from the latches' inits. Its lists are short, and its nets and its order are in range (`specs/Bounds.antt`).
 ///
 /// It takes time linear in the library's bytes and in the bytes of the names of all instances, on average over the hashes,
 /// and keeps each of its stacks in memory.
@@ -48,33 +53,30 @@ fn main_model(library: &Library) -> &BlifModel
 /// # Errors
 /// The first of the walk's F1 to F4, L2, the drivers' F5 and F6, the clocks' F8, F7 and F9, and F10; `Memory` where there is
 /// none. The order and the details are those of `specs/Faults.antt`.
+#[tactic(auto, using(crate::proofs::LawLemmas::sound_law, crate::proofs::FaultOnceLemmas::one_fault, crate::proofs::ExcludedLemmas::no_fault))]
 pub fn flatten(alloc: Global, library: &Library) -> Result<Flat, FlatErr>
     requires formed { IsWellFormed library.now }
     requires few { length library.now.models < 2 ^ 32 }
     requires short { (m : ModelValue) → slice_get library.now.models 0 ≡ Some m → (name : List ℕ) → In (m.inputs ++ (m.clocks ++ m.outputs)) name → length name < 2 ^ 32 }
     ensures sound { IfOk result (λ flat. IsSound library.now) }
-    ensures law { IfOk result (λ flat. HasOneCycle library.now) }
+    ensures law { IsSound library.now → HasOneCycle library.now }
+    ensures once { HasOneFault library.now }
+    ensures excluded { IsSound library.now → IsLight library.now → HasNoFault library.now }
     ensures values { IfOk result (λ flat. HasValues library.now flat) }
+    ensures bounds { IfOk result (λ flat. IsWithinBounds library.now flat) }
     ensures cycles { IfOk result (λ flat. HasCycles library.now flat) }
-    ensures clean { IfOk result (λ flat. (fault : FlatErrValue) → ¬ (IsFault library.now fault)) }
-    ensures err { IfErr result (λ e. Refuses e (λ fault. IsFault library.now fault)) }
+    ensures light { IfOk result (λ flat. IsLight library.now) }
+    ensures clean { IfOk result (λ flat. HasNoFault library.now) }
+    ensures err { IfErr result (OrMemory refusal_of (IsFault library.now)) }
 {
     let models = library.models.as_slice();
     let ports = all_ports(alloc, models)?;
     let index = ModelIndex::make(alloc, models)?;
-    match check_models(alloc, library, &index, &ports) {
-        Ok(()) => {}
-        Err(e) => return Err(e),
-    }
+    check_models(alloc, library, &index, &ports)?;
     let main = main_model(library);
     let circuit = connect(alloc, library, &index, &ports)?;
     let inputs = all_inputs(alloc, main)?;
-    let clocks = match check_clocks(alloc, library, main, &circuit, &inputs) {
-        Ok(clocks) => clocks,
-        Err(e) => return Err(e),
-    };
-    match assemble(alloc, library, main, &circuit, &inputs, &clocks) {
-        Ok(flat) => Ok(flat),
-        Err(e) => Err(e),
-    }
+    let clocks = check_clocks(alloc, library, main, &circuit, &inputs)?;
+    let flat = assemble(alloc, library, main, &circuit, &inputs, &clocks)?;
+    Ok(flat)
 }

@@ -1,6 +1,7 @@
 //! The clock nets of a circuit.
 ghost use Rattle.std.specs.Prelude.{◌≡◌, Some, IfOk, IfErr, slice_get};
-ghost use Rattle.blif_flat.specs.Answers.{Refuses};
+ghost use Rattle.tl_fault.specs.OrMemory.{OrMemory};
+ghost use Rattle.blif_flat.specs.Refusals.{refusal_of};
 ghost use Rattle.blif_flat.specs.Drivers.{IsDriven};
 ghost use Rattle.blif_flat.specs.Faults.{IsConnected, IsFault};
 ghost use Rattle.blif_flat.specs.InstanceRows.{IsLight};
@@ -43,9 +44,9 @@ pub(crate) fn check_clocks(
     requires circuit { IsCircuit library.now circuit.now }
     requires inputs { inputs.now ≡ inputs_of main.now }
     ensures ok { IfOk result (λ clocks. AreClockNets library.now main.now circuit.now.rows.items clocks) }
-    ensures err { IfErr result (λ e. Refuses e (λ r. IsFault library.now r)) }
+    ensures err { IfErr result (OrMemory refusal_of (IsFault library.now)) }
 {
-    let control = match check_controls(
+    let control = check_controls(
         alloc,
         library,
         &circuit.rows,
@@ -53,13 +54,10 @@ pub(crate) fn check_clocks(
         &circuit.covers,
         &circuit.latches,
         inputs,
-    ) {
-        Ok(control) => control,
-        Err(e) => return Err(e),
-    };
+    )?;
     let marks = clock_marks(alloc, main, inputs, control)?;
     let all = gates(alloc, library, &circuit.rows, GateKind::Either)?;
-    match check_data(
+    check_data(
         alloc,
         library,
         &circuit.rows,
@@ -67,8 +65,6 @@ pub(crate) fn check_clocks(
         &all,
         inputs,
         &marks,
-    ) {
-        Ok(()) => Ok(ClockNets { control, marks }),
-        Err(e) => Err(e),
-    }
+    )?;
+    Ok(ClockNets { control, marks })
 }

@@ -1,7 +1,8 @@
 //! Clock nets that are data: the input of a cover or a latch, or an output of the main model.
 ghost use Rattle.std.specs.Prelude.{◌≡◌, [], slice_get, Some, None, IfOk, IfErr, MatchOption};
+ghost use Rattle.tl_fault.specs.OrMemory.{OrMemory};
 ghost use Rattle.blif_read.specs.LibraryValue.{ModelValue};
-ghost use Rattle.blif_flat.specs.Answers.{Refuses};
+ghost use Rattle.blif_flat.specs.Refusals.{refusal_of};
 ghost use Rattle.blif_flat.specs.Models.{model_at, inputs_of};
 ghost use Rattle.blif_flat.specs.Drivers.{IsDriven};
 ghost use Rattle.blif_flat.specs.Places.{Place};
@@ -80,10 +81,7 @@ fn check_names(
     ensures { Tells result (names_fault inputs.now marks.now nets.now row names.now) }
 {
     for name in names {
-        match check_name(alloc, nets, inputs, marks, row, name) {
-            Ok(()) => {}
-            Err(e) => return Err(e),
-        }
+        check_name(alloc, nets, inputs, marks, row, name)?;
     }
     Ok(())
 }
@@ -135,13 +133,10 @@ pub(crate) fn check_data(
     requires inputs { (main : ModelValue) → model_at library.now [] ≡ Some main → inputs.now ≡ inputs_of main }
     requires marks { (main : ModelValue) → model_at library.now [] ≡ Some main → AreMarks library.now main marks.now }
     ensures ok { IfOk result (λ _. (main : ModelValue) → model_at library.now [] ≡ Some main → ClockData library.now main (places_at library.now is_gate (paths_of rows.now)) None) }
-    ensures err { IfErr result (λ e. Refuses e (λ r. (main : ModelValue) → model_at library.now [] ≡ Some main → ClockData library.now main (places_at library.now is_gate (paths_of rows.now)) (Some r))) }
+    ensures err { IfErr result (OrMemory refusal_of (λ r. (main : ModelValue) → model_at library.now [] ≡ Some main → ClockData library.now main (places_at library.now is_gate (paths_of rows.now)) (Some r))) }
 {
     for gate in gates {
-        match check_gate(alloc, library, rows, nets, inputs, marks, *gate) {
-            Ok(()) => {}
-            Err(e) => return Err(e),
-        }
+        check_gate(alloc, library, rows, nets, inputs, marks, *gate)?;
     }
     let main: &BlifModel = &library.models[0];
     check_names(alloc, nets, inputs, marks, 0, &main.outputs)

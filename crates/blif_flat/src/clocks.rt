@@ -9,7 +9,8 @@ use blif_read::BlifModel;
 use std::alloc::{AllocError, Global};
 use tl_text::{Name, NameIndex};
 
-fn copies(alloc: Global, names: &[Name]) -> Result<Vec<Name>, AllocError>
+/// Copies of names in order. `Err` comes only for want of memory.
+pub(crate) fn copies(alloc: Global, names: &[Name]) -> Result<Vec<Name>, AllocError>
     ensures { IfOk result (λ all. all.items ≡ names.now) }
 {
     let mut all = Vec::new(alloc);

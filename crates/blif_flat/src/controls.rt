@@ -1,8 +1,9 @@
 //! The controls of the latches: their net is one input of the main model.
 ghost use Rattle.std.specs.Prelude.{◌≡◌, ◌<◌, ℕ, true, false, [], length, slice_get, Some, None, IfOk, IfErr};
+ghost use Rattle.tl_fault.specs.OrMemory.{OrMemory};
 ghost use Rattle.blif_read.specs.LibraryValue.{ModelValue};
 ghost use Rattle.blif_read.specs.declared.latch.Latch.{Latch as LatchValue};
-ghost use Rattle.blif_flat.specs.Answers.{Refuses};
+ghost use Rattle.blif_flat.specs.Refusals.{refusal_of};
 ghost use Rattle.blif_flat.specs.Models.{Path, model_at, inputs_of};
 ghost use Rattle.blif_flat.specs.Drivers.{IsDriven, IsRead};
 ghost use Rattle.blif_flat.specs.Instances.{LatchAt};
@@ -87,7 +88,7 @@ fn keep_input(alloc: Global, inputs: &[Name], first: Option<u32>, j: u32) -> Res
     requires first { (i : ℕ) → first ≡ Some i → i < length inputs.now }
     requires here { j < length inputs.now }
     ensures ok { IfOk result (λ next. IsKept inputs.now first j next) }
-    ensures err { IfErr result (λ e. Refuses e (λ r. IsSecond inputs.now first j r)) }
+    ensures err { IfErr result (OrMemory refusal_of (λ r. IsSecond inputs.now first j r)) }
 {
     match first {
         None => Ok(j),
@@ -126,14 +127,11 @@ fn meet_control(
     ensures ok { IfOk result (λ next. (path : Path) → slice_get (paths_of rows.now) row ≡ Some path → IsRead library.now path control.now
         → IsMet library.now path control.now (input_at inputs.now first) (input_at inputs.now next)) }
     ensures within { IfOk result (λ next. (j : ℕ) → next ≡ Some j → j < length inputs.now) }
-    ensures err { IfErr result (λ e. Refuses e (λ r. (path : Path) → slice_get (paths_of rows.now) row ≡ Some path → IsRefused library.now path control.now (input_at inputs.now first) r)) }
+    ensures err { IfErr result (OrMemory refusal_of (λ r. (path : Path) → slice_get (paths_of rows.now) row ≡ Some path → IsRefused library.now path control.now (input_at inputs.now first) r)) }
 {
     match nets.net(row, control.bytes()) {
         None => Ok(first),
-        Some(Net::Input(j)) => match keep_input(alloc, inputs, first, j) {
-            Ok(next) => Ok(Some(next)),
-            Err(e) => Err(e),
-        },
+        Some(Net::Input(j)) => Ok(Some(keep_input(alloc, inputs, first, j)?)),
         Some(Net::Latch(k)) => Err(FlatErr::ClockNotInput(write_latch(
             alloc, library, rows, latches, k,
         )?)),
@@ -166,8 +164,8 @@ fn check_control(
     ensures ok { IfOk result (λ next. (p : Place) (l : LatchValue) → IsGateAt (paths_of rows.now) gate p → LatchAt library.now p.path p.command l
         → ControlNext library.now p.path l.control (input_at inputs.now first) (input_at inputs.now next)) }
     ensures within { IfOk result (λ next. (j : ℕ) → next ≡ Some j → j < length inputs.now) }
-    ensures err { IfErr result (λ e. Refuses e (λ r. (p : Place) (l : LatchValue) → IsGateAt (paths_of rows.now) gate p → LatchAt library.now p.path p.command l
-        → ControlFault library.now p.path l.control (input_at inputs.now first) r)) }
+    ensures err { IfErr result (λ e. OrMemory refusal_of (λ r. (p : Place) (l : LatchValue) → IsGateAt (paths_of rows.now) gate p → LatchAt library.now p.path p.command l
+        → ControlFault library.now p.path l.control (input_at inputs.now first) r) e) }
 {
     match gate_latch(library, rows, gate) {
         None => Ok(first),
@@ -203,16 +201,13 @@ pub(crate) fn check_controls(
     requires latches { AreGatesAt (paths_of rows.now) latches.now (places_at library.now is_latch (paths_of rows.now)) }
     requires inputs { (main : ModelValue) → model_at library.now [] ≡ Some main → inputs.now ≡ inputs_of main }
     ensures ok { IfOk result (λ control. (main : ModelValue) → model_at library.now [] ≡ Some main → IsControlled library.now main (paths_of rows.now) control) }
-    ensures err { IfErr result (λ e. Refuses e (λ r. Clocks library.now None (places_at library.now is_latch (paths_of rows.now)) (Some r))) }
+    ensures err { IfErr result (OrMemory refusal_of (λ r. Clocks library.now None (places_at library.now is_latch (paths_of rows.now)) (Some r))) }
 {
     let mut first: Option<u32> = None;
     for gate in latches {
-        match check_control(
+        first = check_control(
             alloc, library, rows, nets, covers, latches, inputs, first, *gate,
-        ) {
-            Ok(next) => first = next,
-            Err(e) => return Err(e),
-        }
+        )?;
     }
     Ok(first)
 }

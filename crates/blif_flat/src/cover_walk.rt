@@ -17,8 +17,8 @@ pub(crate) struct Frame {
 /// What a walk finds.
 #[derive(Drop)]
 pub(crate) enum Found {
-    /// The covers of a cycle, each one reading the next, the last reading the first.
-    Cycle(Vec<u32>),
+    /// The covers of a loop, each one reading the next, the last reading the first.
+    Loop(Vec<u32>),
     /// The covers that the roots reach, each behind those that it reads.
     Order(Vec<u32>),
 }
@@ -254,7 +254,7 @@ fn nodes_to(alloc: Global, walk: &mut CoverWalk, node: u32) -> Result<Vec<u32>, 
 }
 
 // The path of a walk from a node on.
-fn cycle_nodes(alloc: Global, walk: &mut CoverWalk, node: u32) -> Result<Vec<u32>, AllocError>
+fn loop_nodes(alloc: Global, walk: &mut CoverWalk, node: u32) -> Result<Vec<u32>, AllocError>
     ensures { IfOk result (λ nodes. nodes.items ≡ from_number node (path_of walk.old.stack)) }
 {
     let mut nodes = nodes_to(alloc, walk, node)?;
@@ -263,7 +263,7 @@ fn cycle_nodes(alloc: Global, walk: &mut CoverWalk, node: u32) -> Result<Vec<u32
 }
 
 /// Walks the covers depth first, left to right, from the roots and then from all covers in order. The first cover that
-/// is met again on the path closes the cycle that is answered; where there is none, the roots' order is.
+/// is met again on the path closes the loop that is answered; where there is none, the roots' order is.
 ///
 /// The time is linear in the covers' inputs, and the stack stands in memory. Errs only for want of memory.
 pub(crate) fn walk_covers(
@@ -279,14 +279,14 @@ pub(crate) fn walk_covers(
     let mut walk = CoverWalk::make(alloc, covers.len())?;
     let found = visit_all(covers, &mut walk, roots)?;
     if let Some(node) = found {
-        let nodes = cycle_nodes(alloc, &mut walk, node)?;
-        return Ok(Found::Cycle(nodes));
+        let nodes = loop_nodes(alloc, &mut walk, node)?;
+        return Ok(Found::Loop(nodes));
     }
     let order = walk.order_so_far(alloc)?;
     let found = visit_each(covers, &mut walk)?;
     if let Some(node) = found {
-        let nodes = cycle_nodes(alloc, &mut walk, node)?;
-        return Ok(Found::Cycle(nodes));
+        let nodes = loop_nodes(alloc, &mut walk, node)?;
+        return Ok(Found::Loop(nodes));
     }
     Ok(Found::Order(order))
 }

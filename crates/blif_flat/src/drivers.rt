@@ -1,13 +1,14 @@
 //! The names that are driven twice, and those that are read and aren't driven.
 ghost use Rattle.std.specs.Prelude.{◌≡◌, ℕ, List, [], ◌∷◌, ◌++◌, map, None, slice_get, MatchOption, MatchResult};
-ghost use Rattle.list_words.specs.Members.{In};
+ghost use Rattle.list_laws.specs.Members.{In};
 ghost use Rattle.blif_read.specs.LibraryValue.{ModelValue, LibraryValue};
 ghost use Rattle.blif_read.specs.WellFormed.{IsWellFormed, IsWellFormedModel};
 ghost use Rattle.blif_flat.specs.declared.flat_err.FlatErr.TheVariants.{Memory};
 ghost use Rattle.blif_flat.specs.Models.{model_named, has_name, inputs_of};
 ghost use Rattle.blif_flat.specs.NameSets.{ports_value, model_names};
 ghost use Rattle.blif_flat.specs.DriverFaults.{output_actuals, input_actuals, driven_pairs, read_pairs, with_control, drives, reads, all_drives, twice_in, twice_fault, undriven_in, undriven_fault, model_fault, models_fault};
-ghost use Rattle.blif_flat.specs.DriverSteps.{Tells, Adds, ArePortsOf, AreOf, models_at, fault_of};
+ghost use Rattle.blif_flat.specs.DriverSteps.{Tells, Adds, ArePortsOf, AreOf, fault_of};
+ghost use Rattle.blif_flat.specs.NumberedModels.{models_at};
 
 use crate::flat_err::FlatErr;
 use crate::model_index::ModelIndex;
@@ -102,10 +103,7 @@ fn drive_actuals(
         → Adds result (twice_in model.now line driven.old (output_actuals child pairs.now)) driven.old driven.new (output_actuals child pairs.now) }
 {
     for pair in pairs {
-        match drive_actual(alloc, model, line, driven, ports, pair) {
-            Ok(()) => {}
-            Err(e) => return Err(e),
-        }
+        drive_actual(alloc, model, line, driven, ports, pair)?;
     }
     Ok(())
 }
@@ -139,10 +137,7 @@ fn check_actuals(
     ensures { (child : ModelValue) → ports.now ≡ ports_value child → Tells result (undriven_in model.now line driven.now (input_actuals child pairs.now)) }
 {
     for pair in pairs {
-        match check_actual(alloc, model, line, driven, ports, pair) {
-            Ok(()) => {}
-            Err(e) => return Err(e),
-        }
+        check_actual(alloc, model, line, driven, ports, pair)?;
     }
     Ok(())
 }
@@ -157,10 +152,7 @@ fn check_names(
     ensures { Tells result (undriven_in model.now line driven.now names.now) }
 {
     for name in names {
-        match check_driven(alloc, model, line, driven, name) {
-            Ok(()) => {}
-            Err(e) => return Err(e),
-        }
+        check_driven(alloc, model, line, driven, name)?;
     }
     Ok(())
 }
@@ -216,7 +208,7 @@ fn drive_commands(
         → Adds result (twice_fault library model.now.name driven.old model.now.commands) driven.old driven.new (all_drives library model.now.commands) }
 {
     for command in &model.commands {
-        match drive_body(
+        drive_body(
             alloc,
             index,
             ports,
@@ -224,10 +216,7 @@ fn drive_commands(
             command.line,
             driven,
             &command.body,
-        ) {
-            Ok(()) => {}
-            Err(e) => return Err(e),
-        }
+        )?;
     }
     Ok(())
 }
@@ -259,10 +248,7 @@ fn check_latch(
 ) -> Result<(), FlatErr>
     ensures { Tells result (undriven_in model.now line driven.now (latch.now.input ∷ with_control latch.now.control)) }
 {
-    match check_driven(alloc, model, line, driven, &latch.input) {
-        Ok(()) => {}
-        Err(e) => return Err(e),
-    }
+    check_driven(alloc, model, line, driven, &latch.input)?;
     match &latch.control {
         None => Ok(()),
         Some(control) => check_driven(alloc, model, line, driven, control),
@@ -301,7 +287,7 @@ fn check_commands(
         → Tells result (undriven_fault library model.now.name driven.now model.now.commands) }
 {
     for command in &model.commands {
-        match check_body(
+        check_body(
             alloc,
             index,
             ports,
@@ -309,10 +295,7 @@ fn check_commands(
             command.line,
             driven,
             &command.body,
-        ) {
-            Ok(()) => {}
-            Err(e) => return Err(e),
-        }
+        )?;
     }
     Ok(())
 }
@@ -337,14 +320,8 @@ fn check_model(
     ensures { (library : LibraryValue) → AreOf library index.now.names ports.now → Tells result (model_fault library model.now) }
 {
     let mut driven = driven_inputs(alloc, model)?;
-    match drive_commands(alloc, index, ports, model, &mut driven) {
-        Ok(()) => {}
-        Err(e) => return Err(e),
-    }
-    match check_commands(alloc, index, ports, model, &driven) {
-        Ok(()) => {}
-        Err(e) => return Err(e),
-    }
+    drive_commands(alloc, index, ports, model, &mut driven)?;
+    check_commands(alloc, index, ports, model, &driven)?;
     check_names(alloc, &model.name, model.line, &driven, &model.outputs)
 }
 
@@ -378,13 +355,10 @@ pub(crate) fn check_drivers(
 ) -> Result<(), FlatErr>
     requires form { (m : ModelValue) → In library.now.models m → IsWellFormedModel m }
     requires ports { AreOf library.now index.now.names ports.now }
-    ensures { Tells result (models_fault library.now (models_at library.now order.now)) }
+    ensures { Tells result (models_fault library.now (models_at library.now.models order.now)) }
 {
     for &number in order {
-        match check_number(alloc, library, index, ports, number) {
-            Ok(()) => {}
-            Err(e) => return Err(e),
-        }
+        check_number(alloc, library, index, ports, number)?;
     }
     Ok(())
 }

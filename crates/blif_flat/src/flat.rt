@@ -1,4 +1,8 @@
 //! The flat circuit of a library.
+ghost use Rattle.std.specs.Prelude.{◌≡◌, Some, IsSome};
+ghost use Rattle.blif_flat.specs.Evaluation.{cover_behind};
+
+use blif_read::{Body, Cover, Library};
 use std::marker::Model;
 use tl_text::Name;
 
@@ -36,6 +40,21 @@ impl Model for FlatCover {
     ghost Value = { FlatCoverValue };
 
     ghost view = { λ c. record { model = c.model; command = c.command; inputs = c.inputs.items } };
+}
+
+impl FlatCover {
+    /// The cover behind it, in the library that it was made of.
+    pub fn cover<'a>(&self, library: &'a Library) -> &'a Cover
+        requires { IsSome (cover_behind library.now self.now) }
+        ensures { cover_behind library.now self.now ≡ Some result.now }
+    {
+        let model = &library.models[self.model as usize];
+        match &model.commands[self.command as usize].body {
+            Body::Cover(cover) => cover,
+            Body::Latch(_) => unreachable!(),
+            Body::Subckt(_) => unreachable!(),
+        }
+    }
 }
 
 /// A latch of an instance.

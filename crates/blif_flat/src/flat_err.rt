@@ -1,7 +1,6 @@
 //! Why a library has no flat circuit.
-use crate::names::Names;
 use std::alloc::{AllocError, AllocFailed};
-use tl_text::Name;
+use tl_fault::{Details, Name, Names, Refusal};
 
 /// Why a library has no flat circuit. A model with a line and a name are the model's name, the number of the logical line
 /// in it, counted from 1, and the name that is told. A net is written as the ordinals of its instance, each followed by
@@ -38,7 +37,7 @@ pub enum FlatErr {
     /// F9: this clock net is the input of a cover or a latch, or a top output.
     #[error("clock as data")]
     ClockAsData(Name),
-    /// F10: the nets of a cycle of covers, each one reading the next, the last reading the first.
+    /// F10: the nets of a loop of covers, each one reading the next, the last reading the first.
     #[error("loop")]
     Loop(Names),
     /// There is no memory.
@@ -65,5 +64,62 @@ impl From<AllocError> for FlatErr {
 
     fn from(_: AllocError) -> FlatErr {
         FlatErr::Memory
+    }
+}
+
+impl FlatErr {
+    ghost use Rattle.std.specs.Prelude.{◌≡◌};
+    ghost use Rattle.blif_flat.specs.Refusals.{refusal_of};
+
+    /// What the refusal tells; none for want of memory.
+    pub fn refusal(self) -> Option<Refusal>
+        ensures { result ≡ refusal_of self }
+    {
+        match self {
+            FlatErr::UnknownModel(model, line, name) => Some(Refusal::new(
+                "F1",
+                "UnknownModel",
+                Details::Located(model, line, name),
+            )),
+            FlatErr::RecursiveModel(chain) => Some(Refusal::new(
+                "F2",
+                "RecursiveModel",
+                Details::Listed(chain),
+            )),
+            FlatErr::UnknownFormal(model, line, name) => Some(Refusal::new(
+                "F3",
+                "UnknownFormal",
+                Details::Located(model, line, name),
+            )),
+            FlatErr::Unconnected(model, line, name) => Some(Refusal::new(
+                "F4",
+                "Unconnected",
+                Details::Located(model, line, name),
+            )),
+            FlatErr::TooLarge => Some(Refusal::new("L2", "TooLarge", Details::Nothing)),
+            FlatErr::DoublyDriven(model, line, name) => Some(Refusal::new(
+                "F5",
+                "DoublyDriven",
+                Details::Located(model, line, name),
+            )),
+            FlatErr::Undriven(model, line, name) => Some(Refusal::new(
+                "F6",
+                "Undriven",
+                Details::Located(model, line, name),
+            )),
+            FlatErr::SecondClock(first, second) => Some(Refusal::new(
+                "F7",
+                "SecondClock",
+                Details::Two(first, second),
+            )),
+            FlatErr::ClockNotInput(net) => Some(Refusal::new(
+                "F8",
+                "ClockNotInput",
+                Details::One(net),
+            )),
+            FlatErr::ClockAsData(net) => Some(Refusal::new("F9", "ClockAsData", Details::One(net))),
+            FlatErr::Loop(nets) => Some(Refusal::new("F10", "Loop", Details::Listed(nets))),
+            FlatErr::Memory => None,
+        }
     }
 }

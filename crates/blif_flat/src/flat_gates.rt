@@ -10,9 +10,10 @@ ghost use Rattle.blif_flat.specs.Gates.{AreGatesAt};
 ghost use Rattle.blif_flat.specs.NetSlots.{IsNets};
 ghost use Rattle.blif_flat.specs.NetMade.{AreAllNets};
 ghost use Rattle.blif_flat.specs.RegularNets.{IsRegular, regular_places, AreFlatCovers, AreFlatLatches};
-ghost use Rattle.blif_flat.specs.FieldSteps.{row_model, numbered_body, cover_inputs as inputs_of, flat_cover as cover_of, made_latch as latch_of, no_latch as no_latch_value, flat_latch as latch_of_gate};
+ghost use Rattle.blif_flat.specs.FieldSteps.{row_model, cover_inputs as inputs_of, flat_cover as cover_of, made_latch as latch_of, no_latch as no_latch_value, flat_latch as latch_of_gate};
 
 use crate::flat::{FlatCover, FlatLatch, Net};
+use crate::gate_body::gate_body;
 use crate::gates::Gate;
 use crate::instances::Instance;
 use crate::nets::Nets;
@@ -28,19 +29,6 @@ fn model_of(rows: &[Instance], i: u32) -> u32
     match rows.get(i as usize) {
         None => 0,
         Some(row) => row.model,
-    }
-}
-
-// The body of a command of the model of this number, if there is one.
-fn body_of(library: &Library, model: u32, command: u32) -> Option<&Body>
-    ensures { option_map (λ body. body.now) result ≡ numbered_body library.now model command }
-{
-    match library.models.get(model as usize) {
-        None => None,
-        Some(found) => match found.commands.get(command as usize) {
-            None => None,
-            Some(command) => Some(&command.body),
-        },
     }
 }
 
@@ -69,7 +57,7 @@ fn flat_cover(
     ensures { IfOk result (λ cover. cover ≡ cover_of library.now rows.now nets.now numbers.now gate) }
 {
     let model = model_of(rows, gate.row);
-    let names = cover_inputs(body_of(library, model, gate.command));
+    let names = cover_inputs(gate_body(library, rows, gate));
     let inputs = net_list(alloc, nets, numbers, gate.row, names)?;
     Ok(FlatCover {
         model,
@@ -137,8 +125,7 @@ fn flat_latch(
     requires { IsNets nets.now }
     ensures { result ≡ latch_of_gate library.now rows.now nets.now numbers.now gate }
 {
-    let model = model_of(rows, gate.row);
-    match body_of(library, model, gate.command) {
+    match gate_body(library, rows, gate) {
         Some(Body::Latch(latch)) => made_latch(nets, numbers, gate.row, latch),
         Some(Body::Cover(_)) => no_latch(),
         Some(Body::Subckt(_)) => no_latch(),

@@ -1,16 +1,17 @@
 //! The ports of a flat circuit: its outputs, its regular inputs and its clock nets.
 ghost use Rattle.std.specs.Prelude.{◌≡◌, ◌<◌, ◌^◌, ℕ, Bool, List, [], ◌∷◌, ◌++◌, length, map, filter, max, not, IfOk, OnOk, slice_get};
-ghost use Rattle.list_words.specs.Members.{In};
+ghost use Rattle.list_laws.specs.Members.{In};
 ghost use Rattle.blif_flat.specs.declared.flat.OutPort.{OutPort as OutPortValue};
 ghost use Rattle.blif_flat.specs.Models.{inputs_of, has_name};
 ghost use Rattle.blif_flat.specs.Drivers.{IsDriven};
 ghost use Rattle.blif_flat.specs.InstanceRows.{AreInstances, paths_of};
 ghost use Rattle.blif_flat.specs.NetSlots.{IsNets};
 ghost use Rattle.blif_flat.specs.NetMade.{AreAllNets};
-ghost use Rattle.blif_flat.specs.Flat.{AreNetsOf, with_control, underscores as underscores_of, most_underscores};
+ghost use Rattle.blif_flat.specs.Flat.{AreNetsOf, with_control_net, underscores as underscores_of, most_underscores};
 ghost use Rattle.blif_flat.specs.RegularNets.{IsRegular, regular_places};
 ghost use Rattle.blif_flat.specs.FieldSteps.{out_port as port_of, outputs_or, with_unmarked, unmarked_after};
 
+use crate::clocks::copies;
 use crate::flat::OutPort;
 use crate::instances::Instance;
 use crate::nets::Nets;
@@ -131,17 +132,6 @@ pub(crate) fn regular_inputs(
     Ok(names)
 }
 
-// Copies of names.
-fn copies(alloc: Global, names: &[Name]) -> Result<Vec<Name>, AllocError>
-    ensures { IfOk result (λ copies. copies.items ≡ names.now) }
-{
-    let mut copies = Vec::new(alloc);
-    for name in names {
-        add_copy(alloc, &mut copies, name)?;
-    }
-    Ok(copies)
-}
-
 // Is a name one of these?
 fn is_one_of(names: &[Name], name: &Name) -> bool
     ensures { result ≡ has_name names.now name.now }
@@ -155,7 +145,7 @@ pub(crate) fn clock_names(
     model: &BlifModel,
     control: &Option<Name>,
 ) -> Result<Vec<Name>, AllocError>
-    ensures { IfOk result (λ names. names.items ≡ with_control model.now.clocks control.now) }
+    ensures { IfOk result (λ names. names.items ≡ with_control_net model.now.clocks control.now) }
 {
     let mut names = copies(alloc, &model.clocks)?;
     match control {

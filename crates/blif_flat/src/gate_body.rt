@@ -1,10 +1,11 @@
 //! What stands at a gate: the body of its command.
 ghost use Rattle.std.specs.Prelude.{◌≡◌, ◌<◌, length, slice_get, Some, None, MatchOption};
+ghost use Rattle.std.specs.Option.{option_map};
 ghost use Rattle.blif_flat.specs.Models.{body_at};
 ghost use Rattle.blif_flat.specs.Places.{Place, latch_at};
 ghost use Rattle.blif_flat.specs.InstanceRows.{AreInstances, paths_of};
 ghost use Rattle.blif_flat.specs.Gates.{IsGateAt};
-ghost use Rattle.blif_flat.specs.GateBodies.{numbered_body, place_body};
+ghost use Rattle.blif_flat.specs.GateBodies.{numbered_body, place_body, gate_body as body_of};
 
 use crate::gates::Gate;
 use crate::instances::Instance;
@@ -19,7 +20,7 @@ pub(crate) fn gate_at(gates: &[Gate], k: u32) -> Gate
 }
 
 fn command_body(model: &BlifModel, command: u32) -> Option<&Body>
-    ensures { MatchOption result (body_at model.now command ≡ None) (λ b. body_at model.now command ≡ Some b.now) }
+    ensures { option_map (λ body. body.now) result ≡ body_at model.now command }
 {
     match model.commands.get(command as usize) {
         None => None,
@@ -28,7 +29,7 @@ fn command_body(model: &BlifModel, command: u32) -> Option<&Body>
 }
 
 fn model_body(library: &Library, model: u32, command: u32) -> Option<&Body>
-    ensures { MatchOption result (numbered_body library.now model command ≡ None) (λ b. numbered_body library.now model command ≡ Some b.now) }
+    ensures { option_map (λ body. body.now) result ≡ numbered_body library.now model command }
 {
     match library.models.get(model as usize) {
         None => None,
@@ -36,10 +37,11 @@ fn model_body(library: &Library, model: u32, command: u32) -> Option<&Body>
     }
 }
 
-/// The body of a gate's command. The rows are those of the library.
+/// The body of a gate's command. Where the rows are those of the library, it is the body of the gate's place.
 pub(crate) fn gate_body<'a>(library: &'a Library, rows: &[Instance], gate: Gate) -> Option<&'a Body>
-    requires rows { AreInstances library.now rows.now }
-    ensures { (p : Place) → IsGateAt (paths_of rows.now) gate p → MatchOption result (place_body library.now p ≡ None) (λ b. place_body library.now p ≡ Some b.now) }
+    ensures body { option_map (λ body. body.now) result ≡ body_of library.now rows.now gate }
+    ensures place { AreInstances library.now rows.now → (p : Place) → IsGateAt (paths_of rows.now) gate p
+        → MatchOption result (place_body library.now p ≡ None) (λ b. place_body library.now p ≡ Some b.now) }
 {
     match rows.get(gate.row as usize) {
         None => None,

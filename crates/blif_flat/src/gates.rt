@@ -5,6 +5,7 @@ ghost use Rattle.blif_flat.specs.InstanceRows.{AreInstances, IsLight, paths_of};
 ghost use Rattle.blif_flat.specs.InstanceOrder.{places_at};
 ghost use Rattle.blif_flat.specs.Gates.{kind_test, AreGatesAt};
 ghost use Rattle.blif_flat.specs.GateRows.{with_commands, with_model};
+ghost use Rattle.blif_flat.specs.Weight.{most_weight};
 
 use crate::instances::Instance;
 use blif_read::{Body, Command, Library};
@@ -86,7 +87,7 @@ pub(crate) fn gates(
     requires light { IsLight library.now }
     requires rows { AreInstances library.now rows.now }
     ensures gates { IfOk result (λ gates. AreGatesAt (paths_of rows.now) gates.items (places_at library.now (kind_test kind) (paths_of rows.now))) }
-    ensures few { IfOk result (λ gates. length gates.items ≤ 4194304) }
+    ensures few { IfOk result (λ gates. length gates.items ≤ most_weight) }
 {
     let mut gates = Vec::new(alloc);
     for (row, instance) in rows.iter().enumerate() {

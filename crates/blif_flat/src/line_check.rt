@@ -2,7 +2,7 @@
 ghost use Rattle.std.specs.Prelude.{◌≡◌, ◌∷◌, ◌++◌, [], IfOk, OnOk, IfErr, None};
 ghost use Rattle.std.specs.Option.{option_map};
 ghost use Rattle.blif_flat.specs.declared.flat_err.FlatErr.TheVariants.{UnknownModel as unknown_model_of, UnknownFormal as unknown_formal_of, Unconnected as unconnected_of};
-ghost use Rattle.blif_flat.specs.Answers.{IsFault};
+ghost use Rattle.blif_flat.specs.Answers.{IsTold};
 ghost use Rattle.blif_flat.specs.NameSets.{ports_value};
 ghost use Rattle.blif_flat.specs.Line.{foreign_formal, open_among, ports_fault};
 
@@ -64,7 +64,7 @@ fn check_formals(
     pairs: &[Pair],
 ) -> Result<(), FlatErr>
     ensures ok { OnOk result (foreign_formal ports.now pairs.now ≡ None) }
-    ensures err { IfErr result (λ e. IsFault e (option_map (λ name. unknown_formal_of model.now line name) (foreign_formal ports.now pairs.now))) }
+    ensures err { IfErr result (λ e. IsTold e (option_map (λ name. unknown_formal_of model.now line name) (foreign_formal ports.now pairs.now))) }
 {
     for pair in pairs {
         let formal = pair.formal.bytes();
@@ -84,7 +84,7 @@ fn check_inputs(
     names: &[Name],
 ) -> Result<(), FlatErr>
     ensures ok { OnOk result (open_among index.now names.now ≡ None) }
-    ensures err { IfErr result (λ e. IsFault e (option_map (λ name. unconnected_of model.now line name) (open_among index.now names.now))) }
+    ensures err { IfErr result (λ e. IsTold e (option_map (λ name. unconnected_of model.now line name) (open_among index.now names.now))) }
 {
     for name in names {
         if !is_among(index, name.bytes()) {
@@ -106,19 +106,10 @@ pub(crate) fn check_ports(
 ) -> Result<(), FlatErr>
     requires { ports.now ≡ ports_value child.now }
     ensures ok { OnOk result (ports_fault model.now line subckt.now child.now ≡ None) }
-    ensures err { IfErr result (λ e. IsFault e (ports_fault model.now line subckt.now child.now)) }
+    ensures err { IfErr result (λ e. IsTold e (ports_fault model.now line subckt.now child.now)) }
 {
-    match check_formals(alloc, &model.name, line, ports, &subckt.pairs) {
-        Ok(()) => {}
-        Err(error) => return Err(error),
-    }
+    check_formals(alloc, &model.name, line, ports, &subckt.pairs)?;
     let index = formal_index(alloc, &subckt.pairs)?;
-    match check_inputs(alloc, &model.name, line, &index, &child.inputs) {
-        Ok(()) => {}
-        Err(error) => return Err(error),
-    }
-    match check_inputs(alloc, &model.name, line, &index, &child.clocks) {
-        Ok(()) => Ok(()),
-        Err(error) => Err(error),
-    }
+    check_inputs(alloc, &model.name, line, &index, &child.inputs)?;
+    check_inputs(alloc, &model.name, line, &index, &child.clocks)
 }

@@ -1,17 +1,19 @@
 //! Loops of covers, and the order of the covers.
 ghost use Rattle.std.specs.Prelude.{◌≡◌, ℕ, List, ◌<◌, ◌≤◌, ◌^◌, [], ◌∷◌, ◌++◌, map, length, reverse, IfOk, IfErr, OnOk};
-ghost use Rattle.list_words.specs.Members.{In};
+ghost use Rattle.list_laws.specs.Members.{In};
+ghost use Rattle.tl_fault.specs.OrMemory.{OrMemory};
 ghost use Rattle.blif_flat.specs.declared.flat.Net.{Net as NetValue};
 ghost use Rattle.blif_flat.specs.declared.flat.OutPort.{OutPort as OutPortValue};
-ghost use Rattle.blif_flat.specs.Answers.{Refuses};
+ghost use Rattle.blif_flat.specs.Refusals.{refusal_of};
 ghost use Rattle.blif_flat.specs.Drivers.{IsDriven};
 ghost use Rattle.blif_flat.specs.Places.{is_cover};
+ghost use Rattle.blif_flat.specs.Weight.{most_weight};
 ghost use Rattle.blif_flat.specs.InstanceRows.{AreInstances, paths_of};
 ghost use Rattle.blif_flat.specs.InstanceOrder.{places_at};
 ghost use Rattle.blif_flat.specs.Gates.{AreGatesAt};
 ghost use Rattle.blif_flat.specs.Flat.{cover_numbers};
 ghost use Rattle.blif_flat.specs.CoverWalk.{cover_reads};
-ghost use Rattle.blif_flat.specs.Walking.{PostsAll};
+ghost use Rattle.blif_flat.specs.DepthFirst.{PostsAll};
 ghost use Rattle.blif_flat.specs.LoopFault.{LoopWalk, IsLoop};
 ghost use Rattle.blif_flat.specs.Ordering.{AreCounted, latch_nets, root_numbers};
 ghost use Rattle.blif_flat.specs.LoopSteps.{IsWrittenAt, AreWrittenAt};
@@ -21,11 +23,10 @@ use crate::flat::{FlatCover, FlatLatch, Net, OutPort};
 use crate::flat_err::FlatErr;
 use crate::gates::Gate;
 use crate::instances::Instance;
-use crate::names::Names;
 use crate::written::write_cover;
 use blif_read::Library;
 use std::alloc::{AllocError, Global};
-use tl_text::Name;
+use tl_fault::{Name, Names};
 
 // Adds the cover that drives a net, if one does.
 fn add_cover(covers: &mut Vec<u32>, net: Net) -> Result<(), AllocError>
@@ -111,7 +112,7 @@ fn written_covers(
 /// time linear in the covers' inputs.
 ///
 /// # Errors
-/// `Loop` with the nets of the first cycle of covers; `Memory` where there is none.
+/// `Loop` with the nets of the first loop of covers; `Memory` where there is none.
 pub(crate) fn cover_order(
     alloc: Global,
     library: &Library,
@@ -125,15 +126,15 @@ pub(crate) fn cover_order(
     requires rows { AreInstances library.now rows.now }
     requires gates { AreGatesAt (paths_of rows.now) gates.now (places_at library.now is_cover (paths_of rows.now)) }
     requires walked { AreCounted library.now (paths_of rows.now) (map (λ (o : OutPortValue). o.net) outputs.now) covers.now latches.now }
-    requires few { length covers.now ≤ 4194304 }
+    requires few { length covers.now ≤ most_weight }
     ensures clean { IfOk result (λ order. LoopWalk library.now None) }
     ensures order { IfOk result (λ order. PostsAll (cover_reads covers.now) [] (root_numbers (map (λ (o : OutPortValue). o.net) outputs.now) latches.now) (reverse order.items)) }
-    ensures err { IfErr result (λ e. Refuses e (λ r. IsLoop library.now r)) }
+    ensures err { IfErr result (OrMemory refusal_of (IsLoop library.now)) }
 {
     let roots = all_roots(alloc, outputs, latches)?;
     match walk_covers(alloc, covers, &roots)? {
         Found::Order(order) => Ok(order),
-        Found::Cycle(nodes) => {
+        Found::Loop(nodes) => {
             let texts = written_covers(alloc, library, rows, gates, &nodes)?;
             Err(FlatErr::Loop(Names::make(texts)))
         }

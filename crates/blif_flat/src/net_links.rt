@@ -4,6 +4,7 @@ ghost use Rattle.std.specs.Option.{option_map};
 ghost use Rattle.blif_read.specs.LibraryValue.{LibraryValue};
 ghost use Rattle.blif_flat.specs.NetSlots.{IsNets};
 ghost use Rattle.blif_flat.specs.NetSteps.{line_under, link_at, linked_out, linked_in, links_out, links_in, AreLinesOf, IsLink};
+ghost use Rattle.blif_flat.specs.Weight.{most_weight};
 
 use crate::instances::Instance;
 use crate::nets::{Nets, pairs_in, pairs_out};
@@ -103,7 +104,7 @@ pub(crate) fn links_out<'a>(
     nets: &mut Nets,
 )
     requires nets { IsNets nets.old }
-    requires few { length rows.now ≤ 4194304 }
+    requires few { length rows.now ≤ most_weight }
     ensures out { (library : LibraryValue) → AreLinesOf library lines.now ports.now → nets.new ≡ links_out library rows.now nets.old (length rows.now) }
     ensures nets { IsNets nets.new }
 {
@@ -123,7 +124,7 @@ pub(crate) fn links_in<'a>(
     nets: &mut Nets,
 )
     requires nets { IsNets nets.old }
-    requires few { length rows.now ≤ 4194304 }
+    requires few { length rows.now ≤ most_weight }
     ensures inside { (library : LibraryValue) → AreLinesOf library lines.now ports.now → nets.new ≡ links_in library rows.now nets.old (length rows.now) }
     ensures nets { IsNets nets.new }
 {

@@ -5,6 +5,7 @@ ghost use Rattle.blif_flat.specs.ModelNames.{body_names, commands_names};
 ghost use Rattle.blif_flat.specs.InstanceRows.{AreInstances, IsLight, paths_of};
 ghost use Rattle.blif_flat.specs.NetMade.{AreEmptyNets};
 ghost use Rattle.blif_flat.specs.NetStarts.{distinct_names, name_count, starts_from, slot_count};
+ghost use Rattle.blif_flat.specs.Weight.{most_weight};
 
 use crate::flat::Net;
 use crate::instances::Instance;
@@ -111,7 +112,7 @@ fn row_starts(
     names: &[NameIndex],
     rows: &[Instance],
 ) -> Result<(Vec<Start>, usize), AllocError>
-    requires { slot_count names.now rows.now ≤ 4194304 }
+    requires { slot_count names.now rows.now ≤ most_weight }
     ensures { IfOk result (λ made. (made.0.items ≡ starts_from names.now 0 rows.now) × (made.1 ≡ slot_count names.now rows.now)) }
 {
     let mut starts = Vec::new(alloc);

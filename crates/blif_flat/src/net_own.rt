@@ -1,11 +1,13 @@
 //! Nets at their drivers: the outputs of the covers and latches of all instances, and the inputs of the main model.
 ghost use Rattle.std.specs.Prelude.{◌≡◌, ◌<◌, ◌≤◌, ◌^◌, [], ◌∷◌, length};
-ghost use Rattle.std.specs.Option.{option_map, option_and_then};
-ghost use Rattle.blif_flat.specs.Models.{body_at};
+ghost use Rattle.std.specs.Option.{option_and_then};
 ghost use Rattle.blif_flat.specs.NetSlots.{IsNets};
-ghost use Rattle.blif_flat.specs.NetSteps.{gate_body, cover_output, latch_output, with_named, with_covers, with_latches, with_inputs};
+ghost use Rattle.blif_flat.specs.GateBodies.{gate_body as body_of};
+ghost use Rattle.blif_flat.specs.NetSteps.{cover_output, latch_output, with_named, with_covers, with_latches, with_inputs};
+ghost use Rattle.blif_flat.specs.Weight.{most_weight};
 
 use crate::flat::Net;
+use crate::gate_body::gate_body;
 use crate::gates::Gate;
 use crate::instances::Instance;
 use crate::nets::Nets;
@@ -13,36 +15,13 @@ use crate::ports::Ports;
 use blif_read::{BlifModel, Body, Library};
 use tl_text::Name;
 
-// The body of a model's command.
-fn body_in(model: &BlifModel, command: u32) -> Option<&Body>
-    ensures { option_map (λ b. b.now) result ≡ body_at model.now command }
-{
-    match model.commands.get(command as usize) {
-        None => None,
-        Some(found) => Some(&found.body),
-    }
-}
-
-// The body of a gate's command.
-fn body_of<'a>(library: &'a Library, rows: &[Instance], gate: &Gate) -> Option<&'a Body>
-    ensures { option_map (λ b. b.now) result ≡ gate_body library.now rows.now gate.now }
-{
-    match rows.get(gate.row as usize) {
-        None => None,
-        Some(row) => match library.models.get(row.model as usize) {
-            None => None,
-            Some(model) => body_in(model, gate.command),
-        },
-    }
-}
-
 // Puts a cover in at its output.
 fn set_cover(library: &Library, rows: &[Instance], nets: &mut Nets, gate: &Gate, k: u32)
     requires { IsNets nets.old }
-    ensures cover { nets.new ≡ with_named nets.old gate.now.row (option_and_then cover_output (gate_body library.now rows.now gate.now)) (Net.Cover k) }
+    ensures cover { nets.new ≡ with_named nets.old gate.now.row (option_and_then cover_output (body_of library.now rows.now gate.now)) (Net.Cover k) }
     ensures nets { IsNets nets.new }
 {
-    if let Some(Body::Cover(cover)) = body_of(library, rows, gate) {
+    if let Some(Body::Cover(cover)) = gate_body(library, rows, *gate) {
         nets.set(gate.row, cover.output.bytes(), Net::Cover(k));
     }
 }
@@ -50,10 +29,10 @@ fn set_cover(library: &Library, rows: &[Instance], nets: &mut Nets, gate: &Gate,
 // Puts a latch in at its output.
 fn set_latch(library: &Library, rows: &[Instance], nets: &mut Nets, gate: &Gate, k: u32)
     requires { IsNets nets.old }
-    ensures latch { nets.new ≡ with_named nets.old gate.now.row (option_and_then latch_output (gate_body library.now rows.now gate.now)) (Net.Latch k) }
+    ensures latch { nets.new ≡ with_named nets.old gate.now.row (option_and_then latch_output (body_of library.now rows.now gate.now)) (Net.Latch k) }
     ensures nets { IsNets nets.new }
 {
-    if let Some(Body::Latch(latch)) = body_of(library, rows, gate) {
+    if let Some(Body::Latch(latch)) = gate_body(library, rows, *gate) {
         nets.set(gate.row, latch.output.bytes(), Net::Latch(k));
     }
 }
@@ -62,7 +41,7 @@ fn set_latch(library: &Library, rows: &[Instance], nets: &mut Nets, gate: &Gate,
 /// the hashes.
 pub(crate) fn set_covers(library: &Library, rows: &[Instance], nets: &mut Nets, covers: &[Gate])
     requires nets { IsNets nets.old }
-    requires few { length covers.now ≤ 4194304 }
+    requires few { length covers.now ≤ most_weight }
     ensures covers { nets.new ≡ with_covers library.now rows.now nets.old 0 covers.now }
     ensures nets { IsNets nets.new }
 {
@@ -75,7 +54,7 @@ pub(crate) fn set_covers(library: &Library, rows: &[Instance], nets: &mut Nets, 
 /// the hashes.
 pub(crate) fn set_latches(library: &Library, rows: &[Instance], nets: &mut Nets, latches: &[Gate])
     requires nets { IsNets nets.old }
-    requires few { length latches.now ≤ 4194304 }
+    requires few { length latches.now ≤ most_weight }
     ensures latches { nets.new ≡ with_latches library.now rows.now nets.old 0 latches.now }
     ensures nets { IsNets nets.new }
 {

@@ -8,6 +8,7 @@ ghost use Rattle.blif_flat.specs.InstanceRows.{AreInstances, paths_of};
 ghost use Rattle.blif_flat.specs.InstanceOrder.{places_at};
 ghost use Rattle.blif_flat.specs.Gates.{AreGatesAt};
 ghost use Rattle.blif_flat.specs.NetMade.{AreEmptyNets, AreAllNets};
+ghost use Rattle.blif_flat.specs.Weight.{most_weight};
 
 use crate::gates::Gate;
 use crate::instances::Instance;
@@ -37,8 +38,8 @@ pub(crate) fn fill_nets(
     requires rows { AreInstances library.now rows.now }
     requires covers { AreGatesAt (paths_of rows.now) covers.now (places_at library.now is_cover (paths_of rows.now)) }
     requires latches { AreGatesAt (paths_of rows.now) latches.now (places_at library.now is_latch (paths_of rows.now)) }
-    requires few_covers { length covers.now ≤ 4194304 }
-    requires few_latches { length latches.now ≤ 4194304 }
+    requires few_covers { length covers.now ≤ most_weight }
+    requires few_latches { length latches.now ≤ most_weight }
     requires empty { AreEmptyNets library.now (paths_of rows.now) empty }
     ensures { IfOk result (λ nets. AreAllNets library.now rows.now nets) }
 {

@@ -2,7 +2,7 @@
 ghost use Rattle.std.specs.Prelude.{◌≡◌, ◌<◌, ◌∷◌, ◌++◌, [], length, map, reverse, slice_get, Some, None, IfOk, OnOk, IfErr};
 ghost use Rattle.blif_read.specs.LibraryValue.{ModelValue};
 ghost use Rattle.blif_flat.specs.declared.flat_err.FlatErr.TheVariants.{RecursiveModel as recursive_model_of};
-ghost use Rattle.blif_flat.specs.Answers.{IsFault};
+ghost use Rattle.blif_flat.specs.Answers.{IsTold};
 ghost use Rattle.blif_flat.specs.NameSets.{ports_value, model_names};
 ghost use Rattle.blif_flat.specs.Line.{add_chain, ports_fault};
 ghost use Rattle.blif_flat.specs.Stack.{chain_of, chain_step, chain_names as chain_names_of, IsWalk, IsPlacing};
@@ -11,12 +11,11 @@ ghost use Rattle.blif_flat.specs.Walk.{chain_from, line_fault};
 use crate::flat_err::FlatErr;
 use crate::line_check::{check_ports, copied, unknown_model};
 use crate::model_index::ModelIndex;
-use crate::names::Names;
 use crate::ports::Ports;
 use crate::walk_state::{Frame, WalkState};
 use blif_read::{BlifModel, Subckt};
 use std::alloc::{AllocError, Global};
-use tl_text::Name;
+use tl_fault::{Name, Names};
 
 // A chain with one more model, or that model alone, where it has the name.
 fn with_link(
@@ -101,14 +100,11 @@ fn check_child(
     requires within { n < length models.now }
     requires ports { ports.now ≡ map ports_value models.now }
     ensures ok { OnOk result ((child : ModelValue) → slice_get models.now n ≡ Some child → ports_fault model.now line subckt.now child ≡ None) }
-    ensures err { IfErr result (λ e. (child : ModelValue) → slice_get models.now n ≡ Some child → IsFault e (ports_fault model.now line subckt.now child)) }
+    ensures err { IfErr result (λ e. (child : ModelValue) → slice_get models.now n ≡ Some child → IsTold e (ports_fault model.now line subckt.now child)) }
 {
     let child = &models[n as usize];
     let child_ports = &ports[n as usize];
-    match check_ports(alloc, model, line, subckt, child, child_ports) {
-        Ok(()) => Ok(()),
-        Err(error) => Err(error),
-    }
+    check_ports(alloc, model, line, subckt, child, child_ports)
 }
 
 /// The number of the model that a line places, or the line's first fault of F1 to F4.
@@ -126,7 +122,7 @@ pub(crate) fn check_line(
     requires ports { ports.now ≡ map ports_value models.now }
     requires walk { IsWalk models.now walk.now }
     ensures ok { IfOk result (λ n. IsPlacing models.now walk.now model.now (record { line = line; subckt = subckt.now }) n) }
-    ensures err { IfErr result (λ e. IsFault e (line_fault (record { models = models.now }) (chain_of models.now walk.now.frames) model.now (record { line = line; subckt = subckt.now }))) }
+    ensures err { IfErr result (λ e. IsTold e (line_fault (record { models = models.now }) (chain_of models.now walk.now.frames) model.now (record { line = line; subckt = subckt.now }))) }
 {
     match index.find(subckt.model.bytes()) {
         None => Err(unknown_model(alloc, &model.name, line, &subckt.model)?),
@@ -134,10 +130,8 @@ pub(crate) fn check_line(
             if walk.is_on_chain(n) {
                 return Err(recursive_model(alloc, models, walk, &subckt.model)?);
             }
-            match check_child(alloc, models, ports, n, model, line, subckt) {
-                Ok(()) => Ok(n),
-                Err(error) => Err(error),
-            }
+            check_child(alloc, models, ports, n, model, line, subckt)?;
+            Ok(n)
         }
     }
 }

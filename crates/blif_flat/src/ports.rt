@@ -1,6 +1,6 @@
 //! The ports of the models, each found by its hash.
 ghost use Rattle.std.specs.Prelude.{◌≡◌, ◌++◌, ◌∷◌, [], map, IfOk, OnOk};
-ghost use Rattle.list_words.specs.Members.{In};
+ghost use Rattle.list_laws.specs.Members.{In};
 ghost use Rattle.tl_text.specs.NameIndex.{place_of};
 ghost use Rattle.blif_read.specs.LibraryValue.{ModelValue};
 ghost use Rattle.blif_read.specs.WellFormed.{IsWellFormedModel};

@@ -1,15 +1,17 @@
 //! The walk of the models.
 ghost use Rattle.std.specs.Prelude.{◌≡◌, ◌<◌, ◌^◌, ◌+◌, ℕ, [], length, map, replicate, slice_get, Some, IfOk, OnOk, IfErr};
-ghost use Rattle.list_words.specs.Members.{In};
+ghost use Rattle.list_laws.specs.Members.{In};
+ghost use Rattle.tl_fault.specs.OrMemory.{OrMemory};
 ghost use Rattle.blif_read.specs.Once.{AreOnce};
 ghost use Rattle.blif_read.specs.WellFormed.{IsWellFormed};
-ghost use Rattle.blif_flat.specs.Answers.{Refuses};
 ghost use Rattle.blif_flat.specs.NameSets.{ports_value, model_names};
 ghost use Rattle.blif_read.specs.LibraryValue.{ModelValue};
 ghost use Rattle.blif_read.specs.declared.command.Body.TheVariants.{Subckt as subckt_of};
 ghost use Rattle.blif_flat.specs.declared.walk_state.Mark.{Mark};
 ghost use Rattle.blif_flat.specs.declared.walk_state.Mark.TheVariants.{New};
-ghost use Rattle.blif_flat.specs.Stack.{models_at, IsWalk, IsStep, IsRun, Resumes, entered, advanced, fresh, placed_by};
+ghost use Rattle.blif_flat.specs.Refusals.{refusal_of};
+ghost use Rattle.blif_flat.specs.NumberedModels.{models_at};
+ghost use Rattle.blif_flat.specs.Stack.{IsWalk, IsStep, IsReached, Resumes, entered, advanced, fresh, placed_by};
 ghost use Rattle.blif_flat.specs.Weighing.{AreChildrenFirst};
 ghost use Rattle.blif_flat.specs.Walk.{walked, refused, WalksMain};
 
@@ -56,16 +58,11 @@ fn step_subckt(
     requires room { frame.place + 1 < 2 ^ 64 }
     requires command { slice_get model.now.commands frame.place ≡ Some (record { line = line; body = subckt_of subckt.now }) }
     ensures ok { OnOk result (IsStep (record { models = models.now }) walk.old walk.new) }
-    ensures err { IfErr result (λ e. Refuses e (λ r. Resumes (record { models = models.now }) walk.old.frames (models_at models.now walk.old.begun) (refused r))) }
+    ensures err { IfErr result (OrMemory refusal_of (λ r. Resumes (record { models = models.now }) walk.old.frames (models_at models.now walk.old.begun) (refused r))) }
 {
-    let n = match check_line(alloc, models, index, ports, walk, model, line, subckt) {
-        Ok(n) => n,
-        Err(error) => return Err(error),
-    };
-    match place(walk, frame, n) {
-        Ok(()) => Ok(()),
-        Err(_) => Err(FlatErr::Memory),
-    }
+    let n = check_line(alloc, models, index, ports, walk, model, line, subckt)?;
+    place(walk, frame, n)?;
+    Ok(())
 }
 
 // One step of the walk, at the innermost frame.
@@ -83,7 +80,7 @@ fn step(
     requires walk { IsWalk models.now walk.old }
     requires top { slice_get walk.old.frames 0 ≡ Some frame }
     ensures ok { OnOk result (IsStep (record { models = models.now }) walk.old walk.new) }
-    ensures err { IfErr result (λ e. Refuses e (λ r. Resumes (record { models = models.now }) walk.old.frames (models_at models.now walk.old.begun) (refused r))) }
+    ensures err { IfErr result (OrMemory refusal_of (λ r. Resumes (record { models = models.now }) walk.old.frames (models_at models.now walk.old.begun) (refused r))) }
 {
     let model = &models[frame.model as usize];
     match model.commands.get(frame.place) {
@@ -91,7 +88,7 @@ fn step(
         Some(command) => match &command.body {
             Body::Cover(_) => Ok(walk.advance(frame)?),
             Body::Latch(_) => Ok(walk.advance(frame)?),
-            Body::Subckt(subckt) => match step_subckt(
+            Body::Subckt(subckt) => step_subckt(
                 alloc,
                 models,
                 index,
@@ -101,10 +98,7 @@ fn step(
                 model,
                 command.line,
                 subckt,
-            ) {
-                Ok(()) => Ok(()),
-                Err(error) => Err(error),
-            },
+            ),
         },
     }
 }
@@ -121,16 +115,13 @@ fn run(
     requires ports { ports.now ≡ map ports_value models.now }
     requires names { AreOnce (model_names models.now) }
     requires walk { IsWalk models.now begun }
-    ensures ok { IfOk result (λ end. IsRun models.now begun end) }
+    ensures ok { IfOk result (λ end. IsReached models.now begun end) }
     ensures ended { IfOk result (λ end. end.frames ≡ []) }
-    ensures err { IfErr result (λ e. Refuses e (λ r. Resumes (record { models = models.now }) begun.frames (models_at models.now begun.begun) (refused r))) }
+    ensures err { IfErr result (OrMemory refusal_of (λ r. Resumes (record { models = models.now }) begun.frames (models_at models.now begun.begun) (refused r))) }
 {
     let mut walk = begun;
     while let Some(frame) = walk.top() {
-        match step(alloc, models, index, ports, &mut walk, frame) {
-            Ok(()) => {}
-            Err(error) => return Err(error),
-        }
+        step(alloc, models, index, ports, &mut walk, frame)?;
     }
     Ok(walk)
 }
@@ -160,19 +151,18 @@ fn walk_slice(
     ensures within { IfOk result (λ w. (n : ℕ) → In w.begun.items n → n < length models.now) }
     ensures children { IfOk result (λ w. AreChildrenFirst (record { models = models.now }) w.ended.items) }
     ensures main { IfOk result (λ w. In w.ended.items 0) }
-    ensures err { IfErr result (λ e. (main : ModelValue) → slice_get models.now 0 ≡ Some main → Refuses e (λ r. WalksMain (record { models = models.now }) main (refused r))) }
+    ensures err { IfErr result (λ e. (main : ModelValue) → slice_get models.now 0 ≡ Some main → OrMemory refusal_of (λ r. WalksMain (record { models = models.now }) main (refused r)) e) }
 {
     let begun = main_begun(alloc, models.len())?;
-    match run(alloc, models, index, ports, begun) {
-        Ok(end) => Ok(end.into_orders()),
-        Err(error) => Err(error),
-    }
+    let end = run(alloc, models, index, ports, begun)?;
+    Ok(end.into_orders())
 }
 
 /// The numbers of the models that the walk from the main model begins, in this order, and in that in which their walks end:
-/// each model stands behind those that it places, and the main model is among them. It takes time linear in the bytes of
-/// the walked models' ports and of their `.subckt` lines with the ports that these place, on average over the hashes, and
-/// no stack of calls: the chain of models that are being walked stands in memory.
+/// each model stands behind those that it places, and the main model is among them. The index and the ports are those of
+/// the library. It takes time linear in the number of all models and in the bytes of the walked models' ports and of their
+/// `.subckt` lines with the ports that these place, on average over the hashes, and no stack of calls: the chain of models
+/// that are being walked stands in memory.
 ///
 /// # Errors
 /// The first of F1 to F4 in the walk: `UnknownModel`, `RecursiveModel`, `UnknownFormal`, `Unconnected`; `Memory` where
@@ -180,21 +170,17 @@ fn walk_slice(
 pub(crate) fn walk_models(
     alloc: Global,
     library: &Library,
+    index: &ModelIndex,
     ports: &[Ports],
 ) -> Result<WalkOrders, FlatErr>
     requires formed { IsWellFormed library.now }
-    requires few { length library.now.models < 2 ^ 32 }
+    requires index { index.now.names ≡ model_names library.now.models }
     requires ports { ports.now ≡ map ports_value library.now.models }
     ensures ok { IfOk result (λ w. (main : ModelValue) → slice_get library.now.models 0 ≡ Some main → WalksMain library.now main (walked (models_at library.now.models w.begun.items))) }
     ensures within { IfOk result (λ w. (n : ℕ) → In w.begun.items n → n < length library.now.models) }
     ensures children { IfOk result (λ w. AreChildrenFirst library.now w.ended.items) }
     ensures main { IfOk result (λ w. In w.ended.items 0) }
-    ensures err { IfErr result (λ e. (main : ModelValue) → slice_get library.now.models 0 ≡ Some main → Refuses e (λ r. WalksMain library.now main (refused r))) }
+    ensures err { IfErr result (λ e. (main : ModelValue) → slice_get library.now.models 0 ≡ Some main → OrMemory refusal_of (λ r. WalksMain library.now main (refused r)) e) }
 {
-    let models = library.models.as_slice();
-    let index = ModelIndex::make(alloc, models)?;
-    match walk_slice(alloc, models, &index, ports) {
-        Ok(walked) => Ok(walked),
-        Err(error) => Err(error),
-    }
+    walk_slice(alloc, &library.models, index, ports)
 }

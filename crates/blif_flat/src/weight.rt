@@ -1,10 +1,11 @@
 //! The weights of models, each kept up to 2^22 + 1.
 ghost use Rattle.std.specs.Prelude.{◌≡◌, ℕ, ◌+◌, ◌<◌, ◌≤◌, length, Some, slice_get, set, IfOk, MatchResult};
-ghost use Rattle.list_words.specs.Members.{In};
+ghost use Rattle.list_laws.specs.Members.{In};
+ghost use Rattle.tl_fault.specs.OrMemory.{OrMemory};
 ghost use Rattle.blif_read.specs.LibraryValue.{ModelValue};
-ghost use Rattle.blif_flat.specs.Weight.{body_weight, commands_weight, own_weight};
+ghost use Rattle.blif_flat.specs.Weight.{most_weight, body_weight, commands_weight, own_weight};
 ghost use Rattle.blif_flat.specs.declared.flat_err.FlatErr.TheVariants.{TooLarge};
-ghost use Rattle.blif_flat.specs.Answers.{Refuses};
+ghost use Rattle.blif_flat.specs.Refusals.{refusal_of};
 ghost use Rattle.blif_flat.specs.NameSets.{model_names};
 ghost use Rattle.blif_flat.specs.Weighing.{HasWeight, capped, body_kept, commands_kept, model_kept, AreChildrenFirst, IsKept};
 
@@ -13,17 +14,17 @@ use crate::model_index::ModelIndex;
 use blif_read::{BlifModel, Body, Command, Library};
 use std::alloc::{AllocError, Global};
 
-// Above the greatest weight that is flattened, 2^22.
-const TOO_HEAVY: u32 = 4_194_305;
+// The greatest weight that is flattened, 2^22.
+const MOST_WEIGHT: u32 = 4_194_304;
 
 // A sum, capped.
 fn add_up(total: u32, more: usize) -> u32
-    requires { total ≤ 4194305 }
+    requires { total ≤ most_weight + 1 }
     ensures { result ≡ capped (total + more) }
 {
-    let room = TOO_HEAVY - total;
+    let room = MOST_WEIGHT + 1 - total;
     if more >= room as usize {
-        TOO_HEAVY
+        MOST_WEIGHT + 1
     } else {
         total + more as u32
     }
@@ -131,9 +132,9 @@ pub(crate) fn weigh(
 }
 
 fn check_kept(kept: u32) -> Result<(), FlatErr>
-    ensures { MatchResult result (λ _. kept ≤ 4194304) (λ e. (e ≡ TooLarge) × (4194304 < kept)) }
+    ensures { MatchResult result (λ _. kept ≤ most_weight) (λ e. (e ≡ TooLarge) × (most_weight < kept)) }
 {
-    if kept >= TOO_HEAVY {
+    if kept > MOST_WEIGHT {
         return Err(FlatErr::TooLarge);
     }
     Ok(())
@@ -151,7 +152,7 @@ pub(crate) fn check_weight(
     requires order { AreChildrenFirst library.now order.now }
     requires main { In order.now 0 }
     ensures { (main : ModelValue) → slice_get library.now.models 0 ≡ Some main
-        → MatchResult result (λ _. HasWeight library.now main (λ w. w ≤ 4194304)) (λ e. Refuses e (λ r. (r ≡ TooLarge) × HasWeight library.now main (λ w. 4194304 < w))) }
+        → MatchResult result (λ _. HasWeight library.now main (λ w. w ≤ most_weight)) (OrMemory refusal_of (λ r. (r ≡ TooLarge) × HasWeight library.now main (λ w. most_weight < w))) }
 {
     let weights = weigh(alloc, library, index, order)?;
     match weights.first() {

@@ -5,15 +5,16 @@ use Rattle.blif_flat.specs.declared.flat.OutPort.{OutPort}
 use Rattle.blif_flat.specs.declared.flat.FlatLatch.{FlatLatch}
 use Rattle.blif_flat.specs.ClockSteps.{clock_test, input_name}
 use Rattle.blif_flat.specs.CoverWalk.{cover_reads}
+use Rattle.blif_flat.specs.Weight.{most_weight}
 use Rattle.blif_flat.specs.Ordering.{root_numbers}
-use Rattle.blif_flat.specs.Walking.{PostsAll}
+use Rattle.blif_flat.specs.DepthFirst.{PostsAll}
 use Rattle.blif_flat.specs.RegularNets.{regular_numbers}
 use Rattle.blif_flat.proofs.AssembleLemmas.{few_marks, covers_known, latches_known, nets_known, names_known, few_covers, counted_as, fields}
 use Rattle.blif_flat.proofs.assemble.assemble.Goals as goal
 
 pub regular_numbers-requires : goal.regular_numbers-requires
 regular_numbers-requires c =
-    let few : length c.args.clocks.now.marks.items ≤ 4194304 = few_marks c.args.library.now c.args.main.now c.requires.main c.args.circuit.now c.requires.circuit c.args.clocks.now c.requires.clocks c.requires.light in
+    let few : length c.args.clocks.now.marks.items ≤ most_weight = few_marks c.args.library.now c.args.main.now c.requires.main c.args.circuit.now c.requires.circuit c.args.clocks.now c.requires.clocks c.requires.light in
     let same : length c.deref.result.now ≡ length c.args.clocks.now.marks.items = ap length c.deref.ensures.value in
     record { few = omega arith }
 
@@ -37,7 +38,7 @@ cover_order-requires-clause-walked c =
 pub cover_order-requires-clause-few : goal.cover_order-requires-clause-few
 cover_order-requires-clause-few c =
     let numbers = c.in_ok-numbers.ensures ∙ ap (regular_numbers 0) c.deref.ensures.value in
-    let few : length c.in_ok-covers.covers.items ≤ 4194304 = few_covers c.args.library.now c.args.main.now c.requires.main c.args.circuit.now c.requires.circuit c.args.clocks.now c.requires.clocks c.in_ok-covers.covers.items
+    let few : length c.in_ok-covers.covers.items ≤ most_weight = few_covers c.args.library.now c.args.main.now c.requires.main c.args.circuit.now c.requires.circuit c.args.clocks.now c.requires.clocks c.in_ok-covers.covers.items
     (covers_known c.args.library.now c.args.main.now c.requires.main c.args.circuit.now c.requires.circuit c.args.clocks.now c.requires.clocks c.deref-3.result.now c.deref-2.result.now (c.deref-3.ensures.value ∙ numbers)
     c.deref-2.ensures.value c.in_ok-covers.covers.items c.in_ok-covers.ensures) in
     let same : length c.deref-12.result.now ≡ length c.in_ok-covers.covers.items = ap length c.deref-12.ensures.value in
@@ -67,7 +68,7 @@ returns-clause-flat c =
       outputs = c.in_ok-outputs.outputs.items;
       covers = c.in_ok-covers.covers.items;
       latches = c.in_ok-latches.latches.items;
-      order = c.in-Ok.order.items;
+      order = c.in_ok-order.order.items;
       under = c.most_underscores-under.result;
     }) refl refl refl
     (c.in_ok-model.ensures ∙ c.bytes.ensures ∙ ap (λ (m : ModelValue). m.name) c.main.view_is)
@@ -75,6 +76,6 @@ returns-clause-flat c =
     (c.in_ok-control.ensures main c.requires.inputs)
     c.in_ok-names.ensures
     (names_known library main at circuit is clocks known c.deref-9.result.now c.deref-8.result.now (c.deref-9.ensures.value ∙ numbers) c.deref-8.ensures.value (map (λ (o : OutPort). o.name) c.in_ok-outputs.outputs.items) outputs.names)
-    (subst₂ (λ (x : List FlatLatch) (y : List OutPort). PostsAll (cover_reads c.in_ok-covers.covers.items) [] (root_numbers (map (λ (o : OutPort). o.net) y) x) (reverse c.in-Ok.order.items)) c.deref-13.ensures.value c.deref-14.ensures.value
-    (subst (λ x. PostsAll (cover_reads x) [] (root_numbers (map (λ (o : OutPort). o.net) c.deref-14.result.now) c.deref-13.result.now) (reverse c.in-Ok.order.items)) c.deref-12.ensures.value c.in-Ok.ensures.order))
+    (subst₂ (λ (x : List FlatLatch) (y : List OutPort). PostsAll (cover_reads c.in_ok-covers.covers.items) [] (root_numbers (map (λ (o : OutPort). o.net) y) x) (reverse c.in_ok-order.order.items)) c.deref-13.ensures.value c.deref-14.ensures.value
+    (subst (λ x. PostsAll (cover_reads x) [] (root_numbers (map (λ (o : OutPort). o.net) c.deref-14.result.now) c.deref-13.result.now) (reverse c.in_ok-order.order.items)) c.deref-12.ensures.value c.in_ok-order.ensures.order))
     c.most_underscores-under.ensures

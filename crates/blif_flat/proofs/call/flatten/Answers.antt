@@ -1,5 +1,6 @@
+use Rattle.tl_fault.proofs.PassedOn.{passed_on}
 use Rattle.blif_flat.proofs.StageLemmas.{loop_refused, all_sound, none_stands}
-use Rattle.blif_flat.proofs.LawLemmas.{sound_law}
+use Rattle.blif_flat.proofs.BoundLemmas.{flat_bounds}
 use Rattle.blif_flat.proofs.EvaluateLemmas.{flat_evaluates}
 use Rattle.blif_flat.proofs.FlatCycleLemmas.{flat_cycles}
 use Rattle.blif_flat.proofs.call.flatten.Goals as goal
@@ -7,28 +8,29 @@ use Rattle.blif_flat.proofs.call.flatten.Goals as goal
 pub assemble-requires-clause-short : goal.assemble-requires-clause-short
 assemble-requires-clause-short c = c.requires.short c.main_model-main.result.now c.main_model-main.ensures
 
-pub returns-in-Ok-assemble-clause-sound : goal.returns-in-Ok-assemble-clause-sound
-returns-in-Ok-assemble-clause-sound c =
-    all_sound c.args.library.now c.in_ok-circuit.circuit.rows.items c.in_ok-circuit.ensures.rows c.in-Ok.ensures.ok.connected c.main_model-main.result.now c.main_model-main.ensures
-    c.in-Ok-check_clocks.clocks c.in-Ok-check_clocks.ensures.ok c.requires.formed c.in-Ok-assemble.ensures.clean
+pub returns-clause-sound : goal.returns-clause-sound
+returns-clause-sound c =
+    all_sound c.args.library.now c.in_ok-circuit.circuit.rows.items c.in_ok-circuit.ensures.rows c.in_ok-check_models.ensures.ok.connected c.main_model-main.result.now c.main_model-main.ensures
+    c.in_ok-clocks.clocks c.in_ok-clocks.ensures.ok c.requires.formed c.in_ok-flat.ensures.clean
 
-pub returns-in-Ok-assemble-clause-law : goal.returns-in-Ok-assemble-clause-law
-returns-in-Ok-assemble-clause-law c = sound_law c.args.library.now
-    (all_sound c.args.library.now c.in_ok-circuit.circuit.rows.items c.in_ok-circuit.ensures.rows c.in-Ok.ensures.ok.connected c.main_model-main.result.now c.main_model-main.ensures
-    c.in-Ok-check_clocks.clocks c.in-Ok-check_clocks.ensures.ok c.requires.formed c.in-Ok-assemble.ensures.clean)
+pub returns-clause-values : goal.returns-clause-values
+returns-clause-values c = record { fields = c.in_ok-flat.ensures.flat; evaluates = flat_evaluates c.args.library.now c.in_ok-flat.flat c.in_ok-flat.ensures.flat }
 
-pub returns-in-Ok-assemble-clause-values : goal.returns-in-Ok-assemble-clause-values
-returns-in-Ok-assemble-clause-values c = record { fields = c.in-Ok-assemble.ensures.flat; evaluates = flat_evaluates c.args.library.now c.in-Ok-assemble.flat c.in-Ok-assemble.ensures.flat }
+pub returns-clause-cycles : goal.returns-clause-cycles
+returns-clause-cycles c = flat_cycles c.args.library.now c.in_ok-flat.flat c.in_ok-flat.ensures.flat
+    (all_sound c.args.library.now c.in_ok-circuit.circuit.rows.items c.in_ok-circuit.ensures.rows c.in_ok-check_models.ensures.ok.connected c.main_model-main.result.now c.main_model-main.ensures
+    c.in_ok-clocks.clocks c.in_ok-clocks.ensures.ok c.requires.formed c.in_ok-flat.ensures.clean)
 
-pub returns-in-Ok-assemble-clause-cycles : goal.returns-in-Ok-assemble-clause-cycles
-returns-in-Ok-assemble-clause-cycles c = flat_cycles c.args.library.now c.in-Ok-assemble.flat c.in-Ok-assemble.ensures.flat
+pub returns-clause-bounds : goal.returns-clause-bounds
+returns-clause-bounds c = flat_bounds c.args.library.now c.in_ok-flat.flat c.in_ok-flat.ensures.flat c.requires.formed c.in_ok-check_models.ensures.ok.light
 
-pub returns-in-Ok-assemble-clause-clean : goal.returns-in-Ok-assemble-clause-clean
-returns-in-Ok-assemble-clause-clean c =
-    none_stands c.args.library.now c.in_ok-circuit.circuit.rows.items c.in_ok-circuit.ensures.rows c.in-Ok.ensures.ok.connected c.main_model-main.result.now c.main_model-main.ensures
-    c.in-Ok-check_clocks.clocks c.in-Ok-check_clocks.ensures.ok c.requires.formed c.in-Ok-assemble.ensures.clean
+pub returns-clause-clean : goal.returns-clause-clean
+returns-clause-clean c =
+    none_stands c.args.library.now c.in_ok-circuit.circuit.rows.items c.in_ok-circuit.ensures.rows c.in_ok-check_models.ensures.ok.connected c.main_model-main.result.now c.main_model-main.ensures
+    c.in_ok-clocks.clocks c.in_ok-clocks.ensures.ok c.requires.formed c.in_ok-flat.ensures.clean
 
-pub returns-clause-err : goal.returns-clause-err
-returns-clause-err c =
-    loop_refused c.args.library.now c.in_ok-circuit.circuit.rows.items c.in_ok-circuit.ensures.rows c.in-Ok.ensures.ok.connected c.main_model-main.result.now c.main_model-main.ensures
-    c.in-Ok-check_clocks.clocks c.in-Ok-check_clocks.ensures.ok c.in-Err-assemble.e c.in-Err-assemble.ensures.err
+pub returns-in_err-flat-clause-err : goal.returns-in_err-flat-clause-err
+returns-in_err-flat-clause-err c =
+    passed_on c.from_residual-in_err-flat.result c.in_err-flat.field-0.0 _ _ c.from_residual-in_err-flat.ensures.1
+    (loop_refused c.args.library.now c.in_ok-circuit.circuit.rows.items c.in_ok-circuit.ensures.rows c.in_ok-check_models.ensures.ok.connected c.main_model-main.result.now c.main_model-main.ensures
+    c.in_ok-clocks.clocks c.in_ok-clocks.ensures.ok c.in_err-flat.field-0.0 c.in_err-flat.ensures.err)

@@ -1,7 +1,9 @@
 use Rattle.std.proofs.Common.{◌≡◌, [], map, None, Some, ap, sym, ◌∙◌, subst}
 use Rattle.std.proofs.lemmas.Option.{same_Some}
+use Rattle.tl_fault.specs.OrMemory.{OrMemory}
+use Rattle.tl_fault.proofs.PassedOn.{passed_on}
 use Rattle.blif_read.specs.LibraryValue.{ModelValue}
-use Rattle.blif_flat.specs.Answers.{Refuses}
+use Rattle.blif_flat.specs.Refusals.{refusal_of}
 use Rattle.blif_flat.specs.Models.{model_at, inputs_of}
 use Rattle.blif_flat.specs.Places.{is_latch}
 use Rattle.blif_flat.specs.InstanceOrder.{places_at}
@@ -12,34 +14,36 @@ use Rattle.blif_flat.proofs.StageLemmas.{control_refused, data_refused}
 use Rattle.blif_flat.proofs.MarkLemmas.{clocks_told}
 use Rattle.blif_flat.proofs.clock_check.check_clocks.Goals as goal
 
-pub returns-in-Err-clause-err : goal.returns-in-Err-clause-err
-returns-in-Err-clause-err c =
-    control_refused c.args.library.now c.args.circuit.now.rows.items c.requires.circuit.rows c.requires.connected c.in-Err.e
-    (subst (λ rows. Refuses c.in-Err.e (λ r. Clocks c.args.library.now None (places_at c.args.library.now is_latch (paths_of rows)) (Some r))) c.deref.ensures.value c.in-Err.ensures.err)
+pub returns-in_err-control-clause-err : goal.returns-in_err-control-clause-err
+returns-in_err-control-clause-err c =
+    passed_on c.from_residual.result c.in_err-control.field-0.0 _ _ c.from_residual.ensures.1
+    (control_refused c.args.library.now c.args.circuit.now.rows.items c.requires.circuit.rows c.requires.connected c.in_err-control.field-0.0
+    (subst (λ rows. OrMemory refusal_of (λ r. Clocks c.args.library.now None (places_at c.args.library.now is_latch (paths_of rows)) (Some r)) c.in_err-control.field-0.0) c.deref.ensures.value c.in_err-control.ensures.err))
 
 pub check_data-requires-clause-marks : goal.check_data-requires-clause-marks
 check_data-requires-clause-marks c = λ main at.
-    let controlled = subst (λ rows. IsControlled c.args.library.now main (paths_of rows) c.in-Ok.control) c.deref.ensures.value (c.in-Ok.ensures.ok main at) in
+    let controlled = subst (λ rows. IsControlled c.args.library.now main (paths_of rows) c.in_ok-control.control) c.deref.ensures.value (c.in_ok-control.ensures.ok main at) in
     let same : c.args.main.now ≡ main = same_Some c.args.main.now main (sym c.requires.main ∙ at) in
     record {
-      test = clock_test main (input_name main c.in-Ok.control);
-      tells = clocks_told c.args.library.now c.requires.driven c.args.circuit.now.rows.items c.requires.circuit.rows main at c.in-Ok.control controlled;
-      marks_are = c.deref-7.ensures.value ∙ c.in_ok-marks.ensures ∙ ap (λ (m : ModelValue). map (clock_test m (input_name m c.in-Ok.control)) (inputs_of m)) same;
+      test = clock_test main (input_name main c.in_ok-control.control);
+      tells = clocks_told c.args.library.now c.requires.driven c.args.circuit.now.rows.items c.requires.circuit.rows main at c.in_ok-control.control controlled;
+      marks_are = c.deref-7.ensures.value ∙ c.in_ok-marks.ensures ∙ ap (λ (m : ModelValue). map (clock_test m (input_name m c.in_ok-control.control)) (inputs_of m)) same;
     }
 
-pub returns-in-Ok-check_data-clause-ok : goal.returns-in-Ok-check_data-clause-ok
-returns-in-Ok-check_data-clause-ok c =
-    let controlled = subst (λ rows. IsControlled c.args.library.now c.args.main.now (paths_of rows) c.in-Ok.control) c.deref.ensures.value (c.in-Ok.ensures.ok c.args.main.now c.requires.main) in
+pub returns-clause-ok : goal.returns-clause-ok
+returns-clause-ok c =
+    let controlled = subst (λ rows. IsControlled c.args.library.now c.args.main.now (paths_of rows) c.in_ok-control.control) c.deref.ensures.value (c.in_ok-control.ensures.ok c.args.main.now c.requires.main) in
     record {
       controlled = controlled;
       marks = c.in_ok-marks.ensures;
-      tells = clocks_told c.args.library.now c.requires.driven c.args.circuit.now.rows.items c.requires.circuit.rows c.args.main.now c.requires.main c.in-Ok.control controlled;
-      clear = subst (λ rows. ClockData c.args.library.now c.args.main.now (places_at c.args.library.now is_gate (paths_of rows)) None) c.deref-5.ensures.value (c.in-Ok-check_data.ensures.ok c.args.main.now c.requires.main);
+      tells = clocks_told c.args.library.now c.requires.driven c.args.circuit.now.rows.items c.requires.circuit.rows c.args.main.now c.requires.main c.in_ok-control.control controlled;
+      clear = subst (λ rows. ClockData c.args.library.now c.args.main.now (places_at c.args.library.now is_gate (paths_of rows)) None) c.deref-5.ensures.value (c.in_ok-check_data.ensures.ok c.args.main.now c.requires.main);
     }
 
-pub returns-in-Err-check_data-clause-err : goal.returns-in-Err-check_data-clause-err
-returns-in-Err-check_data-clause-err c =
-    let controlled = subst (λ rows. IsControlled c.args.library.now c.args.main.now (paths_of rows) c.in-Ok.control) c.deref.ensures.value (c.in-Ok.ensures.ok c.args.main.now c.requires.main) in
-    data_refused c.args.library.now c.args.circuit.now.rows.items c.requires.circuit.rows c.requires.connected controlled.clean c.in-Err-check_data.e
-    (subst (λ rows. Refuses c.in-Err-check_data.e (λ r. (main : ModelValue) → model_at c.args.library.now [] ≡ Some main → ClockData c.args.library.now main (places_at c.args.library.now is_gate (paths_of rows)) (Some r)))
-    c.deref-5.ensures.value c.in-Err-check_data.ensures.err)
+pub returns-in_err-check_data-clause-err : goal.returns-in_err-check_data-clause-err
+returns-in_err-check_data-clause-err c =
+    let controlled = subst (λ rows. IsControlled c.args.library.now c.args.main.now (paths_of rows) c.in_ok-control.control) c.deref.ensures.value (c.in_ok-control.ensures.ok c.args.main.now c.requires.main) in
+    passed_on c.from_residual-in_err-check_data.result c.in_err-check_data.field-0.0 _ _ c.from_residual-in_err-check_data.ensures.1
+    (data_refused c.args.library.now c.args.circuit.now.rows.items c.requires.circuit.rows c.requires.connected controlled.clean c.in_err-check_data.field-0.0
+    (subst (λ rows. OrMemory refusal_of (λ r. (main : ModelValue) → model_at c.args.library.now [] ≡ Some main → ClockData c.args.library.now main (places_at c.args.library.now is_gate (paths_of rows)) (Some r)) c.in_err-check_data.field-0.0)
+    c.deref-5.ensures.value c.in_err-check_data.ensures.err))

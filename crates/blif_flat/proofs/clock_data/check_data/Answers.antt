@@ -4,26 +4,29 @@ use Rattle.std.proofs.lemmas.Option.{slice_get-get_or, get_or_from_slice_get}
 use Rattle.blif_read.specs.LibraryValue.{ModelValue, LibraryValue}
 use Rattle.blif_flat.specs.declared.gates.Gate.{Gate}
 use Rattle.blif_flat.specs.declared.flat_err.FlatErr.{FlatErr}
+use Rattle.blif_flat.specs.Refusals.{refusal_of}
 use Rattle.blif_flat.specs.DataSteps.{names_fault}
-use Rattle.blif_flat.proofs.WalkStepLemmas.{Refuses-map}
 use Rattle.blif_flat.proofs.DataStepLemmas.{tells_ok, tells_err, gate_place, gate_passed, gate_refused, outputs_said}
 use Rattle.blif_flat.proofs.clock_data.check_data.Goals as goal
 use Rattle.blif_flat.proofs.clock_data.check_data.Goals.{After-check_names}
+use Rattle.tl_fault.proofs.OrMemoryLemmas.{Unless-map}
+use Rattle.tl_fault.proofs.PassedOn.{passed_on}
 
 abbrev no_gate : Gate
 no_gate = record { row = 0; command = 0 }
 
-pub returns-in-Err-clause-err : goal.returns-in-Err-clause-err
-returns-in-Err-clause-err c =
+pub returns-in_err-check_gate-clause-err : goal.returns-in_err-check_gate-clause-err
+returns-in_err-check_gate-clause-err c =
     let g : Gate = get_or c.args.gates.now c.loop-gate.gate-index no_gate in
     let at = slice_get-get_or c.args.gates.now c.loop-gate.gate-index no_gate c.loop-gate-test.true in
     let p = gate_place c.args.library.now c.requires.driven c.args.rows.now c.requires.rows c.args.nets.now c.requires.nets c.args.inputs.now c.requires.inputs c.args.marks.now c.requires.marks
     c.args.gates.now c.requires.gates c.loop-gate.gate-index g at in
-    Refuses-map _ _ c.in-Err.e
-    (λ r e main first. c.loop-gate.invariant main (Some r) first
+    passed_on c.from_residual.result c.in_err-check_gate.field-0.0 _ _ c.from_residual.ensures.1
+    (Unless-map (refusal_of c.in_err-check_gate.field-0.0) _ _
+    (λ e main first. c.loop-gate.invariant main (Some c.in_err-check_gate.field-0.0) first
     (gate_refused c.args.library.now c.requires.driven c.args.rows.now c.requires.rows c.args.nets.now c.requires.nets c.args.inputs.now c.requires.inputs c.args.marks.now c.requires.marks
-    c.args.gates.now c.requires.gates c.loop-gate.gate-index g at r e main))
-    (c.in-Err.ensures p.place p.is)
+    c.args.gates.now c.requires.gates c.loop-gate.gate-index g at c.in_err-check_gate.field-0.0 e main))
+    (c.in_err-check_gate.ensures p.place p.is))
 
 pub loop-gate-preserved : goal.loop-gate-preserved
 loop-gate-preserved c =
@@ -33,7 +36,7 @@ loop-gate-preserved c =
     c.args.gates.now c.requires.gates c.loop-gate.gate-index g at in
     λ main result first d. c.loop-gate.invariant main result first
     (gate_passed c.args.library.now c.requires.driven c.args.rows.now c.requires.rows c.args.nets.now c.requires.nets c.args.inputs.now c.requires.inputs c.args.marks.now c.requires.marks
-    c.args.gates.now c.requires.gates c.loop-gate.gate-index g at (c.in-Ok.ensures p.place p.is) main result d)
+    c.args.gates.now c.requires.gates c.loop-gate.gate-index g at (c.in_ok-check_gate.ensures p.place p.is) main result d)
 
 -- the names that are looked at last are the main model's outputs
 outputs_are : (c : After-check_names) (main : ModelValue) → slice_get c.args.library.now.models 0 ≡ Some main → c.deref.result.now ≡ main.outputs

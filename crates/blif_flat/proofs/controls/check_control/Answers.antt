@@ -1,7 +1,8 @@
 use Rattle.std.proofs.lemmas.Result.{IfOk-weaker, IfErr-weaker}
 use Rattle.blif_flat.specs.ControlSteps.{input_at}
-use Rattle.blif_flat.proofs.WalkStepLemmas.{Refuses-map}
 use Rattle.blif_flat.proofs.ControlStepLemmas.{control_read, control_met, control_refused}
+use Rattle.tl_fault.proofs.OrMemoryLemmas.{Unless-map}
+use Rattle.blif_flat.specs.Refusals.{refusal_of}
 use Rattle.blif_flat.proofs.controls.check_control.Goals as goal
 
 pub returns-in-Some-control-clause-ok : goal.returns-in-Some-control-clause-ok
@@ -14,7 +15,7 @@ returns-in-Some-control-clause-ok c = IfOk-weaker c.meet_control.result _ _
 
 pub returns-in-Some-control-clause-err : goal.returns-in-Some-control-clause-err
 returns-in-Some-control-clause-err c = IfErr-weaker c.meet_control.result _ _
-    (λ e h. Refuses-map _ _ e
-    (λ r s p l at a. control_refused c.args.library.now p c.in-Some.latch.now l (c.in-Some.ensures p at) a c.in-Some-control.control (input_at c.args.inputs.now c.args.first) r c.in-Some-control.is (s p.path at.row))
+    (λ e h. Unless-map (refusal_of e) _ _
+    (λ s p l at a. control_refused c.args.library.now p c.in-Some.latch.now l (c.in-Some.ensures p at) a c.in-Some-control.control (input_at c.args.inputs.now c.args.first) e c.in-Some-control.is (s p.path at.row))
     h)
     c.meet_control.ensures.err

@@ -1,13 +1,15 @@
 use Rattle.std.proofs.Common.{get_or}
 use Rattle.std.proofs.lemmas.Option.{slice_get-get_or}
 use Rattle.blif_flat.specs.declared.gates.Gate.{Gate}
+use Rattle.blif_flat.specs.Refusals.{refusal_of}
 use Rattle.blif_flat.specs.Places.{is_latch}
 use Rattle.blif_flat.specs.InstanceRows.{paths_of}
 use Rattle.blif_flat.specs.InstanceOrder.{places_at}
 use Rattle.blif_flat.specs.ControlSteps.{input_at}
-use Rattle.blif_flat.proofs.WalkStepLemmas.{Refuses-map}
 use Rattle.blif_flat.proofs.GateWalkLemmas.{gate_within}
 use Rattle.blif_flat.proofs.ControlStepLemmas.{gate_passed, gate_refused, all_passed, came_end}
+use Rattle.tl_fault.proofs.OrMemoryLemmas.{Unless-map}
+use Rattle.tl_fault.proofs.PassedOn.{passed_on}
 use Rattle.blif_flat.proofs.controls.check_controls.Goals as goal
 
 abbrev no_gate : Gate
@@ -18,17 +20,18 @@ check_control-requires-clause-here c =
     gate_within c.args.rows.now c.args.latches.now (places_at c.args.library.now is_latch (paths_of c.args.rows.now)) c.requires.latches c.loop-gate.gate-index
     (get_or c.args.latches.now c.loop-gate.gate-index no_gate) (slice_get-get_or c.args.latches.now c.loop-gate.gate-index no_gate c.loop-gate-test.true)
 
-pub returns-in-Err-clause-err : goal.returns-in-Err-clause-err
-returns-in-Err-clause-err c = Refuses-map _ _ c.in-Err.e
-    (λ r h. gate_refused c.args.library.now c.args.rows.now c.requires.rows c.args.latches.now c.requires.latches c.loop-gate.gate-index (input_at c.args.inputs.now c.loop-gate.first) c.loop-gate.invariant.came
-    (get_or c.args.latches.now c.loop-gate.gate-index no_gate) (slice_get-get_or c.args.latches.now c.loop-gate.gate-index no_gate c.loop-gate-test.true) r h)
-    c.in-Err.ensures.err
+pub returns-in_err-first-clause-err : goal.returns-in_err-first-clause-err
+returns-in_err-first-clause-err c = passed_on c.from_residual.result c.in_err-first.field-0.0 _ _ c.from_residual.ensures.1
+    (Unless-map (refusal_of c.in_err-first.field-0.0) _ _
+    (λ h. gate_refused c.args.library.now c.args.rows.now c.requires.rows c.args.latches.now c.requires.latches c.loop-gate.gate-index (input_at c.args.inputs.now c.loop-gate.first) c.loop-gate.invariant.came
+    (get_or c.args.latches.now c.loop-gate.gate-index no_gate) (slice_get-get_or c.args.latches.now c.loop-gate.gate-index no_gate c.loop-gate-test.true) c.in_err-first.field-0.0 h)
+    c.in_err-first.ensures.err)
 
 pub loop-gate-preserved : goal.loop-gate-preserved
 loop-gate-preserved c = record {
-  within = c.in-Ok.ensures.within;
+  within = c.in_ok-first.ensures.within;
   came = gate_passed c.args.library.now c.args.rows.now c.requires.rows c.args.latches.now c.requires.latches c.loop-gate.gate-index (input_at c.args.inputs.now c.loop-gate.first) c.loop-gate.invariant.came
-      (get_or c.args.latches.now c.loop-gate.gate-index no_gate) (slice_get-get_or c.args.latches.now c.loop-gate.gate-index no_gate c.loop-gate-test.true) (input_at c.args.inputs.now c.in-Ok.next) c.in-Ok.ensures.ok;
+      (get_or c.args.latches.now c.loop-gate.gate-index no_gate) (slice_get-get_or c.args.latches.now c.loop-gate.gate-index no_gate c.loop-gate-test.true) (input_at c.args.inputs.now c.in_ok-first.first) c.in_ok-first.ensures.ok;
 }
 
 pub returns-clause-ok : goal.returns-clause-ok

@@ -1,11 +1,13 @@
 use Rattle.std.proofs.Common.{◌≡◌, ◌<◌, ◌∙◌, length, Some, sym, ap, subst}
 use Rattle.std.proofs.lemmas.Option.{same_Some}
 use Rattle.blif_flat.specs.declared.flat.Net.TheVariants.{Input, Latch, Cover}
+use Rattle.blif_flat.specs.Refusals.{refusal_of}
 use Rattle.blif_flat.specs.NetSlots.{table_of}
-use Rattle.blif_flat.proofs.WalkStepLemmas.{Refuses-map}
 use Rattle.blif_flat.proofs.ControlStepLemmas.{none_read, met_input, met_another, met_latch, met_cover, input_within, latch_within, cover_within, kept_within}
 use Rattle.blif_flat.proofs.controls.meet_control.Goals as goal
 use Rattle.blif_flat.proofs.controls.meet_control.Goals.{In-Some-Input, In-Some-Latch, In-Some-Cover}
+use Rattle.tl_fault.proofs.OrMemoryLemmas.{Unless-map}
+use Rattle.tl_fault.proofs.PassedOn.{passed_on}
 
 at_input : (c : In-Some-Input) → table_of c.args.nets.now c.args.row c.args.control.now ≡ Some (Input c.in-Some-Input.j)
 at_input c = ap (table_of c.args.nets.now c.args.row) (sym c.bytes.ensures) ∙ sym c.in-Some-Input.ensures ∙ ap Some c.in-Some-Input.field-0-is
@@ -33,20 +35,21 @@ returns-in-None-clause-ok c = λ path at read.
     absurd (none_read c.args.library.now c.args.rows.now c.requires.rows c.args.nets.now c.requires.nets c.args.row c.args.control.now c.args.inputs.now c.requires.inputs path at c.requires.driven read
     (ap (table_of c.args.nets.now c.args.row) (sym c.bytes.ensures) ∙ sym c.in-None.ensures))
 
-pub returns-in-Ok-clause-ok : goal.returns-in-Ok-clause-ok
-returns-in-Ok-clause-ok c = λ path at read.
-    met_input c.args.library.now c.args.rows.now c.requires.rows c.args.nets.now c.requires.nets c.args.row c.args.control.now c.args.inputs.now c.requires.inputs path at c.args.first c.in-Some-Input.j c.in-Ok.next
-    (at_input (goal.at.returns-in-Ok-clause-ok c).In-Some-Input) c.in-Ok.ensures.ok
+pub returns-in_ok-keep_input-in-Some-Input-clause-ok : goal.returns-in_ok-keep_input-in-Some-Input-clause-ok
+returns-in_ok-keep_input-in-Some-Input-clause-ok c = λ path at read.
+    met_input c.args.library.now c.args.rows.now c.requires.rows c.args.nets.now c.requires.nets c.args.row c.args.control.now c.args.inputs.now c.requires.inputs path at c.args.first c.in-Some-Input.j c.in_ok-keep_input-in-Some-Input.field-0
+    (at_input (goal.at.returns-in_ok-keep_input-in-Some-Input-clause-ok c).In-Some-Input) c.in_ok-keep_input-in-Some-Input.ensures.ok
 
-pub returns-in-Ok-clause-within : goal.returns-in-Ok-clause-within
-returns-in-Ok-clause-within c = λ j e.
-    subst (λ n. n < length c.args.inputs.now) (same_Some c.in-Ok.next j e) (kept_within c.args.inputs.now c.args.first c.in-Some-Input.j c.in-Ok.next c.in-Ok.ensures.ok)
+pub returns-in_ok-keep_input-in-Some-Input-clause-within : goal.returns-in_ok-keep_input-in-Some-Input-clause-within
+returns-in_ok-keep_input-in-Some-Input-clause-within c = λ j e.
+    subst (λ n. n < length c.args.inputs.now) (same_Some c.in_ok-keep_input-in-Some-Input.field-0 j e) (kept_within c.args.inputs.now c.args.first c.in-Some-Input.j c.in_ok-keep_input-in-Some-Input.field-0 c.in_ok-keep_input-in-Some-Input.ensures.ok)
 
-pub returns-in-Err-clause-err : goal.returns-in-Err-clause-err
-returns-in-Err-clause-err c = Refuses-map _ _ c.in-Err.e
-    (λ r s path at. met_another c.args.library.now c.args.rows.now c.requires.rows c.args.nets.now c.requires.nets c.args.row c.args.control.now c.args.inputs.now c.requires.inputs path at c.args.first c.in-Some-Input.j r
-    (at_input (goal.at.returns-in-Err-clause-err c).In-Some-Input) s)
-    c.in-Err.ensures.err
+pub returns-in_err-keep_input-in-Some-Input-clause-err : goal.returns-in_err-keep_input-in-Some-Input-clause-err
+returns-in_err-keep_input-in-Some-Input-clause-err c = passed_on c.from_residual.result c.in_err-keep_input-in-Some-Input.field-0.0 _ _ c.from_residual.ensures.1
+    (Unless-map (refusal_of c.in_err-keep_input-in-Some-Input.field-0.0) _ _
+    (λ s path at. met_another c.args.library.now c.args.rows.now c.requires.rows c.args.nets.now c.requires.nets c.args.row c.args.control.now c.args.inputs.now c.requires.inputs path at c.args.first c.in-Some-Input.j c.in_err-keep_input-in-Some-Input.field-0.0
+    (at_input (goal.at.returns-in_err-keep_input-in-Some-Input-clause-err c).In-Some-Input) s)
+    c.in_err-keep_input-in-Some-Input.ensures.err)
 
 pub returns-in_ok-write_latch-in-Some-Latch-clause-err :
     goal.returns-in_ok-write_latch-in-Some-Latch-clause-err

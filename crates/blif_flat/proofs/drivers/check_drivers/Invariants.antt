@@ -1,7 +1,7 @@
 use Rattle.std.proofs.Common.{◌≡◌, drop}
 use Rattle.blif_flat.specs.DriverFaults.{models_fault}
-use Rattle.blif_flat.specs.DriverSteps.{models_at}
+use Rattle.blif_flat.specs.NumberedModels.{models_at}
 use Rattle.blif_flat.proofs.drivers.check_drivers.Given as goal
 
 abbrev pub invariant-loop-number : goal.invariant-loop-number
-invariant-loop-number l = models_fault l.library (models_at l.library (drop l.number-index l.order)) ≡ models_fault l.library (models_at l.library l.order)
+invariant-loop-number l = models_fault l.library (models_at l.library.models (drop l.number-index l.order)) ≡ models_fault l.library (models_at l.library.models l.order)

@@ -1,5 +1,5 @@
 use Rattle.std.proofs.Common.{◌≡◌, ◌<◌, length, ap, arith}
-use Rattle.blif_flat.proofs.NameSetLemmas.{member_at}
+use Rattle.list_laws.proofs.Items.{member_at}
 use Rattle.blif_flat.proofs.flat_ports.most_of.Goals as goal
 
 pub underscores-requires : goal.underscores-requires

@@ -7,6 +7,7 @@ use Rattle.blif_read.specs.LibraryValue.{ModelValue}
 use Rattle.blif_flat.specs.declared.instances.Instance.{Instance}
 use Rattle.blif_flat.specs.Models.{subckts_of}
 use Rattle.blif_flat.specs.InstanceRows.{Listed, entries_from}
+use Rattle.blif_flat.specs.Weight.{most_weight}
 use Rattle.blif_flat.proofs.InstanceRowLemmas.{listed_begin, listed_pushed, listed_empty, next_popped}
 use Rattle.blif_flat.proofs.instances.instances.Goals as goal
 
@@ -16,7 +17,7 @@ loop-entry-init c = listed_begin c.args.library.now c.new-rows.result.items c.ne
 pub overflow_cast-place : goal.overflow_cast-place
 overflow_cast-place c =
     let n = next_popped c.args.library.now c.loop-entry.rows.items c.loop-entry.stack.items c.pop.new.self.items c.in-Some.entry c.in-Some.ensures.items c.loop-entry.invariant in
-    let room : length c.loop-entry.rows.items < 4194304 = n.room in
+    let room : length c.loop-entry.rows.items < most_weight = n.room in
     let len : vec_len c.loop-entry.rows ≡ length c.loop-entry.rows.items = c.loop-entry.rows.ok.0 in
     let is : c.len-place.result ≡ vec_len c.loop-entry.rows = c.len-place.ensures in
     omega arith
@@ -36,7 +37,7 @@ push_entries-requires-clause-few c m e =
 pub loop-entry-smaller : goal.loop-entry-smaller
 loop-entry-smaller c =
     let n = next_popped c.args.library.now c.loop-entry.rows.items c.loop-entry.stack.items c.pop.new.self.items c.in-Some.entry c.in-Some.ensures.items c.loop-entry.invariant in
-    let room : length c.loop-entry.rows.items < 4194304 = n.room in
+    let room : length c.loop-entry.rows.items < most_weight = n.room in
     let more : length c.push-in-Some.new.self.items ≡ length c.loop-entry.rows.items + 1 = ap length c.in_ok-push-2.ensures.items ∙ length-append c.loop-entry.rows.items (c.in-Some.entry ∷ []) in
     omega arith
 

@@ -1,9 +1,9 @@
 use Rattle.std.proofs.Common.{get_or}
 use Rattle.std.proofs.lemmas.Option.{slice_get-get_or}
+use Rattle.list_laws.proofs.Members.{In-get}
 use Rattle.blif_flat.specs.Places.{is_cover}
 use Rattle.blif_flat.specs.InstanceOrder.{places_at}
 use Rattle.blif_flat.specs.InstanceRows.{paths_of}
-use Rattle.blif_flat.proofs.NameSetLemmas.{at_member}
 use Rattle.blif_flat.proofs.LoopOrderLemmas.{written_start, written_next}
 use Rattle.blif_flat.proofs.loops.written_covers.Goals as goal
 
@@ -12,7 +12,7 @@ loop-number-init c = written_start c.args.library.now (places_at c.args.library.
 
 pub written_cover-requires-clause-here : goal.written_cover-requires-clause-here
 written_cover-requires-clause-here c = c.requires.here (get_or c.args.numbers.now c.loop-number.number-index 0)
-    (at_member c.args.numbers.now c.loop-number.number-index (get_or c.args.numbers.now c.loop-number.number-index 0) (slice_get-get_or c.args.numbers.now c.loop-number.number-index 0 c.loop-number-test.true))
+    (In-get c.args.numbers.now c.loop-number.number-index (get_or c.args.numbers.now c.loop-number.number-index 0) (slice_get-get_or c.args.numbers.now c.loop-number.number-index 0 c.loop-number-test.true))
 
 pub loop-number-preserved : goal.loop-number-preserved
 loop-number-preserved c = written_next c.args.library.now (places_at c.args.library.now is_cover (paths_of c.args.rows.now)) c.args.numbers.now c.loop-number.number-index 0 c.loop-number.texts.items c.push.new.self.items

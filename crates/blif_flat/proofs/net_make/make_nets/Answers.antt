@@ -3,6 +3,7 @@ use Rattle.blif_read.specs.LibraryValue.{LibraryValue}
 use Rattle.blif_flat.specs.InstanceRows.{paths_of}
 use Rattle.blif_flat.specs.NetMade.{AreEmptyNets}
 use Rattle.blif_flat.specs.NetStarts.{distinct_names, starts_from, slot_count}
+use Rattle.blif_flat.specs.Weight.{most_weight}
 use Rattle.blif_flat.proofs.NetStartLemmas.{few_slots, nets_made}
 use Rattle.blif_flat.proofs.net_make.make_nets.Goals as goal
 
@@ -10,7 +11,7 @@ pub row_starts-requires : goal.row_starts-requires
 row_starts-requires c =
     let names : c.deref-2.result.now ≡ map distinct_names c.args.library.now.models =
     c.deref-2.ensures.value ∙ c.in_ok-names.ensures ∙ ap (map distinct_names) (c.deref.ensures.value ∙ ap (λ (l : LibraryValue). l.models) c.library.view_is) in
-    subst (λ ns. slot_count ns c.args.rows.now ≤ 4194304) (sym names) (few_slots c.args.library.now c.requires.light c.args.rows.now c.requires.rows)
+    subst (λ ns. slot_count ns c.args.rows.now ≤ most_weight) (sym names) (few_slots c.args.library.now c.requires.light c.args.rows.now c.requires.rows)
 
 pub returns : goal.returns
 returns c =

@@ -1,4 +1,5 @@
 use Rattle.std.proofs.Common.{◌≡◌, ◌∙◌, subst, sym, ap}
+use Rattle.tl_fault.proofs.PassedOn.{passed_on}
 use Rattle.blif_read.specs.SubcktValue.{SubcktValue}
 use Rattle.blif_flat.specs.Models.{has_name}
 use Rattle.blif_flat.specs.NameSets.{IsModelOf}
@@ -14,18 +15,19 @@ returns-then-is_on_chain-clause-err c =
     on_chain_read c.args.models.now c.args.walk.now c.args.subckt.now.model c.in-Some.n c.is_on_chain.result c.requires.walk found c.is_on_chain.ensures in
     recursive_err c.args.models.now c.args.walk.now c.args.model.now c.args.line c.args.subckt.now c.in-Some.n c.subckt.inside.model c.in_ok-recursive_model-in-Some.field-0 found (sym on ∙ c.if-is_on_chain.true) name c.in_ok-recursive_model-in-Some.ensures
 
-pub returns-in-Ok-clause-ok : goal.returns-in-Ok-clause-ok
-returns-in-Ok-clause-ok c =
+pub returns-in_ok-check_child-in-Some-clause-ok : goal.returns-in_ok-check_child-in-Some-clause-ok
+returns-in_ok-check_child-in-Some-clause-ok c =
     let name : c.subckt.inside.model ≡ c.args.subckt.now.model = ap (λ (s : SubcktValue). s.model) c.subckt.view_is in
     let found : IsModelOf c.args.models.now c.args.subckt.now.model c.in-Some.n = subst (λ x. IsModelOf c.args.models.now x c.in-Some.n) (c.bytes.ensures ∙ name) (c.in-Some.ensures.model c.args.models.now c.requires.index) in
     let on : c.is_on_chain.result ≡ has_name (chain_of c.args.models.now c.args.walk.now.frames) c.args.subckt.now.model =
     on_chain_read c.args.models.now c.args.walk.now c.args.subckt.now.model c.in-Some.n c.is_on_chain.result c.requires.walk found c.is_on_chain.ensures in
-    child_ok c.args.models.now c.args.walk.now c.args.model.now c.args.line c.args.subckt.now c.in-Some.n found (sym on ∙ c.if-is_on_chain.false) c.in-Ok.ensures.ok
+    child_ok c.args.models.now c.args.walk.now c.args.model.now c.args.line c.args.subckt.now c.in-Some.n found (sym on ∙ c.if-is_on_chain.false) c.in_ok-check_child-in-Some.ensures.ok
 
-pub returns-in-Err-clause-err : goal.returns-in-Err-clause-err
-returns-in-Err-clause-err c =
+pub returns-in_err-check_child-in-Some-clause-err : goal.returns-in_err-check_child-in-Some-clause-err
+returns-in_err-check_child-in-Some-clause-err c =
     let name : c.subckt.inside.model ≡ c.args.subckt.now.model = ap (λ (s : SubcktValue). s.model) c.subckt.view_is in
     let found : IsModelOf c.args.models.now c.args.subckt.now.model c.in-Some.n = subst (λ x. IsModelOf c.args.models.now x c.in-Some.n) (c.bytes.ensures ∙ name) (c.in-Some.ensures.model c.args.models.now c.requires.index) in
     let on : c.is_on_chain.result ≡ has_name (chain_of c.args.models.now c.args.walk.now.frames) c.args.subckt.now.model =
     on_chain_read c.args.models.now c.args.walk.now c.args.subckt.now.model c.in-Some.n c.is_on_chain.result c.requires.walk found c.is_on_chain.ensures in
-    child_err c.args.models.now c.args.walk.now c.args.model.now c.args.line c.args.subckt.now c.in-Some.n c.in-Err.error found (sym on ∙ c.if-is_on_chain.false) c.in-Err.ensures.err
+    passed_on c.from_residual-in_err-check_child-in-Some.result c.in_err-check_child-in-Some.field-0.0 _ _ c.from_residual-in_err-check_child-in-Some.ensures.1
+    (child_err c.args.models.now c.args.walk.now c.args.model.now c.args.line c.args.subckt.now c.in-Some.n c.in_err-check_child-in-Some.field-0.0 found (sym on ∙ c.if-is_on_chain.false) c.in_err-check_child-in-Some.ensures.err)

@@ -1,4 +1,4 @@
-use Rattle.blif_flat.proofs.NameSetLemmas.{member_at}
+use Rattle.list_laws.proofs.Items.{member_at}
 use Rattle.blif_flat.proofs.ports.all_ports.Goals as goal
 
 pub make-requires : goal.make-requires

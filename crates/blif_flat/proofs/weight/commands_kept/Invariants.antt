@@ -1,9 +1,10 @@
 use Rattle.std.proofs.Common.{◌≡◌, ◌+◌, ◌≤◌, drop}
 use Rattle.blif_flat.specs.Weighing.{capped, commands_kept}
+use Rattle.blif_flat.specs.Weight.{most_weight}
 use Rattle.blif_flat.proofs.weight.commands_kept.Given as goal
 
 abbrev pub invariant-loop-command : goal.invariant-loop-command
 invariant-loop-command l = record {
   sum : capped (l.total + commands_kept l.index.names l.weights (drop l.command-index l.commands)) ≡ capped (commands_kept l.index.names l.weights l.commands);
-  small : l.total ≤ 4194305;
+  small : l.total ≤ most_weight + 1;
 }

@@ -1,10 +1,10 @@
 use Rattle.std.proofs.Common.{◌≡◌, ◌+◌, ◌≤◌, drop}
-use Rattle.blif_flat.specs.Weight.{commands_weight}
+use Rattle.blif_flat.specs.Weight.{most_weight, commands_weight}
 use Rattle.blif_flat.specs.Weighing.{capped}
 use Rattle.blif_flat.proofs.weight.commands_weight.Given as goal
 
 abbrev pub invariant-loop-command : goal.invariant-loop-command
 invariant-loop-command l = record {
   sum : capped (l.total + commands_weight (drop l.command-index l.commands)) ≡ capped (commands_weight l.commands);
-  small : l.total ≤ 4194305;
+  small : l.total ≤ most_weight + 1;
 }

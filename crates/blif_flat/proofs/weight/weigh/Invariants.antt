@@ -1,5 +1,5 @@
 use Rattle.std.proofs.Common.{◌≡◌, ℕ, length, take}
-use Rattle.list_words.specs.Members.{In}
+use Rattle.list_laws.specs.Members.{In}
 use Rattle.blif_flat.specs.Weighing.{IsKept}
 use Rattle.blif_flat.proofs.weight.weigh.Given as goal
 

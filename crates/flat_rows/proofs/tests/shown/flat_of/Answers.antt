@@ -1,7 +1,7 @@
 use Rattle.std.proofs.Common.{◌≤◌, ◌<◌, ◌+◌, length, arith}
 use Rattle.blif_read.specs.Size.{library_size}
 use Rattle.blif_flat.proofs.SmallLemmas.{small_few, small_short}
-use Rattle.blif_flat.proofs.tests.shown.flat_of.Goals as goal
+use Rattle.flat_rows.proofs.tests.shown.flat_of.Goals as goal
 
 pub flatten-requires-clause-few : goal.flatten-requires-clause-few
 flatten-requires-clause-few g c =

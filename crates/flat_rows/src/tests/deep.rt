@@ -1,6 +1,6 @@
 //! Long chains of models and of covers, and the greatest weight.
 use crate::tests::shown::flat_of;
-use crate::{FlatErr, Net};
+use blif_flat::{FlatErr, Net};
 use itoa::Buffer;
 use std::alloc::{AllocError, Global};
 use std::test::Fail;

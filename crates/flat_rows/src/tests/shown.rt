@@ -1,10 +1,10 @@
 //! What flattening answers for the library of a text, as a text.
-use crate::{Flat, FlatCover, FlatErr, FlatLatch, Names, Net, OutPort, flatten};
+use blif_flat::{Flat, FlatCover, FlatErr, FlatLatch, Net, OutPort, flatten};
 use blif_read::read;
 use itoa::Buffer;
 use std::alloc::{AllocError, Global};
 use std::process::Abort;
-use tl_text::Name;
+use tl_fault::{Details, Name};
 
 // A mark and a number.
 fn put_number(out: &mut Vec<u8>, mark: &[u8], number: u32) -> Result<(), AllocError> {
@@ -113,42 +113,38 @@ fn put_flat(out: &mut Vec<u8>, flat: &Flat) -> Result<(), AllocError> {
     put_number(out, b"|under ", flat.under)
 }
 
-// A code, a model, a line and a name.
-fn put_place(
-    out: &mut Vec<u8>,
-    code: &[u8],
-    model: &Name,
-    line: u32,
-    name: &Name,
-) -> Result<(), AllocError> {
-    put_name(out, code, model)?;
-    put_number(out, b" ", line)?;
-    put_name(out, b" ", name)
-}
-
-// A code and several names.
-fn put_list(out: &mut Vec<u8>, code: &[u8], names: &Names) -> Result<(), AllocError> {
-    put_names(out, code, names.list())
+// The details of a refusal, with a blank before each.
+fn put_details(out: &mut Vec<u8>, details: &Details) -> Result<(), AllocError> {
+    match details {
+        Details::Nothing => Ok(()),
+        Details::Line(line) => put_number(out, b" ", *line),
+        Details::Named(line, name) => {
+            put_number(out, b" ", *line)?;
+            put_name(out, b" ", name)
+        }
+        Details::Located(model, line, name) => {
+            put_name(out, b" ", model)?;
+            put_number(out, b" ", *line)?;
+            put_name(out, b" ", name)
+        }
+        Details::One(name) => put_name(out, b" ", name),
+        Details::Two(first, second) => {
+            put_name(out, b" ", first)?;
+            put_name(out, b" ", second)
+        }
+        Details::Listed(names) => put_names(out, b"", names.list()),
+        Details::Node(node) => put_number(out, b" ", *node),
+    }
 }
 
 // The code of a refusal and its details.
-fn put_refusal(out: &mut Vec<u8>, error: &FlatErr) -> Result<(), AllocError> {
-    match error {
-        FlatErr::UnknownModel(model, line, name) => put_place(out, b"F1 ", model, *line, name),
-        FlatErr::RecursiveModel(names) => put_list(out, b"F2", names),
-        FlatErr::UnknownFormal(model, line, name) => put_place(out, b"F3 ", model, *line, name),
-        FlatErr::Unconnected(model, line, name) => put_place(out, b"F4 ", model, *line, name),
-        FlatErr::TooLarge => out.extend_from_slice(b"L2"),
-        FlatErr::DoublyDriven(model, line, name) => put_place(out, b"F5 ", model, *line, name),
-        FlatErr::Undriven(model, line, name) => put_place(out, b"F6 ", model, *line, name),
-        FlatErr::SecondClock(earlier, name) => {
-            put_name(out, b"F7 ", earlier)?;
-            put_name(out, b" ", name)
+fn put_refusal(out: &mut Vec<u8>, error: FlatErr) -> Result<(), AllocError> {
+    match error.refusal() {
+        None => out.extend_from_slice(b"memory"),
+        Some(refusal) => {
+            out.extend_from_slice(refusal.code.as_bytes())?;
+            put_details(out, &refusal.details)
         }
-        FlatErr::ClockNotInput(name) => put_name(out, b"F8 ", name),
-        FlatErr::ClockAsData(name) => put_name(out, b"F9 ", name),
-        FlatErr::Loop(names) => put_list(out, b"F10", names),
-        FlatErr::Memory => out.extend_from_slice(b"memory"),
     }
 }
 
@@ -165,7 +161,7 @@ fn shown(rt: &impl Abort, alloc: Global, text: &[u8]) -> Result<Vec<u8>, AllocEr
     let mut out = Vec::new(alloc);
     match flat_of(rt, alloc, text) {
         Ok(flat) => put_flat(&mut out, &flat)?,
-        Err(error) => put_refusal(&mut out, &error)?,
+        Err(error) => put_refusal(&mut out, error)?,
     }
     Ok(out)
 }
