@@ -1,5 +1,5 @@
 -- Making rows and covers again, over nodes that extend those that they left, adds nothing and gives the same literals.
-use Rattle.std.proofs.Common.{◌≡◌, ℕ, zero, suc, min, max, List, [], ◌∷◌, ◌++◌, length, refl, ap, ◌∙◌}
+use Rattle.std.proofs.Common.{sym, subst, ◌≡◌, ℕ, zero, suc, min, max, List, [], ◌∷◌, ◌++◌, length, refl, ap, ◌∙◌}
 use Rattle.blif_read.specs.CoverValue.{RowValue, CoverValue}
 use Rattle.blif_read.specs.declared.cell.Cell.{Cell}
 use Rattle.aig_core.specs.declared.lit.Lit.{Lit}
@@ -8,8 +8,9 @@ use Rattle.aig_core.specs.And.{complement, Answer}
 use Rattle.aig_core.proofs.GrowthLemmas.{Extends, Extends-trans, and_again, and_grows}
 use Rattle.aig_build.specs.Balanced.{product_of, front_half, back_half, balanced, balanced_and}
 use Rattle.aig_build.specs.CoverGraph.{row_literals, row_made, Literals, rows_made, cover_made}
+use Rattle.aig_build.specs.RowsOnto.{rows_onto}
 use Rattle.aig_build.proofs.BalancedLemmas.{balanced-grows}
-use Rattle.aig_build.proofs.CoverLemmas.{rows_made-grows}
+use Rattle.aig_build.proofs.CoverLemmas.{rows_onto-grows, rows_alone}
 
 -- of a balanced AND
 pub balanced-again : (first depth : ℕ) (ps qs : List Pair) (lits : List Lit) → Extends (balanced first depth ps lits).pairs qs → balanced first depth qs lits ≡ record { pairs = qs; lit = (balanced first depth ps lits).lit }
@@ -35,19 +36,26 @@ pub row_made-again : (first : ℕ) (ps qs : List Pair) (cells : List Cell) (inpu
 row_made-again first ps qs cells inputs e = balanced-again first (length (row_literals cells inputs)) ps qs (row_literals cells inputs) e
 
 -- of the rows of a cover
-pub rows_made-again : (first : ℕ) (ps qs : List Pair) (lits : List Lit) (rows : List RowValue) (inputs : List Lit) → Extends (rows_made first ps lits rows inputs).pairs qs
-    → rows_made first qs lits rows inputs ≡ record { pairs = qs; lits = (rows_made first ps lits rows inputs).lits }
-rows_made-again first ps qs lits [] inputs e = refl
-rows_made-again first ps qs lits (row ∷ rows) inputs e =
+pub rows_onto-again : (first : ℕ) (ps qs : List Pair) (lits : List Lit) (rows : List RowValue) (inputs : List Lit) → Extends (rows_onto first ps lits rows inputs).pairs qs
+    → rows_onto first qs lits rows inputs ≡ record { pairs = qs; lits = (rows_onto first ps lits rows inputs).lits }
+rows_onto-again first ps qs lits [] inputs e = refl
+rows_onto-again first ps qs lits (row ∷ rows) inputs e =
     let m : Answer = row_made first ps row.cells inputs in
     let more : List Lit = lits ++ record { 0 = complement m.lit } ∷ [] in
-    let em : Extends m.pairs qs = Extends-trans m.pairs (rows_made first m.pairs more rows inputs).pairs qs (rows_made-grows first m.pairs more rows inputs) e in
-    ap (λ (v : Answer). rows_made first v.pairs (lits ++ record { 0 = complement v.lit } ∷ []) rows inputs) (row_made-again first ps qs row.cells inputs em)
-    ∙ rows_made-again first m.pairs qs more rows inputs e
+    let em : Extends m.pairs qs = Extends-trans m.pairs (rows_onto first m.pairs more rows inputs).pairs qs (rows_onto-grows first m.pairs more rows inputs) e in
+    ap (λ (v : Answer). rows_onto first v.pairs (lits ++ record { 0 = complement v.lit } ∷ []) rows inputs) (row_made-again first ps qs row.cells inputs em)
+    ∙ rows_onto-again first m.pairs qs more rows inputs e
+
+pub rows_made-again : (first : ℕ) (ps qs : List Pair) (rows : List RowValue) (inputs : List Lit) → Extends (rows_made first ps rows inputs).pairs qs
+    → rows_made first qs rows inputs ≡ record { pairs = qs; lits = (rows_made first ps rows inputs).lits }
+rows_made-again first ps qs rows inputs e =
+    sym (rows_alone first qs rows inputs)
+    ∙ rows_onto-again first ps qs [] rows inputs (subst (λ (ls : Literals). Extends ls.pairs qs) (sym (rows_alone first ps rows inputs)) e)
+    ∙ ap (λ (ls : Literals). record { pairs = qs; lits = ls.lits }) (rows_alone first ps rows inputs)
 
 -- of a cover
 pub cover_made-again : (first : ℕ) (ps qs : List Pair) (cover : CoverValue) (inputs : List Lit) → Extends (cover_made first ps cover inputs).pairs qs → cover_made first qs cover inputs ≡ record { pairs = qs; lit = (cover_made first ps cover inputs).lit }
 cover_made-again first ps qs cover inputs e =
-    let rows : Literals = rows_made first ps [] cover.rows inputs in
+    let rows : Literals = rows_made first ps cover.rows inputs in
     let er : Extends rows.pairs qs = Extends-trans rows.pairs (balanced_and first rows.pairs rows.lits).pairs qs (balanced-grows first (length rows.lits) rows.pairs rows.lits) e in
-    rw (rows_made-again first ps qs [] cover.rows inputs er, balanced-again first (length rows.lits) rows.pairs qs rows.lits e) refl
+    rw (rows_made-again first ps qs cover.rows inputs er, balanced-again first (length rows.lits) rows.pairs qs rows.lits e) refl

@@ -8,7 +8,8 @@ use Rattle.aig_core.specs.declared.lit.Lit.{Lit}
 use Rattle.aig_core.specs.declared.lit.Pair.{Pair}
 use Rattle.aig_core.specs.Aig.{Aig, AreNormal, IsLit, first_and}
 use Rattle.aig_core.specs.And.{Answer, and_of, with_pairs}
-use Rattle.aig_core.specs.Value.{value_of, values_from}
+use Rattle.aig_core.specs.Value.{value_of}
+use Rattle.aig_core.proofs.ValueLemmas.{values_from}
 use Rattle.aig_core.proofs.GrowthLemmas.{Extends, Extends-refl, Extends-trans, and_grows}
 use Rattle.aig_core.proofs.ProductLemmas.{AreBase, Makes, Makes-and, Makes-literal, Makes-one, value_of-more, product}
 use Rattle.aig_build.specs.Balanced.{product_of, front_half, back_half, balanced, balanced_and}

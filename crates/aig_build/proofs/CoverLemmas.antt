@@ -1,8 +1,9 @@
 -- The nodes of rows and covers: their values are those that the definitions of a row and of a cover give.
-use Rattle.std.proofs.Common.{◌≡◌, ℕ, ◌+◌, ◌*◌, ◌<◌, ◌≤◌, Bool, true, false, not, ◌&&◌, ◌||◌, cond, suc, List, [], ◌∷◌, ◌++◌, length, map, drop, get_or, refl, sym, ap, ◌∙◌, add-one, arith}
+use Rattle.std.proofs.Common.{◌≡◌, ℕ, ◌+◌, ◌*◌, ◌<◌, ◌≤◌, Bool, true, false, not, ◌&&◌, ◌||◌, cond, suc, List, [], ◌∷◌, ◌++◌, length, map, drop, get_or, refl, sym, ap, ◌∙◌, subst, append-nil, append_assoc, add-one, arith}
 use Rattle.std.proofs.Math.Seq.{drop-cons}
 use Rattle.std.specs.List.{All}
 use Rattle.std.proofs.lemmas.List.Elements.{All-nil, All-cons, All-head, All-tail, All-append, All-push}
+use Rattle.list_laws.proofs.Places.{drop_past}
 use Rattle.blif_read.specs.declared.cell.Cell.{Cell}
 use Rattle.blif_read.specs.declared.cell.Cell.TheVariants.{Zero, One, Any}
 use Rattle.blif_read.specs.CoverValue.{RowValue, CoverValue, allows, matches, some_row, cover_value}
@@ -10,11 +11,13 @@ use Rattle.aig_core.specs.declared.lit.Lit.{Lit}
 use Rattle.aig_core.specs.declared.lit.Pair.{Pair}
 use Rattle.aig_core.specs.Aig.{Aig, IsLit, AreNormal, first_and}
 use Rattle.aig_core.specs.And.{complement, Answer, with_pairs}
-use Rattle.aig_core.specs.Value.{value_of, values_from, KeepsValues}
+use Rattle.aig_core.specs.Value.{value_of, KeepsValues}
+use Rattle.aig_core.proofs.ValueLemmas.{values_from, values_of}
 use Rattle.aig_core.proofs.GrowthLemmas.{Extends, Extends-refl, Extends-trans}
-use Rattle.aig_core.proofs.ProductLemmas.{AreBase, AreBase-sources, Makes, Makes-complement, Makes-weaker, value_of-more, value_of-complement, complement-below, not-not, KeepsValues-Extends}
+use Rattle.aig_core.proofs.ProductLemmas.{AreBase, AreBase-sources, Makes, Makes-complement, Makes-weaker, value_of-more, value_of-complement, complement-below, not-not, KeepsValues-Extends, Makes-fits}
 use Rattle.aig_build.specs.Balanced.{balanced_and}
 use Rattle.aig_build.specs.CoverGraph.{flipped, cell_literals, row_literals, row_made, Literals, rows_made, cover_made, cover_of, HasCoverValue}
+use Rattle.aig_build.specs.RowsOnto.{rows_onto}
 use Rattle.aig_build.proofs.BalancedLemmas.{balanced-grows, all_true, all_true-append, IsBelow, AreBelow, length-Extends, AreBelow-more, all_true-more, Makes-balanced}
 
 -- the values of the inputs under the values of the nodes
@@ -32,13 +35,14 @@ all_true-cell One input values = and_true (value_of values input.0)
 all_true-cell Zero input values = and_true (value_of values (complement input.0)) ∙ value_of-complement values input.0
 
 -- the literals of a row are all 1 exactly where it matches
-all_true-row : (cells : List Cell) (inputs : List Lit) (values : List Bool) → all_true (row_literals cells inputs) values ≡ matches cells (values_at inputs values)
-all_true-row [] inputs values = refl
-all_true-row (cell ∷ cells) [] values = refl
-all_true-row (cell ∷ cells) (input ∷ inputs) values =
+all_true-row : (cells : List Cell) (inputs : List Lit) (values : List Bool) → length cells ≡ length inputs → all_true (row_literals cells inputs) values ≡ matches cells (values_at inputs values)
+all_true-row [] [] values width = refl
+all_true-row [] (input ∷ inputs) values width = absurd (omega arith)
+all_true-row (cell ∷ cells) [] values width = absurd (omega arith)
+all_true-row (cell ∷ cells) (input ∷ inputs) values width =
     all_true-append (cell_literals cell input) (row_literals cells inputs) values
     ∙ ap (λ b. b && all_true (row_literals cells inputs) values) (all_true-cell cell input values)
-    ∙ ap (λ b. allows cell (value_of values input.0) && b) (all_true-row cells inputs values)
+    ∙ ap (λ b. allows cell (value_of values input.0) && b) (all_true-row cells inputs values (omega arith))
 
 -- they are literals of the nodes so far, as the inputs are
 AreBelow-cell : (first : ℕ) (ps : List Pair) (cell : Cell) (input : Lit) → IsBelow first ps input → AreBelow first ps (cell_literals cell input)
@@ -55,9 +59,9 @@ AreBelow-row first ps (cell ∷ cells) (input ∷ inputs) below =
     (AreBelow-row first ps cells inputs (All-tail (IsBelow first ps) input inputs below))
 
 -- a row's literal is 1 exactly where the row matches
-pub Makes-row : (first : ℕ) (ps : List Pair) (cells : List Cell) (inputs : List Lit) → AreNormal first ps → 1 ≤ first → AreBelow first ps inputs → Makes first ps (λ values. matches cells (values_at inputs values)) (row_made first ps cells inputs)
-Makes-row first ps cells inputs normal some below =
-    Makes-weaker first ps (all_true (row_literals cells inputs)) (λ values. matches cells (values_at inputs values)) (row_made first ps cells inputs) (λ values. all_true-row cells inputs values)
+pub Makes-row : (first : ℕ) (ps : List Pair) (cells : List Cell) (inputs : List Lit) → AreNormal first ps → 1 ≤ first → AreBelow first ps inputs → length cells ≡ length inputs → Makes first ps (λ values. matches cells (values_at inputs values)) (row_made first ps cells inputs)
+Makes-row first ps cells inputs normal some below width =
+    Makes-weaker first ps (all_true (row_literals cells inputs)) (λ values. matches cells (values_at inputs values)) (row_made first ps cells inputs) (λ values. all_true-row cells inputs values width)
     (Makes-balanced first (length (row_literals cells inputs)) ps (row_literals cells inputs) normal some (AreBelow-row first ps cells inputs below) (omega arith))
 
 -- more nodes don't change the inputs' values
@@ -76,6 +80,10 @@ pub record MakesAll (first : ℕ) (ps : List Pair) (meaning : List Bool → Bool
   pub below : AreBelow first made.pairs made.lits
   pub value : (vs : List Bool) → AreBase first vs → all_true made.lits (values_from vs made.pairs) ≡ meaning (values_from vs ps)
 
+-- each row has a cell for each input
+abbrev pub HaveWidth : List Lit → List RowValue → Type 0
+HaveWidth inputs rows = All (λ (row : RowValue). length row.cells ≡ length inputs) rows
+
 -- the rows so far don't match, nor does this one, nor a later one
 join_rows : (a b c : Bool) → ((a && (not b && true)) && not c) ≡ (a && not (b || c))
 join_rows true true c = refl
@@ -87,19 +95,19 @@ join_none true = refl
 join_none false = refl
 
 -- the literals of the rows are all 1 exactly where those before them are and no row matches
-pub MakesAll-rows : (first : ℕ) (ps : List Pair) (lits : List Lit) (rows : List RowValue) (inputs : List Lit) → AreNormal first ps → 1 ≤ first → AreBelow first ps inputs → AreBelow first ps lits
-    → MakesAll first ps (λ values. all_true lits values && not (some_row rows (values_at inputs values))) (rows_made first ps lits rows inputs)
-MakesAll-rows first ps lits [] inputs normal some below lits_below = record { grows = Extends-refl ps; normal = normal; below = lits_below; value = λ vs base. join_none (all_true lits (values_from vs ps)) }
-MakesAll-rows first ps lits (row ∷ rows) inputs normal some below lits_below =
+pub MakesAll-rows : (first : ℕ) (ps : List Pair) (lits : List Lit) (rows : List RowValue) (inputs : List Lit) → AreNormal first ps → 1 ≤ first → AreBelow first ps inputs → AreBelow first ps lits → HaveWidth inputs rows
+    → MakesAll first ps (λ values. all_true lits values && not (some_row rows (values_at inputs values))) (rows_onto first ps lits rows inputs)
+MakesAll-rows first ps lits [] inputs normal some below lits_below widths = record { grows = Extends-refl ps; normal = normal; below = lits_below; value = λ vs base. join_none (all_true lits (values_from vs ps)) }
+MakesAll-rows first ps lits (row ∷ rows) inputs normal some below lits_below widths =
     let made : Answer = row_made first ps row.cells inputs in
-    let m : Makes first ps (λ values. matches row.cells (values_at inputs values)) made = Makes-row first ps row.cells inputs normal some below in
+    let m : Makes first ps (λ values. matches row.cells (values_at inputs values)) made = Makes-row first ps row.cells inputs normal some below (All-head (λ (r : RowValue). length r.cells ≡ length inputs) row rows widths) in
     let c : Makes first ps (λ values. not (matches row.cells (values_at inputs values))) (record { pairs = made.pairs; lit = complement made.lit }) = Makes-complement first ps (λ values. matches row.cells (values_at inputs values)) made m in
     let lit : Lit = record { 0 = complement made.lit } in
     let more : AreBelow first made.pairs (lits ++ lit ∷ []) = All-push (IsBelow first made.pairs) lits lit (AreBelow-more first ps made.pairs lits m.grows lits_below) c.below in
-    let r : MakesAll first made.pairs (λ values. all_true (lits ++ lit ∷ []) values && not (some_row rows (values_at inputs values))) (rows_made first made.pairs (lits ++ lit ∷ []) rows inputs) =
-    MakesAll-rows first made.pairs (lits ++ lit ∷ []) rows inputs m.normal some (AreBelow-more first ps made.pairs inputs m.grows below) more in
+    let r : MakesAll first made.pairs (λ values. all_true (lits ++ lit ∷ []) values && not (some_row rows (values_at inputs values))) (rows_onto first made.pairs (lits ++ lit ∷ []) rows inputs) =
+    MakesAll-rows first made.pairs (lits ++ lit ∷ []) rows inputs m.normal some (AreBelow-more first ps made.pairs inputs m.grows below) more (All-tail (λ (r : RowValue). length r.cells ≡ length inputs) row rows widths) in
     record {
-      grows = Extends-trans ps made.pairs (rows_made first made.pairs (lits ++ lit ∷ []) rows inputs).pairs m.grows r.grows;
+      grows = Extends-trans ps made.pairs (rows_onto first made.pairs (lits ++ lit ∷ []) rows inputs).pairs m.grows r.grows;
       normal = r.normal;
       below = r.below;
       value = λ vs base.
@@ -114,17 +122,36 @@ MakesAll-rows first ps lits (row ∷ rows) inputs normal some below lits_below =
     }
 
 -- the nodes of a list of rows are more than those before
-pub rows_made-grows : (first : ℕ) (ps : List Pair) (lits : List Lit) (rows : List RowValue) (inputs : List Lit) → Extends ps (rows_made first ps lits rows inputs).pairs
-rows_made-grows first ps lits [] inputs = Extends-refl ps
-rows_made-grows first ps lits (row ∷ rows) inputs =
+pub rows_onto-grows : (first : ℕ) (ps : List Pair) (lits : List Lit) (rows : List RowValue) (inputs : List Lit) → Extends ps (rows_onto first ps lits rows inputs).pairs
+rows_onto-grows first ps lits [] inputs = Extends-refl ps
+rows_onto-grows first ps lits (row ∷ rows) inputs =
     let made : Answer = row_made first ps row.cells inputs in
-    Extends-trans ps made.pairs (rows_made first ps lits (row ∷ rows) inputs).pairs (balanced-grows first (length (row_literals row.cells inputs)) ps (row_literals row.cells inputs))
-    (rows_made-grows first made.pairs (lits ++ record { 0 = complement made.lit } ∷ []) rows inputs)
+    Extends-trans ps made.pairs (rows_onto first ps lits (row ∷ rows) inputs).pairs (balanced-grows first (length (row_literals row.cells inputs)) ps (row_literals row.cells inputs))
+    (rows_onto-grows first made.pairs (lits ++ record { 0 = complement made.lit } ∷ []) rows inputs)
+
+-- the rows behind no literals are the rows
+rows_behind : (first : ℕ) (ps : List Pair) (lits : List Lit) (rows : List RowValue) (inputs : List Lit)
+    → rows_onto first ps lits rows inputs ≡ record { pairs = (rows_made first ps rows inputs).pairs; lits = lits ++ (rows_made first ps rows inputs).lits }
+rows_behind first ps lits [] inputs = ap (λ (ls : List Lit). record { pairs = ps; lits = ls }) (sym (append-nil lits))
+rows_behind first ps lits (row ∷ rows) inputs =
+    let made : Answer = row_made first ps row.cells inputs in
+    let others : Literals = rows_made first made.pairs rows inputs in
+    rows_behind first made.pairs (lits ++ record { 0 = complement made.lit } ∷ []) rows inputs
+    ∙ ap (λ (ls : List Lit). record { pairs = others.pairs; lits = ls }) (append_assoc lits (record { 0 = complement made.lit } ∷ []) others.lits)
+
+pub rows_alone : (first : ℕ) (ps : List Pair) (rows : List RowValue) (inputs : List Lit) → rows_onto first ps [] rows inputs ≡ rows_made first ps rows inputs
+rows_alone first ps rows inputs = rows_behind first ps [] rows inputs
+
+-- after the last row
+pub rows_done : (first : ℕ) (ps : List Pair) (next : ℕ) (qs : List Pair) (lits : List Lit) (rows : List RowValue) (inputs : List Lit) (i : ℕ) → length rows ≤ i
+    → rows_onto next qs lits (drop i rows) inputs ≡ rows_onto first ps [] rows inputs → record { pairs = qs; lits = lits } ≡ rows_made first ps rows inputs
+rows_done first ps next qs lits rows inputs i past e = sym (ap (λ rs. rows_onto next qs lits rs inputs) (drop_past rows i past)) ∙ e ∙ rows_alone first ps rows inputs
 
 pub cover_made-grows : (first : ℕ) (ps : List Pair) (cover : CoverValue) (inputs : List Lit) → Extends ps (cover_made first ps cover inputs).pairs
 cover_made-grows first ps cover inputs =
-    let rows : Literals = rows_made first ps [] cover.rows inputs in
-    Extends-trans ps rows.pairs (cover_made first ps cover inputs).pairs (rows_made-grows first ps [] cover.rows inputs) (balanced-grows first (length rows.lits) rows.pairs rows.lits)
+    let rows : Literals = rows_made first ps cover.rows inputs in
+    let grows : Extends ps rows.pairs = subst (λ (ls : Literals). Extends ps ls.pairs) (rows_alone first ps cover.rows inputs) (rows_onto-grows first ps [] cover.rows inputs) in
+    Extends-trans ps rows.pairs (cover_made first ps cover inputs).pairs grows (balanced-grows first (length rows.lits) rows.pairs rows.lits)
 
 -- the cover's literal from that of "no row matches"
 in_phase : (value none row : Bool) → none ≡ not row → cond value (not none) (not (not none)) ≡ cond value row (not row)
@@ -140,11 +167,13 @@ value_of-phase vs true lit = value_of-complement vs lit
 value_of-phase vs false lit = value_of-complement vs (complement lit) ∙ ap not (value_of-complement vs lit)
 
 -- a cover's literal has the cover's value
-pub Makes-cover : (first : ℕ) (ps : List Pair) (cover : CoverValue) (inputs : List Lit) → AreNormal first ps → 1 ≤ first → AreBelow first ps inputs → Makes first ps (λ values. cover_value cover (values_at inputs values)) (cover_made first ps cover inputs)
-Makes-cover first ps cover inputs normal some below =
-    let rows : Literals = rows_made first ps [] cover.rows inputs in
+pub Makes-cover : (first : ℕ) (ps : List Pair) (cover : CoverValue) (inputs : List Lit) → AreNormal first ps → 1 ≤ first → AreBelow first ps inputs → HaveWidth inputs cover.rows → Makes first ps (λ values. cover_value cover (values_at inputs values)) (cover_made first ps cover inputs)
+Makes-cover first ps cover inputs normal some below widths =
+    let rows : Literals = rows_made first ps cover.rows inputs in
     let none : Answer = balanced_and first rows.pairs rows.lits in
-    let r : MakesAll first ps (λ values. true && not (some_row cover.rows (values_at inputs values))) rows = MakesAll-rows first ps [] cover.rows inputs normal some below (All-nil (IsBelow first ps)) in
+    let r : MakesAll first ps (λ values. true && not (some_row cover.rows (values_at inputs values))) rows =
+    subst (λ (ls : Literals). MakesAll first ps (λ values. true && not (some_row cover.rows (values_at inputs values))) ls) (rows_alone first ps cover.rows inputs)
+    (MakesAll-rows first ps [] cover.rows inputs normal some below (All-nil (IsBelow first ps)) widths) in
     let m : Makes first rows.pairs (all_true rows.lits) none = Makes-balanced first (length rows.lits) rows.pairs rows.lits r.normal some r.below (omega arith) in
     record {
       grows = Extends-trans ps rows.pairs none.pairs r.grows m.grows;
@@ -156,41 +185,46 @@ Makes-cover first ps cover inputs normal some below =
     }
 
 -- as said of graphs: the value,
-pub HasCoverValue-cover_of : (g : Aig) (cover : CoverValue) (inputs : List Lit) → AreNormal (first_and g) g.pairs → All (λ (input : Lit). IsLit g input.0) inputs → HasCoverValue g cover inputs (with_pairs g (cover_of g cover inputs).pairs) (cover_of g cover inputs).lit
-HasCoverValue-cover_of g cover inputs normal below = record { value = λ sources n. (Makes-cover (first_and g) g.pairs cover inputs normal (omega arith) below).value (false ∷ sources) (AreBase-sources sources (length g.kinds) n) }
-
--- that it is a literal of the new graph,
-pub IsLit-cover_of : (g : Aig) (cover : CoverValue) (inputs : List Lit) → AreNormal (first_and g) g.pairs → All (λ (input : Lit). IsLit g input.0) inputs → IsLit (with_pairs g (cover_of g cover inputs).pairs) (cover_of g cover inputs).lit
-IsLit-cover_of g cover inputs normal below = (Makes-cover (first_and g) g.pairs cover inputs normal (omega arith) below).below
+pub HasCoverValue-cover_of : (g : Aig) (cover : CoverValue) (inputs : List Lit) → AreNormal (first_and g) g.pairs → All (λ (input : Lit). IsLit g input.0) inputs → HaveWidth inputs cover.rows
+    → HasCoverValue (with_pairs g (cover_of g cover inputs).pairs) cover inputs (cover_of g cover inputs).lit
+HasCoverValue-cover_of g cover inputs normal below widths =
+    let makes : Makes (first_and g) g.pairs (λ values. cover_value cover (values_at inputs values)) (cover_of g cover inputs) = Makes-cover (first_and g) g.pairs cover inputs normal (omega arith) below widths in
+    record {
+      value = λ sources values fits.
+          let m = Makes-fits g (λ values. cover_value cover (values_at inputs values)) (cover_of g cover inputs) sources values makes fits in
+          let same : values_at inputs (values_of g sources) ≡ values_at inputs values =
+          sym (values_at-more (first_and g) g.pairs (cover_of g cover inputs).pairs inputs (false ∷ sources) makes.grows below (AreBase-sources sources (length g.kinds) fits.given)) ∙ ap (values_at inputs) (sym m.1) in
+          m.0 ∙ ap (cover_value cover) same;
+    }
 
 -- and that older literals keep their values
-pub KeepsValues-cover_of : (g : Aig) (cover : CoverValue) (inputs : List Lit) → KeepsValues g (with_pairs g (cover_of g cover inputs).pairs)
-KeepsValues-cover_of g cover inputs = KeepsValues-Extends g (cover_of g cover inputs).pairs (cover_made-grows (first_and g) g.pairs cover inputs)
+pub KeepsValues-cover_of : (g : Aig) (cover : CoverValue) (inputs : List Lit) → AreNormal (first_and g) g.pairs → KeepsValues g (with_pairs g (cover_of g cover inputs).pairs)
+KeepsValues-cover_of g cover inputs normal = KeepsValues-Extends g (cover_of g cover inputs).pairs normal (cover_made-grows (first_and g) g.pairs cover inputs)
 
 -- a loop over the rows, at one more row
-rows_made-drop : (first : ℕ) (ps : List Pair) (lits : List Lit) (rows : List RowValue) (inputs : List Lit) (i : ℕ) (row : RowValue) → i < length rows → row ≡ get_or rows i row
-    → rows_made first ps lits (drop i rows) inputs ≡ rows_made first ps lits (row ∷ drop (i + 1) rows) inputs
-rows_made-drop first ps lits rows inputs i row l e =
-    ap (λ rs. rows_made first ps lits rs inputs) (drop-cons rows i row l ∙ ap (λ r. r ∷ drop (suc i) rows) (sym e) ∙ ap (λ n. row ∷ drop n rows) (sym (add-one i)))
+rows_onto-drop : (first : ℕ) (ps : List Pair) (lits : List Lit) (rows : List RowValue) (inputs : List Lit) (i : ℕ) (row : RowValue) → i < length rows → row ≡ get_or rows i row
+    → rows_onto first ps lits (drop i rows) inputs ≡ rows_onto first ps lits (row ∷ drop (i + 1) rows) inputs
+rows_onto-drop first ps lits rows inputs i row l e =
+    ap (λ rs. rows_onto first ps lits rs inputs) (drop-cons rows i row l ∙ ap (λ r. r ∷ drop (suc i) rows) (sym e) ∙ ap (λ n. row ∷ drop n rows) (sym (add-one i)))
 
-pub rows_made-next : (g0 g1 : Aig) (lits : List Lit) (rows : List RowValue) (inputs : List Lit) (i : ℕ) (row : RowValue) (made : ℕ) (new : Lit) → i < length rows → row ≡ get_or rows i row
+pub rows_onto-next : (g0 g1 : Aig) (lits : List Lit) (rows : List RowValue) (inputs : List Lit) (i : ℕ) (row : RowValue) (made : ℕ) (new : Lit) → i < length rows → row ≡ get_or rows i row
     → g1 ≡ with_pairs g0 (row_made (first_and g0) g0.pairs row.cells inputs).pairs → made ≡ (row_made (first_and g0) g0.pairs row.cells inputs).lit → new.0 ≡ complement made
-    → rows_made (first_and g1) g1.pairs (lits ++ new ∷ []) (drop (i + 1) rows) inputs ≡ rows_made (first_and g0) g0.pairs lits (drop i rows) inputs
-rows_made-next g0 g1 lits rows inputs i row made new l e eg em en =
+    → rows_onto (first_and g1) g1.pairs (lits ++ new ∷ []) (drop (i + 1) rows) inputs ≡ rows_onto (first_and g0) g0.pairs lits (drop i rows) inputs
+rows_onto-next g0 g1 lits rows inputs i row made new l e eg em en =
     let m : Answer = row_made (first_and g0) g0.pairs row.cells inputs in
     let is : new ≡ record { 0 = complement m.lit } = ap (λ n. let lit : Lit = record { 0 = n } in lit) (en ∙ ap complement em) in
-    ap (λ (h : Aig). rows_made (first_and h) h.pairs (lits ++ new ∷ []) (drop (i + 1) rows) inputs) eg
-    ∙ ap (λ (lit : Lit). rows_made (first_and g0) m.pairs (lits ++ lit ∷ []) (drop (i + 1) rows) inputs) is
-    ∙ sym (rows_made-drop (first_and g0) g0.pairs lits rows inputs i row l e)
+    ap (λ (h : Aig). rows_onto (first_and h) h.pairs (lits ++ new ∷ []) (drop (i + 1) rows) inputs) eg
+    ∙ ap (λ (lit : Lit). rows_onto (first_and g0) m.pairs (lits ++ lit ∷ []) (drop (i + 1) rows) inputs) is
+    ∙ sym (rows_onto-drop (first_and g0) g0.pairs lits rows inputs i row l e)
 
 -- a row has no more nodes than all rows
-pub rows_made-row_length : (first : ℕ) (ps : List Pair) (lits : List Lit) (rows : List RowValue) (inputs : List Lit) (i : ℕ) (row : RowValue) → i < length rows → row ≡ get_or rows i row
-    → length (row_made first ps row.cells inputs).pairs ≤ length (rows_made first ps lits (drop i rows) inputs).pairs
-rows_made-row_length first ps lits rows inputs i row l e =
+pub rows_onto-row_length : (first : ℕ) (ps : List Pair) (lits : List Lit) (rows : List RowValue) (inputs : List Lit) (i : ℕ) (row : RowValue) → i < length rows → row ≡ get_or rows i row
+    → length (row_made first ps row.cells inputs).pairs ≤ length (rows_onto first ps lits (drop i rows) inputs).pairs
+rows_onto-row_length first ps lits rows inputs i row l e =
     let m : Answer = row_made first ps row.cells inputs in
-    rw (rows_made-drop first ps lits rows inputs i row l e)
-    (length-Extends m.pairs (rows_made first m.pairs (lits ++ record { 0 = complement m.lit } ∷ []) (drop (i + 1) rows) inputs).pairs
-    (rows_made-grows first m.pairs (lits ++ record { 0 = complement m.lit } ∷ []) (drop (i + 1) rows) inputs))
+    rw (rows_onto-drop first ps lits rows inputs i row l e)
+    (length-Extends m.pairs (rows_onto first m.pairs (lits ++ record { 0 = complement m.lit } ∷ []) (drop (i + 1) rows) inputs).pairs
+    (rows_onto-grows first m.pairs (lits ++ record { 0 = complement m.lit } ∷ []) (drop (i + 1) rows) inputs))
 
 -- the literals so far and a new one, after a row
 pub AreLits-next : (g0 g1 : Aig) (ps : List Pair) (lits : List Lit) (made : ℕ) (new : Lit) → Extends g0.pairs ps → g1 ≡ with_pairs g0 ps → All (λ (lit : Lit). IsLit g0 lit.0) lits → IsLit g1 made → new.0 ≡ complement made

@@ -59,10 +59,10 @@ fn make_rows(
 ) -> Result<Vec<Lit>, AigErr>
     requires cells { All (λ (row : RowValue). length row.cells ≡ length inputs.now) rows.now }
     requires members { All (λ (input : Lit). IsLit graph.old input.0) inputs.now }
-    ensures lits { IfOk result (λ lits. lits.items ≡ (rows_made (first_and graph.old) graph.old.pairs [] rows.now inputs.now).lits) }
-    ensures pairs { OnOk result (graph.new ≡ with_pairs graph.old (rows_made (first_and graph.old) graph.old.pairs [] rows.now inputs.now).pairs) }
+    ensures lits { IfOk result (λ lits. lits.items ≡ (rows_made (first_and graph.old) graph.old.pairs rows.now inputs.now).lits) }
+    ensures pairs { OnOk result (graph.new ≡ with_pairs graph.old (rows_made (first_and graph.old) graph.old.pairs rows.now inputs.now).pairs) }
     ensures are_lits { IfOk result (λ lits. All (λ (lit : Lit). IsLit graph.new lit.0) lits.items) }
-    ensures full { result ≡ Err AigErr.Full → graph.old.max < length (rows_made (first_and graph.old) graph.old.pairs [] rows.now inputs.now).pairs }
+    ensures full { result ≡ Err AigErr.Full → graph.old.max < length (rows_made (first_and graph.old) graph.old.pairs rows.now inputs.now).pairs }
 {
     let mut lits = Vec::with_capacity(alloc, rows.len())?;
     for row in rows {
@@ -94,7 +94,7 @@ pub fn make_cover(
 
     // What this means: the literal has the cover's value, while all others keep theirs.
     ensures is_lit { IfOk result (λ made. IsLit made.0 made.1.0) }
-    ensures value { IfOk result (λ made. HasCoverValue graph cover.now inputs.now made.0 made.1.0) }
+    ensures value { IfOk result (λ made. HasCoverValue made.0 cover.now inputs.now made.1.0) }
     ensures kept { IfOk result (λ made. KeepsValues graph made.0) }
 {
     let rows = make_rows(alloc, &mut graph, &cover.rows, inputs)?;

@@ -17,3 +17,6 @@ mod cover;
 mod tests;
 
 pub use cover::make_cover;
+
+/// The most AND nodes that the graph of a netlist may have.
+pub const MOST_NODES: u32 = 131_072;

@@ -1,16 +1,17 @@
-use Rattle.std.proofs.Common.{◌≡◌, ℕ, zero, suc, ◌+◌, ◌/◌, ◌<◌, Bool, true, false, eqb, ltb, List, [], ◌∷◌, ◌++◌, length, get_or, Option, Some, None, refl, sym, ap, ◌∙◌, arith, length-append, append_assoc, append-nil}
-use Rattle.std.specs.List.{slice_get, position, position_or_len}
-use Rattle.std.proofs.lemmas.Option.{none-some, slice_get-get_or}
+-- The pairs of a graph only grow, and a product that was made stays made.
+use Rattle.std.proofs.Common.{◌≡◌, ℕ, ◌+◌, ◌/◌, ◌<◌, Bool, true, eqb, List, [], ◌∷◌, ◌++◌, length, get_or, Option, Some, None, refl, sym, ap, ◌∙◌, arith, length-append, append_assoc, append-nil}
+use Rattle.std.specs.List.{slice_get, position}
+use Rattle.std.proofs.lemmas.Option.{slice_get-get_or}
 use Rattle.std.proofs.lemmas.List.Quantifiers.{position-Some}
-use Rattle.std.proofs.lemmas.List.Sums.{position_or_len_is}
 use Rattle.std.proofs.Math.ListN.{get_or-append}
 use Rattle.std.proofs.Math.Seq.{get_or-append_seam}
-use Rattle.std.proofs.lemmas.Bool.{lt-ltb, cond-true, and_from, eq-eqb}
+use Rattle.std.proofs.lemmas.Bool.{and_from, eq-eqb}
 use Rattle.aig_core.specs.declared.lit.Pair.{Pair}
 use Rattle.aig_core.specs.Aig.{AreNormal}
 use Rattle.aig_core.specs.And.{is_pair, Answer, and_in_order, found_or_new}
-use Rattle.list_words.proofs.Choice.{choose_one, choose_both}
-use Rattle.aig_core.proofs.Keeping.{fails_everywhere}
+use Rattle.list_laws.proofs.Choice.{choose_one, choose_both}
+use Rattle.list_laws.proofs.FirstPlace.{fails_everywhere, position_is}
+use Rattle.list_laws.proofs.Places.{get_left}
 
 -- qs are ps and maybe more
 pub record Extends (ps qs : List Pair) : Type 0 where
@@ -23,12 +24,6 @@ Extends-refl ps = record { more = []; is = sym (append-nil ps) }
 pub Extends-trans : (ps qs rs : List Pair) → Extends ps qs → Extends qs rs → Extends ps rs
 Extends-trans ps qs rs a b = record { more = a.more ++ b.more; is = b.is ∙ ap (λ l. l ++ b.more) a.is ∙ append_assoc ps a.more b.more }
 
--- the first place that passes
-position_is : (test : Pair → Bool) (xs : List Pair) (i : ℕ) (d : Pair) → i < length xs → ((k : ℕ) → k < i → test (get_or xs k d) ≡ false) → test (get_or xs i d) ≡ true → position test xs ≡ Some i
-position_is test xs i d l before here =
-    let e : position_or_len test xs ≡ i = position_or_len_is test xs i d (omega arith) before (λ _. here) in
-    cond-true (ltb (position_or_len test xs) (length xs)) (Some (position_or_len test xs)) None (lt-ltb (position_or_len test xs) (length xs) (omega arith)) ∙ ap (λ n. Some n) e
-
 -- a place that is found stays found
 found_stays : (test : Pair → Bool) (ps qs : List Pair) (i : ℕ) (d : Pair) → Extends ps qs → position test ps ≡ Some i → position test qs ≡ Some i
 found_stays test ps qs i d e at =
@@ -36,8 +31,8 @@ found_stays test ps qs i d e at =
     let n : length (ps ++ e.more) ≡ length ps + length e.more = length-append ps e.more in
     let same : (k : ℕ) → k < length ps → get_or (ps ++ e.more) k d ≡ get_or ps k d = λ k l. get_or-append ps e.more d k l in
     ap (λ l. position test l) e.is
-    ∙ position_is test (ps ++ e.more) i d (let l : i < length ps = h.0 in omega arith)
-    (λ k l. rw (same k (let m : i < length ps = h.0 in omega arith)) (h.2 k l)) (rw (same i h.0) h.1)
+    ∙ position_is test (ps ++ e.more) i d (let l : i < length ps = h.0 in omega arith) (rw (same i h.0) h.1)
+    (λ k l. rw (same k (let m : i < length ps = h.0 in omega arith)) (h.2 k l))
 
 -- a new pair is found where it was put
 new_found : (test : Pair → Bool) (ps qs : List Pair) (p : Pair) → Extends (ps ++ p ∷ []) qs → position test ps ≡ None → test p ≡ true → position test qs ≡ Some (length ps)
@@ -45,9 +40,8 @@ new_found test ps qs p e none here =
     let regroup : qs ≡ ps ++ (p ∷ e.more) = e.is ∙ append_assoc ps (p ∷ []) e.more in
     let n : length (ps ++ (p ∷ e.more)) ≡ length ps + length (p ∷ e.more) = length-append ps (p ∷ e.more) in
     ap (λ l. position test l) regroup
-    ∙ position_is test (ps ++ (p ∷ e.more)) (length ps) p (omega arith)
+    ∙ position_is test (ps ++ (p ∷ e.more)) (length ps) p (omega arith) (rw (get_or-append_seam ps p e.more p) here)
     (λ k l. rw (get_or-append ps (p ∷ e.more) p k l) (fails_everywhere test ps k (get_or ps k p) none (slice_get-get_or ps k p l)))
-    (rw (get_or-append_seam ps p e.more p) here)
 
 pair_here : (x y : ℕ) → is_pair x y (record { x = record { 0 = x }; y = record { 0 = y } }) ≡ true
 pair_here x y = and_from (eqb x x) (eqb y y) (eq-eqb x x refl) (eq-eqb y y refl)
@@ -82,13 +76,8 @@ and_grows first ps x y =
     (choose_one P (eqb (x / 2) (y / 2)) _ _ (Extends-refl ps)
     (new_grows first ps x y (position (is_pair x y) ps)))))
 
-slice_get-append_left : {A : Type 0} (xs ys : List A) (i : ℕ) (x : A) → slice_get xs i ≡ Some x → slice_get (xs ++ ys) i ≡ Some x
-slice_get-append_left [] ys i x h = absurd (none-some x h)
-slice_get-append_left (y ∷ xs) ys zero x h = h
-slice_get-append_left (y ∷ xs) ys (suc i) x h = slice_get-append_left xs ys i x h
-
 -- the first of some normal pairs are normal
 pub AreNormal-front : (first : ℕ) (ps qs : List Pair) → Extends ps qs → AreNormal first qs → AreNormal first ps
 AreNormal-front first ps qs e are =
-    let stays : (i : ℕ) (p : Pair) → slice_get ps i ≡ Some p → slice_get qs i ≡ Some p = λ i p h. rw e.is (slice_get-append_left ps e.more i p h) in
+    let stays : (i : ℕ) (p : Pair) → slice_get ps i ≡ Some p → slice_get qs i ≡ Some p = λ i p h. rw e.is (get_left ps e.more i p h) in
     record { each = λ i p h. are.each i p (stays i p h); once = λ i j p h k. are.once i j p (stays i p h) (stays j p k) }

@@ -1,4 +1,6 @@
-pub mod Keeping
-pub mod ValueLemmas
+pub mod FitLemmas
 pub mod GrowthLemmas
+pub mod Keeping
 pub mod ProductLemmas
+pub mod ValueExample
+pub mod ValueLemmas

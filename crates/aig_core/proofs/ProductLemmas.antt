@@ -5,13 +5,14 @@ use Rattle.std.proofs.lemmas.Option.{slice_get-get_or}
 use Rattle.std.proofs.lemmas.List.{get_or_push}
 use Rattle.std.proofs.lemmas.List.Quantifiers.{position-Some}
 use Rattle.std.proofs.lemmas.Bool.{eqb-true, eqb-false, and_parts, cases_lt}
-use Rattle.list_words.proofs.Choice.{choose}
+use Rattle.list_laws.proofs.Choice.{choose}
 use Rattle.aig_core.specs.declared.lit.Pair.{Pair}
 use Rattle.aig_core.specs.Aig.{Aig, IsLit, IsNormal, AreNormal, first_and}
 use Rattle.aig_core.specs.And.{complement, is_pair, Answer, and_in_order, found_or_new, and_of, with_pairs}
-use Rattle.aig_core.specs.Value.{xor, value_of, values_from, IsProduct, KeepsValues}
+use Rattle.aig_core.specs.Value.{xor, value_of, FitsGraph, IsProduct, KeepsValues}
 use Rattle.aig_core.proofs.Keeping.{AreNormal-push}
-use Rattle.aig_core.proofs.ValueLemmas.{value_of_old, values_node, values_old}
+use Rattle.aig_core.proofs.FitLemmas.{is_values_of, fits_front}
+use Rattle.aig_core.proofs.ValueLemmas.{value_of_old, values_from, values_node, values_of, values_old, length-values_from}
 use Rattle.aig_core.proofs.GrowthLemmas.{Extends, Extends-refl, and_grows}
 
 -- the values of the constant and the sources: as many as stand before the first AND node, the constant being 0
@@ -23,13 +24,6 @@ pub record AreBase (first : ℕ) (vs : List Bool) : Type 0 where
 pub values_from-append : (vs : List Bool) (ps more : List Pair) → values_from vs (ps ++ more) ≡ values_from (values_from vs ps) more
 values_from-append vs [] more = refl
 values_from-append vs (p ∷ ps) more = values_from-append (vs ++ (value_of vs p.x.0 && value_of vs p.y.0) ∷ []) ps more
-
--- one value a pair
-pub length-values_from : (vs : List Bool) (ps : List Pair) → length (values_from vs ps) ≡ length vs + length ps
-length-values_from vs [] = omega arith
-length-values_from vs (p ∷ ps) =
-    let v : Bool = value_of vs p.x.0 && value_of vs p.y.0 in
-    omega (arith, length-values_from (vs ++ v ∷ []) ps, length-append vs (v ∷ []))
 
 -- more pairs change no older literal's value
 pub value_of-more : (vs : List Bool) (ps qs : List Pair) (lit : ℕ) → Extends ps qs → lit / 2 < length vs + length ps → value_of (values_from vs qs) lit ≡ value_of (values_from vs ps) lit
@@ -228,18 +222,37 @@ Makes-complement first ps meaning made makes = record {
 pub AreBase-sources : (sources : List Bool) (n : ℕ) → length sources ≡ n → AreBase (1 + n) (false ∷ sources)
 AreBase-sources sources n e = record { count = omega arith; constant = refl }
 
--- an answer made over a graph's pairs, as said of graphs
-pub KeepsValues-Extends : (g : Aig) (ps : List Pair) → Extends g.pairs ps → KeepsValues g (with_pairs g ps)
-KeepsValues-Extends g ps e = record { same = λ sources n lit is. value_of-more (false ∷ sources) g.pairs ps lit e (omega arith) }
+-- an answer made over a graph's pairs, as said of graphs: its literal's value under values that fit the new graph
+pub Makes-fits : (g : Aig) (meaning : List Bool → Bool) (made : Answer) (sources values : List Bool) → Makes (first_and g) g.pairs meaning made → FitsGraph (with_pairs g made.pairs) sources values
+    → (value_of values made.lit ≡ meaning (values_of g sources)) × (values ≡ values_from (false ∷ sources) made.pairs)
+Makes-fits g meaning made sources values makes fits =
+    let e : values ≡ values_from (false ∷ sources) made.pairs = is_values_of (with_pairs g made.pairs) sources values makes.normal fits in
+    (ap (λ vs. value_of vs made.lit) e ∙ makes.value (false ∷ sources) (AreBase-sources sources (length g.kinds) fits.given), e)
+
+-- older literals have the same values in both
+pub value_of-fits : (g : Aig) (ps : List Pair) (sources values : List Bool) (lit : ℕ) → Extends g.pairs ps → length sources ≡ length g.kinds → values ≡ values_from (false ∷ sources) ps → IsLit g lit → value_of (values_of g sources) lit ≡ value_of values lit
+value_of-fits g ps sources values lit e n is below = sym (value_of-more (false ∷ sources) g.pairs ps lit e (omega arith)) ∙ ap (λ vs. value_of vs lit) (sym is)
+
+-- more AND nodes change no older value
+pub KeepsValues-Extends : (g : Aig) (ps : List Pair) → AreNormal (first_and g) g.pairs → Extends g.pairs ps → KeepsValues g (with_pairs g ps)
+KeepsValues-Extends g ps normal e = record { front = λ sources values fits. fits_front g ps sources values normal e fits }
 
 -- `and` gives the product
-pub IsProduct-and_of : (g : Aig) (a b : ℕ) → AreNormal (first_and g) g.pairs → IsLit g a → IsLit g b → IsProduct g a b (with_pairs g (and_of g a b).pairs) (and_of g a b).lit
-IsProduct-and_of g a b normal la lb = record { value = λ sources n. (Makes-and (first_and g) g.pairs a b normal (omega arith) la lb).value (false ∷ sources) (AreBase-sources sources (length g.kinds) n) }
+pub IsProduct-and_of : (g : Aig) (a b : ℕ) → AreNormal (first_and g) g.pairs → IsLit g a → IsLit g b → IsProduct (with_pairs g (and_of g a b).pairs) a b (and_of g a b).lit
+IsProduct-and_of g a b normal la lb =
+    let makes : Makes (first_and g) g.pairs (product a b) (and_of g a b) = Makes-and (first_and g) g.pairs a b normal (omega arith) la lb in
+    record {
+      value = λ sources values fits.
+          let m = Makes-fits g (product a b) (and_of g a b) sources values makes fits in
+          m.0
+          ∙ ap (λ v. v && value_of (values_of g sources) b) (value_of-fits g (and_of g a b).pairs sources values a makes.grows fits.given m.1 la)
+          ∙ ap (λ v. value_of values a && v) (value_of-fits g (and_of g a b).pairs sources values b makes.grows fits.given m.1 lb);
+    }
 
 -- its answer is a literal of the new graph
 pub IsLit-and_of : (g : Aig) (a b : ℕ) → AreNormal (first_and g) g.pairs → IsLit g a → IsLit g b → IsLit (with_pairs g (and_of g a b).pairs) (and_of g a b).lit
 IsLit-and_of g a b normal la lb = (Makes-and (first_and g) g.pairs a b normal (omega arith) la lb).below
 
 -- and older literals keep their values
-pub KeepsValues-and_of : (g : Aig) (a b : ℕ) → KeepsValues g (with_pairs g (and_of g a b).pairs)
-KeepsValues-and_of g a b = KeepsValues-Extends g (and_of g a b).pairs (and_grows (first_and g) g.pairs (min a b) (max a b))
+pub KeepsValues-and_of : (g : Aig) (a b : ℕ) → AreNormal (first_and g) g.pairs → KeepsValues g (with_pairs g (and_of g a b).pairs)
+KeepsValues-and_of g a b normal = KeepsValues-Extends g (and_of g a b).pairs normal (and_grows (first_and g) g.pairs (min a b) (max a b))

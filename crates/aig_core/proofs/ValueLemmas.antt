@@ -1,10 +1,21 @@
-use Rattle.std.proofs.Common.{◌≡◌, ℕ, zero, suc, ◌+◌, ◌/◌, ◌%◌, ◌<◌, Bool, false, ◌&&◌, eqb, List, [], ◌∷◌, ◌++◌, length, get_or, Some, refl, sym, ap, ◌∙◌, subst, arith, length-append}
+-- The values of all nodes of a graph, computed in order.
+use Rattle.std.proofs.Common.{◌≡◌, ℕ, zero, suc, ◌+◌, ◌/◌, ◌<◌, Bool, false, ◌&&◌, List, [], ◌∷◌, ◌++◌, length, get_or, Some, refl, sym, ap, ◌∙◌, subst, arith, length-append}
 use Rattle.std.specs.List.{slice_get}
 use Rattle.std.proofs.lemmas.Option.{none-some, same_Some}
 use Rattle.std.proofs.lemmas.List.{get_or_push}
 use Rattle.std.proofs.Math.ListN.{get_or-append}
 use Rattle.aig_core.specs.declared.lit.Pair.{Pair}
-use Rattle.aig_core.specs.Value.{xor, value_of, values_from}
+use Rattle.aig_core.specs.Aig.{Aig}
+use Rattle.aig_core.specs.Value.{in_phase, value_of}
+
+-- the values of some nodes and those of the AND nodes behind them, in order
+abbrev pub values_from : List Bool → List Pair → List Bool
+values_from values [] = values
+values_from values (p ∷ ps) = values_from (values ++ (value_of values p.x.0 && value_of values p.y.0) ∷ []) ps
+
+-- the values of all nodes of a graph in order
+abbrev pub values_of : Aig → List Bool → List Bool
+values_of g sources = values_from (false ∷ sources) g.pairs
 
 -- the values so far stay
 pub values_old : (vs : List Bool) (ps : List Pair) (i : ℕ) → i < length vs → get_or (values_from vs ps) i false ≡ get_or vs i false
@@ -15,7 +26,7 @@ values_old vs (p ∷ ps) i l =
     values_old (vs ++ v ∷ []) ps i m ∙ get_or-append vs (v ∷ []) false i l
 
 pub value_of_old : (vs : List Bool) (ps : List Pair) (lit : ℕ) → lit / 2 < length vs → value_of (values_from vs ps) lit ≡ value_of vs lit
-value_of_old vs ps lit l = ap (λ b. xor b (eqb (lit % 2) 1)) (values_old vs ps (lit / 2) l)
+value_of_old vs ps lit l = ap (in_phase lit) (values_old vs ps (lit / 2) l)
 
 -- the value of a node is the product of its literals' values
 pub values_node : (vs : List Bool) (ps : List Pair) (i : ℕ) (p : Pair) → slice_get ps i ≡ Some p → p.x.0 / 2 < length vs + i → p.y.0 / 2 < length vs + i
@@ -37,3 +48,10 @@ values_node vs (q ∷ qs) (suc i) p at x y =
     let n : length (vs ++ v ∷ []) ≡ length vs + 1 = length-append vs (v ∷ []) in
     let s : length vs + suc i ≡ length (vs ++ v ∷ []) + i = omega arith in
     rw s (values_node (vs ++ v ∷ []) qs i p at (omega arith) (omega arith))
+
+-- one value a pair
+pub length-values_from : (vs : List Bool) (ps : List Pair) → length (values_from vs ps) ≡ length vs + length ps
+length-values_from vs [] = omega arith
+length-values_from vs (p ∷ ps) =
+    let v : Bool = value_of vs p.x.0 && value_of vs p.y.0 in
+    omega (arith, length-values_from (vs ++ v ∷ []) ps, length-append vs (v ∷ []))

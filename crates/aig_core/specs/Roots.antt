@@ -1,6 +1,6 @@
 -- The roots of a graph: its outputs, and the next states of its latches.
 use Rattle.std.specs.Prelude.{ℕ, List, ◌++◌, map}
-use Rattle.list_words.specs.Members.{In}
+use Rattle.list_laws.specs.Members.{In}
 use Rattle.aig_core.specs.declared.lit.Lit.{Lit}
 use Rattle.aig_core.specs.Aig.{Aig, IsLit}
 

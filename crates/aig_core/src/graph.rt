@@ -1,5 +1,5 @@
 //! The graph: a vector of pairs, and a hashed index beside it.
-ghost use Rattle.std.specs.Prelude.{◌≡◌, ℕ, ◌+◌, ◌-◌, ◌*◌, ◌/◌, ◌^◌, ◌<◌, ◌≤◌, ◌↔◌, [], ◌∷◌, ◌++◌, length, Some, None, slice_get, vec_len, IfOk, OnErr, OnOk, position};
+ghost use Rattle.std.specs.Prelude.{◌≡◌, ℕ, ◌+◌, ◌-◌, ◌*◌, ◌/◌, ◌^◌, ◌<◌, ◌≤◌, ◌↔◌, [], ◌∷◌, ◌++◌, length, Bool, List, Some, None, slice_get, vec_len, IfOk, OnErr, OnOk, position};
 ghost use Rattle.aig_core.specs.And.{is_pair};
 
 use crate::lit::{Kind, Lit, Pair, lit_value};
@@ -87,7 +87,7 @@ impl From<AllocError> for AigErr {
 impl Graph {
     ghost use Rattle.aig_core.specs.Aig.{IsNormal, Aig, AreNormal, IsLit, IsAnd, first_and, node_count, pair_of};
     ghost use Rattle.aig_core.specs.And.{and_in_order, and_of, with_pairs};
-    ghost use Rattle.aig_core.specs.Value.{values_of, IsProduct, KeepsValues};
+    ghost use Rattle.aig_core.specs.Value.{FitsGraph, HasOneFit, IsProduct, KeepsValues};
 
     /// A graph with these sources and no AND node, for at most `max` AND nodes.
     ///
@@ -105,9 +105,12 @@ impl Graph {
     }
 
     /// How many sources there are: they have the indices from 1 on.
+    ///
+    /// It also tells that the graph is normal, as every graph is.
     pub fn sources(&self) -> u32
         ensures count { result ≡ length self.now.kinds }
         ensures small { result < 2 ^ 30 }
+        ensures normal { AreNormal (first_and self.now) self.now.pairs }
     {
         self.kinds.len() as u32
     }
@@ -148,7 +151,7 @@ impl Graph {
 
         // What this means: a literal of the graph whose value is the product, while all others keep theirs.
         ensures is_lit { IfOk result (λ lit. IsLit self.new lit.0) }
-        ensures product { IfOk result (λ lit. IsProduct self.old a.0 b.0 self.new lit.0) }
+        ensures product { IfOk result (λ lit. IsProduct self.new a.0 b.0 lit.0) }
         ensures kept { KeepsValues self.old self.new }
     {
         let lit = self.and_in_order(a.0.min(b.0), a.0.max(b.0))?;
@@ -211,7 +214,19 @@ impl Graph {
     /// `Err` comes only for want of memory.
     pub fn eval(&self, alloc: Global, sources: &[bool]) -> Result<Vec<bool>, AllocError>
         requires { length sources.now ≡ length self.now.kinds }
-        ensures { IfOk result (λ values. values.items ≡ values_of self.now sources.now) }
+        ensures fits { IfOk result (λ values. FitsGraph self.now sources.now values.items) }
+
+        // Under any values of the sources, one list of values fits, and no other.
+        ensures one { (given : List Bool) → length given ≡ length self.now.kinds → HasOneFit self.now given }
+    {
+        self.node_values(alloc, sources)
+    }
+
+    // The values in the order of the indices.
+    fn node_values(&self, alloc: Global, sources: &[bool]) -> Result<Vec<bool>, AllocError>
+        requires { length sources.now ≡ length self.now.kinds }
+        ensures fits { IfOk result (λ values. FitsGraph self.now sources.now values.items) }
+        ensures normal { AreNormal (first_and self.now) self.now.pairs }
     {
         let mut values = Vec::with_capacity(alloc, 1 + self.kinds.len() + self.pairs.len())?;
         values.push(false)?;

@@ -11,9 +11,11 @@
 //! below it and neither the constant, in ascending order; no pair stands twice; the hashed index that finds the node
 //! of a pair has the same pairs as the vector, in the same order.
 //!
-//! `specs/Aig.antt` has the graph, `specs/And.antt` the product of two literals, and `specs/Value.antt` their values.
-//! `proofs/ProductLemmas.antt` shows that the product has the value of an AND, and `proofs/GrowthLemmas.antt` that
-//! making it again adds nothing.
+//! `specs/Aig.antt` has the graph, and `specs/And.antt` the product of two literals. `specs/Value.antt` has the values of
+//! the nodes, as a relation: a list of values *fits* a graph where the constant is 0, each source has its value, and each
+//! AND node is the product of its two literals' values. Under any values of the sources one list fits, and no other.
+//! `proofs/ProductLemmas.antt` shows that the product has the value of an AND, `proofs/GrowthLemmas.antt` that making it
+//! again adds nothing, and `proofs/ValueExample.antt` works out a multiplexer.
 #![tactic(auto)]
 
 mod graph;

@@ -1,39 +1,34 @@
--- The values of a graph's literals fit the tables of a mapping under the configuration from scratch, and a mapping can be played.
+-- The values of a graph's literals fit the tables of a mapping under the configuration, and a mapping can be played.
 use Rattle.std.proofs.Common.{◌≡◌, ℕ, zero, suc, ◌+◌, ◌-◌, ◌*◌, ◌/◌, ◌%◌, ◌^◌, ◌<◌, ◌≤◌, Bool, true, false, eqb, leb, List, [], ◌∷◌, ◌++◌, length, get_or, refl, sym, ap, ◌∙◌, subst, inl, inr, ◌⊎◌, arith, length-append}
 use Rattle.std.proofs.Math.ListN.{get_or-append}
-use Rattle.std.proofs.lemmas.List.{length-map, get_or-map}
+use Rattle.std.proofs.lemmas.List.{length-map, get_or-map, get_or-append-add}
 use Rattle.std.proofs.lemmas.Bool.{leb-true, leb-false, and_from, eq-eqb}
-use Rattle.list_words.specs.Members.{In}
-use Rattle.list_words.specs.Digits.{number}
-use Rattle.list_words.proofs.Choice.{choose}
-use Rattle.list_words.proofs.Digits.{number-small, digit-number}
+use Rattle.list_laws.specs.Members.{In}
+use Rattle.list_laws.specs.Digits.{number}
+use Rattle.list_laws.proofs.Choice.{choose}
+use Rattle.list_laws.proofs.Digits.{number-small, digit-number}
 use Rattle.aig_core.specs.declared.lit.Kind.TheVariants.{Regular}
-use Rattle.aig_core.specs.Aig.{Aig, first_and, IsAnd, IsSource}
-use Rattle.aig_core.specs.Value.{xor, value_of, values_of}
+use Rattle.aig_core.specs.Aig.{Aig, first_and, AreNormal, IsAnd, IsSource}
+use Rattle.aig_core.specs.Value.{xor, node_value, value_of, FitsGraph}
 use Rattle.aig_core.specs.Roots.{lits_of}
-use Rattle.cut_enum.specs.Cuts.{Blocks, member, constant, parameter}
 use Rattle.cover_pick.specs.declared.lut.Lut.{Lut}
 use Rattle.cover_pick.specs.Template.{TemplateValue}
-use Rattle.cover_pick.specs.Mapping.{IsMapping, IsTableOf, source, free, node, IsPlain, HasLut}
+use Rattle.cover_pick.specs.Mapping.{IsMapping, IsTableOf, source, free, node, IsPlain, HasLut, bits_of}
 use Rattle.lut_sim.specs.declared.shape.Shape.{Shape}
 use Rattle.lut_sim.specs.Sources.{is_regular, is_plain, last_source, source_value}
-use Rattle.lut_sim.specs.Cycle.{leaf_values}
+use Rattle.lut_sim.specs.Cycle.{leaf_values, address}
 use Rattle.lut_sim.specs.Playable.{IsPlayable, HasValue}
 use Rattle.lut_sim.proofs.RoomLemmas.{regular_within}
 use Rattle.lut_sim.proofs.SourceLemmas.{IsInputOrLatch, input, latch, either_side}
-use Rattle.bit_fun.specs.BitFunction.{in_phase}
-use Rattle.bit_fun.specs.Configuration.{conf}
+use Rattle.bit_fun.specs.Parameters.{param_count}
+use Rattle.bit_fun.specs.BitFunction.{NodeBit, IsBit}
+use Rattle.bit_fun.specs.Configuration.{IsMapped, IsConfiguration}
 use Rattle.bit_fun.specs.Shape.{HasShape, AreSourceValues}
 use Rattle.bit_fun.specs.Lawful.{IsLawful}
-use Rattle.bit_fun.proofs.ConeLemmas.{node_value, AreDigits, cone_is_value, source_value as node_of_source}
-use Rattle.bit_fun.proofs.ConfLemmas.{conf_at, past_first}
-
--- the leaves of a table block its node
-table_blocks : (g : Aig) (k : ℕ) (t : Lut) → IsTableOf g k t → Blocks g t.leaves (t.lit.0 / 2)
-table_blocks g k t (source s odd e) = member (subst (λ c. In c (t.lit.0 / 2)) (sym e) (inl refl))
-table_blocks g k t (free (inl z) e) = constant z
-table_blocks g k t (free (inr p) e) = parameter p
-table_blocks g k t (node a c) = c.blocks
+use Rattle.bit_fun.proofs.AddressLemmas.{base_room}
+use Rattle.bit_fun.proofs.BitLemmas.{AreDigits, fits_bit}
+use Rattle.bit_fun.proofs.ConfigurationLemmas.{table_blocks, bits_agree}
+use Rattle.bit_fun.proofs.ParamLemmas.{HaveParams, HaveParams-shape}
 
 -- exclusive or with 0 leaves a bit as it is
 xor-false : (b : Bool) → xor b false ≡ b
@@ -41,11 +36,11 @@ xor-false true = refl
 xor-false false = refl
 
 -- a positive literal has its node's value
-positive_value : (g : Aig) (sources : List Bool) (m : ℕ) → value_of (values_of g sources) (2 * m) ≡ node_value g sources m
-positive_value g sources m =
+positive_value : (values : List Bool) (m : ℕ) → value_of values (2 * m) ≡ node_value values m
+positive_value values m =
     let e : (2 * m) % 2 ≡ 0 = omega arith in
     let h : (2 * m) / 2 ≡ m = omega arith in
-    ap (λ p. xor (node_value g sources ((2 * m) / 2)) (eqb p 1)) e ∙ xor-false (node_value g sources ((2 * m) / 2)) ∙ ap (node_value g sources) h
+    ap (λ p. xor (node_value values ((2 * m) / 2)) (eqb p 1)) e ∙ xor-false (node_value values ((2 * m) / 2)) ∙ ap (node_value values) h
 
 -- the value of a regular source among those of all sources
 regular_value : (shape : Shape) (inputs params states : List Bool) (n : ℕ) → length inputs ≡ shape.regular → length params ≡ shape.params → IsInputOrLatch shape n
@@ -58,58 +53,65 @@ regular_value shape inputs params states n li lp (latch low high) =
     let i : ℕ = n - 1 - (shape.regular + shape.params) in
     let e : n - 1 ≡ length inputs + (length params + i) = omega arith in
     ap (λ m. get_or (inputs ++ (params ++ states)) m false) e
-    ∙ past_first inputs (params ++ states) (length params + i)
-    ∙ past_first params states i
+    ∙ get_or-append-add inputs (params ++ states) (length params + i) false
+    ∙ get_or-append-add params states i false
     ∙ choose (λ b. get_or states i false ≡ b) (leb n shape.regular) (get_or inputs (n - 1) false) (get_or states i false)
     (λ here. absurd (let c : n ≤ shape.regular = leb-true n shape.regular here in omega arith)) (λ _. refl)
 
--- a list of source values, at a place past the constant
-after_constant : (xs : List Bool) (n : ℕ) → 1 ≤ n → get_or (false ∷ xs) n false ≡ get_or xs (n - 1) false
-after_constant xs zero h = absurd (omega arith)
-after_constant xs (suc n) h = ap (λ m. get_or xs m false) (let e : n ≡ suc n - 1 = omega arith in e)
-
--- a value for each source of the shape
-all_len : (shape : Shape) (inputs params states sources : List Bool) → AreSourceValues shape inputs params states sources → length sources ≡ last_source shape
-all_len shape inputs params states sources a =
-    let e : length sources ≡ length (inputs ++ (params ++ states)) = ap length a.all in
-    let f : length (inputs ++ (params ++ states)) ≡ length inputs + length (params ++ states) = length-append inputs (params ++ states) in
-    let h : length (params ++ states) ≡ length params + length states = length-append params states in
-    let i : length inputs ≡ shape.regular = a.inputs_len in
-    let p : length params ≡ shape.params = a.params_len in
-    let s : length states ≡ shape.latches = a.states_len in omega arith
-
 -- the values of a table's leaves are those of their nodes
-leaf_digits : (g : Aig) (sources : List Bool) (leaves : List ℕ) → AreDigits g sources leaves (number (leaf_values (value_of (values_of g sources)) leaves))
-leaf_digits g sources leaves = record {
+leaf_digits : (values : List Bool) (leaves : List ℕ) → AreDigits values leaves (number (leaf_values (value_of values) leaves))
+leaf_digits values leaves = record {
   each = λ j h.
-      digit-number (leaf_values (value_of (values_of g sources)) leaves) j (rw (length-map leaves (λ m. value_of (values_of g sources) (2 * m))) h)
-      ∙ get_or-map (λ m. value_of (values_of g sources) (2 * m)) leaves j 0 false h
-      ∙ positive_value g sources (get_or leaves j 0);
+      digit-number (leaf_values (value_of values) leaves) j (rw (length-map leaves (λ m. value_of values (2 * m))) h)
+      ∙ get_or-map (λ m. value_of values (2 * m)) leaves j 0 false h
+      ∙ positive_value values (get_or leaves j 0);
 }
+
+-- the bit at the address of the leaves' values is the table's literal's value
+table_value : (g : Aig) (k : ℕ) (luts : List Lut) (params sources values : List Bool) (t : Lut) → FitsGraph g sources values → HaveParams g params sources → length params ≡ param_count g.kinds → In luts t → IsTableOf g k t
+    → IsBit g luts params (address (value_of values) t) (value_of values t.lit.0)
+table_value g k luts params sources values t fits have len i is =
+    let v : ℕ = number (leaf_values (value_of values) t.leaves) in
+    let small : v < 2 ^ length (leaf_values (value_of values) t.leaves) = number-small (leaf_values (value_of values) t.leaves) in
+    let below : v < 2 ^ length t.leaves = subst (λ n. v < 2 ^ n) (length-map t.leaves (λ m. value_of values (2 * m))) small in
+    let e : v ≡ t.base + v - t.base = omega arith in
+    record {
+      table = t;
+      in' = i;
+      from = omega arith;
+      before = omega arith;
+      value = node_value values (t.lit.0 / 2);
+      by = subst (λ m. NodeBit g params t.leaves m (t.lit.0 / 2) (node_value values (t.lit.0 / 2))) e
+          (fits_bit g params t.leaves v sources values (t.lit.0 / 2) fits have len (leaf_digits values t.leaves) (table_blocks g k t is));
+      is = refl;
+    }
 
 -- the law
-pub conf_lawful : (g : Aig) (given : List Bool) (luts : List Lut) → IsLawful g given luts (conf g given luts)
-conf_lawful g given luts k roots bits shape inputs params states sources normal mapping has values agree = record {
+pub configuration_lawful : (g : Aig) (luts : List Lut) (params config : List Bool) → AreNormal (first_and g) g.pairs → IsMapped g luts → length params ≡ param_count g.kinds → IsConfiguration g luts params config → IsLawful g luts params config
+configuration_lawful g luts params config normal m len is shape inputs states sources values has all fits = record {
   source = λ n r.
       let side : IsInputOrLatch shape n = either_side shape n r in
-      let is : IsSource g Regular n = has.to_regular n r in
-      let above : 1 ≤ n = is.above in
+      let above : 1 ≤ n = (has.to_regular n r).above in
       let within : n ≤ last_source shape = regular_within shape n r in
-      let all : length sources ≡ last_source shape = all_len shape inputs params states sources values in
       let count : length g.kinds ≡ last_source shape = has.count in
-      positive_value g sources n
-      ∙ node_of_source g sources n (all ∙ sym count) (omega arith)
-      ∙ after_constant sources n above
-      ∙ ap (λ xs. get_or xs (n - 1) false) values.all
-      ∙ regular_value shape inputs params states n values.inputs_len values.params_len side;
+      positive_value values n
+      ∙ fits.source n above (omega arith)
+      ∙ ap (λ xs. get_or xs (n - 1) false) all.all
+      ∙ regular_value shape inputs params states n all.inputs_len all.params_len side;
   table = λ t i plain.
-      let all : length sources ≡ length g.kinds = all_len shape inputs params states sources values ∙ sym has.count in
-      let v : ℕ = number (leaf_values (value_of (values_of g sources)) t.leaves) in
-      let small : v < 2 ^ length (leaf_values (value_of (values_of g sources)) t.leaves) = number-small (leaf_values (value_of (values_of g sources)) t.leaves) in
-      let fits : v < 2 ^ length t.leaves = subst (λ n. v < 2 ^ n) (length-map t.leaves (λ m. value_of (values_of g sources) (2 * m))) small in
-      sym (conf_at g given [] luts t v mapping.bases i fits
-      ∙ ap (in_phase t.lit.0) (cone_is_value g t.leaves v given sources (t.lit.0 / 2 + 1) (t.lit.0 / 2) normal all agree (leaf_digits g sources t.leaves) (omega arith) (table_blocks g k t (mapping.table t i))));
+      let at : IsBit g luts params (address (value_of values) t) (value_of values t.lit.0) =
+      table_value g m.k luts params sources values t fits (HaveParams-shape g shape inputs params states sources has all) len i ((m.mapping).table t i) in
+      let before : address (value_of values) t < t.base + 2 ^ length t.leaves = address_before (value_of values) t in
+      let room : t.base + 2 ^ length t.leaves ≤ 0 + bits_of luts = base_room 0 luts t (m.mapping).bases i in
+      bits_agree g m.k m.roots m.bits luts params (address (value_of values) t) _ _ normal m.mapping at (is.each (address (value_of values) t) (omega arith));
 }
+  where
+    address_before : (value : ℕ → Bool) (t : Lut) → address value t < t.base + 2 ^ length t.leaves
+    address_before value t =
+        let v : ℕ = number (leaf_values value t.leaves) in
+        let small : v < 2 ^ length (leaf_values value t.leaves) = number-small (leaf_values value t.leaves) in
+        let below : v < 2 ^ length t.leaves = subst (λ n. v < 2 ^ n) (length-map t.leaves (λ m. value (2 * m))) small in
+        omega arith
 
 -- an AND node is above all sources
 and_above : (g : Aig) (shape : Shape) (m : ℕ) → HasShape g shape → IsAnd g m → last_source shape < m

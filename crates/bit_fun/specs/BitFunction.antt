@@ -1,28 +1,33 @@
--- The bit of a table, as a function of the parameters.
-use Rattle.std.specs.Prelude.{ℕ, zero, suc, ◌+◌, ◌/◌, ◌%◌, Bool, true, false, ◌&&◌, nat_lt, ◌==◌, List, ◌∷◌, Option, Some, None, slice_index_or, position}
-use Rattle.list_words.specs.Digits.{digit}
+-- The bit function: what the bit at an address is under the parameters' values.
+use Rattle.std.specs.Prelude.{◌≡◌, ℕ, ◌+◌, ◌-◌, ◌/◌, ◌^◌, ◌<◌, ◌≤◌, Bool, false, ◌&&◌, List, length, Some, slice_get}
+use Rattle.list_laws.specs.Members.{In}
+use Rattle.list_laws.specs.Digits.{digit}
 use Rattle.aig_core.specs.declared.lit.Pair.{Pair}
-use Rattle.aig_core.specs.Aig.{Aig, first_and, pair_of}
-use Rattle.aig_core.specs.Value.{xor}
+use Rattle.aig_core.specs.Aig.{Aig, IsNode}
+use Rattle.aig_core.specs.Value.{in_phase}
 use Rattle.cover_pick.specs.declared.lut.Lut.{Lut}
+use Rattle.bit_fun.specs.Parameters.{IsParam}
 
--- a value that complements where the literal is odd
-abbrev pub in_phase : ℕ → Bool → Bool
-in_phase lit b = xor b ((lit % 2) == 1)
+-- The value of a node for v, by recursion from it: leaf j has the binary digit j of v, the constant is 0, a parameter has its value, and an AND node that is no leaf is the product of its two literals' values.
+pub data NodeBit (g : Aig) (params : List Bool) (leaves : List ℕ) (v : ℕ) : ℕ → Bool → Type 0 where
+  leaf : {n : ℕ} {bit : Bool} (j : ℕ) → slice_get leaves j ≡ Some n → bit ≡ digit v j → NodeBit g params leaves v n bit
+  constant : {n : ℕ} {bit : Bool} → n ≡ 0 → bit ≡ false → NodeBit g params leaves v n bit
+  parameter : {n : ℕ} {bit : Bool} (j : ℕ) → IsParam g j n → slice_get params j ≡ Some bit → NodeBit g params leaves v n bit
+  node : {n : ℕ} {bit : Bool} (p : Pair) (x y : Bool) → (In leaves n → ⊥) → IsNode g p n → NodeBit g params leaves v (p.x.0 / 2) x → NodeBit g params leaves v (p.y.0 / 2) y
+      → bit ≡ (in_phase p.x.0 x && in_phase p.y.0 y) → NodeBit g params leaves v n bit
 
--- where a recursion from a node ends or goes on: a leaf's digit, else the value of the constant or a source, else the product of the fan-ins
-abbrev pub end_or_product : (ℕ → Bool) → ℕ → Option ℕ → Bool → Bool → Option Pair → Bool
-end_or_product below v (Some place) is_source value pair = digit v place
-end_or_product below v None true value pair = value
-end_or_product below v None false value None = false
-end_or_product below v None false value (Some p) = in_phase p.x.0 (below (p.x.0 / 2)) && in_phase p.y.0 (below (p.y.0 / 2))
+-- The bit at the address b: some table has this address, and its literal has this value for what b is past the table's base.
+pub record IsBit (g : Aig) (luts : List Lut) (params : List Bool) (b : ℕ) (bit : Bool) : Type 0 where
+  pub table : Lut
+  pub in' : In luts table
+  pub from : table.base ≤ b
+  pub before : b < table.base + 2 ^ length table.leaves
+  pub value : Bool
+  pub by : NodeBit g params table.leaves (b - table.base) (table.lit.0 / 2) value
+  pub is : bit ≡ in_phase table.lit.0 value
 
--- the value of a node by the recursion from it, where leaf j has the digit j of v: a fan-in is below its node, so one more than the node is enough fuel
-abbrev pub cone_value : Aig → List ℕ → ℕ → List Bool → ℕ → ℕ → Bool
-cone_value g leaves v sources zero n = false
-cone_value g leaves v sources (suc fuel) n =
-    end_or_product (cone_value g leaves v sources fuel) v (position (λ m. m == n) leaves) (nat_lt n (first_and g)) (slice_index_or (false ∷ sources) n false) (pair_of g n)
-
--- the bit of a table for v: the value of its literal
-abbrev pub bit_function : Aig → List Bool → Lut → ℕ → Bool
-bit_function g sources t v = in_phase t.lit.0 (cone_value g t.leaves v sources (t.lit.0 / 2 + 1) (t.lit.0 / 2))
+-- There is one bit at the address b, and no other.
+pub record HasOneBit (g : Aig) (luts : List Lut) (params : List Bool) (b : ℕ) : Type 0 where
+  pub bit : Bool
+  pub is : IsBit g luts params b bit
+  pub only : (other : Bool) → IsBit g luts params b other → other ≡ bit

@@ -1,29 +1,24 @@
--- The configuration from scratch: all bits in the order of their addresses.
-use Rattle.std.specs.Prelude.{◌≡◌, ℕ, zero, suc, ◌+◌, ◌-◌, ◌^◌, Bool, List, [], ◌∷◌, ◌++◌, length, slice_index_or, false}
-use Rattle.aig_core.specs.Aig.{Aig, IsSource}
-use Rattle.aig_core.specs.declared.lit.Kind.TheVariants.{Parameter}
+-- The configuration under the parameters' values: all bits in the order of their addresses.
+use Rattle.std.specs.Prelude.{◌≡◌, ℕ, ◌<◌, Bool, false, List, length, slice_index_or}
+use Rattle.aig_core.specs.Aig.{Aig}
 use Rattle.cover_pick.specs.declared.lut.Lut.{Lut}
-use Rattle.bit_fun.specs.BitFunction.{bit_function}
+use Rattle.cover_pick.specs.Mapping.{IsMapping, bits_of}
+use Rattle.bit_fun.specs.BitFunction.{IsBit}
 
--- the values of a function from v on
-abbrev pub values_from : (ℕ → Bool) → ℕ → ℕ → List Bool
-values_from f v zero = []
-values_from f v (suc k) = f v ∷ values_from f (v + 1) k
+-- the tables map the graph for some roots
+pub record IsMapped (g : Aig) (luts : List Lut) : Type 0 where
+  pub k : ℕ
+  pub roots : List ℕ
+  pub bits : ℕ
+  pub mapping : IsMapping g k roots luts bits
 
--- the bits of a table, v ascending
-abbrev pub table_bits : Aig → List Bool → Lut → List Bool
-table_bits g sources t = values_from (bit_function g sources t) 0 (2 ^ length t.leaves)
+-- A configuration has the bit of each address.
+pub record IsConfiguration (g : Aig) (luts : List Lut) (params bits : List Bool) : Type 0 where
+  pub count : length bits ≡ bits_of luts
+  pub each : (b : ℕ) → b < bits_of luts → IsBit g luts params b (slice_index_or bits b false)
 
--- the bits of all tables in order; of the sources' values only those of parameters are read
-abbrev pub conf : Aig → List Bool → List Lut → List Bool
-conf g sources [] = []
-conf g sources (t ∷ ts) = table_bits g sources t ++ conf g sources ts
-
--- two lists of source values agree at the parameters
-pub record AgreeAtParams (g : Aig) (a b : List Bool) : Type 0 where
-  pub each : (n : ℕ) → IsSource g Parameter n → slice_index_or a (n - 1) false ≡ slice_index_or b (n - 1) false
-
--- the same behind a list of bits, as the code makes it
-abbrev pub conf_onto : Aig → List Bool → List Bool → List Lut → List Bool
-conf_onto g sources bits [] = bits
-conf_onto g sources bits (t ∷ ts) = conf_onto g sources (bits ++ table_bits g sources t) ts
+-- There is one configuration under these values of the parameters, and no other.
+pub record HasOneConfiguration (g : Aig) (luts : List Lut) (params : List Bool) : Type 0 where
+  pub bits : List Bool
+  pub is : IsConfiguration g luts params bits
+  pub only : (others : List Bool) → IsConfiguration g luts params others → others ≡ bits

@@ -1,11 +1,12 @@
 //! The bit of a table, by the recursion from the table's node.
 ghost use Rattle.std.specs.Prelude.{◌≡◌, ℕ, ◌/◌, ◌<◌, ◌≤◌, ◌==◌, length, position};
 ghost use Rattle.aig_core.specs.Aig.{node_count};
-ghost use Rattle.bit_fun.specs.BitFunction.{in_phase as phase_of, cone_value as value_of_cone, bit_function};
+ghost use Rattle.aig_core.specs.Value.{in_phase as phase_of};
+ghost use Rattle.bit_fun.specs.Walk.{cone_value as value_of_cone, table_bit as bit_of_table};
 
 use aig_core::{Graph, Lit, Steps};
 use cover_pick::Lut;
-use list_words::digit;
+use list_laws::digit;
 use std::sync::ledger::Ledger;
 
 // The place of a node among the leaves.
@@ -62,7 +63,7 @@ pub fn table_bit<L: Ledger>(
     requires node { table.now.lit.0 / 2 < node_count graph.now }
     requires sources { length sources.now ≡ length graph.now.kinds }
     requires few { length table.now.leaves ≤ 6 }
-    ensures { result ≡ bit_function graph.now sources.now table.now v }
+    ensures { result ≡ bit_of_table graph.now sources.now table.now v }
 {
     let leaves = table.leaves.leaves();
     let value = cone_value(graph, leaves, v, sources, table.lit.0 / 2, steps);

@@ -9,18 +9,23 @@
 //! # The words
 //!
 //! - A *table* belongs to a literal, which is twice a node's index, plus one for its complement, and has *leaves*. With m
-//!   leaves it has 2^m bits. Its *cone* is what lies between its node and its leaves.
-//! - The *bit for v* of a table is the value of its literal where leaf j has the binary digit j of v, a parameter has its
-//!   value, the constant is 0, and an AND node is the product of its two fan-ins (`specs/BitFunction.antt`).
-//! - The *configuration* has the bits of all tables in order, those of a table with v ascending
-//!   (`specs/Configuration.antt`).
+//!   leaves it has 2^m bits, from its *base* on. Its *cone* is what lies between its node and its leaves.
+//! - The *parameters' values* are a list with one bit for each parameter, in the order of the graph's sources
+//!   (`specs/Parameters.antt`).
+//! - The *bit* at the address b of a table is the value of its literal where leaf j has the binary digit j of b minus the
+//!   base, a parameter has its value, the constant is 0, and an AND node is the product of its two literals' values
+//!   (`specs/BitFunction.antt`).
+//! - The *configuration* has the bit of each address (`specs/Configuration.antt`).
 //!
 //! # What is promised
 //!
-//! [`configuration`] gives exactly these bits. Where the tables map the graph, the leaves of each block its node: each way
-//! down ends at a leaf, a parameter or the constant, so that a bit depends on the parameters alone. The law of the
-//! configuration follows (`specs/Lawful.antt`): whatever values the sources have, the values of the graph's literals fit
-//! the tables under it, so a cycle of the tables is the graph's.
+//! Where the tables map the graph, the leaves of each block its node: each way down ends at a leaf, a parameter or the
+//! constant. So at each address there is one bit, and under each list of parameters' values there is one configuration
+//! (`bit`, `one`): both are functions of the parameters' values alone, and [`configuration`] gives the one (`bits`). The law
+//! of the configuration follows (`law`, `specs/Lawful.antt`): whatever values the regular sources have, the values of the
+//! graph's literals fit the tables under it, so a cycle of the tables is the graph's.
+//!
+//! `proofs/BitExample.antt` works out the table of a multiplexer.
 //!
 //! # The files
 //!

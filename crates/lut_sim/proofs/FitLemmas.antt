@@ -1,9 +1,9 @@
 -- Values that fit the tables: those that a cycle leaves do, and any others agree with them at each table.
 use Rattle.std.proofs.Common.{◌≡◌, ℕ, zero, suc, ◌+◌, ◌*◌, ◌/◌, ◌%◌, ◌<◌, ◌≤◌, Bool, true, false, eqb, List, [], ◌∷◌, length, get_or, map, refl, sym, ap, ◌∙◌, subst, inl, inr, arith}
 use Rattle.std.proofs.lemmas.Bool.{cases_Bool, and_parts, and_from, eq-eqb, eqb-true}
-use Rattle.list_words.specs.Members.{In}
-use Rattle.list_words.specs.Digits.{number}
-use Rattle.list_words.proofs.Members.{map_agree}
+use Rattle.list_laws.specs.Members.{In}
+use Rattle.list_laws.specs.Digits.{number}
+use Rattle.list_laws.proofs.Members.{map_agree}
 use Rattle.aig_core.specs.Roots.{lits_of}
 use Rattle.cover_pick.specs.declared.lut.Lut.{Lut}
 use Rattle.cover_pick.specs.Template.{TemplateValue}
@@ -11,7 +11,7 @@ use Rattle.cover_pick.specs.Mapping.{AscendByLit, HasLut}
 use Rattle.lut_sim.specs.declared.shape.Shape.{Shape}
 use Rattle.lut_sim.specs.Sources.{is_regular, is_plain}
 use Rattle.lut_sim.specs.Playable.{IsPlayable, HasValue}
-use Rattle.lut_sim.specs.Cycle.{address, FitsTables, IsOnlyCycle}
+use Rattle.lut_sim.specs.Cycle.{address, FitsTables, IsOnlyTableCycle}
 use Rattle.lut_sim.specs.Steps.{value_in, with_table, with_tables}
 use Rattle.lut_sim.proofs.StepLemmas.{with_tables_other, with_table_other, with_table_here, length-with_table, IsFed}
 
@@ -113,7 +113,7 @@ FitsTables-agree c s config inputs states v w p fv fw ls has =
 
 -- the roots' values under values that fit are those under any values that fit
 pub cycle_only : (c : TemplateValue) (s : Shape) (config inputs states outputs next : List Bool) (v : ℕ → Bool) → IsPlayable c s → FitsTables c.luts s config inputs states v
-    → outputs ≡ map v (lits_of c.outputs) → next ≡ map v (lits_of c.next) → IsOnlyCycle c s config inputs states outputs next
+    → outputs ≡ map v (lits_of c.outputs) → next ≡ map v (lits_of c.next) → IsOnlyTableCycle c s config inputs states outputs next
 cycle_only c s config inputs states outputs next v p fv eo en = record {
   outputs_are = λ w fw. eo ∙ FitsTables-agree c s config inputs states v w p fv fw (lits_of c.outputs) p.outputs;
   next_are = λ w fw. en ∙ FitsTables-agree c s config inputs states v w p fv fw (lits_of c.next) p.next;

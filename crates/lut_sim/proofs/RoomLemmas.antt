@@ -4,14 +4,14 @@ use Rattle.std.proofs.Math.ListN.{length-set}
 use Rattle.std.proofs.lemmas.List.Sums.{sum_by-cons}
 use Rattle.std.proofs.lemmas.Bool.{or_cases, and_parts, leb-true}
 use Rattle.std.proofs.lemmas.List.{take_more_set, take_all}
-use Rattle.list_words.specs.Members.{In}
+use Rattle.list_laws.specs.Members.{In}
 use Rattle.cover_pick.specs.declared.lut.Lut.{Lut}
 use Rattle.cover_pick.specs.Template.{TemplateValue}
 use Rattle.cover_pick.specs.Mapping.{AscendByLit, HaveBases, bits_of}
 use Rattle.lut_sim.specs.declared.shape.Shape.{Shape}
 use Rattle.lut_sim.specs.Sources.{last_source, is_regular}
 use Rattle.lut_sim.specs.Playable.{IsPlayable, HasValue}
-use Rattle.lut_sim.specs.Sim.{HasRoom}
+use Rattle.lut_sim.specs.Keeps.{HasRoom}
 use Rattle.lut_sim.specs.Steps.{IsTableInRoom, filled}
 use Rattle.lut_sim.proofs.FitLemmas.{plain_parts}
 

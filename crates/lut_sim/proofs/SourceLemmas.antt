@@ -1,7 +1,7 @@
 -- The sources' values after both writes.
 use Rattle.std.proofs.Common.{◌≡◌, ℕ, ◌+◌, ◌-◌, ◌*◌, ◌<◌, ◌≤◌, Bool, true, false, ◌&&◌, leb, ltb, List, length, get_or, refl, ap, ◌∙◌, inl, inr, arith}
 use Rattle.std.proofs.lemmas.Bool.{or_cases, and_parts, leb-true, leb-false, ltb-true}
-use Rattle.list_words.proofs.Choice.{choose}
+use Rattle.list_laws.proofs.Choice.{choose}
 use Rattle.lut_sim.specs.declared.shape.Shape.{Shape}
 use Rattle.lut_sim.specs.Sources.{last_source, is_regular, source_value}
 use Rattle.lut_sim.specs.Steps.{value_in, with_sources, with_tables, HaveSources}
@@ -9,7 +9,7 @@ use Rattle.lut_sim.proofs.StepLemmas.{with_sources_at, with_sources_other, lengt
 use Rattle.cover_pick.specs.Template.{TemplateValue}
 use Rattle.lut_sim.specs.Playable.{IsPlayable}
 use Rattle.lut_sim.specs.Cycle.{FitsTables}
-use Rattle.lut_sim.specs.Sim.{HasRoom}
+use Rattle.lut_sim.specs.Keeps.{HasRoom}
 use Rattle.lut_sim.proofs.FitLemmas.{plain_of_regular, tables_fit, playable_fed}
 
 -- a regular source is an input or a latch

@@ -1,6 +1,6 @@
 -- The circuit of one table with the latch as its leaf can be played.
 use Rattle.std.proofs.Common.{◌≡◌, ℕ, ◌*◌, ◌/◌, ◌<◌, List, [], ◌∷◌, IsTrue, refl, sym, subst, inl, inr, ◌⊎◌, arith}
-use Rattle.list_words.specs.Members.{In}
+use Rattle.list_laws.specs.Members.{In}
 use Rattle.aig_core.specs.declared.lit.Lit.{Lit}
 use Rattle.cover_pick.specs.declared.lut.Lut.{Lut}
 use Rattle.cover_pick.specs.Template.{TemplateValue}

@@ -1,7 +1,7 @@
 -- One cycle of the tables, as a relation between the values of all literals: nothing is played in an order.
 use Rattle.std.specs.Prelude.{◌≡◌, ℕ, ◌+◌, ◌*◌, Bool, false, IsTrue, List, map, slice_index_or}
-use Rattle.list_words.specs.Members.{In}
-use Rattle.list_words.specs.Digits.{number}
+use Rattle.list_laws.specs.Members.{In}
+use Rattle.list_laws.specs.Digits.{number}
 use Rattle.aig_core.specs.Roots.{lits_of}
 use Rattle.cover_pick.specs.declared.lut.Lut.{Lut}
 use Rattle.cover_pick.specs.Template.{TemplateValue}
@@ -22,13 +22,13 @@ pub record FitsTables (luts : List Lut) (shape : Shape) (config inputs states : 
   pub table : (t : Lut) → In luts t → is_plain shape t.lit.0 ≡ false → value t.lit.0 ≡ slice_index_or config (address value t) false
 
 -- the outputs and next states of a cycle are the roots' values under values that fit
-pub record IsCycle (t : TemplateValue) (shape : Shape) (config inputs states outputs next : List Bool) : Type 0 where
+pub record IsTableCycle (t : TemplateValue) (shape : Shape) (config inputs states outputs next : List Bool) : Type 0 where
   pub value : ℕ → Bool
   pub fits : FitsTables t.luts shape config inputs states value
   pub outputs_are : outputs ≡ map value (lits_of t.outputs)
   pub next_are : next ≡ map value (lits_of t.next)
 
 -- whatever values fit, the roots have these values under them
-pub record IsOnlyCycle (t : TemplateValue) (shape : Shape) (config inputs states outputs next : List Bool) : Type 0 where
+pub record IsOnlyTableCycle (t : TemplateValue) (shape : Shape) (config inputs states outputs next : List Bool) : Type 0 where
   pub outputs_are : (value : ℕ → Bool) → FitsTables t.luts shape config inputs states value → outputs ≡ map value (lits_of t.outputs)
   pub next_are : (value : ℕ → Bool) → FitsTables t.luts shape config inputs states value → next ≡ map value (lits_of t.next)

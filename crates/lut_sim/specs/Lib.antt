@@ -1,5 +1,8 @@
+-- What public clauses say.
 pub mod Sources
 pub mod Playable
 pub mod Cycle
 pub mod Sim
+-- What only bodies are compared with.
+pub mod Keeps
 pub mod Steps

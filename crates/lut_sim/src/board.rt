@@ -1,11 +1,11 @@
 //! A circuit with room for the values of its literals, and a cycle on it.
 ghost use Rattle.std.specs.Prelude.{◌≡◌, ◌<◌, length, map};
-ghost use Rattle.list_words.specs.Members.{In};
+ghost use Rattle.list_laws.specs.Members.{In};
 ghost use Rattle.aig_core.specs.Roots.{lits_of};
 ghost use Rattle.cover_pick.specs.Mapping.{AscendByLit};
 ghost use Rattle.lut_sim.specs.Playable.{IsPlayable};
 ghost use Rattle.lut_sim.specs.Cycle.{FitsTables};
-ghost use Rattle.lut_sim.specs.Sim.{HasRoom};
+ghost use Rattle.lut_sim.specs.Keeps.{HasRoom};
 ghost use Rattle.lut_sim.specs.Steps.{value_in};
 
 use crate::play::{play, read_roots};

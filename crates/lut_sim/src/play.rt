@@ -1,12 +1,12 @@
 //! A cycle on the values of the literals: the sources' values, then the tables' bits, then the roots' values.
 ghost use Rattle.std.specs.Prelude.{◌≡◌, ◌<◌, ℕ, ◌+◌, ◌-◌, ◌*◌, ◌≤◌, ◌^◌, length, map, drop};
-ghost use Rattle.list_words.specs.Members.{In};
-ghost use Rattle.list_words.specs.Digits.{number};
+ghost use Rattle.list_laws.specs.Members.{In};
+ghost use Rattle.list_laws.specs.Digits.{number};
 ghost use Rattle.aig_core.specs.Roots.{lits_of};
 ghost use Rattle.lut_sim.specs.Sources.{last_source};
 ghost use Rattle.lut_sim.specs.Playable.{IsPlayable};
 ghost use Rattle.lut_sim.specs.Cycle.{FitsTables, leaf_values};
-ghost use Rattle.lut_sim.specs.Sim.{HasRoom};
+ghost use Rattle.lut_sim.specs.Keeps.{HasRoom};
 ghost use Rattle.lut_sim.specs.Steps.{value_in, with_sources, with_table, with_tables, filled, IsTableInRoom, HaveSources};
 
 use crate::shape::{Shape, is_plain};

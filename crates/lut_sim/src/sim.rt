@@ -15,7 +15,8 @@ pub struct Sim {
 }
 
 impl Model for Sim {
-    ghost use Rattle.lut_sim.specs.Sim.{SimValue, KeepsSim};
+    ghost use Rattle.lut_sim.specs.Sim.{SimValue};
+    ghost use Rattle.lut_sim.specs.Keeps.{KeepsSim};
 
     ghost Value = { SimValue };
 
@@ -25,7 +26,7 @@ impl Model for Sim {
 }
 
 impl Sim {
-    ghost use Rattle.lut_sim.specs.Cycle.{IsCycle, IsOnlyCycle};
+    ghost use Rattle.lut_sim.specs.Cycle.{IsTableCycle, IsOnlyTableCycle};
     ghost use Rattle.lut_sim.specs.Sim.{SimValue};
 
     /// A circuit with its latches at `inits`, and all outputs false.
@@ -63,10 +64,10 @@ impl Sim {
     pub fn cycle(&mut self, config: &[bool], inputs: &[bool])
         requires config { length config.now ≡ self.old.template.bits }
         requires inputs { length inputs.now ≡ self.old.shape.regular }
-        ensures cycle { IsCycle self.old.template self.old.shape config.now inputs.now self.old.states self.new.outputs self.new.states }
+        ensures cycle { IsTableCycle self.old.template self.old.shape config.now inputs.now self.old.states self.new.outputs self.new.states }
 
         // Whatever values of the literals fit the tables, the outputs and states are theirs.
-        ensures only { IsOnlyCycle self.old.template self.old.shape config.now inputs.now self.old.states self.new.outputs self.new.states }
+        ensures only { IsOnlyTableCycle self.old.template self.old.shape config.now inputs.now self.old.states self.new.outputs self.new.states }
         ensures template { self.new.template ≡ self.old.template }
         ensures shape { self.new.shape ≡ self.old.shape }
     {

@@ -1,7 +1,7 @@
 use Rattle.std.proofs.Common.{◌∙◌, ◌++◌, [], ◌∷◌}
 use Rattle.std.proofs.lemmas.Bool.{cond-false}
 use Rattle.aig_core.specs.And.{is_pair}
-use Rattle.aig_core.proofs.Keeping.{list_any-position_none}
+use Rattle.list_laws.proofs.FirstPlace.{list_any-position_none}
 use Rattle.aig_core.proofs.graph.push_both.Goals as goal
 
 pub returns-clause-keys : goal.returns-clause-keys

@@ -1,6 +1,6 @@
 use Rattle.std.proofs.Common.{◌<◌, arith, length, subst, sym}
-use Rattle.list_words.specs.Members.{In}
-use Rattle.list_words.proofs.Members.{In-get_or}
+use Rattle.list_laws.specs.Members.{In}
+use Rattle.list_laws.proofs.Members.{In-get_or}
 use Rattle.bit_fun.proofs.bits.configuration_with.Goals as goal
 
 pub push_table-requires-clause-node : goal.push_table-requires-clause-node

@@ -1,5 +1,5 @@
 use Rattle.std.proofs.Common.{rules, ◌≡◌, ◌/◌, ◌<◌, [], ◌∷◌, subst, sym, inl, inr}
-use Rattle.list_words.specs.Members.{In}
+use Rattle.list_laws.specs.Members.{In}
 use Rattle.aig_core.specs.Aig.{node_count}
 use Rattle.cover_pick.specs.declared.lut.Lut.{Lut}
 use Rattle.bit_fun.proofs.tests.bits_of.Goals as goal

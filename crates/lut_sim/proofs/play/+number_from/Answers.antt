@@ -1,6 +1,6 @@
 use Rattle.std.proofs.Common.{arith, ◌≡◌, ◌<◌, ◌≤◌, ◌+◌, ◌-◌, ◌*◌, ◌^◌, ℕ, Bool, true, false, length, get_or, subst, sym, ap, ◌∙◌}
 use Rattle.std.proofs.Math.Nat.{pow-succ'}
-use Rattle.list_words.proofs.Members.{In-get_or}
+use Rattle.list_laws.proofs.Members.{In-get_or}
 use mir.Val.{bool_byte}
 use Rattle.lut_sim.proofs.play.+number_from.Goals as goal
 

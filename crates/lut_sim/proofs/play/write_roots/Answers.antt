@@ -1,5 +1,5 @@
 use Rattle.std.proofs.Common.{◌<◌, arith, length}
-use Rattle.list_words.proofs.Members.{In-get_or, In-map}
+use Rattle.list_laws.proofs.Members.{In-get_or, In-map}
 use Rattle.aig_core.specs.declared.lit.Lit.{Lit}
 use Rattle.lut_sim.proofs.play.write_roots.Goals as goal
 

@@ -1,6 +1,6 @@
 use Rattle.std.proofs.Common.{◌≡◌, ◌+◌, false, ◌∷◌, length, vec_len, drop}
-use Rattle.aig_core.specs.Value.{values_from}
-use Rattle.aig_core.proofs.graph.Graph.eval.Given as goal
+use Rattle.aig_core.proofs.ValueLemmas.{values_from}
+use Rattle.aig_core.proofs.graph.Graph.node_values.Given as goal
 
 abbrev pub invariant-loop-pair : goal.invariant-loop-pair
 invariant-loop-pair l = record {

@@ -1,4 +1,4 @@
-use Rattle.bit_fun.proofs.bits.configuration.Given as goal
+use Rattle.bit_fun.proofs.bits.bits_of_tables.Given as goal
 
 -- the counter of one call
 abbrev pub ghosts-configuration_with : goal.ghosts-configuration_with
