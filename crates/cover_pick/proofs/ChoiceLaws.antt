@@ -2,14 +2,14 @@
 use Rattle.std.proofs.Common.{◌≡◌, ℕ, ◌<◌, ◌≤◌, true, false, ◌&&◌, cond, ltb, eqb, List, [], ◌∷◌, length, Option, Some, None, refl, sym, ap, ◌∙◌, subst, inl, inr, ◌⊎◌, arith}
 use Rattle.std.proofs.lemmas.Option.{same_Some, none-some}
 use Rattle.std.proofs.lemmas.Bool.{cases_order, ltb-true, ltb-false, eqb-true, and_parts, and_from, false≢true, both_ways, lt-ltb, eq-eqb}
-use Rattle.list_words.specs.Members.{In}
+use Rattle.list_laws.specs.Members.{In}
 use Rattle.cut_enum.specs.Sets.{lex, before as comes_before, IsOrdered}
-use Rattle.cut_enum.specs.Covers.{height}
-use Rattle.list_words.proofs.Choice.{choose}
+use Rattle.depth_label.specs.Label.{height, AreLabels}
+use Rattle.list_laws.proofs.Choice.{choose}
 use Rattle.aig_core.specs.Aig.{Aig, IsAnd}
-use Rattle.cut_enum.specs.Covers.{AreLabels}
-use Rattle.cover_pick.specs.Choice.{better, fewest, or_empty, choice_of, Precedes, fewer, lower, before, IsChosen}
-use Rattle.cover_pick.specs.Schedule.{Chooses}
+use Rattle.cover_pick.specs.Fewest.{better, fewest, or_empty, choice_of}
+use Rattle.cover_pick.specs.Choice.{Precedes, fewer, lower, before, IsChosen}
+use Rattle.cover_pick.specs.Planned.{Chooses}
 
 -- what `before` says
 before_says : (a b : List ℕ) → comes_before a b ≡ true → (length a < length b) ⊎ ((length a ≡ length b) × (lex a b ≡ true))

@@ -9,3 +9,5 @@ pub mod SearchLaws
 pub mod TemplateLaws
 pub mod MappingLaws
 pub mod OnceLaws
+pub mod ChosenLaws
+pub mod Examples

@@ -1,5 +1,5 @@
 -- The chosen tables map the graph, and are a cover of the least depth.
-use Rattle.std.proofs.Common.{◌≡◌, ℕ, ◌-◌, ◌*◌, ◌/◌, ◌%◌, ◌^◌, ◌<◌, ◌≤◌, cond, eqb, ltb, List, [], ◌∷◌, Option, Some, None, IsSome, refl, sym, ap, ◌∙◌, subst, inl, inr, ◌⊎◌, arith, get_or}
+use Rattle.std.proofs.Common.{◌≡◌, ℕ, ◌-◌, ◌*◌, ◌/◌, ◌%◌, ◌<◌, ◌≤◌, cond, eqb, ltb, List, [], ◌∷◌, Option, Some, None, IsSome, refl, sym, ap, ◌∙◌, subst, inl, inr, ◌⊎◌, arith, get_or}
 use Rattle.std.specs.List.{slice_get}
 use Rattle.std.proofs.lemmas.Option.{same_Some, none-some, slice_get-get_or}
 use Rattle.std.proofs.lemmas.Bool.{cases_lt, cases_eq, eqb-true, eq-eqb, ne_eqb, ltb-true, lt-ltb, false≢true}
@@ -7,28 +7,26 @@ use Rattle.aig_core.specs.Aig.{Aig, first_and, node_count, IsAnd, IsSource}
 use Rattle.aig_core.specs.declared.lit.Kind.{Kind}
 use Rattle.aig_core.specs.declared.lit.Kind.TheVariants.{Regular, Parameter}
 use Rattle.aig_core.specs.Roots.{AreRoots}
-use Rattle.list_words.specs.Members.{In}
-use Rattle.list_words.proofs.Choice.{choose}
+use Rattle.list_laws.specs.Members.{In}
+use Rattle.list_laws.proofs.Choice.{choose}
 use Rattle.cut_enum.specs.Table.{AreRows}
 use Rattle.cover_pick.specs.declared.lut.Lut.{Lut}
-use Rattle.depth_label.specs.Label.{IsCutTable}
 use Rattle.cover_pick.specs.Mapping.{IsTableOf, source, free, node, IsPlain, HasLut, HasNode, IsMapping, IsLeast}
 use Rattle.cover_pick.specs.Target.{target}
 use Rattle.cover_pick.specs.Required.{need, cover_of, chosen}
-use Rattle.cover_pick.specs.Choice.{choice_of}
-use Rattle.cover_pick.specs.Schedule.{cut_at, depths_of, IsPlan, FromReader, IsLeastCover}
+use Rattle.cover_pick.specs.Fewest.{choice_of}
+use Rattle.cover_pick.specs.Planned.{cut_at, depths_of, FromChoice, IsLeastCover}
 use Rattle.cut_enum.specs.Table.{row_at}
-use Rattle.cover_pick.specs.Tables.{leaves_of, source_leaves, HasTable, Made, AreTables, IsNeeded, root, leaf, tables_of}
-use Rattle.cover_pick.specs.Template.{AreChosen, IsTooMuch}
-use Rattle.cover_pick.proofs.TableLaws.{tables_needed}
-use Rattle.cover_pick.proofs.TemplateLaws.{leaves_and, cut_in, leaves_inside}
+use Rattle.cover_pick.specs.Marks.{leaves_of, source_leaves, Made, IsMarked, root, leaf, IsMade}
+use Rattle.cover_pick.specs.Tables.{HasTable}
+use Rattle.cover_pick.proofs.TemplateLaws.{leaves_and, cut_in}
 
 -- the leaves of a table of the constant
-leaves_zero : (g : Aig) (cuts : List (Option (List ℕ))) (l : ℕ) → l / 2 ≡ 0 → leaves_of g cuts l ≡ Some []
+pub leaves_zero : (g : Aig) (cuts : List (Option (List ℕ))) (l : ℕ) → l / 2 ≡ 0 → leaves_of g cuts l ≡ Some []
 leaves_zero g cuts l e = rw (eq-eqb (l / 2) 0 e) refl
 
 -- the leaves of a table of a source
-leaves_source : (g : Aig) (cuts : List (Option (List ℕ))) (l : ℕ) → (l / 2 ≡ 0 → ⊥) → l / 2 < first_and g → leaves_of g cuts l ≡ source_leaves (slice_get g.kinds (l / 2 - 1)) (l / 2) (l % 2)
+pub leaves_source : (g : Aig) (cuts : List (Option (List ℕ))) (l : ℕ) → (l / 2 ≡ 0 → ⊥) → l / 2 < first_and g → leaves_of g cuts l ≡ source_leaves (slice_get g.kinds (l / 2 - 1)) (l / 2) (l % 2)
 leaves_source g cuts l d b = rw (ne_eqb (l / 2) 0 d, lt-ltb (l / 2) (first_and g) b) refl
 
 -- a source of the graph has a kind
@@ -36,26 +34,26 @@ kind_is : (g : Aig) (n : ℕ) (k : Kind) → 1 ≤ n → slice_get g.kinds (n - 
 kind_is g n Regular a e = inl (record { above = a; is = e })
 kind_is g n Parameter a e = inr (record { above = a; is = e })
 
-kind_there : (g : Aig) (n : ℕ) → (n ≡ 0 → ⊥) → n < first_and g → IsSource g Regular n ⊎ IsSource g Parameter n
+pub kind_there : (g : Aig) (n : ℕ) → (n ≡ 0 → ⊥) → n < first_and g → IsSource g Regular n ⊎ IsSource g Parameter n
 kind_there g n d b = kind_is g n (get_or g.kinds (n - 1) Regular) (omega arith) (slice_get-get_or g.kinds (n - 1) Regular (omega arith))
 
 -- what a table of a regular source has as leaves
-regular_leaves : (l : ℕ) (c : List ℕ) → source_leaves (Some Regular) (l / 2) (l % 2) ≡ Some c → (l % 2 ≡ 1) × (c ≡ (l / 2) ∷ [])
+pub regular_leaves : (l : ℕ) (c : List ℕ) → source_leaves (Some Regular) (l / 2) (l % 2) ≡ Some c → (l % 2 ≡ 1) × (c ≡ (l / 2) ∷ [])
 regular_leaves l c h0 =
     choose (λ o. o ≡ Some c → (l % 2 ≡ 1) × (c ≡ (l / 2) ∷ [])) (eqb (l % 2) 1) (Some ((l / 2) ∷ [])) None
     (λ t h. (eqb-true (l % 2) 1 t, sym (same_Some ((l / 2) ∷ []) c h))) (λ t h. absurd (none-some c h)) h0
 
 -- what the cover has at an AND node with this required depth
-cover_at : (g : Aig) (choice : ℕ → ℕ → List ℕ) (reqs : List (Option ℕ)) (n : ℕ) (o : Option ℕ) → first_and g ≤ n → need reqs n ≡ o → cover_of g choice reqs n ≡ chosen choice n o
+pub cover_at : (g : Aig) (choice : ℕ → ℕ → List ℕ) (reqs : List (Option ℕ)) (n : ℕ) (o : Option ℕ) → first_and g ≤ n → need reqs n ≡ o → cover_of g choice reqs n ≡ chosen choice n o
 cover_at g choice reqs n o b e =
     choose (λ x. x ≡ chosen choice n o) (ltb n (first_and g)) None (chosen choice n (need reqs n))
     (λ t. absurd (let l : n < first_and g = ltb-true n (first_and g) t in omega arith)) (λ t. ap (λ q. chosen choice n q) e)
 
-module _ (g : Aig) (rows : List (List (List ℕ))) (label : ℕ → ℕ) (roots : List ℕ) (made : Made) (a : AreChosen g rows label roots made) (k : ℕ) (are : AreRows g k (node_count g) rows) (lits : AreRoots g roots) where
+module _ (g : Aig) (rows : List (List (List ℕ))) (label : ℕ → ℕ) (roots : List ℕ) (made : Made) (a : IsMade g rows label roots made) (k : ℕ) (are : AreRows g k (node_count g) rows) (lits : AreRoots g roots) where
   plan : IsLeastCover g k roots (cut_at a.cuts) (target g label roots)
   plan = a.plan.least k are
 
-  has_lut : (l : ℕ) (c : List ℕ) → l < 2 * node_count g → IsNeeded roots a.cuts l → leaves_of g a.cuts l ≡ Some c → HasLut made.luts l
+  has_lut : (l : ℕ) (c : List ℕ) → l < 2 * node_count g → IsMarked roots a.cuts l → leaves_of g a.cuts l ≡ Some c → HasLut made.luts l
   has_lut l c b needed e = let h = a.tables.all l c b needed e in record { table = h.by; in' = h.in'; is = h.lit_is }
 
   table_of : (t : Lut) → In made.luts t → IsTableOf g k t
@@ -76,11 +74,11 @@ module _ (g : Aig) (rows : List (List (List ℕ))) (label : ℕ → ℕ) (roots 
       ]
 
   -- a needed literal of an AND node has its table
-  and_lut_of : (l : ℕ) → IsAnd g (l / 2) → IsNeeded roots a.cuts l → (o : Option (List ℕ)) → cut_at a.cuts (l / 2) ≡ o → IsSome o → HasLut made.luts l
+  and_lut_of : (l : ℕ) → IsAnd g (l / 2) → IsMarked roots a.cuts l → (o : Option (List ℕ)) → cut_at a.cuts (l / 2) ≡ o → IsSome o → HasLut made.luts l
   and_lut_of l and needed None e s = absurd (false≢true s)
   and_lut_of l and needed (Some c) e s = has_lut l c (let b : l / 2 < node_count g = and.1 in omega arith) needed (leaves_and g a.cuts l and ∙ e)
 
-  and_lut : (l : ℕ) → IsAnd g (l / 2) → IsNeeded roots a.cuts l → IsSome (cut_at a.cuts (l / 2)) → HasLut made.luts l
+  and_lut : (l : ℕ) → IsAnd g (l / 2) → IsMarked roots a.cuts l → IsSome (cut_at a.cuts (l / 2)) → HasLut made.luts l
   and_lut l and needed some = and_lut_of l and needed (cut_at a.cuts (l / 2)) refl some
 
   root_has : (l : ℕ) → In roots l → IsPlain g l ⊎ HasLut made.luts l
@@ -132,13 +130,13 @@ module _ (g : Aig) (rows : List (List (List ℕ))) (label : ℕ → ℕ) (roots 
   }
 
   -- whence a chosen cut: the node is a root's, or a leaf of another
-  reader_needed : (n r : ℕ) → FromReader g (choice_of (row_at rows) label) (need (depths_of g rows label roots)) n r → (l : ℕ) × (l / 2 ≡ n) × IsNeeded roots a.cuts l
+  reader_needed : (n r : ℕ) → FromChoice g (choice_of (row_at rows) label) (need (depths_of g rows label roots)) n r → (l : ℕ) × (l / 2 ≡ n) × IsMarked roots a.cuts l
   reader_needed n r f =
       let c : List ℕ = choice_of (row_at rows) label f.reader f.depth in
       let at : cut_at a.cuts f.reader ≡ Some c = a.plan.chosen f.reader ∙ cover_at g (choice_of (row_at rows) label) (depths_of g rows label roots) f.reader (Some f.depth) f.and.0 f.needed in
       (2 * n, omega arith, leaf c n (cut_in a.cuts f.reader c at) f.leaf refl)
 
-  cut_needed_of : (n : ℕ) (c : List ℕ) (o : Option ℕ) → first_and g ≤ n → cut_at a.cuts n ≡ Some c → need (depths_of g rows label roots) n ≡ o → (l : ℕ) × (l / 2 ≡ n) × IsNeeded roots a.cuts l
+  cut_needed_of : (n : ℕ) (c : List ℕ) (o : Option ℕ) → first_and g ≤ n → cut_at a.cuts n ≡ Some c → need (depths_of g rows label roots) n ≡ o → (l : ℕ) × (l / 2 ≡ n) × IsMarked roots a.cuts l
   cut_needed_of n c None b e q = absurd (none-some c (sym (a.plan.chosen n ∙ cover_at g (choice_of (row_at rows) label) (depths_of g rows label roots) n None b q) ∙ e))
   cut_needed_of n c (Some r) b e q = elim (a.plan.schedule.whence n r q) [ inl f ↦ (f.root, f.node, root f.is_root) | inr f ↦ reader_needed n r f ]
 
@@ -159,14 +157,3 @@ module _ (g : Aig) (rows : List (List (List ℕ))) (label : ℕ → ℕ) (roots 
     within = plan.within;
     least = plan.least;
   }
-
--- where the work of the tables that would be made is too much
-pub too_much : (g : Aig) (rows : List (List (List ℕ))) (label : ℕ → ℕ) (roots : List ℕ) (cuts : List (Option (List ℕ))) → IsCutTable g rows → IsPlan g rows label roots cuts → AreRoots g roots
-    → 2 ^ 25 < (tables_of g roots cuts).work → IsTooMuch g rows label roots
-too_much g rows label roots cuts t plan lits l =
-    let are : AreTables g cuts (IsNeeded roots cuts) (2 * node_count g) (tables_of g roots cuts) = tables_needed g roots cuts (leaves_inside g rows label roots cuts t plan) lits in
-    record {
-      made = tables_of g roots cuts;
-      chosen = record { cuts = cuts; plan = plan; tables = are };
-      work = subst (λ w. 2 ^ 25 < w) are.work l;
-    }

@@ -1,17 +1,12 @@
 -- Members of lists that grow at the end, and lists of numbers without repeats.
-use Rattle.std.proofs.Common.{◌≡◌, ℕ, zero, suc, ◌<◌, ◌≤◌, Bool, true, false, eqb, List, [], ◌∷◌, ◌++◌, length, refl, sym, ap, inl, inr, ◌⊎◌, arith, get_or}
+use Rattle.std.proofs.Common.{◌≡◌, ℕ, zero, suc, ◌<◌, ◌≤◌, Bool, true, false, eqb, List, [], ◌∷◌, ◌++◌, length, refl, sym, ap, inl, inr, arith, get_or}
 use Rattle.std.specs.List.{IsDistinct, AllByRecursion, list_any}
 use Rattle.std.specs.Cmp.{IsEquivalence}
 use Rattle.std.proofs.lemmas.Bool.{cases_Bool, eqb-true, eq-eqb, ne_eqb, false≢true}
 use Rattle.std.proofs.lemmas.Map.Made.{length-from_same_keys}
 use Rattle.std.proofs.lemmas.Map.Steps.{length-le_from_distinct_below}
-use Rattle.list_words.specs.Members.{In}
-use Rattle.list_words.specs.Order.{IsDescending}
-
-pub In-get_or : {X : Type 0} (xs : List X) (i : ℕ) (d : X) → i < length xs → In xs (get_or xs i d)
-In-get_or [] i d l = absurd (omega arith)
-In-get_or (x ∷ xs) zero d l = inl refl
-In-get_or (x ∷ xs) (suc i) d l = inr (In-get_or xs i d (omega arith))
+use Rattle.list_laws.specs.Members.{In}
+use Rattle.list_laws.specs.Order.{IsDescending}
 
 -- where a member stands
 pub In-place : (xs : List ℕ) (m : ℕ) → In xs m → (j : ℕ) × (j < length xs) × (get_or xs j 0 ≡ m)
@@ -23,20 +18,6 @@ pub get_or_any : {X : Type 0} (xs : List X) (i : ℕ) (d e : X) → i < length x
 get_or_any [] i d e l = absurd (omega arith)
 get_or_any (x ∷ xs) zero d e l = refl
 get_or_any (x ∷ xs) (suc i) d e l = get_or_any xs i d e (omega arith)
-
--- a list with one more at the end
-pub push_in : {X : Type 0} (xs : List X) (y x : X) → In (xs ++ y ∷ []) x → In xs x ⊎ (x ≡ y)
-push_in [] y x i = elim i [ inl e ↦ inr e | inr b ↦ absurd b ]
-push_in (z ∷ xs) y x i = elim i [ inl e ↦ inl (inl e) | inr j ↦ elim (push_in xs y x j) [ inl k ↦ inl (inr k) | inr e ↦ inr e ] ]
-
-pub push_old : {X : Type 0} (xs : List X) (y x : X) → In xs x → In (xs ++ y ∷ []) x
-push_old [] y x i = elim i [ ]
-push_old (z ∷ xs) y x (inl e) = inl e
-push_old (z ∷ xs) y x (inr i) = inr (push_old xs y x i)
-
-pub push_new : {X : Type 0} (xs : List X) (y : X) → In (xs ++ y ∷ []) y
-push_new [] y = inl refl
-push_new (z ∷ xs) y = inr (push_new xs y)
 
 -- membership by the test of equality
 pub In-any : (xs : List ℕ) (n : ℕ) → In xs n → list_any (eqb n) xs ≡ true

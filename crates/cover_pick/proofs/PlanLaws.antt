@@ -3,22 +3,22 @@ use Rattle.std.proofs.Common.{ltb, ◌≡◌, ℕ, zero, suc, ◌+◌, ◌*◌, 
 use Rattle.std.proofs.lemmas.List.{get_or_push, get_or_past}
 use Rattle.std.proofs.Math.ListN.{get_or-append}
 use Rattle.std.proofs.lemmas.Bool.{cases_lt}
-use Rattle.aig_core.specs.Aig.{Aig, first_and, node_count, IsAnd}
+use Rattle.aig_core.specs.Aig.{Aig, first_and, node_count, IsAnd, AreNormal}
 use Rattle.aig_core.specs.declared.lit.Lit.{Lit}
-use Rattle.list_words.specs.Members.{In}
+use Rattle.list_laws.specs.Members.{In}
 use Rattle.cut_enum.specs.Cuts.{AreMinimal}
-use Rattle.cut_enum.specs.Covers.{height, IsCover, HasDepth, source, free, table, AreLabels}
-use Rattle.depth_label.specs.Label.{IsCutTable}
+use Rattle.depth_label.specs.Label.{height, AreLabels, IsCutTable}
+use Rattle.cut_enum.specs.Covers.{IsCover, HasDepth, source, free, table, RootsWithin}
 use Rattle.cut_enum.specs.Table.{AreRows, row_at}
-use Rattle.list_words.proofs.Choice.{choose}
+use Rattle.list_laws.proofs.Choice.{choose}
 use Rattle.aig_core.specs.Roots.{lits_of, AreRoots}
-use Rattle.cover_pick.specs.RootDepth.{RootsWithin}
 use Rattle.cover_pick.specs.Target.{target}
-use Rattle.cover_pick.specs.Choice.{IsChosen, or_empty, choice_of}
+use Rattle.cover_pick.specs.Choice.{IsChosen}
+use Rattle.cover_pick.specs.Fewest.{or_empty, choice_of}
 use Rattle.cover_pick.specs.Required.{cover_of, chosen, need}
-use Rattle.cover_pick.specs.Schedule.{Chooses, cut_at, plan_of, depths_of, IsLeastCover, IsPlan}
+use Rattle.cover_pick.specs.Planned.{Chooses, cut_at, plan_of, depths_of, IsLeastCover, IsPlanned}
 use Rattle.cover_pick.proofs.ChoiceLaws.{Chooses-choice, best_is, best_found}
-use Rattle.cover_pick.proofs.WalkLaws.{Walked, schedule_is, template_within, template_cover, target_least, required_walked}
+use Rattle.cover_pick.proofs.WalkLaws.{Walked, schedule_is, template_within, template_cover, target_least, required_walked, depth_le_required}
 
 -- a root that is read
 pub root_in : (ls : List Lit) (i : ℕ) (l : Lit) → i < length ls → l ≡ get_or ls i l → In (lits_of ls) (l.0)
@@ -72,21 +72,32 @@ module _ (g : Aig) (rows : List (List (List ℕ))) (label : ℕ → ℕ) (roots 
       let f = best_found label r (row_at rows n) None m.0 m.1 (omega arith) in
       subst (λ o. IsChosen label r (row_at rows n) (or_empty o)) (sym f.1) (best_is label r (row_at rows n) f.0 (are.each n and.1 and).ordered f.1)
 
-  plan_least : (cuts : List (Option (List ℕ))) → ((n : ℕ) → cut_at cuts n ≡ plan_of g rows label roots n) → (k : ℕ) → AreRows g k (node_count g) rows → IsLeastCover g k roots (cut_at cuts) (target g label roots)
-  plan_least cuts e k are =
+  plan_least : AreNormal (first_and g) g.pairs → (cuts : List (Option (List ℕ))) → ((n : ℕ) → cut_at cuts n ≡ plan_of g rows label roots n) → (k : ℕ) → AreRows g k (node_count g) rows → IsLeastCover g k roots (cut_at cuts) (target g label roots)
+  plan_least normal cuts e k are =
       let choice : ℕ → ℕ → List ℕ = choice_of (row_at rows) label in
       let chooses : Chooses g (row_at rows) label choice = Chooses-choice g (row_at rows) label labels in
       let minimal : (n : ℕ) → IsAnd g n → AreMinimal g k n (row_at rows n) = (λ n and. are.each n and.1 and) in
+      let is_cover : IsCover g k roots (cut_at cuts) = IsCover-same g k roots (plan_of g rows label roots) (cut_at cuts) e (template_cover g k roots (row_at rows) label choice inside minimal chooses) in
+      let is_within : RootsWithin g (cut_at cuts) roots (target g label roots) = RootsWithin-same g roots (target g label roots) (plan_of g rows label roots) (cut_at cuts) e (template_within g k roots (row_at rows) label choice inside minimal chooses) in
       record {
-        is = IsCover-same g k roots (plan_of g rows label roots) (cut_at cuts) e (template_cover g k roots (row_at rows) label choice inside minimal chooses);
-        within = RootsWithin-same g roots (target g label roots) (plan_of g rows label roots) (cut_at cuts) e (template_within g k roots (row_at rows) label choice inside minimal chooses);
-        least = λ other d is w. target_least g k roots (row_at rows) label choice inside minimal chooses labels other d is w;
+        is = is_cover;
+        within = is_within;
+        least = record { cover = cut_at cuts; is = is_cover; within = is_within; least = λ other d is w. target_least g k roots (row_at rows) label choice inside minimal chooses normal labels other d is w };
       }
 
+  plan_timely : (cuts : List (Option (List ℕ))) → ((n : ℕ) → cut_at cuts n ≡ plan_of g rows label roots n) → (k : ℕ) → AreRows g k (node_count g) rows
+      → (n r : ℕ) → IsAnd g n → need (depths_of g rows label roots) n ≡ Some r → HasDepth g (cut_at cuts) n r
+  plan_timely cuts e k are n r and at =
+      let choice : ℕ → ℕ → List ℕ = choice_of (row_at rows) label in
+      let chooses : Chooses g (row_at rows) label choice = Chooses-choice g (row_at rows) label labels in
+      let minimal : (n : ℕ) → IsAnd g n → AreMinimal g k n (row_at rows n) = (λ n and. are.each n and.1 and) in
+      HasDepth-same g (plan_of g rows label roots) (cut_at cuts) e
+      (depth_le_required g k roots (row_at rows) label choice inside minimal chooses (target g label roots) (depths_of g rows label roots) (walked k are) n r and at)
+
   -- all nodes' cuts are the plan, where those of the graph are
-  pub plan_all : (cuts : List (Option (List ℕ))) → IsCutTable g rows → length cuts ≡ node_count g
-      → ((n : ℕ) → n < node_count g → cut_at cuts n ≡ plan_of g rows label roots n) → IsPlan g rows label roots cuts
-  plan_all cuts t e below =
+  pub plan_all : AreNormal (first_and g) g.pairs → (cuts : List (Option (List ℕ))) → IsCutTable g rows → length cuts ≡ node_count g
+      → ((n : ℕ) → n < node_count g → cut_at cuts n ≡ plan_of g rows label roots n) → IsPlanned g rows label roots cuts
+  plan_all normal cuts t e below =
       let same : (n : ℕ) → cut_at cuts n ≡ plan_of g rows label roots n = (λ n. elim (cases_lt n (node_count g)) [
         | inl l ↦ below n l
         | inr l ↦ get_or_past cuts n None (omega arith) ∙ sym (cover_past g (choice_of (row_at rows) label) (depths_of g rows label roots) n (depths_size t.k t.are) l)
@@ -95,7 +106,9 @@ module _ (g : Aig) (rows : List (List (List ℕ))) (label : ℕ → ℕ) (roots 
         chosen = same;
         schedule = schedule_is g t.k roots (row_at rows) label (choice_of (row_at rows) label) inside (λ n and. t.are.each n and.1 and) (Chooses-choice g (row_at rows) label labels) (target g label roots) (depths_of g rows label roots) (walked t.k t.are);
         best = chosen_best t.k t.are;
-        least = plan_least cuts same;
+        size = depths_size t.k t.are;
+        timely = plan_timely cuts same t.k t.are;
+        least = plan_least normal cuts same;
       }
 
 -- the roots' nodes

@@ -7,12 +7,14 @@ use Rattle.std.proofs.lemmas.Option.{same_Some}
 use Rattle.std.proofs.lemmas.Bool.{cases_lt, cases_eq, eqb-true, eqb-false, both_ways}
 use Rattle.aig_core.specs.Aig.{Aig, first_and, node_count, IsAnd, pair_of, IsNormal, AreNormal}
 use Rattle.aig_core.specs.declared.lit.Pair.{Pair}
-use Rattle.list_words.specs.Members.{In}
-use Rattle.list_words.proofs.Choice.{choose}
-use Rattle.cover_pick.specs.Work.{is_stop, Path, here, left, right, IsCone, cone_of}
+use Rattle.list_laws.specs.Members.{In}
+use Rattle.list_laws.proofs.Members.{In-get_or, In-left, In-push, In-pushed}
+use Rattle.list_laws.proofs.Choice.{choose}
+use Rattle.cover_pick.specs.Cone.{is_stop, cone_of}
+use Rattle.cover_pick.specs.Work.{IsInner, Path, here, left, right, IsCone}
 use Rattle.cover_pick.specs.Search.{SearchValue, stamp_at, reach}
-use Rattle.cover_pick.proofs.MemberLaws.{In-get_or, In-place, push_in, push_old, push_new, distinct_push, distinct_descending, length_same, length_below}
-use Rattle.cover_pick.proofs.WorkLaws.{cone_is, past_sources}
+use Rattle.cover_pick.proofs.MemberLaws.{In-place, distinct_push, distinct_descending, length_same, length_below}
+use Rattle.cover_pick.proofs.WorkLaws.{stop_inner, inner_stop, cone_is, past_sources}
 
 -- a node ends the way down, or is reached
 abbrev pub Taken : Aig → List ℕ → List ℕ → ℕ → Type 0
@@ -52,15 +54,15 @@ reached_none g c top stamp stamps e fresh = record {
 }
 
 -- a way down, one node longer
-path_left : (g : Aig) (c : List ℕ) (m : ℕ) (p : Pair) → is_stop g c m ≡ false → pair_of g m ≡ Some p → is_stop g c (p.x.0 / 2) ≡ false → {n : ℕ} → Path g c m n → Path g c (p.x.0 / 2) n
-path_left g c m p s at free (here t e) = left p t (subst (λ i. pair_of g i ≡ Some p) (sym e) at) (here free refl)
-path_left g c m p s at free (left q t e r) = left q t e (path_left g c m p s at free r)
-path_left g c m p s at free (right q t e r) = right q t e (path_left g c m p s at free r)
+path_left : (g : Aig) (c : List ℕ) (m : ℕ) (p : Pair) → pair_of g m ≡ Some p → IsInner g c (p.x.0 / 2) → {n : ℕ} → Path g c m n → Path g c (p.x.0 / 2) n
+path_left g c m p at free (here t e) = left p t (record { above = t.and.0; is = subst (λ i. pair_of g i ≡ Some p) (sym e) at }) (here free refl)
+path_left g c m p at free (left q t e r) = left q t e (path_left g c m p at free r)
+path_left g c m p at free (right q t e r) = right q t e (path_left g c m p at free r)
 
-path_right : (g : Aig) (c : List ℕ) (m : ℕ) (p : Pair) → is_stop g c m ≡ false → pair_of g m ≡ Some p → is_stop g c (p.y.0 / 2) ≡ false → {n : ℕ} → Path g c m n → Path g c (p.y.0 / 2) n
-path_right g c m p s at free (here t e) = right p t (subst (λ i. pair_of g i ≡ Some p) (sym e) at) (here free refl)
-path_right g c m p s at free (left q t e r) = left q t e (path_right g c m p s at free r)
-path_right g c m p s at free (right q t e r) = right q t e (path_right g c m p s at free r)
+path_right : (g : Aig) (c : List ℕ) (m : ℕ) (p : Pair) → pair_of g m ≡ Some p → IsInner g c (p.y.0 / 2) → {n : ℕ} → Path g c m n → Path g c (p.y.0 / 2) n
+path_right g c m p at free (here t e) = right p t (record { above = t.and.0; is = subst (λ i. pair_of g i ≡ Some p) (sym e) at }) (here free refl)
+path_right g c m p at free (left q t e r) = left q t e (path_right g c m p at free r)
+path_right g c m p at free (right q t e r) = right q t e (path_right g c m p at free r)
 
 -- what a step keeps: the facts of the search, what was reached, and that the node is taken
 pub record Keeps (g : Aig) (c : List ℕ) (top stamp : ℕ) (old new : SearchValue) (i n : ℕ) : Type 0 where
@@ -92,24 +94,24 @@ module _ (g : Aig) (c : List ℕ) (top stamp : ℕ) where
           ];
           stamped = λ m j. elim (cases_eq m n) [
             | inl e ↦ subst (λ k. stamp_at (slice_set s.stamps n stamp) k ≡ stamp) (sym e) same
-            | inr d ↦ elim (push_in s.reached n m j) [ inl k ↦ stamp_other s.stamps n m stamp d ∙ w.stamped m k | inr e ↦ absurd (d e) ]
+            | inr d ↦ elim (In-push s.reached n m j) [ inl k ↦ stamp_other s.stamps n m stamp d ∙ w.stamped m k | inr e ↦ absurd (d e) ]
           ];
           known = λ m e. elim (cases_eq m n) [
-            | inl q ↦ subst (λ k. In (s.reached ++ n ∷ []) k) (sym q) (push_new s.reached n)
-            | inr d ↦ push_old s.reached n m (w.known m (sym (stamp_other s.stamps n m stamp d) ∙ e))
+            | inl q ↦ subst (λ k. In (s.reached ++ n ∷ []) k) (sym q) (In-pushed s.reached n)
+            | inr d ↦ In-left s.reached (n ∷ []) m (w.known m (sym (stamp_other s.stamps n m stamp d) ∙ e))
           ];
           apart = distinct_push s.reached n w.apart (λ j. fresh (w.stamped n j));
-          inside = λ m j. elim (push_in s.reached n m j) [ inl k ↦ w.inside m k | inr e ↦ subst (λ k. (is_stop g c k ≡ false) × (k < node_count g)) (sym e) (free, l) ];
-          path = λ m j. elim (push_in s.reached n m j) [ inl k ↦ w.path m k | inr e ↦ subst (λ k. Path g c k top) (sym e) p ];
+          inside = λ m j. elim (In-push s.reached n m j) [ inl k ↦ w.inside m k | inr e ↦ subst (λ k. (is_stop g c k ≡ false) × (k < node_count g)) (sym e) (free, l) ];
+          path = λ m j. elim (In-push s.reached n m j) [ inl k ↦ w.path m k | inr e ↦ subst (λ k. Path g c k top) (sym e) p ];
           within = omega arith;
           closed = λ j q b e.
               let both = w.closed j q b (subst (λ k. pair_of g k ≡ Some q) (place j (omega arith)) e) in
-              (taken_more g c s.reached (s.reached ++ n ∷ []) (q.x.0 / 2) (λ m k. push_old s.reached n m k) both.0, taken_more g c s.reached (s.reached ++ n ∷ []) (q.y.0 / 2) (λ m k. push_old s.reached n m k) both.1);
+              (taken_more g c s.reached (s.reached ++ n ∷ []) (q.x.0 / 2) (λ m k. In-left s.reached (n ∷ []) m k) both.0, taken_more g c s.reached (s.reached ++ n ∷ []) (q.y.0 / 2) (λ m k. In-left s.reached (n ∷ []) m k) both.1);
         };
-        old' = λ m k. push_old s.reached n m k;
+        old' = λ m k. In-left s.reached (n ∷ []) m k;
         longer = omega arith;
         places = place;
-        taken = inr (push_new s.reached n);
+        taken = inr (In-pushed s.reached n);
       }
 
   -- a step
@@ -124,7 +126,7 @@ module _ (g : Aig) (c : List ℕ) (top stamp : ℕ) where
 
   -- the first node that is reached
   pub top_keeps : (s : SearchValue) → IsReached g c top stamp s 0 → top < node_count g → Keeps g c top stamp s (reach g c stamp s top) 0 top
-  top_keeps s w l = reach_keeps s 0 top w l (λ t. here t refl)
+  top_keeps s w l = reach_keeps s 0 top w l (λ t. here (stop_inner g c top l t) refl)
 
   -- the fan-ins of the next node
   pub fan_ins_keep : (s : SearchValue) (i : ℕ) (p : Pair) → IsReached g c top stamp s i → i < length s.reached → pair_of g (stamp_at s.reached i) ≡ Some p → IsNormal (stamp_at s.reached i) p → Taken g c s.reached top
@@ -136,9 +138,9 @@ module _ (g : Aig) (c : List ℕ) (top stamp : ℕ) where
       let m_in : m < node_count g = both.1 in
       let y_below : p.y.0 / 2 < m = normal.below in
       let x_below : p.x.0 / 2 < p.y.0 / 2 = normal.ordered in
-      let a = reach_keeps s i (p.x.0 / 2) w (omega arith) (λ t. path_left g c m p both.0 at t (w.path m here_in)) in
+      let a = reach_keeps s i (p.x.0 / 2) w (omega arith) (λ t. path_left g c m p at (stop_inner g c (p.x.0 / 2) (omega arith) t) (w.path m here_in)) in
       let mid : SearchValue = reach g c stamp s (p.x.0 / 2) in
-      let b = reach_keeps mid i (p.y.0 / 2) a.is (omega arith) (λ t. path_right g c m p both.0 at t (w.path m here_in)) in
+      let b = reach_keeps mid i (p.y.0 / 2) a.is (omega arith) (λ t. path_right g c m p at (stop_inner g c (p.y.0 / 2) (omega arith) t) (w.path m here_in)) in
       let new : SearchValue = reach g c stamp mid (p.y.0 / 2) in
       let more : (k : ℕ) → In s.reached k → In new.reached k = (λ k j. b.old' k (a.old' k j)) in
       let longer_a : length s.reached ≤ length mid.reached = a.longer in
@@ -167,27 +169,27 @@ module _ (g : Aig) (c : List ℕ) (top stamp : ℕ) where
 
 -- where all that were reached are closed, each node of the cone is reached
 all_reached : (g : Aig) (c : List ℕ) (top stamp : ℕ) (s : SearchValue) → IsReached g c top stamp s (length s.reached) → (m : ℕ) → {n : ℕ} → Path g c m n → Taken g c s.reached n → In s.reached m
-all_reached g c top stamp s w m {n} (here t e) (inl h) = absurd (both_ways (is_stop g c n) t h)
+all_reached g c top stamp s w m {n} (here t e) (inl h) = absurd (both_ways (is_stop g c n) (inner_stop g c n t) h)
 all_reached g c top stamp s w m {n} (here t e) (inr i) = subst (λ k. In s.reached k) e i
-all_reached g c top stamp s w m {n} (left p t e q) (inl h) = absurd (both_ways (is_stop g c n) t h)
+all_reached g c top stamp s w m {n} (left p t e q) (inl h) = absurd (both_ways (is_stop g c n) (inner_stop g c n t) h)
 all_reached g c top stamp s w m {n} (left p t e q) (inr i) =
     let r = In-place s.reached n i in
-    all_reached g c top stamp s w m q (w.closed r.0 p r.1 (subst (λ k. pair_of g k ≡ Some p) (sym r.2) e)).0
-all_reached g c top stamp s w m {n} (right p t e q) (inl h) = absurd (both_ways (is_stop g c n) t h)
+    all_reached g c top stamp s w m q (w.closed r.0 p r.1 (subst (λ k. pair_of g k ≡ Some p) (sym r.2) e.is)).0
+all_reached g c top stamp s w m {n} (right p t e q) (inl h) = absurd (both_ways (is_stop g c n) (inner_stop g c n t) h)
 all_reached g c top stamp s w m {n} (right p t e q) (inr i) =
     let r = In-place s.reached n i in
-    all_reached g c top stamp s w m q (w.closed r.0 p r.1 (subst (λ k. pair_of g k ≡ Some p) (sym r.2) e)).1
+    all_reached g c top stamp s w m q (w.closed r.0 p r.1 (subst (λ k. pair_of g k ≡ Some p) (sym r.2) e.is)).1
 
 -- no more nodes than there are
 pub reached_few : (g : Aig) (c : List ℕ) (top stamp : ℕ) (s : SearchValue) (i : ℕ) → IsReached g c top stamp s i → length s.reached ≤ node_count g
 reached_few g c top stamp s i w = length_below s.reached (node_count g) w.apart (λ m j. (w.inside m j).1)
 
 -- The search ends with as many nodes as the cone has.
-pub reached_all : (g : Aig) (c : List ℕ) (top stamp : ℕ) (s : SearchValue) (i : ℕ) → AreNormal (first_and g) g.pairs → IsReached g c top stamp s i → length s.reached ≤ i → Taken g c s.reached top → length s.reached ≡ length (cone_of g c top)
-reached_all g c top stamp s i normal w end start =
+pub reached_all : (g : Aig) (c : List ℕ) (top stamp : ℕ) (s : SearchValue) (i : ℕ) → AreNormal (first_and g) g.pairs → top < node_count g → IsReached g c top stamp s i → length s.reached ≤ i → Taken g c s.reached top → length s.reached ≡ length (cone_of g c top)
+reached_all g c top stamp s i normal inside w end start =
     let in_i : i ≤ length s.reached = w.within in
     let all : IsReached g c top stamp s (length s.reached) = subst (λ k. IsReached g c top stamp s k) (let e : i ≡ length s.reached = omega arith in e) w in
-    let cone : IsCone g c top (cone_of g c top) = cone_is g c top normal in
+    let cone : IsCone g c top (cone_of g c top) = cone_is g c top normal inside in
     length_same s.reached (cone_of g c top) w.apart (distinct_descending (cone_of g c top) cone.descending)
     (λ n j. cone.all n (w.path n j)) (λ n j. all_reached g c top stamp s all n (cone.only n j) start)
 
@@ -216,8 +218,8 @@ found_and g c top stamp s i n f l e =
     let both = f.is.inside (stamp_at s.reached i) (In-get_or s.reached i 0 l) in
     subst (λ k. IsAnd g k) (sym e) (past_sources g c (stamp_at s.reached i) both.0, both.1)
 
-pub search_end : (g : Aig) (c : List ℕ) (top stamp : ℕ) (s : SearchValue) (i : ℕ) → AreNormal (first_and g) g.pairs → Found g c top stamp s i → length s.reached ≤ i → length s.reached ≡ length (cone_of g c top)
-search_end g c top stamp s i normal f end = reached_all g c top stamp s i normal f.is end f.start
+pub search_end : (g : Aig) (c : List ℕ) (top stamp : ℕ) (s : SearchValue) (i : ℕ) → AreNormal (first_and g) g.pairs → top < node_count g → Found g c top stamp s i → length s.reached ≤ i → length s.reached ≡ length (cone_of g c top)
+search_end g c top stamp s i normal inside f end = reached_all g c top stamp s i normal inside f.is end f.start
 
 -- no node has a stamp at the start
 pub stamps_none : (n m : ℕ) → stamp_at (replicate n 0) m ≡ 0

@@ -7,11 +7,17 @@ use Rattle.std.proofs.lemmas.List.Sums.{sum_by_push, sum_by-cons}
 use Rattle.std.proofs.lemmas.Option.{same_Some, none-some}
 use Rattle.std.proofs.lemmas.Bool.{cases_lt, cases_eq, false≢true}
 use Rattle.aig_core.specs.Aig.{Aig, node_count}
-use Rattle.list_words.specs.Members.{In}
+use Rattle.list_laws.specs.Members.{In}
+use Rattle.list_laws.proofs.Members.{In-left, In-push, In-pushed}
+use Rattle.tl_fault.specs.OrMemory.{OrMemory}
+use Rattle.cover_pick.specs.Refusals.{refusal_of}
+use Rattle.cover_pick.specs.declared.limits.TheConstants.{MOST_WORK}
+use Rattle.cover_pick.specs.declared.lut.PickErr.{PickErr}
+use Rattle.cover_pick.specs.declared.lut.PickErr.TheVariants.{Work, Memory}
 use Rattle.cover_pick.specs.declared.lut.Lut.{Lut}
 use Rattle.cover_pick.specs.Mapping.{HaveBases, AscendByLit, bits_of}
-use Rattle.cover_pick.specs.Tables.{mark_at, mark_each, mark_leaves, mark_cut, mark_cuts, marks_of, IsNeeded, root, leaf, leaves_of, Made, add_table, add_marked, tables_from, tables_of, AreTables}
-use Rattle.cover_pick.specs.Work.{table_work, work_of}
+use Rattle.cover_pick.specs.Marks.{mark_at, mark_each, mark_leaves, mark_cut, mark_cuts, marks_of, IsMarked, root, leaf, leaves_of, Made, add_table, add_marked, tables_from, tables_of, AreMade}
+use Rattle.cover_pick.specs.Cone.{table_work, work_of}
 
 -- a write
 mark_same : (xs : List Bool) (n : ℕ) → n < length xs → mark_at (slice_set xs n true) n ≡ true
@@ -98,7 +104,7 @@ cuts_from (o ∷ os) xs l h =
     ]
 
 -- The marked literals are the needed ones.
-pub marked_needed : (g : Aig) (roots : List ℕ) (cuts : List (Option (List ℕ))) (l : ℕ) → mark_at (marks_of g roots cuts) l ≡ true → IsNeeded roots cuts l
+pub marked_needed : (g : Aig) (roots : List ℕ) (cuts : List (Option (List ℕ))) (l : ℕ) → mark_at (marks_of g roots cuts) l ≡ true → IsMarked roots cuts l
 marked_needed g roots cuts l h =
     elim (cuts_from cuts (mark_each (replicate (2 * node_count g) false) roots) l h) [
       | inl r ↦ leaf r.0 r.1 r.2 r.3 r.4
@@ -112,7 +118,7 @@ marked_needed g roots cuts l h =
     ]
 
 pub needed_marked : (g : Aig) (roots : List ℕ) (cuts : List (Option (List ℕ))) (l : ℕ) → ((c : List ℕ) (m : ℕ) → In cuts (Some c) → In c m → m < node_count g) → ((l : ℕ) → In roots l → l < 2 * node_count g)
-    → IsNeeded roots cuts l → mark_at (marks_of g roots cuts) l ≡ true
+    → IsMarked roots cuts l → mark_at (marks_of g roots cuts) l ≡ true
 needed_marked g roots cuts l inside lits (root i) =
     cuts_stay cuts (mark_each (replicate (2 * node_count g) false) roots) l (each_in roots (replicate (2 * node_count g) false) l i (rw (length-replicate (2 * node_count g) false) (lits l i)))
 needed_marked g roots cuts l inside lits (leaf c m i j e) =
@@ -120,31 +126,17 @@ needed_marked g roots cuts l inside lits (leaf c m i j e) =
     let s : length (mark_each (replicate (2 * node_count g) false) roots) ≡ 2 * node_count g = each_length roots (replicate (2 * node_count g) false) ∙ length-replicate (2 * node_count g) false in
     rw e (cuts_in cuts (mark_each (replicate (2 * node_count g) false) roots) c m i j (rw s (omega arith)))
 
--- a list with one more table
-push_in : (ts : List Lut) (x t : Lut) → In (ts ++ x ∷ []) t → In ts t ⊎ (t ≡ x)
-push_in [] x t i = elim i [ inl e ↦ inr e | inr b ↦ absurd b ]
-push_in (y ∷ ts) x t i = elim i [ inl e ↦ inl (inl e) | inr j ↦ elim (push_in ts x t j) [ inl k ↦ inl (inr k) | inr e ↦ inr e ] ]
-
-push_old : (ts : List Lut) (x t : Lut) → In ts t → In (ts ++ x ∷ []) t
-push_old [] x t i = elim i [ ]
-push_old (y ∷ ts) x t (inl e) = inl e
-push_old (y ∷ ts) x t (inr i) = inr (push_old ts x t i)
-
-push_new : (ts : List Lut) (x : Lut) → In (ts ++ x ∷ []) x
-push_new [] x = inl refl
-push_new (y ∷ ts) x = inr (push_new ts x)
-
 ascend_push : (ts : List Lut) (x : Lut) → AscendByLit ts → ((t : Lut) → In ts t → t.lit.0 < x.lit.0) → AscendByLit (ts ++ x ∷ [])
 ascend_push [] x a b = ((λ u i. absurd i), tt)
 ascend_push (y ∷ ts) x a b =
-    ((λ u i. elim (push_in ts x u i) [ inl j ↦ a.0 u j | inr e ↦ subst (λ v. y.lit.0 < v.lit.0) (sym e) (b y (inl refl)) ]), ascend_push ts x a.1 (λ t i. b t (inr i)))
+    ((λ u i. elim (In-push ts x u i) [ inl j ↦ a.0 u j | inr e ↦ subst (λ v. y.lit.0 < v.lit.0) (sym e) (b y (inl refl)) ]), ascend_push ts x a.1 (λ t i. b t (inr i)))
 
 bases_push : (ts : List Lut) (x : Lut) (b : ℕ) → HaveBases b ts → x.base ≡ b + bits_of ts → HaveBases b (ts ++ x ∷ [])
 bases_push [] x b h e = ((omega arith), tt)
 bases_push (y ∷ ts) x b h e = (h.0, bases_push ts x (b + 2 ^ length y.leaves) h.1 (let u : bits_of (y ∷ ts) ≡ 2 ^ length y.leaves + bits_of ts = sum_by-cons (λ (t : Lut). 2 ^ length t.leaves) y ts in omega arith))
 
 module _ (g : Aig) (cuts : List (Option (List ℕ))) (S : ℕ → Type 0) where
-  skip_are : (l : ℕ) (made : Made) → AreTables g cuts S l made → ((c : List ℕ) → S l → leaves_of g cuts l ≡ Some c → ⊥) → AreTables g cuts S (l + 1) made
+  skip_are : (l : ℕ) (made : Made) → AreMade g cuts S l made → ((c : List ℕ) → S l → leaves_of g cuts l ≡ Some c → ⊥) → AreMade g cuts S (l + 1) made
   skip_are l made a none = record {
     below = λ t i. let b : t.lit.0 < l = a.below t i in omega arith;
     only = a.only;
@@ -158,15 +150,15 @@ module _ (g : Aig) (cuts : List (Option (List ℕ))) (S : ℕ → Type 0) where
     work = a.work;
   }
 
-  add_are : (l : ℕ) (made : Made) (c : List ℕ) → AreTables g cuts S l made → S l → leaves_of g cuts l ≡ Some c → AreTables g cuts S (l + 1) (add_table g made l (Some c))
+  add_are : (l : ℕ) (made : Made) (c : List ℕ) → AreMade g cuts S l made → S l → leaves_of g cuts l ≡ Some c → AreMade g cuts S (l + 1) (add_table g made l (Some c))
   add_are l made c a s e =
       let x : Lut = record { lit = record { 0 = l }; leaves = c; base = made.bits } in
       record {
-        below = λ t i. elim (push_in made.luts x t i) [ inl j ↦ (let b : t.lit.0 < l = a.below t j in omega arith) | inr q ↦ subst (λ v. v.lit.0 < l + 1) (sym q) (omega arith) ];
-        only = λ t i. elim (push_in made.luts x t i) [ inl j ↦ a.only t j | inr q ↦ subst (λ v. S v.lit.0 × (leaves_of g cuts v.lit.0 ≡ Some v.leaves)) (sym q) (s, e) ];
+        below = λ t i. elim (In-push made.luts x t i) [ inl j ↦ (let b : t.lit.0 < l = a.below t j in omega arith) | inr q ↦ subst (λ v. v.lit.0 < l + 1) (sym q) (omega arith) ];
+        only = λ t i. elim (In-push made.luts x t i) [ inl j ↦ a.only t j | inr q ↦ subst (λ v. S v.lit.0 × (leaves_of g cuts v.lit.0 ≡ Some v.leaves)) (sym q) (s, e) ];
         all = λ m d b sm f. elim (cases_lt m l) [
-          | inl h ↦ (let r = a.all m d h sm f in record { by = r.by; in' = push_old made.luts x r.by r.in'; lit_is = r.lit_is; leaves_are = r.leaves_are })
-          | inr h ↦ (let q : m ≡ l = omega arith in record { by = x; in' = push_new made.luts x; lit_is = sym q; leaves_are = same_Some c d (sym e ∙ subst (λ i. leaves_of g cuts i ≡ Some d) q f) })
+          | inl h ↦ (let r = a.all m d h sm f in record { by = r.by; in' = In-left made.luts (x ∷ []) r.by r.in'; lit_is = r.lit_is; leaves_are = r.leaves_are })
+          | inr h ↦ (let q : m ≡ l = omega arith in record { by = x; in' = In-pushed made.luts x; lit_is = sym q; leaves_are = same_Some c d (sym e ∙ subst (λ i. leaves_of g cuts i ≡ Some d) q f) })
         ];
         ascending = ascend_push made.luts x a.ascending (λ t i. a.below t i);
         bases = bases_push made.luts x 0 a.bases (let d : made.bits ≡ bits_of made.luts = a.sum in omega arith);
@@ -174,24 +166,24 @@ module _ (g : Aig) (cuts : List (Option (List ℕ))) (S : ℕ → Type 0) where
         sum = (let b : bits_of (made.luts ++ x ∷ []) ≡ bits_of made.luts + 2 ^ length c = sum_by_push (λ (t : Lut). 2 ^ length t.leaves) made.luts x in let d : made.bits ≡ bits_of made.luts = a.sum in omega arith);
       }
 
-  table_are : (l : ℕ) (made : Made) (o : Option (List ℕ)) → AreTables g cuts S l made → S l → leaves_of g cuts l ≡ o → AreTables g cuts S (l + 1) (add_table g made l o)
+  table_are : (l : ℕ) (made : Made) (o : Option (List ℕ)) → AreMade g cuts S l made → S l → leaves_of g cuts l ≡ o → AreMade g cuts S (l + 1) (add_table g made l o)
   table_are l made None a s e = skip_are l made a (λ c _ f. absurd (none-some c (sym e ∙ f)))
   table_are l made (Some c) a s e = add_are l made c a s e
 
-  marked_are : (l : ℕ) (made : Made) (m : Bool) → AreTables g cuts S l made → (m ≡ true → S l) → (S l → m ≡ true) → AreTables g cuts S (l + 1) (add_marked g cuts made l m)
+  marked_are : (l : ℕ) (made : Made) (m : Bool) → AreMade g cuts S l made → (m ≡ true → S l) → (S l → m ≡ true) → AreMade g cuts S (l + 1) (add_marked g cuts made l m)
   marked_are l made false a to from = skip_are l made a (λ c s _. absurd (false≢true (from s)))
   marked_are l made true a to from = table_are l made (leaves_of g cuts l) a (to refl) refl
 
-  tables_are : (ms : List Bool) (l : ℕ) (made : Made) → AreTables g cuts S l made → ((j : ℕ) → j < length ms → (mark_at ms j ≡ true → S (l + j)) × (S (l + j) → mark_at ms j ≡ true)) → AreTables g cuts S (l + length ms) (tables_from g cuts made l ms)
-  tables_are [] l made a h = subst (λ i. AreTables g cuts S i made) (let e : l ≡ l + 0 = omega arith in e) a
+  tables_are : (ms : List Bool) (l : ℕ) (made : Made) → AreMade g cuts S l made → ((j : ℕ) → j < length ms → (mark_at ms j ≡ true → S (l + j)) × (S (l + j) → mark_at ms j ≡ true)) → AreMade g cuts S (l + length ms) (tables_from g cuts made l ms)
+  tables_are [] l made a h = subst (λ i. AreMade g cuts S i made) (let e : l ≡ l + 0 = omega arith in e) a
   tables_are (m ∷ ms) l made a h =
       let z : l + 0 ≡ l = omega arith in
-      subst (λ i. AreTables g cuts S i (tables_from g cuts (add_marked g cuts made l m) (l + 1) ms)) (let e : l + 1 + length ms ≡ l + length (m ∷ ms) = omega arith in e)
+      subst (λ i. AreMade g cuts S i (tables_from g cuts (add_marked g cuts made l m) (l + 1) ms)) (let e : l + 1 + length ms ≡ l + length (m ∷ ms) = omega arith in e)
       (tables_are ms (l + 1) (add_marked g cuts made l m)
       (marked_are l made m a (λ t. subst (λ i. S i) z ((h 0 (omega arith)).0 t)) (λ s. (h 0 (omega arith)).1 (subst (λ i. S i) (sym z) s)))
       (λ j b. let q : l + suc j ≡ l + 1 + j = omega arith in ((λ t. subst (λ i. S i) q ((h (suc j) (omega arith)).0 t)), (λ s. (h (suc j) (omega arith)).1 (subst (λ i. S i) (sym q) s)))))
 
-  no_tables : AreTables g cuts S 0 (record { luts = []; bits = 0; work = 0 })
+  no_tables : AreMade g cuts S 0 (record { luts = []; bits = 0; work = 0 })
   no_tables = record { below = λ t i. absurd i; only = λ t i. absurd i; all = λ m c b s e. absurd (omega arith); ascending = tt; bases = tt; sum = refl; work = refl }
 
 cuts_length : (os : List (Option (List ℕ))) (xs : List Bool) → length (mark_cuts xs os) ≡ length xs
@@ -203,11 +195,11 @@ marks_length g roots cuts = cuts_length cuts (mark_each (replicate (2 * node_cou
 
 -- The tables of the needed literals, in ascending order, with their bases.
 pub tables_needed : (g : Aig) (roots : List ℕ) (cuts : List (Option (List ℕ))) → ((c : List ℕ) (m : ℕ) → In cuts (Some c) → In c m → m < node_count g) → ((l : ℕ) → In roots l → l < 2 * node_count g)
-    → AreTables g cuts (IsNeeded roots cuts) (2 * node_count g) (tables_of g roots cuts)
+    → AreMade g cuts (IsMarked roots cuts) (2 * node_count g) (tables_of g roots cuts)
 tables_needed g roots cuts inside lits =
-    subst (λ i. AreTables g cuts (IsNeeded roots cuts) i (tables_of g roots cuts)) (let z : 0 + length (marks_of g roots cuts) ≡ 2 * node_count g = omega (arith, marks_length g roots cuts) in z)
-    (tables_are g cuts (IsNeeded roots cuts) (marks_of g roots cuts) 0 (record { luts = []; bits = 0; work = 0 }) (no_tables g cuts (IsNeeded roots cuts))
-    (λ j b. let z : j ≡ 0 + j = omega arith in ((λ t. subst (λ i. IsNeeded roots cuts i) z (marked_needed g roots cuts j t)), (λ n. needed_marked g roots cuts j inside lits (subst (λ i. IsNeeded roots cuts i) (sym z) n)))))
+    subst (λ i. AreMade g cuts (IsMarked roots cuts) i (tables_of g roots cuts)) (let z : 0 + length (marks_of g roots cuts) ≡ 2 * node_count g = omega (arith, marks_length g roots cuts) in z)
+    (tables_are g cuts (IsMarked roots cuts) (marks_of g roots cuts) 0 (record { luts = []; bits = 0; work = 0 }) (no_tables g cuts (IsMarked roots cuts))
+    (λ j b. let z : j ≡ 0 + j = omega arith in ((λ t. subst (λ i. IsMarked roots cuts i) z (marked_needed g roots cuts j t)), (λ n. needed_marked g roots cuts j inside lits (subst (λ i. IsMarked roots cuts i) (sym z) n)))))
 
 -- work only grow
 table_more : (g : Aig) (made : Made) (l : ℕ) (o : Option (List ℕ)) → made.work ≤ (add_table g made l o).work
@@ -251,3 +243,8 @@ tables_past g cuts marks made all l i b e =
     let m = get_or marks i false in
     let a : (add_marked g cuts made l m).work ≤ (tables_from g cuts (add_marked g cuts made l m) (l + 1) (drop (suc i) marks)).work = tables_more g cuts (drop (suc i) marks) (add_marked g cuts made l m) (l + 1) in
     subst (λ x. (add_marked g cuts made l m).work ≤ x.work) (sym (ap (λ ms. tables_from g cuts made l ms) (drop_there marks i b)) ∙ e) a
+
+-- where some work is too much, more is
+pub work_more : (e : PickErr) {some all : ℕ} → some ≤ all → OrMemory refusal_of (λ _. MOST_WORK < some) e → OrMemory refusal_of (λ _. MOST_WORK < all) e
+work_more Work l h = omega arith
+work_more Memory l h = tt

@@ -6,7 +6,7 @@ use Rattle.std.proofs.lemmas.Bool.{eqb-true, eqb-false, cases_eq}
 use Rattle.aig_core.specs.Aig.{Aig, first_and, IsSource}
 use Rattle.aig_core.specs.declared.lit.Kind.{Kind}
 use Rattle.aig_core.specs.declared.lit.Kind.TheVariants.{Regular, Parameter}
-use Rattle.list_words.proofs.Choice.{choose}
+use Rattle.list_laws.proofs.Choice.{choose}
 use Rattle.cover_pick.specs.Target.{source_level, kind_level}
 
 -- a source stands before the AND nodes

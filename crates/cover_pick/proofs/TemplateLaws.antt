@@ -5,18 +5,16 @@ use Rattle.std.proofs.lemmas.List.{get_or_past}
 use Rattle.std.proofs.lemmas.Option.{none-some}
 use Rattle.std.proofs.lemmas.Bool.{cases_lt, eqb-true, ltb-true}
 use Rattle.aig_core.specs.Aig.{Aig, first_and, node_count, IsAnd}
-use Rattle.list_words.specs.Members.{In}
+use Rattle.list_laws.specs.Members.{In}
 use Rattle.cut_enum.specs.Covers.{IsCover, HasDepth, source, free as no_leaves, table}
-use Rattle.list_words.proofs.Choice.{choose}
-use Rattle.aig_core.specs.declared.lit.Lit.{Lit}
-use Rattle.aig_core.specs.Roots.{RootsValue, roots_of}
+use Rattle.list_laws.proofs.Choice.{choose}
 use Rattle.depth_label.specs.Label.{IsCutTable}
 use Rattle.cover_pick.specs.Target.{target}
-use Rattle.cover_pick.specs.Schedule.{cut_at, IsPlan}
-use Rattle.cover_pick.specs.Tables.{leaves_of, source_leaves, HasTable, Made, AreTables, IsNeeded, root, leaf}
-use Rattle.cover_pick.specs.Work.{work_of}
-use Rattle.cover_pick.specs.Template.{TableDepth, free, over, TablesWithin, AreChosen, IsTemplate}
-use Rattle.cover_pick.proofs.MemberLaws.{In-get_or}
+use Rattle.cover_pick.specs.Planned.{cut_at, IsPlanned}
+use Rattle.cover_pick.specs.Marks.{leaves_of, source_leaves, Made, AreMade, IsMarked, root, leaf, IsMade}
+use Rattle.cover_pick.specs.Tables.{HasTable}
+use Rattle.cover_pick.specs.Template.{TableDepth, free, over, TablesWithin}
+use Rattle.list_laws.proofs.Members.{In-get_or}
 
 pub leaves_and : (g : Aig) (cuts : List (Option (List ℕ))) (l : ℕ) → IsAnd g (l / 2) → leaves_of g cuts l ≡ cut_at cuts (l / 2)
 leaves_and g cuts l and =
@@ -38,8 +36,8 @@ in_cut (o ∷ os) c (inl e) = (0, sym e)
 in_cut (o ∷ os) c (inr i) = let r = in_cut os c i in (suc r.0, r.1)
 
 module _ (g : Aig) (k : ℕ) (roots : List ℕ) (cuts : List (Option (List ℕ))) (made : Made) (is : IsCover g k roots (cut_at cuts))
-    (tables : AreTables g cuts (IsNeeded roots cuts) (2 * node_count g) made) where
-  has_table : (l : ℕ) (c : List ℕ) → IsAnd g (l / 2) → IsNeeded roots cuts l → cut_at cuts (l / 2) ≡ Some c → HasTable made.luts l c
+    (tables : AreMade g cuts (IsMarked roots cuts) (2 * node_count g) made) where
+  has_table : (l : ℕ) (c : List ℕ) → IsAnd g (l / 2) → IsMarked roots cuts l → cut_at cuts (l / 2) ≡ Some c → HasTable made.luts l c
   has_table l c and needed e = let b : l / 2 < node_count g = and.1 in tables.all l c (omega arith) needed (leaves_and g cuts l and ∙ e)
 
   table_cut : (l : ℕ) (c : List ℕ) → IsAnd g (l / 2) → HasTable made.luts l c → cut_at cuts (l / 2) ≡ Some c
@@ -53,7 +51,7 @@ module _ (g : Aig) (k : ℕ) (roots : List ℕ) (cuts : List (Option (List ℕ))
       elim (cases_lt m (first_and g)) [ inl l ↦ inl l | inr l ↦ inr (l, omega arith) ]
 
   -- a node's depth under the chosen cuts is the depth of its tables
-  pub to_tables : {n d : ℕ} → HasDepth g (cut_at cuts) n d → (l : ℕ) → l / 2 ≡ n → IsAnd g n → IsNeeded roots cuts l → TableDepth g made.luts l d
+  pub to_tables : {n d : ℕ} → HasDepth g (cut_at cuts) n d → (l : ℕ) → l / 2 ≡ n → IsAnd g n → IsMarked roots cuts l → TableDepth g made.luts l d
   to_tables (source s) l e and needed = absurd (let a : first_and g ≤ l / 2 = subst (λ i. first_and g ≤ i) (sym e) and.0 in omega arith)
   to_tables (no_leaves at) l e and needed = free (has_table l [] (subst (λ i. IsAnd g i) (sym e) and) needed (subst (λ i. cut_at cuts i ≡ Some []) (sym e) at))
   to_tables {n} (table {d = d} c at sub) l e and needed =
@@ -67,7 +65,7 @@ module _ (g : Aig) (k : ℕ) (roots : List ℕ) (cuts : List (Option (List ℕ))
       table c at (λ m i. elim (leaf_and n m c at i) [ inl s ↦ source s | inr a ↦ from_tables (sub m i a.0) m (omega arith) a ])
 
 -- the depth of the tables is the target
-pub tables_within : (g : Aig) (rows : List (List (List ℕ))) (label : ℕ → ℕ) (roots : List ℕ) (made : Made) → IsCutTable g rows → AreChosen g rows label roots made → TablesWithin g roots made.luts (target g label roots)
+pub tables_within : (g : Aig) (rows : List (List (List ℕ))) (label : ℕ → ℕ) (roots : List ℕ) (made : Made) → IsCutTable g rows → IsMade g rows label roots made → TablesWithin g roots made.luts (target g label roots)
 tables_within g rows label roots made t a =
     let p = a.plan.least t.k t.are in
     record {
@@ -75,31 +73,13 @@ tables_within g rows label roots made t a =
       nodes = λ l i and. to_tables g t.k roots a.cuts made p.is a.tables (p.within.nodes l i and) l refl and (root i);
     }
 
-pub tables_exact : (g : Aig) (rows : List (List (List ℕ))) (label : ℕ → ℕ) (roots : List ℕ) (made : Made) → IsCutTable g rows → AreChosen g rows label roots made → (d : ℕ) → TablesWithin g roots made.luts d → target g label roots ≤ d
+pub tables_exact : (g : Aig) (rows : List (List (List ℕ))) (label : ℕ → ℕ) (roots : List ℕ) (made : Made) → IsCutTable g rows → IsMade g rows label roots made → (d : ℕ) → TablesWithin g roots made.luts d → target g label roots ≤ d
 tables_exact g rows label roots made t a d w =
     let p = a.plan.least t.k t.are in
-    p.least (cut_at a.cuts) d p.is (record { complemented = w.complemented; nodes = λ l i and. from_tables g t.k roots a.cuts made p.is a.tables (w.nodes l i and) (l / 2) refl and })
-
--- the work that was added is the work of the tables
-pub chosen_work : (g : Aig) (rows : List (List (List ℕ))) (label : ℕ → ℕ) (roots : List ℕ) (made : Made) → AreChosen g rows label roots made → AreChosen g rows label roots (record { luts = made.luts; bits = made.bits; work = work_of g made.luts })
-chosen_work g rows label roots made a =
-    subst (λ w. AreChosen g rows label roots (record { luts = made.luts; bits = made.bits; work = w })) a.tables.work a
-
--- The whole template.
-pub template_is : (g : Aig) (rows : List (List (List ℕ))) (label : ℕ → ℕ) (roots : RootsValue) (made : Made) (outputs next : List Lit) (depth : ℕ) → IsCutTable g rows → AreChosen g rows label (roots_of roots) made
-    → outputs ≡ roots.outputs → next ≡ roots.next → depth ≡ target g label (roots_of roots)
-    → IsTemplate g rows label roots (record { luts = made.luts; outputs = outputs; next = next; bits = made.bits; depth = depth })
-template_is g rows label roots made outputs next depth t a o n e = record {
-  chosen = chosen_work g rows label (roots_of roots) made a;
-  outputs = o;
-  next = n;
-  depth = e;
-  within = subst (λ d. TablesWithin g (roots_of roots) made.luts d) (sym e) (tables_within g rows label (roots_of roots) made t a);
-  exact = λ d w. let b : target g label (roots_of roots) ≤ d = tables_exact g rows label (roots_of roots) made t a d w in omega arith;
-}
+    p.least.least (cut_at a.cuts) d p.is (record { complemented = w.complemented; nodes = λ l i and. from_tables g t.k roots a.cuts made p.is a.tables (w.nodes l i and) (l / 2) refl and })
 
 -- a chosen cut's leaves are nodes
-pub leaves_inside : (g : Aig) (rows : List (List (List ℕ))) (label : ℕ → ℕ) (roots : List ℕ) (cuts : List (Option (List ℕ))) → IsCutTable g rows → IsPlan g rows label roots cuts → (c : List ℕ) (m : ℕ) → In cuts (Some c) → In c m → m < node_count g
+pub leaves_inside : (g : Aig) (rows : List (List (List ℕ))) (label : ℕ → ℕ) (roots : List ℕ) (cuts : List (Option (List ℕ))) → IsCutTable g rows → IsPlanned g rows label roots cuts → (c : List ℕ) (m : ℕ) → In cuts (Some c) → In c m → m < node_count g
 leaves_inside g rows label roots cuts t plan c m i j =
     let p = plan.least t.k t.are in
     let r = in_cut cuts c i in

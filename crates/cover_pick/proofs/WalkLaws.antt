@@ -4,17 +4,18 @@ use Rattle.std.proofs.lemmas.List.{length-replicate, get_or-replicate, get_or_pa
 use Rattle.std.proofs.Math.ListN.{length-set}
 use Rattle.std.proofs.lemmas.Option.{same_Some, none-some}
 use Rattle.std.proofs.lemmas.Bool.{cases_lt, cases_eq, ltb-true, ltb-false}
-use Rattle.aig_core.specs.Aig.{Aig, first_and, node_count, IsAnd}
+use Rattle.aig_core.specs.Aig.{Aig, first_and, node_count, IsAnd, AreNormal}
 use Rattle.aig_core.specs.declared.lit.Kind.TheVariants.{Regular}
-use Rattle.list_words.specs.Members.{In}
+use Rattle.list_laws.specs.Members.{In}
 use Rattle.cut_enum.specs.Cuts.{IsCut, AreMinimal}
-use Rattle.cut_enum.specs.Covers.{IsCover, HasDepth, source, free, table, greatest, height, AreLabels}
-use Rattle.list_words.proofs.Choice.{choose}
-use Rattle.cut_enum.proofs.DepthLemmas.{label_le_depth}
-use Rattle.cover_pick.specs.RootDepth.{RootsWithin}
+use Rattle.cut_enum.specs.Covers.{IsCover, HasDepth, source, free, table, RootsWithin}
+use Rattle.depth_label.specs.Label.{greatest, height, AreLabels}
+use Rattle.list_laws.proofs.Choice.{choose}
+use Rattle.depth_label.proofs.DepthLemmas.{label_le_depth}
 use Rattle.cover_pick.specs.Target.{source_level, root_level, target}
 use Rattle.cover_pick.specs.Required.{need, least_of, require, require_each, visit, walk, require_root, require_roots, required, chosen, cover_of}
-use Rattle.cover_pick.specs.Schedule.{AtMost, Chooses, FromRoot, IsSchedule}
+use Rattle.cover_pick.specs.Schedule.{AtMost, FromRoot}
+use Rattle.cover_pick.specs.Planned.{Chooses, IsWalked}
 use Rattle.cover_pick.proofs.TargetLaws.{source_below, level_complemented, level_within}
 
 -- a required depth comes from a node that was taken, one of `first` or above
@@ -284,7 +285,7 @@ module _ (g : Aig) (k : ℕ) (roots : List ℕ) (cuts : ℕ → List (List ℕ))
   required_walked = walk_walked (target g label roots) (length g.pairs) (require_roots (first_and g) (target g label roots) (replicate (node_count g) None) roots) (omega arith) start_walked
 
   -- the rule in its own words
-  pub schedule_is : (t : ℕ) (reqs : List (Option ℕ)) → Walked g label choice roots t 0 reqs → IsSchedule g label choice roots t (need reqs)
+  pub schedule_is : (t : ℕ) (reqs : List (Option ℕ)) → Walked g label choice roots t 0 reqs → IsWalked g label choice roots t (need reqs)
   schedule_is t reqs w = record {
     low = w.low;
     root = w.tops;
@@ -362,13 +363,13 @@ module _ (g : Aig) (k : ℕ) (roots : List ℕ) (cuts : ℕ → List (List ℕ))
   template_cover = is_cover (target g label roots) (required g choice roots (target g label roots)) required_walked
 
   -- and the target at most the depth of any cover.
-  pub target_least : AreLabels g cuts label → (cover : ℕ → Option (List ℕ)) (d : ℕ) → IsCover g k roots cover → RootsWithin g cover roots d → target g label roots ≤ d
-  target_least labels cover d is within =
+  pub target_least : AreNormal (first_and g) g.pairs → AreLabels g cuts label → (cover : ℕ → Option (List ℕ)) (d : ℕ) → IsCover g k roots cover → RootsWithin g cover roots d → target g label roots ≤ d
+  target_least normal labels cover d is within =
       greatest_below (root_level g label) roots d
       (λ l i. choose (λ x. x ≤ d) (ltb (l / 2) (first_and g)) (source_level g l) (label (l / 2))
       (λ b. level_within g l d (λ s e. within.complemented l i s e))
       (λ b. let a : first_and g ≤ l / 2 = ltb-false (l / 2) (first_and g) b in let c : l / 2 < node_count g = inside l i in
-      label_le_depth g k roots cover cuts label is minimal labels (within.nodes l i (a, c))))
+      label_le_depth g normal k roots cover cuts label is minimal labels (within.nodes l i (a, c))))
 
 -- one node of the walk
 pub walk_step : (choice : ℕ → ℕ → List ℕ) (first m j n : ℕ) (reqs next : List (Option ℕ)) → m ≡ suc j → n ≡ first + j → next ≡ visit choice n (need reqs n) reqs → walk choice first j next ≡ walk choice first m reqs

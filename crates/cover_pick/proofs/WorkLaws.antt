@@ -1,12 +1,42 @@
 -- The cone of a node, as a list, is what is reached from it.
-use Rattle.std.proofs.Common.{◌≡◌, ℕ, zero, suc, ◌+◌, ◌-◌, ◌/◌, ◌<◌, ◌≤◌, true, false, cond, ltb, eqb, List, [], ◌∷◌, Option, Some, None, refl, sym, subst, inl, inr, ◌⊎◌, arith}
-use Rattle.std.proofs.lemmas.Bool.{cases_lt, ltb-true, ltb-false, eqb-true, eqb-false, both_ways, lt-ltb}
-use Rattle.aig_core.specs.Aig.{Aig, first_and, pair_of, IsNormal, AreNormal}
+use Rattle.std.proofs.Common.{◌≡◌, ℕ, zero, suc, ◌+◌, ◌-◌, ◌/◌, ◌<◌, ◌≤◌, true, false, cond, ltb, eqb, List, [], ◌∷◌, Option, Some, None, refl, sym, length, subst, inl, inr, ◌⊎◌, arith}
+use Rattle.std.specs.List.{list_any}
+use Rattle.std.proofs.lemmas.Option.{slice_get_within}
+use Rattle.std.proofs.lemmas.Bool.{cases_Bool, or_cases, or_parts, cases_lt, ltb-true, ltb-false, eqb-true, eqb-false, both_ways, lt-ltb}
+use Rattle.aig_core.specs.Aig.{Aig, first_and, node_count, pair_of, IsNode, IsNormal, AreNormal}
 use Rattle.aig_core.specs.declared.lit.Pair.{Pair}
-use Rattle.list_words.specs.Members.{In}
-use Rattle.list_words.proofs.Choice.{choose}
-use Rattle.cover_pick.specs.Work.{put_down, is_stop, put_fan_ins, cone, cone_of, Path, here, left, right, IsCone}
-use Rattle.list_words.specs.Order.{IsDescending}
+use Rattle.list_laws.specs.Members.{In}
+use Rattle.cut_enum.proofs.SetLemmas.{has_true, has_from}
+use Rattle.list_laws.proofs.Choice.{choose}
+use Rattle.cover_pick.specs.Cone.{put_down, is_stop, put_fan_ins, cone, cone_of}
+use Rattle.cover_pick.specs.Work.{IsInner, Path, here, left, right, IsCone}
+use Rattle.list_laws.specs.Order.{IsDescending}
+
+-- what does not end the way down is an AND node that is no leaf
+pub stop_inner : (g : Aig) (c : List ℕ) (n : ℕ) → n < node_count g → is_stop g c n ≡ false → IsInner g c n
+stop_inner g c n l s =
+    let parts = or_parts (ltb n (first_and g)) (list_any (λ m. eqb m n) c) s in
+    record { and = (ltb-false n (first_and g) parts.0, l); apart = λ i. both_ways (list_any (λ m. eqb m n) c) parts.1 (has_from c n i) }
+
+pub inner_stop : (g : Aig) (c : List ℕ) (n : ℕ) → IsInner g c n → is_stop g c n ≡ false
+inner_stop g c n inner = elim (cases_Bool (is_stop g c n)) [
+  | inl t ↦ elim (or_cases (ltb n (first_and g)) (list_any (λ m. eqb m n) c) t) [
+    | inl s ↦ absurd (let a : n < first_and g = ltb-true n (first_and g) s in let b : first_and g ≤ n = inner.and.0 in omega arith)
+    | inr s ↦ absurd (inner.apart (has_true c n s))
+  ]
+  | inr t ↦ t
+]
+
+-- a node that doesn't end the way down is an AND node
+pub past_sources : (g : Aig) (c : List ℕ) (n : ℕ) → is_stop g c n ≡ false → first_and g ≤ n
+past_sources g c n s = elim (cases_lt n (first_and g)) [
+  | inl l ↦ absurd (both_ways (is_stop g c n) s (rw (lt-ltb n (first_and g) l) refl))
+  | inr l ↦ l
+]
+
+-- a node with a pair is a node of the graph
+pub node_inside : (g : Aig) (p : Pair) (n : ℕ) → IsNode g p n → n < node_count g
+node_inside g p n is = let a : first_and g ≤ n = is.above in let b : n - first_and g < length g.pairs = slice_get_within g.pairs (n - first_and g) p is.is in omega arith
 
 -- a node that is reached from a pending one
 pub record From (g : Aig) (c pending : List ℕ) (m : ℕ) : Type 0 where
@@ -42,6 +72,12 @@ IsDescending-down x (y ∷ ys) h =
     (λ a. ((λ n i. elim (In-down x ys n i) [ inl e ↦ omega arith | inr j ↦ h.0 n j ]), IsDescending-down x ys h.1))
 
 module _ (g : Aig) (c : List ℕ) (normal : (n : ℕ) (p : Pair) → is_stop g c n ≡ false → pair_of g n ≡ Some p → IsNormal n p) where
+  node : (n : ℕ) (p : Pair) → is_stop g c n ≡ false → pair_of g n ≡ Some p → IsNode g p n
+  node n p s e = record { above = past_sources g c n s; is = e }
+
+  inner : (n : ℕ) (p : Pair) → is_stop g c n ≡ false → pair_of g n ≡ Some p → IsInner g c n
+  inner n p s e = stop_inner g c n (node_inside g p n (node n p s e)) s
+
   -- what is pending after a node: all below it, in order
   next_below : (n : ℕ) (o : Option Pair) (rest : List ℕ) → is_stop g c n ≡ false → pair_of g n ≡ o → ((m : ℕ) → In rest m → m < n) → (m : ℕ) → In (put_fan_ins o rest) m → m < n
   next_below n None rest s e b m i = b m i
@@ -61,9 +97,9 @@ module _ (g : Aig) (c : List ℕ) (normal : (n : ℕ) (p : Pair) → is_stop g c
   next_from n m None rest s e f = record { start = f.start; pending_in = inr f.pending_in; path = f.path }
   next_from n m (Some p) rest s e f =
       elim (In-down (p.x.0 / 2) (put_down (p.y.0 / 2) rest) f.start f.pending_in) [
-        | inl q ↦ record { start = n; pending_in = inl refl; path = left p s e (subst (λ i. Path g c m i) q f.path) }
+        | inl q ↦ record { start = n; pending_in = inl refl; path = left p (inner n p s e) (node n p s e) (subst (λ i. Path g c m i) q f.path) }
         | inr j ↦ elim (In-down (p.y.0 / 2) rest f.start j) [
-          | inl q ↦ record { start = n; pending_in = inl refl; path = right p s e (subst (λ i. Path g c m i) q f.path) }
+          | inl q ↦ record { start = n; pending_in = inl refl; path = right p (inner n p s e) (node n p s e) (subst (λ i. Path g c m i) q f.path) }
           | inr k ↦ record { start = f.start; pending_in = inr k; path = f.path }
         ]
       ]
@@ -79,25 +115,26 @@ module _ (g : Aig) (c : List ℕ) (normal : (n : ℕ) (p : Pair) → is_stop g c
   right_kept o p rest e = rw e (down_old (p.x.0 / 2) (put_down (p.y.0 / 2) rest) (p.y.0 / 2) (down_new (p.y.0 / 2) rest))
 
   stopped : (m s : ℕ) → Path g c m s → is_stop g c s ≡ true → ⊥
-  stopped m s (here t e) h = both_ways (is_stop g c s) t h
-  stopped m s (left p t e q) h = both_ways (is_stop g c s) t h
-  stopped m s (right p t e q) h = both_ways (is_stop g c s) t h
+  stopped m s (here t e) h = both_ways (is_stop g c s) (inner_stop g c s t) h
+  stopped m s (left p t e q) h = both_ways (is_stop g c s) (inner_stop g c s t) h
+  stopped m s (right p t e q) h = both_ways (is_stop g c s) (inner_stop g c s t) h
 
   first_step : (n m : ℕ) (rest out : List ℕ) → ((r : ℕ) → In (put_fan_ins (pair_of g n) rest) r → Path g c m r → In out m) → Path g c m n → (m ≡ n) ⊎ In out m
   first_step n m rest out go (here t e) = inl (sym e)
-  first_step n m rest out go (left p t e q) = inr (go (p.x.0 / 2) (left_kept (pair_of g n) p rest e) q)
-  first_step n m rest out go (right p t e q) = inr (go (p.y.0 / 2) (right_kept (pair_of g n) p rest e) q)
+  first_step n m rest out go (left p t e q) = inr (go (p.x.0 / 2) (left_kept (pair_of g n) p rest e.is) q)
+  first_step n m rest out go (right p t e q) = inr (go (p.y.0 / 2) (right_kept (pair_of g n) p rest e.is) q)
 
   -- each node of the cone is reached
-  pub cone_only : (f : ℕ) (pending : List ℕ) (m : ℕ) → In (cone g c f pending) m → From g c pending m
-  cone_only zero pending m i = elim i [ ]
-  cone_only (suc f) [] m i = elim i [ ]
-  cone_only (suc f) (n ∷ rest) m i0 =
+  pub cone_only : (f : ℕ) (pending : List ℕ) (m : ℕ) → IsDescending pending → ((k : ℕ) → In pending k → k < node_count g) → In (cone g c f pending) m → From g c pending m
+  cone_only zero pending m d b i = elim i [ ]
+  cone_only (suc f) [] m d b i = elim i [ ]
+  cone_only (suc f) (n ∷ rest) m d b i0 =
       choose (λ s. In s m → From g c (n ∷ rest) m) (is_stop g c n) (cone g c f rest) (n ∷ cone g c f (put_fan_ins (pair_of g n) rest))
-      (λ t i. let r = cone_only f rest m i in record { start = r.start; pending_in = inr r.pending_in; path = r.path })
+      (λ t i. let r = cone_only f rest m d.1 (λ k j. b k (inr j)) i in record { start = r.start; pending_in = inr r.pending_in; path = r.path })
       (λ t i. elim i [
-        | inl q ↦ record { start = n; pending_in = inl refl; path = here t (sym q) }
-        | inr j ↦ next_from n m (pair_of g n) rest t refl (cone_only f (put_fan_ins (pair_of g n) rest) m j)
+        | inl q ↦ record { start = n; pending_in = inl refl; path = here (stop_inner g c n (b n (inl refl)) t) (sym q) }
+        | inr j ↦ next_from n m (pair_of g n) rest t refl (cone_only f (put_fan_ins (pair_of g n) rest) m (next_order (pair_of g n) rest d.1)
+            (λ k l. let x : k < n = next_below n (pair_of g n) rest t refl d.0 k l in let y : n < node_count g = b n (inl refl) in omega arith) j)
       ]) i0
 
   -- each node that is reached is in the cone
@@ -130,23 +167,16 @@ module _ (g : Aig) (c : List ℕ) (normal : (n : ℕ) (p : Pair) → is_stop g c
       let low = r.1 n (next_below n (pair_of g n) rest t refl d.0) in
       ((low, r.0), (λ b h m i. let x : n < b = h n (inl refl) in elim i [ inl q ↦ (let f : m ≡ n = q in omega arith) | inr j ↦ (let y : m < n = low m j in omega arith) ])))
 
--- a node that doesn't end the way down is an AND node
-pub past_sources : (g : Aig) (c : List ℕ) (n : ℕ) → is_stop g c n ≡ false → first_and g ≤ n
-past_sources g c n s = elim (cases_lt n (first_and g)) [
-  | inl l ↦ absurd (both_ways (is_stop g c n) s (rw (lt-ltb n (first_and g) l) refl))
-  | inr l ↦ l
-]
-
 pair_normal : (g : Aig) (n : ℕ) (p : Pair) → AreNormal (first_and g) g.pairs → first_and g ≤ n → pair_of g n ≡ Some p → IsNormal n p
 pair_normal g n p normal l at = let e : first_and g + (n - first_and g) ≡ n = omega arith in subst (λ k. IsNormal k p) e (normal.each (n - first_and g) p at)
 
 -- The cone by its own words.
-pub cone_is : (g : Aig) (c : List ℕ) (n : ℕ) → AreNormal (first_and g) g.pairs → IsCone g c n (cone_of g c n)
-cone_is g c n normal =
+pub cone_is : (g : Aig) (c : List ℕ) (n : ℕ) → AreNormal (first_and g) g.pairs → n < node_count g → IsCone g c n (cone_of g c n)
+cone_is g c n normal inside =
     let ok : (m : ℕ) (p : Pair) → is_stop g c m ≡ false → pair_of g m ≡ Some p → IsNormal m p = (λ m p s at. pair_normal g m p normal (past_sources g c m s) at) in
     let one : IsDescending (n ∷ []) = ((λ m i. absurd i), tt) in
     record {
       descending = (cone_order g c ok (suc n) (n ∷ []) one).0;
-      only = λ m i. let f = cone_only g c ok (suc n) (n ∷ []) m i in elim f.pending_in [ inl e ↦ subst (λ k. Path g c m k) e f.path | inr b ↦ absurd b ];
+      only = λ m i. let f = cone_only g c ok (suc n) (n ∷ []) m one (λ k j. elim j [ inl e ↦ subst (λ z. z < node_count g) (sym e) inside | inr b ↦ absurd b ]) i in elim f.pending_in [ inl e ↦ subst (λ k. Path g c m k) e f.path | inr b ↦ absurd b ];
       all = λ m p. cone_all g c ok (suc n) (n ∷ []) m one (λ k i. elim i [ inl e ↦ (let f : k ≡ n = e in omega arith) | inr b ↦ absurd b ]) n (inl refl) p;
     }

@@ -1,10 +1,16 @@
-pub mod RootDepth
+-- What public clauses say.
 pub mod Mapping
 pub mod Target
 pub mod Choice
-pub mod Required
 pub mod Schedule
 pub mod Tables
 pub mod Work
-pub mod Search
 pub mod Template
+pub mod Refusals
+-- What only bodies are compared with.
+pub mod Fewest
+pub mod Required
+pub mod Planned
+pub mod Cone
+pub mod Search
+pub mod Marks

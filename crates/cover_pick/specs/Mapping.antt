@@ -1,12 +1,11 @@
 -- Tables that map a graph, and tables of the least depth.
-use Rattle.std.specs.Prelude.{◌≡◌, ℕ, ◌+◌, ◌*◌, ◌/◌, ◌%◌, ◌^◌, ◌<◌, ◌≤◌, List, [], ◌∷◌, length, sum_by, Option, Some, ◌⊎◌}
+use Rattle.std.specs.Prelude.{◌≡◌, ℕ, ◌+◌, ◌*◌, ◌/◌, ◌%◌, ◌^◌, ◌<◌, List, [], ◌∷◌, length, sum_by, Option, Some, ◌⊎◌}
 use Rattle.aig_core.specs.Aig.{Aig, IsAnd, IsSource}
 use Rattle.aig_core.specs.declared.lit.Kind.TheVariants.{Regular, Parameter}
-use Rattle.list_words.specs.Members.{In}
+use Rattle.list_laws.specs.Members.{In}
 use Rattle.cut_enum.specs.Cuts.{IsCut}
-use Rattle.cut_enum.specs.Covers.{IsCover}
+use Rattle.cut_enum.specs.Covers.{IsCover, RootsWithin, IsLeastDepth}
 use Rattle.cover_pick.specs.declared.lut.Lut.{Lut}
-use Rattle.cover_pick.specs.RootDepth.{RootsWithin}
 
 -- what a table computes from its leaves: a complemented regular source from that source, a constant or a parameter from nothing, an AND node from a cut of it
 pub data IsTableOf (g : Aig) (k : ℕ) (t : Lut) : Type 0 where
@@ -62,4 +61,4 @@ pub record IsLeast (g : Aig) (k : ℕ) (roots : List ℕ) (luts : List Lut) (dep
   pub tables : (t : Lut) → In luts t → IsAnd g (t.lit.0 / 2) → cover (t.lit.0 / 2) ≡ Some t.leaves
   pub only : (n : ℕ) (c : List ℕ) → cover n ≡ Some c → HasNode luts n c
   pub within : RootsWithin g cover roots depth
-  pub least : (other : ℕ → Option (List ℕ)) (d : ℕ) → IsCover g k roots other → RootsWithin g other roots d → depth ≤ d
+  pub least : IsLeastDepth g k roots depth

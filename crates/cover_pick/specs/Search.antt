@@ -1,7 +1,7 @@
 -- How the cone of a node is searched: the nodes that are reached are stamped, so that each is taken once.
 use Rattle.std.specs.Prelude.{ℕ, if◌then◌else◌, ◌==◌, List, [], ◌∷◌, ◌++◌, slice_set, slice_index_or}
 use Rattle.aig_core.specs.Aig.{Aig}
-use Rattle.cover_pick.specs.Work.{is_stop}
+use Rattle.cover_pick.specs.Cone.{is_stop}
 
 -- the stamps of all nodes, and the nodes that are reached, in the order in which they were
 pub record SearchValue : Type 0 where

@@ -1,78 +1,22 @@
 -- The needed literals and their tables.
-use Rattle.std.specs.Prelude.{◌≡◌, ℕ, ◌+◌, ◌-◌, ◌*◌, ◌/◌, ◌%◌, ◌^◌, ◌<◌, Bool, true, false, if◌then◌else◌, ◌==◌, nat_lt, List, [], ◌∷◌, ◌++◌, length, Option, Some, None, slice_get, slice_set, slice_index_or, replicate}
-use Rattle.aig_core.specs.Aig.{Aig, first_and, node_count}
-use Rattle.aig_core.specs.declared.lit.Kind.{Kind}
+use Rattle.std.specs.Prelude.{◌≡◌, ℕ, ◌*◌, ◌/◌, ◌%◌, List, [], ◌∷◌, Option, Some}
+use Rattle.aig_core.specs.Aig.{Aig, IsSource}
 use Rattle.aig_core.specs.declared.lit.Kind.TheVariants.{Regular, Parameter}
-use Rattle.list_words.specs.Members.{In}
+use Rattle.list_laws.specs.Members.{In}
 use Rattle.cover_pick.specs.declared.lut.Lut.{Lut}
 use Rattle.cover_pick.specs.Mapping.{AscendByLit, HaveBases, bits_of}
-use Rattle.cover_pick.specs.Schedule.{cut_at}
-use Rattle.cover_pick.specs.Work.{table_work, work_of}
 
 -- a literal is needed: a root, or the positive literal of a leaf of a chosen cut
-pub data IsNeeded (roots : List ℕ) (cuts : List (Option (List ℕ))) (l : ℕ) : Type 0 where
-  root : In roots l → IsNeeded roots cuts l
-  leaf : (c : List ℕ) (m : ℕ) → In cuts (Some c) → In c m → l ≡ 2 * m → IsNeeded roots cuts l
+pub data IsNeeded (roots : List ℕ) (cover : ℕ → Option (List ℕ)) (l : ℕ) : Type 0 where
+  root : In roots l → IsNeeded roots cover l
+  leaf : (n m : ℕ) (c : List ℕ) → cover n ≡ Some c → In c m → l ≡ 2 * m → IsNeeded roots cover l
 
--- the leaves of a source's table, if it has one: a positive regular source has none, a complemented one has the source, a parameter no leaf
-abbrev pub source_leaves : Option Kind → ℕ → ℕ → Option (List ℕ)
-source_leaves (Some Regular) n phase = if phase == 1 then Some (n ∷ []) else None
-source_leaves (Some Parameter) n phase = Some []
-source_leaves None n phase = Some []
-
--- the leaves of a literal's table, if it has one: the constant has none, an AND node its chosen cut
-abbrev pub leaves_of : Aig → List (Option (List ℕ)) → ℕ → Option (List ℕ)
-leaves_of g cuts l = if (l / 2) == 0 then Some [] else if nat_lt (l / 2) (first_and g) then source_leaves (slice_get g.kinds (l / 2 - 1)) (l / 2) (l % 2) else cut_at cuts (l / 2)
-
--- is a literal marked
-abbrev pub mark_at : List Bool → ℕ → Bool
-mark_at marks l = slice_index_or marks l false
-
-abbrev pub mark_each : List Bool → List ℕ → List Bool
-mark_each marks [] = marks
-mark_each marks (l ∷ ls) = mark_each (slice_set marks l true) ls
-
--- the positive literals of leaves
-abbrev pub mark_leaves : List Bool → List ℕ → List Bool
-mark_leaves marks [] = marks
-mark_leaves marks (m ∷ ms) = mark_leaves (slice_set marks (2 * m) true) ms
-
-abbrev pub mark_cut : List Bool → Option (List ℕ) → List Bool
-mark_cut marks None = marks
-mark_cut marks (Some c) = mark_leaves marks c
-
-abbrev pub mark_cuts : List Bool → List (Option (List ℕ)) → List Bool
-mark_cuts marks [] = marks
-mark_cuts marks (o ∷ os) = mark_cuts (mark_cut marks o) os
-
--- the marks of the needed literals
-abbrev pub marks_of : Aig → List ℕ → List (Option (List ℕ)) → List Bool
-marks_of g roots cuts = mark_cuts (mark_each (replicate (2 * node_count g) false) roots) cuts
-
--- the tables made so far, their bits and their work
-pub record Made : Type 0 where
-  pub luts : List Lut
-  pub bits : ℕ
-  pub work : ℕ
-
-abbrev pub add_table : Aig → Made → ℕ → Option (List ℕ) → Made
-add_table g made l None = made
-add_table g made l (Some c) = record {
-  luts = made.luts ++ record { lit = record { 0 = l }; leaves = c; base = made.bits } ∷ [];
-  bits = made.bits + 2 ^ length c;
-  work = made.work + table_work g l c;
-}
-
-abbrev pub add_marked : Aig → List (Option (List ℕ)) → Made → ℕ → Bool → Made
-add_marked g cuts made l needed = if needed then add_table g made l (leaves_of g cuts l) else made
-
--- the tables of the marked literals from l on
-abbrev pub tables_from : Aig → List (Option (List ℕ)) → Made → ℕ → List Bool → Made
-tables_from g cuts made l [] = made
-tables_from g cuts made l (m ∷ ms) = tables_from g cuts (add_marked g cuts made l m) (l + 1) ms
-
-abbrev pub tables_of : Aig → List ℕ → List (Option (List ℕ)) → Made
-tables_of g roots cuts = tables_from g cuts (record { luts = []; bits = 0; work = 0 }) 0 (marks_of g roots cuts)
+-- the leaves of a literal's table: none of the constant and a parameter, the source itself of a complemented regular source, and the chosen cut of an AND node. A positive regular source has no table.
+pub data IsLeaves (g : Aig) (cover : ℕ → Option (List ℕ)) (l : ℕ) (c : List ℕ) : Type 0 where
+  constant : l / 2 ≡ 0 → c ≡ [] → IsLeaves g cover l c
+  parameter : IsSource g Parameter (l / 2) → c ≡ [] → IsLeaves g cover l c
+  source : IsSource g Regular (l / 2) → l % 2 ≡ 1 → c ≡ (l / 2) ∷ [] → IsLeaves g cover l c
+  node : cover (l / 2) ≡ Some c → IsLeaves g cover l c
 
 -- a table of a literal with these leaves
 pub record HasTable (luts : List Lut) (l : ℕ) (c : List ℕ) : Type 0 where
@@ -81,12 +25,11 @@ pub record HasTable (luts : List Lut) (l : ℕ) (c : List ℕ) : Type 0 where
   pub lit_is : by.lit.0 ≡ l
   pub leaves_are : by.leaves ≡ c
 
--- the tables of the needed literals below l, with their bits and their work
-pub record AreTables (g : Aig) (cuts : List (Option (List ℕ))) (needed : ℕ → Type 0) (l : ℕ) (made : Made) : Type 0 where
-  pub below : (t : Lut) → In made.luts t → t.lit.0 < l
-  pub only : (t : Lut) → In made.luts t → needed t.lit.0 × (leaves_of g cuts t.lit.0 ≡ Some t.leaves)
-  pub all : (m : ℕ) (c : List ℕ) → m < l → needed m → leaves_of g cuts m ≡ Some c → HasTable made.luts m c
-  pub ascending : AscendByLit made.luts
-  pub bases : HaveBases 0 made.luts
-  pub sum : made.bits ≡ bits_of made.luts
-  pub work : made.work ≡ work_of g made.luts
+-- Exactly the tables of the needed literals, in ascending order, one's bits after another's.
+pub record AreTables (g : Aig) (roots : List ℕ) (cover : ℕ → Option (List ℕ)) (luts : List Lut) (bits : ℕ) : Type 0 where
+  pub needed : (t : Lut) → In luts t → IsNeeded roots cover t.lit.0
+  pub leaves : (t : Lut) → In luts t → IsLeaves g cover t.lit.0 t.leaves
+  pub all : (l : ℕ) (c : List ℕ) → IsNeeded roots cover l → IsLeaves g cover l c → HasTable luts l c
+  pub ascending : AscendByLit luts
+  pub bases : HaveBases 0 luts
+  pub sum : bits ≡ bits_of luts

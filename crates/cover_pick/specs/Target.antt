@@ -3,7 +3,7 @@ use Rattle.std.specs.Prelude.{ℕ, ◌-◌, ◌/◌, ◌%◌, if◌then◌else�
 use Rattle.aig_core.specs.Aig.{Aig, first_and}
 use Rattle.aig_core.specs.declared.lit.Kind.{Kind}
 use Rattle.aig_core.specs.declared.lit.Kind.TheVariants.{Regular, Parameter}
-use Rattle.cut_enum.specs.Covers.{greatest}
+use Rattle.depth_label.specs.Label.{greatest}
 
 -- what a source of this kind counts as a root, in this phase
 abbrev pub kind_level : Option Kind → ℕ → ℕ

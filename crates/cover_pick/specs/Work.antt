@@ -1,51 +1,42 @@
 -- The work of tables: what it takes to make the functions of their bits.
-use Rattle.std.specs.Prelude.{◌≡◌, ℕ, zero, suc, ◌+◌, ◌*◌, ◌/◌, ◌^◌, Bool, false, ◌||◌, if◌then◌else◌, ◌==◌, nat_lt, List, [], ◌∷◌, length, sum_by, Option, Some, None}
-use Rattle.std.specs.List.{list_any}
-use Rattle.aig_core.specs.Aig.{Aig, first_and, pair_of}
+use Rattle.std.specs.Prelude.{◌≡◌, ℕ, ◌+◌, ◌*◌, ◌/◌, ◌^◌, ◌≤◌, List, [], ◌∷◌, length}
+use Rattle.aig_core.specs.Aig.{Aig, IsAnd, IsNode}
 use Rattle.aig_core.specs.declared.lit.Pair.{Pair}
-use Rattle.list_words.specs.Members.{In}
-use Rattle.list_words.specs.Order.{IsDescending}
+use Rattle.list_laws.specs.Members.{In}
+use Rattle.list_laws.specs.Order.{IsDescending}
+use Rattle.cover_pick.specs.declared.limits.TheConstants.{MOST_WORK}
 use Rattle.cover_pick.specs.declared.lut.Lut.{Lut}
 
--- does a node end the way down: a source or a leaf
-abbrev pub is_stop : Aig → List ℕ → ℕ → Bool
-is_stop g c n = nat_lt n (first_and g) || list_any (λ m. m == n) c
+-- an AND node that is no leaf
+pub record IsInner (g : Aig) (leaves : List ℕ) (n : ℕ) : Type 0 where
+  pub and : IsAnd g n
+  pub apart : In leaves n → ⊥
 
--- a way down from a node to m that passes no leaf
-pub data Path (g : Aig) (c : List ℕ) (m : ℕ) : ℕ → Type 0 where
-  here : {n : ℕ} → is_stop g c n ≡ false → n ≡ m → Path g c m n
-  left : {n : ℕ} (p : Pair) → is_stop g c n ≡ false → pair_of g n ≡ Some p → Path g c m (p.x.0 / 2) → Path g c m n
-  right : {n : ℕ} (p : Pair) → is_stop g c n ≡ false → pair_of g n ≡ Some p → Path g c m (p.y.0 / 2) → Path g c m n
+-- a way down from a node to m over AND nodes none of which is a leaf
+pub data Path (g : Aig) (leaves : List ℕ) (m : ℕ) : ℕ → Type 0 where
+  here : {n : ℕ} → IsInner g leaves n → n ≡ m → Path g leaves m n
+  left : {n : ℕ} (p : Pair) → IsInner g leaves n → IsNode g p n → Path g leaves m (p.x.0 / 2) → Path g leaves m n
+  right : {n : ℕ} (p : Pair) → IsInner g leaves n → IsNode g p n → Path g leaves m (p.y.0 / 2) → Path g leaves m n
 
--- the AND nodes reached from a node without passing a leaf, the node itself counted: each once
-pub record IsCone (g : Aig) (c : List ℕ) (n : ℕ) (cone : List ℕ) : Type 0 where
+-- The cone of a node above some leaves: the AND nodes reached from it without passing a leaf, the node itself counted, each once.
+pub record IsCone (g : Aig) (leaves : List ℕ) (n : ℕ) (cone : List ℕ) : Type 0 where
   pub descending : IsDescending cone
-  pub only : (m : ℕ) → In cone m → Path g c m n
-  pub all : (m : ℕ) → Path g c m n → In cone m
-
--- a descending list without repeats, with one more
-abbrev pub put_down : ℕ → List ℕ → List ℕ
-put_down x [] = x ∷ []
-put_down x (y ∷ ys) = if nat_lt y x then x ∷ y ∷ ys else if x == y then y ∷ ys else y ∷ put_down x ys
-
-abbrev pub put_fan_ins : Option Pair → List ℕ → List ℕ
-put_fan_ins None rest = rest
-put_fan_ins (Some p) rest = put_down (p.x.0 / 2) (put_down (p.y.0 / 2) rest)
-
--- the AND nodes reached from the pending nodes without passing a leaf, the greatest first, of at most f nodes taken
-abbrev pub cone : Aig → List ℕ → ℕ → List ℕ → List ℕ
-cone g c zero pending = []
-cone g c (suc f) [] = []
-cone g c (suc f) (n ∷ rest) = if is_stop g c n then cone g c f rest else n ∷ cone g c f (put_fan_ins (pair_of g n) rest)
-
--- the cone of a node above some leaves
-abbrev pub cone_of : Aig → List ℕ → ℕ → List ℕ
-cone_of g c n = cone g c (suc n) (n ∷ [])
+  pub only : (m : ℕ) → In cone m → Path g leaves m n
+  pub all : (m : ℕ) → Path g leaves m n → In cone m
 
 -- the work of a table: its bits times one more than the AND nodes of its cone
-abbrev pub table_work : Aig → ℕ → List ℕ → ℕ
-table_work g l c = 2 ^ length c * (1 + length (cone_of g c (l / 2)))
+pub record IsTableWork (g : Aig) (t : Lut) (work : ℕ) : Type 0 where
+  pub cone : List ℕ
+  pub is : IsCone g t.leaves (t.lit.0 / 2) cone
+  pub work_is : work ≡ 2 ^ length t.leaves * (1 + length cone)
 
 -- the work of all tables
-abbrev pub work_of : Aig → List Lut → ℕ
-work_of g ts = sum_by (λ t. table_work g t.lit.0 t.leaves) ts
+abbrev pub IsWork : Aig → List Lut → ℕ → Type 0
+IsWork g [] work = work ≡ 0
+IsWork g (t ∷ ts) work = (first : ℕ) × (rest : ℕ) × IsTableWork g t first × IsWork g ts rest × (work ≡ first + rest)
+
+-- the tables' work is within the limit
+pub record IsLight (g : Aig) (ts : List Lut) : Type 0 where
+  pub work : ℕ
+  pub is : IsWork g ts work
+  pub light : work ≤ MOST_WORK

@@ -2,7 +2,7 @@
 ghost use Rattle.std.specs.Prelude.{◌≡◌, ℕ, ◌<◌, ◌≤◌, None};
 ghost use Rattle.cut_enum.specs.Table.{row_at};
 ghost use Rattle.depth_label.specs.Label.{label_of};
-ghost use Rattle.cover_pick.specs.Choice.{better as the_better, fewest as the_fewest, choice_of};
+ghost use Rattle.cover_pick.specs.Fewest.{better as the_better, fewest as the_fewest, choice_of};
 
 use cut_enum::{Cut, CutTable};
 use depth_label::Labels;

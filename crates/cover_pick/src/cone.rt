@@ -1,7 +1,7 @@
 //! How many AND nodes a table computes.
 ghost use Rattle.std.specs.Prelude.{◌≡◌, ℕ, ◌+◌, ◌/◌, ◌<◌, ◌≤◌, ◌^◌, length, Some, OnOk, IfOk};
 ghost use Rattle.aig_core.specs.Aig.{first_and, node_count, IsAnd, IsNormal, AreNormal, pair_of};
-ghost use Rattle.cover_pick.specs.Work.{is_stop as ends_way, cone_of};
+ghost use Rattle.cover_pick.specs.Cone.{is_stop as ends_way, cone_of};
 ghost use Rattle.cover_pick.specs.Search.{stamp_at, reach as reached_by};
 
 use aig_core::{Graph, Pair, Steps};

@@ -1,12 +1,12 @@
 //! The chosen cuts of the needed nodes.
 ghost use Rattle.std.specs.Prelude.{◌≡◌, ℕ, ◌<◌, length, IfOk};
-ghost use Rattle.aig_core.specs.Aig.{node_count};
+ghost use Rattle.aig_core.specs.Aig.{first_and, node_count, AreNormal};
 ghost use Rattle.aig_core.specs.Roots.{lits_of, AreRoots};
 ghost use Rattle.cut_enum.specs.Table.{row_at};
 ghost use Rattle.depth_label.specs.Label.{label_of, IsCutTable, AreLabelled};
-ghost use Rattle.cover_pick.specs.Choice.{choice_of};
+ghost use Rattle.cover_pick.specs.Fewest.{choice_of};
 ghost use Rattle.cover_pick.specs.Required.{cover_of};
-ghost use Rattle.cover_pick.specs.Schedule.{IsPlan};
+ghost use Rattle.cover_pick.specs.Planned.{IsPlanned};
 
 use crate::choice::choose;
 use crate::required::required_depths;
@@ -47,8 +47,9 @@ pub fn chosen_cuts(
     requires table { IsCutTable graph.now table.now }
     requires labels { AreLabelled graph.now table.now labels.now }
     requires roots { AreRoots graph.now (lits_of roots.now) }
-    ensures plan { IfOk result (λ cuts. IsPlan graph.now table.now (label_of labels.now) (lits_of roots.now) cuts.items) }
+    ensures plan { IfOk result (λ cuts. IsPlanned graph.now table.now (label_of labels.now) (lits_of roots.now) cuts.items) }
     ensures len { IfOk result (λ cuts. length cuts.items ≡ node_count graph.now) }
+    ensures normal { IfOk result (λ _. AreNormal (first_and graph.now) graph.now.pairs) }
 {
     let depths = required_depths(alloc, graph, table, labels, roots)?;
     let mut cuts = Vec::new(alloc);

@@ -23,7 +23,7 @@
 //!
 //! 1. `target`: the target of the roots.
 //! 2. `choice`: the rule by which a cut is chosen for a required depth. It is one function, `choose`, and one definition,
-//!    `choice_of` of `specs/Choice.antt`; all that the theorem asks of it is `Chooses` of `specs/Schedule.antt`.
+//!    `IsChosen` of `specs/Choice.antt`; all that the theorem asks of it is `Chooses` of `specs/Planned.antt`.
 //! 3. `required`: the required depths, from the last AND node down.
 //! 4. `cuts`: the chosen cuts.
 //! 5. `needed`, `tables`: the needed literals and their tables, in ascending order.
@@ -32,12 +32,18 @@
 //! # What is promised
 //!
 //! `pick` says what its tables are in three ways: they are the rule's (`specs/Template.antt`, `IsTemplate`), they map the
-//! graph (`specs/Mapping.antt`, `IsMapping`), and no cover of the graph is less deep (`IsLeast` there).
+//! graph (`specs/Mapping.antt`, `IsMapping`), and no cover of the graph is less deep (`IsLeast` there). The rule is said by
+//! relations alone, apart from the walk that finds the answer: required depths and chosen cuts by `IsPlan`
+//! (`specs/Schedule.antt`), the tables by `AreTables`, the work by the cones as sets of nodes (`specs/Work.antt`). A graph,
+//! its cuts, labels and roots have one plan, one template and one work, so too much work is always answered.
+//!
+//! `proofs/Examples.antt` has the plan, the table and the work of a small graph.
 #![tactic(auto)]
 
 mod choice;
 mod cone;
 mod cuts;
+mod limits;
 mod lut;
 mod needed;
 mod required;

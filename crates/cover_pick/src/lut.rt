@@ -2,6 +2,7 @@
 use aig_core::Lit;
 use cut_enum::Cut;
 use std::alloc::{AllocError, AllocFailed};
+use tl_fault::{Details, Refusal};
 
 /// The table of a literal: its leaves, and the address of its first bit. A table of m leaves has 2^m bits.
 #[derive(Drop)]
@@ -14,10 +15,25 @@ pub struct Lut {
 /// Why there is no template.
 #[derive(Debug, PartialEq, Eq, Drop)]
 pub enum PickErr {
-    /// The work exceeds 2^25.
+    /// The work exceeds `MOST_WORK`.
     Work,
     /// There is no memory.
     Memory,
+}
+
+impl PickErr {
+    ghost use Rattle.std.specs.Prelude.{◌≡◌};
+    ghost use Rattle.cover_pick.specs.Refusals.{refusal_of};
+
+    /// What the refusal tells; none for want of memory.
+    pub fn refusal(self) -> Option<Refusal>
+        ensures { result ≡ refusal_of self }
+    {
+        match self {
+            PickErr::Work => Some(Refusal::new("L6", "Work", Details::Nothing)),
+            PickErr::Memory => None,
+        }
+    }
 }
 
 impl<T: Drop> From<AllocFailed<T>> for PickErr {

@@ -2,8 +2,8 @@
 ghost use Rattle.std.specs.Prelude.{◌≡◌, ℕ, List, ◌*◌, ◌<◌, length, Option, Some, IfOk, slice_index_or};
 ghost use Rattle.aig_core.specs.Aig.{node_count};
 ghost use Rattle.aig_core.specs.Roots.{lits_of, AreRoots};
-ghost use Rattle.list_words.specs.Members.{In};
-ghost use Rattle.cover_pick.specs.Tables.{mark_each as each_marked, mark_leaves as leaves_marked, mark_cut as cut_marked, mark_cuts as cuts_marked, marks_of};
+ghost use Rattle.list_laws.specs.Members.{In};
+ghost use Rattle.cover_pick.specs.Marks.{mark_each as each_marked, mark_leaves as leaves_marked, mark_cut as cut_marked, mark_cuts as cuts_marked, marks_of};
 
 use aig_core::{Graph, Lit};
 use cut_enum::Cut;

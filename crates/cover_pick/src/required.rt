@@ -4,9 +4,9 @@ ghost use Rattle.aig_core.specs.Aig.{first_and, node_count, IsAnd};
 ghost use Rattle.aig_core.specs.Roots.{lits_of, AreRoots};
 ghost use Rattle.cut_enum.specs.Table.{row_at};
 ghost use Rattle.depth_label.specs.Label.{label_of, IsCutTable};
-ghost use Rattle.cover_pick.specs.Choice.{choice_of};
+ghost use Rattle.cover_pick.specs.Fewest.{choice_of};
 ghost use Rattle.cover_pick.specs.Required.{need, least_of as the_least, require as with_required, require_each as with_each_required, visit as visited, walk as walked, require_root as with_root, require_roots as with_roots};
-ghost use Rattle.cover_pick.specs.Schedule.{depths_of};
+ghost use Rattle.cover_pick.specs.Planned.{depths_of};
 
 use crate::choice::choose;
 use crate::target::target;

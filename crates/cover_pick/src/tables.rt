@@ -2,11 +2,14 @@
 ghost use Rattle.std.specs.Prelude.{◌≡◌, ℕ, List, ◌+◌, ◌*◌, ◌/◌, ◌<◌, ◌≤◌, ◌^◌, length, Option, Some, [], IfOk, IfErr, OnOk};
 ghost use Rattle.aig_core.specs.Aig.{first_and, node_count, AreNormal};
 ghost use Rattle.aig_core.specs.Roots.{lits_of, AreRoots};
-ghost use Rattle.list_words.specs.Members.{In};
+ghost use Rattle.list_laws.specs.Members.{In};
+ghost use Rattle.tl_fault.specs.OrMemory.{OrMemory};
+ghost use Rattle.cover_pick.specs.Refusals.{refusal_of};
 ghost use Rattle.cover_pick.specs.Search.{stamp_at};
-ghost use Rattle.cover_pick.specs.Tables.{leaves_of as the_leaves, add_table as with_table, add_marked as with_marked, tables_from, tables_of, IsNeeded, AreTables};
+ghost use Rattle.cover_pick.specs.Marks.{leaves_of as the_leaves, add_table as with_table, add_marked as with_marked, tables_from, tables_of, IsMarked, AreMade};
 
 use crate::cone::Search;
+use crate::limits::MOST_WORK;
 use crate::lut::{Lut, PickErr};
 use crate::needed::needed;
 use aig_core::{Graph, Kind, Lit};
@@ -23,14 +26,12 @@ pub struct Tables {
 }
 
 impl Model for Tables {
-    ghost use Rattle.cover_pick.specs.Tables.{Made};
+    ghost use Rattle.cover_pick.specs.Marks.{Made};
 
     ghost Value = { Made };
 
     ghost view = { λ t. record { luts = t.luts.items; bits = t.bits; work = t.work } };
 }
-
-const MOST_WORK: u64 = 33_554_432;
 
 // The leaves of a literal's table, if it has one.
 fn leaves_of(alloc: Global, graph: &Graph, cuts: &[Option<Cut>], lit: Lit) -> Option<Cut>
@@ -80,14 +81,14 @@ fn add_table(
     requires node { lit.0 / 2 < node_count graph.now }
     requires small { node_count graph.now ≤ 2 ^ 30 }
     requires normal { AreNormal (first_and graph.now) graph.now.pairs }
-    requires work { made.old.work ≤ 2 ^ 25 }
+    requires work { made.old.work ≤ MOST_WORK }
     requires bits { made.old.bits ≤ made.old.work }
     requires len { length search.old.stamps ≡ node_count graph.now }
     requires stamps { (n : ℕ) → stamp_at search.old.stamps n ≤ lit.0 }
     ensures ok { OnOk result (made.new ≡ with_table graph.now made.old lit.0 (Some leaves)) }
-    ensures within { OnOk result (made.new.work ≤ 2 ^ 25) }
+    ensures within { OnOk result (made.new.work ≤ MOST_WORK) }
     ensures fits { OnOk result (made.new.bits ≤ made.new.work) }
-    ensures err { IfErr result (λ e. e ≡ PickErr.Work → 2 ^ 25 < (with_table graph.now made.old lit.0 (Some leaves)).work) }
+    ensures err { IfErr result (OrMemory refusal_of (λ _. MOST_WORK < (with_table graph.now made.old lit.0 (Some leaves)).work)) }
     ensures len { OnOk result (length search.new.stamps ≡ node_count graph.now) }
     ensures stamps { OnOk result ((n : ℕ) → stamp_at search.new.stamps n ≤ lit.0 + 1) }
 {
@@ -118,14 +119,14 @@ fn add_marked(
     requires small { node_count graph.now ≤ 2 ^ 30 }
     requires normal { AreNormal (first_and graph.now) graph.now.pairs }
     requires cuts { length cuts.now ≡ node_count graph.now }
-    requires work { made.old.work ≤ 2 ^ 25 }
+    requires work { made.old.work ≤ MOST_WORK }
     requires bits { made.old.bits ≤ made.old.work }
     requires len { length search.old.stamps ≡ node_count graph.now }
     requires stamps { (n : ℕ) → stamp_at search.old.stamps n ≤ lit.0 }
     ensures ok { OnOk result (made.new ≡ with_marked graph.now cuts.now made.old lit.0 needed) }
-    ensures within { OnOk result (made.new.work ≤ 2 ^ 25) }
+    ensures within { OnOk result (made.new.work ≤ MOST_WORK) }
     ensures fits { OnOk result (made.new.bits ≤ made.new.work) }
-    ensures err { IfErr result (λ e. e ≡ PickErr.Work → 2 ^ 25 < (with_marked graph.now cuts.now made.old lit.0 needed).work) }
+    ensures err { IfErr result (OrMemory refusal_of (λ _. MOST_WORK < (with_marked graph.now cuts.now made.old lit.0 needed).work)) }
     ensures len { OnOk result (length search.new.stamps ≡ node_count graph.now) }
     ensures stamps { OnOk result ((n : ℕ) → stamp_at search.new.stamps n ≤ lit.0 + 1) }
 {
@@ -148,8 +149,8 @@ fn marked_tables(
     requires cuts { length cuts.now ≡ node_count graph.now }
     requires marks { length marks.now ≡ 2 * node_count graph.now }
     ensures ok { IfOk result (λ made. made ≡ tables_from graph.now cuts.now (record { luts = []; bits = 0; work = 0 }) 0 marks.now) }
-    ensures within { IfOk result (λ made. made.work ≤ 2 ^ 25) }
-    ensures err { IfErr result (λ e. e ≡ PickErr.Work → 2 ^ 25 < (tables_from graph.now cuts.now (record { luts = []; bits = 0; work = 0 }) 0 marks.now).work) }
+    ensures within { IfOk result (λ made. made.work ≤ MOST_WORK) }
+    ensures err { IfErr result (OrMemory refusal_of (λ _. MOST_WORK < (tables_from graph.now cuts.now (record { luts = []; bits = 0; work = 0 }) 0 marks.now).work)) }
 {
     let mut search = Search::start(alloc, graph)?;
     let mut made = Tables {
@@ -159,7 +160,7 @@ fn marked_tables(
     };
     let mut lit = 0;
     for needed in marks {
-        match add_marked(
+        add_marked(
             alloc,
             graph,
             cuts,
@@ -167,16 +168,13 @@ fn marked_tables(
             &mut made,
             Lit(lit),
             *needed,
-        ) {
-            Ok(()) => {}
-            Err(error) => return Err(error),
-        }
+        )?;
         lit += 1;
     }
     Ok(made)
 }
 
-// The tables of the needed literals, in ascending order, while their work is at most 2^25.
+// The tables of the needed literals, in ascending order, while their work is within the limit.
 pub fn make_tables(
     alloc: Global,
     graph: &Graph,
@@ -186,13 +184,11 @@ pub fn make_tables(
     requires cuts { length cuts.now ≡ node_count graph.now }
     requires roots { AreRoots graph.now (lits_of roots.now) }
     requires leaves { (c : List ℕ) (m : ℕ) → In cuts.now (Some c) → In c m → m < node_count graph.now }
-    ensures ok { IfOk result (λ made. AreTables graph.now cuts.now (IsNeeded (lits_of roots.now) cuts.now) (2 * node_count graph.now) made) }
-    ensures within { IfOk result (λ made. made.work ≤ 2 ^ 25) }
-    ensures err { IfErr result (λ e. e ≡ PickErr.Work → 2 ^ 25 < (tables_of graph.now (lits_of roots.now) cuts.now).work) }
+    ensures ok { IfOk result (λ made. AreMade graph.now cuts.now (IsMarked (lits_of roots.now) cuts.now) (2 * node_count graph.now) made) }
+    ensures within { IfOk result (λ made. made.work ≤ MOST_WORK) }
+    ensures err { IfErr result (OrMemory refusal_of (λ _. MOST_WORK < (tables_of graph.now (lits_of roots.now) cuts.now).work)) }
 {
     let marks = needed(alloc, graph, cuts, roots)?;
-    match marked_tables(alloc, graph, cuts, &marks) {
-        Ok(made) => Ok(made),
-        Err(error) => Err(error),
-    }
+    let made = marked_tables(alloc, graph, cuts, &marks)?;
+    Ok(made)
 }

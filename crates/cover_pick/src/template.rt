@@ -1,12 +1,15 @@
 //! The chosen template.
-ghost use Rattle.std.specs.Prelude.{◌≡◌, ℕ, ◌≤◌, ◌^◌, IfOk, OnOk, IfErr};
+ghost use Rattle.std.specs.Prelude.{◌≡◌, ◌⊎◌, ℕ, IfOk, IfErr};
 ghost use Rattle.aig_core.specs.Aig.{node_count};
 ghost use Rattle.aig_core.specs.Roots.{lits_of, roots_of, AreRoots};
 ghost use Rattle.cut_enum.specs.Table.{AreRows};
 ghost use Rattle.depth_label.specs.Label.{label_of, IsCutTable, AreLabelled};
+ghost use Rattle.tl_fault.specs.OrMemory.{OrMemory};
+ghost use Rattle.cover_pick.specs.Refusals.{refusal_of};
 ghost use Rattle.cover_pick.specs.Mapping.{IsMapping, IsLeast};
-ghost use Rattle.cover_pick.specs.Work.{work_of};
-ghost use Rattle.cover_pick.specs.Template.{IsTemplate, AreChosen, IsTooMuch};
+ghost use Rattle.cover_pick.specs.Work.{IsLight};
+ghost use Rattle.cover_pick.specs.Template.{TemplateValue, IsTemplate, AreTimely, IsTooMuch};
+ghost use Rattle.cover_pick.specs.Marks.{IsMade};
 
 use crate::cuts::chosen_cuts;
 use crate::lut::{Lut, PickErr};
@@ -46,7 +49,7 @@ fn all_roots(alloc: Global, roots: &Roots) -> Result<Vec<Lit>, AllocError>
     Ok(all)
 }
 
-// The tables of the needed literals over the chosen cuts, while their work is at most 2^25.
+// The tables of the needed literals over the chosen cuts, while their work is within the limit.
 fn chosen_tables(
     alloc: Global,
     graph: &Graph,
@@ -57,15 +60,45 @@ fn chosen_tables(
     requires table { IsCutTable graph.now table.now }
     requires labels { AreLabelled graph.now table.now labels.now }
     requires roots { AreRoots graph.now (lits_of roots.now) }
-    ensures ok { IfOk result (λ made. AreChosen graph.now table.now (label_of labels.now) (lits_of roots.now) made) }
-    ensures within { IfOk result (λ made. made.work ≤ 2 ^ 25) }
-    ensures err { IfErr result (λ e. e ≡ PickErr.Work → IsTooMuch graph.now table.now (label_of labels.now) (lits_of roots.now)) }
+    ensures ok { IfOk result (λ made. IsMade graph.now table.now (label_of labels.now) (lits_of roots.now) made) }
+    ensures light { IfOk result (λ made. IsLight graph.now made.luts) }
+    ensures err { IfErr result (OrMemory refusal_of (λ _. IsTooMuch graph.now table.now (label_of labels.now) (lits_of roots.now))) }
 {
     let cuts = chosen_cuts(alloc, graph, table, labels, roots)?;
-    match make_tables(alloc, graph, &cuts, roots) {
-        Ok(made) => Ok(made),
-        Err(error) => Err(error),
-    }
+    let made = make_tables(alloc, graph, &cuts, roots)?;
+    Ok(made)
+}
+
+// The template, within the limit on the work.
+fn template_of(
+    alloc: Global,
+    graph: &Graph,
+    roots: &Roots,
+    table: &CutTable,
+    labels: &Labels,
+) -> Result<Template, PickErr>
+    requires table { IsCutTable graph.now table.now }
+    requires labels { AreLabelled graph.now table.now labels.now }
+    requires roots { AreRoots graph.now (roots_of roots.now) }
+    ensures template { IfOk result (λ t. IsTemplate graph.now table.now (label_of labels.now) roots.now t) }
+    ensures mapping { IfOk result (λ t. (k : ℕ) → AreRows graph.now k (node_count graph.now) table.now → IsMapping graph.now k (roots_of roots.now) t.luts t.bits) }
+    ensures least { IfOk result (λ t. (k : ℕ) → AreRows graph.now k (node_count graph.now) table.now → IsLeast graph.now k (roots_of roots.now) t.luts t.depth) }
+    ensures timely { IfOk result (λ t. AreTimely graph.now table.now (label_of labels.now) (roots_of roots.now) t.luts) }
+    ensures light { IfOk result (λ t. IsLight graph.now t.luts) }
+    ensures work { IfErr result (OrMemory refusal_of (λ _. IsTooMuch graph.now table.now (label_of labels.now) (roots_of roots.now))) }
+{
+    let all = all_roots(alloc, roots)?;
+    let depth = target(graph, labels, &all);
+    let outputs = Vec::from_slice(alloc, &roots.outputs)?;
+    let next = Vec::from_slice(alloc, &roots.next)?;
+    let made = chosen_tables(alloc, graph, table, labels, &all)?;
+    Ok(Template {
+        luts: made.luts,
+        outputs,
+        next,
+        bits: made.bits,
+        depth,
+    })
 }
 
 /// The chosen template of a graph for some roots, of the least depth that its cuts allow.
@@ -79,7 +112,7 @@ fn chosen_tables(
 ///
 /// # Errors
 ///
-/// `Work` exactly where the work of the tables exceeds 2^25: the sum over the tables of their bits times one more than the
+/// `Work` exactly where the work of the tables exceeds `MOST_WORK`: the sum over the tables of their bits times one more than the
 /// AND nodes that they compute. `Memory` where there is none.
 ///
 /// # Complexity
@@ -99,25 +132,18 @@ pub fn pick(
     ensures template { IfOk result (λ t. IsTemplate graph.now table.now (label_of labels.now) roots.now t) }
     ensures mapping { IfOk result (λ t. (k : ℕ) → AreRows graph.now k (node_count graph.now) table.now → IsMapping graph.now k (roots_of roots.now) t.luts t.bits) }
     ensures least { IfOk result (λ t. (k : ℕ) → AreRows graph.now k (node_count graph.now) table.now → IsLeast graph.now k (roots_of roots.now) t.luts t.depth) }
+    ensures timely { IfOk result (λ t. AreTimely graph.now table.now (label_of labels.now) (roots_of roots.now) t.luts) }
 
-    // the limit on the work, both ways
-    ensures within { IfOk result (λ t. work_of graph.now t.luts ≤ 2 ^ 25) }
-    ensures work { IfErr result (λ e. e ≡ PickErr.Work → IsTooMuch graph.now table.now (label_of labels.now) (roots_of roots.now)) }
+    // There is one template.
+    ensures once { (t u : TemplateValue) → IsTemplate graph.now table.now (label_of labels.now) roots.now t → IsTemplate graph.now table.now (label_of labels.now) roots.now u → t ≡ u }
+
+    // The limit on the work, both ways.
+    ensures light { IfOk result (λ t. IsLight graph.now t.luts) }
+    ensures work { IfErr result (OrMemory refusal_of (λ _. IsTooMuch graph.now table.now (label_of labels.now) (roots_of roots.now))) }
+    ensures excluded { (t : TemplateValue) → IsTemplate graph.now table.now (label_of labels.now) roots.now t → IsLight graph.now t.luts → IsTooMuch graph.now table.now (label_of labels.now) (roots_of roots.now) → ⊥ }
+    ensures too_much { IsTooMuch graph.now table.now (label_of labels.now) (roots_of roots.now) → (result ≡ Err PickErr.Work) ⊎ (result ≡ Err PickErr.Memory) }
 {
-    let all = all_roots(alloc, roots)?;
-    let depth = target(graph, labels, &all);
-    let outputs = Vec::from_slice(alloc, &roots.outputs)?;
-    let next = Vec::from_slice(alloc, &roots.next)?;
-    match chosen_tables(alloc, graph, table, labels, &all) {
-        Err(error) => Err(error),
-        Ok(made) => Ok(Template {
-            luts: made.luts,
-            outputs,
-            next,
-            bits: made.bits,
-            depth,
-        }),
-    }
+    template_of(alloc, graph, roots, table, labels)
 }
 
 #[cfg(test)]

@@ -1,24 +1,16 @@
 -- The least unions of the sets of two fan-ins are the minimal cuts of the node.
-use Rattle.std.proofs.Common.{◌≡◌, ℕ, ◌-◌, ◌/◌, ◌<◌, ◌≤◌, List, [], ◌∷◌, length, refl, sym, ◌∙◌, subst, inl, inr, ◌⊎◌, arith}
-use Rattle.std.proofs.lemmas.Option.{slice_get_within, same_Some}
-use Rattle.aig_core.specs.Aig.{Aig, first_and, IsAnd, IsNormal}
-use Rattle.aig_core.specs.declared.lit.Kind.{Kind}
+use Rattle.std.proofs.Common.{◌≡◌, ℕ, ◌/◌, ◌<◌, ◌≤◌, List, [], ◌∷◌, length, refl, sym, subst, inl, inr, ◌⊎◌, arith}
+use Rattle.aig_core.specs.Aig.{Aig, first_and, IsAnd, IsNormal, AreNormal}
 use Rattle.aig_core.specs.declared.lit.Kind.TheVariants.{Regular, Parameter}
 use Rattle.aig_core.specs.declared.lit.Pair.{Pair}
-use Rattle.list_words.specs.Members.{In, Within}
-use Rattle.list_words.specs.Order.{IsAscending}
+use Rattle.list_laws.specs.Members.{In, Within}
+use Rattle.list_laws.specs.Order.{IsAscending}
 use Rattle.cut_enum.specs.Merging.{union, merged}
 use Rattle.aig_core.specs.Aig.{IsSource, IsNode}
 use Rattle.cut_enum.specs.Cuts.{Blocks, member, constant, parameter, fan_ins, CanBeLeaf, IsCut, IsMinimal, AreMinimal, Covers}
+use Rattle.cut_enum.proofs.BlockLemmas.{Blocks-within, source_below, same_pair, regular_blocked, contains_one}
 use Rattle.cut_enum.proofs.SetLemmas.{union_left, union_right, In-union, IsAscending-union, length_within, same_within, union_within}
 use Rattle.cut_enum.proofs.LeastLemmas.{IsLeast, IsLeast-merged, merged_covers, merged_only, IsUnionOf}
-
--- a larger set blocks what a smaller one blocks
-pub Blocks-within : (g : Aig) (c d : List ℕ) {n : ℕ} → Within c d → Blocks g c n → Blocks g d n
-Blocks-within g c d w (member i) = member (w _ i)
-Blocks-within g c d w (constant e) = constant e
-Blocks-within g c d w (parameter s) = parameter s
-Blocks-within g c d w (fan_ins p is x y) = fan_ins p is (Blocks-within g c d w x) (Blocks-within g c d w y)
 
 -- The sets from which a node's readers make theirs: each blocks the node, and each list that blocks it has one within.
 pub record IsFront (g : Aig) (k m : ℕ) (cs : List (List ℕ)) : Type 0 where
@@ -26,13 +18,6 @@ pub record IsFront (g : Aig) (k m : ℕ) (cs : List (List ℕ)) : Type 0 where
   pub leaves : (c : List ℕ) (l : ℕ) → In cs c → In c l → (l ≤ m) × CanBeLeaf g l
   pub blocks : (c : List ℕ) → In cs c → Blocks g c m
   pub contains : (c : List ℕ) → IsAscending c → length c ≤ k → Blocks g c m → Covers cs c
-
--- no source is an AND node
-source_below : (g : Aig) (kind : Kind) (n : ℕ) → IsSource g kind n → n < first_and g
-source_below g kind n s = let k : n - 1 < length g.kinds = slice_get_within g.kinds (n - 1) kind s.is in let a : 1 ≤ n = s.above in omega arith
-
-same_pair : (g : Aig) (p q : Pair) (n : ℕ) → IsNode g p n → IsNode g q n → q ≡ p
-same_pair g p q n a b = same_Some q p (sym b.is ∙ a.is)
 
 module _ (g : Aig) (k n : ℕ) (p : Pair) (xs ys : List (List ℕ)) (node : IsNode g p n) (normal : IsNormal n p)
     (x : IsFront g k (p.x.0 / 2) xs) (y : IsFront g k (p.y.0 / 2) ys) where
@@ -90,7 +75,6 @@ module _ (g : Aig) (k n : ℕ) (p : Pair) (xs ys : List (List ℕ)) (node : IsNo
     only = λ c i. record { cut = merged_cut c i; least = least_cut c i };
     all = minimal_in;
     ordered = least_of.ordered;
-    contains = blocked_cases;
   }
 
 front_leaves : (g : Aig) (k n : ℕ) (cs : List (List ℕ)) → IsAnd g n → AreMinimal g k n cs → (c : List ℕ) (l : ℕ) → In ((n ∷ []) ∷ cs) c → In c l → (l ≤ n) × CanBeLeaf g l
@@ -98,12 +82,12 @@ front_leaves g k n cs and m c l (inl e) h = elim (let i : In (n ∷ []) l = subs
 front_leaves g k n cs and m c l (inr i) h = let b : l < n = ((m.only c i).cut.below l h).0 in (omega arith, ((m.only c i).cut.below l h).1)
 
 -- the front of an AND node: its cuts, and itself
-pub IsFront-node : (g : Aig) (k n : ℕ) (cs : List (List ℕ)) → IsAnd g n → AreMinimal g k n cs → IsFront g k n ((n ∷ []) ∷ cs)
-IsFront-node g k n cs and m = record {
+pub IsFront-node : (g : Aig) (k n : ℕ) (cs : List (List ℕ)) → AreNormal (first_and g) g.pairs → IsAnd g n → AreMinimal g k n cs → IsFront g k n ((n ∷ []) ∷ cs)
+IsFront-node g k n cs normal and m = record {
   ascending = λ c i. elim i [ inl e ↦ subst IsAscending (sym e) ((λ l j. absurd j), tt) | inr j ↦ (m.only c j).cut.ascending ];
   leaves = λ c l i h. front_leaves g k n cs and m c l i h;
   blocks = λ c i. elim i [ inl e ↦ subst (λ s. Blocks g s n) (sym e) (member (inl refl)) | inr j ↦ (m.only c j).cut.blocks ];
-  contains = λ c up few b. elim (m.contains c up few b) [
+  contains = λ c up few b. elim ((contains_one g normal k n cs and m).each c up few b) [
     | inl i ↦ record { by = n ∷ []; in' = inl refl; part = λ l j. elim j [ inl e ↦ subst (λ s. In c s) (sym e) i | inr j ↦ absurd j ] }
     | inr r ↦ record { by = r.by; in' = inr r.in'; part = r.part }
   ];
@@ -117,15 +101,6 @@ IsFront-free g k n b = record {
   blocks = λ c i. elim i [ inl e ↦ subst (λ s. Blocks g s n) (sym e) b | inr j ↦ absurd j ];
   contains = λ c up few _. record { by = []; in' = inl refl; part = λ l j. absurd j };
 }
-
-other_kind : Regular ≡ Parameter → ⊥
-other_kind h = cc
-
-regular_blocked : (g : Aig) (c : List ℕ) {n : ℕ} → IsSource g Regular n → Blocks g c n → In c n
-regular_blocked g c s (member i) = i
-regular_blocked g c {n} s (constant e) = absurd (let a : 1 ≤ n = s.above in omega arith)
-regular_blocked g c {n} s (parameter t) = absurd (other_kind (same_Some Regular Parameter (sym s.is ∙ t.is)))
-regular_blocked g c {n} s (fan_ins p is x y) = absurd (let a : n < first_and g = source_below g Regular n s in let b : first_and g ≤ n = is.above in omega arith)
 
 regular_leaves : (g : Aig) (n : ℕ) → IsSource g Regular n → (c : List ℕ) (l : ℕ) → In ((n ∷ []) ∷ []) c → In c l → (l ≤ n) × CanBeLeaf g l
 regular_leaves g n s c l (inl e) h = elim (let i : In (n ∷ []) l = subst (λ s. In s l) e h in i) [ inl q ↦ (omega arith, subst (λ m. CanBeLeaf g m) (sym q) (inl s)) | inr j ↦ absurd j ]

@@ -3,12 +3,12 @@ use Rattle.std.proofs.Common.{◌≡◌, ℕ, zero, suc, get_or, ◌+◌, ◌-�
 use Rattle.std.specs.List.{list_any, insert}
 use Rattle.std.proofs.lemmas.Bool.{or_cases, or_parts, false≢true, both_ways, eqb-true, eqb-false, cases_lt}
 use Rattle.std.proofs.lemmas.List.{drop_more}
-use Rattle.list_words.specs.Members.{In, Within}
-use Rattle.list_words.specs.Order.{IsAscending}
+use Rattle.list_laws.specs.Members.{In, Within}
+use Rattle.list_laws.specs.Order.{IsAscending}
 use Rattle.cut_enum.specs.Sets.{before, IsOrdered}
 use Rattle.cut_enum.specs.Merging.{union, subset, place, add, add_union, add_unions, add_pairs, unions_below, merged}
 use Rattle.cut_enum.specs.Cuts.{Covers}
-use Rattle.list_words.proofs.Choice.{choose}
+use Rattle.list_laws.proofs.Choice.{choose}
 use Rattle.cut_enum.proofs.PutLemmas.{length-union}
 use Rattle.cut_enum.proofs.SetLemmas.{IsAscending-union, subset_true, subset_from, same_length_within, before_total, before_trans}
 

@@ -2,9 +2,11 @@ pub mod SetLemmas
 pub mod UnionLemmas
 pub mod SignatureLemmas
 pub mod LeastLemmas
+pub mod BlockLemmas
 pub mod CutLemmas
 pub mod PutLemmas
 pub mod RowLemmas
-pub mod DepthLemmas
 pub mod SpanLemmas
 pub mod LimitLemmas
+pub mod TableOnceLemmas
+pub mod Examples

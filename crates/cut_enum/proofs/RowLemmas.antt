@@ -1,23 +1,27 @@
 -- The rows of a table, one node after another.
-use Rattle.std.proofs.Common.{◌≡◌, ℕ, ◌+◌, ◌-◌, ◌/◌, ◌^◌, ◌<◌, ◌≤◌, cond, eqb, ltb, List, [], ◌∷◌, ◌++◌, length, sum_by, get_or, Option, Some, None, refl, sym, ap, ◌∙◌, subst, inl, inr, ◌⊎◌, arith, length-append}
+use Rattle.std.proofs.Common.{◌≡◌, ℕ, ◌+◌, ◌-◌, ◌/◌, ◌<◌, ◌≤◌, cond, eqb, ltb, List, [], ◌∷◌, ◌++◌, length, sum_by, get_or, Option, Some, None, refl, sym, ap, ◌∙◌, subst, inl, inr, ◌⊎◌, arith, length-append}
 use Rattle.std.specs.List.{slice_get}
 use Rattle.std.proofs.lemmas.Option.{slice_get-get_or, none-some}
 use Rattle.std.proofs.lemmas.List.{get_or_push, get_or_past}
 use Rattle.std.proofs.lemmas.List.Sums.{sum_by_push}
 use Rattle.std.proofs.Math.ListN.{get_or-append}
 use Rattle.std.proofs.lemmas.Bool.{eqb-true, eqb-false, ltb-true, ltb-false, cases_lt, cases_order}
-use Rattle.aig_core.specs.Aig.{Aig, first_and, node_count, IsAnd, pair_of, IsNormal}
+use Rattle.aig_core.specs.Aig.{Aig, first_and, node_count, IsAnd, pair_of, IsNormal, AreNormal}
 use Rattle.aig_core.specs.declared.lit.Kind.{Kind}
 use Rattle.aig_core.specs.declared.lit.Kind.TheVariants.{Regular, Parameter}
 use Rattle.aig_core.specs.declared.lit.Pair.{Pair}
+use Rattle.cut_enum.specs.declared.limits.TheConstants.{MOST_OF_A_NODE, MOST_OF_A_TABLE}
 use Rattle.cut_enum.specs.Merging.{merged}
 use Rattle.aig_core.specs.Aig.{IsNode}
 use Rattle.cut_enum.specs.Cuts.{AreMinimal, constant, parameter}
-use Rattle.cut_enum.specs.Table.{row_at, AreRows, IsRow}
-use Rattle.cut_enum.specs.Merging.{front_of, source_front}
+use Rattle.cut_enum.specs.Table.{row_at, AreRows}
+use Rattle.cut_enum.specs.Merging.{IsRow, IsTooMany, front_of, source_front}
 use Rattle.cut_enum.specs.Limits.{Reaches, IsLimit}
-use Rattle.cut_enum.specs.declared.table.CutErr.TheVariants.{NodeCuts, TotalCuts}
-use Rattle.list_words.proofs.Choice.{choose}
+use Rattle.cut_enum.specs.declared.table.CutErr.TheVariants.{NodeCuts, TotalCuts, Memory}
+use Rattle.cut_enum.specs.declared.table.CutErr.{CutErr}
+use Rattle.tl_fault.specs.OrMemory.{OrMemory}
+use Rattle.cut_enum.specs.Refusals.{refusal_of}
+use Rattle.list_laws.proofs.Choice.{choose}
 use Rattle.cut_enum.proofs.CutLemmas.{IsFront, IsFront-node, IsFront-free, IsFront-regular, AreMinimal-merged}
 
 source_ok : (g : Aig) (k m : ℕ) (o : Option Kind) → 1 ≤ m → m - 1 < length g.kinds → slice_get g.kinds (m - 1) ≡ o → IsFront g k m (source_front m o)
@@ -26,24 +30,24 @@ source_ok g k m (Some Parameter) a b e = IsFront-free g k m (parameter (record {
 source_ok g k m None a b e = absurd (none-some (get_or g.kinds (m - 1) Regular) (sym e ∙ slice_get-get_or g.kinds (m - 1) Regular b))
 
 -- the front that the code makes is one
-pub IsFront-front_of : (g : Aig) (k m : ℕ) (row : List (List ℕ)) → m < node_count g → (IsAnd g m → AreMinimal g k m row) → IsFront g k m (front_of g m row)
-IsFront-front_of g k m row below ok =
+pub IsFront-front_of : (g : Aig) (k m : ℕ) (row : List (List ℕ)) → AreNormal (first_and g) g.pairs → m < node_count g → (IsAnd g m → AreMinimal g k m row) → IsFront g k m (front_of g m row)
+IsFront-front_of g k m row normal below ok =
     choose (λ s. IsFront g k m s) (eqb m 0) ([] ∷ []) (cond (ltb m (first_and g)) (source_front m (slice_get g.kinds (m - 1))) ((m ∷ []) ∷ row))
     (λ t. IsFront-free g k m (constant (eqb-true m 0 t)))
     (λ t. let some : m ≡ 0 → ⊥ = eqb-false m 0 t in
     choose (λ s. IsFront g k m s) (ltb m (first_and g)) (source_front m (slice_get g.kinds (m - 1))) ((m ∷ []) ∷ row)
     (λ u. let l : m < first_and g = ltb-true m (first_and g) u in source_ok g k m (slice_get g.kinds (m - 1)) (omega arith) (omega arith) refl)
-    (λ u. let l : first_and g ≤ m = ltb-false m (first_and g) u in let and : IsAnd g m = (l, below) in IsFront-node g k m row and (ok and)))
+    (λ u. let l : first_and g ≤ m = ltb-false m (first_and g) u in let and : IsAnd g m = (l, below) in IsFront-node g k m row normal and (ok and)))
 
 -- the row of an AND node
-pub row_minimal : (g : Aig) (k n : ℕ) (p : Pair) (rows : List (List (List ℕ))) → n < node_count g → IsNode g p n → IsNormal n p → AreRows g k n rows
+pub row_minimal : (g : Aig) (k n : ℕ) (p : Pair) (rows : List (List (List ℕ))) → AreNormal (first_and g) g.pairs → n < node_count g → IsNode g p n → IsNormal n p → AreRows g k n rows
     → AreMinimal g k n (merged k (front_of g (p.x.0 / 2) (row_at rows (p.x.0 / 2))) (front_of g (p.y.0 / 2) (row_at rows (p.y.0 / 2))))
-row_minimal g k n p rows below node normal ok =
+row_minimal g k n p rows all below node normal ok =
     let y : p.y.0 / 2 < n = normal.below in
     let x : p.x.0 / 2 < p.y.0 / 2 = normal.ordered in
     AreMinimal-merged g k n p (front_of g (p.x.0 / 2) (row_at rows (p.x.0 / 2))) (front_of g (p.y.0 / 2) (row_at rows (p.y.0 / 2))) node normal
-    (IsFront-front_of g k (p.x.0 / 2) (row_at rows (p.x.0 / 2)) (omega arith) (ok.each (p.x.0 / 2) (omega arith)))
-    (IsFront-front_of g k (p.y.0 / 2) (row_at rows (p.y.0 / 2)) (omega arith) (ok.each (p.y.0 / 2) (omega arith)))
+    (IsFront-front_of g k (p.x.0 / 2) (row_at rows (p.x.0 / 2)) all (omega arith) (ok.each (p.x.0 / 2) (omega arith)))
+    (IsFront-front_of g k (p.y.0 / 2) (row_at rows (p.y.0 / 2)) all (omega arith) (ok.each (p.y.0 / 2) (omega arith)))
 
 -- no row
 pub AreRows-none : (g : Aig) (k : ℕ) → AreRows g k 0 []
@@ -63,8 +67,8 @@ each_push g k n rows row ok min m l and (inr h) =
     let e : n ≡ m = omega arith in
     rw (row_push_same rows row m (omega arith)) (subst (λ i. AreMinimal g k i row) e (min (subst (λ i. IsAnd g i) (sym e) and)))
 
-few_push : (g : Aig) (k n : ℕ) (rows : List (List (List ℕ))) (row : List (List ℕ)) → AreRows g k n rows → length row ≤ 4096
-    → (m : ℕ) → (m ≡ n) ⊎ ((m < n) ⊎ (n < m)) → length (row_at (rows ++ row ∷ []) m) ≤ 4096
+few_push : (g : Aig) (k n : ℕ) (rows : List (List (List ℕ))) (row : List (List ℕ)) → AreRows g k n rows → length row ≤ MOST_OF_A_NODE
+    → (m : ℕ) → (m ≡ n) ⊎ ((m < n) ⊎ (n < m)) → length (row_at (rows ++ row ∷ []) m) ≤ MOST_OF_A_NODE
 few_push g k n rows row ok few m (inl h) = let c : length rows ≡ n = ok.count in rw (row_push_same rows row m (omega arith)) few
 few_push g k n rows row ok few m (inr (inl h)) = let c : length rows ≡ n = ok.count in rw (row_push_old rows row m (omega arith)) (ok.few m)
 few_push g k n rows row ok few m (inr (inr h)) =
@@ -80,7 +84,7 @@ sources_push g k n rows row ok none m l (inr (inr h)) =
 
 -- one more row
 pub AreRows-push : (g : Aig) (k n : ℕ) (rows : List (List (List ℕ))) (row : List (List ℕ)) → AreRows g k n rows → IsRow g k n row
-    → length row ≤ 4096 → sum_by length rows + length row ≤ 2 ^ 23 → AreRows g k (n + 1) (rows ++ row ∷ [])
+    → length row ≤ MOST_OF_A_NODE → sum_by length rows + length row ≤ MOST_OF_A_TABLE → AreRows g k (n + 1) (rows ++ row ∷ [])
 AreRows-push g k n rows row ok is few total = record {
   count = (let e : length rows ≡ n = ok.count in omega (arith, length-append rows (row ∷ [])));
   sources = λ m l. sources_push g k n rows row ok is.source m l (cases_order m n);
@@ -90,10 +94,10 @@ AreRows-push g k n rows row ok is few total = record {
 }
 
 -- the row of an AND node, as the code makes it
-pub IsRow-node : (g : Aig) (k n : ℕ) (p : Pair) (rows : List (List (List ℕ))) (row : List (List ℕ)) → first_and g ≤ n → n < node_count g → pair_of g n ≡ Some p → IsNormal n p → AreRows g k n rows
+pub IsRow-node : (g : Aig) (k n : ℕ) (p : Pair) (rows : List (List (List ℕ))) (row : List (List ℕ)) → AreNormal (first_and g) g.pairs → first_and g ≤ n → n < node_count g → pair_of g n ≡ Some p → IsNormal n p → AreRows g k n rows
     → row ≡ merged k (front_of g (p.x.0 / 2) (row_at rows (p.x.0 / 2))) (front_of g (p.y.0 / 2) (row_at rows (p.y.0 / 2))) → IsRow g k n row
-IsRow-node g k n p rows row above below is normal ok e = record {
-  node = λ and. rw e (row_minimal g k n p rows below (record { above = above; is = is }) normal ok);
+IsRow-node g k n p rows row all above below is normal ok e = record {
+  node = λ and. rw e (row_minimal g k n p rows all below (record { above = above; is = is }) normal ok);
   source = λ l. absurd (omega arith);
 }
 
@@ -106,12 +110,27 @@ pub reaches : (g : Aig) (k n : ℕ) (rows : List (List (List ℕ))) (row : List 
 reaches g k n rows row below ok is some = let and : IsAnd g n = row_node g k n row below is some in record { node = and; below = ok; are = is.node and }
 
 -- a node whose cuts are too many, as the code makes them
-pub limit_node : (g : Aig) (k n : ℕ) (p : Pair) (rows : List (List (List ℕ))) → first_and g ≤ n → n < node_count g → pair_of g n ≡ Some p → IsNormal n p → AreRows g k n rows
-    → 4096 < length (merged k (front_of g (p.x.0 / 2) (row_at rows (p.x.0 / 2))) (front_of g (p.y.0 / 2) (row_at rows (p.y.0 / 2)))) → IsLimit g k (NodeCuts n)
-limit_node g k n p rows above below is normal ok over =
+pub limit_node : (g : Aig) (k n : ℕ) (p : Pair) (rows : List (List (List ℕ))) → AreNormal (first_and g) g.pairs → first_and g ≤ n → n < node_count g → pair_of g n ≡ Some p → IsNormal n p → AreRows g k n rows
+    → MOST_OF_A_NODE < length (merged k (front_of g (p.x.0 / 2) (row_at rows (p.x.0 / 2))) (front_of g (p.y.0 / 2) (row_at rows (p.y.0 / 2)))) → IsLimit g k (NodeCuts n)
+limit_node g k n p rows all above below is normal ok over =
     let row = merged k (front_of g (p.x.0 / 2) (row_at rows (p.x.0 / 2))) (front_of g (p.y.0 / 2) (row_at rows (p.y.0 / 2))) in
-    (rows, row, reaches g k n rows row below ok (IsRow-node g k n p rows row above below is normal ok refl) (omega arith), over)
+    (rows, row, reaches g k n rows row below ok (IsRow-node g k n p rows row all above below is normal ok refl) (omega arith), over)
 
 -- a node with whose cuts there are too many
-pub limit_total : (g : Aig) (k n : ℕ) (rows : List (List (List ℕ))) (row : List (List ℕ)) → n < node_count g → AreRows g k n rows → IsRow g k n row → length row ≤ 4096 → 2 ^ 23 < sum_by length rows + length row → IsLimit g k (TotalCuts n)
-limit_total g k n rows row below ok is few over = let t : sum_by length rows ≤ 2 ^ 23 = ok.total in (rows, row, reaches g k n rows row below ok is (omega arith), few, over)
+pub limit_total : (g : Aig) (k n : ℕ) (rows : List (List (List ℕ))) (row : List (List ℕ)) → n < node_count g → AreRows g k n rows → IsRow g k n row → length row ≤ MOST_OF_A_NODE → MOST_OF_A_TABLE < sum_by length rows + length row → IsLimit g k (TotalCuts n)
+limit_total g k n rows row below ok is few over = let t : sum_by length rows ≤ MOST_OF_A_TABLE = ok.total in (rows, row, reaches g k n rows row below ok is (omega arith), few, over)
+
+-- a node that has too many of some cuts has too many of more
+pub too_many_more : (n : ℕ) (xs ys : List (List ℕ)) (e : CutErr) → length xs ≤ length ys → OrMemory refusal_of (λ f. IsTooMany n xs f) e → OrMemory refusal_of (λ f. IsTooMany n ys f) e
+too_many_more n xs ys (NodeCuts m) l h = let o : MOST_OF_A_NODE < length xs = h.over in record { is = h.is; over = omega arith }
+too_many_more n xs ys (TotalCuts m) l h = let o : MOST_OF_A_NODE < length xs = h.over in record { is = h.is; over = omega arith }
+too_many_more n xs ys Memory l h = tt
+
+-- the refusal of a node, by its own words
+pub too_many_limit : (g : Aig) (k n : ℕ) (cuts : List (List ℕ)) (e : CutErr) → (MOST_OF_A_NODE < length cuts → IsLimit g k (NodeCuts n)) → OrMemory refusal_of (λ f. IsTooMany n cuts f) e → OrMemory refusal_of (λ f. IsLimit g k f) e
+too_many_limit g k n cuts (NodeCuts m) limit h = subst (λ f. IsLimit g k f) (sym h.is) (limit h.over)
+too_many_limit g k n cuts (TotalCuts m) limit h = absurd (other h.is)
+  where
+    other : TotalCuts m ≡ NodeCuts n → ⊥
+    other e = cc
+too_many_limit g k n cuts Memory limit h = tt

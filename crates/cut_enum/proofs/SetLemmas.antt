@@ -2,11 +2,11 @@
 use Rattle.std.proofs.Common.{◌≡◌, ℕ, ◌<◌, ◌≤◌, Bool, true, false, cond, ltb, eqb, List, [], ◌∷◌, length, refl, sym, ap, ◌∙◌, subst, inl, inr, ◌⊎◌, arith}
 use Rattle.std.specs.List.{list_any}
 use Rattle.std.proofs.lemmas.Bool.{ltb-true, ltb-false, eqb-true, eqb-false, eq-eqb, and_parts, or_cases, or_left, or_right, and_from, false≢true}
-use Rattle.list_words.specs.Members.{In, Within}
-use Rattle.list_words.specs.Order.{IsAscending}
+use Rattle.list_laws.specs.Members.{In, Within}
+use Rattle.list_laws.specs.Order.{IsAscending}
 use Rattle.cut_enum.specs.Sets.{lex, before, IsOrdered}
 use Rattle.cut_enum.specs.Merging.{put, union, subset}
-use Rattle.list_words.proofs.Choice.{choose}
+use Rattle.list_laws.proofs.Choice.{choose}
 
 -- what holds of `put` at a cell, by the order of the two heads
 pub put_at : (P : List ℕ → Type 0) (x y : ℕ) (ys : List ℕ) → (x < y → P (x ∷ y ∷ ys)) → (x ≡ y → P (y ∷ ys)) → (y < x → P (y ∷ put x ys)) → P (put x (y ∷ ys))
@@ -148,7 +148,7 @@ lex_total (x ∷ xs) (y ∷ ys) l h0 d =
     (λ e h. lex_tail y x ys xs (sym e) (lex_total xs ys (omega arith) h (λ t. d (ap (λ m. m ∷ xs) e ∙ ap (λ m. y ∷ m) t))))
     (λ a h. lex_head y x ys xs a) h0
 
-lex_trans : (a b c : List ℕ) → lex a b ≡ true → lex b c ≡ true → lex a c ≡ true
+pub lex_trans : (a b c : List ℕ) → lex a b ≡ true → lex b c ≡ true → lex a c ≡ true
 lex_trans [] b c h k = absurd (false≢true h)
 lex_trans (x ∷ xs) [] c h k = absurd (false≢true h)
 lex_trans (x ∷ xs) (y ∷ ys) [] h k = absurd (false≢true k)
@@ -187,7 +187,7 @@ before_trans a b c h0 k0 =
     (λ l h k. absurd (false≢true h)) h0 k0
 
 -- no list is before itself
-lex-same : (a : List ℕ) → lex a a ≡ false
+pub lex-same : (a : List ℕ) → lex a a ≡ false
 lex-same [] = refl
 lex-same (x ∷ xs) = lex_at (λ b. b ≡ false) x x xs xs (λ a. absurd (omega arith)) (λ e. lex-same xs) (λ a. refl)
 

@@ -6,7 +6,7 @@ use Rattle.std.proofs.lemmas.Nat.{or_shr}
 use Rattle.std.proofs.lemmas.Nat.Bits.{bit_at-zero, bit_at_or, bit_at_lowest, same_from_bits}
 use lib.Count.{ones_step, ones-le}
 use Rattle.std.proofs.lemmas.Bool.{cases_Bool}
-use Rattle.list_words.specs.Members.{In, Within}
+use Rattle.list_laws.specs.Members.{In, Within}
 use Rattle.cut_enum.specs.Merging.{union, subset}
 use Rattle.cut_enum.specs.Signature.{leaf_bit, signature_of}
 use Rattle.cut_enum.proofs.SetLemmas.{In-union, union_left, union_right, subset_true}

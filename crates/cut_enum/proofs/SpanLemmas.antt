@@ -1,7 +1,8 @@
 -- Reading a part, and putting one more at the end.
-use Rattle.std.proofs.Common.{◌≡◌, ℕ, zero, suc, ◌+◌, ◌-◌, ◌^◌, ◌<◌, ◌≤◌, List, [], ◌∷◌, ◌++◌, length, get_or, take, drop, slice_range, sum_by, refl, sym, ap, ◌∙◌, subst, arith, length-append, length-drop}
+use Rattle.std.proofs.Common.{◌≡◌, ℕ, zero, suc, ◌+◌, ◌-◌, ◌<◌, ◌≤◌, List, [], ◌∷◌, ◌++◌, length, get_or, take, drop, slice_range, sum_by, refl, sym, ap, ◌∙◌, subst, arith, length-append, length-drop}
 use Rattle.std.proofs.lemmas.List.{take-append-le, drop-append-le, drop_all, take_all}
 use Rattle.std.proofs.lemmas.List.Sums.{sum_by_push}
+use Rattle.cut_enum.specs.declared.limits.TheConstants.{MOST_OF_A_TABLE}
 use Rattle.cut_enum.specs.Spans.{parts_from, parts_of, RisesTo, StartsTo, IsFlat}
 
 rises_le : (last start : ℕ) (ends : List ℕ) → RisesTo last start ends → start ≤ last
@@ -77,7 +78,7 @@ pub IsFlat-none : IsFlat (0 ∷ []) []
 IsFlat-none = record { starts_to = refl; sum = refl; most = omega arith }
 
 -- one more row
-pub IsFlat-push : (starts : List ℕ) (cuts row : List (List ℕ)) (b : ℕ) → IsFlat starts cuts → b ≡ length cuts + length row → b ≤ 2 ^ 23 → IsFlat (starts ++ b ∷ []) (cuts ++ row)
+pub IsFlat-push : (starts : List ℕ) (cuts row : List (List ℕ)) (b : ℕ) → IsFlat starts cuts → b ≡ length cuts + length row → b ≤ MOST_OF_A_TABLE → IsFlat (starts ++ b ∷ []) (cuts ++ row)
 IsFlat-push starts cuts row b flat e most =
     let n : length (cuts ++ row) ≡ length cuts + length row = length-append cuts row in
     let q : b ≡ length (cuts ++ row) = omega arith in

@@ -1,7 +1,7 @@
 -- The union that the code makes is the union of the two lists, of which there is one.
 use Rattle.std.proofs.Common.{◌≡◌, ℕ, ◌<◌, ◌≤◌, List, length, Option, Some, None, MatchOption, IfSome, IfNone, sym, subst, inl, inr}
-use Rattle.list_words.specs.Members.{Within}
-use Rattle.list_words.specs.Order.{IsAscending}
+use Rattle.list_laws.specs.Members.{Within}
+use Rattle.list_laws.specs.Order.{IsAscending}
 use Rattle.cut_enum.specs.Merging.{union}
 use Rattle.cut_enum.specs.Unions.{IsUnion}
 use Rattle.cut_enum.proofs.SetLemmas.{In-union, union_left, union_right, IsAscending-union, same_within}

@@ -1,7 +1,8 @@
--- Covers of a graph by cuts, their depth, and labels.
-use Rattle.std.specs.Prelude.{◌≡◌, ℕ, suc, ◌+◌, ◌/◌, ◌<◌, ◌≤◌, max, List, [], ◌∷◌, Option, Some, IsSome}
-use Rattle.aig_core.specs.Aig.{Aig, first_and, IsAnd}
-use Rattle.list_words.specs.Members.{In}
+-- Covers of a graph by cuts, their depth, and the least depth of any cover.
+use Rattle.std.specs.Prelude.{◌≡◌, ℕ, suc, ◌/◌, ◌%◌, ◌<◌, ◌≤◌, List, [], Option, Some, IsSome}
+use Rattle.aig_core.specs.Aig.{Aig, first_and, IsAnd, IsSource}
+use Rattle.aig_core.specs.declared.lit.Kind.TheVariants.{Regular}
+use Rattle.list_laws.specs.Members.{In}
 use Rattle.cut_enum.specs.Cuts.{IsCut}
 
 -- A cover assigns cuts to AND nodes, and has every AND node of a root and every AND leaf of its cuts.
@@ -16,17 +17,14 @@ pub data HasDepth (g : Aig) (cover : ℕ → Option (List ℕ)) : ℕ → ℕ �
   free : {n d : ℕ} → cover n ≡ Some [] → HasDepth g cover n d
   table : {n d : ℕ} (c : List ℕ) → cover n ≡ Some c → ((m : ℕ) → In c m → HasDepth g cover m d) → HasDepth g cover n (suc d)
 
--- the greatest label of a list of nodes
-abbrev pub greatest : (ℕ → ℕ) → List ℕ → ℕ
-greatest label [] = 0
-greatest label (m ∷ ms) = max (label m) (greatest label ms)
+-- The depth of a cover is at most d: that of each root's node is, and a root that is a complemented regular source counts 1.
+pub record RootsWithin (g : Aig) (cover : ℕ → Option (List ℕ)) (roots : List ℕ) (d : ℕ) : Type 0 where
+  pub complemented : (l : ℕ) → In roots l → IsSource g Regular (l / 2) → l % 2 ≡ 1 → 1 ≤ d
+  pub nodes : (l : ℕ) → In roots l → IsAnd g (l / 2) → HasDepth g cover (l / 2) d
 
-abbrev pub height : (ℕ → ℕ) → List ℕ → ℕ
-height label [] = 0
-height label (m ∷ ms) = 1 + greatest label (m ∷ ms)
-
--- a label is 0 at a source, and the least height of an AND node's minimal cuts
-pub record AreLabels (g : Aig) (cuts : ℕ → List (List ℕ)) (label : ℕ → ℕ) : Type 0 where
-  pub sources : (n : ℕ) → n < first_and g → label n ≡ 0
-  pub least : (n : ℕ) (c : List ℕ) → IsAnd g n → In (cuts n) c → label n ≤ height label c
-  pub met : (n : ℕ) → IsAnd g n → (c : List ℕ) × In (cuts n) c × (label n ≡ height label c)
+-- d is the least depth of a cover of the graph for these roots: some cover's depth is at most d, and no cover's depth is below d
+pub record IsLeastDepth (g : Aig) (k : ℕ) (roots : List ℕ) (d : ℕ) : Type 0 where
+  pub cover : ℕ → Option (List ℕ)
+  pub is : IsCover g k roots cover
+  pub within : RootsWithin g cover roots d
+  pub least : (other : ℕ → Option (List ℕ)) (e : ℕ) → IsCover g k roots other → RootsWithin g other roots e → d ≤ e

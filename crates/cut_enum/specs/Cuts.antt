@@ -3,8 +3,8 @@ use Rattle.std.specs.Prelude.{◌≡◌, ℕ, ◌/◌, ◌<◌, ◌≤◌, List,
 use Rattle.aig_core.specs.Aig.{Aig, IsAnd}
 use Rattle.aig_core.specs.declared.lit.Kind.TheVariants.{Regular, Parameter}
 use Rattle.aig_core.specs.declared.lit.Pair.{Pair}
-use Rattle.list_words.specs.Members.{In, Within}
-use Rattle.list_words.specs.Order.{IsAscending}
+use Rattle.list_laws.specs.Members.{In, Within}
+use Rattle.list_laws.specs.Order.{IsAscending}
 use Rattle.cut_enum.specs.Sets.{IsOrdered}
 use Rattle.aig_core.specs.Aig.{IsSource, IsNode}
 
@@ -42,5 +42,7 @@ pub record AreMinimal (g : Aig) (k n : ℕ) (cs : List (List ℕ)) : Type 0 wher
   pub only : (c : List ℕ) → In cs c → IsMinimal g k n c
   pub all : (c : List ℕ) → IsMinimal g k n c → In cs c
   pub ordered : IsOrdered cs
-  -- each list of at most k that blocks the node has the node itself, or one of the cuts within it
-  pub contains : (c : List ℕ) → IsAscending c → length c ≤ k → Blocks g c n → In c n ⊎ Covers cs c
+
+-- each list of at most k nodes that blocks a node has the node itself, or one of these cuts within it
+pub record EachContainsOne (g : Aig) (k n : ℕ) (cs : List (List ℕ)) : Type 0 where
+  pub each : (c : List ℕ) → IsAscending c → length c ≤ k → Blocks g c n → In c n ⊎ Covers cs c

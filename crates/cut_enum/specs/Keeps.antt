@@ -1,6 +1,6 @@
 -- What the fields of a cut keep.
 use Rattle.std.specs.Prelude.{◌≡◌, ℕ, ◌≤◌, List, length}
-use Rattle.list_words.specs.Order.{IsAscending}
+use Rattle.list_laws.specs.Order.{IsAscending}
 use Rattle.cut_enum.specs.Signature.{signature_of}
 
 -- the leaves ascend and lie in the six inline places, and the signature is theirs

@@ -1,10 +1,14 @@
--- The lists that the code makes on its way to the minimal cuts. No public clause speaks of them.
-use Rattle.std.specs.Prelude.{ℕ, zero, suc, ◌-◌, ◌/◌, Bool, if◌then◌else◌, ◌==◌, nat_lt, List, [], ◌∷◌, length, Option, Some, None, slice_get}
+-- The lists that the code makes on its way to the minimal cuts.
+use Rattle.std.specs.Prelude.{◌≡◌, ◌<◌, ℕ, zero, suc, ◌-◌, ◌/◌, Bool, if◌then◌else◌, ◌==◌, nat_lt, List, [], ◌∷◌, length, Option, Some, None, slice_get}
 use Rattle.std.specs.List.{list_any, list_all}
-use Rattle.aig_core.specs.Aig.{Aig, first_and}
+use Rattle.aig_core.specs.Aig.{Aig, first_and, IsAnd}
 use Rattle.aig_core.specs.declared.lit.Kind.{Kind}
 use Rattle.aig_core.specs.declared.lit.Kind.TheVariants.{Regular, Parameter}
 use Rattle.aig_core.specs.declared.lit.Pair.{Pair}
+use Rattle.cut_enum.specs.declared.limits.TheConstants.{MOST_OF_A_NODE}
+use Rattle.cut_enum.specs.declared.table.CutErr.{CutErr}
+use Rattle.cut_enum.specs.declared.table.CutErr.TheVariants.{NodeCuts}
+use Rattle.cut_enum.specs.Cuts.{AreMinimal}
 use Rattle.cut_enum.specs.Sets.{before}
 use Rattle.cut_enum.specs.Table.{row_at}
 
@@ -67,3 +71,13 @@ front_of g m row = if m == 0 then [] ∷ [] else if nat_lt m (first_and g) then 
 -- the least unions of what the two nodes of a pair hand on
 abbrev pub unions_of : Aig → ℕ → List (List (List ℕ)) → Pair → List (List ℕ)
 unions_of g k rows p = merged k (front_of g (p.x.0 / 2) (row_at rows (p.x.0 / 2))) (front_of g (p.y.0 / 2) (row_at rows (p.y.0 / 2)))
+
+-- the row of a node: an AND node's cuts, and none for a source
+pub record IsRow (g : Aig) (k n : ℕ) (row : List (List ℕ)) : Type 0 where
+  pub node : IsAnd g n → AreMinimal g k n row
+  pub source : n < first_and g → row ≡ []
+
+-- a node is refused, since these would be its cuts and are too many
+pub record IsTooMany (node : ℕ) (cuts : List (List ℕ)) (e : CutErr) : Type 0 where
+  pub is : e ≡ NodeCuts node
+  pub over : MOST_OF_A_NODE < length cuts

@@ -1,6 +1,6 @@
 -- The order of cuts: those of fewer leaves first, then lexicographically.
 use Rattle.std.specs.Prelude.{ℕ, Bool, true, false, if◌then◌else◌, ◌==◌, nat_lt, List, [], ◌∷◌, length, IsTrue}
-use Rattle.list_words.specs.Members.{In}
+use Rattle.list_laws.specs.Members.{In}
 
 -- the order of two lists of the same length
 abbrev pub lex : List ℕ → List ℕ → Bool

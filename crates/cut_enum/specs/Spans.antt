@@ -1,5 +1,6 @@
 -- Lists that lie one after another in one list, and where each begins.
-use Rattle.std.specs.Prelude.{◌≡◌, ℕ, ◌^◌, ◌≤◌, List, [], ◌∷◌, length, slice_range, sum_by}
+use Rattle.std.specs.Prelude.{◌≡◌, ℕ, ◌≤◌, List, [], ◌∷◌, length, slice_range, sum_by}
+use Rattle.cut_enum.specs.declared.limits.TheConstants.{MOST_OF_A_TABLE}
 
 -- the parts of a list between one place and the next
 abbrev pub parts_from : {A : Type 0} → ℕ → List ℕ → List A → List (List A)
@@ -25,4 +26,4 @@ StartsTo last (start ∷ ends) = RisesTo last start ends
 pub record IsFlat (starts : List ℕ) (cuts : List (List ℕ)) : Type 0 where
   pub starts_to : StartsTo (length cuts) starts
   pub sum : sum_by length (parts_of starts cuts) ≡ length cuts
-  pub most : length cuts ≤ 2 ^ 23
+  pub most : length cuts ≤ MOST_OF_A_TABLE

@@ -1,6 +1,7 @@
 -- The table of cuts: a row for each node.
-use Rattle.std.specs.Prelude.{◌≡◌, ℕ, ◌^◌, ◌<◌, ◌≤◌, List, [], length, sum_by, slice_index_or}
+use Rattle.std.specs.Prelude.{◌≡◌, ℕ, ◌<◌, ◌≤◌, List, [], length, sum_by, slice_index_or}
 use Rattle.aig_core.specs.Aig.{Aig, first_and, IsAnd}
+use Rattle.cut_enum.specs.declared.limits.TheConstants.{MOST_OF_A_NODE, MOST_OF_A_TABLE}
 use Rattle.cut_enum.specs.Cuts.{AreMinimal}
 
 -- the cuts of a node: none past the last row
@@ -12,10 +13,5 @@ pub record AreRows (g : Aig) (k n : ℕ) (rows : List (List (List ℕ))) : Type 
   pub count : length rows ≡ n
   pub sources : (m : ℕ) → m < first_and g → row_at rows m ≡ []
   pub each : (m : ℕ) → m < n → IsAnd g m → AreMinimal g k m (row_at rows m)
-  pub few : (m : ℕ) → length (row_at rows m) ≤ 4096
-  pub total : sum_by length rows ≤ 2 ^ 23
-
--- the row of a node: an AND node's cuts, and none for a source
-pub record IsRow (g : Aig) (k n : ℕ) (row : List (List ℕ)) : Type 0 where
-  pub node : IsAnd g n → AreMinimal g k n row
-  pub source : n < first_and g → row ≡ []
+  pub few : (m : ℕ) → length (row_at rows m) ≤ MOST_OF_A_NODE
+  pub total : sum_by length rows ≤ MOST_OF_A_TABLE

@@ -1,7 +1,7 @@
 -- The union of two ascending lists.
 use Rattle.std.specs.Prelude.{ℕ, List, ◌⊎◌}
-use Rattle.list_words.specs.Members.{In, Within}
-use Rattle.list_words.specs.Order.{IsAscending}
+use Rattle.list_laws.specs.Members.{In, Within}
+use Rattle.list_laws.specs.Order.{IsAscending}
 
 -- c is the ascending list of exactly the elements of a and b
 pub record IsUnion (a b c : List ℕ) : Type 0 where

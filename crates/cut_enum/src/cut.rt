@@ -1,6 +1,6 @@
 //! A cut of at most six leaves, with its signature.
 ghost use Rattle.std.specs.Prelude.{◌≡◌, ℕ, ◌<◌, ◌≤◌, ◌↔◌, false, List, [], ◌∷◌, length, MatchOption, IsTrue, IfSome, IfNone, IfOk, IfErr, insert};
-ghost use Rattle.list_words.specs.Members.{Within};
+ghost use Rattle.list_laws.specs.Members.{Within};
 ghost use Rattle.cut_enum.specs.Merging.{put, union, subset};
 ghost use Rattle.cut_enum.specs.Signature.{leaf_bit as bit_of};
 ghost use Rattle.cut_enum.specs.Unions.{IsUnion};

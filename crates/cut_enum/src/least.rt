@@ -2,45 +2,17 @@
 //!
 //! The unions are taken by their size, those with no leaf first. So a cut that is kept is never within a later one
 //! of fewer leaves, nothing is dropped again, and a list that has grown too long stays so.
-ghost use Rattle.std.specs.Prelude.{◌≡◌, ℕ, ◌<◌, ◌≤◌, [], length, OnOk, IfOk, insert};
+ghost use Rattle.std.specs.Prelude.{◌≡◌, ℕ, ◌<◌, ◌≤◌, [], length, OnOk, IfOk, IfErr, insert};
 ghost use Rattle.std.specs.List.{list_any};
+ghost use Rattle.tl_fault.specs.OrMemory.{OrMemory};
+ghost use Rattle.cut_enum.specs.Refusals.{refusal_of};
 ghost use Rattle.cut_enum.specs.Sets.{before as comes_before, lex};
-ghost use Rattle.cut_enum.specs.Merging.{subset, place, add as add_to, add_union as with_union, add_unions as with_unions, add_pairs as with_pairs, merged as all_merged};
+ghost use Rattle.cut_enum.specs.Merging.{IsTooMany, subset, place, add as add_to, add_union as with_union, add_unions as with_unions, add_pairs as with_pairs, merged as all_merged};
 
 use crate::cut::{Cut, is_part, joined};
-use std::alloc::{AllocError, AllocFailed, Global};
-
-/// The most cuts that a node may have.
-pub const MOST_OF_A_NODE: usize = 4096;
-
-/// Why a node has no list of cuts.
-#[derive(Drop)]
-pub enum RowErr {
-    TooMany,
-    Memory,
-}
-
-impl<T: Drop> From<AllocFailed<T>> for RowErr {
-    ghost use Rattle.std.specs.Prelude.{◌≡◌};
-    ghost use Rattle.cut_enum.specs.declared.least.RowErr.TheVariants.{Memory};
-
-    ghost from_gives = { λ _ e. e ≡ Memory };
-
-    fn from(_: AllocFailed<T>) -> RowErr {
-        RowErr::Memory
-    }
-}
-
-impl From<AllocError> for RowErr {
-    ghost use Rattle.std.specs.Prelude.{◌≡◌};
-    ghost use Rattle.cut_enum.specs.declared.least.RowErr.TheVariants.{Memory};
-
-    ghost from_gives = { λ _ e. e ≡ Memory };
-
-    fn from(_: AllocError) -> RowErr {
-        RowErr::Memory
-    }
-}
+use crate::limits::MOST_OF_A_NODE;
+use crate::table::CutErr;
+use std::alloc::{AllocError, Global};
 
 // Does a come before b: fewer leaves first, then the lexicographically smaller.
 fn before(a: &Cut, b: &Cut) -> bool
@@ -111,13 +83,13 @@ fn add_union(size: u8, c: &Cut, d: &Cut, cuts: &mut Vec<Cut>) -> Result<(), Allo
     Ok(())
 }
 
-// Adds the unions of size leaves of c and each of ds, until there are too many. A larger c has none.
-fn add_unions(size: u8, c: &Cut, ds: &[Cut], cuts: &mut Vec<Cut>) -> Result<(), RowErr>
+// Adds the unions of size leaves of c and each of ds to those of a node, until there are too many. A larger c has none.
+fn add_unions(node: u32, size: u8, c: &Cut, ds: &[Cut], cuts: &mut Vec<Cut>) -> Result<(), CutErr>
     requires size { size ≤ 6 }
-    requires few { length cuts.old.items ≤ 4096 }
+    requires few { length cuts.old.items ≤ MOST_OF_A_NODE }
     ensures ok { OnOk result (cuts.new.items ≡ with_unions size c.now ds.now cuts.old.items) }
-    ensures few { OnOk result (length cuts.new.items ≤ 4096) }
-    ensures too_many { result ≡ Err RowErr.TooMany → 4096 < length (with_unions size c.now ds.now cuts.old.items) }
+    ensures few { OnOk result (length cuts.new.items ≤ MOST_OF_A_NODE) }
+    ensures too_many { IfErr result (OrMemory refusal_of (λ e. IsTooMany node (with_unions size c.now ds.now cuts.old.items) e)) }
 {
     if c.len() > size as usize {
         return Ok(());
@@ -125,42 +97,36 @@ fn add_unions(size: u8, c: &Cut, ds: &[Cut], cuts: &mut Vec<Cut>) -> Result<(), 
     for d in ds {
         add_union(size, c, d, cuts)?;
         if cuts.len() > MOST_OF_A_NODE {
-            return Err(RowErr::TooMany);
+            return Err(CutErr::NodeCuts(node));
         }
     }
     Ok(())
 }
 
-// Adds the unions of size leaves of a cut of each list, until there are too many.
-fn add_pairs(size: u8, cs: &[Cut], ds: &[Cut], cuts: &mut Vec<Cut>) -> Result<(), RowErr>
+// Adds the unions of size leaves of a cut of each list to those of a node, until there are too many.
+fn add_pairs(node: u32, size: u8, cs: &[Cut], ds: &[Cut], cuts: &mut Vec<Cut>) -> Result<(), CutErr>
     requires size { size ≤ 6 }
-    requires few { length cuts.old.items ≤ 4096 }
+    requires few { length cuts.old.items ≤ MOST_OF_A_NODE }
     ensures ok { OnOk result (cuts.new.items ≡ with_pairs size cs.now ds.now cuts.old.items) }
-    ensures few { OnOk result (length cuts.new.items ≤ 4096) }
-    ensures too_many { result ≡ Err RowErr.TooMany → 4096 < length (with_pairs size cs.now ds.now cuts.old.items) }
+    ensures few { OnOk result (length cuts.new.items ≤ MOST_OF_A_NODE) }
+    ensures too_many { IfErr result (OrMemory refusal_of (λ e. IsTooMany node (with_pairs size cs.now ds.now cuts.old.items) e)) }
 {
     for c in cs {
-        match add_unions(size, c, ds, cuts) {
-            Ok(()) => {}
-            Err(error) => return Err(error),
-        }
+        add_unions(node, size, c, ds, cuts)?;
     }
     Ok(())
 }
 
-// The least unions of a cut of each list, of at most k leaves.
-pub fn merged(alloc: Global, k: u8, cs: &[Cut], ds: &[Cut]) -> Result<Vec<Cut>, RowErr>
+// The least unions of a cut of each list, of at most k leaves: the cuts of a node.
+pub fn merged(alloc: Global, node: u32, k: u8, cs: &[Cut], ds: &[Cut]) -> Result<Vec<Cut>, CutErr>
     requires { k ≤ 6 }
     ensures ok { IfOk result (λ cuts. cuts.items ≡ all_merged k cs.now ds.now) }
-    ensures few { IfOk result (λ cuts. length cuts.items ≤ 4096) }
-    ensures too_many { result ≡ Err RowErr.TooMany → 4096 < length (all_merged k cs.now ds.now) }
+    ensures few { IfOk result (λ cuts. length cuts.items ≤ MOST_OF_A_NODE) }
+    ensures too_many { IfErr result (OrMemory refusal_of (λ e. IsTooMany node (all_merged k cs.now ds.now) e)) }
 {
     let mut cuts = Vec::new(alloc);
     for size in 0..k + 1 {
-        match add_pairs(size, cs, ds, &mut cuts) {
-            Ok(()) => {}
-            Err(error) => return Err(error),
-        }
+        add_pairs(node, size, cs, ds, &mut cuts)?;
     }
     Ok(cuts)
 }

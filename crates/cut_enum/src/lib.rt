@@ -14,11 +14,12 @@
 //! least unions of a cut of either list, of at most k leaves, are the node's minimal cuts. Nothing is lost so: a set
 //! that blocks the node and does not have it blocks both fan-ins, hence contains a set that each of them hands on,
 //! hence contains the union of the two; and a minimal cut contains no other cut. What the argument needs of the
-//! fan-ins is the last part of `AreMinimal`, and goes from node to node: each list of at most k that blocks a node has
-//! the node itself, or has one of its cuts within it.
+//! fan-ins is a law of the minimal cuts (`EachContainsOne`): each list of at most k that blocks a node has the node
+//! itself, or has one of its cuts within it, since what blocks a node can be decided, and members can be left out of a
+//! cut until it is minimal (`proofs/BlockLemmas.antt`).
 //!
 //! Unions are taken by their size, the smallest first (`least.rt`). So what is kept is never dropped again, and a
-//! node is known to have too many cuts as soon as there are 4,097.
+//! node is known to have too many cuts as soon as there is one more than the limit.
 //!
 //! # Signatures
 //! Beside its leaves a cut has a word with bit (leaf mod 64) of each leaf. A cut whose word has a bit that another's
@@ -27,9 +28,11 @@
 //!
 //! # What the table keeps
 //! All cuts lie in one vector, one node's after another's, those of a node with fewer leaves first and then
-//! lexicographically. A node has at most 4,096 of them and the table at most 2^23; a graph that has more is refused
-//! at the first node at which it shows. `proofs/LimitLemmas.antt` shows that a graph has one such limit at most
-//! (`limit_once`), and no table where it has one (`limit_excludes`).
+//! lexicographically. A node has at most `MOST_OF_A_NODE` of them and the table at most `MOST_OF_A_TABLE`; a graph that
+//! has more is refused at the first node at which it shows. A graph has one such limit at most, and no table where it
+//! has one.
+//!
+//! `proofs/Examples.antt` has the table of a small graph.
 //!
 //! Sources: Cong and Ding, "FlowMap", 1994, for cuts and labels; Cong, Wu and Ding, "Cut ranking and pruning",
 //! 1999, for the merging of cuts; Bruneel and Stroobandt, "Tuneable lookup tables", for parameters that cost nothing.
@@ -37,6 +40,7 @@
 
 mod cut;
 mod least;
+mod limits;
 mod row;
 mod table;
 #[cfg(test)]

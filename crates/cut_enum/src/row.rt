@@ -1,12 +1,15 @@
 //! The cuts of one node, from those of its two fan-ins.
 ghost use Rattle.std.specs.Prelude.{◌≡◌, ℕ, ◌/◌, ◌<◌, ◌≤◌, length, IfOk, IfErr};
-ghost use Rattle.aig_core.specs.Aig.{node_count};
+ghost use Rattle.aig_core.specs.Aig.{first_and, node_count, AreNormal};
+ghost use Rattle.tl_fault.specs.OrMemory.{OrMemory};
+ghost use Rattle.cut_enum.specs.Refusals.{refusal_of};
 ghost use Rattle.cut_enum.specs.Limits.{IsLimit};
-ghost use Rattle.cut_enum.specs.Merging.{front_of, unions_of};
-ghost use Rattle.cut_enum.specs.Table.{AreRows, IsRow};
+ghost use Rattle.cut_enum.specs.Merging.{IsRow, IsTooMany, front_of, unions_of};
+ghost use Rattle.cut_enum.specs.Table.{AreRows};
 
 use crate::cut::Cut;
-use crate::least::{RowErr, merged};
+use crate::least::merged;
+use crate::limits::MOST_OF_A_NODE;
 use crate::table::{CutErr, CutTable};
 use aig_core::{Graph, Kind, Pair, Steps};
 use std::alloc::{AllocError, Global};
@@ -42,21 +45,22 @@ fn node_row(
     alloc: Global,
     graph: &Graph,
     table: &CutTable,
+    n: u32,
     pair: Pair,
     k: u8,
-) -> Result<Vec<Cut>, RowErr>
+) -> Result<Vec<Cut>, CutErr>
     requires few { k ≤ 6 }
     requires x { pair.x.0 / 2 < node_count graph.now }
     requires y { pair.y.0 / 2 < node_count graph.now }
     ensures ok { IfOk result (λ v. v.items ≡ unions_of graph.now k table.now pair) }
-    ensures few { IfOk result (λ v. length v.items ≤ 4096) }
-    ensures too_many { result ≡ Err RowErr.TooMany → 4096 < length (unions_of graph.now k table.now pair) }
+    ensures few { IfOk result (λ v. length v.items ≤ MOST_OF_A_NODE) }
+    ensures too_many { IfErr result (OrMemory refusal_of (λ e. IsTooMany n (unions_of graph.now k table.now pair) e)) }
 {
     let x = pair.x.0 / 2;
     let y = pair.y.0 / 2;
     let xs = front(alloc, graph, table.row(x), x)?;
     let ys = front(alloc, graph, table.row(y), y)?;
-    merged(alloc, k, &xs, &ys)
+    merged(alloc, n, k, &xs, &ys)
 }
 
 // The cuts of a node, from the table of the nodes below it.
@@ -71,18 +75,16 @@ pub fn row_of<L: Ledger>(
     requires least { 2 ≤ k }
     requires most { k ≤ 6 }
     requires node { n < node_count graph.now }
+    requires normal { AreNormal (first_and graph.now) graph.now.pairs }
     requires rows { AreRows graph.now k n table.now }
     ensures ok { IfOk result (λ row. IsRow graph.now k n row.items) }
-    ensures few { IfOk result (λ row. length row.items ≤ 4096) }
-    ensures err { IfErr result (λ e. IsLimit graph.now k e) }
+    ensures few { IfOk result (λ row. length row.items ≤ MOST_OF_A_NODE) }
+    ensures err { IfErr result (OrMemory refusal_of (λ e. IsLimit graph.now k e)) }
 {
     if n <= graph.sources() {
         return Ok(Vec::new(alloc));
     }
     let pair = graph.node(n, steps);
-    match node_row(alloc, graph, table, pair, k) {
-        Ok(row) => Ok(row),
-        Err(RowErr::TooMany) => Err(CutErr::NodeCuts(n)),
-        Err(RowErr::Memory) => Err(CutErr::Memory),
-    }
+    let row = node_row(alloc, graph, table, n, pair, k)?;
+    Ok(row)
 }

@@ -1,29 +1,47 @@
 //! The table of the minimal cuts of each node.
-ghost use Rattle.std.specs.Prelude.{◌≡◌, ℕ, ◌+◌, ◌^◌, ◌<◌, ◌≤◌, [], ◌∷◌, ◌++◌, ◌⊎◌, length, OnOk, IfOk, IfErr, slice_get, slice_range, Some, sum_by, vec_len, vec_capacity};
-ghost use Rattle.aig_core.specs.Aig.{node_count};
+ghost use Rattle.std.specs.Prelude.{◌≡◌, ℕ, List, ◌+◌, ◌<◌, ◌≤◌, [], ◌∷◌, ◌++◌, ◌⊎◌, length, OnOk, IfOk, IfErr, slice_get, slice_range, Some, sum_by, vec_len, vec_capacity};
+ghost use Rattle.aig_core.specs.Aig.{node_count, IsAnd};
+ghost use Rattle.cut_enum.specs.Cuts.{EachContainsOne};
+ghost use Rattle.tl_fault.specs.OrMemory.{OrMemory};
+ghost use Rattle.cut_enum.specs.Refusals.{refusal_of};
 ghost use Rattle.cut_enum.specs.Limits.{IsLimit};
 ghost use Rattle.cut_enum.specs.Table.{row_at, AreRows};
 ghost use Rattle.cut_enum.specs.declared.table.CutErr.{CutErr};
 
 use crate::cut::Cut;
+use crate::limits::MOST_OF_A_TABLE;
 use crate::row::row_of;
 use aig_core::{Graph, Steps};
 use std::alloc::{AllocError, AllocFailed, Global};
 use std::marker::{Brand, Model};
 use std::sync::ledger::{Blank, Ledger};
-
-/// The most cuts that a table may hold.
-const MOST_OF_A_TABLE: usize = 8_388_608;
+use tl_fault::{Details, Refusal};
 
 /// Why there is no table.
 #[derive(Debug, PartialEq, Eq, Drop)]
 pub enum CutErr {
-    /// This is the first node that has more than 4,096 minimal cuts.
+    /// This is the first node that has more than `MOST_OF_A_NODE` minimal cuts.
     NodeCuts(u32),
-    /// With this node's minimal cuts there are more than 2^23, and it is the first such node.
+    /// With this node's minimal cuts there are more than `MOST_OF_A_TABLE`, and it is the first such node.
     TotalCuts(u32),
     /// There was no memory for the table.
     Memory,
+}
+
+impl CutErr {
+    ghost use Rattle.std.specs.Prelude.{◌≡◌};
+    ghost use Rattle.cut_enum.specs.Refusals.{refusal_of};
+
+    /// What the refusal tells; none for want of memory.
+    pub fn refusal(self) -> Option<Refusal>
+        ensures { result ≡ refusal_of self }
+    {
+        match self {
+            CutErr::NodeCuts(node) => Some(Refusal::new("L4", "NodeCuts", Details::Node(node))),
+            CutErr::TotalCuts(node) => Some(Refusal::new("L5", "TotalCuts", Details::Node(node))),
+            CutErr::Memory => None,
+        }
+    }
 }
 
 impl<T: Drop> From<AllocFailed<T>> for CutErr {
@@ -99,7 +117,8 @@ fn enumerate_with<L: Ledger>(
     requires parts { blank.parts ≡ L.parts }
     requires some { 0 < L.parts }
     ensures ok { IfOk result (λ table. AreRows graph.now k (node_count graph.now) table) }
-    ensures err { IfErr result (λ e. IsLimit graph.now k e) }
+    ensures contains { IfOk result (λ table. (n : ℕ) → IsAnd graph.now n → EachContainsOne graph.now k n (row_at table n)) }
+    ensures err { IfErr result (OrMemory refusal_of (λ e. IsLimit graph.now k e)) }
 {
     let mut steps = Steps::<L>::start(blank);
     let mut table = CutTable::new(alloc)?;
@@ -131,10 +150,18 @@ pub fn enumerate(alloc: Global, graph: &Graph, k: u8) -> Result<CutTable, CutErr
     requires least { 2 ≤ k }
     requires most { k ≤ 6 }
     ensures ok { IfOk result (λ table. AreRows graph.now k (node_count graph.now) table) }
-    ensures err { IfErr result (λ e. IsLimit graph.now k e) }
+    ensures err { IfErr result (OrMemory refusal_of (λ e. IsLimit graph.now k e)) }
+
+    // What the minimal cuts are good for: nothing that blocks a node has none of them within it.
+    ensures contains { IfOk result (λ table. (n : ℕ) → IsAnd graph.now n → EachContainsOne graph.now k n (row_at table n)) }
+
+    // There is one table, one limit at most, and no table where there is a limit.
+    ensures one_table { (rows more : List (List (List ℕ))) → AreRows graph.now k (node_count graph.now) rows → AreRows graph.now k (node_count graph.now) more → rows ≡ more }
+    ensures once { (e f : CutErr) → IsLimit graph.now k e → IsLimit graph.now k f → e ≡ f }
+    ensures excluded { (e : CutErr) (rows : List (List (List ℕ))) → IsLimit graph.now k e → AreRows graph.now k (node_count graph.now) rows → ⊥ }
 
     // Where a limit is met, that limit is the answer, unless memory ran out first.
-    ensures limit { (e : CutErr) → IsLimit graph.now k e → (e ≡ CutErr.Memory → ⊥) → (result ≡ Err e) ⊎ (result ≡ Err CutErr.Memory) }
+    ensures limit { (e : CutErr) → IsLimit graph.now k e → (result ≡ Err e) ⊎ (result ≡ Err CutErr.Memory) }
 {
     enumerate_with::<Brand>(alloc, graph, k, Blank::new(1))
 }
@@ -155,14 +182,14 @@ impl CutTable {
     // How many cuts there are.
     fn total(&self) -> usize
         ensures sum { result ≡ sum_by length self.now }
-        ensures most { result ≤ 2 ^ 23 }
+        ensures most { result ≤ MOST_OF_A_TABLE }
     {
         self.cuts.len()
     }
 
     // One more node, with these cuts.
     fn push_row(&mut self, row: Vec<Cut>) -> Result<(), AllocError>
-        requires { sum_by length self.old + length row.items ≤ 2 ^ 23 }
+        requires { sum_by length self.old + length row.items ≤ MOST_OF_A_TABLE }
         ensures { OnOk result (self.new ≡ self.old ++ row.items ∷ []) }
     {
         let mut row = row;
@@ -176,7 +203,7 @@ impl CutTable {
     // The cuts of a node.
     fn cuts_of(&self, n: u32) -> &[Cut]
         ensures row { result.now ≡ row_at self.now n }
-        ensures small { length result.now ≤ 2 ^ 23 }
+        ensures small { length result.now ≤ MOST_OF_A_TABLE }
     {
         let n = n as usize;
         if n + 1 >= self.starts.len() {

@@ -7,21 +7,21 @@ use Rattle.std.proofs.lemmas.Option.{slice_get-get_or}
 use Rattle.std.proofs.lemmas.Bool.{cases_lt, cases_order}
 use Rattle.aig_core.specs.Aig.{Aig, first_and, node_count, IsAnd, IsNormal, AreNormal, IsNode}
 use Rattle.aig_core.specs.declared.lit.Pair.{Pair}
-use Rattle.list_words.specs.Members.{In}
+use Rattle.list_laws.specs.Members.{In}
 use Rattle.cut_enum.specs.Cuts.{AreMinimal, member, fan_ins, Covers}
-use Rattle.cut_enum.specs.Covers.{greatest, height}
 use Rattle.cut_enum.specs.Table.{AreRows, row_at}
-use Rattle.cut_enum.proofs.DepthLemmas.{label_le_depth}
-use Rattle.depth_label.specs.Label.{LabelsValue, label_at, label_of, best_of, IsCutTable, IsBestCut, AreLabelled, AreLeastDepths, AreSmall}
-use Rattle.depth_label.specs.Fold.{lowest, lowest_cut, AreLabelledTo}
+use Rattle.cut_enum.proofs.BlockLemmas.{contains_one}
+use Rattle.depth_label.proofs.DepthLemmas.{label_le_depth}
+use Rattle.depth_label.specs.Label.{greatest, height, LabelsValue, label_at, label_of, best_of, IsCutTable, IsBestCut, AreLabelled, AreLeastDepths}
+use Rattle.depth_label.specs.Fold.{AreSmall, lowest, lowest_cut, AreLabelledTo}
 use Rattle.depth_label.proofs.LowestLaws.{lowest_best, good_low, lowest_cut_same, lowest_leaf}
 
 -- labels that agree on the leaves give the same height
-greatest_same : (f h : ℕ → ℕ) (c : List ℕ) → ((m : ℕ) → In c m → f m ≡ h m) → greatest f c ≡ greatest h c
+pub greatest_same : (f h : ℕ → ℕ) (c : List ℕ) → ((m : ℕ) → In c m → f m ≡ h m) → greatest f c ≡ greatest h c
 greatest_same f h [] s = refl
 greatest_same f h (x ∷ xs) s = let a : f x ≡ h x = s x (inl refl) in let b : greatest f xs ≡ greatest h xs = greatest_same f h xs (λ m i. s m (inr i)) in omega arith
 
-height_same : (f h : ℕ → ℕ) (c : List ℕ) → ((m : ℕ) → In c m → f m ≡ h m) → height f c ≡ height h c
+pub height_same : (f h : ℕ → ℕ) (c : List ℕ) → ((m : ℕ) → In c m → f m ≡ h m) → height f c ≡ height h c
 height_same f h [] s = refl
 height_same f h (x ∷ xs) s = let a : greatest f (x ∷ xs) ≡ greatest h (x ∷ xs) = greatest_same f h (x ∷ xs) s in omega arith
 
@@ -32,11 +32,11 @@ height_bound label (x ∷ []) n s low = let a : x < n = s x (inl refl) in let b 
 height_bound label (x ∷ y ∷ xs) n s low = let a : x < n = s x (inl refl) in let b : label x ≤ x = low x in let d : height label (y ∷ xs) ≤ n = height_bound label (y ∷ xs) n (λ m i. s m (inr i)) low in omega arith
 
 -- a node with a pair has a cut
-some_cut : (g : Aig) (k n : ℕ) (p : Pair) (cs : List (List ℕ)) → 2 ≤ k → IsNode g p n → IsNormal n p → AreMinimal g k n cs → Covers cs (p.x.0 / 2 ∷ p.y.0 / 2 ∷ [])
-some_cut g k n p cs two node normal m =
+some_cut : (g : Aig) (k n : ℕ) (p : Pair) (cs : List (List ℕ)) → AreNormal (first_and g) g.pairs → IsAnd g n → 2 ≤ k → IsNode g p n → IsNormal n p → AreMinimal g k n cs → Covers cs (p.x.0 / 2 ∷ p.y.0 / 2 ∷ [])
+some_cut g k n p cs all and two node normal m =
     let x : p.x.0 / 2 < p.y.0 / 2 = normal.ordered in
     let y : p.y.0 / 2 < n = normal.below in
-    elim (m.contains (p.x.0 / 2 ∷ p.y.0 / 2 ∷ []) ((λ i j. elim j [ inl e ↦ (let f : i ≡ p.y.0 / 2 = e in omega arith) | inr b ↦ absurd b ]), ((λ i j. absurd j), tt)) two
+    elim ((contains_one g all k n cs and m).each (p.x.0 / 2 ∷ p.y.0 / 2 ∷ []) ((λ i j. elim j [ inl e ↦ (let f : i ≡ p.y.0 / 2 = e in omega arith) | inr b ↦ absurd b ]), ((λ i j. absurd j), tt)) two
     (fan_ins p node (member (inl refl)) (member (inr (inl refl))))) [
       | inl i ↦ elim i [ inl e ↦ absurd (let f : n ≡ p.x.0 / 2 = e in omega arith) | inr j ↦ elim j [ inl e ↦ absurd (let f : n ≡ p.y.0 / 2 = e in omega arith) | inr b ↦ absurd b ] ]
       | inr c ↦ c
@@ -52,7 +52,7 @@ has_cut g rows n t normal and =
     let is : slice_get g.pairs i ≡ Some (get_or g.pairs i d) = slice_get-get_or g.pairs i d (omega arith) in
     let e : first_and g + i ≡ n = omega arith in
     let ok : IsNormal n (get_or g.pairs i d) = subst (λ k. IsNormal k (get_or g.pairs i d)) e (normal.each i (get_or g.pairs i d) is) in
-    let r : Covers (row_at rows n) (((get_or g.pairs i d).x.0) / 2 ∷ ((get_or g.pairs i d).y.0) / 2 ∷ []) = some_cut g t.k n (get_or g.pairs i d) (row_at rows n) t.two (record { above = a; is = is }) ok (t.are.each n b and) in
+    let r : Covers (row_at rows n) (((get_or g.pairs i d).x.0) / 2 ∷ ((get_or g.pairs i d).y.0) / 2 ∷ []) = some_cut g t.k n (get_or g.pairs i d) (row_at rows n) normal and t.two (record { above = a; is = is }) ok (t.are.each n b and) in
     (r.by, r.in')
 
 -- a node's cuts have their leaves below it
@@ -153,6 +153,7 @@ labels_all g rows v t normal w =
     record {
       labels = record {
         sources = λ n l. w.met n (omega arith) ∙ ap (λ c. height (label_of v) c) (w.at_sources n (omega arith) l);
+        past = λ n l. let c : length v.labels ≡ node_count g = w.count in get_or_past v.labels n 0 (omega arith);
         least = λ n c and i. let a : label_of v n ≡ height (label_of v) (best_of v n) = met n and in let b : height (label_of v) (best_of v n) ≤ height (label_of v) c = good_low (label_of v) (best_of v n) c ((best n and).first c i) in omega arith;
         met = λ n and. (best_of v n, (best n and).one, met n and);
       };
@@ -161,7 +162,7 @@ labels_all g rows v t normal w =
     }
 
 -- A node's label is at most its depth in every cover that has it.
-pub labels_least : (g : Aig) (rows : List (List (List ℕ))) (v : LabelsValue) (k : ℕ) → AreLabelled g rows v → AreRows g k (node_count g) rows → AreLeastDepths g k (label_of v)
-labels_least g rows v k w are = record {
-  least = λ roots cover n d is depth. label_le_depth g k roots cover (row_at rows) (label_of v) is (λ m and. are.each m and.1 and) w.labels depth;
+pub labels_least : (g : Aig) (rows : List (List (List ℕ))) (v : LabelsValue) (k : ℕ) → AreNormal (first_and g) g.pairs → AreLabelled g rows v → AreRows g k (node_count g) rows → AreLeastDepths g k (label_of v)
+labels_least g rows v k normal w are = record {
+  least = λ roots cover n d is depth. label_le_depth g normal k roots cover (row_at rows) (label_of v) is (λ m and. are.each m and.1 and) w.labels depth;
 }

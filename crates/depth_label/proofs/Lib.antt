@@ -1,2 +1,5 @@
+pub mod DepthLemmas
 pub mod LowestLaws
 pub mod LabelLaws
+pub mod OnceLaws
+pub mod Examples

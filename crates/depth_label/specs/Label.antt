@@ -1,10 +1,26 @@
 -- Labels and best cuts: the least depth at which each node can stand, and a cut that reaches it.
-use Rattle.std.specs.Prelude.{◌≡◌, ℕ, ◌+◌, ◌^◌, ◌<◌, ◌≤◌, true, List, [], Option, slice_index_or, ◌⊎◌}
-use Rattle.aig_core.specs.Aig.{Aig, node_count, IsAnd}
-use Rattle.list_words.specs.Members.{In}
+use Rattle.std.specs.Prelude.{◌≡◌, ℕ, ◌+◌, ◌<◌, ◌≤◌, max, true, List, [], ◌∷◌, Option, slice_index_or, ◌⊎◌}
+use Rattle.aig_core.specs.Aig.{Aig, first_and, node_count, IsAnd}
+use Rattle.list_laws.specs.Members.{In}
 use Rattle.cut_enum.specs.Sets.{before}
-use Rattle.cut_enum.specs.Covers.{height, AreLabels, IsCover, HasDepth}
+use Rattle.cut_enum.specs.Covers.{IsCover, HasDepth}
 use Rattle.cut_enum.specs.Table.{AreRows, row_at}
+
+-- the greatest label of a list of nodes
+abbrev pub greatest : (ℕ → ℕ) → List ℕ → ℕ
+greatest label [] = 0
+greatest label (m ∷ ms) = max (label m) (greatest label ms)
+
+abbrev pub height : (ℕ → ℕ) → List ℕ → ℕ
+height label [] = 0
+height label (m ∷ ms) = 1 + greatest label (m ∷ ms)
+
+-- a label is 0 at a source and past the last node, and the least height of an AND node's minimal cuts
+pub record AreLabels (g : Aig) (cuts : ℕ → List (List ℕ)) (label : ℕ → ℕ) : Type 0 where
+  pub sources : (n : ℕ) → n < first_and g → label n ≡ 0
+  pub past : (n : ℕ) → node_count g ≤ n → label n ≡ 0
+  pub least : (n : ℕ) (c : List ℕ) → IsAnd g n → In (cuts n) c → label n ≤ height label c
+  pub met : (n : ℕ) → IsAnd g n → (c : List ℕ) × In (cuts n) c × (label n ≡ height label c)
 
 -- what labels are seen as: one label and one best cut a node
 pub record LabelsValue : Type 0 where
@@ -44,10 +60,10 @@ pub record AreLabelled (g : Aig) (rows : List (List (List ℕ))) (v : LabelsValu
   pub best : (n : ℕ) → IsAnd g n → IsBestCut (label_of v) (row_at rows n) (best_of v n)
   pub met : (n : ℕ) → IsAnd g n → label_of v n ≡ height (label_of v) (best_of v n)
 
+-- a graph with this table has one label a node
+pub record HasOneLabelling (g : Aig) (rows : List (List (List ℕ))) : Type 0 where
+  pub once : (v w : LabelsValue) → AreLabelled g rows v → AreLabelled g rows w → (n : ℕ) → label_of v n ≡ label_of w n
+
 -- no cover of the graph, whatever its cuts, has a node at a lower depth than the node's label
 pub record AreLeastDepths (g : Aig) (k : ℕ) (label : ℕ → ℕ) : Type 0 where
   pub least : (roots : List ℕ) (cover : ℕ → Option (List ℕ)) (n d : ℕ) → IsCover g k roots cover → HasDepth g cover n d → label n ≤ d
-
--- one more than each label fits a word
-abbrev pub AreSmall : List ℕ → Type 0
-AreSmall labels = (n : ℕ) → 1 + label_at labels n < 2 ^ 32

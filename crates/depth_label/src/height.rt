@@ -1,7 +1,7 @@
 //! The height of a cut.
 ghost use Rattle.std.specs.Prelude.{◌≡◌, ◌+◌, ◌<◌, ◌^◌};
-ghost use Rattle.cut_enum.specs.Covers.{greatest, height};
-ghost use Rattle.depth_label.specs.Label.{label_at, AreSmall};
+ghost use Rattle.depth_label.specs.Label.{greatest, height, label_at};
+ghost use Rattle.depth_label.specs.Fold.{AreSmall};
 
 // The label of a node, 0 past the last one.
 pub fn label_in(labels: &[u32], n: u32) -> u32

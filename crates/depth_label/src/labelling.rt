@@ -2,8 +2,8 @@
 ghost use Rattle.std.specs.Prelude.{◌≡◌, ℕ, ◌<◌, ◌≤◌, [], None, IfOk};
 ghost use Rattle.aig_core.specs.Aig.{first_and, node_count, IsAnd};
 ghost use Rattle.cut_enum.specs.Table.{row_at, AreRows};
-ghost use Rattle.depth_label.specs.Label.{label_at, label_of, AreSmall, IsCutTable, AreLabelled, AreLeastDepths};
-ghost use Rattle.depth_label.specs.Fold.{lower_of, lowest, lowest_cut};
+ghost use Rattle.depth_label.specs.Label.{label_at, label_of, IsCutTable, AreLabelled, HasOneLabelling, AreLeastDepths};
+ghost use Rattle.depth_label.specs.Fold.{AreSmall, lower_of, lowest, lowest_cut};
 
 use crate::height::cut_height;
 use crate::node_labels::Labels;
@@ -66,6 +66,11 @@ fn best_cut(alloc: Global, graph: &Graph, table: &CutTable, labels: &[u32], n: u
 pub fn labels(alloc: Global, graph: &Graph, table: &CutTable) -> Result<Labels, AllocError>
     requires { IsCutTable graph.now table.now }
     ensures ok { IfOk result (λ labels. AreLabelled graph.now table.now labels) }
+
+    // The table has one labelling.
+    ensures once { HasOneLabelling graph.now table.now }
+
+    // No cover has a node at a lower depth.
     ensures least { IfOk result (λ labels. (k : ℕ) → AreRows graph.now k (node_count graph.now) table.now → AreLeastDepths graph.now k (label_of labels)) }
 {
     let mut labels = Vec::new(alloc);

@@ -1,6 +1,6 @@
 //! The labels of a graph's nodes.
 ghost use Rattle.std.specs.Prelude.{◌≡◌, ◌+◌, ◌<◌, ◌^◌, [], length, slice_index_or};
-ghost use Rattle.cut_enum.specs.Covers.{height as height_of};
+ghost use Rattle.depth_label.specs.Label.{height as height_of};
 ghost use Rattle.cut_enum.specs.Table.{row_at};
 
 use crate::height::{cut_height, label_in};
@@ -15,7 +15,8 @@ pub struct Labels {
 }
 
 impl Model for Labels {
-    ghost use Rattle.depth_label.specs.Label.{LabelsValue, AreSmall};
+    ghost use Rattle.depth_label.specs.Label.{LabelsValue};
+    ghost use Rattle.depth_label.specs.Fold.{AreSmall};
 
     ghost Value = { LabelsValue };
 
@@ -25,7 +26,8 @@ impl Model for Labels {
 }
 
 impl Labels {
-    ghost use Rattle.depth_label.specs.Label.{LabelsValue, label_of, best_of, AreSmall};
+    ghost use Rattle.depth_label.specs.Label.{LabelsValue, label_of, best_of};
+    ghost use Rattle.depth_label.specs.Fold.{AreSmall};
 
     // The labels and best cuts of these nodes.
     pub(crate) fn make(labels: Vec<u32>, best: Vec<Cut>) -> Labels

@@ -150,7 +150,7 @@ fn chain(rt: &impl Abort, alloc: Global, n: u32) -> Result<Template, PickErr>
     template(rt, alloc, &graph, &outputs, &[], 2)
 }
 
-// 8190 products have a work of 33,550,335, and 8191 one of 33,558,527: the limit 2^25 lies between.
+// 8190 products have a work of 33,550,335, and 8191 one of 33,558,527: the limit lies between.
 #[test]
 fn limits_the_work(rt: HostRuntime) {
     let alloc = rt.alloc();

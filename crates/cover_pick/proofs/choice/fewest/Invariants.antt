@@ -1,6 +1,6 @@
 use Rattle.std.proofs.Common.{◌≡◌, drop, None}
 use Rattle.depth_label.specs.Label.{label_of}
-use Rattle.cover_pick.specs.Choice.{fewest}
+use Rattle.cover_pick.specs.Fewest.{fewest}
 use Rattle.cover_pick.proofs.choice.fewest.Given as goal
 
 abbrev pub invariant-loop-cut : goal.invariant-loop-cut

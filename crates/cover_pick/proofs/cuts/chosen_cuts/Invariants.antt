@@ -1,7 +1,7 @@
 use Rattle.std.proofs.Common.{◌≡◌, ◌<◌, length, ℕ}
 use Rattle.aig_core.specs.Roots.{lits_of}
 use Rattle.depth_label.specs.Label.{label_of}
-use Rattle.cover_pick.specs.Schedule.{cut_at, plan_of}
+use Rattle.cover_pick.specs.Planned.{cut_at, plan_of}
 use Rattle.cover_pick.proofs.cuts.chosen_cuts.Given as goal
 
 abbrev pub invariant-loop-n : goal.invariant-loop-n

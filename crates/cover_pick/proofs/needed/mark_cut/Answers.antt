@@ -1,5 +1,5 @@
 use Rattle.std.proofs.Common.{get_or}
-use Rattle.cover_pick.proofs.MemberLaws.{In-get_or}
+use Rattle.list_laws.proofs.Members.{In-get_or}
 use Rattle.cover_pick.proofs.needed.mark_cut.Goals as goal
 
 pub mark_leaves-requires : goal.mark_leaves-requires

@@ -1,6 +1,6 @@
 use Rattle.std.proofs.Common.{arith, length, ◌<◌, ◌*◌, ◌∙◌, sym, subst, get_or}
-use Rattle.list_words.specs.Members.{In}
-use Rattle.cover_pick.proofs.MemberLaws.{In-get_or}
+use Rattle.list_laws.specs.Members.{In}
+use Rattle.list_laws.proofs.Members.{In-get_or}
 use Rattle.cover_pick.proofs.needed.mark_cuts.Goals as goal
 
 pub mark_cut-requires : goal.mark_cut-requires

@@ -1,5 +1,5 @@
 use Rattle.std.proofs.Common.{◌≡◌, drop}
-use Rattle.cover_pick.specs.Tables.{mark_cuts}
+use Rattle.cover_pick.specs.Marks.{mark_cuts}
 use Rattle.cover_pick.proofs.needed.mark_cuts.Given as goal
 
 abbrev pub invariant-loop-cut : goal.invariant-loop-cut

@@ -1,6 +1,6 @@
 use Rattle.std.proofs.Common.{◌≡◌, drop}
 use Rattle.aig_core.specs.Roots.{lits_of}
-use Rattle.cover_pick.specs.Tables.{mark_each}
+use Rattle.cover_pick.specs.Marks.{mark_each}
 use Rattle.cover_pick.proofs.needed.mark_each.Given as goal
 
 abbrev pub invariant-loop-lit : goal.invariant-loop-lit

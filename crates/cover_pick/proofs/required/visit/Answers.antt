@@ -1,11 +1,11 @@
 use Rattle.std.proofs.Common.{arith, ◌<◌, ◌≡◌, ◌∙◌, subst, List, ℕ, get_or}
-use Rattle.list_words.specs.Members.{In}
+use Rattle.list_laws.specs.Members.{In}
 use Rattle.cut_enum.specs.Table.{row_at}
 use Rattle.depth_label.specs.Label.{label_of}
 use Rattle.depth_label.proofs.LabelLaws.{leaves_below}
-use Rattle.cover_pick.specs.Choice.{choice_of}
+use Rattle.cover_pick.specs.Fewest.{choice_of}
 use Rattle.cover_pick.proofs.ChoiceLaws.{choice_leaf}
-use Rattle.cover_pick.proofs.MemberLaws.{In-get_or}
+use Rattle.list_laws.proofs.Members.{In-get_or}
 use Rattle.cover_pick.proofs.required.visit.Goals as goal
 
 pub require_each-requires : goal.require_each-requires

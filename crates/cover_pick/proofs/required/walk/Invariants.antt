@@ -2,7 +2,7 @@ use Rattle.std.proofs.Common.{◌≡◌, ◌-◌, length}
 use Rattle.aig_core.specs.Aig.{first_and}
 use Rattle.cut_enum.specs.Table.{row_at}
 use Rattle.depth_label.specs.Label.{label_of}
-use Rattle.cover_pick.specs.Choice.{choice_of}
+use Rattle.cover_pick.specs.Fewest.{choice_of}
 use Rattle.cover_pick.specs.Required.{walk}
 use Rattle.cover_pick.proofs.required.walk.Given as goal
 

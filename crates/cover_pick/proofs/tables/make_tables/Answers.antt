@@ -1,7 +1,7 @@
 use Rattle.std.proofs.Common.{◌≡◌, ◌∙◌, ap, subst, sym, ◌*◌, length, List, Bool, []}
 use Rattle.aig_core.specs.Aig.{node_count}
 use Rattle.aig_core.specs.Roots.{lits_of}
-use Rattle.cover_pick.specs.Tables.{IsNeeded, AreTables, Made, tables_from, tables_of}
+use Rattle.cover_pick.specs.Marks.{IsMarked, AreMade, Made, tables_from, tables_of}
 use Rattle.cover_pick.proofs.TableLaws.{tables_needed, marks_length}
 use Rattle.cover_pick.proofs.tables.make_tables.Goals as goal
 
@@ -9,9 +9,9 @@ pub marked_tables-requires-clause-marks : goal.marked_tables-requires-clause-mar
 marked_tables-requires-clause-marks c =
     ap (λ (ms : List Bool). length ms) (c.deref.ensures.value ∙ c.in_ok-marks.ensures) ∙ marks_length c.args.graph.now (lits_of c.args.roots.now) c.args.cuts.now
 
-pub returns-in-Ok-clause-ok : goal.returns-in-Ok-clause-ok
-returns-in-Ok-clause-ok c =
-    let e : c.in-Ok.made ≡ tables_of c.args.graph.now (lits_of c.args.roots.now) c.args.cuts.now =
-    c.in-Ok.ensures.ok ∙ ap (λ ms. tables_from c.args.graph.now c.args.cuts.now (record { luts = []; bits = 0; work = 0 }) 0 ms) (c.deref.ensures.value ∙ c.in_ok-marks.ensures) in
-    subst (λ (m : Made). AreTables c.args.graph.now c.args.cuts.now (IsNeeded (lits_of c.args.roots.now) c.args.cuts.now) (2 * node_count c.args.graph.now) m) (sym e)
+pub returns-clause-ok : goal.returns-clause-ok
+returns-clause-ok c =
+    let e : c.in_ok-made.made ≡ tables_of c.args.graph.now (lits_of c.args.roots.now) c.args.cuts.now =
+    c.in_ok-made.ensures.ok ∙ ap (λ ms. tables_from c.args.graph.now c.args.cuts.now (record { luts = []; bits = 0; work = 0 }) 0 ms) (c.deref.ensures.value ∙ c.in_ok-marks.ensures) in
+    subst (λ (m : Made). AreMade c.args.graph.now c.args.cuts.now (IsMarked (lits_of c.args.roots.now) c.args.cuts.now) (2 * node_count c.args.graph.now) m) (sym e)
     (tables_needed c.args.graph.now (lits_of c.args.roots.now) c.args.cuts.now c.requires.leaves c.requires.roots)

@@ -1,10 +1,13 @@
 use Rattle.std.proofs.Common.{arith, []}
-use Rattle.cover_pick.specs.Tables.{tables_from}
-use Rattle.cover_pick.proofs.TableLaws.{tables_past}
+use Rattle.std.proofs.lemmas.Result.{err_from_is_err_and}
+use Rattle.cover_pick.specs.Marks.{tables_from}
+use Rattle.cover_pick.proofs.TableLaws.{tables_past, work_more}
 use Rattle.cover_pick.proofs.tables.marked_tables.Goals as goal
 
-pub returns-in-Err-clause-err : goal.returns-in-Err-clause-err
-returns-in-Err-clause-err c e =
-    let b = tables_past c.args.graph.now c.args.cuts.now c.args.marks.now c.loop-needed.made
-    (tables_from c.args.graph.now c.args.cuts.now (record { luts = []; bits = 0; work = 0 }) 0 c.args.marks.now) c.loop-needed.lit c.loop-needed.needed-index (omega arith) c.loop-needed.invariant.rest in
-    let a = c.in-Err.ensures.err e in omega (arith, a, b)
+pub returns-in_err-add_marked-clause-err : goal.returns-in_err-add_marked-clause-err
+returns-in_err-add_marked-clause-err c =
+    let p = err_from_is_err_and c.from_residual-in_err-add_marked.result c.from_residual-in_err-add_marked.ensures.1 in
+    rw (p.1, p.2) (work_more c.in_err-add_marked.field-0.0
+    (tables_past c.args.graph.now c.args.cuts.now c.args.marks.now c.loop-needed.made
+    (tables_from c.args.graph.now c.args.cuts.now (record { luts = []; bits = 0; work = 0 }) 0 c.args.marks.now) c.loop-needed.lit c.loop-needed.needed-index (omega arith) c.loop-needed.invariant.rest)
+    c.in_err-add_marked.ensures.err)

@@ -1,7 +1,6 @@
 use Rattle.std.proofs.Common.{◌≡◌, max, drop}
 use Rattle.aig_core.specs.Roots.{lits_of}
-use Rattle.cut_enum.specs.Covers.{greatest}
-use Rattle.depth_label.specs.Label.{label_of}
+use Rattle.depth_label.specs.Label.{greatest, label_of}
 use Rattle.cover_pick.specs.Target.{root_level}
 use Rattle.cover_pick.proofs.target.target.Given as goal
 

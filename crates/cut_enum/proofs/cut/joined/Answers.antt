@@ -1,5 +1,5 @@
 use Rattle.std.proofs.Common.{◌≡◌, ◌∙◌, arith, ap, sym, subst, bit_or}
-use Rattle.list_words.specs.Order.{IsAscending}
+use Rattle.list_laws.specs.Order.{IsAscending}
 use Rattle.cut_enum.specs.Merging.{union}
 use Rattle.cut_enum.specs.Signature.{signature_of}
 use Rattle.cut_enum.proofs.SetLemmas.{IsAscending-union}

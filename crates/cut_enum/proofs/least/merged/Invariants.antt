@@ -1,9 +1,10 @@
 use Rattle.std.proofs.Common.{◌≡◌, ◌≤◌, length}
+use Rattle.cut_enum.specs.declared.limits.TheConstants.{MOST_OF_A_NODE}
 use Rattle.cut_enum.specs.Merging.{unions_below}
 use Rattle.cut_enum.proofs.least.merged.Given as goal
 
 abbrev pub invariant-loop-size : goal.invariant-loop-size
 invariant-loop-size l = record {
   below : l.cuts.items ≡ unions_below l.size l.cs l.ds;
-  few : length l.cuts.items ≤ 4096;
+  few : length l.cuts.items ≤ MOST_OF_A_NODE;
 }

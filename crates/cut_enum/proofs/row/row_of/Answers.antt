@@ -1,11 +1,15 @@
-use Rattle.std.proofs.Common.{arith, ap, Err}
-use Rattle.cut_enum.proofs.RowLemmas.{IsRow-node, limit_node}
+use Rattle.std.proofs.Common.{arith}
+use Rattle.std.proofs.lemmas.Result.{err_from_is_err_and}
+use Rattle.cut_enum.specs.Merging.{unions_of}
+use Rattle.cut_enum.proofs.RowLemmas.{IsRow-node, limit_node, too_many_limit}
 use Rattle.cut_enum.proofs.row.row_of.Goals as goal
 
-pub returns-in-Ok-clause-ok : goal.returns-in-Ok-clause-ok
-returns-in-Ok-clause-ok g c = IsRow-node c.args.graph.now c.args.k c.args.n c.node-pair.result c.args.table.now c.in-Ok.row.items (omega arith) c.requires.node c.node-pair.ensures.pair c.node-pair.ensures.normal c.requires.rows c.in-Ok.ensures.ok
+pub returns-clause-ok : goal.returns-clause-ok
+returns-clause-ok g c = IsRow-node c.args.graph.now c.args.k c.args.n c.node-pair.result c.args.table.now c.in_ok-row.row.items c.requires.normal (omega arith) c.requires.node c.node-pair.ensures.pair c.node-pair.ensures.normal c.requires.rows c.in_ok-row.ensures.ok
 
-pub returns-in-Err-TooMany-clause-err : goal.returns-in-Err-TooMany-clause-err
-returns-in-Err-TooMany-clause-err g c =
-    limit_node c.args.graph.now c.args.k c.args.n c.node-pair.result c.args.table.now (omega arith) c.requires.node c.node-pair.ensures.pair c.node-pair.ensures.normal c.requires.rows
-    (c.in-Err-TooMany.ensures.too_many (ap (λ e. Err e) c.in-Err-TooMany.field-0-is))
+pub returns-in_err-row-clause-err : goal.returns-in_err-row-clause-err
+returns-in_err-row-clause-err g c =
+    let p = err_from_is_err_and c.from_residual.result c.from_residual.ensures.1 in
+    rw (p.1, p.2) (too_many_limit c.args.graph.now c.args.k c.args.n (unions_of c.args.graph.now c.args.k c.args.table.now c.node-pair.result) c.in_err-row.field-0.0
+    (limit_node c.args.graph.now c.args.k c.args.n c.node-pair.result c.args.table.now c.requires.normal (omega arith) c.requires.node c.node-pair.ensures.pair c.node-pair.ensures.normal c.requires.rows)
+    c.in_err-row.ensures.too_many)

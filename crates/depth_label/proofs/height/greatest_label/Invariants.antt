@@ -1,6 +1,5 @@
 use Rattle.std.proofs.Common.{◌≡◌, ◌+◌, ◌<◌, ◌^◌, max, drop}
-use Rattle.cut_enum.specs.Covers.{greatest}
-use Rattle.depth_label.specs.Label.{label_at}
+use Rattle.depth_label.specs.Label.{greatest, label_at}
 use Rattle.depth_label.proofs.height.greatest_label.Given as goal
 
 abbrev pub invariant-loop-m : goal.invariant-loop-m

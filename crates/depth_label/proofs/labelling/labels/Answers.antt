@@ -1,10 +1,10 @@
 use Rattle.std.proofs.Common.{arith, ◌≡◌, ◌∙◌, ℕ, List, subst, sym, ap}
 use Rattle.aig_core.specs.Aig.{node_count}
-use Rattle.cut_enum.specs.Covers.{height}
 use Rattle.cut_enum.specs.Table.{row_at}
-use Rattle.depth_label.specs.Label.{LabelsValue, label_at, AreLabelled}
+use Rattle.depth_label.specs.Label.{height, LabelsValue, label_at, AreLabelled}
 use Rattle.depth_label.specs.Fold.{AreLabelledTo, lowest_cut}
 use Rattle.depth_label.proofs.LabelLaws.{leaves_below, labels_push, labels_all, labels_least}
+use Rattle.depth_label.proofs.OnceLaws.{one_labelling}
 use Rattle.depth_label.proofs.labelling.labels.Goals as goal
 
 pub loop-n-preserved : goal.loop-n-preserved
@@ -25,4 +25,13 @@ returns-clause-ok c =
     (labels_all c.args.graph.now c.args.table.now v c.requires c.len-n-end.ensures.normal (subst (λ i. AreLabelledTo c.args.graph.now (row_at c.args.table.now) i v) n c.loop-n.invariant))
 
 pub returns-clause-least : goal.returns-clause-least
-returns-clause-least c k are = labels_least c.args.graph.now c.args.table.now c.make.result k (returns-clause-ok c) are
+returns-clause-least c k are = labels_least c.args.graph.now c.args.table.now c.make.result k c.len-n-end.ensures.normal (returns-clause-ok c) are
+
+pub returns-in_err-push-clause-once : goal.returns-in_err-push-clause-once
+returns-in_err-push-clause-once c = one_labelling c.args.graph.now c.args.table.now c.requires
+
+pub returns-in_err-push-2-clause-once : goal.returns-in_err-push-2-clause-once
+returns-in_err-push-2-clause-once c = one_labelling c.args.graph.now c.args.table.now c.requires
+
+pub returns-clause-once : goal.returns-clause-once
+returns-clause-once c = one_labelling c.args.graph.now c.args.table.now c.requires

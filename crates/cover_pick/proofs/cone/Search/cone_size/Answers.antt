@@ -34,4 +34,4 @@ loop-next-preserved c =
 
 pub returns-clause-size : goal.returns-clause-size
 returns-clause-size c =
-    c.count-2.ensures ∙ search_end c.args.graph.now c.args.leaves.now c.args.top c.args.stamp c.loop-next.self c.loop-next.next c.requires.normal c.loop-next.invariant (omega arith)
+    c.count-2.ensures ∙ search_end c.args.graph.now c.args.leaves.now c.args.top c.args.stamp c.loop-next.self c.loop-next.next c.requires.normal c.requires.top c.loop-next.invariant (omega arith)

@@ -2,7 +2,7 @@ use Rattle.std.proofs.Common.{arith, ℕ, zero, suc, ◌*◌, ◌<◌, ◌≤◌
 use Rattle.aig_core.specs.declared.lit.Lit.{Lit}
 use Rattle.aig_core.specs.Aig.{node_count}
 use Rattle.aig_core.specs.Roots.{lits_of}
-use Rattle.list_words.specs.Members.{In}
+use Rattle.list_laws.specs.Members.{In}
 use Rattle.cover_pick.proofs.template.tests.are_in.Goals as goal
 
 -- one literal more

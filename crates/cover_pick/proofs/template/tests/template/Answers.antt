@@ -1,13 +1,9 @@
-use Rattle.std.proofs.Common.{rules, ℕ, List, [], ◌∷◌, ◌++◌, subst, inl, inr, ◌⊎◌, IsTrue}
+use Rattle.std.proofs.Common.{rules, List, subst, inl, inr, IsTrue}
 use Rattle.aig_core.specs.declared.lit.Lit.{Lit}
 use Rattle.aig_core.specs.Roots.{lits_of}
-use Rattle.list_words.specs.Members.{In}
+use Rattle.list_laws.specs.Members.{In}
+use Rattle.list_laws.proofs.Members.{In-append}
 use Rattle.cover_pick.proofs.template.tests.template.Goals as goal
-
-In-append : (xs ys : List ℕ) (x : ℕ) → In (xs ++ ys) x → In xs x ⊎ In ys x
-In-append [] ys x i = inr i
-In-append (z ∷ xs) ys x (inl e) = inl (inl e)
-In-append (z ∷ xs) ys x (inr i) = elim (In-append xs ys x i) [ inl j ↦ inl (inr j) | inr j ↦ inr j ]
 
 pub pick-requires-clause-roots : goal.pick-requires-clause-roots
 pick-requires-clause-roots g c l i =

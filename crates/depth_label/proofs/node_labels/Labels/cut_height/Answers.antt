@@ -1,6 +1,5 @@
 use Rattle.std.proofs.Common.{◌∙◌, ap}
-use Rattle.cut_enum.specs.Covers.{height}
-use Rattle.depth_label.specs.Label.{LabelsValue, label_at, label_of}
+use Rattle.depth_label.specs.Label.{height, LabelsValue, label_at, label_of}
 use Rattle.depth_label.proofs.node_labels.Labels.cut_height.Goals as goal
 
 pub returns : goal.returns

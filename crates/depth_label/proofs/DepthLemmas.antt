@@ -1,9 +1,11 @@
 -- A label is a lower bound of the depth in every cover.
-use Rattle.std.proofs.Common.{◌≡◌, ℕ, suc, ◌<◌, ◌≤◌, List, [], ◌∷◌, Option, Some, refl, ap, inl, inr, arith}
-use Rattle.aig_core.specs.Aig.{Aig, IsAnd}
-use Rattle.list_words.specs.Members.{In, Within}
+use Rattle.std.proofs.Common.{◌≡◌, ℕ, suc, ◌≤◌, List, [], ◌∷◌, Option, Some, refl, ap, inl, inr, arith}
+use Rattle.aig_core.specs.Aig.{Aig, first_and, IsAnd, AreNormal}
+use Rattle.list_laws.specs.Members.{In, Within}
 use Rattle.cut_enum.specs.Cuts.{IsCut, AreMinimal, Covers}
-use Rattle.cut_enum.specs.Covers.{IsCover, HasDepth, source, free, table, greatest, height, AreLabels}
+use Rattle.cut_enum.proofs.BlockLemmas.{minimal_within}
+use Rattle.depth_label.specs.Label.{greatest, height, AreLabels}
+use Rattle.cut_enum.specs.Covers.{IsCover, HasDepth, source, free, table}
 
 -- where every element's label is at most d, so is the greatest
 greatest_le : (label : ℕ → ℕ) (c : List ℕ) (d : ℕ) → ((m : ℕ) → In c m → label m ≤ d) → greatest label c ≤ d
@@ -19,22 +21,22 @@ within_none [] w = refl
 within_none (x ∷ xs) w = absurd (w x (inl refl))
 
 -- a cut contains a minimal one
-minimal_part : (g : Aig) (k n : ℕ) (cs : List (List ℕ)) (c : List ℕ) → AreMinimal g k n cs → IsCut g k n c → Covers cs c
-minimal_part g k n cs c m cut = elim (m.contains c cut.ascending cut.few cut.blocks) [ inl i ↦ absurd (let l : n < n = (cut.below n i).0 in omega arith) | inr r ↦ r ]
+minimal_part : (g : Aig) → AreNormal (first_and g) g.pairs → (k n : ℕ) (cs : List (List ℕ)) (c : List ℕ) → AreMinimal g k n cs → IsCut g k n c → Covers cs c
+minimal_part g normal k n cs c m cut = let r = minimal_within g normal k n c cut in record { by = r.0; in' = m.all r.0 r.1; part = r.2 }
 
-module _ (g : Aig) (k : ℕ) (roots : List ℕ) (cover : ℕ → Option (List ℕ)) (cuts : ℕ → List (List ℕ)) (label : ℕ → ℕ)
+module _ (g : Aig) (normal : AreNormal (first_and g) g.pairs) (k : ℕ) (roots : List ℕ) (cover : ℕ → Option (List ℕ)) (cuts : ℕ → List (List ℕ)) (label : ℕ → ℕ)
     (is : IsCover g k roots cover) (minimal : (n : ℕ) → IsAnd g n → AreMinimal g k n (cuts n)) (labels : AreLabels g cuts label) where
   table_le : (n d : ℕ) (c : List ℕ) → cover n ≡ Some c → ((m : ℕ) → In c m → label m ≤ d) → label n ≤ suc d
   table_le n d c at low =
       let both = is.cuts n c at in
-      let r : Covers (cuts n) c = minimal_part g k n (cuts n) c (minimal n both.0) both.1 in
+      let r : Covers (cuts n) c = minimal_part g normal k n (cuts n) c (minimal n both.0) both.1 in
       let h : height label r.by ≤ suc d = height_le label r.by d (λ m i. low m (r.part m i)) in
       let l : label n ≤ height label r.by = labels.least n r.by both.0 r.in' in omega arith
 
   free_le : (n d : ℕ) → cover n ≡ Some [] → label n ≤ d
   free_le n d at =
       let both = is.cuts n [] at in
-      let r : Covers (cuts n) [] = minimal_part g k n (cuts n) [] (minimal n both.0) both.1 in
+      let r : Covers (cuts n) [] = minimal_part g normal k n (cuts n) [] (minimal n both.0) both.1 in
       let e : height label r.by ≡ 0 = ap (λ c. height label c) (within_none r.by r.part) in
       let l : label n ≤ height label r.by = labels.least n r.by both.0 r.in' in omega arith
 

@@ -1,0 +1,118 @@
+-- A worked example: the chosen table of the multiplexer whose choice is a parameter, with the complement of its last node as the root.
+use Rattle.std.proofs.Common.{◌≡◌, ℕ, ◌*◌, ◌/◌, ◌<◌, ◌≤◌, cond, eqb, List, [], ◌∷◌, Option, Some, None, refl, sym, ap, subst, inl, inr, arith}
+use Rattle.std.proofs.lemmas.Option.{same_Some, none-some}
+use Rattle.std.proofs.lemmas.Bool.{eqb-true}
+use Rattle.aig_core.specs.Aig.{IsSource}
+use Rattle.aig_core.specs.declared.lit.Kind.TheVariants.{Regular, Parameter}
+use Rattle.list_laws.specs.Members.{In}
+use Rattle.list_laws.proofs.Choice.{some_then, none_then}
+use Rattle.cut_enum.specs.Table.{row_at}
+use Rattle.cut_enum.proofs.Examples.{mux, mux_rows, mux_normal}
+use Rattle.depth_label.specs.Label.{height, label_of}
+use Rattle.depth_label.proofs.Examples.{mux_labels}
+use Rattle.cover_pick.specs.declared.lut.Lut.{Lut}
+use Rattle.cover_pick.specs.Choice.{Precedes, before, IsChosen}
+use Rattle.cover_pick.specs.Schedule.{AtMost, HasChosen, IsPlan}
+use Rattle.cover_pick.specs.Tables.{IsNeeded, root, leaf, IsLeaves, constant, parameter, source, node, HasTable, AreTables}
+use Rattle.cover_pick.specs.Work.{IsCone, IsWork}
+use Rattle.cover_pick.proofs.WorkLaws.{cone_is}
+
+-- node 6 is required by depth 1, and takes its cut of the two inputs; no other node is needed
+abbrev pub mux_depths : ℕ → Option ℕ
+mux_depths n = cond (eqb n 6) (Some 1) None
+
+abbrev pub mux_cover : ℕ → Option (List ℕ)
+mux_cover n = cond (eqb n 6) (Some (1 ∷ 2 ∷ [])) None
+
+depth_at : (n r : ℕ) → mux_depths n ≡ Some r → (n ≡ 6) × (1 ≡ r)
+depth_at n r e = let s = some_then (eqb n 6) (Some 1) r e in (eqb-true n 6 s.0, same_Some 1 r s.1)
+
+cut_at_node : (n : ℕ) (c : List ℕ) → mux_cover n ≡ Some c → (n ≡ 6) × ((1 ∷ 2 ∷ []) ≡ c)
+cut_at_node n c e = let s = some_then (eqb n 6) (Some (1 ∷ 2 ∷ [])) c e in (eqb-true n 6 s.0, same_Some (1 ∷ 2 ∷ []) c s.1)
+
+last_cuts : (P : List ℕ → Type 0) → P (1 ∷ 2 ∷ []) → P (1 ∷ 5 ∷ []) → P (2 ∷ 4 ∷ []) → P (4 ∷ 5 ∷ []) → (c : List ℕ) → In (row_at mux_rows 6) c → P c
+last_cuts P a b d e c (inl q) = subst P (sym q) a
+last_cuts P a b d e c (inr (inl q)) = subst P (sym q) b
+last_cuts P a b d e c (inr (inr (inl q))) = subst P (sym q) d
+last_cuts P a b d e c (inr (inr (inr (inl q)))) = subst P (sym q) e
+last_cuts P a b d e c (inr (inr (inr (inr q)))) = absurd q
+
+-- the one cut of height 1 is chosen
+mux_chosen : IsChosen (label_of mux_labels) 1 (row_at mux_rows 6) (1 ∷ 2 ∷ [])
+mux_chosen = record {
+  one = inl refl;
+  low = omega arith;
+  first = last_cuts (λ d. height (label_of mux_labels) d ≤ 1 → Precedes (label_of mux_labels) (1 ∷ 2 ∷ []) d) (λ l. before refl refl (inl refl)) (λ l. absurd (omega arith)) (λ l. absurd (omega arith)) (λ l. absurd (omega arith));
+}
+
+no_node : (m : ℕ) → In (1 ∷ 2 ∷ []) m → m < 4
+no_node m (inl e) = omega arith
+no_node m (inr (inl e)) = omega arith
+no_node m (inr (inr b)) = absurd b
+
+only_root : (l : ℕ) → In (13 ∷ []) l → l ≡ 13
+only_root l (inl e) = e
+only_root l (inr b) = absurd b
+
+pub mux_plan : IsPlan mux mux_rows (label_of mux_labels) (13 ∷ []) mux_depths mux_cover
+mux_plan = record {
+  schedule = record {
+    nodes = λ n r e. let six : n ≡ 6 = (depth_at n r e).0 in (omega arith, omega arith);
+    low = λ n r e. let d = depth_at n r e in let one : 1 ≡ r = d.1 in let label : label_of mux_labels n ≡ 1 = ap (λ i. label_of mux_labels i) d.0 in omega arith;
+    root = λ l i and. subst (λ x. AtMost (mux_depths (x / 2)) 1) (sym (only_root l i)) (record { by = 1; is = refl; le = omega arith });
+    leaf = λ n r m c e at i and. absurd (let b : m < 4 = no_node m (subst (λ x. In x m) (sym (cut_at_node n c at).1) i) in let a : 4 ≤ m = and.0 in omega arith);
+    whence = λ n r e. let d = depth_at n r e in inl (record { root = 13; is_root = inl refl; node = sym d.0; is = sym d.1 });
+  };
+  chosen = λ n r e.
+      let d = depth_at n r e in
+      subst (λ i. HasChosen (label_of mux_labels) r (row_at mux_rows i) (mux_cover i)) (sym d.0)
+      (subst (λ q. HasChosen (label_of mux_labels) q (row_at mux_rows 6) (mux_cover 6)) d.1 (record { cut = 1 ∷ 2 ∷ []; is = refl; best = mux_chosen }));
+  none = λ n e. ap (λ b. cond b (Some (1 ∷ 2 ∷ [])) None) (none_then (eqb n 6) 1 e);
+}
+
+-- one table of two inputs: the parameter is no leaf, and a positive input has no table
+abbrev pub mux_luts : List Lut
+mux_luts = record { lit = record { 0 = 13 }; leaves = 1 ∷ 2 ∷ []; base = 0 } ∷ []
+
+other_kind : Some Regular ≡ Some Parameter → ⊥
+other_kind e = cc
+
+no_input : (m : ℕ) (c : List ℕ) → In (1 ∷ 2 ∷ []) m → IsLeaves mux mux_cover (2 * m) c → HasTable mux_luts (2 * m) c
+no_input m c i (constant z e) = absurd (elim i [ inl q ↦ omega arith | inr j ↦ elim j [ inl q ↦ omega arith | inr b ↦ b ] ])
+no_input m c i (source s o e) = absurd (omega arith)
+no_input m c i (node at) = absurd (let six : (2 * m) / 2 ≡ 6 = (cut_at_node ((2 * m) / 2) c at).0 in let b : m < 4 = no_node m i in omega arith)
+no_input m c (inl q) (parameter s e) = absurd (other_kind (subst (λ x. IsSource mux Parameter ((2 * x) / 2)) q s).is)
+no_input m c (inr (inl q)) (parameter s e) = absurd (other_kind (subst (λ x. IsSource mux Parameter ((2 * x) / 2)) q s).is)
+no_input m c (inr (inr b)) (parameter s e) = absurd b
+
+root_table : (c : List ℕ) → IsLeaves mux mux_cover 13 c → HasTable mux_luts 13 c
+root_table c (constant z e) = absurd (omega arith)
+root_table c (parameter s e) = absurd (none-some Parameter s.is)
+root_table c (source s o e) = absurd (none-some Regular s.is)
+root_table c (node at) = record { by = record { lit = record { 0 = 13 }; leaves = 1 ∷ 2 ∷ []; base = 0 }; in' = inl refl; lit_is = refl; leaves_are = same_Some (1 ∷ 2 ∷ []) c at }
+
+needed_table : (l : ℕ) (c : List ℕ) → IsNeeded (13 ∷ []) mux_cover l → IsLeaves mux mux_cover l c → HasTable mux_luts l c
+needed_table l c (root i) leaves = subst (λ x. HasTable mux_luts x c) (sym (only_root l i)) (root_table c (subst (λ x. IsLeaves mux mux_cover x c) (only_root l i) leaves))
+needed_table l c (leaf n m d at i e) leaves =
+    subst (λ x. HasTable mux_luts x c) (sym e) (no_input m c (subst (λ x. In x m) (sym (cut_at_node n d at).1) i) (subst (λ x. IsLeaves mux mux_cover x c) e leaves))
+
+one_table : (P : Lut → Type 0) → P (record { lit = record { 0 = 13 }; leaves = 1 ∷ 2 ∷ []; base = 0 }) → (t : Lut) → In mux_luts t → P t
+one_table P p t (inl e) = subst P (sym e) p
+one_table P p t (inr b) = absurd b
+
+pub mux_tables : AreTables mux (13 ∷ []) mux_cover mux_luts 4
+mux_tables = record {
+  needed = one_table (λ t. IsNeeded (13 ∷ []) mux_cover t.lit.0) (root (inl refl));
+  leaves = one_table (λ t. IsLeaves mux mux_cover t.lit.0 t.leaves) (node refl);
+  all = needed_table;
+  ascending = ((λ u i. absurd i), tt);
+  bases = (refl, tt);
+  sum = refl;
+}
+
+-- Its cone is the three AND nodes, and its work 4 * (1 + 3).
+pub mux_cone : IsCone mux (1 ∷ 2 ∷ []) 6 (6 ∷ 5 ∷ 4 ∷ [])
+mux_cone = cone_is mux (1 ∷ 2 ∷ []) 6 mux_normal (omega arith)
+
+pub mux_work : IsWork mux mux_luts 16
+mux_work = (16, 0, record { cone = 6 ∷ 5 ∷ 4 ∷ []; is = mux_cone; work_is = refl }, refl, refl)

@@ -1,0 +1,43 @@
+use Rattle.std.proofs.Common.{◌≡◌, ◌∙◌, ap, subst, sym}
+use Rattle.aig_core.specs.Roots.{RootsValue, lits_of, roots_of}
+use Rattle.depth_label.specs.Label.{label_of}
+use Rattle.cover_pick.specs.Mapping.{IsLeast}
+use Rattle.cover_pick.specs.Target.{target}
+use Rattle.cover_pick.specs.Marks.{Made, IsMade}
+use Rattle.cover_pick.specs.Work.{IsLight}
+use Rattle.cover_pick.proofs.ChosenLaws.{template_is, timely_is}
+use Rattle.cover_pick.proofs.MappingLaws.{mapping_is, least_is}
+use Rattle.cover_pick.proofs.template.template_of.Goals as goal
+use Rattle.cover_pick.proofs.template.template_of.Goals.{After-drop-all-2}
+
+-- the tables that were made
+made_is : (c : goal.After-drop-all-2) → IsMade c.args.graph.now c.args.table.now (label_of c.args.labels.now) (roots_of c.args.roots.now) (record { luts = c.made.inside.luts.items; bits = c.made.inside.bits; work = c.made.inside.work })
+made_is c =
+    subst (λ m. IsMade c.args.graph.now c.args.table.now (label_of c.args.labels.now) (roots_of c.args.roots.now) m) (sym c.made.view_is)
+    (subst (λ ls. IsMade c.args.graph.now c.args.table.now (label_of c.args.labels.now) ls c.in_ok-made.made) (ap lits_of c.deref-4.ensures.value ∙ c.in_ok-all.ensures) c.in_ok-made.ensures.ok)
+
+-- the target of the roots
+depth_is : (c : goal.After-drop-all-2) → c.target-depth.result ≡ target c.args.graph.now (label_of c.args.labels.now) (roots_of c.args.roots.now)
+depth_is c =
+    c.target-depth.ensures ∙ ap (λ ls. target c.args.graph.now (label_of c.args.labels.now) (lits_of ls)) c.deref.ensures.value ∙ ap (λ ls. target c.args.graph.now (label_of c.args.labels.now) ls) c.in_ok-all.ensures
+
+pub returns-clause-template : goal.returns-clause-template
+returns-clause-template c =
+    template_is c.args.graph.now c.args.table.now (label_of c.args.labels.now) c.args.roots.now _ c.in_ok-outputs.outputs.items c.in_ok-next.next.items c.target-depth.result c.requires.table c.requires.roots (made_is c)
+    (c.in_ok-outputs.ensures.items ∙ (c.deref-2.ensures.value ∙ ap (λ (r : RootsValue). r.outputs) c.roots.view_is))
+    (c.in_ok-next.ensures.items ∙ (c.deref-3.ensures.value ∙ ap (λ (r : RootsValue). r.next) c.roots.view_is))
+    (depth_is c)
+
+pub returns-clause-mapping : goal.returns-clause-mapping
+returns-clause-mapping c k are = mapping_is c.args.graph.now c.args.table.now (label_of c.args.labels.now) (roots_of c.args.roots.now) _ (made_is c) k are c.requires.roots
+
+pub returns-clause-least : goal.returns-clause-least
+returns-clause-least c k are =
+    subst (λ d. IsLeast c.args.graph.now k (roots_of c.args.roots.now) c.made.inside.luts.items d) (sym (depth_is c))
+    (least_is c.args.graph.now c.args.table.now (label_of c.args.labels.now) (roots_of c.args.roots.now) _ (made_is c) k are c.requires.roots)
+
+pub returns-clause-timely : goal.returns-clause-timely
+returns-clause-timely c = timely_is c.args.graph.now c.args.table.now (label_of c.args.labels.now) (roots_of c.args.roots.now) _ c.requires.table c.requires.roots (made_is c)
+
+pub returns-clause-light : goal.returns-clause-light
+returns-clause-light c = subst (λ (m : Made). IsLight c.args.graph.now m.luts) (sym c.made.view_is) c.in_ok-made.ensures.light

@@ -1,0 +1,21 @@
+-- How the chosen cut is found: the cuts of an ordered list are taken one after another.
+use Rattle.std.specs.Prelude.{ℕ, ◌&&◌, if◌then◌else◌, ◌==◌, nat_lt, List, [], ◌∷◌, length, Option, Some, None}
+use Rattle.depth_label.specs.Label.{height}
+
+-- the better of two cuts, where the second has no fewer leaves and comes later: it is taken where it is the first one low enough, or has as few leaves and a lower height
+abbrev pub better : (ℕ → ℕ) → ℕ → Option (List ℕ) → List ℕ → Option (List ℕ)
+better label r None c = if nat_lt r (height label c) then None else Some c
+better label r (Some b) c = if (length c == length b) && nat_lt (height label c) (height label b) then Some c else Some b
+
+-- the best cut of an ordered list for a required depth, if one is low enough
+abbrev pub fewest : (ℕ → ℕ) → ℕ → Option (List ℕ) → List (List ℕ) → Option (List ℕ)
+fewest label r best [] = best
+fewest label r best (c ∷ cs) = fewest label r (better label r best c) cs
+
+abbrev pub or_empty : Option (List ℕ) → List ℕ
+or_empty None = []
+or_empty (Some c) = c
+
+-- the cut that is chosen for a node and its required depth
+abbrev pub choice_of : (ℕ → List (List ℕ)) → (ℕ → ℕ) → ℕ → ℕ → List ℕ
+choice_of cuts label n r = or_empty (fewest label r None (cuts n))
