@@ -1,10 +1,11 @@
 -- What every netlist of a library keeps.
 use Rattle.std.proofs.Common.{◌≡◌, ℕ, zero, suc, ◌+◌, ◌*◌, ◌<◌, ◌≤◌, Bool, true, false, not, ◌&&◌, eqb, nat_lt, List, [], ◌∷◌, ◌++◌, length, get_or, take, drop, bytes_eq, Some, None, Ok, Err, refl, sym, ap, ◌∙◌, subst, inl, inr, arith}
+use Rattle.tl_text.specs.declared.logical_lines.TheConstants.{MOST_BYTES}
 use Rattle.std.specs.List.{slice_get, list_all}
 use Rattle.std.proofs.lemmas.Option.{none-some, same_Some, slice_get_within, get_or_from_slice_get}
 use Rattle.std.proofs.lemmas.Slice.Eq.{bytes_eq-Decides}
 use Rattle.std.proofs.lemmas.Bool.{and_parts, not-true}
-use Rattle.list_words.specs.Members.{In}
+use Rattle.list_laws.specs.Members.{In}
 use Rattle.std.proofs.lemmas.List.{drop_more, take-append-drop}
 use Rattle.tl_text.specs.NameIndex.{place_of}
 use Rattle.blif_read.specs.declared.command.Body.{Body}
@@ -87,7 +88,7 @@ model_built m n true e h =
     record { commands = parts.0; ports = parts.1; is = ok_once (Ok n) (netlist_in m) n (sym h) refl }
 model_built m n false e h = absurd (ok_or_err (Err m.line) n m.line h refl)
 
-model_formed : (m : ModelValue) (n : NetlistValue) → IsBuilt m n → IsWellFormedModel m → names_size m.inputs < 2 * 67108864 → IsWellFormed n
+model_formed : (m : ModelValue) (n : NetlistValue) → IsBuilt m n → IsWellFormedModel m → names_size m.inputs < 2 * MOST_BYTES → IsWellFormed n
 model_formed m n built form small =
     let few : length m.inputs ≤ names_size m.inputs = few_names m.inputs in
     let ports = and_parts (eqb (length m.clocks) 0) (list_all (is_driven (netlist_in m)) m.outputs) built.ports in
@@ -98,12 +99,17 @@ model_formed m n built form small =
       driven = λ name i. all_member (is_driven (netlist_in m)) m.outputs name ports.1 i;
     })
 
-pub built_formed : (library : LibraryValue) (n : NetlistValue) → library_form.IsWellFormed library → library_size library ≤ 67108865 → netlist_of library ≡ Ok n → IsWellFormed n
+pub built_formed : (library : LibraryValue) (n : NetlistValue) → library_form.IsWellFormed library → library_size library ≤ MOST_BYTES + 1 → netlist_of library ≡ Ok n → IsWellFormed n
 built_formed library n form small h = by_models library.models form.each small h
   where
-    by_models : (models : List ModelValue) → ((m : ModelValue) → In models m → IsWellFormedModel m) → models_size models ≤ 67108865 → netlist_of_models models ≡ Ok n → IsWellFormed n
+    by_models : (models : List ModelValue) → ((m : ModelValue) → In models m → IsWellFormedModel m) → models_size models ≤ MOST_BYTES + 1 → netlist_of_models models ≡ Ok n → IsWellFormed n
     by_models [] each size k = absurd (ok_or_err (Err 1) n 1 k refl)
     by_models (m ∷ ms) each size k = model_formed m n (model_built m n (is_built_model m) refl k) (each m (inl refl)) (omega arith)
+
+-- the netlist of a library is that of its first model
+pub first_netlist : (models : List ModelValue) (m : ModelValue) → 0 < length models → m ≡ get_or models 0 m → netlist_of_models models ≡ netlist_of_models (m ∷ [])
+first_netlist [] m some is = absurd (omega arith)
+first_netlist (x ∷ xs) m some is = ap (λ k. netlist_or_line (is_built_model k) k) (sym is)
 
 -- a name behind others of which none stands twice is new among them
 pub once_new : (names : List (List ℕ)) (i : ℕ) (d : List ℕ) → AreOnce names → i < length names → place_of (take i names) (get_or names i d) ≡ None

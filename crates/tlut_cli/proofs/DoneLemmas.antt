@@ -1,10 +1,11 @@
 -- A job that was played, and what a status says of its outcome.
 use Rattle.std.proofs.Common.{◌≡◌, ℕ, Bool, List, [], ◌∷◌, length, map, Option, refl, sym, ap, ◌∙◌, subst, inl, inr, ◌⊎◌}
-use Rattle.list_words.specs.Members.{In}
+use Rattle.list_laws.specs.Members.{In}
 use Rattle.tl_io.specs.Shelf.{Files, ShelfSeen}
 use Rattle.run_text.specs.Lines.{header_line}
 use Rattle.tlut_cli.specs.Words.{JobWords}
 use Rattle.tlut_cli.specs.Netlist.{NetlistValue}
+use Rattle.tlut_cli.specs.Refusals.{too_long}
 use Rattle.tlut_cli.specs.NetlistGraph.{IsWellFormed}
 use Rattle.tlut_cli.specs.Source.{source_line}
 use Rattle.tlut_cli.specs.JobText.{AreCycles, none, more, GrewByAll, GrewByPart}
@@ -30,6 +31,7 @@ has_lines : (files : Files) (words : JobWords) (p : Prepared) → IsReady p → 
 has_lines files words p r h = record {
   job = record { netlist = p.circuit.netlist; template = h.maps.template; vectors = p.vectors.items };
   accepted = record { netlist = h.netlist; params = h.params; mapped = h.maps.mapped; script = h.script };
+  settled = h.settled;
   are = record {
     cycles = map (source_line p.circuit.netlist) p.vectors.items;
     are = cycles_are p.circuit.netlist p.vectors.items r.formed r.widths;
@@ -68,6 +70,11 @@ refusal_is words old new before after (outcome.Refused f r) s e (inl u) h = absu
     differ : outcome.Refused f r ≡ outcome.Usage → ⊥
     differ k = cc
 refusal_is words old new before after (outcome.Refused f r) s e (inr run) h = λ files told. record { job = run.job; is = run.is; file = f; refusal = r; refused = run.ends.0.is files told; status_is = e }
+refusal_is words old new before after (outcome.TooLong f) s e (inl u) h = absurd (differ u.is)
+  where
+    differ : outcome.TooLong f ≡ outcome.Usage → ⊥
+    differ k = cc
+refusal_is words old new before after (outcome.TooLong f) s e (inr run) h = λ files told. record { job = run.job; is = run.is; file = f; refusal = too_long; refused = run.ends.0.is files told; status_is = e }
 refusal_is words old new before after (outcome.ReadFault f) s e end h = refuses_not s status.ReadFault e (λ k. cc) (λ k. cc) h
 refusal_is words old new before after outcome.Done s e end h = refuses_not s status.Done e (λ k. cc) (λ k. cc) h
 refusal_is words old new before after outcome.Usage s e end h = refuses_not s status.Usage e (λ k. cc) (λ k. cc) h

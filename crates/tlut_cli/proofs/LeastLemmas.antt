@@ -1,12 +1,12 @@
 -- The header of a job that is done: its depth is the least, and its tables have few leaves.
-use Rattle.std.proofs.Common.{◌≡◌, ℕ, ◌≤◌, ◌-◌, ◌/◌, ◌&&◌, leb, bytes_eq, codes, List, [], ◌∷◌, length, Option, Some, None, sym, ap, ◌∙◌, subst, inl, inr, arith}
+use Rattle.std.proofs.Common.{◌≡◌, ℕ, ◌≤◌, ◌-◌, ◌/◌, Bool, true, false, cond, ◌&&◌, leb, bytes_eq, codes, List, [], ◌∷◌, length, Option, Some, None, sym, ap, ◌∙◌, subst, inl, inr, arith}
 use Rattle.std.specs.List.{concat}
 use Rattle.std.specs.Option.{option_map}
 use Rattle.std.proofs.lemmas.Bool.{and_parts, leb-true}
 use Rattle.std.proofs.lemmas.Option.{none-some, same_Some}
 use Rattle.tl_io.specs.Shelf.{Files, ShelfSeen}
 use Rattle.tl_io.specs.Content.{extended}
-use Rattle.list_words.specs.Members.{In}
+use Rattle.list_laws.specs.Members.{In}
 use Rattle.aig_core.specs.Aig.{Aig, IsSource}
 use Rattle.aig_core.specs.declared.lit.Kind.TheVariants.{Regular}
 use Rattle.cut_enum.specs.Cuts.{CanBeLeaf}
@@ -17,8 +17,8 @@ use Rattle.tlut_cli.specs.JobText.{AreLines}
 use Rattle.tlut_cli.specs.Verdict.{Job}
 use Rattle.tlut_cli.specs.Ends.{Told}
 use Rattle.tlut_cli.specs.Call.{IsEnd, HasDone}
-use Rattle.tlut_cli.specs.Statuses.{status_of}
-use Rattle.tlut_cli.specs.declared.outcome.Refusal.TheVariants.{TooLong, TooLarge, TooManyNodes, NodeCuts, TotalCuts, Work}
+use Rattle.tlut_cli.specs.Statuses.{status_of, refusal_status}
+use Rattle.tl_fault.specs.Refusals.{is_limit}
 use Rattle.tlut_cli.specs.declared.outcome.Outcome.{Outcome}
 use Rattle.tlut_cli.specs.declared.outcome.Outcome.TheVariants as outcome
 use Rattle.tlut_cli.specs.declared.status.Status.{Status}
@@ -91,9 +91,7 @@ least_of files words before after h =
       bits = job.template.bits;
       depth = job.template.depth;
       header = header_of job h.done.lines before after lines.are h.done.grew;
-      is =
-          let least = lines.accepted.mapped.chosen.least in
-          record { cover = least.cover; is = least.is; within = least.within; least = least.least };
+      is = lines.accepted.mapped.chosen.least.least;
     }
 
 small_of : (files : Files) (words : List (List ℕ)) (before after : Option (List ℕ)) → HasDone files words before after → HasSmallTables files words before after
@@ -117,6 +115,10 @@ small_of files words before after h =
 not_done : {A : Type 0} (s t : Status) → s ≡ t → (t ≡ status.Done → ⊥) → s ≡ status.Done → A
 not_done s t e other h = absurd (other (sym e ∙ h))
 
+refused_not_done : (limit : Bool) → cond limit status.Limit status.Refused ≡ status.Done → ⊥
+refused_not_done true k = cc
+refused_not_done false k = cc
+
 -- a call that is done did its job
 done_is : (words : List (List ℕ)) (old new : ShelfSeen) (before after : Option (List ℕ)) (o : Outcome) (s : Status) → s ≡ status_of o → IsEnd words old new before after o
     → s ≡ status.Done → Told old.files (λ files. HasDone files words before after)
@@ -125,13 +127,8 @@ done_is words old new before after outcome.Done s e (inl u) h = absurd (differ u
     differ : outcome.Done ≡ outcome.Usage → ⊥
     differ k = cc
 done_is words old new before after outcome.Done s e (inr run) h = λ files told. record { job = run.job; is = run.is; done = run.ends.1 files told }
-done_is words old new before after (outcome.Refused f TooLong) s e end h = not_done s status.Limit e (λ k. cc) h
-done_is words old new before after (outcome.Refused f TooLarge) s e end h = not_done s status.Limit e (λ k. cc) h
-done_is words old new before after (outcome.Refused f TooManyNodes) s e end h = not_done s status.Limit e (λ k. cc) h
-done_is words old new before after (outcome.Refused f (NodeCuts at)) s e end h = not_done s status.Limit e (λ k. cc) h
-done_is words old new before after (outcome.Refused f (TotalCuts at)) s e end h = not_done s status.Limit e (λ k. cc) h
-done_is words old new before after (outcome.Refused f Work) s e end h = not_done s status.Limit e (λ k. cc) h
-done_is words old new before after (outcome.Refused f other) s e end h = not_done s status.Refused e (λ k. cc) h
+done_is words old new before after (outcome.TooLong f) s e end h = not_done s status.Limit e (λ k. cc) h
+done_is words old new before after (outcome.Refused f r) s e end h = not_done s (refusal_status r) e (λ k. refused_not_done (is_limit r) k) h
 done_is words old new before after (outcome.ReadFault f) s e end h = not_done s status.ReadFault e (λ k. cc) h
 done_is words old new before after outcome.Usage s e end h = not_done s status.Usage e (λ k. cc) h
 done_is words old new before after outcome.WriteFault s e end h = not_done s status.WriteFault e (λ k. cc) h

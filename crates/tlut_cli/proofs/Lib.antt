@@ -1,4 +1,5 @@
 pub mod TextLemmas
+pub mod RefusedErrors
 pub mod StopLemmas
 pub mod CycleLemmas
 pub mod PlayLemmas
@@ -7,12 +8,12 @@ pub mod ListLemmas
 pub mod ScriptLemmas
 pub mod BuiltLemmas
 pub mod SizeLemmas
+pub mod FileLemmas
 pub mod EndLemmas
 pub mod PutLemmas
 pub mod SpacedLemmas
-pub mod DetailedLemmas
 pub mod DoneLemmas
 pub mod LeastLemmas
-pub mod OnceLemmas
+pub mod GraphLemmas
 pub mod ClashLemmas
 pub mod RefusedLemmas

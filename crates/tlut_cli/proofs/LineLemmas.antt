@@ -1,10 +1,10 @@
 -- A sink that grew by whole lines, and by a part of the next one.
-use Rattle.std.proofs.Common.{◌≡◌, ℕ, zero, suc, ◌+◌, ◌<◌, ◌≤◌, List, [], ◌∷◌, ◌++◌, length, get_or, map, take, Option, refl, sym, ap, ◌∙◌, arith, append-nil, append_assoc}
+use Rattle.std.proofs.Common.{◌≡◌, ℕ, zero, suc, ◌+◌, ◌<◌, ◌≤◌, List, [], ◌∷◌, ◌++◌, length, get_or, map, take, Option, Result, Ok, Err, refl, sym, ap, ◌∙◌, arith, append-nil, append_assoc}
 use Rattle.std.specs.List.{concat}
 use Rattle.tl_io.specs.Causes.{Rose}
 use Rattle.tl_io.specs.Content.{extended}
 use Rattle.tl_io.proofs.ContentLemmas.{extended_twice}
-use Rattle.tlut_cli.specs.JobText.{GrewByAll, GrewByPart}
+use Rattle.tlut_cli.specs.JobText.{GrewByAll, GrewByPart, PutsLines}
 
 concat-append : (xs ys : List (List ℕ)) → concat (xs ++ ys) ≡ concat xs ++ concat ys
 concat-append [] ys = refl
@@ -39,6 +39,11 @@ part_first first mid last line lines a p = record {
       ∙ extended_twice first line (concat (take p.whole lines) ++ take p.part (get_or lines p.whole []))
       ∙ ap (extended first) (sym (append_assoc line (concat (take p.whole lines)) (take p.part (get_or lines p.whole []))));
 }
+
+-- a line, and then others or a part of them
+pub puts_first : {E : Type 0} (first mid last : Option (List ℕ)) (line : List ℕ) (lines : List (List ℕ)) (result : Result Unit E) → mid ≡ extended first line → PutsLines mid last lines result → PutsLines first last (line ∷ lines) result
+puts_first first mid last line lines (Ok u) a p = grew_first first mid last line lines a p
+puts_first first mid last line lines (Err e) a p = part_first first mid last line lines a p
 
 -- mapped lists, one more at a time
 pub map_take_more : {A B : Type 0} (f : A → B) (xs : List A) (i : ℕ) (x : A) → i < length xs → x ≡ get_or xs i x → map f (take (i + 1) xs) ≡ map f (take i xs) ++ f x ∷ []

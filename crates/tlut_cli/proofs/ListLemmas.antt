@@ -3,7 +3,7 @@ use Rattle.std.proofs.Common.{◌≡◌, ℕ, zero, suc, ◌+◌, ◌<◌, Bool,
 use Rattle.std.specs.List.{position, position_or_len, list_any, list_all}
 use Rattle.std.proofs.lemmas.Option.{none-some}
 use Rattle.std.proofs.lemmas.Bool.{and_parts, or_parts, cond-true, cond-false, lt-ltb, le-ltb, false≢true}
-use Rattle.list_words.specs.Members.{In}
+use Rattle.list_laws.specs.Members.{In}
 
 pub then_none : {A : Type 0} (b : Bool) (y : Option A) (x : A) → cond b y None ≡ Some x → (b ≡ true) × (y ≡ Some x)
 then_none true y x h = (refl, h)

@@ -4,17 +4,18 @@ use Rattle.std.specs.List.{slice_get}
 use Rattle.std.proofs.lemmas.List.{length-map, length-replicate, get_or-map}
 use Rattle.std.proofs.lemmas.List.Sums.{sum_by-cons}
 use Rattle.std.proofs.lemmas.List.Quantifiers.{position-Some}
-use Rattle.std.proofs.lemmas.Option.{none-some, same_Some, slice_get_within}
+use Rattle.std.proofs.lemmas.Option.{slice_get_within}
 use Rattle.std.proofs.lemmas.Bool.{le-leb, and_from, or_left}
 use Rattle.std.proofs.Math.Nat.{one-le-pow}
-use Rattle.list_words.specs.Members.{In}
-use Rattle.list_words.proofs.Members.{In-get_or}
+use Rattle.list_laws.specs.Members.{In}
+use Rattle.list_laws.proofs.Members.{In-get_or}
 use Rattle.tl_text.specs.NameIndex.{place_of}
 use Rattle.aig_core.specs.declared.lit.Kind.TheVariants.{Regular, Parameter}
 use Rattle.aig_core.specs.declared.lit.Lit.{Lit}
 use Rattle.aig_core.specs.Aig.{Aig, first_and, node_count, AreNormal, IsSource, IsLit}
 use Rattle.aig_core.specs.Roots.{roots_of, lits_of, AreRoots}
-use Rattle.aig_core.specs.Value.{literal_value}
+use Rattle.aig_core.specs.Value.{value_of, HasOneFit}
+use Rattle.aig_core.proofs.FitLemmas.{one_fit}
 use Rattle.blif_read.specs.CoverValue.{CoverValue}
 use Rattle.cover_pick.specs.declared.lut.Lut.{Lut}
 use Rattle.cover_pick.specs.Template.{TemplateValue}
@@ -25,11 +26,10 @@ use Rattle.lut_sim.specs.Playable.{IsPlayable}
 use Rattle.lut_sim.specs.Cycle.{FitsTables}
 use Rattle.lut_sim.proofs.SourceLemmas.{IsInputOrLatch, input, latch, either_side}
 use Rattle.bit_fun.specs.Shape.{HasShape, AreSourceValues}
-use Rattle.bit_fun.specs.Configuration.{AgreeAtParams}
+use Rattle.bit_fun.specs.Parameters.{param_count}
+use Rattle.bit_fun.specs.Configuration.{IsMapped, IsConfiguration}
 use Rattle.bit_fun.specs.Lawful.{IsLawful}
-use Rattle.bit_fun.specs.Configuration.{conf}
 use Rattle.bit_fun.proofs.LawLemmas.{mapping_playable}
-use Rattle.bit_fun.proofs.ConfLemmas.{length-conf}
 use Rattle.tlut_cli.specs.declared.circuit.Circuit.{Circuit}
 use Rattle.tlut_cli.specs.Circuit.{IsAssembled}
 use Rattle.tlut_cli.specs.Netlist.{NetlistValue}
@@ -42,11 +42,6 @@ replicate_at : {A : Type 0} (x : A) (k i : ℕ) → i < k → slice_get (replica
 replicate_at x zero i h = absurd (omega arith)
 replicate_at x (suc k) zero h = refl
 replicate_at x (suc k) (suc i) h = replicate_at x k i (omega arith)
-
-replicate_same : {A : Type 0} (x y : A) (k i : ℕ) → slice_get (replicate k x) i ≡ Some y → x ≡ y
-replicate_same x y zero i h = absurd (none-some y h)
-replicate_same x y (suc k) zero h = same_Some x y h
-replicate_same x y (suc k) (suc i) h = replicate_same x y k i h
 
 pub netlist_shape : (n : NetlistValue) → HasShape (graph_of n) (shape_of n)
 netlist_shape n = record {
@@ -65,11 +60,13 @@ netlist_shape n = record {
     regular m (latch a b) = absurd (omega arith)
 
 -- there are no parameters
-no_params : (n : NetlistValue) (a b : List Bool) → AgreeAtParams (graph_of n) a b
-no_params n a b = record { each = λ m s. absurd (differ (replicate_same Regular Parameter (length n.inputs) (m - 1) s.is)) }
-  where
-    differ : Regular ≡ Parameter → ⊥
-    differ e = cc
+pub no_params : (k : ℕ) → param_count (replicate k Regular) ≡ 0
+no_params zero = refl
+no_params (suc k) = no_params k
+
+-- its tables map its graph
+pub netlist_mapped : (n : NetlistValue) (t : TemplateValue) → HasTables n t → IsMapped (graph_of n) t.luts
+netlist_mapped n t h = record { k = h.k; roots = roots_of (netlist_roots n); bits = t.bits; mapping = h.mapping }
 
 -- the values of the sources are those of the inputs
 inputs_alone : (n : NetlistValue) (x : List Bool) → length x ≡ length n.inputs → AreSourceValues (shape_of n) x [] [] x
@@ -83,25 +80,25 @@ netlist_playable n t h =
     (λ l i. absurd (subst (λ ls. In (lits_of ls) l) h.next i))
 
 -- and show the source's outputs
-pub netlist_plays : (n : NetlistValue) (t : TemplateValue) (given config : List Bool) (sim : SimValue) → IsWellFormed n → AreNormal (first_and (graph_of n)) (graph_of n).pairs → HasCover n (graph_of n) (cover_answer n).lit
-    → HasTables n t → IsLawful (graph_of n) given t.luts config → length config ≡ t.bits → sim.template ≡ t → sim.shape ≡ shape_of n → sim.states ≡ [] → PlaysSource n sim config
-netlist_plays n t given config sim w normal has h law len et es est = record {
+pub netlist_plays : (n : NetlistValue) (t : TemplateValue) (config : List Bool) (sim : SimValue) → IsWellFormed n → AreNormal (first_and (graph_of n)) (graph_of n).pairs → HasCover n (graph_of n) (cover_answer n).lit
+    → HasTables n t → IsLawful (graph_of n) t.luts [] config → length config ≡ t.bits → sim.template ≡ t → sim.shape ≡ shape_of n → sim.states ≡ [] → PlaysSource n sim config
+netlist_plays n t config sim w normal has h law len et es est = record {
   config_len = len ∙ ap (λ (v : TemplateValue). v.bits) (sym et);
   width = ap (λ (s : Shape). s.regular) es;
   no_states = est;
   plays = λ x outputs next lx only.
-      let fits : FitsTables t.luts (shape_of n) config x [] (literal_value (graph_of n) x) =
-      law h.k (roots_of (netlist_roots n)) t.bits (shape_of n) x [] [] x normal h.mapping (netlist_shape n) (inputs_alone n x lx) (no_params n given x) in
-      let fits' : FitsTables sim.template.luts sim.shape config x [] (literal_value (graph_of n) x) =
-      subst (λ (v : TemplateValue). FitsTables v.luts sim.shape config x [] (literal_value (graph_of n) x)) (sym et)
-      (subst (λ (s : Shape). FitsTables t.luts s config x [] (literal_value (graph_of n) x)) (sym es) fits) in (
-        only.outputs_are (literal_value (graph_of n) x) fits'
-            ∙ ap (λ (v : TemplateValue). map (literal_value (graph_of n) x) (lits_of v.outputs)) et
-            ∙ ap (λ ls. map (literal_value (graph_of n) x) (lits_of ls)) h.outputs
-            ∙ roots_values n x (graph_of n) (cover_answer n).lit w lx has,
-        only.next_are (literal_value (graph_of n) x) fits'
-            ∙ ap (λ (v : TemplateValue). map (literal_value (graph_of n) x) (lits_of v.next)) et
-            ∙ ap (λ ls. map (literal_value (graph_of n) x) (lits_of ls)) h.next,
+      let one : HasOneFit (graph_of n) x = one_fit (graph_of n) x normal (lx ∙ sym (length-replicate (length n.inputs) Regular)) in
+      let fits : FitsTables t.luts (shape_of n) config x [] (value_of one.values) = law (shape_of n) x [] x one.values (netlist_shape n) (inputs_alone n x lx) one.fits in
+      let fits' : FitsTables sim.template.luts sim.shape config x [] (value_of one.values) =
+      subst (λ (v : TemplateValue). FitsTables v.luts sim.shape config x [] (value_of one.values)) (sym et)
+      (subst (λ (s : Shape). FitsTables t.luts s config x [] (value_of one.values)) (sym es) fits) in (
+        only.outputs_are (value_of one.values) fits'
+            ∙ ap (λ (v : TemplateValue). map (value_of one.values) (lits_of v.outputs)) et
+            ∙ ap (λ ls. map (value_of one.values) (lits_of ls)) h.outputs
+            ∙ roots_values n x one.values (cover_answer n).lit w one.fits has,
+        only.next_are (value_of one.values) fits'
+            ∙ ap (λ (v : TemplateValue). map (value_of one.values) (lits_of v.next)) et
+            ∙ ap (λ ls. map (value_of one.values) (lits_of ls)) h.next,
       );
 }
 
@@ -147,16 +144,18 @@ roots_are n lit = λ l i. go n.outputs l (subst (λ ls. In ls l) (append-nil (li
     go (m ∷ ms) l (inr i) = go ms l i
 
 -- the circuit of a netlist by a template, from its parts
-pub netlist_assembled : (n : NetlistValue) (t : TemplateValue) (g : Aig) (given : List Bool) (c : Circuit) → IsWellFormed n → g ≡ graph_of n → AreNormal (first_and g) g.pairs → HasCover n g (cover_answer n).lit
-    → HasTables n t → c.config.items ≡ conf g given t.luts → IsLawful g given t.luts c.config.items → c.netlist ≡ n → c.luts ≡ length t.luts → c.bits ≡ t.bits → c.depth ≡ t.depth
+pub netlist_assembled : (n : NetlistValue) (t : TemplateValue) (g : Aig) (c : Circuit) → IsWellFormed n → g ≡ graph_of n → AreNormal (first_and g) g.pairs → HasCover n g (cover_answer n).lit → HasTables n t
+    → (IsMapped g t.luts → IsConfiguration g t.luts [] c.config.items) → (IsMapped g t.luts → IsLawful g t.luts [] c.config.items) → c.netlist ≡ n → c.luts ≡ length t.luts → c.bits ≡ t.bits → c.depth ≡ t.depth
     → c.sim.template ≡ t → c.sim.shape ≡ shape_of n → c.sim.states ≡ [] → IsAssembled n t c
-netlist_assembled n t g given c w eg normal has h ec law en el eb ed et es est = record {
-  netlist = en;
-  luts = el;
-  bits = eb;
-  depth = ed;
-  plays = netlist_plays n t given c.config.items c.sim w
-      (subst (λ (v : Aig). AreNormal (first_and v) v.pairs) eg normal) (subst (λ (v : Aig). HasCover n v (cover_answer n).lit) eg has) h
-      (subst (λ (v : Aig). IsLawful v given t.luts c.config.items) eg law)
-      (ap length ec ∙ length-conf g given t.luts ∙ sym h.mapping.sum) et es est;
-}
+netlist_assembled n t g c w eg normal has h bits law en el eb ed et es est =
+    let mapped : IsMapped g t.luts = subst (λ (v : Aig). IsMapped v t.luts) (sym eg) (netlist_mapped n t h) in
+    record {
+      netlist = en;
+      luts = el;
+      bits = eb;
+      depth = ed;
+      plays = netlist_plays n t c.config.items c.sim w
+          (subst (λ (v : Aig). AreNormal (first_and v) v.pairs) eg normal) (subst (λ (v : Aig). HasCover n v (cover_answer n).lit) eg has) h
+          (subst (λ (v : Aig). IsLawful v t.luts [] c.config.items) eg (law mapped))
+          ((bits mapped).count ∙ sym (h.mapping).sum) et es est;
+    }

@@ -1,127 +1,90 @@
 -- A job is refused for one reason, so that reason is the answer where nothing fails.
-use Rattle.std.proofs.Common.{◌≡◌, ℕ, List, length, Option, Some, None, refl, sym, ap, ◌∙◌, subst, inl, inr, arith}
+use Rattle.std.proofs.Common.{◌≡◌, ℕ, List, length, Option, Some, None, sym, ap, ◌∙◌, subst, inl, inr}
 use Rattle.std.proofs.lemmas.Option.{same_Some}
-use Rattle.aig_core.specs.Aig.{Aig}
-use Rattle.aig_core.specs.Roots.{RootsValue}
-use Rattle.cut_enum.specs.declared.table.CutErr.{CutErr}
-use Rattle.cut_enum.specs.declared.table.CutErr.TheVariants as cut_limit
-use Rattle.cut_enum.specs.Limits.{IsLimit}
-use Rattle.cut_enum.proofs.LimitLemmas.{limit_once, limit_excludes}
+use Rattle.tl_fault.specs.RefusalValue.{RefusalValue}
 use Rattle.tl_io.specs.Shelf.{Files, ShelfSeen}
 use Rattle.tlut_cli.specs.Netlist.{NetlistValue}
-use Rattle.tlut_cli.specs.NetlistGraph.{graph_of, netlist_roots}
+use Rattle.tlut_cli.specs.Refusals.{too_long}
 use Rattle.tlut_cli.specs.Texts.{IsNetlistText, NetlistRefusal, IsParamsText, ParamsRefusal, ScriptRefusal}
 use Rattle.tlut_cli.specs.Words.{JobWords}
-use Rattle.tlut_cli.specs.Mapped.{IsOverworked, IsUnchosen, IsMapped, IsUnmapped, too_many, unchosen}
+use Rattle.tlut_cli.specs.Mapped.{IsMapped, IsUnmapped}
 use Rattle.tlut_cli.specs.Verdict.{HasText, IsOverlong, HasNetlist, HasNoParams, Passes, Reaches, IsRefused, overlong, netlist, params, mapping, script}
+use Rattle.tlut_cli.specs.Settled.{IsSettled}
 use Rattle.tlut_cli.specs.Call.{IsEnd, IsAnswered}
 use Rattle.tlut_cli.specs.Statuses.{status_of, refusal_status}
 use Rattle.tlut_cli.specs.declared.outcome.File.{File}
 use Rattle.tlut_cli.specs.declared.outcome.File.TheVariants as file
-use Rattle.tlut_cli.specs.declared.outcome.Refusal.{Refusal}
-use Rattle.tlut_cli.specs.declared.outcome.Refusal.TheVariants.{TooLong, NodeCuts, TotalCuts, Work}
 use Rattle.tlut_cli.specs.declared.outcome.Outcome.{Outcome}
 use Rattle.tlut_cli.specs.declared.outcome.Outcome.TheVariants as outcome
 use Rattle.tlut_cli.specs.declared.status.Status.{Status}
-use Rattle.tlut_cli.proofs.ClashLemmas.{mapped_or_unmapped, text_once, short_or_long, netlist_once, accepted_not_refused}
-use Rattle.tlut_cli.proofs.TextLemmas.{netlist_or_refused, netlist_refused_once, params_or_refused, params_refused_once, script_refused_once}
-
--- a limit and too much work exclude each other
-limit_or_overworked : (g : Aig) (k : ℕ) (roots : RootsValue) (e : CutErr) → (e ≡ cut_limit.Memory → ⊥) → IsLimit g k e → IsOverworked g k roots → ⊥
-limit_or_overworked g k roots e some l o = limit_excludes g k e o.rows some l o.labelled.rows_are
-
--- the refusal of a limit
-abbrev refusal_of : CutErr → Refusal
-refusal_of (cut_limit.NodeCuts n) = NodeCuts n
-refusal_of (cut_limit.TotalCuts n) = TotalCuts n
-refusal_of cut_limit.Memory = Work
-
--- a graph is refused for one reason
-unchosen_once : (g : Aig) (k : ℕ) (roots : RootsValue) (r s : Refusal) → IsUnchosen g k roots r → IsUnchosen g k roots s → r ≡ s
-unchosen_once g k roots (NodeCuts n) (NodeCuts m) a b = ap (λ e. refusal_of e) (limit_once g k (cut_limit.NodeCuts n) (cut_limit.NodeCuts m) (λ e. cc) (λ e. cc) a b)
-unchosen_once g k roots (NodeCuts n) (TotalCuts m) a b = ap (λ e. refusal_of e) (limit_once g k (cut_limit.NodeCuts n) (cut_limit.TotalCuts m) (λ e. cc) (λ e. cc) a b)
-unchosen_once g k roots (TotalCuts n) (NodeCuts m) a b = ap (λ e. refusal_of e) (limit_once g k (cut_limit.TotalCuts n) (cut_limit.NodeCuts m) (λ e. cc) (λ e. cc) a b)
-unchosen_once g k roots (TotalCuts n) (TotalCuts m) a b = ap (λ e. refusal_of e) (limit_once g k (cut_limit.TotalCuts n) (cut_limit.TotalCuts m) (λ e. cc) (λ e. cc) a b)
-unchosen_once g k roots (NodeCuts n) Work a b = absurd (limit_or_overworked g k roots (cut_limit.NodeCuts n) (λ e. cc) a b)
-unchosen_once g k roots (TotalCuts n) Work a b = absurd (limit_or_overworked g k roots (cut_limit.TotalCuts n) (λ e. cc) a b)
-unchosen_once g k roots Work (NodeCuts m) a b = absurd (limit_or_overworked g k roots (cut_limit.NodeCuts m) (λ e. cc) b a)
-unchosen_once g k roots Work (TotalCuts m) a b = absurd (limit_or_overworked g k roots (cut_limit.TotalCuts m) (λ e. cc) b a)
-unchosen_once g k roots Work Work a b = refl
-unchosen_once g k roots (NodeCuts n) other a b = absurd b
-unchosen_once g k roots (TotalCuts n) other a b = absurd b
-unchosen_once g k roots Work other a b = absurd b
-unchosen_once g k roots other s a b = absurd a
-
--- and so is a netlist
-unmapped_once : (n : NetlistValue) (k : ℕ) (r s : Refusal) → IsUnmapped n k r → IsUnmapped n k s → r ≡ s
-unmapped_once n k r s (too_many over e) (too_many again d) = e ∙ sym d
-unmapped_once n k r s (too_many over e) (unchosen few u) = absurd (omega arith)
-unmapped_once n k r s (unchosen few u) (too_many over e) = absurd (omega arith)
-unmapped_once n k r s (unchosen few u) (unchosen again v) = unchosen_once (graph_of n) k (netlist_roots n) r s u v
+use Rattle.tlut_cli.proofs.EndLemmas.{netlist_once}
+use Rattle.tlut_cli.proofs.FileLemmas.{text_once, short_or_long}
+use Rattle.tlut_cli.proofs.ClashLemmas.{accepted_not_refused}
+use Rattle.tlut_cli.proofs.TextLemmas.{params_or_refused, params_refused_once, script_refused_once}
 
 -- a file that was read isn't too long: the netlist, the list, the script
 netlist_short : (files : Files) (job : JobWords) (n : NetlistValue) → HasNetlist files job n → IsOverlong files job file.Netlist → ⊥
 netlist_short files job n has long = short_or_long files job file.Netlist has.text has.there long
 
 -- the list is read or refused
-params_or_not : (files : Files) (job : JobWords) (text : List ℕ) (r : Refusal) → HasNoParams files job → HasText files job file.Params text → ParamsRefusal text r → ⊥
+params_or_not : (files : Files) (job : JobWords) (text : List ℕ) (r : RefusalValue) → HasNoParams files job → HasText files job file.Params text → ParamsRefusal text r → ⊥
 params_or_not files job text r none there refused =
     params_or_refused text r (subst (λ ts. IsParamsText ts) (text_once files job file.Params none.text text none.there there) none.is) refused
 
 -- the netlist is read or refused
-read_or_not : (files : Files) (job : JobWords) (n : NetlistValue) (text : List ℕ) (r : Refusal) → HasNetlist files job n → HasText files job file.Netlist text → NetlistRefusal text r → ⊥
-read_or_not files job n text r has there refused =
-    netlist_or_refused text n r (subst (λ ts. IsNetlistText ts n) (text_once files job file.Netlist has.text text has.there there) has.is) refused
+read_or_not : (files : Files) (job : JobWords) (n : NetlistValue) (text : List ℕ) (r : RefusalValue) → IsSettled files job → HasNetlist files job n → HasText files job file.Netlist text → NetlistRefusal text r → ⊥
+read_or_not files job n text r settled has there refused =
+    (settled.netlist text there).not_both n r (subst (λ ts. IsNetlistText ts n) (text_once files job file.Netlist has.text text has.there there) has.is) refused
 
 -- the walk comes past the mapping or it doesn't
-mapped_or_not : (files : Files) (job : JobWords) (n m : NetlistValue) (r : Refusal) → Passes files job n → HasNetlist files job m → IsUnmapped m job.k r → ⊥
-mapped_or_not files job n m r passes has u =
-    mapped_or_unmapped m job.k passes.template r (subst (λ (x : NetlistValue). IsMapped x job.k passes.template) (netlist_once files job n m passes.netlist has) passes.mapped) u
+mapped_or_not : (files : Files) (job : JobWords) (n m : NetlistValue) (r : RefusalValue) → IsSettled files job → Passes files job n → HasNetlist files job m → IsUnmapped m job.k r → ⊥
+mapped_or_not files job n m r settled passes has u =
+    (settled.mapping m has passes.params).not_both passes.template r (subst (λ (x : NetlistValue). IsMapped x job.k passes.template) (netlist_once files job n m settled.netlist passes.netlist has) passes.mapped) u
 
 -- where a file that the walk reaches is too long, there is no other refusal
-overlong_clash : (files : Files) (job : JobWords) (f e : File) (s : Refusal) → Reaches files job f → IsOverlong files job f → IsRefused files job e s → s ≡ TooLong
-overlong_clash files job f e s reach long (overlong again other is) = is
-overlong_clash files job file.Netlist e s reach long (netlist at text there refused) = absurd (short_or_long files job file.Netlist text there long)
-overlong_clash files job file.Netlist e s reach long (params at again text there refused) = absurd (netlist_short_at e at again)
+overlong_clash : (files : Files) (job : JobWords) (f e : File) (s : RefusalValue) → IsSettled files job → Reaches files job f → IsOverlong files job f → IsRefused files job e s → s ≡ too_long
+overlong_clash files job f e s settled reach long (overlong again other is) = is
+overlong_clash files job file.Netlist e s settled reach long (netlist at text there refused) = absurd (short_or_long files job file.Netlist text there long)
+overlong_clash files job file.Netlist e s settled reach long (params at again text there refused) = absurd (netlist_short_at e at again)
   where
     netlist_short_at : (x : File) → x ≡ file.Params → Reaches files job file.Params → ⊥
     netlist_short_at x y h = netlist_short files job h.0 h.1 long
-overlong_clash files job file.Netlist e s reach long (mapping at n has none u) = absurd (netlist_short files job n has long)
-overlong_clash files job file.Netlist e s reach long (script at n text passes there refused) = absurd (netlist_short files job n passes.netlist long)
-overlong_clash files job file.Params e s reach long (netlist at text there refused) = absurd (read_or_not files job reach.0 text s reach.1 there refused)
-overlong_clash files job file.Params e s reach long (params at again text there refused) = absurd (short_or_long files job file.Params text there long)
-overlong_clash files job file.Params e s reach long (mapping at n has none u) = absurd (short_or_long files job file.Params none.text none.there long)
-overlong_clash files job file.Params e s reach long (script at n text passes there refused) = absurd (short_or_long files job file.Params passes.params.text passes.params.there long)
-overlong_clash files job file.Script e s reach long (netlist at text there refused) = absurd (read_or_not files job reach.0 text s reach.1.netlist there refused)
-overlong_clash files job file.Script e s reach long (params at again text there refused) = absurd (params_or_not files job text s reach.1.params there refused)
-overlong_clash files job file.Script e s reach long (mapping at n has none u) = absurd (mapped_or_not files job reach.0 n s reach.1 has u)
-overlong_clash files job file.Script e s reach long (script at n text passes there refused) = absurd (short_or_long files job file.Script text there long)
+overlong_clash files job file.Netlist e s settled reach long (mapping at n has none u) = absurd (netlist_short files job n has long)
+overlong_clash files job file.Netlist e s settled reach long (script at n text passes there refused) = absurd (netlist_short files job n passes.netlist long)
+overlong_clash files job file.Params e s settled reach long (netlist at text there refused) = absurd (read_or_not files job reach.0 text s settled reach.1 there refused)
+overlong_clash files job file.Params e s settled reach long (params at again text there refused) = absurd (short_or_long files job file.Params text there long)
+overlong_clash files job file.Params e s settled reach long (mapping at n has none u) = absurd (short_or_long files job file.Params none.text none.there long)
+overlong_clash files job file.Params e s settled reach long (script at n text passes there refused) = absurd (short_or_long files job file.Params passes.params.text passes.params.there long)
+overlong_clash files job file.Script e s settled reach long (netlist at text there refused) = absurd (read_or_not files job reach.0 text s settled reach.1.netlist there refused)
+overlong_clash files job file.Script e s settled reach long (params at again text there refused) = absurd (params_or_not files job text s reach.1.params there refused)
+overlong_clash files job file.Script e s settled reach long (mapping at n has none u) = absurd (mapped_or_not files job reach.0 n s settled reach.1 has u)
+overlong_clash files job file.Script e s settled reach long (script at n text passes there refused) = absurd (short_or_long files job file.Script text there long)
 
 -- A job is refused for one reason.
-pub refused_once : (files : Files) (job : JobWords) (f e : File) (r s : Refusal) → IsRefused files job f r → IsRefused files job e s → r ≡ s
-refused_once files job f e r s (overlong reach long is) other = is ∙ sym (overlong_clash files job f e s reach long other)
-refused_once files job f e r s one (overlong reach long is) = overlong_clash files job e f r reach long one ∙ sym is
-refused_once files job f e r s (netlist at text there refused) (netlist at2 text2 there2 refused2) =
-    netlist_refused_once text2 r s (subst (λ ts. NetlistRefusal ts r) (text_once files job file.Netlist text text2 there there2) refused) refused2
-refused_once files job f e r s (netlist at text there refused) (params at2 reach text2 there2 refused2) = absurd (read_or_not files job reach.0 text r reach.1 there refused)
-refused_once files job f e r s (netlist at text there refused) (mapping at2 n has none u) = absurd (read_or_not files job n text r has there refused)
-refused_once files job f e r s (netlist at text there refused) (script at2 n text2 passes there2 refused2) = absurd (read_or_not files job n text r passes.netlist there refused)
-refused_once files job f e r s (params at reach text there refused) (netlist at2 text2 there2 refused2) = absurd (read_or_not files job reach.0 text2 s reach.1 there2 refused2)
-refused_once files job f e r s (params at reach text there refused) (params at2 reach2 text2 there2 refused2) =
+pub refused_once : (files : Files) (job : JobWords) (f e : File) (r s : RefusalValue) → IsSettled files job → IsRefused files job f r → IsRefused files job e s → r ≡ s
+refused_once files job f e r s settled (overlong reach long is) other = is ∙ sym (overlong_clash files job f e s settled reach long other)
+refused_once files job f e r s settled one (overlong reach long is) = overlong_clash files job e f r settled reach long one ∙ sym is
+refused_once files job f e r s settled (netlist at text there refused) (netlist at2 text2 there2 refused2) =
+    (settled.netlist text2 there2).one_refusal r s (subst (λ ts. NetlistRefusal ts r) (text_once files job file.Netlist text text2 there there2) refused) refused2
+refused_once files job f e r s settled (netlist at text there refused) (params at2 reach text2 there2 refused2) = absurd (read_or_not files job reach.0 text r settled reach.1 there refused)
+refused_once files job f e r s settled (netlist at text there refused) (mapping at2 n has none u) = absurd (read_or_not files job n text r settled has there refused)
+refused_once files job f e r s settled (netlist at text there refused) (script at2 n text2 passes there2 refused2) = absurd (read_or_not files job n text r settled passes.netlist there refused)
+refused_once files job f e r s settled (params at reach text there refused) (netlist at2 text2 there2 refused2) = absurd (read_or_not files job reach.0 text2 s settled reach.1 there2 refused2)
+refused_once files job f e r s settled (params at reach text there refused) (params at2 reach2 text2 there2 refused2) =
     params_refused_once text2 r s (subst (λ ts. ParamsRefusal ts r) (text_once files job file.Params text text2 there there2) refused) refused2
-refused_once files job f e r s (params at reach text there refused) (mapping at2 n has none u) = absurd (params_or_not files job text r none there refused)
-refused_once files job f e r s (params at reach text there refused) (script at2 n text2 passes there2 refused2) = absurd (params_or_not files job text r passes.params there refused)
-refused_once files job f e r s (mapping at n has none u) (netlist at2 text2 there2 refused2) = absurd (read_or_not files job n text2 s has there2 refused2)
-refused_once files job f e r s (mapping at n has none u) (params at2 reach text there refused2) = absurd (params_or_not files job text s none there refused2)
-refused_once files job f e r s (mapping at n has none u) (mapping at2 m has2 none2 v) =
-    unmapped_once m job.k r s (subst (λ (x : NetlistValue). IsUnmapped x job.k r) (netlist_once files job n m has has2) u) v
-refused_once files job f e r s (mapping at n has none u) (script at2 m text passes there refused2) = absurd (mapped_or_not files job m n r passes has u)
-refused_once files job f e r s (script at n text passes there refused) (netlist at2 text2 there2 refused2) = absurd (read_or_not files job n text2 s passes.netlist there2 refused2)
-refused_once files job f e r s (script at n text passes there refused) (params at2 reach text2 there2 refused2) = absurd (params_or_not files job text2 s passes.params there2 refused2)
-refused_once files job f e r s (script at n text passes there refused) (mapping at2 m has none u) = absurd (mapped_or_not files job n m s passes has u)
-refused_once files job f e r s (script at n text passes there refused) (script at2 m text2 passes2 there2 refused2) =
+refused_once files job f e r s settled (params at reach text there refused) (mapping at2 n has none u) = absurd (params_or_not files job text r none there refused)
+refused_once files job f e r s settled (params at reach text there refused) (script at2 n text2 passes there2 refused2) = absurd (params_or_not files job text r passes.params there refused)
+refused_once files job f e r s settled (mapping at n has none u) (netlist at2 text2 there2 refused2) = absurd (read_or_not files job n text2 s settled has there2 refused2)
+refused_once files job f e r s settled (mapping at n has none u) (params at2 reach text there refused2) = absurd (params_or_not files job text s none there refused2)
+refused_once files job f e r s settled (mapping at n has none u) (mapping at2 m has2 none2 v) =
+    (settled.mapping m has2 none2).one_refusal r s (subst (λ (x : NetlistValue). IsUnmapped x job.k r) (netlist_once files job n m settled.netlist has has2) u) v
+refused_once files job f e r s settled (mapping at n has none u) (script at2 m text passes there refused2) = absurd (mapped_or_not files job m n r settled passes has u)
+refused_once files job f e r s settled (script at n text passes there refused) (netlist at2 text2 there2 refused2) = absurd (read_or_not files job n text2 s settled passes.netlist there2 refused2)
+refused_once files job f e r s settled (script at n text passes there refused) (params at2 reach text2 there2 refused2) = absurd (params_or_not files job text2 s passes.params there2 refused2)
+refused_once files job f e r s settled (script at n text passes there refused) (mapping at2 m has none u) = absurd (mapped_or_not files job n m s settled passes has u)
+refused_once files job f e r s settled (script at n text passes there refused) (script at2 m text2 passes2 there2 refused2) =
     let same : text ≡ text2 = text_once files job file.Script text text2 there there2 in
-    let one : n ≡ m = netlist_once files job n m passes.netlist passes2.netlist in
+    let one : n ≡ m = netlist_once files job n m settled.netlist passes.netlist passes2.netlist in
     script_refused_once (length m.inputs) text2 r s (subst (λ (i : NetlistValue). ScriptRefusal (length i.inputs) text2 r) one (subst (λ ts. ScriptRefusal (length n.inputs) ts r) same refused)) refused2
 
 -- So the refusal is answered where no read fails and memory suffices.
@@ -137,11 +100,14 @@ refused_answered words old new before after (outcome.ReadFault g) s e (inr run) 
 refused_answered words old new before after outcome.Done s e (inr run) files told job is f r refused read =
     let same : job ≡ run.job = same_Some job run.job (sym is ∙ run.is) in
     let has = (run.ends.1 files told).has in
-    absurd (accepted_not_refused files run.job has.job f r has.accepted (subst (λ j. IsRefused files j f r) same refused))
+    absurd (accepted_not_refused files run.job has.job f r has.settled has.accepted (subst (λ j. IsRefused files j f r) same refused))
 refused_answered words old new before after outcome.WriteFault s e (inr run) files told job is f r refused read =
     let same : job ≡ run.job = same_Some job run.job (sym is ∙ run.is) in
     let has = (run.ends.1 files told).has in
-    absurd (accepted_not_refused files run.job has.job f r has.accepted (subst (λ j. IsRefused files j f r) same refused))
+    absurd (accepted_not_refused files run.job has.job f r has.settled has.accepted (subst (λ j. IsRefused files j f r) same refused))
 refused_answered words old new before after (outcome.Refused g q) s e (inr run) files told job is f r refused read =
     let same : job ≡ run.job = same_Some job run.job (sym is ∙ run.is) in
-    inl (e ∙ ap (λ x. refusal_status x) (refused_once files run.job g f q r (run.ends.0.is files told) (subst (λ j. IsRefused files j f r) same refused)))
+    inl (e ∙ ap (λ x. refusal_status x) (refused_once files run.job g f q r (run.ends.0.settled files told) (run.ends.0.is files told) (subst (λ j. IsRefused files j f r) same refused)))
+refused_answered words old new before after (outcome.TooLong g) s e (inr run) files told job is f r refused read =
+    let same : job ≡ run.job = same_Some job run.job (sym is ∙ run.is) in
+    inl (e ∙ ap (λ x. refusal_status x) (refused_once files run.job g f too_long r (run.ends.0.settled files told) (run.ends.0.is files told) (subst (λ j. IsRefused files j f r) same refused)))

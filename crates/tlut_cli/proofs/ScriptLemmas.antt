@@ -3,7 +3,7 @@ use Rattle.std.proofs.Common.{◌≡◌, ℕ, ◌+◌, ◌<◌, Bool, true, fals
 use Rattle.std.proofs.lemmas.List.{drop_more}
 use Rattle.std.proofs.lemmas.Option.{none-some, same_Some}
 use Rattle.std.proofs.lemmas.Bool.{eqb-true}
-use Rattle.list_words.specs.Members.{In}
+use Rattle.list_laws.specs.Members.{In}
 use Rattle.tl_text.specs.LineValue.{LineValue, WordsLine, words_line}
 use Rattle.tlut_cli.specs.Script.{bit_of, put_bit, bits_of, vector_of, cycle_of, put_vector, vectors_of}
 use Rattle.tlut_cli.proofs.ListLemmas.{then_none}

@@ -2,10 +2,10 @@
 use Rattle.std.proofs.Common.{◌≡◌, ℕ, ◌<◌, ◌≤◌, List, [], ◌∷◌, ◌++◌, length, Some, inl, inr, ap, subst, arith}
 use Rattle.std.specs.List.{slice_get}
 use Rattle.std.proofs.lemmas.Option.{same_Some, none-some}
-use Rattle.list_words.specs.Members.{In}
+use Rattle.list_laws.specs.Members.{In}
 use Rattle.blif_read.specs.LibraryValue.{ModelValue, LibraryValue}
 use Rattle.blif_read.specs.Size.{names_size, model_size, models_size, library_size}
-use Rattle.blif_read.proofs.OnceLemmas.{In-append}
+use Rattle.list_laws.proofs.Members.{In-append}
 
 few_models : (models : List ModelValue) → length models ≤ models_size models
 few_models [] = omega arith

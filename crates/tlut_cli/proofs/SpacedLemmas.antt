@@ -1,7 +1,7 @@
 -- Names that are put one after another, each after a blank.
 use Rattle.std.proofs.Common.{◌≡◌, ℕ, zero, suc, ◌+◌, ◌<◌, List, [], ◌∷◌, ◌++◌, length, take, drop, get_or, codes, ap, sym, ◌∙◌, arith, append_assoc, append-nil, add-one}
 use Rattle.std.specs.List.{concat}
-use Rattle.tlut_cli.specs.FaultLine.{spaced}
+use Rattle.tl_fault.specs.Refusals.{spaced}
 
 -- one name after its blank, as it is put
 abbrev pub blank_and : List ℕ → List ℕ

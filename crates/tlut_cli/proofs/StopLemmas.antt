@@ -1,51 +1,62 @@
 -- What a stop at a text says: the text's refusal.
-use Rattle.std.proofs.Common.{◌≡◌, ℕ, ◌≤◌, List, [], ◌∷◌, length, get_or, map, Ok, ap, arith}
-use Rattle.tl_text.specs.LineValue.{LineValue, words_line}
+use Rattle.std.proofs.Common.{◌≡◌, ℕ, ◌≤◌, List, [], ◌∷◌, length, get_or, Option, Some, Result, Ok, Err, sym, ap, subst, arith}
+use Rattle.std.specs.Prelude.{IsErrAnd, IfOk, IfErr, MatchResult}
+use Rattle.tl_fault.specs.RefusalValue.{RefusalValue}
+use Rattle.tl_fault.specs.OrMemory.{OrMemory}
+use Rattle.tlut_cli.proofs.RefusedErrors.{or_memory}
+use Rattle.tl_text.specs.LineValue.{LineValue}
 use Rattle.tl_text.specs.Lines.{lines_of}
-use Rattle.tl_text.specs.TextFault.{IsTextFault}
-use Rattle.tl_text.specs.declared.text_err.TextErr.{TextErr}
-use Rattle.blif_read.specs.declared.blif_err.BlifErr.{BlifErr}
-use Rattle.blif_read.specs.LibraryValue.{LibraryValue}
-use Rattle.blif_read.specs.Denotes.{Denotes}
-use Rattle.blif_read.specs.ReadFault.{read_fault, IsFault}
-use Rattle.blif_flat.specs.declared.flat_err.FlatErr.{FlatErr}
-use Rattle.blif_flat.specs.Answers.{Refuses}
-use Rattle.blif_flat.specs.Faults as faults
-use Rattle.tlut_cli.specs.declared.outcome.Refusal.TheVariants.{Unbuilt}
 use Rattle.tlut_cli.specs.declared.stop.Stop.{Stop}
 use Rattle.tlut_cli.specs.declared.stop.Stop.TheVariants.{Refused, Memory}
-use Rattle.tlut_cli.specs.Built.{netlist_of}
-use Rattle.tlut_cli.specs.Script.{vectors_of}
-use Rattle.tlut_cli.specs.Texts.{text_refusal, blif_refusal, flat_refusal, IsFlattened}
+use Rattle.tlut_cli.specs.Refusals as own
+use Rattle.tlut_cli.specs.Texts.{ParamsRefusal}
 use Rattle.tlut_cli.specs.Texts as texts
-use Rattle.tlut_cli.specs.StopIs.{StopIs}
-use Rattle.tlut_cli.specs.Stops.{StopsNetlist, StopsParams, StopsScript, StopsAt}
-use Rattle.tlut_cli.proofs.TextLemmas.{text_fault_is, blif_fault_is, flat_fault_is}
+use Rattle.tlut_cli.specs.Stops.{refusal_of, Stops}
 
-pub netlist_fault : (text : List ℕ) (e : BlifErr) (s : Stop) → IsFault e (read_fault text) → StopIs (blif_refusal e) s → StopsNetlist text s
-netlist_fault text e (Refused r) f is = texts.NetlistRefusal.fault e (blif_fault_is e r (read_fault text) f is) is
-netlist_fault text e Memory f is = tt
+-- a stop that tells what a layer's error tells
+pub stop_by : {E : Type 0} (told_of : E → Option RefusalValue) (P : E → Type 0) (Q : RefusalValue → Type 0) (e : E) (s : Stop) → OrMemory told_of P e → refusal_of s ≡ told_of e
+    → ((r : RefusalValue) → told_of e ≡ Some r → P e → Q r) → Stops Q s
+stop_by told_of P Q e (Refused r) said is h = h r (sym is) (or_memory told_of P e r said (sym is))
+stop_by told_of P Q e Memory said is h = tt
 
-pub netlist_unsound : (text : List ℕ) (library : LibraryValue) (e : FlatErr) (s : Stop) → Denotes text library → Refuses e (faults.IsFault library) → StopIs (flat_refusal e) s → StopsNetlist text s
-netlist_unsound text library e (Refused r) d f is = texts.NetlistRefusal.unsound library e d (flat_fault_is e r (faults.IsFault library) f is) is
-netlist_unsound text library e Memory d f is = tt
+-- the same of the answer that a `?` makes of it
+pub passed_stop : {T E : Type 0} (told_of : E → Option RefusalValue) (P : E → Type 0) (Q : RefusalValue → Type 0) (r : Result T Stop) (e : E) → OrMemory told_of P e → IsErrAnd r (λ s. refusal_of s ≡ told_of e)
+    → ((told : RefusalValue) → told_of e ≡ Some told → P e → Q told) → IfErr r (Stops Q)
+passed_stop told_of P Q (Ok x) e said is h = tt
+passed_stop told_of P Q (Err s) e said is h = stop_by told_of P Q e s said is h
 
-pub netlist_unbuilt : (text : List ℕ) (library : LibraryValue) (s : Stop) → Denotes text library → IsFlattened library → StopsAt (netlist_of library) s → StopsNetlist text s
-netlist_unbuilt text library (Refused r) d flat at = texts.NetlistRefusal.unbuilt library at.0 d flat at.1 at.2
-netlist_unbuilt text library Memory d flat at = tt
+pub passed_settled : {T E : Type 0} (told_of : E → Option RefusalValue) (P : E → Type 0) (Q : Type 0) (r : Result T Stop) (e : E) → OrMemory told_of P e → IsErrAnd r (λ s. refusal_of s ≡ told_of e)
+    → ((told : RefusalValue) → told_of e ≡ Some told → P e → Q) → MatchResult r (λ _. Q) (Stops (λ _. Q))
+passed_settled told_of P Q (Ok x) e said is h = absurd is
+passed_settled told_of P Q (Err s) e said is h = stop_by told_of P (λ _. Q) e s said is h
 
-pub params_fault : (text : List ℕ) (e : TextErr) (s : Stop) → IsTextFault e (lines_of text) → StopIs (text_refusal e) s → StopsParams text s
-params_fault text e (Refused r) f is = texts.ParamsRefusal.fault e (text_fault_is e r (lines_of text) f is) is
-params_fault text e Memory f is = tt
+-- what holds anyway
+pub settled_anyway : {T : Type 0} {Q : Type 0} (r : Result T Stop) → Q → MatchResult r (λ _. Q) (Stops (λ _. Q))
+settled_anyway (Ok x) q = q
+settled_anyway (Err (Refused r)) q = q
+settled_anyway (Err Memory) q = tt
 
-pub script_fault : (width : ℕ) (text : List ℕ) (e : TextErr) (s : Stop) → IsTextFault e (lines_of text) → StopIs (text_refusal e) s → StopsScript width text s
-script_fault width text e (Refused r) f is = texts.ScriptRefusal.fault e (text_fault_is e r (lines_of text) f is) is
-script_fault width text e Memory f is = tt
+-- what follows from an answer
+pub ok_to : {T E : Type 0} (P Q : T → Type 0) (r : Result T E) → ((v : T) → P v → Q v) → IfOk r P → IfOk r Q
+ok_to P Q (Ok v) h p = h v p
+ok_to P Q (Err e) h p = tt
 
-pub script_unbuilt : (width : ℕ) (text : List ℕ) (lines : List LineValue) (s : Stop) → lines_of text ≡ Ok lines → StopsAt (vectors_of width (map (words_line text) lines)) s → StopsScript width text s
-script_unbuilt width text lines (Refused r) is at = texts.ScriptRefusal.unbuilt lines at.0 is at.1 at.2
-script_unbuilt width text lines Memory is at = tt
+pub stops_to : {T : Type 0} (P Q : RefusalValue → Type 0) (r : Result T Stop) → ((told : RefusalValue) → P told → Q told) → IfErr r (Stops P) → IfErr r (Stops Q)
+stops_to P Q (Ok v) h p = tt
+stops_to P Q (Err (Refused told)) h p = h told p
+stops_to P Q (Err Memory) h p = tt
 
-pub params_unbuilt : (text : List ℕ) (lines : List LineValue) (line d : LineValue) → lines_of text ≡ Ok lines → 1 ≤ length lines → line ≡ get_or lines 0 d → texts.ParamsRefusal text (Unbuilt line.number)
+-- the same of the stop that a `?` passes on
+pub passed_stops : {T : Type 0} (P Q : RefusalValue → Type 0) (r : Result T Stop) (e : Stop) → IsErrAnd r (λ s. s ≡ e) → ((told : RefusalValue) → P told → Q told) → Stops P e → IfErr r (Stops Q)
+passed_stops P Q (Ok v) e is h p = tt
+passed_stops P Q (Err s) (Refused told) is h p = subst (λ x. Stops Q x) (sym is) (h told p)
+passed_stops P Q (Err s) Memory is h p = subst (λ x. Stops Q x) (sym is) tt
+
+pub passed_anyway : {T : Type 0} (P Q : Type 0) (r : Result T Stop) (e : Stop) → IsErrAnd r (λ s. s ≡ e) → (P → Q) → Stops (λ _. P) e → MatchResult r (λ _. Q) (Stops (λ _. Q))
+passed_anyway P Q (Ok v) e is h p = absurd is
+passed_anyway P Q (Err s) (Refused told) is h p = subst (λ x. Stops (λ _. Q) x) (sym is) (h p)
+passed_anyway P Q (Err s) Memory is h p = subst (λ x. Stops (λ _. Q) x) (sym is) tt
+
+pub params_unbuilt : (text : List ℕ) (lines : List LineValue) (line d : LineValue) → lines_of text ≡ Ok lines → 1 ≤ length lines → line ≡ get_or lines 0 d → ParamsRefusal text (own.unbuilt line.number)
 params_unbuilt text [] line d is some e = absurd (omega arith)
-params_unbuilt text (first ∷ lines) line d is some e = texts.ParamsRefusal.unbuilt first lines is (ap (λ (l : LineValue). Unbuilt l.number) e)
+params_unbuilt text (first ∷ lines) line d is some e = texts.ParamsRefusal.unbuilt first lines is (ap (λ (l : LineValue). own.unbuilt l.number) e)

@@ -7,7 +7,7 @@ use Rattle.tlut_cli.specs.Verdict.{Job, IsAccepted, IsRefused, Reaches}
 use Rattle.tlut_cli.specs.Ends.{Told, Ends, IsDone, IsCutOff, IsReadFault}
 use Rattle.tlut_cli.specs.Statuses.{refusal_status}
 use Rattle.tlut_cli.specs.declared.outcome.File.{File}
-use Rattle.tlut_cli.specs.declared.outcome.Refusal.{Refusal}
+use Rattle.tl_fault.specs.RefusalValue.{RefusalValue}
 use Rattle.tlut_cli.specs.declared.outcome.Outcome.{Outcome}
 use Rattle.tlut_cli.specs.declared.outcome.Outcome.TheVariants as outcome
 use Rattle.tlut_cli.specs.declared.status.Status.{Status}
@@ -21,16 +21,17 @@ pub record IsUsage (words : List (List ℕ)) (old new : ShelfSeen) (before after
   pub out : after ≡ before
 
 -- the words are a job, and the outcome says how it ended
-pub record IsRun (words : List (List ℕ)) (old new : ShelfSeen) (before after : Option (List ℕ)) (o : Outcome) : Type 0 where
+pub record IsJobEnd (words : List (List ℕ)) (old new : ShelfSeen) (before after : Option (List ℕ)) (o : Outcome) : Type 0 where
   pub job : JobWords
   pub is : job_of words ≡ Some job
   pub ends : Ends job old new before after o
 
 abbrev pub IsEnd : List (List ℕ) → ShelfSeen → ShelfSeen → Option (List ℕ) → Option (List ℕ) → Outcome → Type 0
-IsEnd words old new before after o = IsUsage words old new before after o ⊎ IsRun words old new before after o
+IsEnd words old new before after o = IsUsage words old new before after o ⊎ IsJobEnd words old new before after o
 
 -- the file that a fault line tells
 abbrev pub fault_file : Outcome → Option File
+fault_file (outcome.TooLong file) = Some file
 fault_file (outcome.Refused file refusal) = Some file
 fault_file (outcome.ReadFault file) = Some file
 fault_file outcome.Done = None
@@ -53,7 +54,7 @@ pub record HasRefusal (files : Files) (words : List (List ℕ)) (s : Status) : T
   pub job : JobWords
   pub is : job_of words ≡ Some job
   pub file : File
-  pub refusal : Refusal
+  pub refusal : RefusalValue
   pub refused : IsRefused files job file refusal
   pub status_is : s ≡ refusal_status refusal
 
@@ -101,7 +102,7 @@ IsQuiet status.PortFault = ⊥
 
 -- where the files hold a refusal of the job and no read failed, its status is the answer, but for want of memory
 abbrev pub IsAnswered : List (List ℕ) → ShelfSeen → ShelfSeen → Status → Type 0
-IsAnswered words old new s = Told old.files (λ files. (job : JobWords) → job_of words ≡ Some job → (file : File) (refusal : Refusal) → IsRefused files job file refusal
+IsAnswered words old new s = Told old.files (λ files. (job : JobWords) → job_of words ≡ Some job → (file : File) (refusal : RefusalValue) → IsRefused files job file refusal
     → ¬ (Rose old.read_faults new.read_faults) → (s ≡ refusal_status refusal) ⊎ (s ≡ status.Memory))
 
 -- where moreover the output grew by a byte, an accepted job is done

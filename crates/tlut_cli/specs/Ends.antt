@@ -1,13 +1,15 @@
 -- How a job ends: what each outcome says, and its cause.
 use Rattle.std.specs.Prelude.{◌≡◌, ℕ, ◌<◌, ◌≤◌, take, List, Option, Some}
+use Rattle.tl_text.specs.declared.logical_lines.TheConstants.{MOST_BYTES}
 use Rattle.tl_io.specs.Causes.{Rose}
 use Rattle.tl_io.specs.Shelf.{Files, ShelfSeen}
 use Rattle.tlut_cli.specs.Words.{JobWords, file_word}
 use Rattle.tlut_cli.specs.Verdict.{Job, IsAccepted, IsRefused, Reaches}
+use Rattle.tlut_cli.specs.Settled.{IsSettled}
 use Rattle.tlut_cli.specs.JobText.{AreLines, GrewByAll, GrewByPart}
 use Rattle.tlut_cli.specs.declared.outcome.File.{File}
-use Rattle.tlut_cli.specs.declared.outcome.Refusal.{Refusal}
-use Rattle.tlut_cli.specs.declared.outcome.Refusal.TheVariants.{TooLong}
+use Rattle.tl_fault.specs.RefusalValue.{RefusalValue}
+use Rattle.tlut_cli.specs.Refusals.{too_long}
 use Rattle.tlut_cli.specs.declared.outcome.Outcome.{Outcome}
 use Rattle.tlut_cli.specs.declared.outcome.Outcome.TheVariants as outcome
 
@@ -21,24 +23,27 @@ pub record IsReadFault (old new : ShelfSeen) (name : List ℕ) : Type 0 where
 abbrev pub Told : Option Files → (Files → Type 0) → Type 0
 Told told P = (files : Files) → told ≡ Some files → P files
 
--- how many bytes of the file were given: more than the limit exactly where it is too long
-abbrev pub GivenAt : Refusal → ℕ → Type 0
-GivenAt TooLong given = 67108864 < given
-GivenAt other given = given ≤ 67108864
+-- a file is too long: more bytes of it were given than the limit
+pub record IsTooLongAt (job : JobWords) (old new : ShelfSeen) (file : File) : Type 0 where
+  pub given : MOST_BYTES < new.given
+  pub is : Told old.files (λ files. IsRefused files job file too_long)
+  pub settled : Told old.files (λ files. IsSettled files job)
 
--- a file is refused
-pub record IsRefusedAt (job : JobWords) (old new : ShelfSeen) (file : File) (refusal : Refusal) : Type 0 where
-  pub given : GivenAt refusal new.given
+-- a file is refused for what it says
+pub record IsRefusedAt (job : JobWords) (old new : ShelfSeen) (file : File) (refusal : RefusalValue) : Type 0 where
+  pub given : new.given ≤ MOST_BYTES
   pub is : Told old.files (λ files. IsRefused files job file refusal)
+  pub settled : Told old.files (λ files. IsSettled files job)
 
 -- a file could not be read
 pub record IsFaultAt (job : JobWords) (old new : ShelfSeen) (file : File) : Type 0 where
-  pub given : new.given ≤ 67108864
+  pub given : new.given ≤ MOST_BYTES
   pub fault : IsReadFault old new (file_word job file)
   pub reached : Told old.files (λ files. Reaches files job file)
 
 -- why a job was not begun
 abbrev pub Explains : JobWords → ShelfSeen → ShelfSeen → Outcome → Type 0
+Explains job old new (outcome.TooLong file) = IsTooLongAt job old new file
 Explains job old new (outcome.Refused file refusal) = IsRefusedAt job old new file refusal
 Explains job old new (outcome.ReadFault file) = IsFaultAt job old new file
 Explains job old new outcome.Memory = Unit {0}
@@ -51,6 +56,7 @@ Explains job old new outcome.PortFault = ⊥
 pub record HasLines (files : Files) (words : JobWords) (lines : List (List ℕ)) : Type 0 where
   pub job : Job
   pub accepted : IsAccepted files words job
+  pub settled : IsSettled files words
   pub are : AreLines job lines
 
 pub record IsDone (files : Files) (words : JobWords) (old new : Option (List ℕ)) : Type 0 where
@@ -65,8 +71,9 @@ pub record IsCutOff (files : Files) (words : JobWords) (old new : Option (List �
 
 -- what an outcome says of the shelf and of the bytes of the output
 abbrev pub Ends : JobWords → ShelfSeen → ShelfSeen → Option (List ℕ) → Option (List ℕ) → Outcome → Type 0
-Ends job old new before after outcome.Done = (new.given ≤ 67108864) × Told old.files (λ files. IsDone files job before after)
-Ends job old new before after outcome.WriteFault = (new.given ≤ 67108864) × Told old.files (λ files. IsCutOff files job before after)
+Ends job old new before after outcome.Done = (new.given ≤ MOST_BYTES) × Told old.files (λ files. IsDone files job before after)
+Ends job old new before after outcome.WriteFault = (new.given ≤ MOST_BYTES) × Told old.files (λ files. IsCutOff files job before after)
+Ends job old new before after (outcome.TooLong file) = IsTooLongAt job old new file × (after ≡ before)
 Ends job old new before after (outcome.Refused file refusal) = IsRefusedAt job old new file refusal × (after ≡ before)
 Ends job old new before after (outcome.ReadFault file) = IsFaultAt job old new file × (after ≡ before)
 Ends job old new before after outcome.Memory = after ≡ before

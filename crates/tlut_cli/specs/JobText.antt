@@ -3,13 +3,13 @@ use Rattle.std.specs.Prelude.{◌≡◌, ℕ, ◌<◌, Bool, List, [], ◌∷◌
 use Rattle.std.specs.List.{concat}
 use Rattle.tl_io.specs.Content.{extended}
 use Rattle.run_text.specs.Lines.{header_line, cycle_line}
-use Rattle.tlut_cli.specs.Netlist.{NetlistValue, IsCycle}
+use Rattle.tlut_cli.specs.Netlist.{NetlistValue, IsNetlistCycle}
 use Rattle.tlut_cli.specs.Verdict.{Job}
 
 -- the lines of some cycles: each shows the outputs of the source circuit, and that there are no states
 pub data AreCycles (n : NetlistValue) : List (List Bool) → List (List ℕ) → Type 0 where
   none : AreCycles n [] []
-  more : {inputs outputs : List Bool} {vectors : List (List Bool)} {lines : List (List ℕ)} → IsCycle n inputs outputs → AreCycles n vectors lines
+  more : {inputs outputs : List Bool} {vectors : List (List Bool)} {lines : List (List ℕ)} → IsNetlistCycle n inputs outputs → AreCycles n vectors lines
       → AreCycles n (inputs ∷ vectors) (cycle_line outputs [] ∷ lines)
 
 -- the lines of a job

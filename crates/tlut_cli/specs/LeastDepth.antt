@@ -2,14 +2,13 @@
 use Rattle.std.specs.Prelude.{◌≡◌, ℕ, ◌≤◌, List, ◌++◌, length, Option, Some}
 use Rattle.tl_io.specs.Shelf.{Files}
 use Rattle.tl_io.specs.Content.{extended}
-use Rattle.list_words.specs.Members.{In}
+use Rattle.list_laws.specs.Members.{In}
 use Rattle.aig_core.specs.Aig.{Aig}
 use Rattle.aig_core.specs.Roots.{roots_of}
 use Rattle.cut_enum.specs.Cuts.{CanBeLeaf}
-use Rattle.cut_enum.specs.Covers.{IsCover}
+use Rattle.cut_enum.specs.Covers.{IsLeastDepth}
 use Rattle.cover_pick.specs.declared.lut.Lut.{Lut}
 use Rattle.cover_pick.specs.Mapping.{IsMapping}
-use Rattle.cover_pick.specs.RootDepth.{RootsWithin}
 use Rattle.run_text.specs.Lines.{header_line}
 use Rattle.tlut_cli.specs.Netlist.{NetlistValue}
 use Rattle.tlut_cli.specs.NetlistGraph.{graph_of, netlist_roots}
@@ -25,13 +24,6 @@ pub record IsNetlistOf (files : Files) (words : List (List ℕ)) (job : JobWords
 pub record HasHeader (before after : Option (List ℕ)) (luts bits depth : ℕ) : Type 0 where
   pub rest : List ℕ
   pub grew : after ≡ extended before (header_line luts bits depth ++ rest)
-
--- some cover of a graph has this depth, and no cover of it, whatever its cuts, is less deep
-pub record IsLeastDepth (g : Aig) (k : ℕ) (roots : List ℕ) (depth : ℕ) : Type 0 where
-  pub cover : ℕ → Option (List ℕ)
-  pub is : IsCover g k roots cover
-  pub within : RootsWithin g cover roots depth
-  pub least : (other : ℕ → Option (List ℕ)) (d : ℕ) → IsCover g k roots other → RootsWithin g other roots d → depth ≤ d
 
 -- the header has the least depth over all covers of the netlist's graph
 pub record HasLeastDepth (files : Files) (words : List (List ℕ)) (before after : Option (List ℕ)) : Type 0 where

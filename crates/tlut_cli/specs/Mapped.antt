@@ -1,18 +1,22 @@
 -- The template of a graph, and what a graph is refused for.
-use Rattle.std.specs.Prelude.{◌≡◌, ℕ, ◌^◌, ◌<◌, ◌≤◌, List, length}
+use Rattle.std.specs.Prelude.{◌≡◌, ℕ, ◌<◌, ◌≤◌, List, length, Some}
+use Rattle.aig_build.specs.declared.TheConstants.{MOST_NODES}
 use Rattle.aig_core.specs.Aig.{Aig, node_count}
 use Rattle.aig_core.specs.Roots.{RootsValue, roots_of}
 use Rattle.cut_enum.specs.Table.{AreRows}
 use Rattle.cut_enum.specs.Limits.{IsLimit}
-use Rattle.cut_enum.specs.declared.table.CutErr.TheVariants as cut_limit
+use Rattle.cut_enum.specs.Refusals.{refusal_of as cut_refusal}
+use Rattle.cut_enum.specs.declared.table.CutErr.{CutErr}
 use Rattle.depth_label.specs.Label.{LabelsValue, AreLabelled, label_of}
 use Rattle.cover_pick.specs.Template.{TemplateValue, IsTemplate, IsTooMuch}
 use Rattle.cover_pick.specs.Mapping.{IsMapping, IsLeast}
-use Rattle.cover_pick.specs.Work.{work_of}
+use Rattle.cover_pick.specs.Work.{IsLight}
+use Rattle.cover_pick.specs.Refusals.{refusal_of as pick_refusal}
+use Rattle.cover_pick.specs.declared.lut.PickErr.TheVariants.{Work}
+use Rattle.tl_fault.specs.RefusalValue.{RefusalValue}
 use Rattle.tlut_cli.specs.Netlist.{NetlistValue}
 use Rattle.tlut_cli.specs.NetlistGraph.{graph_of, netlist_roots}
-use Rattle.tlut_cli.specs.declared.outcome.Refusal.{Refusal}
-use Rattle.tlut_cli.specs.declared.outcome.Refusal.TheVariants.{TooManyNodes, NodeCuts, TotalCuts, Work}
+use Rattle.tlut_cli.specs.Refusals.{too_many_nodes}
 
 -- the minimal cuts of all nodes of a graph and their labels, within the limits
 pub record IsLabelled (g : Aig) (k : ℕ) (rows : List (List (List ℕ))) (labels : LabelsValue) : Type 0 where
@@ -27,8 +31,7 @@ pub record IsChosen (g : Aig) (k : ℕ) (roots : RootsValue) (t : TemplateValue)
   pub chosen : IsTemplate g rows (label_of labels) roots t
   pub mapping : IsMapping g k (roots_of roots) t.luts t.bits
   pub least : IsLeast g k (roots_of roots) t.luts t.depth
-  -- the work of its tables is within the limit
-  pub light : work_of g t.luts ≤ 2 ^ 25
+  pub light : IsLight g t.luts
 
 -- the work of the chosen tables is too much
 pub record IsOverworked (g : Aig) (k : ℕ) (roots : RootsValue) : Type 0 where
@@ -37,19 +40,17 @@ pub record IsOverworked (g : Aig) (k : ℕ) (roots : RootsValue) : Type 0 where
   pub labelled : IsLabelled g k rows labels
   pub too_much : IsTooMuch g rows (label_of labels) (roots_of roots)
 
--- what a graph is refused for when it is mapped
-abbrev pub IsUnchosen : Aig → ℕ → RootsValue → Refusal → Type 0
-IsUnchosen g k roots (NodeCuts node) = IsLimit g k (cut_limit.NodeCuts node)
-IsUnchosen g k roots (TotalCuts node) = IsLimit g k (cut_limit.TotalCuts node)
-IsUnchosen g k roots Work = IsOverworked g k roots
-IsUnchosen g k roots other = ⊥
+-- what a graph is refused for when it is mapped: too many cuts, else too much work
+pub data IsUnchosen (g : Aig) (k : ℕ) (roots : RootsValue) (refusal : RefusalValue) : Type 0 where
+  cuts : (e : CutErr) → IsLimit g k e → cut_refusal e ≡ Some refusal → IsUnchosen g k roots refusal
+  work : IsOverworked g k roots → pick_refusal Work ≡ Some refusal → IsUnchosen g k roots refusal
 
--- the chosen template of a netlist: its graph has at most 131,072 AND nodes
+-- the chosen template of a netlist: its graph has no more AND nodes than it may
 pub record IsMapped (n : NetlistValue) (k : ℕ) (t : TemplateValue) : Type 0 where
-  pub nodes : length (graph_of n).pairs ≤ 131072
+  pub nodes : length (graph_of n).pairs ≤ MOST_NODES
   pub chosen : IsChosen (graph_of n) k (netlist_roots n) t
 
 -- what a netlist is refused for when it is mapped: too many AND nodes, else what its graph is refused for
-pub data IsUnmapped (n : NetlistValue) (k : ℕ) (refusal : Refusal) : Type 0 where
-  too_many : 131072 < length (graph_of n).pairs → refusal ≡ TooManyNodes → IsUnmapped n k refusal
-  unchosen : length (graph_of n).pairs ≤ 131072 → IsUnchosen (graph_of n) k (netlist_roots n) refusal → IsUnmapped n k refusal
+pub data IsUnmapped (n : NetlistValue) (k : ℕ) (refusal : RefusalValue) : Type 0 where
+  too_many : MOST_NODES < length (graph_of n).pairs → refusal ≡ too_many_nodes → IsUnmapped n k refusal
+  unchosen : length (graph_of n).pairs ≤ MOST_NODES → IsUnchosen (graph_of n) k (netlist_roots n) refusal → IsUnmapped n k refusal

@@ -1,7 +1,8 @@
 -- The graph of a netlist: its inputs as regular sources, and its cover where an output reads it.
 use Rattle.std.specs.Prelude.{◌≡◌, ℕ, ◌+◌, ◌*◌, ◌<◌, Bool, not, IsTrue, if◌then◌else◌, List, [], length, map, replicate, Option, Some, None, is_some, unwrap_or, slice_get}
+use Rattle.tl_text.specs.declared.logical_lines.TheConstants.{MOST_BYTES}
 use Rattle.std.specs.List.{list_any}
-use Rattle.list_words.specs.Members.{In}
+use Rattle.list_laws.specs.Members.{In}
 use Rattle.tl_text.specs.NameIndex.{place_of}
 use Rattle.blif_read.specs.CoverValue.{CoverValue, RowValue}
 use Rattle.aig_core.specs.declared.lit.Kind.TheVariants.{Regular}
@@ -9,13 +10,14 @@ use Rattle.aig_core.specs.declared.lit.Lit.{Lit}
 use Rattle.aig_core.specs.Aig.{Aig}
 use Rattle.aig_core.specs.And.{Answer, with_pairs}
 use Rattle.aig_core.specs.Roots.{RootsValue}
+use Rattle.aig_build.specs.declared.TheConstants.{MOST_NODES}
 use Rattle.aig_build.specs.CoverGraph.{cover_of}
 use Rattle.tlut_cli.specs.Netlist.{NetlistValue}
 use Rattle.tlut_cli.specs.Built.{is_driven}
 
 -- the sources alone
 abbrev pub sources_of : NetlistValue → Aig
-sources_of n = record { kinds = replicate (length n.inputs) Regular; pairs = []; max = 131072 }
+sources_of n = record { kinds = replicate (length n.inputs) Regular; pairs = []; max = MOST_NODES }
 
 -- the place of an input, and its positive literal
 abbrev pub input_place : List (List ℕ) → List ℕ → ℕ
@@ -58,7 +60,7 @@ pub record IsCoverOver (inputs : List (List ℕ)) (c : CoverValue) : Type 0 wher
 
 -- what every netlist that a text denotes keeps
 pub record IsWellFormed (n : NetlistValue) : Type 0 where
-  pub few : length n.inputs < 2 * 67108864
+  pub few : length n.inputs < 2 * MOST_BYTES
   pub distinct : (i : ℕ) (name : List ℕ) → slice_get n.inputs i ≡ Some name → place_of n.inputs name ≡ Some i
   pub cover : (c : CoverValue) → n.cover ≡ Some c → IsCoverOver n.inputs c
   pub driven : (name : List ℕ) → In n.outputs name → IsTrue (is_driven n name)

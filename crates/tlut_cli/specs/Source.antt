@@ -9,10 +9,10 @@ use Rattle.cover_pick.specs.Template.{TemplateValue}
 use Rattle.cover_pick.specs.Mapping.{IsMapping}
 use Rattle.lut_sim.specs.declared.shape.Shape.{Shape}
 use Rattle.lut_sim.specs.Sim.{SimValue}
-use Rattle.lut_sim.specs.Cycle.{IsOnlyCycle}
+use Rattle.lut_sim.specs.Cycle.{IsOnlyTableCycle}
 use Rattle.run_text.specs.Lines.{cycle_line}
 use Rattle.tlut_cli.specs.Netlist.{NetlistValue}
-use Rattle.tlut_cli.specs.NetlistGraph.{input_place, input_literal, sources_of, reads_cover, graph_of, netlist_roots}
+use Rattle.tlut_cli.specs.NetlistGraph.{input_place, input_literal, reads_cover, graph_of, netlist_roots}
 
 -- the value of an input
 abbrev pub input_value : List (List ℕ) → List Bool → List ℕ → Bool
@@ -39,14 +39,14 @@ source_line n x = cycle_line (source_outputs n x) []
 
 -- where an output reads the cover, the literal of the graph has its value
 pub record HasCover (n : NetlistValue) (g : Aig) (lit : ℕ) : Type 0 where
-  pub value : (c : CoverValue) → reads_cover n ≡ true → n.cover ≡ Some c → HasCoverValue (sources_of n) c (map (input_literal n.inputs) c.inputs) g lit
+  pub value : (c : CoverValue) → reads_cover n ≡ true → n.cover ≡ Some c → HasCoverValue g c (map (input_literal n.inputs) c.inputs) lit
 
 -- a circuit shows the source circuit's outputs, whatever cycle is played on it
 pub record PlaysSource (n : NetlistValue) (sim : SimValue) (config : List Bool) : Type 0 where
   pub config_len : length config ≡ sim.template.bits
   pub width : sim.shape.regular ≡ length n.inputs
   pub no_states : sim.states ≡ []
-  pub plays : (x outputs next : List Bool) → length x ≡ length n.inputs → IsOnlyCycle sim.template sim.shape config x [] outputs next → (outputs ≡ source_outputs n x) × (next ≡ [])
+  pub plays : (x outputs next : List Bool) → length x ≡ length n.inputs → IsOnlyTableCycle sim.template sim.shape config x [] outputs next → (outputs ≡ source_outputs n x) × (next ≡ [])
 
 -- the shape of a netlist's sources: inputs alone
 abbrev pub shape_of : NetlistValue → Shape

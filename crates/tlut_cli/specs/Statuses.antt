@@ -1,24 +1,19 @@
 -- The status of each outcome, and the number of each status.
-use Rattle.std.specs.Prelude.{ℕ}
+use Rattle.std.specs.Prelude.{ℕ, if◌then◌else◌}
+use Rattle.tl_fault.specs.RefusalValue.{RefusalValue}
+use Rattle.tl_fault.specs.Refusals.{is_limit}
 use Rattle.tlut_cli.specs.declared.status.Status.{Status}
 use Rattle.tlut_cli.specs.declared.status.Status.TheVariants as status
-use Rattle.tlut_cli.specs.declared.outcome.Refusal.{Refusal}
-use Rattle.tlut_cli.specs.declared.outcome.Refusal.TheVariants.{TooLong, TooLarge, TooManyNodes, NodeCuts, TotalCuts, Work}
 use Rattle.tlut_cli.specs.declared.outcome.Outcome.{Outcome}
 use Rattle.tlut_cli.specs.declared.outcome.Outcome.TheVariants as outcome
 
-abbrev pub refusal_status : Refusal → Status
-refusal_status TooLong = status.Limit
-refusal_status TooLarge = status.Limit
-refusal_status TooManyNodes = status.Limit
-refusal_status (NodeCuts node) = status.Limit
-refusal_status (TotalCuts node) = status.Limit
-refusal_status Work = status.Limit
-refusal_status other = status.Refused
+abbrev pub refusal_status : RefusalValue → Status
+refusal_status refusal = if is_limit refusal then status.Limit else status.Refused
 
 abbrev pub status_of : Outcome → Status
 status_of outcome.Done = status.Done
 status_of outcome.Usage = status.Usage
+status_of (outcome.TooLong file) = status.Limit
 status_of (outcome.Refused file refusal) = refusal_status refusal
 status_of (outcome.ReadFault file) = status.ReadFault
 status_of outcome.WriteFault = status.WriteFault

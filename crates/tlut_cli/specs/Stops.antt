@@ -1,23 +1,21 @@
--- When a text isn't read: want of memory is free, a refusal comes exactly where its definition has it.
-use Rattle.std.specs.Prelude.{◌≡◌, ℕ, List, Result, Err}
-use Rattle.tlut_cli.specs.Texts.{NetlistRefusal, ParamsRefusal, ScriptRefusal}
-use Rattle.tlut_cli.specs.declared.outcome.Refusal.TheVariants.{Unbuilt}
+-- What a stop at a text or a netlist tells: want of memory, which is free, tells nothing.
+use Rattle.std.specs.Prelude.{Option, Some, None, IfSome}
+use Rattle.tl_fault.specs.RefusalValue.{RefusalValue}
 use Rattle.tlut_cli.specs.declared.stop.Stop.{Stop}
 use Rattle.tlut_cli.specs.declared.stop.Stop.TheVariants.{Refused, Memory}
+use Rattle.tlut_cli.specs.declared.outcome.File.{File}
+use Rattle.tlut_cli.specs.declared.outcome.Outcome.{Outcome}
+use Rattle.tlut_cli.specs.declared.outcome.Outcome.TheVariants as outcome
 
-abbrev pub StopsNetlist : List ℕ → Stop → Type 0
-StopsNetlist text (Refused refusal) = NetlistRefusal text refusal
-StopsNetlist text Memory = Unit {0}
+abbrev pub refusal_of : Stop → Option RefusalValue
+refusal_of (Refused refusal) = Some refusal
+refusal_of Memory = None
 
-abbrev pub StopsParams : List ℕ → Stop → Type 0
-StopsParams text (Refused refusal) = ParamsRefusal text refusal
-StopsParams text Memory = Unit {0}
+-- its refusal, if it has one, is one of these
+abbrev pub Stops : (RefusalValue → Type 0) → Stop → Type 0
+Stops P stop = IfSome (refusal_of stop) P
 
-abbrev pub StopsScript : ℕ → List ℕ → Stop → Type 0
-StopsScript width text (Refused refusal) = ScriptRefusal width text refusal
-StopsScript width text Memory = Unit {0}
-
--- the line of what isn't built
-abbrev pub StopsAt : {V : Type 0} → Result V ℕ → Stop → Type 0
-StopsAt answer (Refused refusal) = (line : ℕ) × (answer ≡ Err line) × (refusal ≡ Unbuilt line)
-StopsAt answer Memory = Unit {0}
+-- its outcome at a file
+abbrev pub outcome_at : File → Stop → Outcome
+outcome_at file (Refused refusal) = outcome.Refused file refusal
+outcome_at file Memory = outcome.Memory

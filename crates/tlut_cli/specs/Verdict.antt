@@ -1,5 +1,6 @@
 -- The verdict on a job's words and files, in the order of work: the first refusal, or the accepted job.
 use Rattle.std.specs.Prelude.{◌≡◌, ℕ, ◌<◌, ◌≤◌, Bool, List, length, Some}
+use Rattle.tl_text.specs.declared.logical_lines.TheConstants.{MOST_BYTES}
 use Rattle.std.specs.FinMap.{get}
 use Rattle.tl_io.specs.Shelf.{Files}
 use Rattle.cover_pick.specs.Template.{TemplateValue}
@@ -9,19 +10,19 @@ use Rattle.tlut_cli.specs.Words.{JobWords, file_word}
 use Rattle.tlut_cli.specs.Mapped.{IsMapped, IsUnmapped}
 use Rattle.tlut_cli.specs.declared.outcome.File.{File}
 use Rattle.tlut_cli.specs.declared.outcome.File.TheVariants.{Netlist, Params, Script}
-use Rattle.tlut_cli.specs.declared.outcome.Refusal.{Refusal}
-use Rattle.tlut_cli.specs.declared.outcome.Refusal.TheVariants.{TooLong}
+use Rattle.tl_fault.specs.RefusalValue.{RefusalValue}
+use Rattle.tlut_cli.specs.Refusals.{too_long}
 
 -- a file of the job is there and short enough, with this text
 pub record HasText (files : Files) (job : JobWords) (file : File) (text : List ℕ) : Type 0 where
   pub is : get files (file_word job file) ≡ Some text
-  pub short : length text ≤ 67108864
+  pub short : length text ≤ MOST_BYTES
 
 -- a file of the job is there and too long
 pub record IsOverlong (files : Files) (job : JobWords) (file : File) : Type 0 where
   pub text : List ℕ
   pub is : get files (file_word job file) ≡ Some text
-  pub long : 67108864 < length text
+  pub long : MOST_BYTES < length text
 
 -- the netlist that is read
 pub record HasNetlist (files : Files) (job : JobWords) (n : NetlistValue) : Type 0 where
@@ -67,8 +68,8 @@ pub record IsAccepted (files : Files) (words : JobWords) (job : Job) : Type 0 wh
   pub script : HasScript files words (length job.netlist.inputs) job.vectors
 
 -- the first refusal of the walk, at a file
-pub data IsRefused (files : Files) (job : JobWords) (file : File) (refusal : Refusal) : Type 0 where
-  overlong : Reaches files job file → IsOverlong files job file → refusal ≡ TooLong → IsRefused files job file refusal
+pub data IsRefused (files : Files) (job : JobWords) (file : File) (refusal : RefusalValue) : Type 0 where
+  overlong : Reaches files job file → IsOverlong files job file → refusal ≡ too_long → IsRefused files job file refusal
   netlist : file ≡ Netlist → (text : List ℕ) → HasText files job Netlist text → NetlistRefusal text refusal → IsRefused files job file refusal
   params : file ≡ Params → Reaches files job Params → (text : List ℕ) → HasText files job Params text → ParamsRefusal text refusal → IsRefused files job file refusal
   mapping : file ≡ Netlist → (n : NetlistValue) → HasNetlist files job n → HasNoParams files job → IsUnmapped n job.k refusal → IsRefused files job file refusal

@@ -1,18 +1,20 @@
 //! The netlist that a text denotes, where it is of the libraries that run so far.
-ghost use Rattle.std.specs.Prelude.{◌≡◌, ◌≤◌, [], ◌∷◌, length, IfOk, IfErr, MatchOption, Ok, Err};
+ghost use Rattle.std.specs.Prelude.{◌≡◌, ◌≤◌, [], ◌∷◌, length, IfOk, IfErr, MatchResult, MatchOption, Ok, Err};
+ghost use Rattle.tl_text.specs.declared.logical_lines.TheConstants.{MOST_BYTES};
 ghost use Rattle.std.specs.List.{list_all};
 ghost use Rattle.blif_read.specs.Once.{AreOnce};
-ghost use Rattle.list_words.specs.Members.{In};
+ghost use Rattle.list_laws.specs.Members.{In};
 ghost use Rattle.blif_read.specs.LibraryValue.{ModelValue};
 ghost use Rattle.blif_read.specs.WellFormed.{IsWellFormed as IsLibrary};
 ghost use Rattle.tlut_cli.specs.Built.{is_input as among, is_built_cover as built_cover, is_built as built, are_built as all_built, body_cover as cover_of, cover_in, is_driven as driven, netlist_of_models, netlist_of as netlist_of_library};
 ghost use Rattle.tlut_cli.specs.NetlistGraph.{IsWellFormed};
-ghost use Rattle.tlut_cli.specs.Texts.{IsNetlistText};
-ghost use Rattle.tlut_cli.specs.Stops.{StopsAt, StopsNetlist};
+ghost use Rattle.tlut_cli.specs.Texts.{IsUnbuilt, IsNetlistText, NetlistRefusal};
+ghost use Rattle.tlut_cli.specs.Settled.{IsTextSettled};
+ghost use Rattle.tlut_cli.specs.Stops.{Stops};
 
 use crate::netlist::Netlist;
-use crate::outcome::Refusal;
-use crate::stop::{Stop, blif_stop, flat_stop};
+use crate::refusals::unbuilt;
+use crate::stop::Stop;
 use blif_flat::flatten;
 use blif_read::{BlifModel, Body, Command, Cover, Library, read};
 use std::alloc::{AllocError, Global};
@@ -120,7 +122,7 @@ fn all_driven(netlist: &Netlist) -> bool
 fn model_netlist(alloc: Global, model: BlifModel) -> Result<Netlist, Stop>
     requires { AreOnce model.inputs }
     ensures ok { IfOk result (λ n. netlist_of_models (model ∷ []) ≡ Ok n) }
-    ensures err { IfErr result (λ e. StopsAt (netlist_of_models (model ∷ [])) e) }
+    ensures err { IfErr result (Stops (IsUnbuilt (netlist_of_models (model ∷ [])))) }
 {
     let inputs = index_of(alloc, &model.inputs)?;
     let line = model.line;
@@ -131,7 +133,7 @@ fn model_netlist(alloc: Global, model: BlifModel) -> Result<Netlist, Stop>
         cover: first_cover(model.commands),
     };
     if !built || !all_driven(&netlist) {
-        return Err(Stop::Refused(Refusal::Unbuilt(line)));
+        return Err(Stop::Refused(unbuilt(line)));
     }
     Ok(netlist)
 }
@@ -140,7 +142,7 @@ fn model_netlist(alloc: Global, model: BlifModel) -> Result<Netlist, Stop>
 fn library_netlist(alloc: Global, library: Library) -> Result<Netlist, Stop>
     requires { IsLibrary library }
     ensures ok { IfOk result (λ n. netlist_of_library library ≡ Ok n) }
-    ensures err { IfErr result (λ e. StopsAt (netlist_of_library library) e) }
+    ensures err { IfErr result (Stops (IsUnbuilt (netlist_of_library library))) }
 {
     let mut models = library.models;
     model_netlist(alloc, models.remove(0))
@@ -152,21 +154,13 @@ fn library_netlist(alloc: Global, library: Library) -> Result<Netlist, Stop>
 /// `Refused` with the first refusal of the text, else with that of its library, else with the line of the main model where
 /// it isn't built yet; `Memory` where there is none.
 pub fn read_netlist(alloc: Global, text: &[u8]) -> Result<Netlist, Stop>
-    requires { length text.now ≤ 67108864 }
+    requires { length text.now ≤ MOST_BYTES }
     ensures ok { IfOk result (λ n. IsNetlistText text.now n) }
     ensures formed { IfOk result IsWellFormed }
-    ensures err { IfErr result (λ e. StopsNetlist text.now e) }
+    ensures err { IfErr result (Stops (NetlistRefusal text.now)) }
+    ensures settled { MatchResult result (λ _. IsTextSettled text.now) (Stops (λ _. IsTextSettled text.now)) }
 {
-    let library = match read(alloc, text) {
-        Ok(library) => library,
-        Err(error) => return Err(blif_stop(error)),
-    };
-    match flatten(alloc, &library) {
-        Ok(_) => {}
-        Err(error) => return Err(flat_stop(error)),
-    }
-    match library_netlist(alloc, library) {
-        Ok(netlist) => Ok(netlist),
-        Err(stop) => Err(stop),
-    }
+    let library = read(alloc, text)?;
+    flatten(alloc, &library)?;
+    library_netlist(alloc, library)
 }

@@ -55,6 +55,7 @@ fn told_file(outcome: &Outcome) -> Option<File>
     ensures { result ≡ fault_file outcome.now }
 {
     match outcome {
+        Outcome::TooLong(file) => Some(*file),
         Outcome::Refused(file, _) => Some(*file),
         Outcome::ReadFault(file) => Some(*file),
         Outcome::Done => None,

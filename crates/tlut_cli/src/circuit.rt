@@ -1,28 +1,30 @@
 //! A netlist mapped to tables, and its cycles.
-ghost use Rattle.std.specs.Prelude.{◌≡◌, ℕ, ◌+◌, ◌*◌, ◌/◌, ◌<◌, ◌≤◌, [], ◌∷◌, true, Bool, length, map, IfOk, IfErr, OnOk, Ok, Err, IsTrue, is_some, List, replicate};
-ghost use Rattle.list_words.specs.Members.{In};
+ghost use Rattle.std.specs.Prelude.{◌≡◌, ℕ, ◌+◌, ◌*◌, ◌/◌, ◌<◌, ◌≤◌, [], ◌∷◌, true, Bool, length, map, IfOk, IfErr, MatchResult, OnOk, Ok, Err, IsTrue, is_some, List, replicate};
+ghost use Rattle.tl_text.specs.declared.logical_lines.TheConstants.{MOST_BYTES};
+ghost use Rattle.list_laws.specs.Members.{In};
 ghost use Rattle.tl_text.specs.NameIndex.{place_of};
-ghost use Rattle.aig_core.specs.Aig.{Aig, IsLit, first_and, AreNormal};
+ghost use Rattle.aig_core.specs.Aig.{Aig, IsLit};
 ghost use Rattle.aig_core.specs.Roots.{AreRoots, roots_of};
 ghost use Rattle.tlut_cli.specs.NetlistGraph.{input_literal as literal_of, reads_cover as reads, sources_of, graph_of, cover_answer, root_at, root_of, netlist_roots, IsWellFormed};
-ghost use Rattle.tlut_cli.specs.Mapped.{IsChosen};
+ghost use Rattle.tlut_cli.specs.Mapped.{IsChosen, IsUnchosen, IsUnmapped};
 ghost use Rattle.tl_io.specs.Causes.{HasCause};
 ghost use Rattle.tl_io.specs.Content.{Puts};
 ghost use Rattle.run_text.specs.Lines.{header_line};
 ghost use Rattle.tlut_cli.specs.Source.{HasCover, HasTables, PlaysSource, source_line};
-ghost use Rattle.tlut_cli.specs.Unmapped.{IsUnbuiltGraph, Unmaps};
+ghost use Rattle.tlut_cli.specs.Settled.{IsGraphSettled, IsMappingSettled};
+ghost use Rattle.tlut_cli.specs.Stops.{Stops};
 ghost use Rattle.tlut_cli.specs.Circuit.{IsAssembled, MapsTo};
 ghost use Rattle.tlut_cli.specs.JobText.{PutsLines};
 
 use crate::netlist::Netlist;
-use crate::outcome::Refusal;
+use crate::refusals::too_many_nodes;
 use crate::script::Vector;
 use crate::stop::Stop;
-use aig_build::make_cover;
+use aig_build::{MOST_NODES, make_cover};
 use aig_core::{AigErr, Graph, Kind, Lit, Roots};
 use bit_fun::configuration;
-use cover_pick::{PickErr, Template, pick};
-use cut_enum::{CutErr, enumerate};
+use cover_pick::{Template, pick};
+use cut_enum::enumerate;
 use depth_label::labels;
 use lut_sim::{Shape, Sim};
 use run_text::{LineBuf, put_cycle, put_header};
@@ -43,7 +45,7 @@ pub struct Circuit {
 
 // The literal of an input.
 fn input_literal(inputs: &NameIndex, name: &Name) -> Lit
-    requires { length inputs.now < 2 * 67108864 }
+    requires { length inputs.now < 2 * MOST_BYTES }
     ensures { result ≡ literal_of inputs.now name.now }
 {
     match inputs.place(name.bytes()) {
@@ -54,7 +56,7 @@ fn input_literal(inputs: &NameIndex, name: &Name) -> Lit
 
 // The literals of inputs.
 fn input_literals(alloc: Global, inputs: &NameIndex, names: &[Name]) -> Result<Vec<Lit>, AllocError>
-    requires { length inputs.now < 2 * 67108864 }
+    requires { length inputs.now < 2 * MOST_BYTES }
     ensures { IfOk result (λ lits. lits.items ≡ map (literal_of inputs.now) names.now) }
 {
     let mut lits = Vec::new(alloc);
@@ -76,11 +78,11 @@ fn reads_cover(netlist: &Netlist) -> bool
 
 // The graph of the inputs alone.
 fn source_graph(alloc: Global, netlist: &Netlist) -> Result<Graph, AllocError>
-    requires { length netlist.now.inputs < 2 * 67108864 }
+    requires { length netlist.now.inputs < 2 * MOST_BYTES }
     ensures { IfOk result (λ graph. graph ≡ sources_of netlist.now) }
 {
     let kinds = vec![in alloc; Kind::Regular; netlist.inputs.len()]?;
-    Graph::make(alloc, kinds, 131_072)
+    Graph::make(alloc, kinds, MOST_NODES)
 }
 
 // The graph with the cover that an output reads, and the cover's literal.
@@ -91,8 +93,8 @@ fn add_cover(alloc: Global, graph: Graph, netlist: &Netlist) -> Result<(Graph, L
     ensures lit { IfOk result (λ made. made.1.0 ≡ (cover_answer netlist.now).lit) }
     ensures is_lit { IfOk result (λ made. IsLit made.0 made.1.0) }
     ensures value { IfOk result (λ made. HasCover netlist.now made.0 made.1.0) }
-    ensures room { OnOk result (length (graph_of netlist.now).pairs ≤ 131072) }
-    ensures full { result ≡ Err AigErr.Full → 131072 < length (graph_of netlist.now).pairs }
+    ensures room { OnOk result (length (graph_of netlist.now).pairs ≤ MOST_NODES) }
+    ensures full { result ≡ Err AigErr.Full → MOST_NODES < length (graph_of netlist.now).pairs }
 {
     if !reads_cover(netlist) {
         return Ok((graph, Lit(0)));
@@ -108,7 +110,7 @@ fn add_cover(alloc: Global, graph: Graph, netlist: &Netlist) -> Result<(Graph, L
 
 // The literal of an output.
 fn root(inputs: &NameIndex, name: &Name, lit: Lit) -> Lit
-    requires { length inputs.now < 2 * 67108864 }
+    requires { length inputs.now < 2 * MOST_BYTES }
     ensures { result ≡ root_at (place_of inputs.now name.now) lit.0 }
 {
     match inputs.place(name.bytes()) {
@@ -119,7 +121,7 @@ fn root(inputs: &NameIndex, name: &Name, lit: Lit) -> Lit
 
 // The roots of a netlist whose cover has this literal.
 fn make_roots(alloc: Global, netlist: &Netlist, lit: Lit) -> Result<Roots, AllocError>
-    requires few { length netlist.now.inputs < 2 * 67108864 }
+    requires few { length netlist.now.inputs < 2 * MOST_BYTES }
     requires lit { lit.0 ≡ (cover_answer netlist.now).lit }
     ensures { IfOk result (λ roots. roots ≡ netlist_roots netlist.now) }
 {
@@ -139,23 +141,13 @@ fn choose(alloc: Global, graph: &Graph, roots: &Roots, k: u8) -> Result<Template
     requires most { k ≤ 6 }
     requires roots { AreRoots graph.now (roots_of roots.now) }
     ensures chosen { IfOk result (λ t. IsChosen graph.now k roots.now t) }
-    ensures err { IfErr result (λ e. IsUnbuiltGraph graph.now k roots.now e) }
+    ensures err { IfErr result (Stops (IsUnchosen graph.now k roots.now)) }
+    ensures settled { MatchResult result (λ _. IsGraphSettled graph.now k roots.now) (Stops (λ _. IsGraphSettled graph.now k roots.now)) }
 {
-    let table = match enumerate(alloc, graph, k) {
-        Ok(table) => table,
-        Err(CutErr::NodeCuts(node)) => return Err(Stop::Refused(Refusal::NodeCuts(node))),
-        Err(CutErr::TotalCuts(node)) => return Err(Stop::Refused(Refusal::TotalCuts(node))),
-        Err(CutErr::Memory) => return Err(Stop::Memory),
-    };
-    let labels = match labels(alloc, graph, &table) {
-        Ok(labels) => labels,
-        Err(_) => return Err(Stop::Memory),
-    };
-    match pick(alloc, graph, roots, &table, &labels) {
-        Ok(template) => Ok(template),
-        Err(PickErr::Work) => Err(Stop::Refused(Refusal::Work)),
-        Err(PickErr::Memory) => Err(Stop::Memory),
-    }
+    let table = enumerate(alloc, graph, k)?;
+    let labels = labels(alloc, graph, &table)?;
+    let template = pick(alloc, graph, roots, &table, &labels)?;
+    Ok(template)
 }
 
 // How many tables a template has.
@@ -176,7 +168,6 @@ fn assemble(
 ) -> Result<Circuit, AllocError>
     requires netlist { IsWellFormed netlist }
     requires graph { graph.now ≡ graph_of netlist }
-    requires normal { AreNormal (first_and graph.now) graph.now.pairs }
     requires cover { HasCover netlist graph.now (cover_answer netlist).lit }
     requires tables { HasTables netlist template }
     ensures { IfOk result (λ c. IsAssembled netlist template c) }
@@ -184,8 +175,7 @@ fn assemble(
     let luts = table_count(&template);
     let bits = template.bits;
     let depth = template.depth;
-    let sources = vec![in alloc; false; netlist.inputs.len()]?;
-    let config = configuration(alloc, graph, &template, &sources)?;
+    let config = configuration(alloc, graph, &template, &[])?;
     let shape = Shape {
         regular: graph.sources(),
         params: 0,
@@ -211,23 +201,19 @@ pub fn map_netlist(alloc: Global, netlist: Netlist, k: u8) -> Result<Circuit, St
     requires most { k ≤ 6 }
     requires netlist { IsWellFormed netlist }
     ensures circuit { IfOk result (λ c. MapsTo netlist k c) }
-    ensures err { IfErr result (λ e. Unmaps netlist k e) }
+    ensures err { IfErr result (Stops (IsUnmapped netlist k)) }
+    ensures settled { MatchResult result (λ _. IsMappingSettled netlist k) (Stops (λ _. IsMappingSettled netlist k)) }
 {
     let graph = source_graph(alloc, &netlist)?;
     let (graph, lit) = match add_cover(alloc, graph, &netlist) {
         Ok(made) => made,
-        Err(AigErr::Full) => return Err(Stop::Refused(Refusal::TooManyNodes)),
+        Err(AigErr::Full) => return Err(Stop::Refused(too_many_nodes())),
         Err(AigErr::Memory) => return Err(Stop::Memory),
     };
     let roots = make_roots(alloc, &netlist, lit)?;
-    let template = match choose(alloc, &graph, &roots, k) {
-        Ok(template) => template,
-        Err(error) => return Err(error),
-    };
-    match assemble(alloc, netlist, &graph, template) {
-        Ok(circuit) => Ok(circuit),
-        Err(_) => Err(Stop::Memory),
-    }
+    let template = choose(alloc, &graph, &roots, k)?;
+    let circuit = assemble(alloc, netlist, &graph, template)?;
+    Ok(circuit)
 }
 
 // Plays a cycle, and puts its line.
@@ -261,10 +247,7 @@ fn play_cycles<O: Sink>(
     ensures grown { PutsLines (O.bytes out.old) (O.bytes out.new) (map (source_line circuit.old.netlist) vectors.now) result }
 {
     for vector in vectors {
-        match play_cycle(circuit, vector.bits(), buf, out) {
-            Ok(()) => {}
-            Err(failed) => return Err(failed),
-        }
+        play_cycle(circuit, vector.bits(), buf, out)?;
     }
     Ok(())
 }
@@ -284,12 +267,6 @@ pub fn play<O: Sink>(
     ensures cause { HasCause (O.faults out.old) (O.faults out.new) result }
     ensures grown { PutsLines (O.bytes out.old) (O.bytes out.new) (header_line circuit.old.luts circuit.old.bits circuit.old.depth ∷ map (source_line circuit.old.netlist) vectors.now) result }
 {
-    match put_header(circuit.luts, circuit.bits, circuit.depth, buf, out) {
-        Ok(()) => {}
-        Err(failed) => return Err(failed),
-    }
-    match play_cycles(circuit, vectors, buf, out) {
-        Ok(()) => Ok(()),
-        Err(failed) => Err(failed),
-    }
+    put_header(circuit.luts, circuit.bits, circuit.depth, buf, out)?;
+    play_cycles(circuit, vectors, buf, out)
 }

@@ -3,12 +3,14 @@ ghost use Rattle.std.specs.Prelude.{◌≡◌, ◌≤◌, ℕ, [], ◌∷◌, Li
 ghost use Rattle.std.specs.List.{concat};
 ghost use Rattle.tl_io.specs.Causes.{HasCause, Rose};
 ghost use Rattle.tl_io.specs.Content.{Puts};
-ghost use Rattle.tlut_cli.specs.FaultLine.{Reports, refusal_word, refusal_number, refusal_name, detailed_line, line_of, refusal_line, plain_line, numbered_line, named_line, located_line, spaced, listed_line};
+ghost use Rattle.tl_fault.specs.Refusals.{details_words, spaced};
+ghost use Rattle.tlut_cli.specs.FaultLine.{Reports, line_of, head_line, refusal_line, plain_line};
 
-use crate::outcome::{Outcome, Refusal};
+use crate::outcome::Outcome;
+use crate::refusals::too_long;
 use itoa::Buffer;
+use tl_fault::{Details, Name, Refusal};
 use tl_io::{Failed, Sink};
-use tl_text::Name;
 
 // Puts the pieces one after another, up to the first that fails.
 fn put_all<S: Sink>(sink: &mut S, pieces: &[&[u8]]) -> Result<(), Failed>
@@ -29,122 +31,79 @@ fn put_plain<E: Sink>(err: &mut E, name: &[u8], word: &[u8]) -> Result<(), Faile
     put_all(err, &[b"tlut: ", name, word, b"\n"])
 }
 
-// Puts a line of a file's name, a word and a number.
-fn put_numbered<E: Sink>(err: &mut E, name: &[u8], word: &[u8], number: u32) -> Result<(), Failed>
+// Puts words, each after a blank.
+fn put_words<E: Sink>(err: &mut E, words: &[&[u8]]) -> Result<(), Failed>
     ensures cause { HasCause (E.faults err.old) (E.faults err.new) result }
-    ensures grown { Puts (E.bytes err.old) (E.bytes err.new) (numbered_line name.now word.now number) result }
+    ensures grown { Puts (E.bytes err.old) (E.bytes err.new) (spaced (map (λ word. word.now) words.now)) result }
 {
-    let mut digits = Buffer::new();
-    let number = digits.format(number).as_bytes();
-    put_all(err, &[b"tlut: ", name, word, number, b"\n"])
-}
-
-// Puts a line of a file's name, a word, a number, and a name in the file.
-fn put_named<'a, E: Sink>(
-    err: &mut E,
-    name: &'a [u8],
-    word: &'a [u8],
-    number: u32,
-    told: &'a [u8],
-) -> Result<(), Failed>
-    ensures cause { HasCause (E.faults err.old) (E.faults err.new) result }
-    ensures grown { Puts (E.bytes err.old) (E.bytes err.new) (named_line name.now word.now number told.now) result }
-{
-    let mut digits = Buffer::new();
-    let number = digits.format(number).as_bytes();
-    put_all(err, &[b"tlut: ", name, word, number, b" ", told, b"\n"])
-}
-
-// Puts a line of a file's name, a word, a model's name, a line in it, and a name there.
-fn put_located<'a, E: Sink>(
-    err: &mut E,
-    name: &'a [u8],
-    word: &'a [u8],
-    model: &'a [u8],
-    number: u32,
-    told: &'a [u8],
-) -> Result<(), Failed>
-    ensures cause { HasCause (E.faults err.old) (E.faults err.new) result }
-    ensures grown { Puts (E.bytes err.old) (E.bytes err.new) (located_line name.now word.now model.now number told.now) result }
-{
-    let mut digits = Buffer::new();
-    let number = digits.format(number).as_bytes();
-    put_all(
-        err,
-        &[
-            b"tlut: ", name, word, model, b" line ", number, b" ", told, b"\n",
-        ],
-    )
-}
-
-// Puts names, each after a blank.
-fn put_spaced<E: Sink>(err: &mut E, names: &[Name]) -> Result<(), Failed>
-    ensures cause { HasCause (E.faults err.old) (E.faults err.new) result }
-    ensures grown { Puts (E.bytes err.old) (E.bytes err.new) (spaced names.now) result }
-{
-    for told in names {
-        put_all(err, &[b" ", told.bytes()])?;
+    for word in words {
+        put_all(err, &[b" ", word])?;
     }
     Ok(())
 }
 
-// Puts a line of a file's name, a word, and names, each after a blank.
-fn put_listed<E: Sink>(err: &mut E, name: &[u8], word: &[u8], names: &[Name]) -> Result<(), Failed>
+// Puts names, each after a blank.
+fn put_names<E: Sink>(err: &mut E, names: &[Name]) -> Result<(), Failed>
     ensures cause { HasCause (E.faults err.old) (E.faults err.new) result }
-    ensures grown { Puts (E.bytes err.old) (E.bytes err.new) (listed_line name.now word.now names.now) result }
+    ensures grown { Puts (E.bytes err.old) (E.bytes err.new) (spaced names.now) result }
 {
-    put_all(err, &[b"tlut: ", name, word])?;
-    put_spaced(err, names)?;
-    put_all(err, &[b"\n"])
+    for name in names {
+        put_all(err, &[b" ", name.bytes()])?;
+    }
+    Ok(())
 }
 
-// Puts a line of a file's name, a word, and one name.
-fn put_told<E: Sink>(err: &mut E, name: &[u8], word: &[u8], told: &Name) -> Result<(), Failed>
+// Puts the details of a refusal.
+fn put_details<E: Sink>(err: &mut E, details: &Details) -> Result<(), Failed>
     ensures cause { HasCause (E.faults err.old) (E.faults err.new) result }
-    ensures grown { Puts (E.bytes err.old) (E.bytes err.new) (listed_line name.now word.now (told.now ∷ [])) result }
+    ensures grown { Puts (E.bytes err.old) (E.bytes err.new) (spaced (details_words details.now)) result }
 {
-    put_all(err, &[b"tlut: ", name, word, b" ", told.bytes(), b"\n"])
+    let mut digits = Buffer::new();
+    match details {
+        Details::Nothing => put_words(err, &[]),
+        Details::Line(line) => put_words(err, &[b"line", digits.format(*line).as_bytes()]),
+        Details::Named(line, name) => {
+            let line = digits.format(*line).as_bytes();
+            put_words(err, &[b"line", line, name.bytes()])
+        }
+        Details::Located(model, line, name) => {
+            let line = digits.format(*line).as_bytes();
+            put_words(err, &[b"model", model.bytes(), b"line", line, name.bytes()])
+        }
+        Details::One(name) => put_words(err, &[name.bytes()]),
+        Details::Two(first, second) => put_words(err, &[first.bytes(), second.bytes()]),
+        Details::Listed(names) => put_names(err, names.list()),
+        Details::Node(node) => put_words(err, &[b"node", digits.format(*node).as_bytes()]),
+    }
 }
 
-// Puts a line of a file's name, a word, and two names.
-fn put_both<'a, E: Sink>(
+// Puts a file's name, a code and a word.
+fn put_title<'a, E: Sink>(
     err: &mut E,
     name: &'a [u8],
+    code: &'a [u8],
     word: &'a [u8],
-    first: &'a Name,
-    second: &'a Name,
 ) -> Result<(), Failed>
     ensures cause { HasCause (E.faults err.old) (E.faults err.new) result }
-    ensures grown { Puts (E.bytes err.old) (E.bytes err.new) (listed_line name.now word.now (first.now ∷ second.now ∷ [])) result }
+    ensures grown { Puts (E.bytes err.old) (E.bytes err.new) (head_line name.now code.now word.now) result }
 {
-    put_all(
-        err,
-        &[
-            b"tlut: ",
-            name,
-            word,
-            b" ",
-            first.bytes(),
-            b" ",
-            second.bytes(),
-            b"\n",
-        ],
-    )
+    put_all(err, &[b"tlut: ", name, b": ", code, b" ", word])
 }
 
-// Puts the line of a refusal that has at most a number and a name.
-fn put_detailed<E: Sink>(err: &mut E, name: &[u8], refusal: &Refusal) -> Result<(), Failed>
+// Puts a file's name, and the code and the word of a refusal.
+fn put_head<E: Sink>(err: &mut E, name: &[u8], refusal: &Refusal) -> Result<(), Failed>
     ensures cause { HasCause (E.faults err.old) (E.faults err.new) result }
-    ensures grown { Puts (E.bytes err.old) (E.bytes err.new) (detailed_line name.now (refusal_word refusal.now) (refusal_number refusal.now) (refusal_name refusal.now)) result }
+    ensures grown { Puts (E.bytes err.old) (E.bytes err.new) (head_line name.now refusal.now.code refusal.now.word) result }
 {
-    let word = refusal.word();
-    match refusal.number() {
-        None => put_plain(err, name, word),
-        Some(number) => match refusal.name() {
-            None => put_numbered(err, name, word, number),
-            Some(told) => put_named(err, name, word, number, told.bytes()),
-        },
-    }
+    put_title(err, name, refusal.code.as_bytes(), refusal.word.as_bytes())
+}
+
+// Puts what a refusal tells behind its word.
+fn put_told<E: Sink>(err: &mut E, refusal: &Refusal) -> Result<(), Failed>
+    ensures cause { HasCause (E.faults err.old) (E.faults err.new) result }
+    ensures grown { Puts (E.bytes err.old) (E.bytes err.new) (spaced (details_words refusal.now.details)) result }
+{
+    put_details(err, &refusal.details)
 }
 
 // Puts the line of a refusal in the file of this name.
@@ -152,22 +111,9 @@ fn put_refusal<E: Sink>(err: &mut E, name: &[u8], refusal: &Refusal) -> Result<(
     ensures cause { HasCause (E.faults err.old) (E.faults err.new) result }
     ensures grown { Puts (E.bytes err.old) (E.bytes err.new) (refusal_line name.now refusal.now) result }
 {
-    let word = refusal.word();
-    match refusal {
-        Refusal::UnknownModel(model, line, told)
-        | Refusal::UnknownFormal(model, line, told)
-        | Refusal::Unconnected(model, line, told)
-        | Refusal::DoublyDriven(model, line, told)
-        | Refusal::Undriven(model, line, told) => {
-            put_located(err, name, word, model.bytes(), *line, told.bytes())
-        }
-        Refusal::RecursiveModel(names) | Refusal::Loop(names) => {
-            put_listed(err, name, word, names.list())
-        }
-        Refusal::SecondClock(first, second) => put_both(err, name, word, first, second),
-        Refusal::ClockNotInput(net) | Refusal::ClockAsData(net) => put_told(err, name, word, net),
-        _ => put_detailed(err, name, refusal),
-    }
+    put_head(err, name, refusal)?;
+    put_told(err, refusal)?;
+    put_all(err, &[b"\n"])
 }
 
 // Puts the line of an outcome.
@@ -183,6 +129,7 @@ fn put_outcome<E: Sink>(err: &mut E, name: &[u8], outcome: &Outcome) -> Result<(
                 b"tlut: usage: run K NETLIST PARAMS SCRIPT PORTS SPARES, spec K NETLIST PARAMS OUT, map K NETLIST PARAMS TEMPLATE PACK, bits PACK SCRIPT, gen N SEED\n",
             ],
         ),
+        Outcome::TooLong(_) => put_refusal(err, name, &too_long()),
         Outcome::Refused(_, refusal) => put_refusal(err, name, refusal),
         Outcome::ReadFault(_) => put_plain(err, name, b": read failed"),
         Outcome::WriteFault => put_all(err, &[b"tlut: write failed\n"]),

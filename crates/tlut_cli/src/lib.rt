@@ -7,6 +7,8 @@
 //!
 //! - `call.rt` has `tlut`; `words.rt` the words; `prepare.rt` the files in their order; `outcome.rt`, `status.rt` and
 //!   `fault_line.rt` how a call ends and what it says.
+//! - `stop.rt` makes a refusal of a layer's error, which tells its code, its word and its details itself; `refusals.rt` has the
+//!   few refusals of the command line itself.
 //! - `built.rt`, `params.rt` and `script.rt` read a netlist, a parameter list and a script, as far as they run so far.
 //! - `circuit.rt` maps a netlist and plays its cycles.
 #![tactic(auto)]
@@ -19,11 +21,12 @@ mod netlist;
 mod outcome;
 mod params;
 mod prepare;
+mod refusals;
 mod script;
 mod status;
 mod stop;
 mod words;
 
 pub use call::tlut;
-pub use outcome::{File, Outcome, Refusal};
+pub use outcome::{File, Outcome};
 pub use status::Status;

@@ -1,10 +1,11 @@
 //! The parameter lists that are read so far: those without a logical line.
 ghost use Rattle.std.specs.Prelude.{◌≡◌, ◌≤◌, length, OnOk, IfErr};
-ghost use Rattle.tlut_cli.specs.Texts.{IsParamsText};
-ghost use Rattle.tlut_cli.specs.Stops.{StopsParams};
+ghost use Rattle.tl_text.specs.declared.logical_lines.TheConstants.{MOST_BYTES};
+ghost use Rattle.tlut_cli.specs.Texts.{IsParamsText, ParamsRefusal};
+ghost use Rattle.tlut_cli.specs.Stops.{Stops};
 
-use crate::outcome::Refusal;
-use crate::stop::{Stop, text_stop};
+use crate::refusals::unbuilt;
+use crate::stop::Stop;
 use std::alloc::Global;
 use tl_text::lines;
 
@@ -13,16 +14,13 @@ use tl_text::lines;
 /// # Errors
 /// `Refused` with the refusal of the text's lines, else with its first logical line; `Memory` where there is none.
 pub fn read_params(alloc: Global, text: &[u8]) -> Result<(), Stop>
-    requires { length text.now ≤ 67108864 }
+    requires { length text.now ≤ MOST_BYTES }
     ensures ok { OnOk result (IsParamsText text.now) }
-    ensures err { IfErr result (λ e. StopsParams text.now e) }
+    ensures err { IfErr result (Stops (ParamsRefusal text.now)) }
 {
-    let lines = match lines(alloc, text) {
-        Ok(lines) => lines,
-        Err(error) => return Err(text_stop(error)),
-    };
+    let lines = lines(alloc, text)?;
     match lines.as_slice() {
         [] => Ok(()),
-        [line, ..] => Err(Stop::Refused(Refusal::Unbuilt(line.number))),
+        [line, ..] => Err(Stop::Refused(unbuilt(line.number))),
     }
 }

@@ -1,29 +1,29 @@
 //! A job's files, read and mapped in the order of work.
 ghost use Rattle.std.specs.Prelude.{◌≡◌, ◌≤◌, ◌<◌, ℕ, [], List, Bool, length, IfOk, IfErr, OnOk, Some};
-ghost use Rattle.list_words.specs.Members.{In};
+ghost use Rattle.list_laws.specs.Members.{In};
 ghost use Rattle.tl_io.specs.Shelf.{Files};
-ghost use Rattle.tlut_cli.specs.Unmapped.{IsMapOutcome};
 ghost use Rattle.tlut_cli.specs.WordsSeen.{job_seen};
 ghost use Rattle.tlut_cli.specs.NetlistGraph.{IsWellFormed};
-ghost use Rattle.tlut_cli.specs.Circuit.{MapsTo};
-ghost use Rattle.tlut_cli.specs.Verdict.{HasText, HasNetlist, HasNoParams, HasScript, Reaches, Passes};
+ghost use Rattle.tlut_cli.specs.Verdict.{HasText, HasNetlist, HasNoParams, HasScript};
+ghost use Rattle.tlut_cli.specs.Settled.{IsNetlistSettled};
+ghost use Rattle.tlut_cli.specs.Comes.{ComesTo, ComesPast};
 ghost use Rattle.tlut_cli.specs.Ends.{Told, Explains};
 ghost use Rattle.tlut_cli.specs.Prepared.{IsReady, IsPreparedFor};
 
 use crate::built::read_netlist;
 use crate::circuit::{Circuit, map_netlist};
 use crate::netlist::Netlist;
-use crate::outcome::{File, Outcome, Refusal};
+use crate::outcome::{File, Outcome};
 use crate::params::read_params;
 use crate::script::{Vector, read_script};
-use crate::stop::Stop;
 use crate::words::{Job, file_name};
 use run_text::LineBuf;
 use std::alloc::Global;
 use tl_io::{Shelf, Slurp, slurp};
+use tl_text::MOST_BYTES;
 
-/// The most bytes that a text may have: 2^26.
-const LIMIT: u64 = 67_108_864;
+// The most bytes that a file of a job may have.
+const LIMIT: u64 = MOST_BYTES as u64;
 
 /// A job that is ready to be played: all its memory is taken.
 #[derive(Drop)]
@@ -40,10 +40,10 @@ fn read_file<S: Shelf>(
     file: File,
     shelf: &mut S,
 ) -> Result<Vec<u8>, Outcome>
-    requires reaches { Told (S.seen shelf.old).files (λ files. Reaches files (job_seen job.now) file) }
+    requires { Told (S.seen shelf.old).files (λ files. ComesTo files (job_seen job.now) file) }
     ensures text { IfOk result (λ text. Told (S.seen shelf.old).files (λ files. HasText files (job_seen job.now) file text.items)) }
-    ensures short { IfOk result (λ text. length text.items ≤ 67108864) }
-    ensures given { OnOk result ((S.seen shelf.new).given ≤ 67108864) }
+    ensures short { IfOk result (λ text. length text.items ≤ MOST_BYTES) }
+    ensures given { OnOk result ((S.seen shelf.new).given ≤ MOST_BYTES) }
     ensures err { IfErr result (λ outcome. Explains (job_seen job.now) (S.seen shelf.old) (S.seen shelf.new) outcome) }
     ensures later { (S.seen shelf.old).read_faults ≤ (S.seen shelf.new).read_faults }
     ensures files { (S.seen shelf.new).files ≡ (S.seen shelf.old).files }
@@ -51,7 +51,7 @@ fn read_file<S: Shelf>(
     match slurp(alloc, shelf, file_name(job, file), LIMIT) {
         Ok(text) => Ok(text),
         Err(Slurp::ReadFault) => Err(Outcome::ReadFault(file)),
-        Err(Slurp::TooLong) => Err(Outcome::Refused(file, Refusal::TooLong)),
+        Err(Slurp::TooLong) => Err(Outcome::TooLong(file)),
         Err(Slurp::Memory) => Err(Outcome::Memory),
     }
 }
@@ -60,39 +60,32 @@ fn read_file<S: Shelf>(
 fn read_netlist_file<S: Shelf>(alloc: Global, job: &Job, shelf: &mut S) -> Result<Netlist, Outcome>
     ensures formed { IfOk result IsWellFormed }
     ensures netlist { IfOk result (λ n. Told (S.seen shelf.old).files (λ files. HasNetlist files (job_seen job.now) n)) }
-    ensures given { OnOk result ((S.seen shelf.new).given ≤ 67108864) }
+    ensures settled { OnOk result (Told (S.seen shelf.old).files (λ files. IsNetlistSettled files (job_seen job.now))) }
+    ensures given { OnOk result ((S.seen shelf.new).given ≤ MOST_BYTES) }
     ensures err { IfErr result (λ outcome. Explains (job_seen job.now) (S.seen shelf.old) (S.seen shelf.new) outcome) }
     ensures later { (S.seen shelf.old).read_faults ≤ (S.seen shelf.new).read_faults }
     ensures files { (S.seen shelf.new).files ≡ (S.seen shelf.old).files }
 {
-    let text = match read_file(alloc, job, File::Netlist, shelf) {
-        Ok(text) => text,
-        Err(outcome) => return Err(outcome),
-    };
+    let text = read_file(alloc, job, File::Netlist, shelf)?;
     match read_netlist(alloc, &text) {
         Ok(netlist) => Ok(netlist),
-        Err(Stop::Refused(refusal)) => Err(Outcome::Refused(File::Netlist, refusal)),
-        Err(Stop::Memory) => Err(Outcome::Memory),
+        Err(stop) => Err(stop.at(File::Netlist)),
     }
 }
 
 // Reads the parameter list, which has to be empty so far.
 fn read_params_file<S: Shelf>(alloc: Global, job: &Job, shelf: &mut S) -> Result<(), Outcome>
-    requires reaches { Told (S.seen shelf.old).files (λ files. Reaches files (job_seen job.now) File.Params) }
+    requires { Told (S.seen shelf.old).files (λ files. ComesTo files (job_seen job.now) File.Params) }
     ensures params { OnOk result (Told (S.seen shelf.old).files (λ files. HasNoParams files (job_seen job.now))) }
-    ensures given { OnOk result ((S.seen shelf.new).given ≤ 67108864) }
+    ensures given { OnOk result ((S.seen shelf.new).given ≤ MOST_BYTES) }
     ensures err { IfErr result (λ outcome. Explains (job_seen job.now) (S.seen shelf.old) (S.seen shelf.new) outcome) }
     ensures later { (S.seen shelf.old).read_faults ≤ (S.seen shelf.new).read_faults }
     ensures files { (S.seen shelf.new).files ≡ (S.seen shelf.old).files }
 {
-    let text = match read_file(alloc, job, File::Params, shelf) {
-        Ok(text) => text,
-        Err(outcome) => return Err(outcome),
-    };
+    let text = read_file(alloc, job, File::Params, shelf)?;
     match read_params(alloc, &text) {
         Ok(()) => Ok(()),
-        Err(Stop::Refused(refusal)) => Err(Outcome::Refused(File::Params, refusal)),
-        Err(Stop::Memory) => Err(Outcome::Memory),
+        Err(stop) => Err(stop.at(File::Params)),
     }
 }
 
@@ -103,37 +96,18 @@ fn read_script_file<S: Shelf>(
     netlist: &Netlist,
     shelf: &mut S,
 ) -> Result<Vec<Vector>, Outcome>
-    requires passes { Told (S.seen shelf.old).files (λ files. Passes files (job_seen job.now) netlist.now) }
+    requires { Told (S.seen shelf.old).files (λ files. ComesPast files (job_seen job.now) netlist.now) }
     ensures script { IfOk result (λ v. Told (S.seen shelf.old).files (λ files. HasScript files (job_seen job.now) (length netlist.now.inputs) v.items)) }
     ensures widths { IfOk result (λ v. (x : List Bool) → In v.items x → length x ≡ length netlist.now.inputs) }
-    ensures given { OnOk result ((S.seen shelf.new).given ≤ 67108864) }
+    ensures given { OnOk result ((S.seen shelf.new).given ≤ MOST_BYTES) }
     ensures err { IfErr result (λ outcome. Explains (job_seen job.now) (S.seen shelf.old) (S.seen shelf.new) outcome) }
     ensures later { (S.seen shelf.old).read_faults ≤ (S.seen shelf.new).read_faults }
     ensures files { (S.seen shelf.new).files ≡ (S.seen shelf.old).files }
 {
-    let text = match read_file(alloc, job, File::Script, shelf) {
-        Ok(text) => text,
-        Err(outcome) => return Err(outcome),
-    };
+    let text = read_file(alloc, job, File::Script, shelf)?;
     match read_script(alloc, &text, netlist.inputs.len()) {
         Ok(vectors) => Ok(vectors),
-        Err(Stop::Refused(refusal)) => Err(Outcome::Refused(File::Script, refusal)),
-        Err(Stop::Memory) => Err(Outcome::Memory),
-    }
-}
-
-// Maps the netlist of a job.
-fn map_job(alloc: Global, job: &Job, netlist: Netlist) -> Result<Circuit, Outcome>
-    requires least { 2 ≤ job.now.k }
-    requires most { job.now.k ≤ 6 }
-    requires netlist { IsWellFormed netlist }
-    ensures circuit { IfOk result (λ c. MapsTo netlist job.now.k c) }
-    ensures err { IfErr result (λ outcome. IsMapOutcome netlist job.now.k outcome) }
-{
-    match map_netlist(alloc, netlist, job.k) {
-        Ok(circuit) => Ok(circuit),
-        Err(Stop::Refused(refusal)) => Err(Outcome::Refused(File::Netlist, refusal)),
-        Err(Stop::Memory) => Err(Outcome::Memory),
+        Err(stop) => Err(stop.at(File::Script)),
     }
 }
 
@@ -146,21 +120,18 @@ pub fn prepare<S: Shelf>(alloc: Global, job: &Job, shelf: &mut S) -> Result<Prep
     requires most { job.now.k ≤ 6 }
     ensures ready { IfOk result IsReady }
     ensures prepared { IfOk result (λ p. Told (S.seen shelf.old).files (λ files. IsPreparedFor files (job_seen job.now) p)) }
-    ensures given { OnOk result ((S.seen shelf.new).given ≤ 67108864) }
+    ensures given { OnOk result ((S.seen shelf.new).given ≤ MOST_BYTES) }
     ensures err { IfErr result (λ outcome. Explains (job_seen job.now) (S.seen shelf.old) (S.seen shelf.new) outcome) }
     ensures later { (S.seen shelf.old).read_faults ≤ (S.seen shelf.new).read_faults }
     ensures files { (S.seen shelf.new).files ≡ (S.seen shelf.old).files }
 {
-    let netlist = match read_netlist_file(alloc, job, shelf) {
-        Ok(netlist) => netlist,
-        Err(outcome) => return Err(outcome),
-    };
+    let netlist = read_netlist_file(alloc, job, shelf)?;
     if let Err(outcome) = read_params_file(alloc, job, shelf) {
         return Err(outcome);
     }
-    let circuit = match map_job(alloc, job, netlist) {
+    let circuit = match map_netlist(alloc, netlist, job.k) {
         Ok(circuit) => circuit,
-        Err(outcome) => return Err(outcome),
+        Err(stop) => return Err(stop.at(File::Netlist)),
     };
     let vectors = match read_script_file(alloc, job, &circuit.netlist, shelf) {
         Ok(vectors) => vectors,

@@ -1,15 +1,16 @@
 //! The scripts that are read so far.
 ghost use Rattle.std.specs.Prelude.{◌≡◌, ◌≤◌, length, map, IfOk, IfErr, Ok, List, Bool};
+ghost use Rattle.tl_text.specs.declared.logical_lines.TheConstants.{MOST_BYTES};
 ghost use Rattle.std.specs.Option.{option_map};
-ghost use Rattle.list_words.specs.Members.{In};
+ghost use Rattle.list_laws.specs.Members.{In};
 ghost use Rattle.tl_text.specs.declared.token.Token.{Token as TokenValue};
 ghost use Rattle.tl_text.specs.LineValue.{token_bytes, words_line, IsWithin, IsLineIn, AreLinesIn};
 ghost use Rattle.tlut_cli.specs.Script.{bit_of, bits_of, vector_of, cycle_of, vectors_of};
-ghost use Rattle.tlut_cli.specs.Texts.{IsScriptText};
-ghost use Rattle.tlut_cli.specs.Stops.{StopsAt, StopsScript};
+ghost use Rattle.tlut_cli.specs.Texts.{IsUnbuilt, IsScriptText, ScriptRefusal};
+ghost use Rattle.tlut_cli.specs.Stops.{Stops};
 
-use crate::outcome::Refusal;
-use crate::stop::{Stop, text_stop};
+use crate::refusals::unbuilt;
+use crate::stop::Stop;
 use std::alloc::{AllocError, Global};
 use std::marker::Model;
 use tl_text::{Line, Token, lines};
@@ -119,12 +120,12 @@ fn line_vector(
 fn vectors(alloc: Global, width: usize, text: &[u8], lines: &[Line]) -> Result<Vec<Vector>, Stop>
     requires { AreLinesIn text.now lines.now }
     ensures ok { IfOk result (λ v. vectors_of width (map (words_line text.now) lines.now) ≡ Ok v.items) }
-    ensures err { IfErr result (λ e. StopsAt (vectors_of width (map (words_line text.now) lines.now)) e) }
+    ensures err { IfErr result (Stops (IsUnbuilt (vectors_of width (map (words_line text.now) lines.now)))) }
 {
     let mut done = Vec::new(alloc);
     for line in lines {
         match line_vector(alloc, width, text, line)? {
-            None => return Err(Stop::Refused(Refusal::Unbuilt(line.number))),
+            None => return Err(Stop::Refused(unbuilt(line.number))),
             Some(vector) => done.push(vector)?,
         }
     }
@@ -137,17 +138,11 @@ fn vectors(alloc: Global, width: usize, text: &[u8], lines: &[Line]) -> Result<V
 /// `Refused` with the refusal of the text's lines, else with the first line that is no `cycle` line of this many inputs;
 /// `Memory` where there is none.
 pub fn read_script(alloc: Global, text: &[u8], width: usize) -> Result<Vec<Vector>, Stop>
-    requires { length text.now ≤ 67108864 }
+    requires { length text.now ≤ MOST_BYTES }
     ensures ok { IfOk result (λ v. IsScriptText width text.now v.items) }
     ensures widths { IfOk result (λ v. (x : List Bool) → In v.items x → length x ≡ width) }
-    ensures err { IfErr result (λ e. StopsScript width text.now e) }
+    ensures err { IfErr result (Stops (ScriptRefusal width text.now)) }
 {
-    let lines = match lines(alloc, text) {
-        Ok(lines) => lines,
-        Err(error) => return Err(text_stop(error)),
-    };
-    match vectors(alloc, width, text, &lines) {
-        Ok(vectors) => Ok(vectors),
-        Err(stop) => Err(stop),
-    }
+    let lines = lines(alloc, text)?;
+    vectors(alloc, width, text, &lines)
 }

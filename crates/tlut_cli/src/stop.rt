@@ -1,11 +1,11 @@
 //! Why a text isn't read, or a netlist isn't mapped.
-ghost use Rattle.tlut_cli.specs.StopIs.{StopIs};
-ghost use Rattle.tlut_cli.specs.Texts.{text_refusal, blif_refusal, flat_refusal};
-
-use crate::outcome::Refusal;
+use crate::outcome::{File, Outcome};
 use blif_flat::FlatErr;
 use blif_read::BlifErr;
+use cover_pick::PickErr;
+use cut_enum::CutErr;
 use std::alloc::{AllocError, AllocFailed};
+use tl_fault::Refusal;
 use tl_text::TextErr;
 
 /// Why a text isn't read, or a netlist isn't mapped.
@@ -15,6 +15,31 @@ pub enum Stop {
     Refused(Refusal),
     /// There is no memory.
     Memory,
+}
+
+impl Stop {
+    ghost use Rattle.std.specs.Prelude.{◌≡◌};
+    ghost use Rattle.tlut_cli.specs.Stops.{refusal_of, outcome_at};
+
+    // The stop at an error that tells this: want of memory tells nothing.
+    fn of(refusal: Option<Refusal>) -> Stop
+        ensures { refusal_of result ≡ refusal }
+    {
+        match refusal {
+            Some(refusal) => Stop::Refused(refusal),
+            None => Stop::Memory,
+        }
+    }
+
+    /// The outcome of a stop at a file.
+    pub fn at(self, file: File) -> Outcome
+        ensures { result ≡ outcome_at file self }
+    {
+        match self {
+            Stop::Refused(refusal) => Outcome::Refused(file, refusal),
+            Stop::Memory => Outcome::Memory,
+        }
+    }
 }
 
 impl<T: Drop> From<AllocFailed<T>> for Stop {
@@ -39,58 +64,62 @@ impl From<AllocError> for Stop {
     }
 }
 
-/// The stop at a refusal of a text's lines.
-pub fn text_stop(error: TextErr) -> Stop
-    ensures { StopIs (text_refusal error) result }
-{
-    match error {
-        TextErr::BadByte(line) => Stop::Refused(Refusal::BadByte(line)),
-        TextErr::TrailingSlash(line) => Stop::Refused(Refusal::TrailingSlash(line)),
-        TextErr::Memory => Stop::Memory,
+impl From<TextErr> for Stop {
+    ghost use Rattle.std.specs.Prelude.{◌≡◌};
+    ghost use Rattle.tl_text.specs.Refusals.{refusal_of as refusal_there};
+    ghost use Rattle.tlut_cli.specs.Stops.{refusal_of};
+
+    ghost from_gives = { λ error stop. refusal_of stop ≡ refusal_there error };
+
+    fn from(error: TextErr) -> Stop {
+        Stop::of(error.refusal())
     }
 }
 
-/// The stop at a refusal of a netlist.
-pub fn blif_stop(error: BlifErr) -> Stop
-    ensures { StopIs (blif_refusal error) result }
-{
-    let refusal = match error {
-        BlifErr::BadByte(line) => Refusal::BadByte(line),
-        BlifErr::TrailingSlash(line) => Refusal::TrailingSlash(line),
-        BlifErr::NotCommand(line) => Refusal::NotCommand(line),
-        BlifErr::Unsupported(line) => Refusal::Unsupported(line),
-        BlifErr::OutsideModel(line) => Refusal::OutsideModel(line),
-        BlifErr::Arity(line) => Refusal::Arity(line),
-        BlifErr::BadRow(line) => Refusal::BadRow(line),
-        BlifErr::MixedRows(line) => Refusal::MixedRows(line),
-        BlifErr::BadLatch(line) => Refusal::BadLatch(line),
-        BlifErr::LatchKind(line) => Refusal::LatchKind(line),
-        BlifErr::DuplicateModel(line, name) => Refusal::DuplicateModel(line, name),
-        BlifErr::DuplicatePort(line, name) => Refusal::DuplicatePort(line, name),
-        BlifErr::BadConnection(line) => Refusal::BadConnection(line),
-        BlifErr::NoModel => Refusal::NoModel,
-        BlifErr::Memory => return Stop::Memory,
-    };
-    Stop::Refused(refusal)
+impl From<BlifErr> for Stop {
+    ghost use Rattle.std.specs.Prelude.{◌≡◌};
+    ghost use Rattle.blif_read.specs.Refusals.{refusal_of as refusal_there};
+    ghost use Rattle.tlut_cli.specs.Stops.{refusal_of};
+
+    ghost from_gives = { λ error stop. refusal_of stop ≡ refusal_there error };
+
+    fn from(error: BlifErr) -> Stop {
+        Stop::of(error.refusal())
+    }
 }
 
-/// The stop at a refusal of a library.
-pub fn flat_stop(error: FlatErr) -> Stop
-    ensures { StopIs (flat_refusal error) result }
-{
-    let refusal = match error {
-        FlatErr::UnknownModel(model, line, told) => Refusal::UnknownModel(model, line, told),
-        FlatErr::RecursiveModel(chain) => Refusal::RecursiveModel(chain),
-        FlatErr::UnknownFormal(model, line, told) => Refusal::UnknownFormal(model, line, told),
-        FlatErr::Unconnected(model, line, told) => Refusal::Unconnected(model, line, told),
-        FlatErr::TooLarge => Refusal::TooLarge,
-        FlatErr::DoublyDriven(model, line, told) => Refusal::DoublyDriven(model, line, told),
-        FlatErr::Undriven(model, line, told) => Refusal::Undriven(model, line, told),
-        FlatErr::SecondClock(first, second) => Refusal::SecondClock(first, second),
-        FlatErr::ClockNotInput(net) => Refusal::ClockNotInput(net),
-        FlatErr::ClockAsData(net) => Refusal::ClockAsData(net),
-        FlatErr::Loop(nets) => Refusal::Loop(nets),
-        FlatErr::Memory => return Stop::Memory,
-    };
-    Stop::Refused(refusal)
+impl From<FlatErr> for Stop {
+    ghost use Rattle.std.specs.Prelude.{◌≡◌};
+    ghost use Rattle.blif_flat.specs.Refusals.{refusal_of as refusal_there};
+    ghost use Rattle.tlut_cli.specs.Stops.{refusal_of};
+
+    ghost from_gives = { λ error stop. refusal_of stop ≡ refusal_there error };
+
+    fn from(error: FlatErr) -> Stop {
+        Stop::of(error.refusal())
+    }
+}
+
+impl From<CutErr> for Stop {
+    ghost use Rattle.std.specs.Prelude.{◌≡◌};
+    ghost use Rattle.cut_enum.specs.Refusals.{refusal_of as refusal_there};
+    ghost use Rattle.tlut_cli.specs.Stops.{refusal_of};
+
+    ghost from_gives = { λ error stop. refusal_of stop ≡ refusal_there error };
+
+    fn from(error: CutErr) -> Stop {
+        Stop::of(error.refusal())
+    }
+}
+
+impl From<PickErr> for Stop {
+    ghost use Rattle.std.specs.Prelude.{◌≡◌};
+    ghost use Rattle.cover_pick.specs.Refusals.{refusal_of as refusal_there};
+    ghost use Rattle.tlut_cli.specs.Stops.{refusal_of};
+
+    ghost from_gives = { λ error stop. refusal_of stop ≡ refusal_there error };
+
+    fn from(error: PickErr) -> Stop {
+        Stop::of(error.refusal())
+    }
 }

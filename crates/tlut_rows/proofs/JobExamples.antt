@@ -6,12 +6,19 @@ use Rattle.tl_text.specs.LineValue.{WordsLine}
 use Rattle.blif_read.specs.declared.cell.Cell.TheVariants.{Zero, One}
 use Rattle.blif_read.specs.declared.command.Body.TheVariants.{Cover}
 use Rattle.blif_read.specs.CoverValue.{CoverValue, cover_value}
-use Rattle.blif_read.specs.LibraryValue.{ModelValue, LibraryValue}
+use Rattle.blif_read.specs.LibraryValue.{ModelValue}
 use Rattle.tlut_cli.specs.declared.outcome.File.TheVariants as file
-use Rattle.tlut_cli.specs.declared.outcome.Refusal.TheVariants.{TooLong, NoModel, RecursiveModel, SecondClock, ClockNotInput, ClockAsData, Loop, TooLarge}
+use Rattle.tl_fault.specs.RefusalValue.{RefusalValue}
+use Rattle.blif_read.specs.Refusals.{refusal_of as blif_refusal}
+use Rattle.blif_read.specs.declared.blif_err.BlifErr.TheVariants as blif_err
+use Rattle.blif_flat.specs.Refusals.{refusal_of as flat_refusal}
+use Rattle.blif_flat.specs.declared.flat_err.FlatErr.TheVariants as flat_err
+use Rattle.std.specs.Option.{option_map}
+use Rattle.tlut_cli.specs.Statuses.{refusal_status}
+use Rattle.tlut_cli.specs.declared.status.Status.TheVariants as status
 use Rattle.tlut_cli.specs.declared.outcome.Outcome.TheVariants as outcome
 use Rattle.tlut_cli.specs.Words.{job_of}
-use Rattle.tlut_cli.specs.Netlist.{NetlistValue, Fits, IsCycle}
+use Rattle.tlut_cli.specs.Netlist.{NetlistValue, IsNetlistCycle}
 use Rattle.tlut_cli.specs.Built.{netlist_of}
 use Rattle.tlut_cli.specs.Script.{vectors_of}
 use Rattle.tlut_cli.specs.FaultLine.{line_of}
@@ -84,32 +91,43 @@ inputs_fit (suc (suc i)) name bit at is = absurd (none-some name at)
 cover_fits : (cover : CoverValue) → Some a_without_b ≡ Some cover → value cover.output ≡ cover_value cover (map value cover.inputs)
 cover_fits cover is = subst (λ (c : CoverValue). value c.output ≡ cover_value c (map value c.inputs)) (same_Some a_without_b cover is) refl
 
-first_cycle : IsCycle netlist (true ∷ false ∷ []) (true ∷ [])
+first_cycle : IsNetlistCycle netlist (true ∷ false ∷ []) (true ∷ [])
 first_cycle = record { value = value; fits = record { input = inputs_fit; cover = cover_fits }; outputs_are = refl }
 
 -- fault lines, byte by byte
-no_model_line : line_of (codes "l.blif") (outcome.Refused file.Netlist NoModel) ≡ codes "tlut: l.blif: B12 NoModel\n"
+abbrev told_line : Option RefusalValue → List ℕ
+told_line None = []
+told_line (Some refusal) = line_of (codes "l.blif") (outcome.Refused file.Netlist refusal)
+
+no_model_line : told_line (blif_refusal blif_err.NoModel) ≡ codes "tlut: l.blif: B12 NoModel\n"
 no_model_line = refl
 
-chain_line : line_of (codes "l.blif") (outcome.Refused file.Netlist (RecursiveModel (codes "m" ∷ codes "f" ∷ codes "m" ∷ []))) ≡ codes "tlut: l.blif: F2 RecursiveModel m f m\n"
+chain_line : told_line (flat_refusal (flat_err.RecursiveModel (codes "m" ∷ codes "f" ∷ codes "m" ∷ []))) ≡ codes "tlut: l.blif: F2 RecursiveModel m f m\n"
 chain_line = refl
 
-clocks_line : line_of (codes "l.blif") (outcome.Refused file.Netlist (SecondClock (codes "c") (codes "0/e"))) ≡ codes "tlut: l.blif: F7 SecondClock c 0/e\n"
+clocks_line : told_line (flat_refusal (flat_err.SecondClock (codes "c") (codes "0/e"))) ≡ codes "tlut: l.blif: F7 SecondClock c 0/e\n"
 clocks_line = refl
 
-no_input_line : line_of (codes "l.blif") (outcome.Refused file.Netlist (ClockNotInput (codes "0/k"))) ≡ codes "tlut: l.blif: F8 ClockNotInput 0/k\n"
+no_input_line : told_line (flat_refusal (flat_err.ClockNotInput (codes "0/k"))) ≡ codes "tlut: l.blif: F8 ClockNotInput 0/k\n"
 no_input_line = refl
 
-data_line : line_of (codes "l.blif") (outcome.Refused file.Netlist (ClockAsData (codes "c"))) ≡ codes "tlut: l.blif: F9 ClockAsData c\n"
+data_line : told_line (flat_refusal (flat_err.ClockAsData (codes "c"))) ≡ codes "tlut: l.blif: F9 ClockAsData c\n"
 data_line = refl
 
-loop_line : line_of (codes "l.blif") (outcome.Refused file.Netlist (Loop (codes "y" ∷ codes "1/z" ∷ []))) ≡ codes "tlut: l.blif: F10 Loop y 1/z\n"
+loop_line : told_line (flat_refusal (flat_err.Loop (codes "y" ∷ codes "1/z" ∷ []))) ≡ codes "tlut: l.blif: F10 Loop y 1/z\n"
 loop_line = refl
 
-large_line : line_of (codes "l.blif") (outcome.Refused file.Netlist TooLarge) ≡ codes "tlut: l.blif: L2 TooLarge\n"
+large_line : told_line (flat_refusal flat_err.TooLarge) ≡ codes "tlut: l.blif: L2 TooLarge\n"
 large_line = refl
 
-long_line : line_of (codes "s.scr") (outcome.Refused file.Script TooLong) ≡ codes "tlut: s.scr: L1 FileTooLong\n"
+-- a limit has another status than what blames the netlist
+loop_status : option_map (λ r. refusal_status r) (flat_refusal (flat_err.Loop [])) ≡ Some status.Refused
+loop_status = refl
+
+large_status : option_map (λ r. refusal_status r) (flat_refusal flat_err.TooLarge) ≡ Some status.Limit
+large_status = refl
+
+long_line : line_of (codes "s.scr") (outcome.TooLong file.Script) ≡ codes "tlut: s.scr: L1 FileTooLong\n"
 long_line = refl
 
 read_line : line_of (codes "p.par") (outcome.ReadFault file.Params) ≡ codes "tlut: p.par: read failed\n"

@@ -1,5 +1,5 @@
 -- Worked examples of the definitions: a text with the library that it denotes, and texts with their refusals.
-use Rattle.std.proofs.Common.{◌≡◌, ℕ, true, List, [], ◌∷◌, codes, Some, Ok, refl, ap, inl, inr, arith}
+use Rattle.std.proofs.Common.{◌≡◌, ℕ, true, List, [], ◌∷◌, codes, Some, refl, ap, inl, inr, arith}
 use Rattle.tl_text.specs.LineValue.{LineValue}
 use Rattle.blif_read.specs.declared.blif_err.BlifErr.TheVariants.{BadByte, TrailingSlash, NotCommand, Unsupported, OutsideModel, Arity, BadRow, MixedRows, BadLatch, LatchKind, DuplicateModel, DuplicatePort, BadConnection, NoModel}
 use Rattle.blif_read.specs.declared.cell.Cell.TheVariants.{Zero, Any}

@@ -7,6 +7,8 @@
 //! - `tests/job.rt` has what a test is made of: files, words, a call, and what the call left.
 //! - `tests/mapping.rt` has accepted jobs: the header's numbers and the lines of the cycles.
 //! - `tests/refusals.rt` has jobs that are refused, each with its fault line.
+//! - `tests/flat.rt` has netlists whose models, drivers, clocks or loops are refused, and what flattens and isn't built yet.
+//! - `tests/corners.rt` has corners of texts, models and nets, and a cycle through a thousand models.
 //! - `tests/faults.rt` has files that aren't there, and an output, or an error output, that fails.
 //!
 //! Definitions have worked examples too, as lemmas in `proofs/`: `TextExamples.antt` has a text with the library that it

@@ -1,4 +1,5 @@
 //! The worked examples, by what the program answers.
+mod corners;
 mod faults;
 mod flat;
 mod job;

@@ -15,6 +15,9 @@ pub const USAGE: &str =
 /// The AND of two inputs.
 pub const AND2: &str = ".model and2\n.inputs a b\n.outputs y\n.names a b y\n11 1\n.end\n";
 
+// The room for a fault line: the names of a long cycle fill a megabyte.
+const ERR_ROOM: usize = 1_100_000;
+
 /// A job, and what it must answer.
 #[derive(Clone, Copy)]
 pub struct Row {
@@ -74,7 +77,7 @@ pub fn run_with(
 ) -> Result<Ran, AllocError> {
     let words = strings(alloc, words)?;
     let mut out = MemSink::make(alloc, 1000, out_fails)?;
-    let mut err = MemSink::make(alloc, 1000, err_fails)?;
+    let mut err = MemSink::make(alloc, ERR_ROOM, err_fails)?;
     let status = tlut(alloc, &words, shelf, &mut out, &mut err, ports);
     Ok(Ran { status, out, err })
 }

@@ -1,5 +1,5 @@
 use Rattle.std.proofs.Common.{◌≡◌, ◌<◌, ◌∙◌, ap, sym, subst, length, map, List, Some, get_or}
-use Rattle.list_words.proofs.Members.{In-get_or}
+use Rattle.list_laws.proofs.Members.{In-get_or}
 use Rattle.aig_core.specs.declared.lit.Lit.{Lit}
 use Rattle.aig_core.specs.Aig.{Aig, IsLit}
 use Rattle.blif_read.specs.CoverValue.{CoverValue}

@@ -6,8 +6,9 @@ use Rattle.cover_pick.specs.Mapping.{bits_of}
 use Rattle.cover_pick.specs.Template.{TemplateValue}
 use Rattle.lut_sim.specs.Playable.{IsPlayable}
 use Rattle.lut_sim.specs.Sim.{SimValue}
+use Rattle.bit_fun.specs.Parameters.{param_count}
 use Rattle.tlut_cli.specs.NetlistGraph.{graph_of}
-use Rattle.tlut_cli.proofs.PlayLemmas.{tables_within_bits, table_node, netlist_playable, netlist_assembled}
+use Rattle.tlut_cli.proofs.PlayLemmas.{no_params, tables_within_bits, table_node, netlist_playable, netlist_assembled}
 use Rattle.tlut_cli.proofs.circuit.assemble.Goals as goal
 
 pub table_count-luts-requires : goal.table_count-luts-requires
@@ -25,10 +26,13 @@ make-requires-clause-playable c =
     let count : c.sources.result ≡ length c.args.netlist.inputs = c.sources.ensures.count ∙ ap (λ (g : Aig). length g.kinds) c.requires.graph ∙ length-replicate (length c.args.netlist.inputs) Regular in
     subst (λ r. IsPlayable c.args.template (record { regular = r; params = 0; latches = 0 })) (sym count) (netlist_playable c.args.netlist c.args.template c.requires.tables)
 
+pub configuration-requires-clause-params : goal.configuration-requires-clause-params
+configuration-requires-clause-params c = sym (ap (λ (g : Aig). param_count g.kinds) c.requires.graph ∙ no_params (length c.args.netlist.inputs))
+
 pub returns : goal.returns
 returns c =
     let count : c.sources.result ≡ length c.args.netlist.inputs = c.sources.ensures.count ∙ ap (λ (g : Aig). length g.kinds) c.requires.graph ∙ length-replicate (length c.args.netlist.inputs) Regular in
-    netlist_assembled c.args.netlist c.args.template c.args.graph.now c.deref.result.now _ c.requires.netlist c.requires.graph c.requires.normal c.requires.cover c.requires.tables
+    netlist_assembled c.args.netlist c.args.template c.args.graph.now _ c.requires.netlist c.requires.graph c.sources.ensures.normal c.requires.cover c.requires.tables
     c.in_ok-config.ensures.bits c.in_ok-config.ensures.law refl c.table_count-luts.ensures (ap (λ (v : TemplateValue). v.bits) c.template.view_is) (ap (λ (v : TemplateValue). v.depth) c.template.view_is)
     (ap (λ (s : SimValue). s.template) c.in_ok-sim.ensures)
     (ap (λ (s : SimValue). s.shape) c.in_ok-sim.ensures ∙ ap (λ r. record { regular = r; params = 0; latches = 0 }) count)

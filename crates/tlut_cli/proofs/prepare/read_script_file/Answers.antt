@@ -1,21 +1,22 @@
-use Rattle.std.proofs.Common.{◌≡◌, ◌∙◌, refl, ap, subst, length}
+use Rattle.std.proofs.Common.{◌≡◌, ◌∙◌, length, ap, sym, subst}
 use Rattle.tlut_cli.specs.Netlist.{NetlistValue}
-use Rattle.tlut_cli.specs.Stops.{StopsScript}
+use Rattle.tlut_cli.specs.WordsSeen.{job_seen}
 use Rattle.tlut_cli.specs.Texts.{ScriptRefusal}
-use Rattle.tlut_cli.specs.Verdict.{script}
-use Rattle.tlut_cli.proofs.EndLemmas.{script_given}
+use Rattle.tlut_cli.specs.Verdict.{HasText}
+use Rattle.tlut_cli.specs.Stops.{Stops}
+use Rattle.tlut_cli.specs.Ends.{Explains}
+use Rattle.tlut_cli.specs.declared.outcome.File.TheVariants.{Script}
+use Rattle.tlut_cli.proofs.EndLemmas.{script_explains}
 use Rattle.tlut_cli.proofs.prepare.read_script_file.Goals as goal
 
 pub read_file-requires : goal.read_file-requires
-read_file-requires g c = record { reaches = λ files told. (c.args.netlist.now, c.requires.passes files told) }
+read_file-requires g c files told = record { reaches = (c.args.netlist.now, (c.requires files told).passes); settled = (c.requires files told).settled }
 
-pub returns-in-Err-Refused-clause-err : goal.returns-in-Err-Refused-clause-err
-returns-in-Err-Refused-clause-err g c =
-    let width : c.len.result ≡ length c.args.netlist.now.inputs = c.len.ensures ∙ ap (λ (n : NetlistValue). length n.inputs) c.netlist.view_is in
-    let here : ScriptRefusal c.len.result c.deref.result.now c.in-Err-Refused.refusal = subst (λ s. StopsScript c.len.result c.deref.result.now s) c.in-Err-Refused.field-0-is c.in-Err-Refused.ensures.err in
-    let there : ScriptRefusal c.len.result c.in-Ok.text.items c.in-Err-Refused.refusal = subst (λ text. ScriptRefusal c.len.result text c.in-Err-Refused.refusal) c.deref.ensures.value here in
-    let refused : ScriptRefusal (length c.args.netlist.now.inputs) c.in-Ok.text.items c.in-Err-Refused.refusal = subst (λ w. ScriptRefusal w c.in-Ok.text.items c.in-Err-Refused.refusal) width there in
-    record {
-      given = script_given (length c.args.netlist.now.inputs) c.in-Ok.text.items c.in-Err-Refused.refusal _ c.in-Ok.ensures.given refused;
-      is = λ files told. script refl c.args.netlist.now c.in-Ok.text.items (c.requires.passes files told) (c.in-Ok.ensures.text files told) refused;
-    }
+pub returns-clause-err : goal.returns-clause-err
+returns-clause-err g c =
+    let job = job_seen c.args.job.now in
+    let width : c.len.result ≡ length c.args.netlist.now.inputs = c.len.ensures.value ∙ ap (λ (n : NetlistValue). length n.inputs) c.netlist.view_is in
+    subst (λ o. Explains job (g.S.Shelf.seen c.args.shelf.now) (g.S.Shelf.seen c.read_file.new.shelf) o) (sym c.at.ensures)
+    (script_explains job (g.S.Shelf.seen c.args.shelf.now) (g.S.Shelf.seen c.read_file.new.shelf) c.args.netlist.now c.deref.result.now c.in-Err.stop c.in_ok-text.ensures.given c.requires
+    (λ files told. subst (λ text. HasText files job Script text) (sym c.deref.ensures.value) (c.in_ok-text.ensures.text files told))
+    (subst (λ w. Stops (ScriptRefusal w c.deref.result.now) c.in-Err.stop) width c.in-Err.ensures.err))

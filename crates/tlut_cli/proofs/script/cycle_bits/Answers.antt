@@ -1,5 +1,5 @@
 use Rattle.std.proofs.Common.{◌<◌, length, arith}
-use Rattle.list_words.proofs.Members.{In-get_or}
+use Rattle.list_laws.proofs.Members.{In-get_or}
 use Rattle.tlut_cli.proofs.script.cycle_bits.Goals as goal
 
 pub bytes-requires : goal.bytes-requires

@@ -1,6 +1,6 @@
 use Rattle.std.proofs.Common.{sym, subst}
-use Rattle.list_words.specs.Members.{In}
-use Rattle.list_words.proofs.Members.{In-get_or}
+use Rattle.list_laws.specs.Members.{In}
+use Rattle.list_laws.proofs.Members.{In-get_or}
 use Rattle.tlut_cli.proofs.script.vectors.Goals as goal
 
 pub line_vector-requires : goal.line_vector-requires
