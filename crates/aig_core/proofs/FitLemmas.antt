@@ -3,27 +3,15 @@ use Rattle.std.proofs.Common.{◌≡◌, ℕ, zero, suc, ◌+◌, ◌-◌, ◌/�
 use Rattle.std.specs.List.{slice_get}
 use Rattle.std.proofs.lemmas.Bool.{cases_lt}
 use Rattle.std.proofs.lemmas.List.{ext_get_or, get_or-take, length-take}
-use Rattle.std.proofs.lemmas.Option.{slice_get-get_or, slice_get_within}
+use Rattle.std.proofs.lemmas.Option.{slice_get_within}
 use Rattle.list_laws.proofs.Places.{get_left}
 use Rattle.aig_core.specs.declared.lit.Pair.{Pair}
-use Rattle.aig_core.specs.Aig.{Aig, IsNode, IsNormal, AreNormal, first_and, node_count}
+use Rattle.aig_core.specs.Aig.{Aig, IsNormal, AreNormal, first_and, node_count}
 use Rattle.aig_core.specs.And.{with_pairs}
 use Rattle.aig_core.specs.Value.{in_phase, node_value, value_of, FitsGraph, HasOneFit}
 use Rattle.aig_core.proofs.GrowthLemmas.{Extends}
+use Rattle.aig_core.proofs.NodeLemmas.{node_normal, node_at}
 use Rattle.aig_core.proofs.ValueLemmas.{values_of, values_old, values_node, length-values_from}
-
--- the pair of an AND node of a graph is normal
-pub node_normal : (g : Aig) (n : ℕ) (p : Pair) → AreNormal (first_and g) g.pairs → IsNode g p n → IsNormal n p
-node_normal g n p normal node =
-    let above : first_and g ≤ n = node.above in
-    let e : first_and g + (n - first_and g) ≡ n = omega arith in
-    subst (λ m. IsNormal m p) e (normal.each (n - first_and g) p node.is)
-
--- each AND node has a pair
-pub node_at : (g : Aig) (n : ℕ) → first_and g ≤ n → n < node_count g → (p : Pair) × IsNode g p n
-node_at g n above below =
-    let p : Pair = get_or g.pairs (n - first_and g) (record { x = record { 0 = 0 }; y = record { 0 = 0 } }) in
-    (p, record { above = above; is = slice_get-get_or g.pairs (n - first_and g) (record { x = record { 0 = 0 }; y = record { 0 = 0 } }) (omega arith) })
 
 -- the product of two literals is the same under values that agree below their node
 product_agrees : (vs ws : List Bool) (n : ℕ) (p : Pair) → IsNormal n p → ((m : ℕ) → m < n → node_value vs m ≡ node_value ws m) → (value_of vs p.x.0 && value_of vs p.y.0) ≡ (value_of ws p.x.0 && value_of ws p.y.0)

@@ -12,6 +12,7 @@ pub mod StepLemmas
 pub mod CompleteLemmas
 pub mod WellFormedLemmas
 pub mod SizeLemmas
+pub mod SmallLemmas
 pub mod CleanLemmas
 pub mod TextLemmas
 pub mod ReadExamples

@@ -1,11 +1,15 @@
--- Worked examples: rows of the wrong length, connections and latches as they are written, and an off-set row without inputs.
-use Rattle.std.proofs.Common.{◌≡◌, ℕ, true, false, List, [], ◌∷◌, codes, Some, None, refl}
-use Rattle.blif_read.specs.declared.blif_err.BlifErr.TheVariants.{BadLatch, LatchKind, MixedRows, BadRow}
+-- Worked examples: rows of the wrong length, connections and latches as they are written, an off-set row without inputs, and short names of ports.
+use Rattle.std.proofs.Common.{◌≡◌, ℕ, ◌<◌, ◌^◌, true, false, List, [], ◌∷◌, ◌++◌, length, codes, Some, None, refl, sym, ap, subst, inl, inr, arith}
+use Rattle.std.proofs.lemmas.Option.{same_Some}
+use Rattle.list_laws.specs.Members.{In}
+use Rattle.blif_read.specs.declared.blif_err.BlifErr.TheVariants.{BadLatch, LatchKind}
 use Rattle.blif_read.specs.declared.cell.Cell.TheVariants.{Zero, One, Any}
 use Rattle.blif_read.specs.CoverValue.{CoverValue, matches, cover_value}
 use Rattle.blif_read.specs.Context.{row_of}
-use Rattle.blif_read.specs.LineFault.{connection_of, latch_fault, row_fault}
+use Rattle.blif_read.specs.LineFault.{connection_of, latch_fault}
+use Rattle.blif_read.specs.LibraryValue.{ModelValue}
 use Rattle.blif_read.specs.ReadFault.{read_fault}
+use Rattle.blif_read.specs.ShortPorts.{HasShortPorts}
 
 -- a row matches values of its length, and none of another
 as_long : matches (One ∷ Any ∷ Zero ∷ []) (true ∷ false ∷ false ∷ []) ≡ true
@@ -49,3 +53,15 @@ off_value = refl
 
 off_text : read_fault (codes ".model m\n.names y\n0\n") ≡ None
 off_text = refl
+
+-- the names `a` and `out` of the ports of the first model are short; those of the other models don't count
+abbrev wire : ModelValue
+wire = record { name = codes "m"; line = 1; inputs = codes "a" ∷ []; outputs = codes "out" ∷ []; clocks = []; commands = [] }
+
+short_name : (name : List ℕ) → In (codes "a" ∷ codes "out" ∷ []) name → length name < 2 ^ 32
+short_name name (inl e) = let l : length name ≡ 1 = ap length e in let less : length name < 4294967296 = omega arith in less
+short_name name (inr (inl e)) = let l : length name ≡ 3 = ap length e in let less : length name < 4294967296 = omega arith in less
+short_name name (inr (inr b)) = absurd b
+
+short_ports : (others : List ModelValue) → HasShortPorts (record { models = wire ∷ others })
+short_ports others m at name i = short_name name (subst (λ (n : ModelValue). In (n.inputs ++ (n.clocks ++ n.outputs)) name) (sym (same_Some wire m at)) i)

@@ -12,6 +12,7 @@ pub mod Once
 pub mod ReadFault
 pub mod Refusals
 pub mod Rows
+pub mod ShortPorts
 pub mod Size
 pub mod Statement
 pub mod SubcktValue

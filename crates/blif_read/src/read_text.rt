@@ -1,5 +1,5 @@
 //! The library that a text denotes.
-ghost use Rattle.std.specs.Prelude.{◌≡◌, Some, ◌+◌, ◌≤◌, length, None, Ok, IfOk, MatchResult};
+ghost use Rattle.std.specs.Prelude.{◌≡◌, Some, ◌+◌, ◌≤◌, ◌<◌, ◌^◌, length, None, Ok, IfOk, MatchResult};
 ghost use Rattle.tl_text.specs.declared.logical_lines.TheConstants.{MOST_BYTES};
 ghost use Rattle.blif_read.specs.LibraryValue.{LibraryValue};
 ghost use Rattle.blif_read.specs.Denotes.{Denotes};
@@ -9,6 +9,7 @@ ghost use Rattle.blif_read.specs.ReadFault.{blif_err, read_fault};
 ghost use Rattle.blif_read.specs.Refusals.{refusal_of};
 ghost use Rattle.tl_fault.specs.OrMemory.{OrMemory};
 ghost use Rattle.blif_read.specs.Reading.{fault_of, text_read};
+ghost use Rattle.blif_read.specs.ShortPorts.{HasShortPorts};
 ghost use Rattle.blif_read.specs.Size.{library_size};
 ghost use Rattle.blif_read.specs.WellFormed.{IsWellFormed};
 
@@ -59,15 +60,19 @@ pub fn read(alloc: Global, text: &[u8]) -> Result<Library, BlifErr>
     // Whatever the answer: a text has a library or a refusal, never both, and one library at most.
     ensures one_reading { HasOneReading text.now }
 
-    // What the library keeps: its form, clean names, and a size within the text's.
+    // What the library keeps: its form, clean names, a size within the text's, and so few models and short names of ports.
     ensures well_formed { IfOk result IsWellFormed }
     ensures clean { IfOk result HasCleanNames }
     ensures small { IfOk result (λ library. library_size library ≤ length text.now + 1) }
+    ensures few { IfOk result (λ library. length library.models < 2 ^ 32) }
+    ensures short { IfOk result HasShortPorts }
 
     // Each library that the text denotes keeps the same, whatever the answer.
     ensures always_well_formed { (library : LibraryValue) → Denotes text.now library → IsWellFormed library }
     ensures always_clean { (library : LibraryValue) → Denotes text.now library → HasCleanNames library }
     ensures always_small { (library : LibraryValue) → Denotes text.now library → library_size library ≤ length text.now + 1 }
+    ensures always_few { (library : LibraryValue) → Denotes text.now library → length library.models < 2 ^ 32 }
+    ensures always_short { (library : LibraryValue) → Denotes text.now library → HasShortPorts library }
 {
     let library = read_once(alloc, text)?;
     Ok(library)

@@ -29,7 +29,7 @@ use Rattle.cover_pick.specs.Marks.{IsMarked, root as marked_root, leaf as marked
 use Rattle.cover_pick.specs.Cone.{cone_of, table_work, work_of}
 use Rattle.cover_pick.specs.Work.{IsWork, IsLight}
 use Rattle.cover_pick.specs.Template.{TablesWithin, AreChosen, IsTemplate, AreTimely, IsTooMuch}
-use Rattle.cover_pick.proofs.TargetLaws.{source_below}
+use Rattle.aig_core.proofs.NodeLemmas.{source_below}
 use Rattle.cover_pick.proofs.TableLaws.{tables_needed}
 use Rattle.cover_pick.proofs.TemplateLaws.{leaves_and, cut_in, in_cut, to_tables, tables_within, tables_exact, leaves_inside}
 use Rattle.cover_pick.proofs.MappingLaws.{leaves_zero, leaves_source, kind_there, regular_leaves, cover_at}

@@ -7,7 +7,7 @@ use Rattle.aig_core.specs.declared.lit.Kind.TheVariants.{Regular, Parameter}
 use Rattle.list_laws.specs.Members.{In}
 use Rattle.list_laws.proofs.Choice.{some_then, none_then}
 use Rattle.cut_enum.specs.Table.{row_at}
-use Rattle.cut_enum.proofs.Examples.{mux, mux_rows, mux_normal}
+use Rattle.cut_enum.proofs.Examples.{mux, mux_rows, mux_normal, last_cuts}
 use Rattle.depth_label.specs.Label.{height, label_of}
 use Rattle.depth_label.proofs.Examples.{mux_labels}
 use Rattle.cover_pick.specs.declared.lut.Lut.{Lut}
@@ -29,13 +29,6 @@ depth_at n r e = let s = some_then (eqb n 6) (Some 1) r e in (eqb-true n 6 s.0, 
 
 cut_at_node : (n : ℕ) (c : List ℕ) → mux_cover n ≡ Some c → (n ≡ 6) × ((1 ∷ 2 ∷ []) ≡ c)
 cut_at_node n c e = let s = some_then (eqb n 6) (Some (1 ∷ 2 ∷ [])) c e in (eqb-true n 6 s.0, same_Some (1 ∷ 2 ∷ []) c s.1)
-
-last_cuts : (P : List ℕ → Type 0) → P (1 ∷ 2 ∷ []) → P (1 ∷ 5 ∷ []) → P (2 ∷ 4 ∷ []) → P (4 ∷ 5 ∷ []) → (c : List ℕ) → In (row_at mux_rows 6) c → P c
-last_cuts P a b d e c (inl q) = subst P (sym q) a
-last_cuts P a b d e c (inr (inl q)) = subst P (sym q) b
-last_cuts P a b d e c (inr (inr (inl q))) = subst P (sym q) d
-last_cuts P a b d e c (inr (inr (inr (inl q)))) = subst P (sym q) e
-last_cuts P a b d e c (inr (inr (inr (inr q)))) = absurd q
 
 -- the one cut of height 1 is chosen
 mux_chosen : IsChosen (label_of mux_labels) 1 (row_at mux_rows 6) (1 ∷ 2 ∷ [])

@@ -1,19 +1,12 @@
 -- What a root of a source counts, in words.
-use Rattle.std.proofs.Common.{◌≡◌, ℕ, ◌-◌, ◌/◌, ◌%◌, ◌<◌, ◌≤◌, eqb, length, Option, Some, None, refl, ap, ◌∙◌, inl, inr, arith}
+use Rattle.std.proofs.Common.{◌≡◌, ℕ, ◌-◌, ◌/◌, ◌%◌, ◌<◌, ◌≤◌, eqb, Option, Some, None, refl, ap, ◌∙◌, inl, inr, arith}
 use Rattle.std.specs.List.{slice_get}
-use Rattle.std.proofs.lemmas.Option.{slice_get_within}
 use Rattle.std.proofs.lemmas.Bool.{eqb-true, eqb-false, cases_eq}
-use Rattle.aig_core.specs.Aig.{Aig, first_and, IsSource}
+use Rattle.aig_core.specs.Aig.{Aig, IsSource}
 use Rattle.aig_core.specs.declared.lit.Kind.{Kind}
 use Rattle.aig_core.specs.declared.lit.Kind.TheVariants.{Regular, Parameter}
 use Rattle.list_laws.proofs.Choice.{choose}
 use Rattle.cover_pick.specs.Target.{source_level, kind_level}
-
--- a source stands before the AND nodes
-pub source_below : (g : Aig) (kind : Kind) (n : ℕ) → IsSource g kind n → n < first_and g
-source_below g kind n s =
-    let a : 1 ≤ n = s.above in
-    let b : n - 1 < length g.kinds = slice_get_within g.kinds (n - 1) kind s.is in omega arith
 
 pub level_complemented : (g : Aig) (l : ℕ) → IsSource g Regular (l / 2) → l % 2 ≡ 1 → source_level g l ≡ 1
 level_complemented g l s e =

@@ -6,17 +6,18 @@ use Rattle.std.proofs.lemmas.Option.{same_Some, none-some}
 use Rattle.std.proofs.lemmas.Bool.{cases_lt, cases_eq, ltb-true, ltb-false}
 use Rattle.aig_core.specs.Aig.{Aig, first_and, node_count, IsAnd, AreNormal}
 use Rattle.aig_core.specs.declared.lit.Kind.TheVariants.{Regular}
+use Rattle.aig_core.proofs.NodeLemmas.{source_below}
 use Rattle.list_laws.specs.Members.{In}
 use Rattle.cut_enum.specs.Cuts.{IsCut, AreMinimal}
 use Rattle.cut_enum.specs.Covers.{IsCover, HasDepth, source, free, table, RootsWithin}
 use Rattle.depth_label.specs.Label.{greatest, height, AreLabels}
 use Rattle.list_laws.proofs.Choice.{choose}
-use Rattle.depth_label.proofs.DepthLemmas.{label_le_depth}
+use Rattle.depth_label.proofs.DepthLemmas.{greatest_le, label_le_depth}
 use Rattle.cover_pick.specs.Target.{source_level, root_level, target}
 use Rattle.cover_pick.specs.Required.{need, least_of, require, require_each, visit, walk, require_root, require_roots, required, chosen, cover_of}
 use Rattle.cover_pick.specs.Schedule.{AtMost, FromRoot}
 use Rattle.cover_pick.specs.Planned.{Chooses, IsWalked}
-use Rattle.cover_pick.proofs.TargetLaws.{source_below, level_complemented, level_within}
+use Rattle.cover_pick.proofs.TargetLaws.{level_complemented, level_within}
 
 -- a required depth comes from a node that was taken, one of `first` or above
 pub record FromAbove (g : Aig) (choice : ℕ → ℕ → List ℕ) (reqs : ℕ → Option ℕ) (first n r : ℕ) : Type 0 where
@@ -116,10 +117,6 @@ greatest_in : (label : ℕ → ℕ) (c : List ℕ) (m : ℕ) → In c m → labe
 greatest_in label [] m i = elim i [ ]
 greatest_in label (x ∷ xs) m (inl e) = let a : label m ≡ label x = ap label e in omega arith
 greatest_in label (x ∷ xs) m (inr i) = let a : label m ≤ greatest label xs = greatest_in label xs m i in omega arith
-
-greatest_below : (label : ℕ → ℕ) (c : List ℕ) (d : ℕ) → ((m : ℕ) → In c m → label m ≤ d) → greatest label c ≤ d
-greatest_below label [] d h = omega arith
-greatest_below label (m ∷ ms) d h = let a : label m ≤ d = h m (inl refl) in let b : greatest label ms ≤ d = greatest_below label ms d (λ n i. h n (inr i)) in omega arith
 
 height_in : (label : ℕ → ℕ) (c : List ℕ) (m : ℕ) → In c m → 1 + label m ≤ height label c
 height_in label [] m i = elim i [ ]
@@ -365,7 +362,7 @@ module _ (g : Aig) (k : ℕ) (roots : List ℕ) (cuts : ℕ → List (List ℕ))
   -- and the target at most the depth of any cover.
   pub target_least : AreNormal (first_and g) g.pairs → AreLabels g cuts label → (cover : ℕ → Option (List ℕ)) (d : ℕ) → IsCover g k roots cover → RootsWithin g cover roots d → target g label roots ≤ d
   target_least normal labels cover d is within =
-      greatest_below (root_level g label) roots d
+      greatest_le (root_level g label) roots d
       (λ l i. choose (λ x. x ≤ d) (ltb (l / 2) (first_and g)) (source_level g l) (label (l / 2))
       (λ b. level_within g l d (λ s e. within.complemented l i s e))
       (λ b. let a : first_and g ≤ l / 2 = ltb-false (l / 2) (first_and g) b in let c : l / 2 < node_count g = inside l i in

@@ -1,10 +1,11 @@
 -- The cone of a node, as a list, is what is reached from it.
-use Rattle.std.proofs.Common.{◌≡◌, ℕ, zero, suc, ◌+◌, ◌-◌, ◌/◌, ◌<◌, ◌≤◌, true, false, cond, ltb, eqb, List, [], ◌∷◌, Option, Some, None, refl, sym, length, subst, inl, inr, ◌⊎◌, arith}
+use Rattle.std.proofs.Common.{◌≡◌, ℕ, zero, suc, ◌-◌, ◌/◌, ◌<◌, ◌≤◌, true, false, cond, ltb, eqb, List, [], ◌∷◌, Option, Some, None, refl, sym, length, subst, inl, inr, ◌⊎◌, arith}
 use Rattle.std.specs.List.{list_any}
 use Rattle.std.proofs.lemmas.Option.{slice_get_within}
 use Rattle.std.proofs.lemmas.Bool.{cases_Bool, or_cases, or_parts, cases_lt, ltb-true, ltb-false, eqb-true, eqb-false, both_ways, lt-ltb}
 use Rattle.aig_core.specs.Aig.{Aig, first_and, node_count, pair_of, IsNode, IsNormal, AreNormal}
 use Rattle.aig_core.specs.declared.lit.Pair.{Pair}
+use Rattle.aig_core.proofs.NodeLemmas.{node_normal}
 use Rattle.list_laws.specs.Members.{In}
 use Rattle.cut_enum.proofs.SetLemmas.{has_true, has_from}
 use Rattle.list_laws.proofs.Choice.{choose}
@@ -167,13 +168,10 @@ module _ (g : Aig) (c : List ℕ) (normal : (n : ℕ) (p : Pair) → is_stop g c
       let low = r.1 n (next_below n (pair_of g n) rest t refl d.0) in
       ((low, r.0), (λ b h m i. let x : n < b = h n (inl refl) in elim i [ inl q ↦ (let f : m ≡ n = q in omega arith) | inr j ↦ (let y : m < n = low m j in omega arith) ])))
 
-pair_normal : (g : Aig) (n : ℕ) (p : Pair) → AreNormal (first_and g) g.pairs → first_and g ≤ n → pair_of g n ≡ Some p → IsNormal n p
-pair_normal g n p normal l at = let e : first_and g + (n - first_and g) ≡ n = omega arith in subst (λ k. IsNormal k p) e (normal.each (n - first_and g) p at)
-
 -- The cone by its own words.
 pub cone_is : (g : Aig) (c : List ℕ) (n : ℕ) → AreNormal (first_and g) g.pairs → n < node_count g → IsCone g c n (cone_of g c n)
 cone_is g c n normal inside =
-    let ok : (m : ℕ) (p : Pair) → is_stop g c m ≡ false → pair_of g m ≡ Some p → IsNormal m p = (λ m p s at. pair_normal g m p normal (past_sources g c m s) at) in
+    let ok : (m : ℕ) (p : Pair) → is_stop g c m ≡ false → pair_of g m ≡ Some p → IsNormal m p = (λ m p s at. node_normal g m p normal (record { above = past_sources g c m s; is = at })) in
     let one : IsDescending (n ∷ []) = ((λ m i. absurd i), tt) in
     record {
       descending = (cone_order g c ok (suc n) (n ∷ []) one).0;

@@ -1,15 +1,16 @@
 -- What blocks a node can be decided, so each list that blocks it has the node itself, or a minimal cut within it.
-use Rattle.std.proofs.Common.{◌≡◌, ℕ, zero, suc, ◌+◌, ◌-◌, ◌/◌, ◌<◌, ◌≤◌, List, [], ◌∷◌, length, get_or, Option, Some, None, refl, sym, ◌∙◌, subst, inl, inr, ◌⊎◌, arith}
+use Rattle.std.proofs.Common.{◌≡◌, ℕ, zero, suc, ◌-◌, ◌/◌, ◌<◌, ◌≤◌, List, [], ◌∷◌, length, get_or, Option, Some, None, refl, sym, ◌∙◌, subst, inl, inr, ◌⊎◌, arith}
 use Rattle.std.specs.List.{slice_get}
-use Rattle.std.proofs.lemmas.Option.{slice_get_within, slice_get-get_or, same_Some, none-some}
+use Rattle.std.proofs.lemmas.Option.{slice_get-get_or, same_Some, none-some}
 use Rattle.std.proofs.lemmas.Bool.{cases_lt, cases_eq}
-use Rattle.aig_core.specs.Aig.{Aig, first_and, node_count, pair_of, IsAnd, IsSource, IsNode, IsNormal, AreNormal}
+use Rattle.aig_core.specs.Aig.{Aig, first_and, node_count, pair_of, IsAnd, IsSource, IsNode, AreNormal}
 use Rattle.aig_core.specs.declared.lit.Kind.{Kind}
 use Rattle.aig_core.specs.declared.lit.Kind.TheVariants.{Regular, Parameter}
 use Rattle.aig_core.specs.declared.lit.Pair.{Pair}
 use Rattle.list_laws.specs.Members.{In, Within}
 use Rattle.list_laws.specs.Order.{IsAscending}
 use Rattle.cut_enum.specs.Cuts.{Blocks, member, constant, parameter, fan_ins, CanBeLeaf, IsCut, IsMinimal, AreMinimal, EachContainsOne}
+use Rattle.aig_core.proofs.NodeLemmas.{source_below, node_normal}
 use Rattle.cut_enum.proofs.SetLemmas.{length_within, same_within}
 
 -- a larger set blocks what a smaller one blocks
@@ -19,10 +20,7 @@ Blocks-within g c d w (constant e) = constant e
 Blocks-within g c d w (parameter s) = parameter s
 Blocks-within g c d w (fan_ins p is x y) = fan_ins p is (Blocks-within g c d w x) (Blocks-within g c d w y)
 
--- no source is an AND node
-pub source_below : (g : Aig) (kind : Kind) (n : ℕ) → IsSource g kind n → n < first_and g
-source_below g kind n s = let k : n - 1 < length g.kinds = slice_get_within g.kinds (n - 1) kind s.is in let a : 1 ≤ n = s.above in omega arith
-
+-- an AND node has one pair
 pub same_pair : (g : Aig) (p q : Pair) (n : ℕ) → IsNode g p n → IsNode g q n → q ≡ p
 same_pair g p q n a b = same_Some q p (sym b.is ∙ a.is)
 
@@ -95,9 +93,6 @@ record AreLeaves (g : Aig) (n : ℕ) (c d : List ℕ) : Type 0 where
   others : (m : ℕ) → In c m → m < n → In d m ⊎ Blocks g [] m
 
 module _ (g : Aig) (normal : AreNormal (first_and g) g.pairs) where
-  pair_normal : (n : ℕ) (p : Pair) → IsNode g p n → IsNormal n p
-  pair_normal n p is = let a : first_and g ≤ n = is.above in let e : first_and g + (n - first_and g) ≡ n = omega arith in subst (λ k. IsNormal k p) e (normal.each (n - first_and g) p is.is)
-
   -- a source is regular or costs nothing
   kind_free : (n : ℕ) (k : Kind) → 1 ≤ n → slice_get g.kinds (n - 1) ≡ Some k → IsSource g Regular n ⊎ Blocks g [] n
   kind_free n Regular a e = inl (record { above = a; is = e })
@@ -130,8 +125,8 @@ module _ (g : Aig) (normal : AreNormal (first_and g) g.pairs) where
     decide_node n None a e out below = inr (λ b. elim (blocked_above g c a b) [ inl i ↦ out i | inr f ↦ none-some f.pair (sym e ∙ f.node.is) ])
     decide_node n (Some p) a e out below =
         let node : IsNode g p n = record { above = a; is = e } in
-        let y : p.y.0 / 2 < n = (pair_normal n p node).below in
-        let x : p.x.0 / 2 < p.y.0 / 2 = (pair_normal n p node).ordered in
+        let y : p.y.0 / 2 < n = (node_normal g n p normal node).below in
+        let x : p.x.0 / 2 < p.y.0 / 2 = (node_normal g n p normal node).ordered in
         elim (below (p.x.0 / 2) (omega arith)) [
           | inr no_x ↦ inr (λ b. elim (blocked_above g c a b) [ inl i ↦ out i | inr f ↦ no_x (subst (λ (q : Pair). Blocks g c (q.x.0 / 2)) (same_pair g p f.pair n node f.node) f.x) ])
           | inl bx ↦ elim (below (p.y.0 / 2) y) [
@@ -242,8 +237,8 @@ module _ (g : Aig) (normal : AreNormal (first_and g) g.pairs) where
     leaves_block c d are out l (constant e) = constant e
     leaves_block c d are out l (parameter s) = parameter s
     leaves_block c d are out {m} l (fan_ins p is x y) =
-        let a : p.y.0 / 2 < m = (pair_normal m p is).below in
-        let b : p.x.0 / 2 < p.y.0 / 2 = (pair_normal m p is).ordered in
+        let a : p.y.0 / 2 < m = (node_normal g m p normal is).below in
+        let b : p.x.0 / 2 < p.y.0 / 2 = (node_normal g m p normal is).ordered in
         fan_ins p is (leaves_block c d are out (omega arith) x) (leaves_block c d are out (omega arith) y)
 
     -- Each list that blocks an AND node has the node itself, or one of the minimal cuts within it.

@@ -8,7 +8,8 @@ use Rattle.list_laws.specs.Order.{IsAscending}
 use Rattle.cut_enum.specs.Merging.{union, merged}
 use Rattle.aig_core.specs.Aig.{IsSource, IsNode}
 use Rattle.cut_enum.specs.Cuts.{Blocks, member, constant, parameter, fan_ins, CanBeLeaf, IsCut, IsMinimal, AreMinimal, Covers}
-use Rattle.cut_enum.proofs.BlockLemmas.{Blocks-within, source_below, same_pair, regular_blocked, contains_one}
+use Rattle.aig_core.proofs.NodeLemmas.{source_below}
+use Rattle.cut_enum.proofs.BlockLemmas.{Blocks-within, same_pair, regular_blocked, contains_one}
 use Rattle.cut_enum.proofs.SetLemmas.{union_left, union_right, In-union, IsAscending-union, length_within, same_within, union_within}
 use Rattle.cut_enum.proofs.LeastLemmas.{IsLeast, IsLeast-merged, merged_covers, merged_only, IsUnionOf}
 

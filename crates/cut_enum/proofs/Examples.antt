@@ -2,14 +2,15 @@
 --
 -- Its sources are the inputs 1 and 2 and the parameter 3. Node 4 is input 1 where the parameter is true, node 5 is input 2 where
 -- it is false, and node 6 is the product of the complements of both.
-use Rattle.std.proofs.Common.{◌≡◌, ℕ, zero, suc, ◌+◌, ◌-◌, ◌/◌, ◌<◌, ◌≤◌, List, [], ◌∷◌, Some, refl, sym, ap, ◌∙◌, subst, arith}
+use Rattle.std.proofs.Common.{◌≡◌, ℕ, zero, suc, ◌+◌, ◌-◌, ◌/◌, ◌<◌, ◌≤◌, List, [], ◌∷◌, Some, refl, sym, ap, ◌∙◌, subst, inl, inr, arith}
 use Rattle.std.specs.List.{slice_get}
 use Rattle.std.proofs.lemmas.Option.{same_Some, none-some}
 use Rattle.aig_core.specs.Aig.{Aig, first_and, IsNormal, AreNormal}
 use Rattle.aig_core.specs.declared.lit.Kind.TheVariants.{Regular, Parameter}
 use Rattle.aig_core.specs.declared.lit.Pair.{Pair}
+use Rattle.list_laws.specs.Members.{In}
 use Rattle.cut_enum.specs.Cuts.{AreMinimal}
-use Rattle.cut_enum.specs.Table.{AreRows}
+use Rattle.cut_enum.specs.Table.{AreRows, row_at}
 use Rattle.cut_enum.specs.Merging.{IsRow}
 use Rattle.cut_enum.proofs.RowLemmas.{AreRows-none, AreRows-push, IsRow-node}
 
@@ -82,3 +83,11 @@ mux_first = mux_table.each 4 (omega arith) (omega arith, omega arith)
 -- Node 6 has four cuts, in this order: none is within another.
 pub mux_last : AreMinimal mux 2 6 ((1 ∷ 2 ∷ []) ∷ (1 ∷ 5 ∷ []) ∷ (2 ∷ 4 ∷ []) ∷ (4 ∷ 5 ∷ []) ∷ [])
 mux_last = mux_table.each 6 (omega arith) (omega arith, omega arith)
+
+-- what holds of each cut of node 6
+pub last_cuts : (P : List ℕ → Type 0) → P (1 ∷ 2 ∷ []) → P (1 ∷ 5 ∷ []) → P (2 ∷ 4 ∷ []) → P (4 ∷ 5 ∷ []) → (c : List ℕ) → In (row_at mux_rows 6) c → P c
+last_cuts P a b d e c (inl q) = subst P (sym q) a
+last_cuts P a b d e c (inr (inl q)) = subst P (sym q) b
+last_cuts P a b d e c (inr (inr (inl q))) = subst P (sym q) d
+last_cuts P a b d e c (inr (inr (inr (inl q)))) = subst P (sym q) e
+last_cuts P a b d e c (inr (inr (inr (inr q)))) = absurd q

@@ -8,7 +8,7 @@ use Rattle.depth_label.specs.Label.{greatest, height, AreLabels}
 use Rattle.cut_enum.specs.Covers.{IsCover, HasDepth, source, free, table}
 
 -- where every element's label is at most d, so is the greatest
-greatest_le : (label : ℕ → ℕ) (c : List ℕ) (d : ℕ) → ((m : ℕ) → In c m → label m ≤ d) → greatest label c ≤ d
+pub greatest_le : (label : ℕ → ℕ) (c : List ℕ) (d : ℕ) → ((m : ℕ) → In c m → label m ≤ d) → greatest label c ≤ d
 greatest_le label [] d h = omega arith
 greatest_le label (m ∷ ms) d h = let a : label m ≤ d = h m (inl refl) in let b : greatest label ms ≤ d = greatest_le label ms d (λ n i. h n (inr i)) in omega arith
 

@@ -1,10 +1,10 @@
 -- A worked example: the labels of the multiplexer whose choice is a parameter.
 use Rattle.std.proofs.Common.{◌≡◌, ℕ, zero, suc, ◌<◌, ◌≤◌, List, [], ◌∷◌, refl, sym, subst, inl, inr, arith}
 use Rattle.std.proofs.lemmas.List.{get_or_past}
-use Rattle.aig_core.specs.Aig.{first_and, node_count, IsAnd}
+use Rattle.aig_core.specs.Aig.{IsAnd}
 use Rattle.list_laws.specs.Members.{In}
 use Rattle.cut_enum.specs.Table.{row_at}
-use Rattle.cut_enum.proofs.Examples.{mux, mux_rows}
+use Rattle.cut_enum.proofs.Examples.{mux, mux_rows, last_cuts}
 use Rattle.depth_label.specs.Label.{height, LabelsValue, label_of, best_of, IsAsGood, lower, tie, IsBestCut, AreLabelled}
 
 -- its AND nodes are 4, 5 and 6
@@ -31,14 +31,6 @@ source_label (suc zero) l = refl
 source_label (suc (suc zero)) l = refl
 source_label (suc (suc (suc zero))) l = refl
 source_label (suc (suc (suc (suc n)))) l = absurd (omega arith)
-
--- what holds of each cut of node 6
-last_cuts : (P : List ℕ → Type 0) → P (1 ∷ 2 ∷ []) → P (1 ∷ 5 ∷ []) → P (2 ∷ 4 ∷ []) → P (4 ∷ 5 ∷ []) → (c : List ℕ) → In (row_at mux_rows 6) c → P c
-last_cuts P a b d e c (inl q) = subst P (sym q) a
-last_cuts P a b d e c (inr (inl q)) = subst P (sym q) b
-last_cuts P a b d e c (inr (inr (inl q))) = subst P (sym q) d
-last_cuts P a b d e c (inr (inr (inr (inl q)))) = subst P (sym q) e
-last_cuts P a b d e c (inr (inr (inr (inr q)))) = absurd q
 
 only_cut : (P : List ℕ → Type 0) (d : List ℕ) → P d → (c : List ℕ) → In (d ∷ []) c → P c
 only_cut P d p c (inl q) = subst P (sym q) p

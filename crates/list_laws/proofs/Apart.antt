@@ -1,0 +1,54 @@
+-- Lists in which nothing stands twice.
+use Rattle.std.proofs.Common.{◌≡◌, ℕ, zero, suc, ◌≤◌, List, [], ◌∷◌, ◌++◌, length, Some, refl, sym, ap, ◌∙◌, subst, inl, inr, arith}
+use Rattle.std.specs.Prelude.{slice_get}
+use Rattle.std.proofs.lemmas.Option.{none-some}
+use Rattle.list_laws.specs.Members.{In}
+use Rattle.list_laws.proofs.Members.{In-get, In-append}
+
+-- a list in which nothing stands twice
+abbrev pub AreApart : {A : Type 0} → List A → Type 0
+AreApart [] = Unit {0}
+AreApart (x ∷ xs) = (In xs x → ⊥) × AreApart xs
+
+pub joined_apart : {A : Type 0} (xs ys : List A) → AreApart xs → AreApart ys → ((p : A) → In xs p → In ys p → ⊥) → AreApart (xs ++ ys)
+joined_apart [] ys a b apart = b
+joined_apart (x ∷ xs) ys a b apart = (
+  λ (i : In (xs ++ ys) x). elim (In-append xs ys x i) [ inl j ↦ a.0 j | inr j ↦ apart x (inl refl) j ],
+  joined_apart xs ys a.1 b (λ p i j. apart p (inr i) j),
+)
+
+pub apart_once : {A : Type 0} (xs : List A) (i j : ℕ) (x : A) → AreApart xs → slice_get xs i ≡ Some x → slice_get xs j ≡ Some x → i ≡ j
+apart_once [] i j x a e f = absurd (none-some x e)
+apart_once (y ∷ xs) zero zero x a e f = refl
+apart_once (y ∷ xs) zero (suc j) x a e f = absurd (a.0 (In-get xs j y (f ∙ sym e)))
+apart_once (y ∷ xs) (suc i) zero x a e f = absurd (a.0 (In-get xs i y (e ∙ sym f)))
+apart_once (y ∷ xs) (suc i) (suc j) x a e f = ap suc (apart_once xs i j x a.1 e f)
+
+-- a list without one of its elements
+removed : {A : Type 0} (xs : List A) (x : A) → In xs x → List A
+removed [] x i = absurd i
+removed (y ∷ ys) x (inl e) = ys
+removed (y ∷ ys) x (inr i) = y ∷ removed ys x i
+
+length-removed : {A : Type 0} (xs : List A) (x : A) (i : In xs x) → length xs ≡ suc (length (removed xs x i))
+unfolding removed
+length-removed [] x i = absurd i
+length-removed (y ∷ ys) x (inl e) = refl
+length-removed (y ∷ ys) x (inr i) = ap suc (length-removed ys x i)
+
+In-removed : {A : Type 0} (xs : List A) (x : A) (i : In xs x) (z : A) → (z ≡ x → ⊥) → In xs z → In (removed xs x i) z
+unfolding removed
+In-removed [] x i z off j = absurd i
+In-removed (y ∷ ys) x (inl e) z off (inl f) = absurd (off (f ∙ sym e))
+In-removed (y ∷ ys) x (inl e) z off (inr j) = j
+In-removed (y ∷ ys) x (inr i) z off (inl f) = inl f
+In-removed (y ∷ ys) x (inr i) z off (inr j) = inr (In-removed ys x i z off j)
+
+-- it is no longer than a list that has all its elements
+pub apart_short : {A : Type 0} (xs ys : List A) → AreApart xs → ((x : A) → In xs x → In ys x) → length xs ≤ length ys
+apart_short [] ys a h = omega arith
+apart_short (x ∷ xs) ys a h =
+    let i : In ys x = h x (inl refl) in
+    let r : length xs ≤ length (removed ys x i) = apart_short xs (removed ys x i) a.1 (λ z j. In-removed ys x i z (λ e. a.0 (subst (In xs) e j)) (h z (inr j))) in
+    let n : length ys ≡ suc (length (removed ys x i)) = length-removed ys x i in
+    omega arith
