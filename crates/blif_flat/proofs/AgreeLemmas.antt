@@ -10,7 +10,7 @@ use Rattle.blif_flat.specs.Cycle.{Fits}
 use Rattle.blif_flat.specs.Drivers.{IsRead, cover_input}
 use Rattle.blif_flat.specs.Places.{Place, same_place, cover_at}
 use Rattle.blif_flat.specs.Loops.{AreNets, reads_of}
-use Rattle.blif_flat.specs.CoverOrder.{Ordered}
+use Rattle.blif_flat.specs.Steps.CoverOrder.{Ordered}
 use Rattle.blif_flat.proofs.FindLemmas.{Decided}
 use Rattle.blif_flat.proofs.PlaceLemmas.{place_of, same_place-is, same_place-refl, cover_at-is}
 use Rattle.blif_flat.proofs.OrderLemmas.{rules_agree}

@@ -14,17 +14,17 @@ use Rattle.blif_flat.specs.FlatCoverValue.{FlatCoverValue}
 use Rattle.blif_flat.specs.FlatValue.{FlatValue}
 use Rattle.blif_flat.specs.Models.{Path, model_at, has_name, inputs_of}
 use Rattle.blif_flat.specs.Places.{is_cover, is_latch}
-use Rattle.blif_flat.specs.InstanceRows.{paths_of, IsLight}
-use Rattle.blif_flat.specs.InstanceOrder.{places_at}
+use Rattle.blif_flat.specs.Steps.InstanceRows.{paths_of, IsLight}
+use Rattle.blif_flat.specs.Steps.InstanceOrder.{places_at}
 use Rattle.blif_flat.specs.ClockFaults.{is_gate}
-use Rattle.blif_flat.specs.ClockSteps.{input_name, clock_test}
-use Rattle.blif_flat.specs.CoverWalk.{cover_reads}
+use Rattle.blif_flat.specs.Steps.ClockSteps.{input_name, clock_test}
+use Rattle.blif_flat.specs.Steps.CoverWalk.{cover_reads}
 use Rattle.blif_flat.specs.DepthFirst.{PostsAll}
 use Rattle.blif_flat.specs.Weight.{most_weight, own_weight, Weighs, weighs}
 use Rattle.blif_flat.specs.Flat.{Places, AreNetsOf, IsControl, with_control_net, most_underscores, IsFlat}
-use Rattle.blif_flat.specs.RegularNets.{regular_numbers, IsRegular, regular_places, AreFlatCovers, AreFlatLatches}
-use Rattle.blif_flat.specs.Ordering.{AreCounted, root_numbers}
-use Rattle.blif_flat.specs.Stages.{IsCircuit, AreClockNets}
+use Rattle.blif_flat.specs.Steps.RegularNets.{regular_numbers, IsRegular, regular_places, AreFlatCovers, AreFlatLatches}
+use Rattle.blif_flat.specs.Steps.Ordering.{AreCounted, root_numbers}
+use Rattle.blif_flat.specs.Steps.Stages.{IsCircuit, AreClockNets}
 use Rattle.blif_flat.proofs.DataLemmas.{data-output, data-clock}
 use Rattle.blif_flat.proofs.StageLemmas.{rows_order}
 

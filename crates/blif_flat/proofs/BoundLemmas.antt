@@ -24,7 +24,8 @@ use Rattle.blif_flat.specs.Evaluation.{cover_behind}
 use Rattle.blif_flat.specs.Bounds.{IsThere, StandsBefore, IsWithinBounds}
 use Rattle.list_laws.proofs.Members.{In-get}
 use Rattle.list_laws.proofs.Places.{at_within}
-use Rattle.blif_flat.proofs.ListGeneral.{apart_once, reversed_in, in_reversed}
+use Rattle.list_laws.proofs.Apart.{apart_once}
+use Rattle.list_laws.proofs.Reversed.{reversed_in, in_reversed}
 use Rattle.blif_flat.proofs.RegularLemmas.{In-filter}
 use Rattle.blif_flat.proofs.AssembleLemmas.{filtered_below}
 use Rattle.blif_flat.proofs.PostLemmas.{nodes_done, nodes_only, nodes_after}
@@ -34,7 +35,7 @@ use Rattle.blif_flat.proofs.EvaluateLemmas.{behind_is}
 use Rattle.blif_flat.proofs.FewLemmas.{places_few, inputs_few, ports_few}
 
 -- a filtered list has no name twice where the list has none
-filtered_once : (test : List ℕ → Bool) (names : List (List ℕ)) → AreOnce names → AreOnce (filter test names)
+pub filtered_once : (test : List ℕ → Bool) (names : List (List ℕ)) → AreOnce names → AreOnce (filter test names)
 filtered_once test [] once = tt
 filtered_once test (name ∷ names) once =
     let rest : AreOnce (filter test names) = filtered_once test names once.1 in

@@ -7,14 +7,14 @@ use Rattle.blif_read.specs.LibraryValue.{ModelValue, LibraryValue}
 use Rattle.blif_flat.specs.declared.flat_err.FlatErr.{FlatErr}
 use Rattle.blif_flat.specs.declared.flat_err.FlatErr.TheVariants.{TooLarge}
 use Rattle.blif_flat.specs.Refusals.{refusal_of}
-use Rattle.blif_flat.specs.Checked.{IsChecked}
+use Rattle.blif_flat.specs.Steps.Checked.{IsChecked}
 use Rattle.blif_flat.specs.DriverFaults.{models_fault}
-use Rattle.blif_flat.specs.DriverSteps.{Tells}
-use Rattle.blif_flat.specs.NumberedModels.{models_at}
+use Rattle.blif_flat.specs.Steps.DriverSteps.{Tells}
+use Rattle.blif_flat.specs.Steps.NumberedModels.{models_at}
 use Rattle.blif_flat.specs.Faults.{IsWalked, IsFault, in_walk, too_large, in_drivers}
 use Rattle.blif_flat.specs.Models.{model_at}
 use Rattle.blif_flat.specs.Walk.{refused, walked, WalksMain}
-use Rattle.blif_flat.specs.Weighing.{HasWeight}
+use Rattle.blif_flat.specs.Steps.Weighing.{HasWeight}
 use Rattle.blif_flat.specs.Weight.{most_weight}
 use Rattle.blif_flat.proofs.DrivenLemmas.{walked_driven}
 use Rattle.tl_fault.proofs.OrMemoryLemmas.{OrMemory-map}

@@ -16,16 +16,16 @@ use Rattle.blif_flat.specs.Instances.{LatchAt}
 use Rattle.blif_flat.specs.Nets.{input_net, latch_net, cover_net, Drives}
 use Rattle.blif_flat.specs.Drivers.{IsDriven, IsRead, latch_control}
 use Rattle.blif_flat.specs.Places.{Place, latch_at, is_cover, is_latch}
-use Rattle.blif_flat.specs.InstanceOrder.{places_at}
-use Rattle.blif_flat.specs.InstanceRows.{AreInstances, paths_of}
+use Rattle.blif_flat.specs.Steps.InstanceOrder.{places_at}
+use Rattle.blif_flat.specs.Steps.InstanceRows.{AreInstances, paths_of}
 use Rattle.blif_flat.specs.Written.{IsWritten}
 use Rattle.blif_flat.specs.ClockFaults.{Clocks, stop, free, no_input, second, same}
 use Rattle.blif_flat.specs.Flat.{IsControl, some_latch, no_latch}
-use Rattle.blif_flat.specs.NetSlots.{NetsValue, table_of}
-use Rattle.blif_flat.specs.NetMade.{AreAllNets}
-use Rattle.blif_flat.specs.Gates.{IsGateAt, AreGatesAt}
-use Rattle.blif_flat.specs.ClockSteps.{IsControlled}
-use Rattle.blif_flat.specs.ControlSteps.{input_at, IsKept, IsSecond, IsMet, IsRefused, not_input, another, ControlNext, ControlFault, AreFree, IsControlSoFar, CameTo}
+use Rattle.blif_flat.specs.Steps.NetSlots.{NetsValue, table_of}
+use Rattle.blif_flat.specs.Steps.NetMade.{AreAllNets}
+use Rattle.blif_flat.specs.Steps.Gates.{IsGateAt, AreGatesAt}
+use Rattle.blif_flat.specs.Steps.ClockSteps.{IsControlled}
+use Rattle.blif_flat.specs.Steps.ControlSteps.{input_at, IsKeptInput, IsSecond, IsMetInput, IsRefused, not_input, another, ControlNext, ControlFault, AreFree, IsControlSoFar, CameTo}
 use Rattle.blif_flat.proofs.PlaceLemmas.{place_of, one_latch}
 use Rattle.blif_flat.proofs.NetLemmas.{net_of_driver}
 use Rattle.blif_flat.proofs.FlatLemmas.{flat_all}
@@ -36,10 +36,10 @@ use Rattle.blif_flat.proofs.GateWalkLemmas.{HasPlace, has_place, flat_places, pl
 
 -- inputs by their numbers
 module _ (inputs : List (List ℕ)) (first : Option ℕ) (j : ℕ) where
-  pub kept_first : first ≡ None → j < length inputs → IsKept inputs first j j
+  pub kept_first : first ≡ None → j < length inputs → IsKeptInput inputs first j j
   kept_first e h = let n = at_within inputs j h in record { name = n.0; at = n.1; before = inl (ap (input_at inputs) e); after = n.1 }
 
-  pub kept_within : (next : ℕ) → IsKept inputs first j next → next < length inputs
+  pub kept_within : (next : ℕ) → IsKeptInput inputs first j next → next < length inputs
   kept_within next k = slice_get_within inputs next k.name k.after
 
 -- the net of one control
@@ -54,7 +54,7 @@ module _ (library : LibraryValue) (rows : List Instance) (are : AreInstances lib
     input_drives : (j : ℕ) → table_of nets row control ≡ Some (Input j) → (name : List ℕ) → slice_get inputs j ≡ Some name → Drives library path control (input_net name)
     input_drives j e name f = let r = input_found library rows are nets all row path at control inputs inputs_are j e in subst (λ n. Drives library path control (input_net n)) (same_Some r.input name (sym r.at ∙ f)) r.drives
 
-    pub met_input : (first : Option ℕ) (j next : ℕ) → table_of nets row control ≡ Some (Input j) → IsKept inputs first j next → IsMet library path control (input_at inputs first) (input_at inputs (Some next))
+    pub met_input : (first : Option ℕ) (j next : ℕ) → table_of nets row control ≡ Some (Input j) → IsKeptInput inputs first j next → IsMetInput library path control (input_at inputs first) (input_at inputs (Some next))
     met_input first j next e k = record { name = k.name; drives = input_drives j e k.name k.at; before = k.before; after = k.after }
 
     pub met_another : (first : Option ℕ) (j : ℕ) (fault : FlatErr) → table_of nets row control ≡ Some (Input j) → IsSecond inputs first j fault → IsRefused library path control (input_at inputs first) fault
@@ -98,7 +98,7 @@ module _ (library : LibraryValue) (p : Place) (found l : LatchValue) (is : latch
   pub control_read : (control : List ℕ) → found.control ≡ Some control → IsRead library p.path control
   control_read control e = latch_control p.command l at (sym found_control ∙ e)
 
-  pub control_met : (control : List ℕ) (first next : Option (List ℕ)) → found.control ≡ Some control → IsMet library p.path control first next → ControlNext library p.path l.control first next
+  pub control_met : (control : List ℕ) (first next : Option (List ℕ)) → found.control ≡ Some control → IsMetInput library p.path control first next → ControlNext library p.path l.control first next
   control_met control first next e m = subst (λ o. ControlNext library p.path o first next) (sym e ∙ found_control) m
 
   pub control_refused : (control : List ℕ) (first : Option (List ℕ)) (fault : FlatErr) → found.control ≡ Some control → IsRefused library p.path control first fault → ControlFault library p.path l.control first fault

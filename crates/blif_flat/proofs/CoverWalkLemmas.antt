@@ -1,8 +1,6 @@
--- Steps of a depth-first walk with marks and a stack.
-use Rattle.std.proofs.Common.{◌≡◌, ℕ, zero, suc, ◌+◌, ◌<◌, ◌≤◌, true, false, eqb, List, [], ◌∷◌, ◌++◌, length, drop, Option, Some, None, refl, sym, ap, ◌∙◌, subst, subst₂, inl, inr, arith, drop_of_length-le, get_or, ◌-◌, reverse, replicate}
-use Rattle.std.specs.Prelude.{slice_get, slice_set, is_some}
-use Rattle.std.proofs.lemmas.Bool.{cases_Bool, true≢false, false≢true}
-use Rattle.std.proofs.lemmas.List.{reverse-append}
+-- Steps of the depth-first walk of covers, with marks and a stack.
+use Rattle.std.proofs.Common.{◌≡◌, ℕ, zero, suc, ◌+◌, ◌<◌, ◌≤◌, List, [], ◌∷◌, length, Option, Some, None, refl, sym, ap, ◌∙◌, subst, subst₂, inl, inr, arith, drop_of_length-le, get_or}
+use Rattle.std.specs.Prelude.{slice_get, slice_set}
 use Rattle.std.proofs.lemmas.Option.{none-some, same_Some, slice_get_within, slice_get-get_or}
 use Rattle.list_laws.specs.Members.{In}
 use Rattle.list_laws.proofs.Places.{drop_get, set_here, set_other, set_length, same_or}
@@ -11,34 +9,9 @@ use Rattle.blif_flat.specs.declared.flat.Net.TheVariants.{Input, Latch, Cover}
 use Rattle.blif_flat.specs.declared.cover_walk.Frame.{Frame}
 use Rattle.blif_flat.specs.FlatCoverValue.{FlatCoverValue}
 use Rattle.blif_flat.specs.Flat.{cover_numbers, inputs_at}
-use Rattle.blif_flat.specs.CoverOrder.{IsAfter}
-use Rattle.blif_flat.specs.DepthFirst.{Repeat, Meets, met, goes, MeetsAll, first, later, Posts, skips, posts, PostsAll, more}
-use Rattle.blif_flat.specs.CoverWalk.{WalkValue, cover_reads, path_of, unread, to_read, frames_work, new_work, walk_work, entered, pushed, finished, first_frame, other_frames, popped, cover_number, Looked, enters, hits, passes, MeetsLeft, PostsLeft, ArePassed, InRange, AreMarks, IsWalker, IsLater, repeat_at, Stepped, Ran, Visited, VisitedAll, AreLeft, numbers_from, up_to, from_number, IsNumberLoop, IsOrder}
-
-module _ {N : Type 0} (next : N → List N) where
-  all_none : (path ns : List N) → ((n : N) → In ns n → Meets next path n None) → MeetsAll next path ns None
-  all_none path [] h = MeetsAll.none refl refl
-  all_none path (n ∷ ns) h = later n ns refl (h n (inl refl)) (all_none path ns (λ m i. h m (inr i)))
-
-  -- a walk from a node that is done meets nothing
-  pub done_meets : (done path : List N) (n : N) → IsAfter next done → ((m : N) → In path m → In done m → ⊥) → In done n → Meets next path n None
-  done_meets [] path n after apart i = elim i [ ]
-  done_meets (m ∷ ms) path n after apart (inr i) = done_meets ms path n (after.1).1 (λ k a b. apart k a (inr b)) i
-  done_meets (m ∷ ms) path n after apart (inl e) = goes (λ a. apart n a (inl e))
-      (all_none (n ∷ path) (next n) (λ c j. done_meets ms (n ∷ path) c (after.1).1
-      (λ k a b. elim a [ inl q ↦ (after.1).0 (subst (λ x. In ms x) (q ∙ e) b) | inr a' ↦ apart k a' (inr b) ])
-      (after.0 c (subst (λ x. In (next x) c) e j))))
-
-  -- several nodes and then others
-  pub meets_append : {path xs : List N} {r : Option (Repeat N)} → MeetsAll next path xs r → r ≡ None → (ys : List N) (s : Option (Repeat N)) → MeetsAll next path ys s → MeetsAll next path (xs ++ ys) s
-  meets_append {path} {xs} (MeetsAll.none q t) e ys s h = subst (λ x. MeetsAll next path (x ++ ys) s) (sym q) h
-  meets_append {path} {xs} (first n rest c q w t) e ys s h = absurd (none-some c (sym e ∙ t))
-  meets_append {path} {xs} (later n rest q w ws) e ys s h = subst (λ x. MeetsAll next path (x ++ ys) s) (sym q) (later n (rest ++ ys) refl w (meets_append ws e ys s h))
-
-  pub found_append : {path xs : List N} {r : Option (Repeat N)} → MeetsAll next path xs r → (c : Repeat N) → r ≡ Some c → (ys : List N) → MeetsAll next path (xs ++ ys) (Some c)
-  found_append {path} {xs} (MeetsAll.none q t) c e ys = absurd (none-some c (sym t ∙ e))
-  found_append {path} {xs} (first n rest d q w t) c e ys = subst (λ x. MeetsAll next path (x ++ ys) (Some c)) (sym q) (first n (rest ++ ys) d refl w (sym e ∙ t))
-  found_append {path} {xs} (later n rest q w ws) c e ys = subst (λ x. MeetsAll next path (x ++ ys) (Some c)) (sym q) (later n (rest ++ ys) refl w (found_append ws c e ys))
+use Rattle.blif_flat.specs.DepthFirst.{Repeat, Meets, met, goes, MeetsAll, first, later, skips, posts, PostsAll, more}
+use Rattle.blif_flat.specs.Steps.CoverWalk.{CoverWalkValue, cover_reads, path_of, unread, to_read, frames_work, new_work, walk_work, entered, pushed, finished, first_frame, other_frames, popped, cover_number, Looked, enters, hits, passes, MeetsLeft, PostsLeft, ArePassed, InRange, AreCoverMarks, IsWalker, Stepped}
+use Rattle.blif_flat.proofs.DepthFirstLemmas.{done_meets}
 
 cover_first : (net : Net) (nets : List Net) (m : ℕ) → cover_number net ≡ Some m → cover_numbers (net ∷ nets) ≡ m ∷ cover_numbers nets
 cover_first (Input j) nets m e = absurd (none-some m e)
@@ -80,7 +53,7 @@ module _ (covers : List FlatCoverValue) where
 
   -- the marks after a new cover is entered, and after one is left
   module _ (marks order path : List ℕ) (n : ℕ) where
-    pub marks_entered : AreMarks covers marks order path → n < length covers → slice_get marks n ≡ Some 0 → AreMarks covers (slice_set marks n 1) order (n ∷ path)
+    pub marks_entered : AreCoverMarks covers marks order path → n < length covers → slice_get marks n ≡ Some 0 → AreCoverMarks covers (slice_set marks n 1) order (n ∷ path)
     marks_entered marked below e =
         let here : slice_get (slice_set marks n 1) n ≡ Some 1 = set_here marks n 1 (slice_get_within marks n 0 e) in
         let f = marked.fresh n e in record {
@@ -101,7 +74,7 @@ module _ (covers : List FlatCoverValue) where
           ];
         }
 
-    pub marks_finished : AreMarks covers marks order (n ∷ path) → ((m : ℕ) → In (cover_reads covers n) m → In order m) → AreMarks covers (slice_set marks n 2) (n ∷ order) path
+    pub marks_finished : AreCoverMarks covers marks order (n ∷ path) → ((m : ℕ) → In (cover_reads covers n) m → In order m) → AreCoverMarks covers (slice_set marks n 2) (n ∷ order) path
     marks_finished marked read =
         let l : n < length marks = (let q : length marks ≡ length covers = marked.long in let b : n < length covers = marked.below n (inl refl) in omega arith) in
         let here : slice_get (slice_set marks n 2) n ≡ Some 2 = set_here marks n 2 l in record {
@@ -181,7 +154,7 @@ module _ (covers : List FlatCoverValue) where
       meets_hit i = inl (record { node = m; path = f.cover ∷ path_of fs }, (first m (to_read covers (onward f)) (record { node = m; path = f.cover ∷ path_of fs }) e (met i refl) refl, refl))
 
   -- the steps from a walk whose first frame is f
-  module _ (w : WalkValue) (f : Frame) (walker : IsWalker covers (pushed w f)) where
+  module _ (w : CoverWalkValue) (f : Frame) (walker : IsWalker covers (pushed w f)) where
     -- the frame's cover is left
     pub end_step : length (inputs_at (slice_get covers f.cover)) ≤ f.next → Stepped covers (pushed w f) (finished w f.cover) None
     end_step l = let e = read_end f l in record {
@@ -264,7 +237,7 @@ module _ (covers : List FlatCoverValue) where
         }
 
         -- a cover is looked at
-        pub look_step : m < length covers → (v : WalkValue) (found : Option ℕ) → Looked (pushed w (onward f)) m v found → Stepped covers (pushed w f) v found
+        pub look_step : m < length covers → (v : CoverWalkValue) (found : Option ℕ) → Looked (pushed w (onward f)) m v found → Stepped covers (pushed w f) v found
         look_step below v found (enters z q r) = subst₂ (Stepped covers (pushed w f)) (sym q) (sym r) (new_step below z)
         look_step below v found (passes k z a b q r) = subst₂ (Stepped covers (pushed w f)) (sym q) (sym r) (done_step (walker.marked.off m k z a b))
         look_step below v found (hits z q r) = subst₂ (Stepped covers (pushed w f)) (sym q) (sym r)
@@ -291,196 +264,8 @@ top_first : (fs : List Frame) (f : Frame) → first_frame fs ≡ Some f → f �
 top_first [] f e = absurd (none-some f e)
 top_first (g ∷ fs) f e = ap (λ h. h ∷ fs) (sym (same_Some g f e))
 
-abbrev with_stack : WalkValue → List Frame → WalkValue
+abbrev pub with_stack : CoverWalkValue → List Frame → CoverWalkValue
 with_stack w s = record { marks = w.marks; order = w.order; stack = s }
 
-pub unpop : (w : WalkValue) (f : Frame) → first_frame w.stack ≡ Some f → pushed (popped w) f ≡ w
+pub unpop : (w : CoverWalkValue) (f : Frame) → first_frame w.stack ≡ Some f → pushed (popped w) f ≡ w
 unpop w f e = ap (with_stack w) (top_first w.stack f e)
-
-no_frames : (fs : List Frame) → first_frame fs ≡ None → fs ≡ []
-no_frames [] e = refl
-no_frames (f ∷ fs) e = absurd (none-some f (sym e))
-
-pub popped_empty : (w : WalkValue) → first_frame w.stack ≡ None → popped w ≡ w
-popped_empty w e = ap (with_stack w) (ap other_frames (no_frames w.stack e) ∙ sym (no_frames w.stack e))
-
-module _ (covers : List FlatCoverValue) where
-  -- the walk to the end of its stack
-  pub later_none : (w : WalkValue) → IsWalker covers w → IsLater covers w w
-  later_none w walker = record { walker = walker; meets = λ r h. h; posts = λ r h. h }
-
-  pub later_step : (w v u : WalkValue) (found : Option ℕ) → is_some found ≡ false → IsLater covers w v → Stepped covers v u found → IsLater covers w u × (walk_work covers u < walk_work covers v)
-  later_step w v u (Some c) t l s = absurd (true≢false t)
-  later_step w v u None t l s = (record { walker = s.later.walker; meets = λ r h. l.meets r (s.later.meets r h); posts = λ r h. l.posts r (s.later.posts r h) }, s.fewer)
-
-  pub later_found : (w v u : WalkValue) (found : Option ℕ) → is_some found ≡ true → IsLater covers w v → Stepped covers v u found → Ran covers w u found
-  later_found w v u None t l s = absurd (false≢true t)
-  later_found w v u (Some c) t l s = record { meets = l.meets (Some (repeat_at u c)) s.meets }
-
-  pub later_end : (w v u : WalkValue) → IsLater covers w v → first_frame v.stack ≡ None → u ≡ popped v → Ran covers w u None
-  later_end w v u l e p = subst (λ x. Ran covers w x None) (sym (p ∙ popped_empty v e)) (record { later = l; empty = no_frames v.stack e })
-
-  -- a visit: of a cover that was visited before, or of a new one
-  module _ (w : WalkValue) (root : ℕ) (walker : IsWalker covers w) (empty : w.stack ≡ []) where
-    off_path : (m : ℕ) → In (path_of w.stack) m → ⊥
-    off_path m i = subst (λ s. In (path_of s) m) empty i
-
-    pub visited_done : (m : ℕ) → slice_get w.marks root ≡ Some m → (m ≡ 0 → ⊥) → Visited covers w w root None
-    visited_done m e o =
-        let i = walker.marked.off root m e o (λ q. off_path root (walker.marked.on root (subst (λ y. slice_get w.marks root ≡ Some y) q e))) in record {
-          walker = walker;
-          empty = empty;
-          meets = done_meets (cover_reads covers) w.order [] root walker.marked.after (λ k a b. absurd a) i;
-          posts = skips i refl;
-        }
-
-    pub root_walker : root < length covers → slice_get w.marks root ≡ Some 0 → IsWalker covers (entered w root)
-    root_walker below e = record {
-      marked = marks_entered covers w.marks w.order (path_of w.stack) root walker.marked below e;
-      passed = (λ m i. inr i, subst (λ s. ArePassed covers w.order (root ∷ w.order) s) (sym empty) tt);
-    }
-
-    root_meets : (r : Option (Repeat ℕ)) → MeetsLeft covers (entered w root).stack r → Meets (cover_reads covers) [] root r
-    root_meets r h = elim (subst (λ s. MeetsLeft covers (record { cover = root; next = 0 } ∷ s) r) empty h) [
-      | inl p ↦ goes (λ i. i) (subst (λ x. MeetsAll (cover_reads covers) (root ∷ []) (cover_reads covers root) x) (sym (p.1).1) (p.1).0)
-      | inr p ↦ goes (λ i. i) (subst (λ x. MeetsAll (cover_reads covers) (root ∷ []) (cover_reads covers root) x) (sym p.1) p.0)
-    ]
-
-    root_posts : slice_get w.marks root ≡ Some 0 → (r : List ℕ) → PostsLeft covers w.order (entered w root).stack r → Posts (cover_reads covers) w.order root r
-    root_posts e r h = let p = subst (λ s. PostsLeft covers w.order (record { cover = root; next = 0 } ∷ s) r) empty h in posts p.0 (walker.marked.fresh root e).1 (p.1).0 (p.1).1
-
-    pub visited_ran : slice_get w.marks root ≡ Some 0 → (v : WalkValue) (found : Option ℕ) → Ran covers (entered w root) v found → Visited covers w v root found
-    visited_ran e v None ran = record {
-      walker = ran.later.walker;
-      empty = ran.empty;
-      meets = root_meets None (ran.later.meets None (subst (λ s. MeetsLeft covers s None) (sym ran.empty) refl));
-      posts = root_posts e v.order (ran.later.posts v.order (subst (λ s. PostsLeft covers v.order s v.order) (sym ran.empty) refl));
-    }
-    visited_ran e v (Some c) ran = record { meets = root_meets (Some (repeat_at v c)) ran.meets }
-
-  -- several roots in turn
-  module _ (w : WalkValue) (roots : List ℕ) where
-    pub left_none : IsWalker covers w → w.stack ≡ [] → AreLeft covers w w roots roots
-    left_none walker empty = record { walker = walker; empty = empty; meets = λ r h. h; posts = λ r h. h }
-
-    pub left_step : (v u : WalkValue) (left rest : List ℕ) (n : ℕ) (found : Option ℕ) → is_some found ≡ false → left ≡ n ∷ rest → AreLeft covers w v roots left → Visited covers v u n found → AreLeft covers w u roots rest
-    left_step v u left rest n (Some c) t e l d = absurd (true≢false t)
-    left_step v u left rest n None t e l d = record {
-      walker = d.walker;
-      empty = d.empty;
-      meets = λ r h. l.meets r (later n rest e d.meets h);
-      posts = λ r h. l.posts r (more n rest u.order e d.posts h);
-    }
-
-    pub left_found : (v u : WalkValue) (left rest : List ℕ) (n : ℕ) (found : Option ℕ) → is_some found ≡ true → left ≡ n ∷ rest → AreLeft covers w v roots left → Visited covers v u n found → VisitedAll covers w u roots found
-    left_found v u left rest n None t e l d = absurd (false≢true t)
-    left_found v u left rest n (Some c) t e l d = record { meets = l.meets (Some (repeat_at u c)) (first n rest (repeat_at u c) e d.meets refl) }
-
-    pub left_end : (v : WalkValue) (left : List ℕ) → left ≡ [] → AreLeft covers w v roots left → VisitedAll covers w v roots None
-    left_end v left e l = record { walker = l.walker; empty = l.empty; meets = l.meets None (MeetsAll.none e refl); posts = l.posts v.order (PostsAll.none e refl) }
-
-pub drop_next : (xs : List ℕ) (i d : ℕ) → i < length xs → drop i xs ≡ get_or xs i d ∷ drop (i + 1) xs
-drop_next xs i d l = drop_get xs i (get_or xs i d) (slice_get-get_or xs i d l)
-
-pub numbers_next : (k n : ℕ) → k < n → numbers_from k (n - k) ≡ k ∷ numbers_from (k + 1) (n - (k + 1))
-numbers_next k n l =
-    let a : n - k ≡ suc (n - (k + 1)) = omega arith in
-    let b : 1 + k ≡ k + 1 = omega arith in
-    ap (numbers_from k) a ∙ ap (λ j. k ∷ numbers_from j (n - (k + 1))) b
-
-pub numbers_end : (k n : ℕ) → n ≤ k → numbers_from k (n - k) ≡ []
-numbers_end k n l = let a : n - k ≡ 0 = omega arith in ap (numbers_from k) a
-
-pub numbers_all : (n : ℕ) → numbers_from 0 (n - 0) ≡ numbers_from 0 n
-numbers_all n = let a : n - 0 ≡ n = omega arith in ap (numbers_from 0) a
-
-numbers_in : (k n m : ℕ) → k ≤ m → m < k + n → In (numbers_from k n) m
-numbers_in k zero m a b = absurd (omega arith)
-numbers_in k (suc n) m a b = elim (same_or m k) [
-  | inl q ↦ inl q
-  | inr o ↦ inr (numbers_in (1 + k) n m (omega arith) (omega arith))
-]
-
-module _ {N : Type 0} (next : N → List N) where
-  -- a visit keeps what is done, and does its node
-  mutual
-    post_keeps : {done : List N} {n : N} {r : List N} → Posts next done n r → (m : N) → In done m → In r m
-    post_keeps (skips i q) m j = subst (λ x. In x m) (sym q) j
-    post_keeps (posts below off p q) m j = subst (λ x. In x m) (sym q) (inr (posts_keep p m j))
-
-    posts_keep : {done ns r : List N} → PostsAll next done ns r → (m : N) → In done m → In r m
-    posts_keep (PostsAll.none e q) m j = subst (λ x. In x m) (sym q) j
-    posts_keep (more n rest below e p ps) m j = posts_keep ps m (post_keeps p m j)
-
-  post_here : {done : List N} {n : N} {r : List N} → Posts next done n r → In r n
-  post_here {done} {n} (skips i q) = subst (λ x. In x n) (sym q) i
-  post_here {done} {n} (posts below off p q) = subst (λ x. In x n) (sym q) (inl refl)
-
-  posts_here : {done ns r : List N} → PostsAll next done ns r → (m : N) → In ns m → In r m
-  posts_here (PostsAll.none e q) m i = absurd (subst (λ x. In x m) e i)
-  posts_here (more n rest below e p ps) m i = elim (subst (λ x. In x m) e i) [
-    | inl q ↦ posts_keep ps m (subst (λ x. In below x) (sym q) (post_here p))
-    | inr j ↦ posts_here ps m j
-  ]
-
--- the nodes of a loop
-pub up_to-reverse : (n : ℕ) (path : List ℕ) → reverse (up_to n path) ≡ from_number n path
-up_to-reverse n [] = refl
-up_to-reverse n (m ∷ path) = elim (cases_Bool (eqb n m)) [
-  | inl t ↦ rw t refl
-  | inr t ↦ rw t (reverse-append (m ∷ []) (up_to n path) ∙ ap (λ xs. xs ++ m ∷ []) (up_to-reverse n path))
-]
-
-pub up_to-met : (n m : ℕ) (path : List ℕ) → eqb n m ≡ true → up_to n (m ∷ path) ≡ m ∷ []
-up_to-met n m path t = rw t refl
-
-pub up_to-more : (n m : ℕ) (path : List ℕ) → eqb n m ≡ false → up_to n (m ∷ path) ≡ m ∷ up_to n path
-up_to-more n m path t = rw t refl
-
--- a walk that has not begun
-zeros_get : (n k m : ℕ) → slice_get (replicate n 0) k ≡ Some m → m ≡ 0
-zeros_get zero k m e = absurd (none-some m e)
-zeros_get (suc n) zero m e = sym (same_Some 0 m e)
-zeros_get (suc n) (suc k) m e = zeros_get n k m e
-
-length_zeros : (n : ℕ) → length {A = ℕ} (replicate n 0) ≡ n
-length_zeros zero = refl
-length_zeros (suc n) = ap suc (length_zeros n)
-
-module _ (covers : List FlatCoverValue) where
-  pub new_walker : (count : ℕ) → count ≡ length covers → IsWalker covers (record { marks = replicate count 0; order = []; stack = [] })
-  new_walker count q = record {
-    marked = record {
-      long = length_zeros count ∙ q;
-      below = λ n i. absurd i;
-      once = tt;
-      inside = λ n i. absurd i;
-      after = tt;
-      apart = λ n i j. i;
-      fresh = λ n e. (λ i. i, λ i. i);
-      on = λ n e. absurd (let z : 1 ≡ 0 = zeros_get count n 1 e in omega arith);
-      off = λ n m e a b. absurd (a (zeros_get count n m e));
-    };
-    passed = tt;
-  }
-
-  pub loop_of_roots : (w v : WalkValue) (roots : List ℕ) (c : ℕ) (nodes : List ℕ) → VisitedAll covers w v roots (Some c) → nodes ≡ from_number c (path_of v.stack) → IsNumberLoop covers roots nodes
-  loop_of_roots w v roots c nodes d e = record { repeat = repeat_at v c; meets = found_append (cover_reads covers) d.meets (repeat_at v c) refl (numbers_from 0 (length covers)); nodes_are = e }
-
-  pub loop_of_others : (w v u : WalkValue) (roots : List ℕ) (c : ℕ) (nodes : List ℕ) → VisitedAll covers w v roots None → VisitedAll covers v u (numbers_from 0 (length covers)) (Some c)
-      → nodes ≡ from_number c (path_of u.stack) → IsNumberLoop covers roots nodes
-  loop_of_others w v u roots c nodes d h e = record {
-    repeat = repeat_at u c;
-    meets = meets_append (cover_reads covers) d.meets refl (numbers_from 0 (length covers)) (Some (repeat_at u c)) h.meets;
-    nodes_are = e;
-  }
-
-  pub order_of_roots : (w v u : WalkValue) (roots order : List ℕ) → w.order ≡ [] → VisitedAll covers w v roots None → VisitedAll covers v u (numbers_from 0 (length covers)) None
-      → reverse order ≡ v.order → IsOrder covers roots order
-  order_of_roots w v u roots order z d h e = record {
-    meets = meets_append (cover_reads covers) d.meets refl (numbers_from 0 (length covers)) None h.meets;
-    after = subst (IsAfter (cover_reads covers)) (sym e) d.walker.marked.after;
-    all = u.order;
-    all_after = record { after = h.walker.marked.after; every = λ n l. posts_here (cover_reads covers) h.posts n (numbers_in 0 (length covers) n (omega arith) (omega arith)); only = h.walker.marked.inside };
-    posts = subst₂ (λ x y. PostsAll (cover_reads covers) x roots y) z (sym e) d.posts;
-  }

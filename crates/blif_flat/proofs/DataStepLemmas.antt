@@ -16,16 +16,16 @@ use Rattle.blif_flat.specs.Models.{Path, model_at, inputs_of}
 use Rattle.blif_flat.specs.Nets.{input_net, latch_net, cover_net, Drives, IsClock}
 use Rattle.blif_flat.specs.Drivers.{IsDriven}
 use Rattle.blif_flat.specs.Places.{Place}
-use Rattle.blif_flat.specs.InstanceOrder.{places_at}
-use Rattle.blif_flat.specs.InstanceRows.{AreInstances, paths_of}
+use Rattle.blif_flat.specs.Steps.InstanceOrder.{places_at}
+use Rattle.blif_flat.specs.Steps.InstanceRows.{AreInstances, paths_of}
 use Rattle.blif_flat.specs.ClockFaults.{is_gate, data_of, ClockAmong, none, first, ClockData, outputs, here, later}
-use Rattle.blif_flat.specs.Gates.{AreGatesAt}
-use Rattle.blif_flat.specs.NetSlots.{NetsValue, table_of}
-use Rattle.blif_flat.specs.NetMade.{AreAllNets}
-use Rattle.blif_flat.specs.ClockSteps.{AreMarks}
+use Rattle.blif_flat.specs.Steps.Gates.{AreGatesAt}
+use Rattle.blif_flat.specs.Steps.NetSlots.{NetsValue, table_of}
+use Rattle.blif_flat.specs.Steps.NetMade.{AreAllNets}
+use Rattle.blif_flat.specs.Steps.ClockSteps.{AreClockMarks}
 use Rattle.blif_flat.specs.DriverFaults.{or_later}
-use Rattle.blif_flat.specs.DriverSteps.{Tells}
-use Rattle.blif_flat.specs.DataSteps.{marked_name, clock_named, clock_fault, names_fault}
+use Rattle.blif_flat.specs.Steps.DriverSteps.{Tells}
+use Rattle.blif_flat.specs.Steps.DataSteps.{marked_name, clock_named, clock_fault, names_fault}
 use Rattle.blif_flat.proofs.NetLemmas.{one_net}
 use Rattle.blif_flat.proofs.NetFoundLemmas.{none_found, input_found, latch_found, cover_found}
 use Rattle.blif_flat.proofs.GateWalkLemmas.{HasPlace, has_place}
@@ -43,8 +43,8 @@ tells_err (Err e) fault P t h = OrMemory-map refusal_of (λ r. fault ≡ Some r)
 
 module _ (library : LibraryValue) (driven : IsDriven library) (rows : List Instance) (are : AreInstances library rows) (nets : NetsValue) (all : AreAllNets library rows nets)
     (inputs : List (List ℕ)) (inputs_are : (main : ModelValue) → model_at library [] ≡ Some main → inputs ≡ inputs_of main)
-    (marks : List Bool) (marks_are : (main : ModelValue) → model_at library [] ≡ Some main → AreMarks library main marks) where
-  marked : AreMarks library are.main marks
+    (marks : List Bool) (marks_are : (main : ModelValue) → model_at library [] ≡ Some main → AreClockMarks library main marks) where
+  marked : AreClockMarks library are.main marks
   marked = marks_are are.main are.first
 
   mark_at : (j : ℕ) (input : List ℕ) → slice_get inputs j ≡ Some input → slice_get marks j ≡ Some (marked.test input)

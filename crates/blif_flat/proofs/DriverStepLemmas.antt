@@ -6,10 +6,10 @@ use Rattle.blif_read.specs.LibraryValue.{ModelValue, LibraryValue}
 use Rattle.blif_flat.specs.declared.flat_err.FlatErr.{FlatErr}
 use Rattle.blif_flat.specs.Refusals.{refusal_of}
 use Rattle.blif_flat.specs.Models.{has_name, is_input, is_output}
-use Rattle.blif_flat.specs.Answers.{IsTold}
+use Rattle.blif_flat.specs.Steps.Answers.{IsTold}
 use Rattle.blif_flat.specs.DriverFaults.{or_later, output_actuals, input_actuals, twice_in, undriven_in, models_fault}
-use Rattle.blif_flat.specs.DriverSteps.{fault_of}
-use Rattle.blif_flat.specs.NumberedModels.{with_model, models_at}
+use Rattle.blif_flat.specs.Steps.DriverSteps.{fault_of}
+use Rattle.blif_flat.specs.Steps.NumberedModels.{with_model, models_at}
 use Rattle.std.specs.List.{slice_get}
 use Rattle.list_laws.proofs.Items.{drop_at}
 use Rattle.tl_fault.proofs.OrMemoryLemmas.{OrMemory-map}

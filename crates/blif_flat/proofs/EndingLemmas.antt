@@ -16,10 +16,10 @@ use Rattle.blif_flat.specs.declared.walk_state.Frame.{Frame}
 use Rattle.blif_flat.specs.declared.walk_state.Mark.{Mark}
 use Rattle.blif_flat.specs.declared.walk_state.Mark.TheVariants.{New, OnChain, Done}
 use Rattle.blif_flat.specs.Models.{subckts_of}
-use Rattle.blif_flat.specs.NameSets.{model_names, IsModelOf, Finds}
+use Rattle.blif_flat.specs.Steps.NameSets.{model_names, IsModelOf, Finds}
 use Rattle.blif_flat.specs.Walk.{SubcktLine, with_line}
-use Rattle.blif_flat.specs.Weighing.{IsAmong}
-use Rattle.blif_flat.specs.Ending.{HasPlaced, HavePlaced, IsEnding}
+use Rattle.blif_flat.specs.Steps.Weighing.{IsAmong}
+use Rattle.blif_flat.specs.Steps.Ending.{HasPlaced, HavePlaced, IsEnding}
 use Rattle.blif_flat.proofs.NameSetLemmas.{finds}
 use Rattle.blif_flat.proofs.InstanceLemmas.{subckt_command}
 use Rattle.blif_flat.proofs.WeightLemmas.{children_first_push, children_first_none}

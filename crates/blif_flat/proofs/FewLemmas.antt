@@ -12,7 +12,7 @@ use Rattle.blif_flat.specs.declared.gates.GateKind.{GateKind}
 use Rattle.blif_flat.specs.Models.{Path, model_named, model_at}
 use Rattle.blif_flat.specs.Instances.{CoverAt}
 use Rattle.blif_flat.specs.Places.{Place, own_places, FlatOrder, flat, FlatUnder, none, more}
-use Rattle.blif_flat.specs.Gates.{kind_test}
+use Rattle.blif_flat.specs.Steps.Gates.{kind_test}
 use Rattle.blif_flat.specs.Weight.{most_weight, body_weight, commands_weight, own_weight, Weighs, weighs, WeighAll, none as weigh_none, more as weigh_more, IsLight}
 use Rattle.blif_flat.proofs.ConsLemmas.{not_empty, same_first, same_rest}
 use Rattle.blif_flat.proofs.PlaceLemmas.{command_of}

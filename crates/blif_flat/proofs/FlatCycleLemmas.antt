@@ -22,12 +22,13 @@ use Rattle.blif_flat.specs.FlatCycle.{flat_outputs, flat_next, flat_inits, run_o
 use Rattle.blif_flat.specs.Sound.{IsSound}
 use Rattle.blif_flat.proofs.LawLemmas.{sound_law}
 use Rattle.blif_flat.proofs.PlaceLemmas.{same_place-is, same_place-refl}
-use Rattle.blif_flat.proofs.ListGeneral.{AreApart, reversed_in}
+use Rattle.list_laws.proofs.Apart.{AreApart}
+use Rattle.list_laws.proofs.Reversed.{reversed_in}
 use Rattle.blif_flat.proofs.PlaceOnceLemmas.{order_apart}
 use Rattle.blif_flat.proofs.PostLemmas.{nodes_done}
 use Rattle.blif_flat.proofs.LoopOnceLemmas.{order_once}
 use Rattle.blif_flat.proofs.NumberLemmas.{IsKnown, cover_first, cover_later, number_value, numbers_value}
-use Rattle.blif_flat.specs.Ordering.{latch_nets}
+use Rattle.blif_flat.specs.Steps.Ordering.{latch_nets}
 use Rattle.blif_flat.proofs.EvaluateLemmas.{flat_evaluates}
 use Rattle.blif_flat.proofs.GateBodyLemmas.{latch_at-some}
 

@@ -18,15 +18,15 @@ use Rattle.blif_flat.specs.Instances.{CoverAt, LatchAt}
 use Rattle.blif_flat.specs.Drivers.{IsDriven, cover_input, latch_input}
 use Rattle.blif_flat.specs.Sound.{cover_data, latch_data}
 use Rattle.blif_flat.specs.Places.{Place, cover_in, latch_in, is_cover, is_latch}
-use Rattle.blif_flat.specs.InstanceOrder.{places_at}
-use Rattle.blif_flat.specs.InstanceRows.{paths_of, AreInstances}
-use Rattle.blif_flat.specs.Gates.{IsGateAt, AreGatesAt}
-use Rattle.blif_flat.specs.GateBodies.{body_in, gate_body}
+use Rattle.blif_flat.specs.Steps.InstanceOrder.{places_at}
+use Rattle.blif_flat.specs.Steps.InstanceRows.{paths_of, AreInstances}
+use Rattle.blif_flat.specs.Steps.Gates.{IsGateAt, AreGatesAt}
+use Rattle.blif_flat.specs.Steps.GateBodies.{body_in, gate_body}
 use Rattle.blif_flat.specs.Flat.{Places, AreNetsOf, IsFlatCover, IsFlatLatch}
-use Rattle.blif_flat.specs.NetSlots.{NetsValue}
-use Rattle.blif_flat.specs.NetMade.{AreAllNets}
-use Rattle.blif_flat.specs.RegularNets.{IsRegular, regular_places, AreFlatCovers, AreFlatLatches}
-use Rattle.blif_flat.specs.FieldSteps.{row_model, inputs_or, flat_cover, made_latch, latch_or, flat_latch, regular_nets}
+use Rattle.blif_flat.specs.Steps.NetSlots.{NetsValue}
+use Rattle.blif_flat.specs.Steps.NetMade.{AreAllNets}
+use Rattle.blif_flat.specs.Steps.RegularNets.{IsRegular, regular_places, AreFlatCovers, AreFlatLatches}
+use Rattle.blif_flat.specs.Steps.FieldSteps.{row_model, inputs_or, flat_cover, made_latch, latch_or, flat_latch, regular_nets}
 use Rattle.blif_flat.proofs.KindLemmas.{IsOfKind, flat_only, is_cover-some, is_latch-some}
 use Rattle.blif_flat.proofs.InstanceOrderLemmas.{order_places}
 use Rattle.blif_flat.proofs.GateBodyLemmas.{place_model, gate_row, gate_place}

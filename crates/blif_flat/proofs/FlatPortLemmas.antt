@@ -11,12 +11,12 @@ use Rattle.blif_flat.specs.declared.instances.Instance.{Instance}
 use Rattle.blif_flat.specs.Models.{has_name, is_input, is_output, inputs_of}
 use Rattle.blif_flat.specs.Nets.{Net, input_net, Drives, main_input}
 use Rattle.blif_flat.specs.Drivers.{IsDriven, model_output}
-use Rattle.blif_flat.specs.InstanceRows.{paths_of, AreInstances}
+use Rattle.blif_flat.specs.Steps.InstanceRows.{paths_of, AreInstances}
 use Rattle.blif_flat.specs.Flat.{AreNetsOf, underscores, most_underscores}
-use Rattle.blif_flat.specs.NetSlots.{NetsValue}
-use Rattle.blif_flat.specs.NetMade.{AreAllNets}
-use Rattle.blif_flat.specs.RegularNets.{IsRegular, regular_places}
-use Rattle.blif_flat.specs.FieldSteps.{regular_nets, out_port, outputs_or, with_unmarked, unmarked_after}
+use Rattle.blif_flat.specs.Steps.NetSlots.{NetsValue}
+use Rattle.blif_flat.specs.Steps.NetMade.{AreAllNets}
+use Rattle.blif_flat.specs.Steps.RegularNets.{IsRegular, regular_places}
+use Rattle.blif_flat.specs.Steps.FieldSteps.{regular_nets, out_port, outputs_or, with_unmarked, unmarked_after}
 use Rattle.blif_flat.proofs.NetLemmas.{net_of_driver}
 use Rattle.blif_flat.proofs.RegularNetLemmas.{IsNoClock, nets_are}
 use Rattle.blif_flat.proofs.NameLemmas.{in_has}

@@ -4,8 +4,8 @@ use Rattle.std.specs.Prelude.{slice_get}
 use Rattle.std.proofs.lemmas.Option.{none-some, same_Some}
 use mathlib.Core.List.{reverse_aux}
 use Rattle.list_laws.specs.Members.{In}
-use Rattle.blif_flat.specs.CoverOrder.{IsAfter}
-use Rattle.blif_flat.proofs.ListGeneral.{AreApart}
+use Rattle.blif_flat.specs.Steps.CoverOrder.{IsAfter}
+use Rattle.list_laws.proofs.Apart.{AreApart}
 
 abbrev pub IsForward : {N : Type 0} → (N → List N) → List N → List N → Type 0
 IsForward reads before [] = Unit {0}

@@ -11,9 +11,9 @@ use Rattle.blif_flat.specs.declared.instances.Instance.{Instance}
 use Rattle.blif_flat.specs.Models.{Path, model_at}
 use Rattle.blif_flat.specs.Instances.{LatchAt}
 use Rattle.blif_flat.specs.Places.{Place, latch_at}
-use Rattle.blif_flat.specs.InstanceRows.{AreInstances, IsRow, paths_of}
-use Rattle.blif_flat.specs.Gates.{IsGateAt}
-use Rattle.blif_flat.specs.GateBodies.{body_in, numbered_body, place_body, gate_body}
+use Rattle.blif_flat.specs.Steps.InstanceRows.{AreInstances, IsRow, paths_of}
+use Rattle.blif_flat.specs.Steps.Gates.{IsGateAt}
+use Rattle.blif_flat.specs.Steps.GateBodies.{body_in, numbered_body, place_body, gate_body}
 use Rattle.blif_flat.proofs.InstanceRowLemmas.{paths_of-length}
 
 -- a row that has a path is there

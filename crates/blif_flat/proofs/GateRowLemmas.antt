@@ -12,10 +12,10 @@ use Rattle.blif_flat.specs.declared.gates.GateKind.{GateKind}
 use Rattle.blif_flat.specs.declared.instances.Instance.{Instance}
 use Rattle.blif_flat.specs.Models.{Path, model_at}
 use Rattle.blif_flat.specs.Places.{Place, own_places}
-use Rattle.blif_flat.specs.InstanceOrder.{model_places, places_at}
-use Rattle.blif_flat.specs.InstanceRows.{AreInstances, IsLight, paths_of}
-use Rattle.blif_flat.specs.Gates.{kind_test, IsGateAt, AreGatesAt}
-use Rattle.blif_flat.specs.GateRows.{with_commands, with_model, with_rows}
+use Rattle.blif_flat.specs.Steps.InstanceOrder.{model_places, places_at}
+use Rattle.blif_flat.specs.Steps.InstanceRows.{AreInstances, IsLight, paths_of}
+use Rattle.blif_flat.specs.Steps.Gates.{kind_test, IsGateAt, AreGatesAt}
+use Rattle.blif_flat.specs.Steps.GateRows.{with_commands, with_model, with_rows}
 use Rattle.blif_flat.specs.Weight.{most_weight}
 use Rattle.list_laws.proofs.Places.{drop_past}
 use Rattle.list_laws.proofs.TwoLists.{pushed_pair}

@@ -15,9 +15,9 @@ use Rattle.blif_flat.specs.Instances.{CoverAt, LatchAt}
 use Rattle.blif_flat.specs.Places.{Place, latch_at, is_cover, is_latch, FlatOrder}
 use Rattle.blif_flat.specs.Nets.{latch_net, cover_net}
 use Rattle.blif_flat.specs.Written.{path_text, IsWritten, of_latch}
-use Rattle.blif_flat.specs.InstanceOrder.{places_at}
-use Rattle.blif_flat.specs.InstanceRows.{AreInstances, paths_of}
-use Rattle.blif_flat.specs.Gates.{IsGateAt, AreGatesAt}
+use Rattle.blif_flat.specs.Steps.InstanceOrder.{places_at}
+use Rattle.blif_flat.specs.Steps.InstanceRows.{AreInstances, paths_of}
+use Rattle.blif_flat.specs.Steps.Gates.{IsGateAt, AreGatesAt}
 use Rattle.blif_flat.proofs.InstanceOrderLemmas.{order_places}
 use Rattle.blif_flat.proofs.KindLemmas.{IsOfKind, flat_only, is_cover-some, is_latch-some}
 use Rattle.blif_flat.proofs.NoFaultLemmas.{is_latch_at}

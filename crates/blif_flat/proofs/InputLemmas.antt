@@ -4,8 +4,8 @@ use Rattle.std.specs.Prelude.{filter, slice_get}
 use Rattle.std.specs.Option.{option_and_then}
 use Rattle.blif_read.specs.LibraryValue.{ModelValue}
 use Rattle.blif_flat.specs.Models.{has_name, inputs_of}
-use Rattle.blif_flat.specs.NameSets.{with_names}
-use Rattle.blif_flat.specs.ClockSteps.{input_name, is_control, clock_test}
+use Rattle.blif_flat.specs.Steps.NameSets.{with_names}
+use Rattle.blif_flat.specs.Steps.ClockSteps.{input_name, is_control, clock_test}
 use Rattle.blif_flat.proofs.NameSetLemmas.{has_with_names}
 
 -- tests that agree at each name are equal

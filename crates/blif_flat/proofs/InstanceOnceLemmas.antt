@@ -7,7 +7,7 @@ use Rattle.blif_read.specs.Once.{AreOnce}
 use Rattle.blif_read.specs.SubcktValue.{SubcktValue}
 use Rattle.blif_read.specs.LibraryValue.{ModelValue, LibraryValue}
 use Rattle.blif_flat.specs.Models.{Path}
-use Rattle.blif_flat.specs.InstanceOrder.{InstanceOrder, instance, InstancesUnder, none, more}
+use Rattle.blif_flat.specs.Steps.InstanceOrder.{InstanceOrder, instance, InstancesUnder, none, more}
 
 -- lists apart, in which none stands twice
 joined_once : (xs ys : List Path) → AreOnce xs → AreOnce ys → ((p : Path) → In xs p → In ys p → ⊥) → AreOnce (xs ++ ys)

@@ -11,7 +11,7 @@ use Rattle.blif_read.specs.LibraryValue.{ModelValue, LibraryValue}
 use Rattle.blif_flat.specs.Models.{Path, subckts_of, model_named, placed, model_at}
 use Rattle.blif_flat.specs.Drivers.{Ends, ends}
 use Rattle.blif_flat.specs.Places.{FlatOrder, flat, FlatUnder, none as flat_none, more as flat_more}
-use Rattle.blif_flat.specs.InstanceOrder.{InstanceOrder, instance, InstancesUnder, none, more, model_places, places_at}
+use Rattle.blif_flat.specs.Steps.InstanceOrder.{InstanceOrder, instance, InstancesUnder, none, more, model_places, places_at}
 use Rattle.blif_flat.proofs.PlaceLemmas.{placed-is, inside}
 use Rattle.blif_flat.proofs.ConsLemmas.{cons_first, cons_rest}
 

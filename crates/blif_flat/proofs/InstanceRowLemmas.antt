@@ -13,10 +13,10 @@ use Rattle.blif_read.specs.SubcktValue.{SubcktValue}
 use Rattle.blif_read.specs.LibraryValue.{ModelValue, LibraryValue}
 use Rattle.blif_flat.specs.declared.instances.Instance.{Instance}
 use Rattle.blif_flat.specs.Models.{Path, subckts_of, with_subckt, model_named, model_at}
-use Rattle.blif_flat.specs.NameSets.{model_names, Finds}
+use Rattle.blif_flat.specs.Steps.NameSets.{model_names, Finds}
 use Rattle.blif_flat.specs.Weight.{most_weight, own_weight, Weighs, weighs, WeighAll, none as weigh_none, more as weigh_more}
-use Rattle.blif_flat.specs.InstanceOrder.{InstanceOrder, instance, InstancesUnder, none as under_none, more as under_more}
-use Rattle.blif_flat.specs.InstanceRows.{path_under, path_of, paths_from, paths_of, IsRow, AreInstances, IsLight, number_or_zero, entry_of, with_entry, entries_from, entries_at, IsWaiting, Waits, none, more, Listed}
+use Rattle.blif_flat.specs.Steps.InstanceOrder.{InstanceOrder, instance, InstancesUnder, none as under_none, more as under_more}
+use Rattle.blif_flat.specs.Steps.InstanceRows.{path_under, path_of, paths_from, paths_of, IsRow, AreInstances, IsLight, number_or_zero, entry_of, with_entry, entries_from, entries_at, IsWaiting, Waits, none, more, Listed}
 use Rattle.blif_flat.proofs.NameSetLemmas.{finds}
 use Rattle.blif_flat.proofs.InstanceOrderLemmas.{AreFrom, from_start, from_first, from_rest, placed_at}
 use Rattle.blif_flat.proofs.ConsLemmas.{cons_first, cons_rest}

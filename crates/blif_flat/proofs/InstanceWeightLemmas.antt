@@ -13,10 +13,10 @@ use Rattle.blif_flat.specs.declared.gates.GateKind.{GateKind}
 use Rattle.blif_flat.specs.declared.gates.GateKind.TheVariants.{Cover, Latch, Either}
 use Rattle.blif_flat.specs.Models.{Path, subckts_of, with_subckt, model_named, model_at}
 use Rattle.blif_flat.specs.Places.{own_places}
-use Rattle.blif_flat.specs.Gates.{kind_test}
+use Rattle.blif_flat.specs.Steps.Gates.{kind_test}
 use Rattle.blif_flat.specs.Weight.{most_weight, body_weight, commands_weight, own_weight, Weighs, weighs, WeighAll, none as weigh_none, more as weigh_more}
-use Rattle.blif_flat.specs.InstanceOrder.{InstanceOrder, instance, InstancesUnder, none, more, model_places, places_at}
-use Rattle.blif_flat.specs.InstanceRows.{IsLight}
+use Rattle.blif_flat.specs.Steps.InstanceOrder.{InstanceOrder, instance, InstancesUnder, none, more, model_places, places_at}
+use Rattle.blif_flat.specs.Steps.InstanceRows.{IsLight}
 use Rattle.blif_flat.proofs.ConsLemmas.{not_empty, same_first, same_rest}
 use Rattle.blif_flat.proofs.PlaceLemmas.{inside}
 use Rattle.blif_flat.proofs.InstanceOrderLemmas.{AreFrom, from_start, from_first, from_rest, placed_at}

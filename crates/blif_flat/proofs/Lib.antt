@@ -32,7 +32,6 @@ pub mod DataLemmas
 pub mod SameNetLemmas
 pub mod MeetLemmas
 pub mod KindLemmas
-pub mod ListGeneral
 pub mod DependLemmas
 pub mod LoopLemmas
 pub mod LoopFreeLemmas
@@ -53,7 +52,10 @@ pub mod DriverStepLemmas
 pub mod LineLemmas
 pub mod StackLemmas
 pub mod WalkStepLemmas
+pub mod DepthFirstLemmas
 pub mod CoverWalkLemmas
+pub mod CoverVisitLemmas
+pub mod CoverRootLemmas
 pub mod InstanceOrderLemmas
 pub mod InstanceOnceLemmas
 pub mod InstanceRowLemmas
@@ -93,9 +95,11 @@ pub mod RegularNetLemmas
 pub mod FlatGateLemmas
 pub mod FlatPortLemmas
 pub mod LoopOrderLemmas
-pub mod SmallLemmas
 pub mod FewLemmas
 pub mod BoundLemmas
+pub mod PostOnceLemmas
+pub mod OneNumberLemmas
+pub mod OneFlatLemmas
 mod Examples
 mod FlatExamples
 mod LoopExamples

@@ -10,11 +10,11 @@ use Rattle.blif_read.specs.LibraryValue.{ModelValue}
 use Rattle.blif_flat.specs.declared.ports.Ports.{Ports}
 use Rattle.blif_flat.specs.declared.flat_err.FlatErr.{FlatErr}
 use Rattle.blif_flat.specs.declared.flat_err.FlatErr.TheVariants.{UnknownModel, RecursiveModel, UnknownFormal, Unconnected, TooLarge, DoublyDriven, Undriven, SecondClock, ClockNotInput, ClockAsData, Loop, Memory}
-use Rattle.blif_flat.specs.Answers.{IsTold}
+use Rattle.blif_flat.specs.Steps.Answers.{IsTold}
 use Rattle.blif_flat.specs.Models.{has_name, is_input, inputs_of}
-use Rattle.blif_flat.specs.NameSets.{with_names, ports_value}
+use Rattle.blif_flat.specs.Steps.NameSets.{with_names, ports_value}
 use Rattle.blif_flat.specs.Walk.{unknown_formal, is_connected, open_input, input_fault, formal_fault}
-use Rattle.blif_flat.specs.Line.{foreign_formal, open_among, ports_fault}
+use Rattle.blif_flat.specs.Steps.Line.{foreign_formal, open_among, ports_fault}
 use Rattle.blif_flat.proofs.NameSetLemmas.{has_inputs, has_with_names, same_match}
 
 pub foreign_is : (child : ModelValue) (pairs : List Pair) → foreign_formal (ports_value child) pairs ≡ unknown_formal child pairs

@@ -2,7 +2,7 @@
 use Rattle.std.proofs.Common.{ℕ, zero, suc, ◌+◌, ◌≤◌, List, [], ◌∷◌, length, None, refl, sym, subst, inl, inr, arith}
 use Rattle.list_laws.specs.Members.{In}
 use Rattle.blif_flat.specs.DepthFirst.{Meets, goes, MeetsAll, none, later}
-use Rattle.blif_flat.proofs.ListGeneral.{AreApart, apart_short}
+use Rattle.list_laws.proofs.Apart.{AreApart, apart_short}
 use Rattle.blif_flat.proofs.PostLemmas.{Reaches, at_once, one_more}
 
 module _ {N : Type 0} (next : N → List N) (all : List N) (closed : (n m : N) → In all n → In (next n) m → In all m) (acyclic : (n : N) → In all n → Reaches next n n → ⊥) where

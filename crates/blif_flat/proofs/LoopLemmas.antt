@@ -13,7 +13,7 @@ use Rattle.blif_flat.specs.Instances.{CoverAt}
 use Rattle.blif_flat.specs.Nets.{Net, input_net, latch_net, cover_net, Drives, main_input, latch_output, cover_output, from_inside, from_outside}
 use Rattle.blif_flat.specs.Places.{Place, same_place, cover_at, latch_at, is_cover}
 use Rattle.blif_flat.specs.Loops.{AreNets, with_cover, covers_among, reads_in, reads_of, Depends}
-use Rattle.blif_flat.specs.CoverOrder.{Ordered}
+use Rattle.blif_flat.specs.Steps.CoverOrder.{Ordered}
 use Rattle.blif_flat.specs.LoopFault.{latch_covers, all_latch_covers, roots_of, LoopWalk}
 use Rattle.blif_flat.proofs.FindLemmas.{Decided}
 use Rattle.blif_flat.proofs.PlaceLemmas.{place_of, same_place-is, same_place-refl}

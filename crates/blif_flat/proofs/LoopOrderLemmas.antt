@@ -19,14 +19,14 @@ use Rattle.blif_flat.specs.Instances.{CoverAt}
 use Rattle.blif_flat.specs.Nets.{cover_net}
 use Rattle.blif_flat.specs.Drivers.{IsDriven}
 use Rattle.blif_flat.specs.Places.{Place, is_cover}
-use Rattle.blif_flat.specs.InstanceOrder.{places_at}
-use Rattle.blif_flat.specs.InstanceRows.{paths_of, AreInstances}
-use Rattle.blif_flat.specs.Gates.{IsGateAt, AreGatesAt}
-use Rattle.blif_flat.specs.CoverWalk.{InRange, IsNumberLoop, IsOrder}
+use Rattle.blif_flat.specs.Steps.InstanceOrder.{places_at}
+use Rattle.blif_flat.specs.Steps.InstanceRows.{paths_of, AreInstances}
+use Rattle.blif_flat.specs.Steps.Gates.{IsGateAt, AreGatesAt}
+use Rattle.blif_flat.specs.Steps.CoverWalk.{InRange, IsNumberLoop, IsOrder}
 use Rattle.blif_flat.specs.Written.{IsWritten}
 use Rattle.blif_flat.specs.LoopFault.{AreWritten, none, LoopWalk, IsLoop}
-use Rattle.blif_flat.specs.Ordering.{AreCounted, root_numbers}
-use Rattle.blif_flat.specs.LoopSteps.{IsWrittenAt, AreWrittenAt}
+use Rattle.blif_flat.specs.Steps.Ordering.{AreCounted, root_numbers}
+use Rattle.blif_flat.specs.Steps.LoopSteps.{IsWrittenAt, AreWrittenAt}
 use Rattle.blif_flat.proofs.FlatGateLemmas.{cover_there}
 use Rattle.blif_flat.proofs.GateBodyLemmas.{row_within}
 use Rattle.blif_flat.proofs.NetLemmas.{nets, are_nets}

@@ -12,11 +12,11 @@ use Rattle.blif_flat.specs.Instances.{LatchAt}
 use Rattle.blif_flat.specs.Nets.{input_net, Drives, IsClock, listed, controls}
 use Rattle.blif_flat.specs.Drivers.{IsDriven}
 use Rattle.blif_flat.specs.Places.{is_latch, FlatOrder}
-use Rattle.blif_flat.specs.InstanceOrder.{places_at}
-use Rattle.blif_flat.specs.InstanceRows.{AreInstances, paths_of}
+use Rattle.blif_flat.specs.Steps.InstanceOrder.{places_at}
+use Rattle.blif_flat.specs.Steps.InstanceRows.{AreInstances, paths_of}
 use Rattle.blif_flat.specs.ClockFaults.{Clocks}
 use Rattle.blif_flat.specs.Flat.{IsControl, some_latch, no_latch, TellsClocks}
-use Rattle.blif_flat.specs.ClockSteps.{input_name, IsControlled, is_control, clock_test}
+use Rattle.blif_flat.specs.Steps.ClockSteps.{input_name, IsControlled, is_control, clock_test}
 use Rattle.blif_flat.proofs.ControlLemmas.{clocks-one}
 use Rattle.blif_flat.proofs.InstanceOrderLemmas.{order_places}
 

@@ -3,7 +3,7 @@ use Rattle.std.proofs.Common.{◌≡◌, List, [], ◌∷◌, Option, None, refl
 use Rattle.std.proofs.lemmas.Option.{none-some}
 use Rattle.list_laws.specs.Members.{In}
 use Rattle.blif_flat.specs.DepthFirst.{Repeat, Meets, met, goes, MeetsAll, none, first, later}
-use Rattle.blif_flat.specs.CoverOrder.{IsAfter}
+use Rattle.blif_flat.specs.Steps.CoverOrder.{IsAfter}
 
 -- nodes are told apart, and P holds of what a node goes to where it holds of the node
 module _ {N : Type 0} (next : N → List N) (has : (ns : List N) (n : N) → In ns n ⊎ (In ns n → ⊥)) (P : N → Type 0) (closed : (n m : N) → P n → In (next n) m → P m) where

@@ -14,9 +14,9 @@ use Rattle.blif_read.specs.declared.command.Command.{Command}
 use Rattle.blif_read.specs.declared.subckt.Pair.{Pair}
 use Rattle.blif_read.specs.LibraryValue.{ModelValue}
 use Rattle.blif_flat.specs.Models.{has_name}
-use Rattle.blif_flat.specs.ModelNames.{control_names, body_names, commands_names, all_names}
-use Rattle.blif_flat.specs.NameSets.{with_name, with_names}
-use Rattle.blif_flat.specs.NetStarts.{distinct_names}
+use Rattle.blif_flat.specs.Steps.ModelNames.{control_names, body_names, commands_names, all_names}
+use Rattle.blif_flat.specs.Steps.NameSets.{with_name, with_names}
+use Rattle.blif_flat.specs.Steps.NetStarts.{distinct_names}
 use Rattle.blif_flat.specs.Weight.{control_weight, body_weight, commands_weight, own_weight}
 use Rattle.list_laws.proofs.Items.{drop_at}
 use Rattle.list_laws.proofs.Places.{at_within}

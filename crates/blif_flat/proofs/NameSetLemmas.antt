@@ -14,7 +14,7 @@ use Rattle.blif_read.specs.LibraryValue.{ModelValue, input_ports, output_ports, 
 use Rattle.blif_read.specs.WellFormed.{IsWellFormedModel}
 use Rattle.blif_read.specs.Once.{AreOnce}
 use Rattle.blif_flat.specs.Models.{has_name, is_input, inputs_of, model_named}
-use Rattle.blif_flat.specs.NameSets.{with_name, with_names, ports_value, model_names, Finds}
+use Rattle.blif_flat.specs.Steps.NameSets.{with_name, with_names, ports_value, model_names, Finds}
 
 -- a name has a place exactly where it is among the names
 some_when : {A : Type 0} (o : Option A) (b : Bool) → (b ≡ false → o ≡ None) → (o ≡ None → b ≡ false) → is_some o ≡ b

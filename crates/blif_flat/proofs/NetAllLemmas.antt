@@ -16,14 +16,14 @@ use Rattle.blif_flat.specs.Models.{Path, has_name, is_input, is_output, inputs_o
 use Rattle.blif_flat.specs.Instances.{ConnectionAt}
 use Rattle.blif_flat.specs.Drivers.{IsDriven}
 use Rattle.blif_flat.specs.Places.{is_cover, is_latch}
-use Rattle.blif_flat.specs.InstanceOrder.{places_at}
-use Rattle.blif_flat.specs.InstanceRows.{paths_of, AreInstances}
+use Rattle.blif_flat.specs.Steps.InstanceOrder.{places_at}
+use Rattle.blif_flat.specs.Steps.InstanceRows.{paths_of, AreInstances}
 use Rattle.blif_flat.specs.Flat.{Places}
-use Rattle.blif_flat.specs.Gates.{AreGatesAt}
-use Rattle.blif_flat.specs.NetTable.{IsSoundTable, HasOwn, HasOutputs, HasInputs, AreNetsAt, net_places}
-use Rattle.blif_flat.specs.NetMade.{HasSlots, AreEmptyNets, IsNext, AreAllNets}
-use Rattle.blif_flat.specs.NetSlots.{NetsValue, table_of, IsNets}
-use Rattle.blif_flat.specs.NetSteps.{cover_output, latch_output, with_covers, with_latches, with_inputs, link_at, linked_out, linked_in, links_out, links_in}
+use Rattle.blif_flat.specs.Steps.Gates.{AreGatesAt}
+use Rattle.blif_flat.specs.Steps.NetTable.{IsSoundTable, HasOwn, HasOutputs, HasInputs, AreNetsAt, net_places}
+use Rattle.blif_flat.specs.Steps.NetMade.{HasSlots, AreEmptyNets, IsNext, AreAllNets}
+use Rattle.blif_flat.specs.Steps.NetSlots.{NetsValue, table_of, IsNets}
+use Rattle.blif_flat.specs.Steps.NetSteps.{cover_output, latch_output, with_covers, with_latches, with_inputs, link_at, linked_out, linked_in, links_out, links_in}
 use Rattle.blif_flat.proofs.NameLemmas.{has_in}
 use Rattle.blif_flat.proofs.PlaceLemmas.{child_at}
 use Rattle.blif_flat.proofs.InstanceRowLemmas.{paths_of-length}

@@ -5,8 +5,8 @@ use Rattle.blif_read.specs.LibraryValue.{LibraryValue}
 use Rattle.blif_flat.specs.declared.flat.Net.{Net as FlatNet}
 use Rattle.blif_flat.specs.Models.{Path}
 use Rattle.blif_flat.specs.Flat.{Places, IsNetOf}
-use Rattle.blif_flat.specs.NetTable.{IsSoundTable, IsKeptIn, with_net}
-use Rattle.blif_flat.specs.NetSlots.{NetsValue, slot_number, table_of, with_slot, with_found, copied, IsNets}
+use Rattle.blif_flat.specs.Steps.NetTable.{IsSoundTable, IsKeptIn, with_net}
+use Rattle.blif_flat.specs.Steps.NetSlots.{NetsValue, slot_number, table_of, with_slot, with_found, copied, IsNets}
 use Rattle.blif_flat.proofs.NetFillLemmas.{with_net-known, with_net-kept, kept_same, sound_with}
 use Rattle.blif_flat.proofs.NetSlotLemmas.{with_slot-table}
 

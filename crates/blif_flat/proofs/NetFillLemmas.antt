@@ -10,7 +10,7 @@ use Rattle.blif_flat.specs.declared.flat.Net.{Net as FlatNet}
 use Rattle.blif_flat.specs.Models.{Path, model_at, is_input, is_output}
 use Rattle.blif_flat.specs.Instances.{ConnectionAt}
 use Rattle.blif_flat.specs.Flat.{Places, IsNetOf}
-use Rattle.blif_flat.specs.NetTable.{IsSoundTable, HasOwn, HasOutputs, HasInputs, IsKeptIn, with_net}
+use Rattle.blif_flat.specs.Steps.NetTable.{IsSoundTable, HasOwn, HasOutputs, HasInputs, IsKeptIn, with_net}
 
 -- a number before the next one is before this one or is it
 before_or_at : (i t : ℕ) → i < suc t → (i < t) ⊎ (i ≡ t)

@@ -10,15 +10,15 @@ use Rattle.blif_flat.specs.declared.gates.Gate.{Gate}
 use Rattle.blif_flat.specs.declared.instances.Instance.{Instance}
 use Rattle.blif_flat.specs.declared.ports.Ports.{Ports}
 use Rattle.blif_flat.specs.Models.{inputs_of, subckts_of, model_at}
-use Rattle.blif_flat.specs.NameSets.{ports_value}
+use Rattle.blif_flat.specs.Steps.NameSets.{ports_value}
 use Rattle.blif_flat.specs.Drivers.{IsDriven}
 use Rattle.blif_flat.specs.Places.{is_cover, is_latch}
-use Rattle.blif_flat.specs.InstanceOrder.{places_at}
-use Rattle.blif_flat.specs.InstanceRows.{paths_of, AreInstances}
-use Rattle.blif_flat.specs.Gates.{AreGatesAt}
-use Rattle.blif_flat.specs.NetMade.{AreEmptyNets, AreAllNets}
-use Rattle.blif_flat.specs.NetSlots.{NetsValue}
-use Rattle.blif_flat.specs.NetSteps.{with_covers, with_latches, with_inputs, links_out, links_in, AreLinesOf}
+use Rattle.blif_flat.specs.Steps.InstanceOrder.{places_at}
+use Rattle.blif_flat.specs.Steps.InstanceRows.{paths_of, AreInstances}
+use Rattle.blif_flat.specs.Steps.Gates.{AreGatesAt}
+use Rattle.blif_flat.specs.Steps.NetMade.{AreEmptyNets, AreAllNets}
+use Rattle.blif_flat.specs.Steps.NetSlots.{NetsValue}
+use Rattle.blif_flat.specs.Steps.NetSteps.{with_covers, with_latches, with_inputs, links_out, links_in, AreLinesOf}
 use Rattle.blif_flat.specs.Weight.{most_weight}
 use Rattle.blif_flat.proofs.NetMainLemmas.{few_inputs}
 use Rattle.blif_flat.proofs.NetAllLemmas.{all_nets}

@@ -8,12 +8,12 @@ use Rattle.blif_flat.specs.declared.instances.Instance.{Instance}
 use Rattle.blif_flat.specs.Models.{Path, model_at, inputs_of}
 use Rattle.blif_flat.specs.Nets.{Net, input_net, latch_net, cover_net, Drives}
 use Rattle.blif_flat.specs.Places.{Place, is_cover, is_latch}
-use Rattle.blif_flat.specs.InstanceOrder.{places_at}
-use Rattle.blif_flat.specs.InstanceRows.{AreInstances, paths_of}
+use Rattle.blif_flat.specs.Steps.InstanceOrder.{places_at}
+use Rattle.blif_flat.specs.Steps.InstanceRows.{AreInstances, paths_of}
 use Rattle.blif_flat.specs.Flat.{Places, IsNumbered, an_input, a_latch, a_cover}
-use Rattle.blif_flat.specs.NetTable.{net_places, IsNetFound}
-use Rattle.blif_flat.specs.NetSlots.{NetsValue, table_of}
-use Rattle.blif_flat.specs.NetMade.{AreAllNets}
+use Rattle.blif_flat.specs.Steps.NetTable.{net_places, IsNetFound}
+use Rattle.blif_flat.specs.Steps.NetSlots.{NetsValue, table_of}
+use Rattle.blif_flat.specs.Steps.NetMade.{AreAllNets}
 
 -- the input of a number drives a name
 pub record ByInput (library : LibraryValue) (inputs : List (List ℕ)) (path : Path) (name : List ℕ) (j : ℕ) : Type 0 where

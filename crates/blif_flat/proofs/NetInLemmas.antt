@@ -8,10 +8,10 @@ use Rattle.blif_read.specs.LibraryValue.{ModelValue, LibraryValue}
 use Rattle.blif_flat.specs.Models.{Path, is_input}
 use Rattle.blif_flat.specs.Instances.{ConnectionAt}
 use Rattle.blif_flat.specs.Flat.{Places}
-use Rattle.blif_flat.specs.NetTable.{IsSoundTable}
-use Rattle.blif_flat.specs.NetSlots.{NetsValue, slot_number, table_of, copied, pair_in, pairs_in, IsNets}
+use Rattle.blif_flat.specs.Steps.NetTable.{IsSoundTable}
+use Rattle.blif_flat.specs.Steps.NetSlots.{NetsValue, slot_number, table_of, copied, pair_in, pairs_in, IsNets}
 use Rattle.blif_flat.proofs.NetTableLemmas.{inner_number}
-use Rattle.blif_flat.specs.NetMade.{IsNext}
+use Rattle.blif_flat.specs.Steps.NetMade.{IsNext}
 use Rattle.blif_flat.proofs.NetOutLemmas.{next_same, next_on}
 use Rattle.blif_flat.proofs.NetSlotLemmas.{copied-nets}
 use Rattle.blif_flat.proofs.NetCopyLemmas.{copied-kept, copied-known, copied-slots, copied-sound}

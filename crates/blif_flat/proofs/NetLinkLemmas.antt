@@ -16,9 +16,9 @@ use Rattle.blif_read.specs.LibraryValue.{ModelValue, LibraryValue}
 use Rattle.blif_flat.specs.declared.instances.Instance.{Instance}
 use Rattle.blif_flat.specs.Models.{Path, with_subckt, subckts_of, model_at}
 use Rattle.blif_flat.specs.Instances.{ConnectionAt}
-use Rattle.blif_flat.specs.InstanceRows.{path_of, paths_of, IsRow, AreInstances}
-use Rattle.blif_flat.specs.ModelNames.{body_names, commands_names, all_names}
-use Rattle.blif_flat.specs.NetSteps.{Link, line_of, link_of, link_under, link_at}
+use Rattle.blif_flat.specs.Steps.InstanceRows.{path_of, paths_of, IsRow, AreInstances}
+use Rattle.blif_flat.specs.Steps.ModelNames.{body_names, commands_names, all_names}
+use Rattle.blif_flat.specs.Steps.NetSteps.{Link, line_of, link_of, link_under, link_at}
 use Rattle.blif_flat.proofs.PlaceLemmas.{Inside, inside}
 use Rattle.blif_flat.proofs.InstanceRowLemmas.{paths_of-length}
 use Rattle.blif_flat.proofs.NetTableLemmas.{HasParent, has_parent}

@@ -16,14 +16,14 @@ use Rattle.blif_read.specs.WellFormed.{IsWellFormedModel}
 use Rattle.blif_flat.specs.declared.flat.Net.TheVariants.{Input as InputNumber}
 use Rattle.blif_flat.specs.declared.instances.Instance.{Instance}
 use Rattle.blif_flat.specs.Models.{has_name, is_input, inputs_of, model_at}
-use Rattle.blif_flat.specs.NameSets.{with_name, with_names}
-use Rattle.blif_flat.specs.InstanceRows.{paths_of, AreInstances, number_or_zero}
+use Rattle.blif_flat.specs.Steps.NameSets.{with_name, with_names}
+use Rattle.blif_flat.specs.Steps.InstanceRows.{paths_of, AreInstances, number_or_zero}
 use Rattle.blif_flat.specs.Flat.{Places}
-use Rattle.blif_flat.specs.ModelNames.{commands_names, all_names}
-use Rattle.blif_flat.specs.NetTable.{IsSoundTable, net_places}
-use Rattle.blif_flat.specs.NetMade.{HasSlots, IsNext}
-use Rattle.blif_flat.specs.NetSlots.{NetsValue, slot_number, table_of, IsNets}
-use Rattle.blif_flat.specs.NetSteps.{with_place, with_inputs}
+use Rattle.blif_flat.specs.Steps.ModelNames.{commands_names, all_names}
+use Rattle.blif_flat.specs.Steps.NetTable.{IsSoundTable, net_places}
+use Rattle.blif_flat.specs.Steps.NetMade.{HasSlots, IsNext}
+use Rattle.blif_flat.specs.Steps.NetSlots.{NetsValue, slot_number, table_of, IsNets}
+use Rattle.blif_flat.specs.Steps.NetSteps.{with_place, with_inputs}
 use Rattle.blif_flat.specs.Weight.{most_weight}
 use Rattle.blif_flat.proofs.NameLemmas.{has_in, in_has, in_input, input_in}
 use Rattle.blif_flat.proofs.NameSetLemmas.{more_names, place_some}

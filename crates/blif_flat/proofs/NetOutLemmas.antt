@@ -8,9 +8,9 @@ use Rattle.blif_read.specs.LibraryValue.{ModelValue, LibraryValue}
 use Rattle.blif_flat.specs.Models.{Path, is_output}
 use Rattle.blif_flat.specs.Instances.{ConnectionAt}
 use Rattle.blif_flat.specs.Flat.{Places}
-use Rattle.blif_flat.specs.NetTable.{IsSoundTable}
-use Rattle.blif_flat.specs.NetMade.{IsNext}
-use Rattle.blif_flat.specs.NetSlots.{NetsValue, slot_number, table_of, copied, pair_out, pairs_out, IsNets}
+use Rattle.blif_flat.specs.Steps.NetTable.{IsSoundTable}
+use Rattle.blif_flat.specs.Steps.NetMade.{IsNext}
+use Rattle.blif_flat.specs.Steps.NetSlots.{NetsValue, slot_number, table_of, copied, pair_out, pairs_out, IsNets}
 use Rattle.blif_flat.proofs.NetTableLemmas.{outer_number}
 use Rattle.blif_flat.proofs.NetFillLemmas.{kept_same, kept_on}
 use Rattle.blif_flat.proofs.NetSlotLemmas.{copied-nets}

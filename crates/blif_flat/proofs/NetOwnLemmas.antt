@@ -19,16 +19,16 @@ use Rattle.blif_flat.specs.declared.instances.Instance.{Instance}
 use Rattle.blif_flat.specs.Models.{Path, body_at, model_at}
 use Rattle.blif_flat.specs.Nets.{latch_net, cover_net, latch_output as drives_latch, cover_output as drives_cover}
 use Rattle.blif_flat.specs.Places.{is_cover, is_latch}
-use Rattle.blif_flat.specs.InstanceOrder.{places_at}
-use Rattle.blif_flat.specs.InstanceRows.{paths_of, AreInstances}
+use Rattle.blif_flat.specs.Steps.InstanceOrder.{places_at}
+use Rattle.blif_flat.specs.Steps.InstanceRows.{paths_of, AreInstances}
 use Rattle.blif_flat.specs.Flat.{Places, IsNumbered, a_latch, a_cover, IsNetOf}
-use Rattle.blif_flat.specs.Gates.{IsGateAt, AreGatesAt}
-use Rattle.blif_flat.specs.ModelNames.{body_names, commands_names, all_names}
-use Rattle.blif_flat.specs.NetTable.{IsSoundTable, net_places, own_number}
-use Rattle.blif_flat.specs.NetMade.{HasSlots, IsNext}
-use Rattle.blif_flat.specs.NetSlots.{NetsValue, table_of, IsNets}
-use Rattle.blif_flat.specs.GateBodies.{body_in, gate_body}
-use Rattle.blif_flat.specs.NetSteps.{cover_output, latch_output, with_named, with_gates}
+use Rattle.blif_flat.specs.Steps.Gates.{IsGateAt, AreGatesAt}
+use Rattle.blif_flat.specs.Steps.ModelNames.{body_names, commands_names, all_names}
+use Rattle.blif_flat.specs.Steps.NetTable.{IsSoundTable, net_places, own_number}
+use Rattle.blif_flat.specs.Steps.NetMade.{HasSlots, IsNext}
+use Rattle.blif_flat.specs.Steps.NetSlots.{NetsValue, table_of, IsNets}
+use Rattle.blif_flat.specs.Steps.GateBodies.{body_in, gate_body}
+use Rattle.blif_flat.specs.Steps.NetSteps.{cover_output, latch_output, with_named, with_gates}
 use Rattle.blif_flat.proofs.PlaceLemmas.{place_of, command_of}
 use Rattle.blif_flat.proofs.GateBodyLemmas.{gate_place}
 use Rattle.blif_flat.proofs.InstanceOnceLemmas.{order_apart}

@@ -8,8 +8,8 @@ use Rattle.tl_text.specs.NameIndex.{place_of}
 use Rattle.blif_read.specs.declared.subckt.Pair.{Pair}
 use Rattle.blif_flat.specs.declared.flat.Net.{Net as FlatNet}
 use Rattle.blif_flat.specs.declared.nets.Start.{Start}
-use Rattle.blif_flat.specs.NetTable.{with_net}
-use Rattle.blif_flat.specs.NetSlots.{NetsValue, name_place, slot_number, slot_at, table_of, with_slot, with_found, copied, pair_out, pairs_out, pair_in, pairs_in, IsNets}
+use Rattle.blif_flat.specs.Steps.NetTable.{with_net}
+use Rattle.blif_flat.specs.Steps.NetSlots.{NetsValue, name_place, slot_number, slot_at, table_of, with_slot, with_found, copied, pair_out, pairs_out, pair_in, pairs_in, IsNets}
 use Rattle.blif_flat.specs.Weight.{most_weight}
 use Rattle.list_laws.proofs.Items.{drop_at}
 use Rattle.list_laws.proofs.Places.{set_here, set_other, set_length}

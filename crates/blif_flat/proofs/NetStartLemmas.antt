@@ -12,10 +12,10 @@ use Rattle.blif_flat.specs.declared.flat.Net.{Net as FlatNet}
 use Rattle.blif_flat.specs.declared.instances.Instance.{Instance}
 use Rattle.blif_flat.specs.declared.nets.Start.{Start}
 use Rattle.blif_flat.specs.Models.{Path, model_at, has_name}
-use Rattle.blif_flat.specs.InstanceRows.{AreInstances, IsLight, paths_of}
-use Rattle.blif_flat.specs.NetSlots.{NetsValue, name_place, slot_number, slot_at, IsNets}
-use Rattle.blif_flat.specs.NetMade.{HasSlots, AreEmptyNets}
-use Rattle.blif_flat.specs.NetStarts.{distinct_names, count_in, name_count, starts_from, slot_count}
+use Rattle.blif_flat.specs.Steps.InstanceRows.{AreInstances, IsLight, paths_of}
+use Rattle.blif_flat.specs.Steps.NetSlots.{NetsValue, name_place, slot_number, slot_at, IsNets}
+use Rattle.blif_flat.specs.Steps.NetMade.{HasSlots, AreEmptyNets}
+use Rattle.blif_flat.specs.Steps.NetStarts.{distinct_names, count_in, name_count, starts_from, slot_count}
 use Rattle.blif_flat.specs.Weight.{most_weight}
 use Rattle.blif_flat.proofs.NameSetLemmas.{place_some}
 use Rattle.blif_flat.proofs.ModelNameLemmas.{distinct_few, distinct_has, place_within, place_is}

@@ -22,10 +22,10 @@ use Rattle.blif_flat.specs.Instances.{ConnectionAt}
 use Rattle.blif_flat.specs.Nets.{Net, input_net, Drives, main_input, from_inside, from_outside}
 use Rattle.blif_flat.specs.Drivers.{Driver, by_input, IsDriver, input, latch, cover, output, input_actual, model_output, IsDriven}
 use Rattle.blif_flat.specs.Places.{Place, own_places}
-use Rattle.blif_flat.specs.InstanceOrder.{model_places, places_at}
-use Rattle.blif_flat.specs.InstanceRows.{path_under, path_of, paths_of, IsRow, AreInstances}
+use Rattle.blif_flat.specs.Steps.InstanceOrder.{model_places, places_at}
+use Rattle.blif_flat.specs.Steps.InstanceRows.{path_under, path_of, paths_of, IsRow, AreInstances}
 use Rattle.blif_flat.specs.Flat.{Places, an_input, IsNetOf}
-use Rattle.blif_flat.specs.NetTable.{net_places, IsNetFound, AreNetsAt, IsSoundTable, HasOwn, HasOutputs, HasInputs, kind_count, base_of, own_number}
+use Rattle.blif_flat.specs.Steps.NetTable.{net_places, IsNetFound, AreNetsAt, IsSoundTable, HasOwn, HasOutputs, HasInputs, kind_count, base_of, own_number}
 use Rattle.blif_flat.proofs.PlaceLemmas.{place_of, child_at}
 use Rattle.blif_flat.proofs.InstanceOrderLemmas.{order_all}
 use Rattle.blif_flat.proofs.InstanceRowLemmas.{paths_of-length}

@@ -21,11 +21,11 @@ use Rattle.blif_flat.specs.Places.{Place, same_place, latch_at, is_cover}
 use Rattle.blif_flat.specs.Loops.{AreNets, with_cover, covers_among, reads_in, reads_of}
 use Rattle.blif_flat.specs.LoopFault.{latch_covers, all_latch_covers, roots_of, from_node, AreWritten, LoopWalk, IsLoop}
 use Rattle.blif_flat.specs.Flat.{Places, IsNumbered, an_input, a_latch, a_cover, IsNetOf, AreNetsOf, none, more, cover_numbers, inputs_at, IsFlatCover, IsFlatLatch, IsFlat}
-use Rattle.blif_flat.specs.Ordering.{AreWalked, latch_nets, root_numbers}
+use Rattle.blif_flat.specs.Steps.Ordering.{AreWalked, latch_nets, root_numbers}
 use Rattle.blif_flat.specs.DepthFirst.{Repeat, MeetsAll}
-use Rattle.blif_flat.specs.CoverWalk.{cover_reads, InRange, numbers_from, from_number, IsNumberLoop, IsOrder}
+use Rattle.blif_flat.specs.Steps.CoverWalk.{cover_reads, InRange, numbers_from, from_number, IsNumberLoop, IsOrder}
 use Rattle.blif_flat.proofs.PlaceLemmas.{same_place-is, same_place-refl, cover_at-is}
-use Rattle.blif_flat.proofs.ListGeneral.{apart_once}
+use Rattle.list_laws.proofs.Apart.{apart_once}
 use Rattle.blif_flat.proofs.PlaceOnceLemmas.{order_apart}
 use Rattle.blif_flat.proofs.WalkMapLemmas.{result_mapped, repeat_mapped, IsInside, nodes_inside, nodes_mapped}
 use Rattle.blif_flat.proofs.GateBodyLemmas.{latch_at-some}

@@ -2,7 +2,7 @@
 use Rattle.std.proofs.Common.{◌≡◌, Bool, true, false, cond, List, [], ◌∷◌, refl, sym, ◌∙◌, subst, inl, inr}
 use Rattle.std.proofs.lemmas.Bool.{cond-true, cond-false, false_from_ne_true}
 use Rattle.list_laws.specs.Members.{In}
-use Rattle.blif_flat.specs.CoverOrder.{IsAfter}
+use Rattle.blif_flat.specs.Steps.CoverOrder.{IsAfter}
 
 -- the values along an order, the last first, where a node's rule is given the values so far
 abbrev pub evaluated : {N : Type 0} → (N → N → Bool) → (N → (N → Bool) → Bool) → List N → N → Bool

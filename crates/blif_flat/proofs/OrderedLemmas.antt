@@ -8,7 +8,7 @@ use Rattle.blif_flat.specs.Nets.{Net}
 use Rattle.blif_flat.specs.Drivers.{IsDriven}
 use Rattle.blif_flat.specs.Places.{Place, is_cover, is_latch, FlatOrder}
 use Rattle.blif_flat.specs.Loops.{AreNets, reads_of, Depends}
-use Rattle.blif_flat.specs.CoverOrder.{Ordered}
+use Rattle.blif_flat.specs.Steps.CoverOrder.{Ordered}
 use Rattle.blif_flat.specs.LoopFault.{roots_of, LoopWalk}
 use Rattle.list_laws.proofs.Members.{In-append}
 use Rattle.blif_flat.proofs.FlatLemmas.{flat_exists, flat_all}

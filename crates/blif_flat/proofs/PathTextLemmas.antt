@@ -11,8 +11,8 @@ use Rattle.blif_flat.specs.Places.{Place, cover_in}
 use Rattle.blif_flat.specs.LoopFault.{AreWritten, none, more}
 use Rattle.blif_flat.specs.Instances.{CoverAt}
 use Rattle.blif_flat.specs.Nets.{cover_net}
-use Rattle.blif_flat.specs.InstanceRows.{path_of, paths_of, AreInstances}
-use Rattle.blif_flat.specs.RowPaths.{AreUnder, output_or, output_in, output_at}
+use Rattle.blif_flat.specs.Steps.InstanceRows.{path_of, paths_of, AreInstances}
+use Rattle.blif_flat.specs.Steps.RowPaths.{AreUnder, output_or, output_in, output_at}
 use Rattle.blif_flat.specs.Written.{path_text, IsWritten, of_cover}
 
 pub rows_under : (library : LibraryValue) (rows : List Instance) → AreInstances library rows → AreUnder rows

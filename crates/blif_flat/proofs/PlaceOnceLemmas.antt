@@ -1,9 +1,8 @@
 -- Each place stands once in flat order.
-use Rattle.std.proofs.Common.{◌≡◌, ℕ, zero, suc, ◌≤◌, Bool, true, false, ◌⊎◌, List, [], ◌∷◌, ◌++◌, Some, refl, sym, ap, ◌∙◌, subst, inl, inr, append_assoc, arith}
-use Rattle.std.specs.Prelude.{slice_get, if◌then◌else◌}
-use Rattle.std.proofs.lemmas.Option.{none-some}
+use Rattle.std.proofs.Common.{◌≡◌, ℕ, suc, ◌≤◌, Bool, true, false, ◌⊎◌, List, [], ◌∷◌, ◌++◌, sym, ap, ◌∙◌, subst, inl, inr, append_assoc, arith}
+use Rattle.std.specs.Prelude.{if◌then◌else◌}
 use Rattle.list_laws.specs.Members.{In}
-use Rattle.list_laws.proofs.Members.{In-get, In-append}
+use Rattle.list_laws.proofs.Members.{In-append}
 use Rattle.blif_read.specs.declared.command.Body.{Body}
 use Rattle.blif_read.specs.declared.command.Command.{Command}
 use Rattle.blif_read.specs.SubcktValue.{SubcktValue}
@@ -11,7 +10,7 @@ use Rattle.blif_read.specs.LibraryValue.{ModelValue, LibraryValue}
 use Rattle.blif_flat.specs.Models.{Path}
 use Rattle.blif_flat.specs.Places.{Place, own_places, FlatOrder, flat, FlatUnder, none, more}
 use Rattle.blif_flat.proofs.InstanceOnceLemmas.{IsWithin, IsBelow, not_itself, apart_below}
-use Rattle.blif_flat.proofs.ListGeneral.{AreApart, joined_apart}
+use Rattle.list_laws.proofs.Apart.{AreApart, joined_apart}
 
 own_case : {A : Type 0} (b : Bool) (x : A) (xs : List A) (p : A) → In (if b then x ∷ xs else xs) p → (p ≡ x) ⊎ In xs p
 own_case true x xs p i = i

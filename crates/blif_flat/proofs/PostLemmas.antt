@@ -2,7 +2,7 @@
 use Rattle.std.proofs.Common.{◌≡◌, List, [], ◌∷◌, sym, subst, subst₂, refl, inl, inr, ◌⊎◌}
 use Rattle.list_laws.specs.Members.{In}
 use Rattle.blif_flat.specs.DepthFirst.{Posts, skips, posts, PostsAll, none, more}
-use Rattle.blif_flat.specs.CoverOrder.{IsAfter}
+use Rattle.blif_flat.specs.Steps.CoverOrder.{IsAfter}
 
 module _ {N : Type 0} (next : N → List N) where
   -- n leads to m by one step or more

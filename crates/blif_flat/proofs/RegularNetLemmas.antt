@@ -11,13 +11,13 @@ use Rattle.blif_flat.specs.declared.flat.Net.TheVariants.{Input}
 use Rattle.blif_flat.specs.declared.instances.Instance.{Instance}
 use Rattle.blif_flat.specs.Models.{Path, has_name, inputs_of}
 use Rattle.blif_flat.specs.Nets.{Net, input_net, Drives, IsClock, listed}
-use Rattle.blif_flat.specs.InstanceRows.{number_or_zero, paths_of}
+use Rattle.blif_flat.specs.Steps.InstanceRows.{number_or_zero, paths_of}
 use Rattle.blif_flat.specs.Flat.{Places, IsNumbered, an_input, a_latch, a_cover, IsNetOf, AreNetsOf, none, more}
-use Rattle.blif_flat.specs.NetTable.{net_places, IsNetFound}
-use Rattle.blif_flat.specs.NetSlots.{NetsValue, table_of}
-use Rattle.blif_flat.specs.NetMade.{AreAllNets}
-use Rattle.blif_flat.specs.RegularNets.{regular_numbers, renumbered, IsRegular, regular_places}
-use Rattle.blif_flat.specs.FieldSteps.{renumbered_or, regular_net, regular_nets}
+use Rattle.blif_flat.specs.Steps.NetTable.{net_places, IsNetFound}
+use Rattle.blif_flat.specs.Steps.NetSlots.{NetsValue, table_of}
+use Rattle.blif_flat.specs.Steps.NetMade.{AreAllNets}
+use Rattle.blif_flat.specs.Steps.RegularNets.{regular_numbers, renumbered, IsRegular, regular_places}
+use Rattle.blif_flat.specs.Steps.FieldSteps.{renumbered_or, regular_net, regular_nets}
 use Rattle.blif_flat.proofs.RegularLemmas.{In-filter}
 use Rattle.blif_flat.proofs.NameLemmas.{in_has}
 

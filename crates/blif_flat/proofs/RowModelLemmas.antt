@@ -5,7 +5,7 @@ use Rattle.std.proofs.lemmas.Option.{same_Some}
 use Rattle.blif_read.specs.LibraryValue.{LibraryValue}
 use Rattle.blif_flat.specs.declared.instances.Instance.{Instance}
 use Rattle.blif_flat.specs.Models.{Path, model_at}
-use Rattle.blif_flat.specs.InstanceRows.{AreInstances, IsRow, paths_of}
+use Rattle.blif_flat.specs.Steps.InstanceRows.{AreInstances, IsRow, paths_of}
 use Rattle.blif_flat.proofs.InstanceRowLemmas.{paths_of-length}
 
 pub record AreModelsOf (library : LibraryValue) (rows : List Instance) (paths : List Path) : Type 0 where

@@ -14,20 +14,20 @@ use Rattle.blif_flat.specs.declared.walk_state.Frame.{Frame}
 use Rattle.blif_flat.specs.declared.walk_state.Mark.{Mark}
 use Rattle.blif_flat.specs.declared.walk_state.Mark.TheVariants.{New, OnChain, Done}
 use Rattle.blif_flat.specs.Models.{has_name, model_named}
-use Rattle.blif_flat.specs.NameSets.{model_names}
+use Rattle.blif_flat.specs.Steps.NameSets.{model_names}
 use Rattle.blif_flat.specs.Walk.{SubcktLine, subckt_lines, is_walked, line_fault, Walked, refused, walked, Walks, stop, refuse, again, inside, onward}
-use Rattle.blif_flat.specs.NumberedModels.{with_model, models_at}
-use Rattle.blif_flat.specs.Stack.{WalkValue, with_chain, chain_of, mark_of, entered, IsWalk, Resumes, ended, failed, resumed, new_work, news}
+use Rattle.blif_flat.specs.Steps.NumberedModels.{with_model, models_at}
+use Rattle.blif_flat.specs.Steps.Stack.{ModelWalkValue, with_chain, chain_of, mark_of, entered, IsWalk, Resumes, ended, failed, resumed, new_work, news}
 use Rattle.std.proofs.Common.{reverse, append_assoc}
 use Rattle.std.proofs.lemmas.Grind.{reverse_onto}
 use Rattle.std.proofs.lemmas.List.{append-nil}
 use Rattle.blif_flat.specs.declared.flat_err.FlatErr.TheVariants.{RecursiveModel}
-use Rattle.blif_flat.specs.Answers.{IsTold}
-use Rattle.blif_flat.specs.Line.{ports_fault}
+use Rattle.blif_flat.specs.Steps.Answers.{IsTold}
+use Rattle.blif_flat.specs.Steps.Line.{ports_fault}
 use Rattle.blif_read.specs.SubcktValue.{SubcktValue}
-use Rattle.blif_flat.specs.NameSets.{IsModelOf}
+use Rattle.blif_flat.specs.Steps.NameSets.{IsModelOf}
 use Rattle.blif_flat.specs.Walk.{chain_from, placed_fault, formal_fault, unknown_formal}
-use Rattle.blif_flat.specs.Stack.{chain_step, chain_names, on_chain, fresh, IsPlacing}
+use Rattle.blif_flat.specs.Steps.Stack.{chain_step, chain_names, on_chain, fresh, IsPlacing}
 use Rattle.blif_flat.proofs.NameSetLemmas.{no_match}
 use Rattle.blif_flat.proofs.NameLemmas.{in_has}
 use Rattle.blif_flat.proofs.WalkedLemmas.{named_is}
@@ -101,7 +101,7 @@ walked_push before m name = list_any-append (λ (x : ModelValue). bytes_eq name 
 
 -- the state after a model is begun
 module _ (models : List ModelValue) (names : AreOnce (model_names models)) where
-  pub entered-walk : (w : WalkValue) (n : ℕ) (m : ModelValue) → IsWalk models w → slice_get models n ≡ Some m → slice_get w.marks n ≡ Some New → IsWalk models (entered w n)
+  pub entered-walk : (w : ModelWalkValue) (n : ℕ) (m : ModelValue) → IsWalk models w → slice_get models n ≡ Some m → slice_get w.marks n ≡ Some New → IsWalk models (entered w n)
   entered-walk w n m is at fresh =
       let C : List (List ℕ) = chain_of models w.frames in
       let B : List ModelValue = models_at models w.begun in
@@ -283,14 +283,14 @@ on_chain_mark true b = refl
 on_chain_mark false true = refl
 on_chain_mark false false = refl
 
-pub on_chain_read : (models : List ModelValue) (w : WalkValue) (name : List ℕ) (n : ℕ) (b : Bool) → IsWalk models w → IsModelOf models name n → ((mark : Mark) → slice_get w.marks n ≡ Some mark → b ≡ on_chain mark)
+pub on_chain_read : (models : List ModelValue) (w : ModelWalkValue) (name : List ℕ) (n : ℕ) (b : Bool) → IsWalk models w → IsModelOf models name n → ((mark : Mark) → slice_get w.marks n ≡ Some mark → b ≡ on_chain mark)
     → b ≡ has_name (chain_of models w.frames) name
 on_chain_read models w name n b is found h =
     h (mark_of (has_name (chain_of models w.frames) found.model.name) (is_walked (models_at models w.begun) found.model.name)) (is.marks n found.model found.at)
     ∙ on_chain_mark (has_name (chain_of models w.frames) found.model.name) (is_walked (models_at models w.begun) found.model.name)
     ∙ ap (has_name (chain_of models w.frames)) (sym (named_is models name found.model found.named))
 
-pub recursive_err : (models : List ModelValue) (w : WalkValue) (m : ModelValue) (line : ℕ) (s : SubcktValue) (n : ℕ) (name : List ℕ) (e : FlatErr) → IsModelOf models s.model n → has_name (chain_of models w.frames) s.model ≡ true → name ≡ s.model
+pub recursive_err : (models : List ModelValue) (w : ModelWalkValue) (m : ModelValue) (line : ℕ) (s : SubcktValue) (n : ℕ) (name : List ℕ) (e : FlatErr) → IsModelOf models s.model n → has_name (chain_of models w.frames) s.model ≡ true → name ≡ s.model
     → e ≡ RecursiveModel (chain_from name (chain_of models w.frames) ++ name ∷ []) → IsTold e (line_fault (record { models = models }) (chain_of models w.frames) m (record { line = line; subckt = s }))
 recursive_err models w m line s n name e found on same is =
     let C : List (List ℕ) = chain_of models w.frames in
@@ -298,17 +298,17 @@ recursive_err models w m line s n name e found on same is =
     subst (λ x. IsTold x (line_fault (record { models = models }) C m l)) (sym (is ∙ ap (λ x. RecursiveModel (chain_from x C ++ x ∷ [])) same))
     (ap (placed_fault C m l) found.named ∙ cond-true (has_name C s.model) (Some (RecursiveModel (chain_from s.model C ++ s.model ∷ []))) (formal_fault m l found.model (unknown_formal found.model s.pairs)) on)
 
-placed_line : (models : List ModelValue) (w : WalkValue) (m : ModelValue) (line : ℕ) (s : SubcktValue) (n : ℕ) (found : IsModelOf models s.model n) → has_name (chain_of models w.frames) s.model ≡ false
+placed_line : (models : List ModelValue) (w : ModelWalkValue) (m : ModelValue) (line : ℕ) (s : SubcktValue) (n : ℕ) (found : IsModelOf models s.model n) → has_name (chain_of models w.frames) s.model ≡ false
     → line_fault (record { models = models }) (chain_of models w.frames) m (record { line = line; subckt = s }) ≡ ports_fault m line s found.model
 placed_line models w m line s n found off =
     let C : List (List ℕ) = chain_of models w.frames in
     let l : SubcktLine = record { line = line; subckt = s } in
     ap (placed_fault C m l) found.named ∙ cond-false (has_name C s.model) (Some (RecursiveModel (chain_from s.model C ++ s.model ∷ []))) (formal_fault m l found.model (unknown_formal found.model s.pairs)) off
 
-pub child_err : (models : List ModelValue) (w : WalkValue) (m : ModelValue) (line : ℕ) (s : SubcktValue) (n : ℕ) (e : FlatErr) → IsModelOf models s.model n → has_name (chain_of models w.frames) s.model ≡ false
+pub child_err : (models : List ModelValue) (w : ModelWalkValue) (m : ModelValue) (line : ℕ) (s : SubcktValue) (n : ℕ) (e : FlatErr) → IsModelOf models s.model n → has_name (chain_of models w.frames) s.model ≡ false
     → ((child : ModelValue) → slice_get models n ≡ Some child → IsTold e (ports_fault m line s child)) → IsTold e (line_fault (record { models = models }) (chain_of models w.frames) m (record { line = line; subckt = s }))
 child_err models w m line s n e found off h = subst (IsTold e) (sym (placed_line models w m line s n found off)) (h found.model found.at)
 
-pub child_ok : (models : List ModelValue) (w : WalkValue) (m : ModelValue) (line : ℕ) (s : SubcktValue) (n : ℕ) → IsModelOf models s.model n → has_name (chain_of models w.frames) s.model ≡ false
+pub child_ok : (models : List ModelValue) (w : ModelWalkValue) (m : ModelValue) (line : ℕ) (s : SubcktValue) (n : ℕ) → IsModelOf models s.model n → has_name (chain_of models w.frames) s.model ≡ false
     → ((child : ModelValue) → slice_get models n ≡ Some child → ports_fault m line s child ≡ None) → IsPlacing models w m (record { line = line; subckt = s }) n
 child_ok models w m line s n found off h = record { child = found; clean = placed_line models w m line s n found off ∙ h found.model found.at }

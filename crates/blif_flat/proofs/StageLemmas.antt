@@ -12,13 +12,13 @@ use Rattle.blif_flat.specs.declared.clock_check.ClockNets.{ClockNets}
 use Rattle.blif_flat.specs.Refusals.{refusal_of}
 use Rattle.blif_flat.specs.Models.{model_at}
 use Rattle.blif_flat.specs.Places.{is_latch, FlatOrder}
-use Rattle.blif_flat.specs.InstanceRows.{AreInstances, paths_of}
-use Rattle.blif_flat.specs.InstanceOrder.{places_at}
+use Rattle.blif_flat.specs.Steps.InstanceRows.{AreInstances, paths_of}
+use Rattle.blif_flat.specs.Steps.InstanceOrder.{places_at}
 use Rattle.blif_flat.specs.ClockFaults.{Clocks, is_gate, ClockData}
 use Rattle.blif_flat.specs.LoopFault.{LoopWalk, IsLoop}
 use Rattle.blif_flat.specs.Sound.{IsSound}
 use Rattle.blif_flat.specs.Faults.{IsConnected, IsClocked, IsFault, HasNoFault, in_controls, in_data, in_loops}
-use Rattle.blif_flat.specs.Stages.{AreClockNets}
+use Rattle.blif_flat.specs.Steps.Stages.{AreClockNets}
 use Rattle.blif_flat.proofs.InstanceOrderLemmas.{order_places}
 use Rattle.blif_flat.proofs.SoundLemmas.{past_sound}
 use Rattle.blif_flat.proofs.ExcludedLemmas.{past_excluded}

@@ -18,14 +18,14 @@ use Rattle.blif_flat.specs.declared.walk_state.Frame.{Frame}
 use Rattle.blif_flat.specs.declared.walk_state.Mark.{Mark}
 use Rattle.blif_flat.specs.declared.walk_state.Mark.TheVariants.{New, OnChain, Done}
 use Rattle.blif_flat.specs.Refusals.{refusal_of}
-use Rattle.blif_flat.specs.Answers.{IsTold}
+use Rattle.blif_flat.specs.Steps.Answers.{IsTold}
 use Rattle.blif_flat.specs.Models.{has_name}
-use Rattle.blif_flat.specs.NameSets.{model_names}
+use Rattle.blif_flat.specs.Steps.NameSets.{model_names}
 use Rattle.blif_flat.specs.Walk.{SubcktLine, subckt_lines, with_line, is_walked, line_fault, Walked, refused, walked, Walks, WalksMain}
-use Rattle.blif_flat.specs.NumberedModels.{models_at}
-use Rattle.blif_flat.specs.Stack.{WalkValue, with_chain, chain_of, mark_of, tail_of, entered, left, advanced, IsWalk, IsPlacing, Resumes, ended, failed, resumed, new_work, news, frame_work, IsStep, fresh, placed_by, IsReached}
-use Rattle.blif_flat.specs.Weighing.{AreChildrenFirst}
-use Rattle.blif_flat.specs.Ending.{IsEnding}
+use Rattle.blif_flat.specs.Steps.NumberedModels.{models_at}
+use Rattle.blif_flat.specs.Steps.Stack.{ModelWalkValue, with_chain, chain_of, mark_of, tail_of, entered, left, advanced, IsWalk, IsPlacing, Resumes, ended, failed, resumed, new_work, news, frame_work, IsModelStep, fresh, placed_by, IsReached}
+use Rattle.blif_flat.specs.Steps.Weighing.{AreChildrenFirst}
+use Rattle.blif_flat.specs.Steps.Ending.{IsEnding}
 use Rattle.blif_flat.proofs.LineFaultLemmas.{free_line}
 use Rattle.blif_flat.proofs.WalkedLemmas.{walk_keeps, named_is}
 use Rattle.blif_flat.proofs.EndingLemmas.{ending_left, ending_skipped, ending_begun, ending_again, ending_entered}
@@ -60,7 +60,7 @@ top_mark models marks begun order f fs m is at =
 
 module _ (models : List ModelValue) (names : AreOnce (model_names models)) where
   leave_core : (marks : List Mark) (begun order : List ℕ) (f : Frame) (fs : List Frame) (m : ModelValue) → IsWalk models (record { marks = marks; begun = begun; ended = order; frames = f ∷ fs }) → slice_get models f.model ≡ Some m → slice_get m.commands f.place ≡ None
-      → IsStep (record { models = models }) (record { marks = marks; begun = begun; ended = order; frames = f ∷ fs }) (record { marks = slice_set marks f.model Done; begun = begun; ended = order ++ f.model ∷ []; frames = fs })
+      → IsModelStep (record { models = models }) (record { marks = marks; begun = begun; ended = order; frames = f ∷ fs }) (record { marks = slice_set marks f.model Done; begun = begun; ended = order ++ f.model ∷ []; frames = fs })
   leave_core marks begun order f fs m is at none = record {
     walk = left-walk models names marks begun order f fs m is at;
     resumes = λ r h. resumes-end (record { models = models }) f fs m (models_at models begun) r at (ap subckt_lines (drop_none m.commands f.place none)) h;
@@ -72,7 +72,7 @@ module _ (models : List ModelValue) (names : AreOnce (model_names models)) where
 
   skip_core : (marks : List Mark) (begun order : List ℕ) (f : Frame) (fs : List Frame) (m : ModelValue) (c : Command) → IsWalk models (record { marks = marks; begun = begun; ended = order; frames = f ∷ fs }) → slice_get models f.model ≡ Some m
       → slice_get m.commands f.place ≡ Some c → with_line c.line c.body (subckt_lines (drop (f.place + 1) m.commands)) ≡ subckt_lines (drop (f.place + 1) m.commands)
-      → IsStep (record { models = models }) (record { marks = marks; begun = begun; ended = order; frames = f ∷ fs }) (record { marks = marks; begun = begun; ended = order; frames = record { model = f.model; place = f.place + 1 } ∷ fs })
+      → IsModelStep (record { models = models }) (record { marks = marks; begun = begun; ended = order; frames = f ∷ fs }) (record { marks = marks; begun = begun; ended = order; frames = record { model = f.model; place = f.place + 1 } ∷ fs })
   skip_core marks begun order f fs m c is at here same = record {
     walk = advanced-walk models names marks begun order f fs (f.place + 1) is;
     resumes = λ r h. resumes-skip (record { models = models }) f (f.place + 1) fs m (models_at models begun) r at (lines_at m.commands f.place c here ∙ same) h;
@@ -85,7 +85,7 @@ module _ (models : List ModelValue) (names : AreOnce (model_names models)) where
 
   new_core : (marks : List Mark) (begun order : List ℕ) (f : Frame) (fs : List Frame) (m : ModelValue) (l : SubcktLine) (n : ℕ) → IsWalk models (record { marks = marks; begun = begun; ended = order; frames = f ∷ fs }) → slice_get models f.model ≡ Some m
       → slice_get m.commands f.place ≡ Some (record { line = l.line; body = Subckt l.subckt }) → IsPlacing models (record { marks = marks; begun = begun; ended = order; frames = f ∷ fs }) m l n → slice_get marks n ≡ Some New → is_walked (models_at models begun) l.subckt.model ≡ false
-      → IsStep (record { models = models }) (record { marks = marks; begun = begun; ended = order; frames = f ∷ fs })
+      → IsModelStep (record { models = models }) (record { marks = marks; begun = begun; ended = order; frames = f ∷ fs })
       (record { marks = slice_set marks n OnChain; begun = begun ++ n ∷ []; ended = order; frames = record { model = n; place = 0 } ∷ record { model = f.model; place = f.place + 1 } ∷ fs })
   new_core marks begun order f fs m l n is at here good unseen off =
       let child : ModelValue = good.child.model in
@@ -104,7 +104,7 @@ module _ (models : List ModelValue) (names : AreOnce (model_names models)) where
 
   old_core : (marks : List Mark) (begun order : List ℕ) (f : Frame) (fs : List Frame) (m : ModelValue) (l : SubcktLine) (n : ℕ) → IsWalk models (record { marks = marks; begun = begun; ended = order; frames = f ∷ fs }) → slice_get models f.model ≡ Some m
       → slice_get m.commands f.place ≡ Some (record { line = l.line; body = Subckt l.subckt }) → IsPlacing models (record { marks = marks; begun = begun; ended = order; frames = f ∷ fs }) m l n → slice_get marks n ≡ Some Done → is_walked (models_at models begun) l.subckt.model ≡ true
-      → IsStep (record { models = models }) (record { marks = marks; begun = begun; ended = order; frames = f ∷ fs }) (record { marks = marks; begun = begun; ended = order; frames = record { model = f.model; place = f.place + 1 } ∷ fs })
+      → IsModelStep (record { models = models }) (record { marks = marks; begun = begun; ended = order; frames = f ∷ fs }) (record { marks = marks; begun = begun; ended = order; frames = record { model = f.model; place = f.place + 1 } ∷ fs })
   old_core marks begun order f fs m l n is at here good done on = record {
     walk = advanced-walk models names marks begun order f fs (f.place + 1) is;
     resumes = λ r h. resumes-again (record { models = models }) f (f.place + 1) fs m (models_at models begun) l r at (lines_at m.commands f.place (record { line = l.line; body = Subckt l.subckt }) here) good.clean on h;
@@ -118,29 +118,29 @@ module _ (models : List ModelValue) (names : AreOnce (model_names models)) where
   place_core : (marks : List Mark) (begun order : List ℕ) (f : Frame) (fs : List Frame) (m : ModelValue) (l : SubcktLine) (n : ℕ) (is : IsWalk models (record { marks = marks; begun = begun; ended = order; frames = f ∷ fs })) → slice_get models f.model ≡ Some m
       → slice_get m.commands f.place ≡ Some (record { line = l.line; body = Subckt l.subckt }) → (good : IsPlacing models (record { marks = marks; begun = begun; ended = order; frames = f ∷ fs }) m l n)
       → (a b : Bool) → a ≡ false → slice_get marks n ≡ Some (mark_of a b) → is_walked (models_at models begun) l.subckt.model ≡ b
-      → IsStep (record { models = models }) (record { marks = marks; begun = begun; ended = order; frames = f ∷ fs })
+      → IsModelStep (record { models = models }) (record { marks = marks; begun = begun; ended = order; frames = f ∷ fs })
       (placed_by (fresh (mark_of a b)) (record { marks = marks; begun = begun; ended = order; frames = record { model = f.model; place = f.place + 1 } ∷ fs }) n)
   place_core marks begun order f fs m l n is at here good true b off k e = absurd (both_ways true off refl)
   place_core marks begun order f fs m l n is at here good false true off k e = old_core marks begun order f fs m l n is at here good k e
   place_core marks begun order f fs m l n is at here good false false off k e = new_core marks begun order f fs m l n is at here good k e
 
   -- the same, of a state by its innermost frame
-  pub leave_step : (w : WalkValue) (f : Frame) (m : ModelValue) → IsWalk models w → slice_get w.frames 0 ≡ Some f → slice_get models f.model ≡ Some m → slice_get m.commands f.place ≡ None → IsStep (record { models = models }) w (left w f)
+  pub leave_step : (w : ModelWalkValue) (f : Frame) (m : ModelValue) → IsWalk models w → slice_get w.frames 0 ≡ Some f → slice_get models f.model ≡ Some m → slice_get m.commands f.place ≡ None → IsModelStep (record { models = models }) w (left w f)
   leave_step w f m is top at none =
       let e : w.frames ≡ f ∷ tail_of w.frames = top_is w.frames f top in
-      subst (λ fs. IsStep (record { models = models }) (record { marks = w.marks; begun = w.begun; ended = w.ended; frames = fs }) (left w f)) (sym e)
+      subst (λ fs. IsModelStep (record { models = models }) (record { marks = w.marks; begun = w.begun; ended = w.ended; frames = fs }) (left w f)) (sym e)
       (leave_core w.marks w.begun w.ended f (tail_of w.frames) m (subst (λ fs. IsWalk models (record { marks = w.marks; begun = w.begun; ended = w.ended; frames = fs })) e is) at none)
 
-  pub skip_step : (w : WalkValue) (f : Frame) (m : ModelValue) (c : Command) → IsWalk models w → slice_get w.frames 0 ≡ Some f → slice_get models f.model ≡ Some m → slice_get m.commands f.place ≡ Some c
-      → with_line c.line c.body (subckt_lines (drop (f.place + 1) m.commands)) ≡ subckt_lines (drop (f.place + 1) m.commands) → IsStep (record { models = models }) w (advanced w f)
+  pub skip_step : (w : ModelWalkValue) (f : Frame) (m : ModelValue) (c : Command) → IsWalk models w → slice_get w.frames 0 ≡ Some f → slice_get models f.model ≡ Some m → slice_get m.commands f.place ≡ Some c
+      → with_line c.line c.body (subckt_lines (drop (f.place + 1) m.commands)) ≡ subckt_lines (drop (f.place + 1) m.commands) → IsModelStep (record { models = models }) w (advanced w f)
   skip_step w f m c is top at here same =
       let e : w.frames ≡ f ∷ tail_of w.frames = top_is w.frames f top in
-      subst (λ fs. IsStep (record { models = models }) (record { marks = w.marks; begun = w.begun; ended = w.ended; frames = fs }) (advanced w f)) (sym e)
+      subst (λ fs. IsModelStep (record { models = models }) (record { marks = w.marks; begun = w.begun; ended = w.ended; frames = fs }) (advanced w f)) (sym e)
       (skip_core w.marks w.begun w.ended f (tail_of w.frames) m c (subst (λ fs. IsWalk models (record { marks = w.marks; begun = w.begun; ended = w.ended; frames = fs })) e is) at here same)
 
-  pub place_step : (w v : WalkValue) (f : Frame) (m : ModelValue) (line : ℕ) (s : SubcktValue) (n : ℕ) → IsWalk models w → slice_get w.frames 0 ≡ Some f → slice_get models f.model ≡ Some m
+  pub place_step : (w v : ModelWalkValue) (f : Frame) (m : ModelValue) (line : ℕ) (s : SubcktValue) (n : ℕ) → IsWalk models w → slice_get w.frames 0 ≡ Some f → slice_get models f.model ≡ Some m
       → slice_get m.commands f.place ≡ Some (record { line = line; body = Subckt s }) → IsPlacing models w m (record { line = line; subckt = s }) n
-      → ((mark : Mark) → slice_get w.marks n ≡ Some mark → v ≡ placed_by (fresh mark) (advanced w f) n) → IsStep (record { models = models }) w v
+      → ((mark : Mark) → slice_get w.marks n ≡ Some mark → v ≡ placed_by (fresh mark) (advanced w f) n) → IsModelStep (record { models = models }) w v
   place_step w v f m line s n is top at here good h =
       let e : w.frames ≡ f ∷ tail_of w.frames = top_is w.frames f top in
       let child : ModelValue = good.child.model in
@@ -149,14 +149,14 @@ module _ (models : List ModelValue) (names : AreOnce (model_names models)) where
       let k : slice_get w.marks n ≡ Some (mark_of a b) = is.marks n child good.child.at in
       let same : s.model ≡ child.name = named_is models s.model child good.child.named in
       let off : a ≡ false = ap (has_name (chain_of models w.frames)) (sym same) ∙ (free_line (record { models = models }) (chain_of models w.frames) m (record { line = line; subckt = s }) good.clean).off in
-      subst (IsStep (record { models = models }) w) (sym (h (mark_of a b) k))
-      (subst (λ fs. IsStep (record { models = models }) (record { marks = w.marks; begun = w.begun; ended = w.ended; frames = fs }) (placed_by (fresh (mark_of a b)) (advanced w f) n)) (sym e)
+      subst (IsModelStep (record { models = models }) w) (sym (h (mark_of a b) k))
+      (subst (λ fs. IsModelStep (record { models = models }) (record { marks = w.marks; begun = w.begun; ended = w.ended; frames = fs }) (placed_by (fresh (mark_of a b)) (advanced w f) n)) (sym e)
       (place_core w.marks w.begun w.ended f (tail_of w.frames) m (record { line = line; subckt = s }) n (subst (λ fs. IsWalk models (record { marks = w.marks; begun = w.begun; ended = w.ended; frames = fs })) e is) at here
       (subst (λ fs. IsPlacing models (record { marks = w.marks; begun = w.begun; ended = w.ended; frames = fs }) m (record { line = line; subckt = s }) n) e good) a b off k
       (ap (is_walked (models_at models w.begun)) (named_is models s.model child good.child.named))))
 
 -- the refusals
-pub refuse_step : (models : List ModelValue) (w : WalkValue) (f : Frame) (m : ModelValue) (line : ℕ) (s : SubcktValue) (e : FlatErr) → slice_get w.frames 0 ≡ Some f → slice_get models f.model ≡ Some m
+pub refuse_step : (models : List ModelValue) (w : ModelWalkValue) (f : Frame) (m : ModelValue) (line : ℕ) (s : SubcktValue) (e : FlatErr) → slice_get w.frames 0 ≡ Some f → slice_get models f.model ≡ Some m
     → slice_get m.commands f.place ≡ Some (record { line = line; body = Subckt s }) → IsTold e (line_fault (record { models = models }) (chain_of models w.frames) m (record { line = line; subckt = s }))
     → OrMemory refusal_of (λ r. Resumes (record { models = models }) w.frames (models_at models w.begun) (refused r)) e
 refuse_step models w f m line s e top at here h =
@@ -167,13 +167,13 @@ refuse_step models w f m line s e top at here h =
     (subst (λ fs. line_fault (record { models = models }) (chain_of models fs) m (record { line = line; subckt = s }) ≡ Some r) q k))) h
 
 -- the walk as a whole
-pub run_start : (models : List ModelValue) (w : WalkValue) → IsWalk models w → IsReached models w w
+pub run_start : (models : List ModelValue) (w : ModelWalkValue) → IsWalk models w → IsReached models w w
 run_start models w is = record { walk = is; resumes = λ r h. h; ending = λ e. e }
 
-pub run_step : (models : List ModelValue) (w v u : WalkValue) → IsReached models w v → IsStep (record { models = models }) v u → IsReached models w u
+pub run_step : (models : List ModelValue) (w v u : ModelWalkValue) → IsReached models w v → IsModelStep (record { models = models }) v u → IsReached models w u
 run_step models w v u run step = record { walk = step.walk; resumes = λ r h. run.resumes r (step.resumes r h); ending = λ e. step.ending (run.ending e) }
 
-pub run_refuses : (models : List ModelValue) (w v : WalkValue) (e : FlatErr) → IsReached models w v → OrMemory refusal_of (λ r. Resumes (record { models = models }) v.frames (models_at models v.begun) (refused r)) e
+pub run_refuses : (models : List ModelValue) (w v : ModelWalkValue) (e : FlatErr) → IsReached models w v → OrMemory refusal_of (λ r. Resumes (record { models = models }) v.frames (models_at models v.begun) (refused r)) e
     → OrMemory refusal_of (λ r. Resumes (record { models = models }) w.frames (models_at models w.begun) (refused r)) e
 run_refuses models w v e run h =
     OrMemory-map refusal_of (λ r. Resumes (record { models = models }) v.frames (models_at models v.begun) (refused r)) (λ r. Resumes (record { models = models }) w.frames (models_at models w.begun) (refused r)) e (λ r k. run.resumes (refused r) k) h
@@ -189,7 +189,7 @@ blank_walk models count e = record {
 }
 
 -- the state in which the main model is begun
-pub main_walk : (models : List ModelValue) (names : AreOnce (model_names models)) (count : ℕ) (main : ModelValue) (w : WalkValue) → count ≡ length models → slice_get models 0 ≡ Some main
+pub main_walk : (models : List ModelValue) (names : AreOnce (model_names models)) (count : ℕ) (main : ModelValue) (w : ModelWalkValue) → count ≡ length models → slice_get models 0 ≡ Some main
     → w ≡ entered (record { marks = replicate count New; begun = []; ended = []; frames = [] }) 0 → IsWalk models w
 main_walk models names count main w e at is =
     let k : 0 < length models = slice_get_within models 0 main at in
@@ -210,11 +210,11 @@ main_resumed models main r at h = resumes-cases (record { models = models }) (re
     ended_is after (failed f fs m fault e at' w q) = absurd (cc)
     ended_is after (resumed f fs m last e at' w k) = absurd (cc)
 
-pub main_ok : (models : List ModelValue) (count : ℕ) (main : ModelValue) (w v : WalkValue) → slice_get models 0 ≡ Some main → w ≡ entered (record { marks = replicate count New; begun = []; ended = []; frames = [] }) 0 → IsReached models w v → v.frames ≡ []
+pub main_ok : (models : List ModelValue) (count : ℕ) (main : ModelValue) (w v : ModelWalkValue) → slice_get models 0 ≡ Some main → w ≡ entered (record { marks = replicate count New; begun = []; ended = []; frames = [] }) 0 → IsReached models w v → v.frames ≡ []
     → WalksMain (record { models = models }) main (walked (models_at models v.begun))
 main_ok models count main w v at is run done =
     main_resumed models main (walked (models_at models v.begun)) at
-    (subst (λ (x : WalkValue). Resumes (record { models = models }) x.frames (models_at models x.begun) (walked (models_at models v.begun))) is (run.resumes (walked (models_at models v.begun)) (ended done refl)))
+    (subst (λ (x : ModelWalkValue). Resumes (record { models = models }) x.frames (models_at models x.begun) (walked (models_at models v.begun))) is (run.resumes (walked (models_at models v.begun)) (ended done refl)))
 
 -- the order in which the walks of models end
 in_walked : (ms : List ModelValue) (m : ModelValue) → In ms m → is_walked ms m.name ≡ true
@@ -222,13 +222,13 @@ in_walked [] m i = absurd i
 in_walked (x ∷ ms) m (inl e) = or_left (bytes_eq m.name x.name) (is_walked ms m.name) ((bytes_decides m.name x.name).1 (ap (λ (y : ModelValue). y.name) e))
 in_walked (x ∷ ms) m (inr i) = or_right (bytes_eq m.name x.name) (is_walked ms m.name) (in_walked ms m i)
 
-main_ending : (models : List ModelValue) (count : ℕ) (main : ModelValue) (w v : WalkValue) → count ≡ length models → slice_get models 0 ≡ Some main → w ≡ entered (record { marks = replicate count New; begun = []; ended = []; frames = [] }) 0
+main_ending : (models : List ModelValue) (count : ℕ) (main : ModelValue) (w v : ModelWalkValue) → count ≡ length models → slice_get models 0 ≡ Some main → w ≡ entered (record { marks = replicate count New; begun = []; ended = []; frames = [] }) 0
     → IsReached models w v → IsEnding models v.marks v.ended v.frames
 main_ending models count main w v e at is run =
     let k : 0 < length models = slice_get_within models 0 main at in
     let blank : IsEnding models (slice_set (replicate count New) 0 OnChain) [] (record { model = 0; place = 0 } ∷ []) =
     ending_begun models (replicate count New) 0 (replicate_at count 0 New (omega arith)) none_done in
-    run.ending (subst (λ (x : WalkValue). IsEnding models x.marks x.ended x.frames) (sym is) blank)
+    run.ending (subst (λ (x : ModelWalkValue). IsEnding models x.marks x.ended x.frames) (sym is) blank)
   where
     none_done : (n : ℕ) → slice_get (replicate count New) n ≡ Some Done → ⊥
     none_done n h =
@@ -236,11 +236,11 @@ main_ending models count main w v e at is run =
         let b : length (replicate count New) ≡ count = length-replicate count New in
         let x : New ≡ Done = same_Some New Done (sym (replicate_at count n New (omega arith)) ∙ h) in cc
 
-pub main_children : (models : List ModelValue) (count : ℕ) (main : ModelValue) (w v : WalkValue) → count ≡ length models → slice_get models 0 ≡ Some main → w ≡ entered (record { marks = replicate count New; begun = []; ended = []; frames = [] }) 0
+pub main_children : (models : List ModelValue) (count : ℕ) (main : ModelValue) (w v : ModelWalkValue) → count ≡ length models → slice_get models 0 ≡ Some main → w ≡ entered (record { marks = replicate count New; begun = []; ended = []; frames = [] }) 0
     → IsReached models w v → AreChildrenFirst (record { models = models }) v.ended
 main_children models count main w v e at is run = (main_ending models count main w v e at is run).children
 
-pub main_ended : (models : List ModelValue) (count : ℕ) (main : ModelValue) (w v : WalkValue) → count ≡ length models → slice_get models 0 ≡ Some main → w ≡ entered (record { marks = replicate count New; begun = []; ended = []; frames = [] }) 0
+pub main_ended : (models : List ModelValue) (count : ℕ) (main : ModelValue) (w v : ModelWalkValue) → count ≡ length models → slice_get models 0 ≡ Some main → w ≡ entered (record { marks = replicate count New; begun = []; ended = []; frames = [] }) 0
     → IsReached models w v → v.frames ≡ [] → In v.ended 0
 main_ended models count main w v e at is run none =
     let ms : List ModelValue = models_at models v.begun in
@@ -249,11 +249,11 @@ main_ended models count main w v e at is run none =
     let off : has_name (chain_of models v.frames) main.name ≡ false = ap (λ fs. has_name (chain_of models fs) main.name) none in
     (main_ending models count main w v e at is run).done 0 (run.walk.marks 0 main at ∙ ap (λ b. Some (mark_of b (is_walked ms main.name))) off ∙ ap (λ b. Some (mark_of false b)) was)
 
-pub main_err : (models : List ModelValue) (count : ℕ) (main : ModelValue) (w : WalkValue) (e : FlatErr) → slice_get models 0 ≡ Some main → w ≡ entered (record { marks = replicate count New; begun = []; ended = []; frames = [] }) 0
+pub main_err : (models : List ModelValue) (count : ℕ) (main : ModelValue) (w : ModelWalkValue) (e : FlatErr) → slice_get models 0 ≡ Some main → w ≡ entered (record { marks = replicate count New; begun = []; ended = []; frames = [] }) 0
     → OrMemory refusal_of (λ r. Resumes (record { models = models }) w.frames (models_at models w.begun) (refused r)) e → OrMemory refusal_of (λ r. WalksMain (record { models = models }) main (refused r)) e
 main_err models count main w e at is h =
     OrMemory-map refusal_of (λ r. Resumes (record { models = models }) w.frames (models_at models w.begun) (refused r)) (λ r. WalksMain (record { models = models }) main (refused r)) e
-    (λ r k. main_resumed models main (refused r) at (subst (λ (x : WalkValue). Resumes (record { models = models }) x.frames (models_at models x.begun) (refused r)) is k)) h
+    (λ r k. main_resumed models main (refused r) at (subst (λ (x : ModelWalkValue). Resumes (record { models = models }) x.frames (models_at models x.begun) (refused r)) is k)) h
 
 pub no_top : (frames : List Frame) (o : Option Frame) → o ≡ slice_get frames 0 → o ≡ None → frames ≡ []
 no_top [] o a b = refl

@@ -22,8 +22,8 @@ use Rattle.tl_fault.specs.OrMemory.{OrMemory}
 use Rattle.blif_flat.specs.declared.flat_err.FlatErr.{FlatErr}
 use Rattle.blif_flat.specs.declared.flat_err.FlatErr.TheVariants.{TooLarge}
 use Rattle.blif_flat.specs.Refusals.{refusal_of}
-use Rattle.blif_flat.specs.NameSets.{model_names}
-use Rattle.blif_flat.specs.Weighing.{HasWeight, capped, kept_at, body_kept, commands_kept, model_kept, IsAmong, IsBehind, AreChildrenFirst, IsKept}
+use Rattle.blif_flat.specs.Steps.NameSets.{model_names}
+use Rattle.blif_flat.specs.Steps.Weighing.{HasWeight, capped, kept_at, body_kept, commands_kept, model_kept, IsAmong, IsBehind, AreChildrenFirst, IsKeptWeight}
 use Rattle.blif_flat.proofs.WeighLemmas.{weighs_once}
 use Rattle.blif_flat.proofs.InstanceLemmas.{subckt_more}
 
@@ -50,9 +50,9 @@ record IsChildKept (library : LibraryValue) (weights : List ℕ) (s : SubcktValu
   weighs : Weighs library child weight
   kept : kept_at weights (place_of (model_names library.models) s.model) ≡ capped weight
 
-child_kept : (library : LibraryValue) (before weights : List ℕ) (s : SubcktValue) → IsAmong library before s.model → ((n : ℕ) → In before n → IsKept library weights n) → IsChildKept library weights s
+child_kept : (library : LibraryValue) (before weights : List ℕ) (s : SubcktValue) → IsAmong library before s.model → ((n : ℕ) → In before n → IsKeptWeight library weights n) → IsChildKept library weights s
 child_kept library before weights s a h =
-    let k : IsKept library weights a.number = h a.number a.among in
+    let k : IsKeptWeight library weights a.number = h a.number a.among in
     record {
       child = k.model;
       named = named_at library s.model a.number a.place ∙ k.at;
@@ -83,8 +83,8 @@ commands_sum library weights (c ∷ cs) h =
     body_sum library weights c.body (subckts_of cs) (commands_kept (model_names library.models) weights cs) h (commands_sum library weights cs (λ s i. h s (subckt_more c.body (subckts_of cs) s i)))
 
 -- what is kept of a model whose placed models are kept is its weight
-fresh_kept : (library : LibraryValue) (before weights news : List ℕ) (number : ℕ) (b : IsBehind library before number) → ((n : ℕ) → In before n → IsKept library weights n)
-    → slice_get news number ≡ Some (model_kept (model_names library.models) weights b.model) → IsKept library news number
+fresh_kept : (library : LibraryValue) (before weights news : List ℕ) (number : ℕ) (b : IsBehind library before number) → ((n : ℕ) → In before n → IsKeptWeight library weights n)
+    → slice_get news number ≡ Some (model_kept (model_names library.models) weights b.model) → IsKeptWeight library news number
 fresh_kept library before weights news number b h at =
     let m : ModelValue = b.model in
     let r : IsSum library (subckts_of m.commands) (commands_kept (model_names library.models) weights m.commands) = commands_sum library weights m.commands (λ s i. child_kept library before weights s (b.children s i) h) in
@@ -94,7 +94,7 @@ fresh_kept library before weights news number b h at =
     record { model = m; at = b.at; weight = own_weight m + r.inner; weighs = w; kept = at ∙ ap Some same; once = λ v x. weighs_once library m m v (own_weight m + r.inner) refl x w }
 
 -- what is kept at other numbers stays
-kept_stays : (library : LibraryValue) (weights : List ℕ) (number value n : ℕ) → (n ≡ number → ⊥) → IsKept library weights n → IsKept library (set weights number value) n
+kept_stays : (library : LibraryValue) (weights : List ℕ) (number value n : ℕ) → (n ≡ number → ⊥) → IsKeptWeight library weights n → IsKeptWeight library (set weights number value) n
 kept_stays library weights number value n other k =
     let inside : n < length weights = slice_get_within weights n (capped k.weight) k.kept in
     let len : length (set weights number value) ≡ length weights = length-set weights number value in
@@ -118,16 +118,16 @@ in_take (y ∷ ys) (suc i) x (inr h) = elim (in_take ys i x h) [ inl a ↦ inl (
 -- the next model in the order
 pub kept_step : (library : LibraryValue) (order weights news : List ℕ) (i number : ℕ) → AreChildrenFirst library order → slice_get order i ≡ Some number → number < length weights
     → ((m : ModelValue) → slice_get library.models number ≡ Some m → news ≡ set weights number (model_kept (model_names library.models) weights m))
-    → ((n : ℕ) → In (take i order) n → IsKept library weights n) → (n : ℕ) → In (take (suc i) order) n → IsKept library news n
+    → ((n : ℕ) → In (take i order) n → IsKeptWeight library weights n) → (n : ℕ) → In (take (suc i) order) n → IsKeptWeight library news n
 kept_step library order weights news i number first at inside is h n among =
     let b : IsBehind library (take i order) number = first.each i number at in
     let value : ℕ = model_kept (model_names library.models) weights b.model in
     let e : news ≡ set weights number value = is b.model b.at in
-    let fresh : IsKept library (set weights number value) number =
+    let fresh : IsKeptWeight library (set weights number value) number =
     fresh_kept library (take i order) weights (set weights number value) number b h (slice_get-set_same weights number value inside) in
-    subst (λ l. IsKept library l n) (sym e)
+    subst (λ l. IsKeptWeight library l n) (sym e)
     (elim (cases_Bool (eqb n number)) [
-      | inl t ↦ subst (λ x. IsKept library (set weights number value) x) (sym (eqb-true n number t)) fresh
+      | inl t ↦ subst (λ x. IsKeptWeight library (set weights number value) x) (sym (eqb-true n number t)) fresh
       | inr f ↦ kept_stays library weights number value n (λ s. both_ways (eqb n number) f (eq-eqb n number s)) (elim (in_take order i n among) [ inl a ↦ h n a | inr a ↦ absurd (both_ways (eqb n number) f (eq-eqb n number (same_Some n number (sym a ∙ at)))) ])
     ])
 
@@ -141,30 +141,30 @@ order_inside library order i first h =
 pub kept_next : (library : LibraryValue) (names : List (List ℕ)) (order weights news : List ℕ) (i : ℕ) → names ≡ model_names library.models → AreChildrenFirst library order → i < length order
     → length weights ≡ length library.models
     → ((m : ModelValue) → slice_get library.models (get_or order i 0) ≡ Some m → news ≡ set weights (get_or order i 0) (model_kept names weights m))
-    → ((n : ℕ) → In (take i order) n → IsKept library weights n)
-    → ((n : ℕ) → In (take (i + 1) order) n → IsKept library news n) × (length news ≡ length library.models)
+    → ((n : ℕ) → In (take i order) n → IsKeptWeight library weights n)
+    → ((n : ℕ) → In (take (i + 1) order) n → IsKeptWeight library news n) × (length news ≡ length library.models)
 kept_next library names order weights news i same first h len is kept =
     let number : ℕ = get_or order i 0 in
     let at : slice_get order i ≡ Some number = slice_get-get_or order i 0 h in
     let inside : number < length library.models = order_inside library order i first h in
     let b : IsBehind library (take i order) number = first.each i number at in
     let e : suc i ≡ i + 1 = omega arith in (
-      subst (λ j. (n : ℕ) → In (take j order) n → IsKept library news n) e
+      subst (λ j. (n : ℕ) → In (take j order) n → IsKeptWeight library news n) e
           (kept_step library order weights news i number first at (omega arith) (subst (λ ns. (m : ModelValue) → slice_get library.models number ≡ Some m → news ≡ set weights number (model_kept ns weights m)) same is) kept),
       ap length (is b.model b.at) ∙ length-set weights number (model_kept names weights b.model) ∙ len,
     )
 
 -- what is kept tells whether a model is heavier than 2^22
-same_model : (library : LibraryValue) (weights : List ℕ) (number : ℕ) (m : ModelValue) (k : IsKept library weights number) → slice_get library.models number ≡ Some m → Weighs library m k.weight
+same_model : (library : LibraryValue) (weights : List ℕ) (number : ℕ) (m : ModelValue) (k : IsKeptWeight library weights number) → slice_get library.models number ≡ Some m → Weighs library m k.weight
 same_model library weights number m k at = subst (λ n. Weighs library n k.weight) (same_Some k.model m (sym k.at ∙ at)) k.weighs
 
-pub kept_light : (library : LibraryValue) (weights : List ℕ) (number kept : ℕ) (m : ModelValue) → IsKept library weights number → slice_get library.models number ≡ Some m → slice_get weights number ≡ Some kept
+pub kept_light : (library : LibraryValue) (weights : List ℕ) (number kept : ℕ) (m : ModelValue) → IsKeptWeight library weights number → slice_get library.models number ≡ Some m → slice_get weights number ≡ Some kept
     → kept ≤ most_weight → HasWeight library m (λ w. w ≤ most_weight)
 kept_light library weights number kept m k at here h =
     let e : kept ≡ capped k.weight = same_Some kept (capped k.weight) (sym here ∙ k.kept) in
     record { weight = k.weight; weighs = same_model library weights number m k at; is = omega arith }
 
-pub kept_heavy : (library : LibraryValue) (weights : List ℕ) (number kept : ℕ) (m : ModelValue) → IsKept library weights number → slice_get library.models number ≡ Some m → slice_get weights number ≡ Some kept
+pub kept_heavy : (library : LibraryValue) (weights : List ℕ) (number kept : ℕ) (m : ModelValue) → IsKeptWeight library weights number → slice_get library.models number ≡ Some m → slice_get weights number ≡ Some kept
     → most_weight < kept → HasWeight library m (λ w. most_weight < w)
 kept_heavy library weights number kept m k at here h =
     let e : kept ≡ capped k.weight = same_Some kept (capped k.weight) (sym here ∙ k.kept) in
@@ -190,7 +190,7 @@ pub children_first_none : (library : LibraryValue) → AreChildrenFirst library 
 children_first_none library = record { each = λ i n at. absurd (none-some n at) }
 
 -- what is told of the main model
-pub weight_told : (library : LibraryValue) (weights : List ℕ) (kept : ℕ) (main : ModelValue) (result : Result (Unit {0}) FlatErr) → IsKept library weights 0 → slice_get library.models 0 ≡ Some main → slice_get weights 0 ≡ Some kept
+pub weight_told : (library : LibraryValue) (weights : List ℕ) (kept : ℕ) (main : ModelValue) (result : Result (Unit {0}) FlatErr) → IsKeptWeight library weights 0 → slice_get library.models 0 ≡ Some main → slice_get weights 0 ≡ Some kept
     → MatchResult result (λ _. kept ≤ most_weight) (λ e. (e ≡ TooLarge) × (most_weight < kept))
     → MatchResult result (λ _. HasWeight library main (λ w. w ≤ most_weight)) (λ e. OrMemory refusal_of (λ r. (r ≡ TooLarge) × HasWeight library main (λ w. most_weight < w)) e)
 weight_told library weights kept main (Ok u) k at here h = kept_light library weights 0 kept main k at here h

@@ -4,13 +4,13 @@ ghost use Rattle.list_laws.specs.Members.{In};
 ghost use Rattle.tl_fault.specs.OrMemory.{OrMemory};
 ghost use Rattle.blif_read.specs.LibraryValue.{ModelValue};
 ghost use Rattle.blif_flat.specs.Refusals.{refusal_of};
-ghost use Rattle.blif_flat.specs.ClockSteps.{input_name};
+ghost use Rattle.blif_flat.specs.Steps.ClockSteps.{input_name};
 ghost use Rattle.blif_flat.specs.Drivers.{IsDriven};
 ghost use Rattle.blif_flat.specs.Flat.{IsFlat};
-ghost use Rattle.blif_flat.specs.InstanceRows.{IsLight};
+ghost use Rattle.blif_flat.specs.Steps.InstanceRows.{IsLight};
 ghost use Rattle.blif_flat.specs.LoopFault.{LoopWalk, IsLoop};
 ghost use Rattle.blif_flat.specs.Models.{inputs_of};
-ghost use Rattle.blif_flat.specs.Stages.{IsCircuit, AreClockNets};
+ghost use Rattle.blif_flat.specs.Steps.Stages.{IsCircuit, AreClockNets};
 
 use crate::clock_check::ClockNets;
 use crate::connect::Circuit;

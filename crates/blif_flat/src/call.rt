@@ -1,14 +1,13 @@
 //! Flattening.
-ghost use Rattle.std.specs.Prelude.{◌≡◌, ◌<◌, ◌^◌, ℕ, List, ◌++◌, Some, IfOk, IfErr, length, slice_get};
-ghost use Rattle.list_laws.specs.Members.{In};
+ghost use Rattle.std.specs.Prelude.{◌≡◌, ◌<◌, ◌^◌, Some, IfOk, IfErr, length, slice_get};
 ghost use Rattle.tl_fault.specs.OrMemory.{OrMemory};
-ghost use Rattle.blif_read.specs.LibraryValue.{ModelValue};
+ghost use Rattle.blif_read.specs.ShortPorts.{HasShortPorts};
 ghost use Rattle.blif_read.specs.WellFormed.{IsWellFormed};
 ghost use Rattle.blif_flat.specs.Refusals.{refusal_of};
 ghost use Rattle.blif_flat.specs.Faults.{IsFault, HasOneFault, HasNoFault};
 ghost use Rattle.blif_flat.specs.Bounds.{IsWithinBounds};
 ghost use Rattle.blif_flat.specs.Weight.{IsLight};
-ghost use Rattle.blif_flat.specs.Flattened.{HasValues};
+ghost use Rattle.blif_flat.specs.Flattened.{HasValues, HasOneFlat};
 ghost use Rattle.blif_flat.specs.FlatCycle.{HasCycles};
 ghost use Rattle.blif_flat.specs.Law.{HasOneCycle};
 ghost use Rattle.blif_flat.specs.Sound.{IsSound};
@@ -43,9 +42,10 @@ fn main_model(library: &Library) -> &BlifModel
 /// A library has one fault at most.
 ///
 /// In every sound library the law of the cycle relation holds: for all values of inputs and latches there are values of all
-/// nets that fit them, and they are the only ones. The flat circuit's fields are those of the library's hierarchical names;
-/// evaluating its covers in its order gives these values, and so the outputs and the next states of each cycle, and of each
-/// run from the latches' inits. Its lists are short, and its nets and its order are in range (`specs/Bounds.antt`).
+/// nets that fit them, and they are the only ones. The flat circuit's fields are those of the library's hierarchical names,
+/// and a sound library has one such circuit at most; evaluating its covers in its order gives these values, and
+/// so the outputs and the next states of each cycle, and of each run from the latches' inits. Its lists are short, and its
+/// nets and its order are in range (`specs/Bounds.antt`).
 ///
 /// It takes time linear in the library's bytes and in the bytes of the names of all instances, on average over the hashes,
 /// and keeps each of its stacks in memory.
@@ -53,16 +53,17 @@ fn main_model(library: &Library) -> &BlifModel
 /// # Errors
 /// The first of the walk's F1 to F4, L2, the drivers' F5 and F6, the clocks' F8, F7 and F9, and F10; `Memory` where there is
 /// none. The order and the details are those of `specs/Faults.antt`.
-#[tactic(auto, using(crate::proofs::LawLemmas::sound_law, crate::proofs::FaultOnceLemmas::one_fault, crate::proofs::ExcludedLemmas::no_fault))]
+#[tactic(auto, using(crate::proofs::LawLemmas::sound_law, crate::proofs::FaultOnceLemmas::one_fault, crate::proofs::ExcludedLemmas::no_fault, crate::proofs::OneFlatLemmas::one_flat))]
 pub fn flatten(alloc: Global, library: &Library) -> Result<Flat, FlatErr>
     requires formed { IsWellFormed library.now }
     requires few { length library.now.models < 2 ^ 32 }
-    requires short { (m : ModelValue) → slice_get library.now.models 0 ≡ Some m → (name : List ℕ) → In (m.inputs ++ (m.clocks ++ m.outputs)) name → length name < 2 ^ 32 }
+    requires short { HasShortPorts library.now }
     ensures sound { IfOk result (λ flat. IsSound library.now) }
     ensures law { IsSound library.now → HasOneCycle library.now }
     ensures once { HasOneFault library.now }
     ensures excluded { IsSound library.now → IsLight library.now → HasNoFault library.now }
     ensures values { IfOk result (λ flat. HasValues library.now flat) }
+    ensures one { IsSound library.now → HasOneFlat library.now }
     ensures bounds { IfOk result (λ flat. IsWithinBounds library.now flat) }
     ensures cycles { IfOk result (λ flat. HasCycles library.now flat) }
     ensures light { IfOk result (λ flat. IsLight library.now) }

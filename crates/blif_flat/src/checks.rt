@@ -3,8 +3,8 @@ ghost use Rattle.std.specs.Prelude.{◌≡◌, ◌<◌, ◌^◌, length, map, If
 ghost use Rattle.tl_fault.specs.OrMemory.{OrMemory};
 ghost use Rattle.blif_read.specs.WellFormed.{IsWellFormed};
 ghost use Rattle.blif_flat.specs.Refusals.{refusal_of};
-ghost use Rattle.blif_flat.specs.NameSets.{ports_value, model_names};
-ghost use Rattle.blif_flat.specs.Checked.{IsChecked};
+ghost use Rattle.blif_flat.specs.Steps.NameSets.{ports_value, model_names};
+ghost use Rattle.blif_flat.specs.Steps.Checked.{IsChecked};
 ghost use Rattle.blif_flat.specs.Faults.{IsFault};
 
 use crate::drivers::check_drivers;

@@ -4,9 +4,9 @@ ghost use Rattle.tl_fault.specs.OrMemory.{OrMemory};
 ghost use Rattle.blif_flat.specs.Refusals.{refusal_of};
 ghost use Rattle.blif_flat.specs.Drivers.{IsDriven};
 ghost use Rattle.blif_flat.specs.Faults.{IsConnected, IsFault};
-ghost use Rattle.blif_flat.specs.InstanceRows.{IsLight};
+ghost use Rattle.blif_flat.specs.Steps.InstanceRows.{IsLight};
 ghost use Rattle.blif_flat.specs.Models.{inputs_of};
-ghost use Rattle.blif_flat.specs.Stages.{IsCircuit, AreClockNets};
+ghost use Rattle.blif_flat.specs.Steps.Stages.{IsCircuit, AreClockNets};
 
 use crate::clock_data::check_data;
 use crate::clocks::clock_marks;

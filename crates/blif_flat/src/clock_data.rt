@@ -6,15 +6,15 @@ ghost use Rattle.blif_flat.specs.Refusals.{refusal_of};
 ghost use Rattle.blif_flat.specs.Models.{model_at, inputs_of};
 ghost use Rattle.blif_flat.specs.Drivers.{IsDriven};
 ghost use Rattle.blif_flat.specs.Places.{Place};
-ghost use Rattle.blif_flat.specs.InstanceRows.{AreInstances, paths_of};
-ghost use Rattle.blif_flat.specs.InstanceOrder.{places_at};
+ghost use Rattle.blif_flat.specs.Steps.InstanceRows.{AreInstances, paths_of};
+ghost use Rattle.blif_flat.specs.Steps.InstanceOrder.{places_at};
 ghost use Rattle.blif_flat.specs.ClockFaults.{is_gate, data_of, ClockData};
-ghost use Rattle.blif_flat.specs.Gates.{IsGateAt, AreGatesAt};
-ghost use Rattle.blif_flat.specs.NetSlots.{IsNets};
-ghost use Rattle.blif_flat.specs.NetMade.{AreAllNets};
-ghost use Rattle.blif_flat.specs.ClockSteps.{AreMarks};
-ghost use Rattle.blif_flat.specs.DriverSteps.{Tells};
-ghost use Rattle.blif_flat.specs.DataSteps.{marked_name, clock_named, name_fault, names_fault};
+ghost use Rattle.blif_flat.specs.Steps.Gates.{IsGateAt, AreGatesAt};
+ghost use Rattle.blif_flat.specs.Steps.NetSlots.{IsNets};
+ghost use Rattle.blif_flat.specs.Steps.NetMade.{AreAllNets};
+ghost use Rattle.blif_flat.specs.Steps.ClockSteps.{AreClockMarks};
+ghost use Rattle.blif_flat.specs.Steps.DriverSteps.{Tells};
+ghost use Rattle.blif_flat.specs.Steps.DataSteps.{marked_name, clock_named, name_fault, names_fault};
 
 use crate::flat::Net;
 use crate::flat_err::FlatErr;
@@ -131,7 +131,7 @@ pub(crate) fn check_data(
     requires nets { AreAllNets library.now rows.now nets.now }
     requires gates { AreGatesAt (paths_of rows.now) gates.now (places_at library.now is_gate (paths_of rows.now)) }
     requires inputs { (main : ModelValue) → model_at library.now [] ≡ Some main → inputs.now ≡ inputs_of main }
-    requires marks { (main : ModelValue) → model_at library.now [] ≡ Some main → AreMarks library.now main marks.now }
+    requires marks { (main : ModelValue) → model_at library.now [] ≡ Some main → AreClockMarks library.now main marks.now }
     ensures ok { IfOk result (λ _. (main : ModelValue) → model_at library.now [] ≡ Some main → ClockData library.now main (places_at library.now is_gate (paths_of rows.now)) None) }
     ensures err { IfErr result (OrMemory refusal_of (λ r. (main : ModelValue) → model_at library.now [] ≡ Some main → ClockData library.now main (places_at library.now is_gate (paths_of rows.now)) (Some r))) }
 {

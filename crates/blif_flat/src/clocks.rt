@@ -2,7 +2,7 @@
 ghost use Rattle.std.specs.Prelude.{◌≡◌, ◌<◌, ℕ, ◌++◌, ◌||◌, not, filter, length, map, slice_get, Some, IfOk, OnOk};
 ghost use Rattle.std.specs.Option.{option_and_then};
 ghost use Rattle.blif_flat.specs.Models.{has_name, inputs_of};
-ghost use Rattle.blif_flat.specs.ClockSteps.{input_name, is_control as is_control_of, clock_test};
+ghost use Rattle.blif_flat.specs.Steps.ClockSteps.{input_name, is_control as is_control_of, clock_test};
 
 use crate::name_set::{is_among, with_names};
 use blif_read::BlifModel;

@@ -1,10 +1,10 @@
 //! The circuit of a library: its instances, their covers and latches, and the nets of all their names.
 ghost use Rattle.std.specs.Prelude.{◌≡◌, map, IfOk};
 ghost use Rattle.blif_read.specs.WellFormed.{IsWellFormed};
-ghost use Rattle.blif_flat.specs.NameSets.{ports_value, model_names};
+ghost use Rattle.blif_flat.specs.Steps.NameSets.{ports_value, model_names};
 ghost use Rattle.blif_flat.specs.Drivers.{IsDriven};
-ghost use Rattle.blif_flat.specs.InstanceRows.{IsLight};
-ghost use Rattle.blif_flat.specs.Stages.{IsCircuit};
+ghost use Rattle.blif_flat.specs.Steps.InstanceRows.{IsLight};
+ghost use Rattle.blif_flat.specs.Steps.Stages.{IsCircuit};
 
 use crate::gates::{Gate, GateKind, gates};
 use crate::instances::{Instance, instances};

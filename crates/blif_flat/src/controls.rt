@@ -9,14 +9,14 @@ ghost use Rattle.blif_flat.specs.Drivers.{IsDriven, IsRead};
 ghost use Rattle.blif_flat.specs.Instances.{LatchAt};
 ghost use Rattle.blif_flat.specs.Nets.{latch_net, cover_net};
 ghost use Rattle.blif_flat.specs.Places.{Place, is_cover, is_latch};
-ghost use Rattle.blif_flat.specs.InstanceRows.{AreInstances, paths_of};
-ghost use Rattle.blif_flat.specs.InstanceOrder.{places_at};
+ghost use Rattle.blif_flat.specs.Steps.InstanceRows.{AreInstances, paths_of};
+ghost use Rattle.blif_flat.specs.Steps.InstanceOrder.{places_at};
 ghost use Rattle.blif_flat.specs.Written.{IsWritten};
 ghost use Rattle.blif_flat.specs.ClockFaults.{Clocks};
-ghost use Rattle.blif_flat.specs.Gates.{IsGateAt, AreGatesAt};
-ghost use Rattle.blif_flat.specs.NetMade.{AreAllNets};
-ghost use Rattle.blif_flat.specs.ClockSteps.{IsControlled};
-ghost use Rattle.blif_flat.specs.ControlSteps.{input_at, IsKept, IsSecond, IsMet, IsRefused, ControlNext, ControlFault};
+ghost use Rattle.blif_flat.specs.Steps.Gates.{IsGateAt, AreGatesAt};
+ghost use Rattle.blif_flat.specs.Steps.NetMade.{AreAllNets};
+ghost use Rattle.blif_flat.specs.Steps.ClockSteps.{IsControlled};
+ghost use Rattle.blif_flat.specs.Steps.ControlSteps.{input_at, IsKeptInput, IsSecond, IsMetInput, IsRefused, ControlNext, ControlFault};
 
 use crate::flat::Net;
 use crate::flat_err::FlatErr;
@@ -87,7 +87,7 @@ fn same_input(inputs: &[Name], i: u32, j: u32) -> bool
 fn keep_input(alloc: Global, inputs: &[Name], first: Option<u32>, j: u32) -> Result<u32, FlatErr>
     requires first { (i : ℕ) → first ≡ Some i → i < length inputs.now }
     requires here { j < length inputs.now }
-    ensures ok { IfOk result (λ next. IsKept inputs.now first j next) }
+    ensures ok { IfOk result (λ next. IsKeptInput inputs.now first j next) }
     ensures err { IfErr result (OrMemory refusal_of (λ r. IsSecond inputs.now first j r)) }
 {
     match first {
@@ -125,7 +125,7 @@ fn meet_control(
     requires first { (j : ℕ) → first ≡ Some j → j < length inputs.now }
     requires here { row < length rows.now }
     ensures ok { IfOk result (λ next. (path : Path) → slice_get (paths_of rows.now) row ≡ Some path → IsRead library.now path control.now
-        → IsMet library.now path control.now (input_at inputs.now first) (input_at inputs.now next)) }
+        → IsMetInput library.now path control.now (input_at inputs.now first) (input_at inputs.now next)) }
     ensures within { IfOk result (λ next. (j : ℕ) → next ≡ Some j → j < length inputs.now) }
     ensures err { IfErr result (OrMemory refusal_of (λ r. (path : Path) → slice_get (paths_of rows.now) row ≡ Some path → IsRefused library.now path control.now (input_at inputs.now first) r)) }
 {

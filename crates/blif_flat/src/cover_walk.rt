@@ -1,7 +1,7 @@
 //! The depth-first walk of the covers of a flat circuit.
 ghost use Rattle.std.specs.Prelude.{◌≡◌, ℕ, All, ◌<◌, ◌≤◌, ◌^◌, [], ◌∷◌, reverse, replicate, length, Some, slice_get, IfOk, OnOk};
 ghost use Rattle.blif_flat.specs.Flat.{inputs_at};
-ghost use Rattle.blif_flat.specs.CoverWalk.{IsWalker, InRange, entered, pushed, popped, finished, first_frame, cover_number, Looked, Stepped, Ran, Visited, VisitedAll, numbers_from, up_to, from_number, path_of, IsFound};
+ghost use Rattle.blif_flat.specs.Steps.CoverWalk.{IsWalker, InRange, entered, pushed, popped, finished, first_frame, cover_number, Looked, Stepped, Ran, Visited, VisitedAll, numbers_from, up_to, from_number, path_of, IsFound};
 
 use crate::flat::{FlatCover, Net};
 use std::alloc::{AllocError, Global};
@@ -34,9 +34,9 @@ pub(crate) struct CoverWalk {
 
 impl Model for CoverWalk {
     ghost use Rattle.std.specs.Prelude.{reverse};
-    ghost use Rattle.blif_flat.specs.CoverWalk.{WalkValue};
+    ghost use Rattle.blif_flat.specs.Steps.CoverWalk.{CoverWalkValue};
 
-    ghost Value = { WalkValue };
+    ghost Value = { CoverWalkValue };
 
     ghost view = { λ w. record { marks = w.marks.items; order = reverse w.order.items; stack = reverse w.stack.items } };
 }

@@ -5,10 +5,10 @@ ghost use Rattle.blif_read.specs.LibraryValue.{ModelValue, LibraryValue};
 ghost use Rattle.blif_read.specs.WellFormed.{IsWellFormed, IsWellFormedModel};
 ghost use Rattle.blif_flat.specs.declared.flat_err.FlatErr.TheVariants.{Memory};
 ghost use Rattle.blif_flat.specs.Models.{model_named, has_name, inputs_of};
-ghost use Rattle.blif_flat.specs.NameSets.{ports_value, model_names};
+ghost use Rattle.blif_flat.specs.Steps.NameSets.{ports_value, model_names};
 ghost use Rattle.blif_flat.specs.DriverFaults.{output_actuals, input_actuals, driven_pairs, read_pairs, with_control, drives, reads, all_drives, twice_in, twice_fault, undriven_in, undriven_fault, model_fault, models_fault};
-ghost use Rattle.blif_flat.specs.DriverSteps.{Tells, Adds, ArePortsOf, AreOf, fault_of};
-ghost use Rattle.blif_flat.specs.NumberedModels.{models_at};
+ghost use Rattle.blif_flat.specs.Steps.DriverSteps.{Tells, Adds, ArePortsOf, AreOf, fault_of};
+ghost use Rattle.blif_flat.specs.Steps.NumberedModels.{models_at};
 
 use crate::flat_err::FlatErr;
 use crate::model_index::ModelIndex;

@@ -4,12 +4,12 @@ ghost use Rattle.list_laws.specs.Members.{In};
 ghost use Rattle.blif_flat.specs.declared.flat.OutPort.{OutPort as OutPortValue};
 ghost use Rattle.blif_flat.specs.Models.{inputs_of, has_name};
 ghost use Rattle.blif_flat.specs.Drivers.{IsDriven};
-ghost use Rattle.blif_flat.specs.InstanceRows.{AreInstances, paths_of};
-ghost use Rattle.blif_flat.specs.NetSlots.{IsNets};
-ghost use Rattle.blif_flat.specs.NetMade.{AreAllNets};
+ghost use Rattle.blif_flat.specs.Steps.InstanceRows.{AreInstances, paths_of};
+ghost use Rattle.blif_flat.specs.Steps.NetSlots.{IsNets};
+ghost use Rattle.blif_flat.specs.Steps.NetMade.{AreAllNets};
 ghost use Rattle.blif_flat.specs.Flat.{AreNetsOf, with_control_net, underscores as underscores_of, most_underscores};
-ghost use Rattle.blif_flat.specs.RegularNets.{IsRegular, regular_places};
-ghost use Rattle.blif_flat.specs.FieldSteps.{out_port as port_of, outputs_or, with_unmarked, unmarked_after};
+ghost use Rattle.blif_flat.specs.Steps.RegularNets.{IsRegular, regular_places};
+ghost use Rattle.blif_flat.specs.Steps.FieldSteps.{out_port as port_of, outputs_or, with_unmarked, unmarked_after};
 
 use crate::clocks::copies;
 use crate::flat::OutPort;

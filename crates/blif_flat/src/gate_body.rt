@@ -3,9 +3,9 @@ ghost use Rattle.std.specs.Prelude.{◌≡◌, ◌<◌, length, slice_get, Some,
 ghost use Rattle.std.specs.Option.{option_map};
 ghost use Rattle.blif_flat.specs.Models.{body_at};
 ghost use Rattle.blif_flat.specs.Places.{Place, latch_at};
-ghost use Rattle.blif_flat.specs.InstanceRows.{AreInstances, paths_of};
-ghost use Rattle.blif_flat.specs.Gates.{IsGateAt};
-ghost use Rattle.blif_flat.specs.GateBodies.{numbered_body, place_body, gate_body as body_of};
+ghost use Rattle.blif_flat.specs.Steps.InstanceRows.{AreInstances, paths_of};
+ghost use Rattle.blif_flat.specs.Steps.Gates.{IsGateAt};
+ghost use Rattle.blif_flat.specs.Steps.GateBodies.{numbered_body, place_body, gate_body as body_of};
 
 use crate::gates::Gate;
 use crate::instances::Instance;

@@ -1,10 +1,10 @@
 //! The covers and latches of all instances.
 ghost use Rattle.std.specs.Prelude.{◌≡◌, ◌≤◌, ◌<◌, ◌^◌, length, Some, slice_get, IfOk, OnOk};
 ghost use Rattle.blif_read.specs.LibraryValue.{ModelValue};
-ghost use Rattle.blif_flat.specs.InstanceRows.{AreInstances, IsLight, paths_of};
-ghost use Rattle.blif_flat.specs.InstanceOrder.{places_at};
-ghost use Rattle.blif_flat.specs.Gates.{kind_test, AreGatesAt};
-ghost use Rattle.blif_flat.specs.GateRows.{with_commands, with_model};
+ghost use Rattle.blif_flat.specs.Steps.InstanceRows.{AreInstances, IsLight, paths_of};
+ghost use Rattle.blif_flat.specs.Steps.InstanceOrder.{places_at};
+ghost use Rattle.blif_flat.specs.Steps.Gates.{kind_test, AreGatesAt};
+ghost use Rattle.blif_flat.specs.Steps.GateRows.{with_commands, with_model};
 ghost use Rattle.blif_flat.specs.Weight.{most_weight};
 
 use crate::instances::Instance;

@@ -2,9 +2,9 @@
 ghost use Rattle.std.specs.Prelude.{◌≡◌, ℕ, ◌+◌, ◌<◌, ◌^◌, List, [], ◌∷◌, ◌++◌, length, reverse, Some, slice_get, IfOk, OnOk};
 ghost use Rattle.blif_read.specs.LibraryValue.{ModelValue};
 ghost use Rattle.blif_flat.specs.Models.{subckts_of, with_subckt};
-ghost use Rattle.blif_flat.specs.NameSets.{model_names};
+ghost use Rattle.blif_flat.specs.Steps.NameSets.{model_names};
 ghost use Rattle.tl_text.specs.NameIndex.{place_of};
-ghost use Rattle.blif_flat.specs.InstanceRows.{AreInstances, IsLight, number_or_zero, with_entry, entries_from};
+ghost use Rattle.blif_flat.specs.Steps.InstanceRows.{AreInstances, IsLight, number_or_zero, with_entry, entries_from};
 
 use crate::model_index::ModelIndex;
 use blif_read::{BlifModel, Body, Command, Library};

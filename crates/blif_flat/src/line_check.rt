@@ -2,9 +2,9 @@
 ghost use Rattle.std.specs.Prelude.{◌≡◌, ◌∷◌, ◌++◌, [], IfOk, OnOk, IfErr, None};
 ghost use Rattle.std.specs.Option.{option_map};
 ghost use Rattle.blif_flat.specs.declared.flat_err.FlatErr.TheVariants.{UnknownModel as unknown_model_of, UnknownFormal as unknown_formal_of, Unconnected as unconnected_of};
-ghost use Rattle.blif_flat.specs.Answers.{IsTold};
-ghost use Rattle.blif_flat.specs.NameSets.{ports_value};
-ghost use Rattle.blif_flat.specs.Line.{foreign_formal, open_among, ports_fault};
+ghost use Rattle.blif_flat.specs.Steps.Answers.{IsTold};
+ghost use Rattle.blif_flat.specs.Steps.NameSets.{ports_value};
+ghost use Rattle.blif_flat.specs.Steps.Line.{foreign_formal, open_among, ports_fault};
 
 use crate::flat_err::FlatErr;
 use crate::name_set::{formal_index, is_among};

@@ -3,7 +3,7 @@ ghost use Rattle.std.specs.Prelude.{◌≡◌, ℕ, ◌<◌, ◌^◌, List, leng
 ghost use Rattle.tl_text.specs.NameIndex.{place_of};
 ghost use Rattle.blif_read.specs.Once.{AreOnce};
 ghost use Rattle.blif_read.specs.LibraryValue.{ModelValue};
-ghost use Rattle.blif_flat.specs.NameSets.{model_names, Finds};
+ghost use Rattle.blif_flat.specs.Steps.NameSets.{model_names, Finds};
 
 use crate::name_set::add_once;
 use blif_read::BlifModel;

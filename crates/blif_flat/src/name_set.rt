@@ -2,7 +2,7 @@
 ghost use Rattle.std.specs.Prelude.{◌≡◌, [], IfOk, OnOk};
 ghost use Rattle.blif_read.specs.Connections.{formals};
 ghost use Rattle.blif_flat.specs.Models.{has_name};
-ghost use Rattle.blif_flat.specs.NameSets.{with_name, with_names as with_all_names};
+ghost use Rattle.blif_flat.specs.Steps.NameSets.{with_name, with_names as with_all_names};
 
 use blif_read::Pair;
 use std::alloc::{AllocError, Global};

@@ -2,8 +2,8 @@
 ghost use Rattle.std.specs.Prelude.{◌≡◌, ◌<◌, ◌≤◌, length, None, MatchOption};
 ghost use Rattle.std.specs.Option.{option_map};
 ghost use Rattle.blif_read.specs.LibraryValue.{LibraryValue};
-ghost use Rattle.blif_flat.specs.NetSlots.{IsNets};
-ghost use Rattle.blif_flat.specs.NetSteps.{line_under, link_at, linked_out, linked_in, links_out, links_in, AreLinesOf, IsLink};
+ghost use Rattle.blif_flat.specs.Steps.NetSlots.{IsNets};
+ghost use Rattle.blif_flat.specs.Steps.NetSteps.{line_under, link_at, linked_out, linked_in, links_out, links_in, AreLinesOf, IsLink};
 ghost use Rattle.blif_flat.specs.Weight.{most_weight};
 
 use crate::instances::Instance;

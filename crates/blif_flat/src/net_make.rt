@@ -1,10 +1,10 @@
 //! Slots for the nets of all instances.
 ghost use Rattle.std.specs.Prelude.{◌≡◌, ◌≤◌, [], map, replicate, None, IfOk};
-ghost use Rattle.blif_flat.specs.NameSets.{with_names as with_all_names};
-ghost use Rattle.blif_flat.specs.ModelNames.{body_names, commands_names};
-ghost use Rattle.blif_flat.specs.InstanceRows.{AreInstances, IsLight, paths_of};
-ghost use Rattle.blif_flat.specs.NetMade.{AreEmptyNets};
-ghost use Rattle.blif_flat.specs.NetStarts.{distinct_names, name_count, starts_from, slot_count};
+ghost use Rattle.blif_flat.specs.Steps.NameSets.{with_names as with_all_names};
+ghost use Rattle.blif_flat.specs.Steps.ModelNames.{body_names, commands_names};
+ghost use Rattle.blif_flat.specs.Steps.InstanceRows.{AreInstances, IsLight, paths_of};
+ghost use Rattle.blif_flat.specs.Steps.NetMade.{AreEmptyNets};
+ghost use Rattle.blif_flat.specs.Steps.NetStarts.{distinct_names, name_count, starts_from, slot_count};
 ghost use Rattle.blif_flat.specs.Weight.{most_weight};
 
 use crate::flat::Net;

@@ -1,9 +1,9 @@
 //! Nets at their drivers: the outputs of the covers and latches of all instances, and the inputs of the main model.
 ghost use Rattle.std.specs.Prelude.{◌≡◌, ◌<◌, ◌≤◌, ◌^◌, [], ◌∷◌, length};
 ghost use Rattle.std.specs.Option.{option_and_then};
-ghost use Rattle.blif_flat.specs.NetSlots.{IsNets};
-ghost use Rattle.blif_flat.specs.GateBodies.{gate_body as body_of};
-ghost use Rattle.blif_flat.specs.NetSteps.{cover_output, latch_output, with_named, with_covers, with_latches, with_inputs};
+ghost use Rattle.blif_flat.specs.Steps.NetSlots.{IsNets};
+ghost use Rattle.blif_flat.specs.Steps.GateBodies.{gate_body as body_of};
+ghost use Rattle.blif_flat.specs.Steps.NetSteps.{cover_output, latch_output, with_named, with_covers, with_latches, with_inputs};
 ghost use Rattle.blif_flat.specs.Weight.{most_weight};
 
 use crate::flat::Net;

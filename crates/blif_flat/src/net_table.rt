@@ -2,12 +2,12 @@
 ghost use Rattle.std.specs.Prelude.{◌≡◌, ◌≤◌, length, map, IfOk};
 ghost use Rattle.blif_read.specs.WellFormed.{IsWellFormed};
 ghost use Rattle.blif_flat.specs.Drivers.{IsDriven};
-ghost use Rattle.blif_flat.specs.NameSets.{ports_value};
+ghost use Rattle.blif_flat.specs.Steps.NameSets.{ports_value};
 ghost use Rattle.blif_flat.specs.Places.{is_cover, is_latch};
-ghost use Rattle.blif_flat.specs.InstanceRows.{AreInstances, paths_of};
-ghost use Rattle.blif_flat.specs.InstanceOrder.{places_at};
-ghost use Rattle.blif_flat.specs.Gates.{AreGatesAt};
-ghost use Rattle.blif_flat.specs.NetMade.{AreEmptyNets, AreAllNets};
+ghost use Rattle.blif_flat.specs.Steps.InstanceRows.{AreInstances, paths_of};
+ghost use Rattle.blif_flat.specs.Steps.InstanceOrder.{places_at};
+ghost use Rattle.blif_flat.specs.Steps.Gates.{AreGatesAt};
+ghost use Rattle.blif_flat.specs.Steps.NetMade.{AreEmptyNets, AreAllNets};
 ghost use Rattle.blif_flat.specs.Weight.{most_weight};
 
 use crate::gates::Gate;

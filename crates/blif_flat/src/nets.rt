@@ -1,9 +1,9 @@
 //! The nets of the names of all instances, by the numbers of their drivers.
 ghost use Rattle.std.specs.Prelude.{◌≡◌, ◌<◌, length, Some};
-ghost use Rattle.blif_flat.specs.NetSlots.{slot_number, table_of, with_slot, with_found, copied, pair_out, pairs_out, pair_in, pairs_in, IsNets};
+ghost use Rattle.blif_flat.specs.Steps.NetSlots.{slot_number, table_of, with_slot, with_found, copied, pair_out, pairs_out, pair_in, pairs_in, IsNets};
 ghost use Rattle.blif_read.specs.LibraryValue.{ModelValue};
 ghost use Rattle.blif_flat.specs.Models.{is_input, is_output};
-ghost use Rattle.blif_flat.specs.NameSets.{ports_value};
+ghost use Rattle.blif_flat.specs.Steps.NameSets.{ports_value};
 
 use crate::flat::Net;
 use crate::ports::Ports;
@@ -18,7 +18,7 @@ pub(crate) struct Start {
     pub first: usize,
 }
 
-/// The nets of the names of all instances. Contracts see a table of them (`specs/NetSlots.antt`).
+/// The nets of the names of all instances. Contracts see a table of them (`specs/Steps/NetSlots.antt`).
 #[derive(Drop)]
 pub(crate) struct Nets {
     /// The names of each model.
@@ -30,7 +30,7 @@ pub(crate) struct Nets {
 }
 
 impl Model for Nets {
-    ghost use Rattle.blif_flat.specs.NetSlots.{NetsValue};
+    ghost use Rattle.blif_flat.specs.Steps.NetSlots.{NetsValue};
 
     ghost Value = { NetsValue };
 

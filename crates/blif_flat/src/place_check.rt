@@ -2,10 +2,10 @@
 ghost use Rattle.std.specs.Prelude.{◌≡◌, ◌<◌, ◌∷◌, ◌++◌, [], length, map, reverse, slice_get, Some, None, IfOk, OnOk, IfErr};
 ghost use Rattle.blif_read.specs.LibraryValue.{ModelValue};
 ghost use Rattle.blif_flat.specs.declared.flat_err.FlatErr.TheVariants.{RecursiveModel as recursive_model_of};
-ghost use Rattle.blif_flat.specs.Answers.{IsTold};
-ghost use Rattle.blif_flat.specs.NameSets.{ports_value, model_names};
-ghost use Rattle.blif_flat.specs.Line.{add_chain, ports_fault};
-ghost use Rattle.blif_flat.specs.Stack.{chain_of, chain_step, chain_names as chain_names_of, IsWalk, IsPlacing};
+ghost use Rattle.blif_flat.specs.Steps.Answers.{IsTold};
+ghost use Rattle.blif_flat.specs.Steps.NameSets.{ports_value, model_names};
+ghost use Rattle.blif_flat.specs.Steps.Line.{add_chain, ports_fault};
+ghost use Rattle.blif_flat.specs.Steps.Stack.{chain_of, chain_step, chain_names as chain_names_of, IsWalk, IsPlacing};
 ghost use Rattle.blif_flat.specs.Walk.{chain_from, line_fault};
 
 use crate::flat_err::FlatErr;

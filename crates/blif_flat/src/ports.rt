@@ -5,7 +5,7 @@ ghost use Rattle.tl_text.specs.NameIndex.{place_of};
 ghost use Rattle.blif_read.specs.LibraryValue.{ModelValue};
 ghost use Rattle.blif_read.specs.WellFormed.{IsWellFormedModel};
 ghost use Rattle.blif_flat.specs.Models.{has_name, is_input as input_of, is_output as output_of};
-ghost use Rattle.blif_flat.specs.NameSets.{ports_value};
+ghost use Rattle.blif_flat.specs.Steps.NameSets.{ports_value};
 
 use crate::name_set::{is_among, with_names};
 use blif_read::BlifModel;

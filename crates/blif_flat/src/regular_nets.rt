@@ -1,9 +1,9 @@
 //! Nets by the numbers of the regular inputs, which are the main model's inputs without its clock nets.
 ghost use Rattle.std.specs.Prelude.{◌≡◌, ◌<◌, ◌^◌, length, slice_get, IfOk};
-ghost use Rattle.blif_flat.specs.InstanceRows.{number_or_zero};
-ghost use Rattle.blif_flat.specs.NetSlots.{IsNets};
-ghost use Rattle.blif_flat.specs.RegularNets.{regular_numbers as numbers_of, renumbered as renumbered_of};
-ghost use Rattle.blif_flat.specs.FieldSteps.{regular_net, regular_nets};
+ghost use Rattle.blif_flat.specs.Steps.InstanceRows.{number_or_zero};
+ghost use Rattle.blif_flat.specs.Steps.NetSlots.{IsNets};
+ghost use Rattle.blif_flat.specs.Steps.RegularNets.{regular_numbers as numbers_of, renumbered as renumbered_of};
+ghost use Rattle.blif_flat.specs.Steps.FieldSteps.{regular_net, regular_nets};
 
 use crate::flat::Net;
 use crate::nets::Nets;

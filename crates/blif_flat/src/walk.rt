@@ -4,15 +4,15 @@ ghost use Rattle.list_laws.specs.Members.{In};
 ghost use Rattle.tl_fault.specs.OrMemory.{OrMemory};
 ghost use Rattle.blif_read.specs.Once.{AreOnce};
 ghost use Rattle.blif_read.specs.WellFormed.{IsWellFormed};
-ghost use Rattle.blif_flat.specs.NameSets.{ports_value, model_names};
+ghost use Rattle.blif_flat.specs.Steps.NameSets.{ports_value, model_names};
 ghost use Rattle.blif_read.specs.LibraryValue.{ModelValue};
 ghost use Rattle.blif_read.specs.declared.command.Body.TheVariants.{Subckt as subckt_of};
 ghost use Rattle.blif_flat.specs.declared.walk_state.Mark.{Mark};
 ghost use Rattle.blif_flat.specs.declared.walk_state.Mark.TheVariants.{New};
 ghost use Rattle.blif_flat.specs.Refusals.{refusal_of};
-ghost use Rattle.blif_flat.specs.NumberedModels.{models_at};
-ghost use Rattle.blif_flat.specs.Stack.{IsWalk, IsStep, IsReached, Resumes, entered, advanced, fresh, placed_by};
-ghost use Rattle.blif_flat.specs.Weighing.{AreChildrenFirst};
+ghost use Rattle.blif_flat.specs.Steps.NumberedModels.{models_at};
+ghost use Rattle.blif_flat.specs.Steps.Stack.{IsWalk, IsModelStep, IsReached, Resumes, entered, advanced, fresh, placed_by};
+ghost use Rattle.blif_flat.specs.Steps.Weighing.{AreChildrenFirst};
 ghost use Rattle.blif_flat.specs.Walk.{walked, refused, WalksMain};
 
 use crate::flat_err::FlatErr;
@@ -57,7 +57,7 @@ fn step_subckt(
     requires model { slice_get models.now frame.model ≡ Some model.now }
     requires room { frame.place + 1 < 2 ^ 64 }
     requires command { slice_get model.now.commands frame.place ≡ Some (record { line = line; body = subckt_of subckt.now }) }
-    ensures ok { OnOk result (IsStep (record { models = models.now }) walk.old walk.new) }
+    ensures ok { OnOk result (IsModelStep (record { models = models.now }) walk.old walk.new) }
     ensures err { IfErr result (OrMemory refusal_of (λ r. Resumes (record { models = models.now }) walk.old.frames (models_at models.now walk.old.begun) (refused r))) }
 {
     let n = check_line(alloc, models, index, ports, walk, model, line, subckt)?;
@@ -79,7 +79,7 @@ fn step(
     requires names { AreOnce (model_names models.now) }
     requires walk { IsWalk models.now walk.old }
     requires top { slice_get walk.old.frames 0 ≡ Some frame }
-    ensures ok { OnOk result (IsStep (record { models = models.now }) walk.old walk.new) }
+    ensures ok { OnOk result (IsModelStep (record { models = models.now }) walk.old walk.new) }
     ensures err { IfErr result (OrMemory refusal_of (λ r. Resumes (record { models = models.now }) walk.old.frames (models_at models.now walk.old.begun) (refused r))) }
 {
     let model = &models[frame.model as usize];

@@ -1,7 +1,7 @@
 //! The state of the walk of the models.
 ghost use Rattle.std.specs.Prelude.{◌≡◌, ◌<◌, ◌^◌, ◌+◌, ◌∷◌, [], length, slice_get, replicate, reverse, Some, IfOk, OnOk};
 ghost use Rattle.blif_flat.specs.declared.walk_state.Mark.TheVariants.{New};
-ghost use Rattle.blif_flat.specs.Stack.{entered, left, advanced, on_chain, fresh};
+ghost use Rattle.blif_flat.specs.Steps.Stack.{entered, left, advanced, on_chain, fresh};
 
 use std::alloc::{AllocError, Global};
 use std::marker::Model;
@@ -45,9 +45,9 @@ pub(crate) struct WalkState {
 
 impl Model for WalkState {
     ghost use Rattle.std.specs.Prelude.{reverse};
-    ghost use Rattle.blif_flat.specs.Stack.{WalkValue};
+    ghost use Rattle.blif_flat.specs.Steps.Stack.{ModelWalkValue};
 
-    ghost Value = { WalkValue };
+    ghost Value = { ModelWalkValue };
 
     ghost view = { λ w. record { marks = w.marks.items; begun = w.begun.items; ended = w.ended.items; frames = reverse w.frames.items } };
 }

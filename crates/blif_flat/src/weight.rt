@@ -6,8 +6,8 @@ ghost use Rattle.blif_read.specs.LibraryValue.{ModelValue};
 ghost use Rattle.blif_flat.specs.Weight.{most_weight, body_weight, commands_weight, own_weight};
 ghost use Rattle.blif_flat.specs.declared.flat_err.FlatErr.TheVariants.{TooLarge};
 ghost use Rattle.blif_flat.specs.Refusals.{refusal_of};
-ghost use Rattle.blif_flat.specs.NameSets.{model_names};
-ghost use Rattle.blif_flat.specs.Weighing.{HasWeight, capped, body_kept, commands_kept, model_kept, AreChildrenFirst, IsKept};
+ghost use Rattle.blif_flat.specs.Steps.NameSets.{model_names};
+ghost use Rattle.blif_flat.specs.Steps.Weighing.{HasWeight, capped, body_kept, commands_kept, model_kept, AreChildrenFirst, IsKeptWeight};
 
 use crate::flat_err::FlatErr;
 use crate::model_index::ModelIndex;
@@ -121,7 +121,7 @@ pub(crate) fn weigh(
 ) -> Result<Vec<u32>, AllocError>
     requires names { index.now.names ≡ model_names library.now.models }
     requires order { AreChildrenFirst library.now order.now }
-    ensures kept { IfOk result (λ weights. (n : ℕ) → In order.now n → IsKept library.now weights.items n) }
+    ensures kept { IfOk result (λ weights. (n : ℕ) → In order.now n → IsKeptWeight library.now weights.items n) }
     ensures len { IfOk result (λ weights. length weights.items ≡ length library.now.models) }
 {
     let mut weights = vec![in alloc; 0; library.models.len()]?;

@@ -8,8 +8,8 @@ ghost use Rattle.blif_flat.specs.Nets.{cover_net};
 ghost use Rattle.blif_read.specs.CoverValue.{CoverValue};
 ghost use Rattle.std.specs.Option.{option_and_then};
 ghost use Rattle.blif_flat.specs.Written.{path_text, IsWritten};
-ghost use Rattle.blif_flat.specs.InstanceRows.{paths_of, AreInstances};
-ghost use Rattle.blif_flat.specs.RowPaths.{AreUnder, output_or, output_at as output_at_of};
+ghost use Rattle.blif_flat.specs.Steps.InstanceRows.{paths_of, AreInstances};
+ghost use Rattle.blif_flat.specs.Steps.RowPaths.{AreUnder, output_or, output_at as output_at_of};
 
 use crate::instances::Instance;
 use blif_read::{BlifModel, Body, Library};

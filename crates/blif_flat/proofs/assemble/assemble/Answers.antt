@@ -3,12 +3,12 @@ use Rattle.std.specs.Prelude.{reverse}
 use Rattle.blif_read.specs.LibraryValue.{ModelValue}
 use Rattle.blif_flat.specs.declared.flat.OutPort.{OutPort}
 use Rattle.blif_flat.specs.declared.flat.FlatLatch.{FlatLatch}
-use Rattle.blif_flat.specs.ClockSteps.{clock_test, input_name}
-use Rattle.blif_flat.specs.CoverWalk.{cover_reads}
+use Rattle.blif_flat.specs.Steps.ClockSteps.{clock_test, input_name}
+use Rattle.blif_flat.specs.Steps.CoverWalk.{cover_reads}
 use Rattle.blif_flat.specs.Weight.{most_weight}
-use Rattle.blif_flat.specs.Ordering.{root_numbers}
+use Rattle.blif_flat.specs.Steps.Ordering.{root_numbers}
 use Rattle.blif_flat.specs.DepthFirst.{PostsAll}
-use Rattle.blif_flat.specs.RegularNets.{regular_numbers}
+use Rattle.blif_flat.specs.Steps.RegularNets.{regular_numbers}
 use Rattle.blif_flat.proofs.AssembleLemmas.{few_marks, covers_known, latches_known, nets_known, names_known, few_covers, counted_as, fields}
 use Rattle.blif_flat.proofs.assemble.assemble.Goals as goal
 

@@ -2,8 +2,8 @@ use Rattle.std.proofs.Common.{subst}
 use Rattle.list_laws.proofs.Places.{at_within}
 use Rattle.tl_fault.proofs.PassedOn.{passed_on}
 use Rattle.blif_flat.specs.DriverFaults.{models_fault}
-use Rattle.blif_flat.specs.DriverSteps.{Tells}
-use Rattle.blif_flat.specs.NumberedModels.{models_at}
+use Rattle.blif_flat.specs.Steps.DriverSteps.{Tells}
+use Rattle.blif_flat.specs.Steps.NumberedModels.{models_at}
 use Rattle.blif_flat.proofs.CheckLemmas.{walk_fault, heavy_fault, driver_fault, comes_past}
 use Rattle.blif_flat.proofs.checks.check_models.Goals as goal
 

@@ -6,10 +6,10 @@ use Rattle.blif_read.specs.LibraryValue.{ModelValue}
 use Rattle.blif_flat.specs.Refusals.{refusal_of}
 use Rattle.blif_flat.specs.Models.{model_at, inputs_of}
 use Rattle.blif_flat.specs.Places.{is_latch}
-use Rattle.blif_flat.specs.InstanceOrder.{places_at}
-use Rattle.blif_flat.specs.InstanceRows.{paths_of}
+use Rattle.blif_flat.specs.Steps.InstanceOrder.{places_at}
+use Rattle.blif_flat.specs.Steps.InstanceRows.{paths_of}
 use Rattle.blif_flat.specs.ClockFaults.{Clocks, is_gate, ClockData}
-use Rattle.blif_flat.specs.ClockSteps.{clock_test, input_name, IsControlled}
+use Rattle.blif_flat.specs.Steps.ClockSteps.{clock_test, input_name, IsControlled}
 use Rattle.blif_flat.proofs.StageLemmas.{control_refused, data_refused}
 use Rattle.blif_flat.proofs.MarkLemmas.{clocks_told}
 use Rattle.blif_flat.proofs.clock_check.check_clocks.Goals as goal

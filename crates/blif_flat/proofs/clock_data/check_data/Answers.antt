@@ -5,7 +5,7 @@ use Rattle.blif_read.specs.LibraryValue.{ModelValue, LibraryValue}
 use Rattle.blif_flat.specs.declared.gates.Gate.{Gate}
 use Rattle.blif_flat.specs.declared.flat_err.FlatErr.{FlatErr}
 use Rattle.blif_flat.specs.Refusals.{refusal_of}
-use Rattle.blif_flat.specs.DataSteps.{names_fault}
+use Rattle.blif_flat.specs.Steps.DataSteps.{names_fault}
 use Rattle.blif_flat.proofs.DataStepLemmas.{tells_ok, tells_err, gate_place, gate_passed, gate_refused, outputs_said}
 use Rattle.blif_flat.proofs.clock_data.check_data.Goals as goal
 use Rattle.blif_flat.proofs.clock_data.check_data.Goals.{After-check_names}

@@ -1,5 +1,5 @@
 use Rattle.std.proofs.Common.{◌≡◌, drop}
-use Rattle.blif_flat.specs.DataSteps.{names_fault}
+use Rattle.blif_flat.specs.Steps.DataSteps.{names_fault}
 use Rattle.blif_flat.proofs.clock_data.check_names.Given as goal
 
 abbrev pub invariant-loop-name : goal.invariant-loop-name

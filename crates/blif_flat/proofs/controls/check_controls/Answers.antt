@@ -3,9 +3,9 @@ use Rattle.std.proofs.lemmas.Option.{slice_get-get_or}
 use Rattle.blif_flat.specs.declared.gates.Gate.{Gate}
 use Rattle.blif_flat.specs.Refusals.{refusal_of}
 use Rattle.blif_flat.specs.Places.{is_latch}
-use Rattle.blif_flat.specs.InstanceRows.{paths_of}
-use Rattle.blif_flat.specs.InstanceOrder.{places_at}
-use Rattle.blif_flat.specs.ControlSteps.{input_at}
+use Rattle.blif_flat.specs.Steps.InstanceRows.{paths_of}
+use Rattle.blif_flat.specs.Steps.InstanceOrder.{places_at}
+use Rattle.blif_flat.specs.Steps.ControlSteps.{input_at}
 use Rattle.blif_flat.proofs.GateWalkLemmas.{gate_within}
 use Rattle.blif_flat.proofs.ControlStepLemmas.{gate_passed, gate_refused, all_passed, came_end}
 use Rattle.tl_fault.proofs.OrMemoryLemmas.{Unless-map}

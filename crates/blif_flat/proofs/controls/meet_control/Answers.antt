@@ -2,7 +2,7 @@ use Rattle.std.proofs.Common.{◌≡◌, ◌<◌, ◌∙◌, length, Some, sym, 
 use Rattle.std.proofs.lemmas.Option.{same_Some}
 use Rattle.blif_flat.specs.declared.flat.Net.TheVariants.{Input, Latch, Cover}
 use Rattle.blif_flat.specs.Refusals.{refusal_of}
-use Rattle.blif_flat.specs.NetSlots.{table_of}
+use Rattle.blif_flat.specs.Steps.NetSlots.{table_of}
 use Rattle.blif_flat.proofs.ControlStepLemmas.{none_read, met_input, met_another, met_latch, met_cover, input_within, latch_within, cover_within, kept_within}
 use Rattle.blif_flat.proofs.controls.meet_control.Goals as goal
 use Rattle.blif_flat.proofs.controls.meet_control.Goals.{In-Some-Input, In-Some-Latch, In-Some-Cover}

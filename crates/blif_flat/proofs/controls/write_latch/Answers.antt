@@ -1,7 +1,7 @@
 use Rattle.std.proofs.lemmas.Result.{IfOk-weaker}
 use Rattle.blif_flat.specs.Places.{is_latch}
-use Rattle.blif_flat.specs.InstanceOrder.{places_at}
-use Rattle.blif_flat.specs.InstanceRows.{paths_of}
+use Rattle.blif_flat.specs.Steps.InstanceOrder.{places_at}
+use Rattle.blif_flat.specs.Steps.InstanceRows.{paths_of}
 use Rattle.blif_flat.proofs.PathTextLemmas.{rows_under}
 use Rattle.blif_flat.proofs.GateWalkLemmas.{gate_within, latch_stands, latch_written}
 use Rattle.blif_flat.proofs.controls.write_latch.Goals as goal

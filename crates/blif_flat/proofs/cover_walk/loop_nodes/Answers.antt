@@ -1,6 +1,6 @@
 use Rattle.std.proofs.Common.{ap, ◌∙◌, reverse}
-use Rattle.blif_flat.specs.CoverWalk.{path_of}
-use Rattle.blif_flat.proofs.CoverWalkLemmas.{up_to-reverse}
+use Rattle.blif_flat.specs.Steps.CoverWalk.{path_of}
+use Rattle.blif_flat.proofs.CoverRootLemmas.{up_to-reverse}
 use Rattle.blif_flat.proofs.cover_walk.loop_nodes.Goals as goal
 
 pub returns : goal.returns

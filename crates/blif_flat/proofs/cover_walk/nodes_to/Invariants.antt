@@ -1,5 +1,5 @@
 use Rattle.std.proofs.Common.{◌≡◌, ◌++◌, length}
-use Rattle.blif_flat.specs.CoverWalk.{up_to, path_of}
+use Rattle.blif_flat.specs.Steps.CoverWalk.{up_to, path_of}
 use Rattle.blif_flat.proofs.cover_walk.nodes_to.Given as goal
 
 abbrev pub invariant-loop-frame : goal.invariant-loop-frame

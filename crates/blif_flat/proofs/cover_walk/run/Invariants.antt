@@ -1,4 +1,4 @@
-use Rattle.blif_flat.specs.CoverWalk.{IsLater, walk_work}
+use Rattle.blif_flat.specs.Steps.CoverWalk.{IsLater, walk_work}
 use Rattle.blif_flat.proofs.cover_walk.run.Given as goal
 
 abbrev pub invariant-loop-frame : goal.invariant-loop-frame

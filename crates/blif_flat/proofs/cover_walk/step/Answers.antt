@@ -1,6 +1,6 @@
 use Rattle.std.proofs.Common.{◌≤◌, ◌<◌, length, None, sym, ap, subst, ◌∙◌, get_or}
 use Rattle.blif_flat.specs.declared.flat.Net.TheVariants.{Input}
-use Rattle.blif_flat.specs.CoverWalk.{Stepped, pushed, Looked}
+use Rattle.blif_flat.specs.Steps.CoverWalk.{Stepped, pushed, Looked}
 use Rattle.blif_flat.proofs.CoverWalkLemmas.{end_step, look_step, other_step, read_below, input_at}
 use Rattle.blif_flat.proofs.cover_walk.step.Goals as goal
 

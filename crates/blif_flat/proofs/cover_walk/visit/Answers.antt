@@ -1,7 +1,7 @@
 use Rattle.std.proofs.Common.{◌≡◌, Some, sym, subst}
 use Rattle.std.specs.Prelude.{slice_get}
-use Rattle.blif_flat.specs.CoverWalk.{IsWalker, Ran}
-use Rattle.blif_flat.proofs.CoverWalkLemmas.{visited_done, visited_ran, root_walker}
+use Rattle.blif_flat.specs.Steps.CoverWalk.{IsWalker, Ran}
+use Rattle.blif_flat.proofs.CoverVisitLemmas.{visited_done, visited_ran, root_walker}
 use Rattle.blif_flat.proofs.cover_walk.visit.Goals as goal
 
 pub returns-then-mark-ne0 : goal.returns-then-mark-ne0

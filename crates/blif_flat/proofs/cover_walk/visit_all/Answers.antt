@@ -1,5 +1,6 @@
 use Rattle.std.proofs.Common.{◌+◌, sym, ◌∙◌, drop, get_or, drop_of_length-le}
-use Rattle.blif_flat.proofs.CoverWalkLemmas.{left_step, left_found, left_end, drop_next}
+use Rattle.blif_flat.proofs.CoverVisitLemmas.{left_step, left_found, left_end}
+use Rattle.blif_flat.proofs.CoverRootLemmas.{drop_next}
 use Rattle.blif_flat.proofs.cover_walk.visit_all.Goals as goal
 
 pub returns-then-is_some : goal.returns-then-is_some

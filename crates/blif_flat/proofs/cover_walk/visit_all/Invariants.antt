@@ -1,5 +1,5 @@
 use Rattle.std.proofs.Common.{drop}
-use Rattle.blif_flat.specs.CoverWalk.{AreLeft}
+use Rattle.blif_flat.specs.Steps.CoverWalk.{AreLeft}
 use Rattle.blif_flat.proofs.cover_walk.visit_all.Given as goal
 
 abbrev pub invariant-loop-root : goal.invariant-loop-root

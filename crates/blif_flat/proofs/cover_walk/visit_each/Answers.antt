@@ -1,6 +1,7 @@
 use Rattle.std.proofs.Common.{◌+◌, ◌-◌, length, sym, ◌∙◌}
-use Rattle.blif_flat.specs.CoverWalk.{numbers_from}
-use Rattle.blif_flat.proofs.CoverWalkLemmas.{left_step, left_found, left_end, numbers_next, numbers_end}
+use Rattle.blif_flat.specs.Steps.CoverWalk.{numbers_from}
+use Rattle.blif_flat.proofs.CoverVisitLemmas.{left_step, left_found, left_end}
+use Rattle.blif_flat.proofs.CoverRootLemmas.{numbers_next, numbers_end}
 use Rattle.blif_flat.proofs.cover_walk.visit_each.Goals as goal
 
 pub returns-then-is_some : goal.returns-then-is_some

@@ -1,5 +1,5 @@
 use Rattle.std.proofs.Common.{length, ◌-◌}
-use Rattle.blif_flat.specs.CoverWalk.{AreLeft, numbers_from}
+use Rattle.blif_flat.specs.Steps.CoverWalk.{AreLeft, numbers_from}
 use Rattle.blif_flat.proofs.cover_walk.visit_each.Given as goal
 
 abbrev pub invariant-loop-root : goal.invariant-loop-root

@@ -1,6 +1,6 @@
 use Rattle.std.proofs.Common.{length, ap, subst}
-use Rattle.blif_flat.specs.CoverWalk.{VisitedAll, numbers_from}
-use Rattle.blif_flat.proofs.CoverWalkLemmas.{loop_of_roots, loop_of_others, order_of_roots}
+use Rattle.blif_flat.specs.Steps.CoverWalk.{VisitedAll, numbers_from}
+use Rattle.blif_flat.proofs.CoverRootLemmas.{loop_of_roots, loop_of_others, order_of_roots}
 use Rattle.blif_flat.proofs.cover_walk.walk_covers.Goals as goal
 
 pub returns-in-Some : goal.returns-in-Some

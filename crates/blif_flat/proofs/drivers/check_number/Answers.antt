@@ -3,7 +3,7 @@ use Rattle.std.specs.List.{slice_get}
 use Rattle.std.proofs.lemmas.Option.{slice_get_read, slice_get_past}
 use Rattle.list_laws.proofs.Members.{In-get}
 use Rattle.blif_read.specs.LibraryValue.{LibraryValue}
-use Rattle.blif_flat.specs.DriverSteps.{Tells, fault_of}
+use Rattle.blif_flat.specs.Steps.DriverSteps.{Tells, fault_of}
 use Rattle.blif_flat.proofs.drivers.check_number.Goals as goal
 
 pub check_model-requires : goal.check_model-requires

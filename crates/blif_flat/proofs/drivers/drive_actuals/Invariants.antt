@@ -1,7 +1,7 @@
 use Rattle.std.proofs.Common.{◌≡◌, ◌++◌, drop}
 use Rattle.blif_read.specs.LibraryValue.{ModelValue}
 use Rattle.blif_flat.specs.DriverFaults.{twice_in, output_actuals}
-use Rattle.blif_flat.specs.NameSets.{ports_value}
+use Rattle.blif_flat.specs.Steps.NameSets.{ports_value}
 use Rattle.blif_flat.proofs.drivers.drive_actuals.Given as goal
 
 abbrev pub invariant-loop-pair : goal.invariant-loop-pair

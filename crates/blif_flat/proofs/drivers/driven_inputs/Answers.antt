@@ -2,7 +2,7 @@ use Rattle.std.proofs.Common.{◌≡◌, ◌∙◌, [], ap}
 use Rattle.blif_read.specs.LibraryValue.{ModelValue}
 use Rattle.blif_flat.specs.declared.ports.Ports.{Ports}
 use Rattle.blif_flat.specs.Models.{inputs_of}
-use Rattle.blif_flat.specs.NameSets.{with_names}
+use Rattle.blif_flat.specs.Steps.NameSets.{with_names}
 use Rattle.blif_flat.proofs.NameSetLemmas.{made_ports}
 use Rattle.blif_flat.proofs.drivers.driven_inputs.Goals as goal
 

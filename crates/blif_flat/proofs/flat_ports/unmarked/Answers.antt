@@ -1,4 +1,4 @@
-use Rattle.blif_flat.specs.FieldSteps.{unmarked_after}
+use Rattle.blif_flat.specs.Steps.FieldSteps.{unmarked_after}
 use Rattle.std.proofs.Common.{[]}
 use Rattle.blif_flat.proofs.FlatPortLemmas.{unmarked_step}
 use Rattle.blif_flat.proofs.flat_ports.unmarked.Goals as goal

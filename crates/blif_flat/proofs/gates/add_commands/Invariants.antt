@@ -1,6 +1,6 @@
 use Rattle.std.proofs.Common.{◌≡◌, drop}
-use Rattle.blif_flat.specs.Gates.{kind_test}
-use Rattle.blif_flat.specs.GateRows.{with_commands}
+use Rattle.blif_flat.specs.Steps.Gates.{kind_test}
+use Rattle.blif_flat.specs.Steps.GateRows.{with_commands}
 use Rattle.blif_flat.proofs.gates.add_commands.Given as goal
 
 abbrev pub invariant-loop-place : goal.invariant-loop-place

@@ -1,10 +1,10 @@
 use Rattle.std.proofs.Common.{◌≡◌, [], List, subst, sym, arith}
 use Rattle.std.proofs.lemmas.Option.{slice_get-get_or}
 use Rattle.blif_flat.specs.declared.gates.Gate.{Gate}
-use Rattle.blif_flat.specs.InstanceRows.{paths_of}
-use Rattle.blif_flat.specs.InstanceOrder.{places_at}
-use Rattle.blif_flat.specs.Gates.{kind_test, AreGatesAt}
-use Rattle.blif_flat.specs.GateRows.{with_rows}
+use Rattle.blif_flat.specs.Steps.InstanceRows.{paths_of}
+use Rattle.blif_flat.specs.Steps.InstanceOrder.{places_at}
+use Rattle.blif_flat.specs.Steps.Gates.{kind_test, AreGatesAt}
+use Rattle.blif_flat.specs.Steps.GateRows.{with_rows}
 use Rattle.blif_flat.proofs.GateRowLemmas.{all_listed, all_gates, few_gates, row_commands}
 use Rattle.blif_flat.proofs.gates.gates.Goals as goal
 

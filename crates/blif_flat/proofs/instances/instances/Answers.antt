@@ -6,7 +6,7 @@ use Rattle.std.proofs.lemmas.Option.{same_Some, slice_get_within}
 use Rattle.blif_read.specs.LibraryValue.{ModelValue}
 use Rattle.blif_flat.specs.declared.instances.Instance.{Instance}
 use Rattle.blif_flat.specs.Models.{subckts_of}
-use Rattle.blif_flat.specs.InstanceRows.{Listed, entries_from}
+use Rattle.blif_flat.specs.Steps.InstanceRows.{Listed, entries_from}
 use Rattle.blif_flat.specs.Weight.{most_weight}
 use Rattle.blif_flat.proofs.InstanceRowLemmas.{listed_begin, listed_pushed, listed_empty, next_popped}
 use Rattle.blif_flat.proofs.instances.instances.Goals as goal

@@ -1,5 +1,5 @@
 use Rattle.std.proofs.Common.{◌-◌, length, reverse}
-use Rattle.blif_flat.specs.InstanceRows.{Listed}
+use Rattle.blif_flat.specs.Steps.InstanceRows.{Listed}
 use Rattle.blif_flat.specs.Weight.{most_weight}
 use Rattle.blif_flat.proofs.instances.instances.Given as goal
 

@@ -1,10 +1,10 @@
 use Rattle.std.proofs.Common.{map, sym, subst, ◌∙◌}
 use Rattle.blif_flat.specs.declared.flat.OutPort.{OutPort}
-use Rattle.blif_flat.specs.InstanceRows.{paths_of}
+use Rattle.blif_flat.specs.Steps.InstanceRows.{paths_of}
 use Rattle.blif_flat.specs.Places.{is_cover}
-use Rattle.blif_flat.specs.InstanceOrder.{places_at}
-use Rattle.blif_flat.specs.CoverWalk.{IsFound, IsNumberLoop}
-use Rattle.blif_flat.specs.LoopSteps.{AreWrittenAt}
+use Rattle.blif_flat.specs.Steps.InstanceOrder.{places_at}
+use Rattle.blif_flat.specs.Steps.CoverWalk.{IsFound, IsNumberLoop}
+use Rattle.blif_flat.specs.Steps.LoopSteps.{AreWrittenAt}
 use Rattle.blif_flat.proofs.LoopOrderLemmas.{walked_range, walked_roots, walked_clean, loop_inside, loop_told}
 use Rattle.blif_flat.proofs.loops.cover_order.Goals as goal
 

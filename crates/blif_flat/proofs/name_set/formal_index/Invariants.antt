@@ -1,6 +1,6 @@
 use Rattle.std.proofs.Common.{◌≡◌, [], drop}
 use Rattle.blif_read.specs.Connections.{formals}
-use Rattle.blif_flat.specs.NameSets.{with_names}
+use Rattle.blif_flat.specs.Steps.NameSets.{with_names}
 use Rattle.blif_flat.proofs.name_set.formal_index.Given as goal
 
 abbrev pub invariant-loop-pair : goal.invariant-loop-pair

@@ -1,5 +1,5 @@
 use Rattle.std.proofs.Common.{◌≡◌, drop}
-use Rattle.blif_flat.specs.NameSets.{with_names}
+use Rattle.blif_flat.specs.Steps.NameSets.{with_names}
 use Rattle.blif_flat.proofs.name_set.with_names.Given as goal
 
 abbrev pub invariant-loop-name : goal.invariant-loop-name

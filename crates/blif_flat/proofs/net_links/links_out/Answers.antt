@@ -1,6 +1,6 @@
 use Rattle.std.proofs.Common.{◌≡◌, ◌<◌, ◌-◌, suc, ap, ◌∙◌, arith}
-use Rattle.blif_flat.specs.NetSlots.{NetsValue}
-use Rattle.blif_flat.specs.NetSteps.{links_out}
+use Rattle.blif_flat.specs.Steps.NetSlots.{NetsValue}
+use Rattle.blif_flat.specs.Steps.NetSteps.{links_out}
 use Rattle.blif_flat.proofs.net_links.links_out.Goals as goal
 
 pub loop-left-preserved : goal.loop-left-preserved

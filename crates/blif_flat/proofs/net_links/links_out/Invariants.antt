@@ -1,7 +1,7 @@
 use Rattle.std.proofs.Common.{◌≡◌, length}
 use Rattle.blif_read.specs.LibraryValue.{LibraryValue}
-use Rattle.blif_flat.specs.NetSlots.{IsNets}
-use Rattle.blif_flat.specs.NetSteps.{links_out, AreLinesOf}
+use Rattle.blif_flat.specs.Steps.NetSlots.{IsNets}
+use Rattle.blif_flat.specs.Steps.NetSteps.{links_out, AreLinesOf}
 use Rattle.blif_flat.proofs.net_links.links_out.Given as goal
 
 abbrev pub invariant-loop-left : goal.invariant-loop-left

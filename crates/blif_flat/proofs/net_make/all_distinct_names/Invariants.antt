@@ -1,5 +1,5 @@
 use Rattle.std.proofs.Common.{◌≡◌, ◌++◌, map, drop}
-use Rattle.blif_flat.specs.NetStarts.{distinct_names}
+use Rattle.blif_flat.specs.Steps.NetStarts.{distinct_names}
 use Rattle.blif_flat.proofs.net_make.all_distinct_names.Given as goal
 
 abbrev pub invariant-loop-model : goal.invariant-loop-model

@@ -1,8 +1,8 @@
 use Rattle.std.proofs.Common.{◌≡◌, [], IfOk, subst, ap, ◌∙◌}
 use Rattle.blif_read.specs.LibraryValue.{ModelValue}
-use Rattle.blif_flat.specs.ModelNames.{commands_names}
-use Rattle.blif_flat.specs.NameSets.{with_names}
-use Rattle.blif_flat.specs.NetStarts.{distinct_names}
+use Rattle.blif_flat.specs.Steps.ModelNames.{commands_names}
+use Rattle.blif_flat.specs.Steps.NameSets.{with_names}
+use Rattle.blif_flat.specs.Steps.NetStarts.{distinct_names}
 use Rattle.blif_flat.proofs.ModelNameLemmas.{model_split}
 use Rattle.blif_flat.proofs.net_make.distinct_names.Goals as goal
 

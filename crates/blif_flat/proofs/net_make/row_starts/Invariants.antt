@@ -1,5 +1,5 @@
 use Rattle.std.proofs.Common.{◌≡◌, ◌+◌, ◌++◌, drop}
-use Rattle.blif_flat.specs.NetStarts.{starts_from, slot_count}
+use Rattle.blif_flat.specs.Steps.NetStarts.{starts_from, slot_count}
 use Rattle.blif_flat.proofs.net_make.row_starts.Given as goal
 
 abbrev pub invariant-loop-row : goal.invariant-loop-row

@@ -1,6 +1,6 @@
 use Rattle.std.proofs.Common.{◌≡◌, drop}
-use Rattle.blif_flat.specs.ModelNames.{commands_names}
-use Rattle.blif_flat.specs.NameSets.{with_names}
+use Rattle.blif_flat.specs.Steps.ModelNames.{commands_names}
+use Rattle.blif_flat.specs.Steps.NameSets.{with_names}
 use Rattle.blif_flat.proofs.net_make.with_commands.Given as goal
 
 abbrev pub invariant-loop-command : goal.invariant-loop-command

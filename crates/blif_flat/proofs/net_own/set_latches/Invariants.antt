@@ -1,6 +1,6 @@
 use Rattle.std.proofs.Common.{◌≡◌, drop}
-use Rattle.blif_flat.specs.NetSlots.{IsNets}
-use Rattle.blif_flat.specs.NetSteps.{with_latches}
+use Rattle.blif_flat.specs.Steps.NetSlots.{IsNets}
+use Rattle.blif_flat.specs.Steps.NetSteps.{with_latches}
 use Rattle.blif_flat.proofs.net_own.set_latches.Given as goal
 
 abbrev pub invariant-loop-k : goal.invariant-loop-k

@@ -1,5 +1,5 @@
 use Rattle.std.proofs.Common.{◌≡◌, [], drop}
-use Rattle.blif_flat.specs.Stack.{chain_names}
+use Rattle.blif_flat.specs.Steps.Stack.{chain_names}
 use Rattle.blif_flat.proofs.place_check.chain_names.Given as goal
 
 abbrev pub invariant-loop-frame : goal.invariant-loop-frame

@@ -2,8 +2,8 @@ use Rattle.std.proofs.Common.{◌≡◌, ◌∙◌, subst, sym, ap}
 use Rattle.tl_fault.proofs.PassedOn.{passed_on}
 use Rattle.blif_read.specs.SubcktValue.{SubcktValue}
 use Rattle.blif_flat.specs.Models.{has_name}
-use Rattle.blif_flat.specs.NameSets.{IsModelOf}
-use Rattle.blif_flat.specs.Stack.{chain_of}
+use Rattle.blif_flat.specs.Steps.NameSets.{IsModelOf}
+use Rattle.blif_flat.specs.Steps.Stack.{chain_of}
 use Rattle.blif_flat.proofs.StackLemmas.{on_chain_read, recursive_err, child_err, child_ok}
 use Rattle.blif_flat.proofs.place_check.check_line.Goals as goal
 

@@ -1,5 +1,5 @@
 use Rattle.std.proofs.Common.{◌≡◌, ◌++◌, drop}
-use Rattle.blif_flat.specs.FieldSteps.{regular_nets}
+use Rattle.blif_flat.specs.Steps.FieldSteps.{regular_nets}
 use Rattle.blif_flat.proofs.regular_nets.net_list.Given as goal
 
 abbrev pub invariant-loop-name : goal.invariant-loop-name

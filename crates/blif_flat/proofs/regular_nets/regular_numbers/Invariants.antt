@@ -1,5 +1,5 @@
 use Rattle.std.proofs.Common.{◌≡◌, ◌++◌, ◌≤◌, drop}
-use Rattle.blif_flat.specs.RegularNets.{regular_numbers}
+use Rattle.blif_flat.specs.Steps.RegularNets.{regular_numbers}
 use Rattle.blif_flat.proofs.regular_nets.regular_numbers.Given as goal
 
 abbrev pub invariant-loop-mark : goal.invariant-loop-mark

@@ -1,4 +1,4 @@
-use Rattle.blif_flat.specs.Stack.{IsReached, work}
+use Rattle.blif_flat.specs.Steps.Stack.{IsReached, work}
 use Rattle.blif_flat.proofs.walk.run.Given as goal
 
 abbrev pub invariant-loop-frame : goal.invariant-loop-frame

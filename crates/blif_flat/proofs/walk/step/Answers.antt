@@ -1,7 +1,7 @@
 use Rattle.std.proofs.Common.{◌≡◌, ◌∙◌, ◌<◌, length, ◌+◌, arith, rules, drop, Some, None, refl, sym, ap, subst}
 use Rattle.std.proofs.lemmas.Bool.{ltb-true, ltb-false}
 use Rattle.blif_flat.specs.Walk.{with_line, subckt_lines}
-use Rattle.blif_flat.specs.Stack.{IsStep}
+use Rattle.blif_flat.specs.Steps.Stack.{IsModelStep}
 use Rattle.std.specs.List.{slice_get}
 use Rattle.std.proofs.lemmas.Option.{slice_get_read, slice_get_past}
 use Rattle.list_laws.proofs.Members.{In-get}
@@ -34,7 +34,7 @@ returns-in_ok-leave-in-None-clause-ok c =
     slice_get_read c.args.models.now (length c.args.models.now) c.args.frame.model c.index-models-frame.result refl (c.requires.walk.frames c.args.frame (In-get c.args.walk.now.frames 0 c.args.frame c.requires.top)) c.index-models-frame.is in
     let cm : c.deref.result.now ≡ c.index-models-frame.result.commands = c.deref.ensures.value ∙ ap (λ (m : ModelValue). m.commands) c.model.view_is in
     let none : slice_get c.deref.result.now c.args.frame.place ≡ None = slice_get_past c.deref.result.now c.args.frame.place (ltb-false c.args.frame.place (length c.deref.result.now) (sym c.in-None.ensures.lookup.0)) in
-    subst (IsStep (record { models = c.args.models.now }) c.args.walk.now) (sym c.in_ok-leave-in-None.ensures)
+    subst (IsModelStep (record { models = c.args.models.now }) c.args.walk.now) (sym c.in_ok-leave-in-None.ensures)
     (leave_step c.args.models.now c.requires.names c.args.walk.now c.args.frame c.index-models-frame.result c.requires.walk c.requires.top at (ap (λ cs. slice_get cs c.args.frame.place) (sym cm) ∙ none))
 
 pub returns-in_ok-advance-in-Cover-clause-ok : goal.returns-in_ok-advance-in-Cover-clause-ok
@@ -44,7 +44,7 @@ returns-in_ok-advance-in-Cover-clause-ok c =
     let cm : c.deref.result.now ≡ c.index-models-frame.result.commands = c.deref.ensures.value ∙ ap (λ (m : ModelValue). m.commands) c.model.view_is in
     let here : slice_get c.deref.result.now c.args.frame.place ≡ Some c.in-Some.command.now =
     slice_get_read c.deref.result.now (length c.deref.result.now) c.args.frame.place c.in-Some.command.now refl (ltb-true c.args.frame.place (length c.deref.result.now) (sym c.in-Some.ensures.lookup.0)) (search (rules, c.in-Some.ensures)) in
-    subst (IsStep (record { models = c.args.models.now }) c.args.walk.now) (sym c.in_ok-advance-in-Cover.ensures)
+    subst (IsModelStep (record { models = c.args.models.now }) c.args.walk.now) (sym c.in_ok-advance-in-Cover.ensures)
     (skip_step c.args.models.now c.requires.names c.args.walk.now c.args.frame c.index-models-frame.result c.in-Some.command.now c.requires.walk c.requires.top at (ap (λ cs. slice_get cs c.args.frame.place) (sym cm) ∙ here)
     (ap (λ b. with_line c.in-Some.command.now.line b (subckt_lines (drop (c.args.frame.place + 1) c.index-models-frame.result.commands))) c.in-Cover.is))
 
@@ -55,6 +55,6 @@ returns-in_ok-advance-in-Latch-clause-ok c =
     let cm : c.deref.result.now ≡ c.index-models-frame.result.commands = c.deref.ensures.value ∙ ap (λ (m : ModelValue). m.commands) c.model.view_is in
     let here : slice_get c.deref.result.now c.args.frame.place ≡ Some c.in-Some.command.now =
     slice_get_read c.deref.result.now (length c.deref.result.now) c.args.frame.place c.in-Some.command.now refl (ltb-true c.args.frame.place (length c.deref.result.now) (sym c.in-Some.ensures.lookup.0)) (search (rules, c.in-Some.ensures)) in
-    subst (IsStep (record { models = c.args.models.now }) c.args.walk.now) (sym c.in_ok-advance-in-Latch.ensures)
+    subst (IsModelStep (record { models = c.args.models.now }) c.args.walk.now) (sym c.in_ok-advance-in-Latch.ensures)
     (skip_step c.args.models.now c.requires.names c.args.walk.now c.args.frame c.index-models-frame.result c.in-Some.command.now c.requires.walk c.requires.top at (ap (λ cs. slice_get cs c.args.frame.place) (sym cm) ∙ here)
     (ap (λ b. with_line c.in-Some.command.now.line b (subckt_lines (drop (c.args.frame.place + 1) c.index-models-frame.result.commands))) c.in-Latch.is))

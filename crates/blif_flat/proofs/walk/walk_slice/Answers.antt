@@ -2,9 +2,9 @@ use Rattle.std.proofs.Common.{length, refl, sym, subst}
 use Rattle.list_laws.specs.Members.{In}
 use Rattle.list_laws.proofs.Places.{at_within}
 use Rattle.tl_fault.proofs.PassedOn.{passed_on}
-use Rattle.blif_flat.specs.NumberedModels.{models_at}
+use Rattle.blif_flat.specs.Steps.NumberedModels.{models_at}
 use Rattle.blif_flat.specs.Walk.{walked, WalksMain}
-use Rattle.blif_flat.specs.Weighing.{AreChildrenFirst}
+use Rattle.blif_flat.specs.Steps.Weighing.{AreChildrenFirst}
 use Rattle.blif_flat.proofs.WalkStepLemmas.{main_walk, main_ok, main_children, main_ended, main_err}
 use Rattle.blif_flat.proofs.walk.walk_slice.Goals as goal
 

@@ -1,5 +1,5 @@
 use Rattle.std.proofs.Common.{◌≡◌, ◌+◌, ◌≤◌, drop}
-use Rattle.blif_flat.specs.Weighing.{capped, commands_kept}
+use Rattle.blif_flat.specs.Steps.Weighing.{capped, commands_kept}
 use Rattle.blif_flat.specs.Weight.{most_weight}
 use Rattle.blif_flat.proofs.weight.commands_kept.Given as goal
 

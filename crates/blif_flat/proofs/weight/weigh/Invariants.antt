@@ -1,10 +1,10 @@
 use Rattle.std.proofs.Common.{◌≡◌, ℕ, length, take}
 use Rattle.list_laws.specs.Members.{In}
-use Rattle.blif_flat.specs.Weighing.{IsKept}
+use Rattle.blif_flat.specs.Steps.Weighing.{IsKeptWeight}
 use Rattle.blif_flat.proofs.weight.weigh.Given as goal
 
 abbrev pub invariant-loop-number : goal.invariant-loop-number
 invariant-loop-number l = record {
-  kept : (n : ℕ) → In (take l.number-index l.order) n → IsKept l.library l.weights.items n;
+  kept : (n : ℕ) → In (take l.number-index l.order) n → IsKeptWeight l.library l.weights.items n;
   len : length l.weights.items ≡ length l.library.models;
 }

@@ -1,5 +1,5 @@
 use Rattle.std.proofs.Common.{refl}
-use Rattle.blif_flat.specs.CoverWalk.{passes}
+use Rattle.blif_flat.specs.Steps.CoverWalk.{passes}
 use Rattle.blif_flat.proofs.cover_walk.CoverWalk.look.Goals as goal
 
 pub returns-then-mark-ne0 : goal.returns-then-mark-ne0

@@ -1,5 +1,5 @@
 use Rattle.std.proofs.Common.{◌≡◌, [], drop}
-use Rattle.blif_flat.specs.NameSets.{with_names, model_names}
+use Rattle.blif_flat.specs.Steps.NameSets.{with_names, model_names}
 use Rattle.blif_flat.proofs.model_index.ModelIndex.make.Given as goal
 
 abbrev pub invariant-loop-model : goal.invariant-loop-model

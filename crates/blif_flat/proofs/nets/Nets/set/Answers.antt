@@ -1,5 +1,5 @@
 use Rattle.std.proofs.Common.{sym, subst}
-use Rattle.blif_flat.specs.NetSlots.{IsNets}
+use Rattle.blif_flat.specs.Steps.NetSlots.{IsNets}
 use Rattle.blif_flat.proofs.NetSlotLemmas.{with_slot-nets}
 use Rattle.blif_flat.proofs.nets.Nets.set.Goals as goal
 

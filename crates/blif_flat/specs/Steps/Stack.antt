@@ -8,13 +8,13 @@ use Rattle.blif_flat.specs.declared.walk_state.Frame.{Frame}
 use Rattle.blif_flat.specs.declared.walk_state.Mark.{Mark}
 use Rattle.blif_flat.specs.declared.walk_state.Mark.TheVariants.{New, OnChain, Done}
 use Rattle.blif_flat.specs.Models.{has_name}
-use Rattle.blif_flat.specs.Line.{add_chain}
-use Rattle.blif_flat.specs.NameSets.{IsModelOf}
-use Rattle.blif_flat.specs.NumberedModels.{models_at}
-use Rattle.blif_flat.specs.Ending.{IsEnding}
+use Rattle.blif_flat.specs.Steps.Line.{add_chain}
+use Rattle.blif_flat.specs.Steps.NameSets.{IsModelOf}
+use Rattle.blif_flat.specs.Steps.NumberedModels.{models_at}
+use Rattle.blif_flat.specs.Steps.Ending.{IsEnding}
 use Rattle.blif_flat.specs.Walk.{SubcktLine, subckt_lines, line_fault, is_walked, Walked, refused, walked, Walks}
 
-pub record WalkValue : Type 0 where
+pub record ModelWalkValue : Type 0 where
   pub marks : List Mark
   pub begun : List ℕ
   pub ended : List ℕ
@@ -40,17 +40,17 @@ abbrev pub tail_of : List Frame → List Frame
 tail_of [] = []
 tail_of (f ∷ fs) = fs
 
-abbrev pub entered : WalkValue → ℕ → WalkValue
+abbrev pub entered : ModelWalkValue → ℕ → ModelWalkValue
 entered w n = record { marks = slice_set w.marks n OnChain; begun = w.begun ++ n ∷ []; ended = w.ended; frames = record { model = n; place = 0 } ∷ w.frames }
 
-abbrev pub left : WalkValue → Frame → WalkValue
+abbrev pub left : ModelWalkValue → Frame → ModelWalkValue
 left w f = record { marks = slice_set w.marks f.model Done; begun = w.begun; ended = w.ended ++ f.model ∷ []; frames = tail_of w.frames }
 
-abbrev pub advanced : WalkValue → Frame → WalkValue
+abbrev pub advanced : ModelWalkValue → Frame → ModelWalkValue
 advanced w f = record { marks = w.marks; begun = w.begun; ended = w.ended; frames = record { model = f.model; place = f.place + 1 } ∷ tail_of w.frames }
 
 -- the state fits the models
-pub record IsWalk (models : List ModelValue) (w : WalkValue) : Type 0 where
+pub record IsWalk (models : List ModelValue) (w : ModelWalkValue) : Type 0 where
   pub long : length w.marks ≡ length models
   pub marks : (n : ℕ) (m : ModelValue) → slice_get models n ≡ Some m → slice_get w.marks n ≡ Some (mark_of (has_name (chain_of models w.frames) m.name) (is_walked (models_at models w.begun) m.name))
   pub begun : (n : ℕ) → In w.begun n → n < length models
@@ -87,11 +87,11 @@ abbrev pub frames_work : List ModelValue → List Frame → ℕ
 frames_work models [] = 0
 frames_work models (f ∷ fs) = frame_work (slice_get models f.model) f.place + frames_work models fs
 
-abbrev pub work : List ModelValue → WalkValue → ℕ
+abbrev pub work : List ModelValue → ModelWalkValue → ℕ
 work models w = news models w.marks + frames_work models w.frames
 
 -- a step of the walk
-pub record IsStep (library : LibraryValue) (old new : WalkValue) : Type 0 where
+pub record IsModelStep (library : LibraryValue) (old new : ModelWalkValue) : Type 0 where
   pub walk : IsWalk library.models new
   pub resumes : (r : Walked) → Resumes library new.frames (models_at library.models new.begun) r → Resumes library old.frames (models_at library.models old.begun) r
   pub ending : IsEnding library.models old.marks old.ended old.frames → IsEnding library.models new.marks new.ended new.frames
@@ -107,7 +107,7 @@ chain_names models name chain [] = chain
 chain_names models name chain (f ∷ fs) = chain_names models name (chain_step name chain (slice_get models f.model)) fs
 
 -- a line without a fault, and the number of the model that it places
-pub record IsPlacing (models : List ModelValue) (w : WalkValue) (m : ModelValue) (l : SubcktLine) (n : ℕ) : Type 0 where
+pub record IsPlacing (models : List ModelValue) (w : ModelWalkValue) (m : ModelValue) (l : SubcktLine) (n : ℕ) : Type 0 where
   pub child : IsModelOf models l.subckt.model n
   pub clean : line_fault (record { models = models }) (chain_of models w.frames) m l ≡ None
 
@@ -122,12 +122,12 @@ fresh OnChain = false
 fresh Done = false
 
 -- a model is begun, if it is new
-abbrev pub placed_by : Bool → WalkValue → ℕ → WalkValue
+abbrev pub placed_by : Bool → ModelWalkValue → ℕ → ModelWalkValue
 placed_by true w n = entered w n
 placed_by false w n = w
 
 -- some steps of the walk lead here
-pub record IsReached (models : List ModelValue) (old new : WalkValue) : Type 0 where
+pub record IsReached (models : List ModelValue) (old new : ModelWalkValue) : Type 0 where
   pub walk : IsWalk models new
   pub resumes : (r : Walked) → Resumes (record { models = models }) new.frames (models_at models new.begun) r → Resumes (record { models = models }) old.frames (models_at models old.begun) r
   pub ending : IsEnding models old.marks old.ended old.frames → IsEnding models new.marks new.ended new.frames

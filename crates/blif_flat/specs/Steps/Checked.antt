@@ -2,7 +2,7 @@
 use Rattle.blif_read.specs.LibraryValue.{LibraryValue}
 use Rattle.blif_flat.specs.Drivers.{IsDriven}
 use Rattle.blif_flat.specs.Faults.{IsConnected}
-use Rattle.blif_flat.specs.InstanceRows.{IsLight}
+use Rattle.blif_flat.specs.Steps.InstanceRows.{IsLight}
 
 pub record IsChecked (library : LibraryValue) : Type 0 where
   pub connected : IsConnected library

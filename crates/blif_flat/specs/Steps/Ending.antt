@@ -8,7 +8,7 @@ use Rattle.blif_read.specs.LibraryValue.{ModelValue}
 use Rattle.blif_flat.specs.declared.walk_state.Frame.{Frame}
 use Rattle.blif_flat.specs.declared.walk_state.Mark.{Mark}
 use Rattle.blif_flat.specs.declared.walk_state.Mark.TheVariants.{Done}
-use Rattle.blif_flat.specs.Weighing.{IsAmong, AreChildrenFirst}
+use Rattle.blif_flat.specs.Steps.Weighing.{IsAmong, AreChildrenFirst}
 
 -- the models that a frame's commands before its place have placed have some of these numbers
 pub record HasPlaced (models : List ModelValue) (numbers : List ℕ) (f : Frame) : Type 0 where

@@ -5,10 +5,10 @@ use Rattle.blif_read.specs.LibraryValue.{ModelValue, LibraryValue}
 use Rattle.blif_flat.specs.declared.instances.Instance.{Instance}
 use Rattle.blif_flat.specs.Models.{Path, model_at}
 use Rattle.blif_flat.specs.Flat.{Places}
-use Rattle.blif_flat.specs.InstanceRows.{paths_of}
-use Rattle.blif_flat.specs.ModelNames.{all_names}
-use Rattle.blif_flat.specs.NetTable.{IsSoundTable, IsKeptIn, AreNetsAt, net_places}
-use Rattle.blif_flat.specs.NetSlots.{NetsValue, slot_number, table_of, IsNets}
+use Rattle.blif_flat.specs.Steps.InstanceRows.{paths_of}
+use Rattle.blif_flat.specs.Steps.ModelNames.{all_names}
+use Rattle.blif_flat.specs.Steps.NetTable.{IsSoundTable, IsKeptIn, AreNetsAt, net_places}
+use Rattle.blif_flat.specs.Steps.NetSlots.{NetsValue, slot_number, table_of, IsNets}
 
 -- each name of each instance has a slot
 pub record HasSlots (library : LibraryValue) (paths : List Path) (n : NetsValue) : Type 0 where

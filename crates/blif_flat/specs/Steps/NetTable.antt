@@ -11,7 +11,7 @@ use Rattle.blif_flat.specs.Models.{Path, model_at, is_input, is_output, inputs_o
 use Rattle.blif_flat.specs.Instances.{CoverAt, LatchAt, ConnectionAt}
 use Rattle.blif_flat.specs.Nets.{Net, Drives}
 use Rattle.blif_flat.specs.Places.{is_cover, is_latch}
-use Rattle.blif_flat.specs.InstanceOrder.{places_at}
+use Rattle.blif_flat.specs.Steps.InstanceOrder.{places_at}
 use Rattle.blif_flat.specs.Flat.{Places, IsNetOf}
 
 -- the drivers of all nets: all inputs of the main model, and the latches and covers of the instances in turn

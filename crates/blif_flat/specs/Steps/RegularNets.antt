@@ -9,8 +9,8 @@ use Rattle.blif_flat.specs.FlatCoverValue.{FlatCoverValue}
 use Rattle.blif_flat.specs.Models.{Path, model_at, inputs_of}
 use Rattle.blif_flat.specs.Nets.{Drives, input_net, IsClock}
 use Rattle.blif_flat.specs.Places.{Place, is_cover, is_latch}
-use Rattle.blif_flat.specs.InstanceOrder.{places_at}
-use Rattle.blif_flat.specs.InstanceRows.{number_or_zero}
+use Rattle.blif_flat.specs.Steps.InstanceOrder.{places_at}
+use Rattle.blif_flat.specs.Steps.InstanceRows.{number_or_zero}
 use Rattle.blif_flat.specs.Sound.{IsData}
 use Rattle.blif_flat.specs.Flat.{Places, TellsClocks, IsFlatCover, IsFlatLatch}
 

@@ -6,12 +6,12 @@ use Rattle.blif_flat.specs.declared.connect.Circuit.{Circuit}
 use Rattle.blif_flat.specs.declared.clock_check.ClockNets.{ClockNets}
 use Rattle.blif_flat.specs.Models.{inputs_of}
 use Rattle.blif_flat.specs.Places.{is_cover, is_latch}
-use Rattle.blif_flat.specs.InstanceRows.{AreInstances, paths_of}
-use Rattle.blif_flat.specs.InstanceOrder.{places_at}
+use Rattle.blif_flat.specs.Steps.InstanceRows.{AreInstances, paths_of}
+use Rattle.blif_flat.specs.Steps.InstanceOrder.{places_at}
 use Rattle.blif_flat.specs.ClockFaults.{is_gate, ClockData}
-use Rattle.blif_flat.specs.Gates.{AreGatesAt}
-use Rattle.blif_flat.specs.NetMade.{AreAllNets}
-use Rattle.blif_flat.specs.ClockSteps.{input_name, IsControlled, clock_test}
+use Rattle.blif_flat.specs.Steps.Gates.{AreGatesAt}
+use Rattle.blif_flat.specs.Steps.NetMade.{AreAllNets}
+use Rattle.blif_flat.specs.Steps.ClockSteps.{input_name, IsControlled, clock_test}
 use Rattle.blif_flat.specs.Flat.{TellsClocks}
 use Rattle.blif_flat.specs.Weight.{most_weight}
 

@@ -8,7 +8,7 @@ use Rattle.blif_read.specs.declared.command.Command.{Command}
 use Rattle.blif_read.specs.SubcktValue.{SubcktValue}
 use Rattle.blif_read.specs.LibraryValue.{ModelValue, LibraryValue}
 use Rattle.blif_flat.specs.Models.{subckts_of}
-use Rattle.blif_flat.specs.NameSets.{model_names}
+use Rattle.blif_flat.specs.Steps.NameSets.{model_names}
 use Rattle.blif_flat.specs.Weight.{most_weight, own_weight, Weighs}
 
 abbrev pub capped : ℕ → ℕ
@@ -49,7 +49,7 @@ pub record AreChildrenFirst (library : LibraryValue) (order : List ℕ) : Type 0
   pub each : (i number : ℕ) → slice_get order i ≡ Some number → IsBehind library (take i order) number
 
 -- a model has a weight, and what is kept by its number is the weight, capped; any weight of it is this one
-pub record IsKept (library : LibraryValue) (weights : List ℕ) (number : ℕ) : Type 0 where
+pub record IsKeptWeight (library : LibraryValue) (weights : List ℕ) (number : ℕ) : Type 0 where
   pub model : ModelValue
   pub at : slice_get library.models number ≡ Some model
   pub weight : ℕ

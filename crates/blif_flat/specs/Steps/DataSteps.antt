@@ -5,7 +5,7 @@ use Rattle.blif_flat.specs.declared.flat.Net.TheVariants.{Input, Latch, Cover}
 use Rattle.blif_flat.specs.declared.flat_err.FlatErr.{FlatErr}
 use Rattle.blif_flat.specs.declared.flat_err.FlatErr.TheVariants.{ClockAsData}
 use Rattle.blif_flat.specs.DriverFaults.{or_later}
-use Rattle.blif_flat.specs.NetSlots.{NetsValue, table_of}
+use Rattle.blif_flat.specs.Steps.NetSlots.{NetsValue, table_of}
 
 -- an input that is marked
 abbrev pub marked_name : Option Bool → Option (List ℕ) → Option (List ℕ)

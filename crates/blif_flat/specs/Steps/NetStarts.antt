@@ -3,8 +3,8 @@ use Rattle.std.specs.Prelude.{ℕ, ◌+◌, List, [], ◌∷◌, length, Option,
 use Rattle.blif_read.specs.LibraryValue.{ModelValue}
 use Rattle.blif_flat.specs.declared.instances.Instance.{Instance}
 use Rattle.blif_flat.specs.declared.nets.Start.{Start}
-use Rattle.blif_flat.specs.ModelNames.{all_names}
-use Rattle.blif_flat.specs.NameSets.{with_names}
+use Rattle.blif_flat.specs.Steps.ModelNames.{all_names}
+use Rattle.blif_flat.specs.Steps.NameSets.{with_names}
 
 -- all names of a model, each once
 abbrev pub distinct_names : ModelValue → List (List ℕ)

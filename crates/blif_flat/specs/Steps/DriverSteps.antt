@@ -4,9 +4,9 @@ use Rattle.blif_read.specs.LibraryValue.{ModelValue, LibraryValue}
 use Rattle.blif_flat.specs.declared.flat_err.FlatErr.{FlatErr}
 use Rattle.blif_flat.specs.declared.ports.Ports.{Ports}
 use Rattle.blif_flat.specs.Models.{model_named}
-use Rattle.blif_flat.specs.NameSets.{ports_value, model_names}
+use Rattle.blif_flat.specs.Steps.NameSets.{ports_value, model_names}
 use Rattle.blif_flat.specs.DriverFaults.{model_fault}
-use Rattle.blif_flat.specs.Answers.{IsTold}
+use Rattle.blif_flat.specs.Steps.Answers.{IsTold}
 
 -- a result tells a fault, exactly
 abbrev pub Tells : Result (Unit {0}) FlatErr → Option FlatErr → Type 0

@@ -10,7 +10,7 @@ use Rattle.blif_read.specs.LibraryValue.{ModelValue, LibraryValue}
 use Rattle.blif_flat.specs.declared.instances.Instance.{Instance}
 use Rattle.blif_flat.specs.Models.{Path, model_at}
 pub use Rattle.blif_flat.specs.Weight.{IsLight}
-use Rattle.blif_flat.specs.InstanceOrder.{InstanceOrder}
+use Rattle.blif_flat.specs.Steps.InstanceOrder.{InstanceOrder}
 use Rattle.blif_flat.specs.Weight.{most_weight}
 
 -- the path of a row: its ordinal before the path of the instance that it stands in

@@ -12,10 +12,10 @@ use Rattle.blif_flat.specs.declared.flat.OutPort.{OutPort}
 use Rattle.blif_flat.specs.declared.gates.Gate.{Gate}
 use Rattle.blif_flat.specs.declared.instances.Instance.{Instance}
 use Rattle.blif_flat.specs.FlatCoverValue.{FlatCoverValue}
-use Rattle.blif_flat.specs.GateBodies.{gate_body}
+use Rattle.blif_flat.specs.Steps.GateBodies.{gate_body}
 use Rattle.blif_flat.specs.Places.{cover_in, latch_in}
-use Rattle.blif_flat.specs.NetSlots.{NetsValue, table_of}
-use Rattle.blif_flat.specs.RegularNets.{renumbered}
+use Rattle.blif_flat.specs.Steps.NetSlots.{NetsValue, table_of}
+use Rattle.blif_flat.specs.Steps.RegularNets.{renumbered}
 
 -- the net of a name of an instance, by the numbers of the regular inputs; input 0 where nothing drives the name
 abbrev pub renumbered_or : List ℕ → Option FlatNet → FlatNet

@@ -13,9 +13,9 @@ use Rattle.blif_flat.specs.declared.gates.Gate.{Gate}
 use Rattle.blif_flat.specs.declared.instances.Instance.{Instance}
 use Rattle.blif_flat.specs.declared.ports.Ports.{Ports}
 use Rattle.blif_flat.specs.Models.{subckts_of, is_input, is_output}
-use Rattle.blif_flat.specs.GateBodies.{gate_body}
-use Rattle.blif_flat.specs.NameSets.{ports_value}
-use Rattle.blif_flat.specs.NetSlots.{NetsValue, slot_number, with_found, pairs_out, pairs_in}
+use Rattle.blif_flat.specs.Steps.GateBodies.{gate_body}
+use Rattle.blif_flat.specs.Steps.NameSets.{ports_value}
+use Rattle.blif_flat.specs.Steps.NetSlots.{NetsValue, slot_number, with_found, pairs_out, pairs_in}
 
 abbrev pub cover_output : Body → Option (List ℕ)
 cover_output (Cover c) = Some c.output

@@ -8,10 +8,10 @@ use Rattle.blif_flat.specs.declared.cover_walk.Found.{Found}
 use Rattle.blif_flat.specs.declared.cover_walk.Found.TheVariants.{Loop as found_loop, Order as found_order}
 use Rattle.blif_flat.specs.FlatCoverValue.{FlatCoverValue}
 use Rattle.blif_flat.specs.Flat.{cover_numbers, inputs_at}
-use Rattle.blif_flat.specs.CoverOrder.{IsAfter}
+use Rattle.blif_flat.specs.Steps.CoverOrder.{IsAfter}
 use Rattle.blif_flat.specs.DepthFirst.{Repeat, Meets, MeetsAll, Posts, PostsAll}
 
-pub record WalkValue : Type 0 where
+pub record CoverWalkValue : Type 0 where
   pub marks : List ℕ
   pub order : List ℕ
   pub stack : List Frame
@@ -41,17 +41,17 @@ new_work [] covers = 0
 new_work (m ∷ ms) [] = 0
 new_work (m ∷ ms) (c ∷ cs) = (if m == 0 then 1 + length c.inputs else 0) + new_work ms cs
 
-abbrev pub walk_work : List FlatCoverValue → WalkValue → ℕ
+abbrev pub walk_work : List FlatCoverValue → CoverWalkValue → ℕ
 walk_work covers w = new_work w.marks covers + frames_work covers w.stack
 
 -- the steps of a walk
-abbrev pub entered : WalkValue → ℕ → WalkValue
+abbrev pub entered : CoverWalkValue → ℕ → CoverWalkValue
 entered w n = record { marks = slice_set w.marks n 1; order = w.order; stack = record { cover = n; next = 0 } ∷ w.stack }
 
-abbrev pub pushed : WalkValue → Frame → WalkValue
+abbrev pub pushed : CoverWalkValue → Frame → CoverWalkValue
 pushed w f = record { marks = w.marks; order = w.order; stack = f ∷ w.stack }
 
-abbrev pub finished : WalkValue → ℕ → WalkValue
+abbrev pub finished : CoverWalkValue → ℕ → CoverWalkValue
 finished w n = record { marks = slice_set w.marks n 2; order = n ∷ w.order; stack = w.stack }
 
 abbrev pub first_frame : List Frame → Option Frame
@@ -62,7 +62,7 @@ abbrev pub other_frames : List Frame → List Frame
 other_frames [] = []
 other_frames (f ∷ fs) = fs
 
-abbrev pub popped : WalkValue → WalkValue
+abbrev pub popped : CoverWalkValue → CoverWalkValue
 popped w = record { marks = w.marks; order = w.order; stack = other_frames w.stack }
 
 -- the cover of a net
@@ -72,7 +72,7 @@ cover_number (Latch j) = None
 cover_number (Cover j) = Some j
 
 -- a cover is looked at: a new one is entered, one on the path is met, and one that is done is passed
-pub data Looked (w : WalkValue) (n : ℕ) (v : WalkValue) (found : Option ℕ) : Type 0 where
+pub data Looked (w : CoverWalkValue) (n : ℕ) (v : CoverWalkValue) (found : Option ℕ) : Type 0 where
   enters : slice_get w.marks n ≡ Some 0 → v ≡ entered w n → found ≡ None → Looked w n v found
   hits : slice_get w.marks n ≡ Some 1 → v ≡ w → found ≡ Some n → Looked w n v found
   passes : (m : ℕ) → slice_get w.marks n ≡ Some m → ¬ (m ≡ 0) → ¬ (m ≡ 1) → v ≡ w → found ≡ None → Looked w n v found
@@ -103,7 +103,7 @@ pub record InRange (covers : List FlatCoverValue) : Type 0 where
   pub each : (n m : ℕ) → In (cover_reads covers n) m → m < length covers
 
 -- the marks say which covers are on the path, which are done, and which are new
-pub record AreMarks (covers : List FlatCoverValue) (marks order path : List ℕ) : Type 0 where
+pub record AreCoverMarks (covers : List FlatCoverValue) (marks order path : List ℕ) : Type 0 where
   pub long : length marks ≡ length covers
   pub below : (n : ℕ) → In path n → n < length covers
   pub once : IsOnce path
@@ -114,71 +114,71 @@ pub record AreMarks (covers : List FlatCoverValue) (marks order path : List ℕ)
   pub on : (n : ℕ) → slice_get marks n ≡ Some 1 → In path n
   pub off : (n m : ℕ) → slice_get marks n ≡ Some m → ¬ (m ≡ 0) → ¬ (m ≡ 1) → In order n
 
-pub record IsWalker (covers : List FlatCoverValue) (w : WalkValue) : Type 0 where
-  pub marked : AreMarks covers w.marks w.order (path_of w.stack)
+pub record IsWalker (covers : List FlatCoverValue) (w : CoverWalkValue) : Type 0 where
+  pub marked : AreCoverMarks covers w.marks w.order (path_of w.stack)
   pub passed : ArePassed covers w.order w.order w.stack
 
 -- v stands later in the walk than w
-pub record IsLater (covers : List FlatCoverValue) (w v : WalkValue) : Type 0 where
+pub record IsLater (covers : List FlatCoverValue) (w v : CoverWalkValue) : Type 0 where
   pub walker : IsWalker covers v
   pub meets : (result : Option (Repeat ℕ)) → MeetsLeft covers v.stack result → MeetsLeft covers w.stack result
   pub posts : (result : List ℕ) → PostsLeft covers v.order v.stack result → PostsLeft covers w.order w.stack result
 
 -- the repeat of a node that was met on the path
-abbrev pub repeat_at : WalkValue → ℕ → Repeat ℕ
+abbrev pub repeat_at : CoverWalkValue → ℕ → Repeat ℕ
 repeat_at v c = record { node = c; path = path_of v.stack }
 
-pub record IsMet (covers : List FlatCoverValue) (w v : WalkValue) (c : ℕ) : Type 0 where
+pub record IsMetAgain (covers : List FlatCoverValue) (w v : CoverWalkValue) (c : ℕ) : Type 0 where
   pub meets : MeetsLeft covers w.stack (Some (repeat_at v c))
 
 -- one step of the walk
-pub record IsStep (covers : List FlatCoverValue) (w v : WalkValue) : Type 0 where
+pub record IsCoverStep (covers : List FlatCoverValue) (w v : CoverWalkValue) : Type 0 where
   pub later : IsLater covers w v
   pub fewer : walk_work covers v < walk_work covers w
 
-abbrev pub Stepped : List FlatCoverValue → WalkValue → WalkValue → Option ℕ → Type 0
-Stepped covers w v None = IsStep covers w v
-Stepped covers w v (Some c) = IsMet covers w v c
+abbrev pub Stepped : List FlatCoverValue → CoverWalkValue → CoverWalkValue → Option ℕ → Type 0
+Stepped covers w v None = IsCoverStep covers w v
+Stepped covers w v (Some c) = IsMetAgain covers w v c
 
 -- the walk to the end of its stack
-pub record IsThrough (covers : List FlatCoverValue) (w v : WalkValue) : Type 0 where
+pub record IsThrough (covers : List FlatCoverValue) (w v : CoverWalkValue) : Type 0 where
   pub later : IsLater covers w v
   pub empty : v.stack ≡ []
 
-abbrev pub Ran : List FlatCoverValue → WalkValue → WalkValue → Option ℕ → Type 0
+abbrev pub Ran : List FlatCoverValue → CoverWalkValue → CoverWalkValue → Option ℕ → Type 0
 Ran covers w v None = IsThrough covers w v
-Ran covers w v (Some c) = IsMet covers w v c
+Ran covers w v (Some c) = IsMetAgain covers w v c
 
 -- the visit of a root
-pub record IsDone (covers : List FlatCoverValue) (w v : WalkValue) (root : ℕ) : Type 0 where
+pub record IsDone (covers : List FlatCoverValue) (w v : CoverWalkValue) (root : ℕ) : Type 0 where
   pub walker : IsWalker covers v
   pub empty : v.stack ≡ []
   pub meets : Meets (cover_reads covers) [] root None
   pub posts : Posts (cover_reads covers) w.order root v.order
 
-pub record IsMetFrom (covers : List FlatCoverValue) (v : WalkValue) (root c : ℕ) : Type 0 where
+pub record IsMetFrom (covers : List FlatCoverValue) (v : CoverWalkValue) (root c : ℕ) : Type 0 where
   pub meets : Meets (cover_reads covers) [] root (Some (repeat_at v c))
 
-abbrev pub Visited : List FlatCoverValue → WalkValue → WalkValue → ℕ → Option ℕ → Type 0
+abbrev pub Visited : List FlatCoverValue → CoverWalkValue → CoverWalkValue → ℕ → Option ℕ → Type 0
 Visited covers w v root None = IsDone covers w v root
 Visited covers w v root (Some c) = IsMetFrom covers v root c
 
 -- the visit of several roots in turn
-pub record AreDone (covers : List FlatCoverValue) (w v : WalkValue) (roots : List ℕ) : Type 0 where
+pub record AreDone (covers : List FlatCoverValue) (w v : CoverWalkValue) (roots : List ℕ) : Type 0 where
   pub walker : IsWalker covers v
   pub empty : v.stack ≡ []
   pub meets : MeetsAll (cover_reads covers) [] roots None
   pub posts : PostsAll (cover_reads covers) w.order roots v.order
 
-pub record IsMetFromAll (covers : List FlatCoverValue) (v : WalkValue) (roots : List ℕ) (c : ℕ) : Type 0 where
+pub record IsMetFromAll (covers : List FlatCoverValue) (v : CoverWalkValue) (roots : List ℕ) (c : ℕ) : Type 0 where
   pub meets : MeetsAll (cover_reads covers) [] roots (Some (repeat_at v c))
 
-abbrev pub VisitedAll : List FlatCoverValue → WalkValue → WalkValue → List ℕ → Option ℕ → Type 0
+abbrev pub VisitedAll : List FlatCoverValue → CoverWalkValue → CoverWalkValue → List ℕ → Option ℕ → Type 0
 VisitedAll covers w v roots None = AreDone covers w v roots
 VisitedAll covers w v roots (Some c) = IsMetFromAll covers v roots c
 
 -- between two of several roots: these are left
-pub record AreLeft (covers : List FlatCoverValue) (w v : WalkValue) (roots left : List ℕ) : Type 0 where
+pub record AreLeft (covers : List FlatCoverValue) (w v : CoverWalkValue) (roots left : List ℕ) : Type 0 where
   pub walker : IsWalker covers v
   pub empty : v.stack ≡ []
   pub meets : (result : Option (Repeat ℕ)) → MeetsAll (cover_reads covers) [] left result → MeetsAll (cover_reads covers) [] roots result

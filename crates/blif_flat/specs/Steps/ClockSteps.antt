@@ -4,7 +4,7 @@ use Rattle.std.specs.Option.{option_and_then}
 use Rattle.blif_read.specs.LibraryValue.{ModelValue, LibraryValue}
 use Rattle.blif_flat.specs.Models.{Path, has_name, inputs_of}
 use Rattle.blif_flat.specs.Places.{is_latch}
-use Rattle.blif_flat.specs.InstanceOrder.{places_at}
+use Rattle.blif_flat.specs.Steps.InstanceOrder.{places_at}
 use Rattle.blif_flat.specs.ClockFaults.{Clocks}
 use Rattle.blif_flat.specs.Flat.{IsControl, TellsClocks}
 
@@ -27,7 +27,7 @@ abbrev pub clock_test : ModelValue → Option (List ℕ) → List ℕ → Bool
 clock_test main control name = has_name main.clocks name || is_control control name
 
 -- a mark for each input of the main model: is it a clock net?
-pub record AreMarks (library : LibraryValue) (main : ModelValue) (marks : List Bool) : Type 0 where
+pub record AreClockMarks (library : LibraryValue) (main : ModelValue) (marks : List Bool) : Type 0 where
   pub test : List ℕ → Bool
   pub tells : TellsClocks library test
   pub marks_are : marks ≡ map test (inputs_of main)

@@ -18,7 +18,7 @@ abbrev pub input_at : List (List ℕ) → Option ℕ → Option (List ℕ)
 input_at inputs number = option_and_then (slice_get inputs) number
 
 -- an input is the first one that is met, or the one that was met before
-pub record IsKept (inputs : List (List ℕ)) (first : Option ℕ) (number next : ℕ) : Type 0 where
+pub record IsKeptInput (inputs : List (List ℕ)) (first : Option ℕ) (number next : ℕ) : Type 0 where
   pub name : List ℕ
   pub at : slice_get inputs number ≡ Some name
   pub before : (input_at inputs first ≡ None) ⊎ (input_at inputs first ≡ Some name)
@@ -34,7 +34,7 @@ pub record IsSecond (inputs : List (List ℕ)) (first : Option ℕ) (number : �
   pub is : fault ≡ SecondClock earlier name
 
 -- a control's net is a main input, the first one or the one that was met before
-pub record IsMet (library : LibraryValue) (path : Path) (control : List ℕ) (first next : Option (List ℕ)) : Type 0 where
+pub record IsMetInput (library : LibraryValue) (path : Path) (control : List ℕ) (first next : Option (List ℕ)) : Type 0 where
   pub name : List ℕ
   pub drives : Drives library path control (input_net name)
   pub before : (first ≡ None) ⊎ (first ≡ Some name)
@@ -48,7 +48,7 @@ pub data IsRefused (library : LibraryValue) (path : Path) (control : List ℕ) (
 -- a latch without a control is passed
 abbrev pub ControlNext : LibraryValue → Path → Option (List ℕ) → Option (List ℕ) → Option (List ℕ) → Type 0
 ControlNext library path None first next = next ≡ first
-ControlNext library path (Some control) first next = IsMet library path control first next
+ControlNext library path (Some control) first next = IsMetInput library path control first next
 
 abbrev pub ControlFault : LibraryValue → Path → Option (List ℕ) → Option (List ℕ) → FlatErr → Type 0
 ControlFault library path None first fault = ⊥

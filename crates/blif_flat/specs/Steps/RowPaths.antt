@@ -6,7 +6,7 @@ use Rattle.blif_read.specs.LibraryValue.{ModelValue, LibraryValue}
 use Rattle.blif_flat.specs.declared.instances.Instance.{Instance}
 use Rattle.blif_flat.specs.Models.{body_at}
 use Rattle.blif_flat.specs.Places.{cover_in}
-use Rattle.blif_flat.specs.InstanceRows.{path_of, paths_of}
+use Rattle.blif_flat.specs.Steps.InstanceRows.{path_of, paths_of}
 
 pub record AreUnder (rows : List Instance) : Type 0 where
   pub at : (i : ℕ) (row : Instance) → slice_get rows i ≡ Some row → slice_get (paths_of rows) i ≡ Some (path_of (paths_of rows) row)
