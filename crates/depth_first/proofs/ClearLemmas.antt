@@ -1,0 +1,87 @@
+-- The marks once the nodes that are done and those on the path are forgotten.
+use Rattle.std.proofs.Common.{◌≡◌, ℕ, ◌<◌, List, [], ◌∷◌, length, Some, refl, sym, ap, ◌∙◌, subst, inl, inr, ◌⊎◌}
+use Rattle.std.specs.Prelude.{slice_get, slice_set}
+use Rattle.std.proofs.lemmas.Option.{none-some, same_Some, slice_get_within}
+use Rattle.list_laws.specs.Members.{In}
+use Rattle.list_laws.proofs.Places.{set_here, set_other, set_length, same_or}
+use Rattle.depth_first.specs.declared.frames.Mark.{Mark}
+use Rattle.depth_first.specs.declared.frames.Mark.TheVariants.{New, OnPath, Done}
+use Rattle.depth_first.specs.Walk.{WalkValue}
+use Rattle.depth_first.specs.Steps.{seen}
+use Rattle.depth_first.specs.Frames.{FramesValue, path_of, first_of, others_of, forgotten, AreForgettable, AreMarks}
+
+abbrev pub with_count : ℕ → WalkValue
+with_count n = record { count = n; order = []; path = [] }
+
+pub forgotten-length : (marks : List Mark) (ns : List ℕ) → length (forgotten marks ns) ≡ length marks
+forgotten-length marks [] = refl
+forgotten-length marks (n ∷ ns) = forgotten-length (slice_set marks n New) ns ∙ set_length marks n New
+
+-- a mark is new, or it is as before and not of these nodes
+set_back : (marks : List Mark) (n k : ℕ) (m : Mark) → slice_get (slice_set marks n New) k ≡ Some m → k ≡ n → m ≡ New
+set_back marks n k m g q =
+    let h : slice_get (slice_set marks n New) n ≡ Some m = subst (λ j. slice_get (slice_set marks n New) j ≡ Some m) q g in
+    let l : n < length marks = subst (λ j. n < j) (set_length marks n New) (slice_get_within (slice_set marks n New) n m h) in
+    same_Some m New (sym h ∙ set_here marks n New l)
+
+forgotten-get : (marks : List Mark) (ns : List ℕ) (k : ℕ) (m : Mark) → slice_get (forgotten marks ns) k ≡ Some m → (m ≡ New) ⊎ ((In ns k → ⊥) × (slice_get marks k ≡ Some m))
+forgotten-get marks [] k m g = inr (λ i. i, g)
+forgotten-get marks (n ∷ ns) k m g = elim (forgotten-get (slice_set marks n New) ns k m g) as (λ _. (m ≡ New) ⊎ ((In (n ∷ ns) k → ⊥) × (slice_get marks k ≡ Some m))) [
+  | inl e ↦ inl e
+  | inr p ↦ (elim (same_or k n) as (λ _. (m ≡ New) ⊎ ((In (n ∷ ns) k → ⊥) × (slice_get marks k ≡ Some m))) [
+    | inl q ↦ inl (set_back marks n k m p.1 q)
+    | inr o ↦ inr (λ i. elim i [ inl q ↦ o q | inr j ↦ p.0 j ], sym (set_other marks n k New o) ∙ p.1)
+  ])
+]
+
+-- marks that are all new
+all_new : (marks : List Mark) → ((k : ℕ) (m : Mark) → slice_get marks k ≡ Some m → m ≡ New) → AreMarks marks [] []
+all_new marks h = record {
+  below = λ n i. absurd i;
+  inside = λ n i. absurd i;
+  once = tt;
+  apart = λ n i j. i;
+  fresh = λ n e. (λ i. i, λ i. i);
+  on = λ n e. absurd (let z : OnPath ≡ New = h n OnPath e in cc);
+  off = λ n e. absurd (let z : Done ≡ New = h n Done e in cc);
+}
+
+old_new : (marks : List Mark) (order path : List ℕ) → AreMarks marks order path → (k : ℕ) (m : Mark) → slice_get marks k ≡ Some m → (In order k → ⊥) → (In path k → ⊥) → m ≡ New
+old_new marks order path fit k New g a b = refl
+old_new marks order path fit k OnPath g a b = absurd (b (fit.on k g))
+old_new marks order path fit k Done g a b = absurd (a (fit.off k g))
+
+pub marks_cleared : (marks : List Mark) (order path : List ℕ) → AreMarks marks order path → AreMarks (forgotten (forgotten marks order) path) [] []
+marks_cleared marks order path fit = all_new (forgotten (forgotten marks order) path) (λ k m g. elim (forgotten-get (forgotten marks order) path k m g) [
+  | inl e ↦ e
+  | inr p ↦ (elim (forgotten-get marks order k m p.1) [ inl e ↦ e | inr q ↦ old_new marks order path fit k m q.1 q.0 p.0 ])
+])
+
+-- one more mark is forgotten
+pub clear_step : (marks : List Mark) (nodes : List ℕ) (later : List Mark) (left rest : List ℕ) (n : ℕ) → left ≡ n ∷ rest → AreForgettable marks nodes later left → AreForgettable marks nodes (slice_set later n New) rest
+clear_step marks nodes later left rest n e f = record {
+  same = subst (λ x. forgotten later x ≡ forgotten marks nodes) e f.same;
+  within = λ k i. subst (λ j. k < j) (sym (set_length later n New)) (f.within k (subst (λ x. In x k) (sym e) (inr i)));
+}
+
+pub first_within : (marks : List Mark) (nodes : List ℕ) (later : List Mark) (left rest : List ℕ) (n : ℕ) → left ≡ n ∷ rest → AreForgettable marks nodes later left → n < length later
+first_within marks nodes later left rest n e f = f.within n (subst (λ x. In x n) (sym e) (inl refl))
+
+pub first_others : {A : Type 0} (xs : List A) (x : A) → first_of xs ≡ Some x → xs ≡ x ∷ others_of xs
+first_others [] x e = absurd (none-some x e)
+first_others (y ∷ ys) x e = ap (λ z. z ∷ ys) (same_Some y x e)
+
+abbrev path_forgotten : FramesValue → FramesValue
+path_forgotten w = record { marks = forgotten w.marks (path_of w.stack); order = w.order; stack = [] }
+
+abbrev order_forgotten : FramesValue → FramesValue
+order_forgotten w = record { marks = forgotten w.marks w.order; order = []; stack = w.stack }
+
+pub both_forgotten : (w v u : FramesValue) → v ≡ order_forgotten w → u ≡ path_forgotten v → u ≡ path_forgotten (order_forgotten w)
+both_forgotten w v u e d = d ∙ ap path_forgotten e
+
+pub cleared_fits : (w u : FramesValue) → AreMarks w.marks w.order (path_of w.stack) → u ≡ path_forgotten (order_forgotten w) → AreMarks u.marks u.order (path_of u.stack)
+cleared_fits w u fit e = subst (λ (v : FramesValue). AreMarks v.marks v.order (path_of v.stack)) (sym e) (marks_cleared w.marks w.order (path_of w.stack) fit)
+
+pub cleared_seen : (w u : FramesValue) → u ≡ path_forgotten (order_forgotten w) → seen u ≡ record { count = length w.marks; order = []; path = [] }
+cleared_seen w u e = ap seen e ∙ ap with_count (forgotten-length (forgotten w.marks w.order) (path_of w.stack) ∙ forgotten-length w.marks w.order)

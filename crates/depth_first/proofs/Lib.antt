@@ -1,0 +1,13 @@
+pub mod DepthLemmas
+pub mod PostLemmas
+mod WorkLemmas
+mod MarkLemmas
+mod StepLemmas
+mod FollowLemmas
+mod VisitLemmas
+mod AllLemmas
+mod ClearLemmas
+mod PathLemmas
+pub mod FallLemmas
+mod Examples
+mod RowLemmas

@@ -1,0 +1,24 @@
+-- The nodes of a stack.
+use Rattle.std.proofs.Common.{◌≡◌, ℕ, ◌+◌, ◌<◌, ◌≤◌, List, [], ◌∷◌, ◌++◌, length, take, get_or, reverse, refl, sym, ap, ◌∙◌, arith}
+use Rattle.std.proofs.lemmas.List.{reverse-append, take_more}
+use Rattle.std.proofs.Math.Seq.{take-length}
+use Rattle.depth_first.specs.declared.frames.Frame.{Frame}
+use Rattle.depth_first.specs.Frames.{path_of}
+
+pub path_of-append : (fs gs : List Frame) → path_of (fs ++ gs) ≡ path_of fs ++ path_of gs
+path_of-append [] gs = refl
+path_of-append (f ∷ fs) gs = ap (λ ns. f.node ∷ ns) (path_of-append fs gs)
+
+pub path_of-reverse : (fs : List Frame) → path_of (reverse fs) ≡ reverse (path_of fs)
+path_of-reverse [] = refl
+path_of-reverse (f ∷ fs) =
+    ap path_of (reverse-append (f ∷ []) fs) ∙ path_of-append (reverse fs) (f ∷ []) ∙ ap (λ ns. ns ++ f.node ∷ []) (path_of-reverse fs) ∙ sym (reverse-append (f.node ∷ []) (path_of fs))
+
+-- one more frame is read, and all are
+pub path_more : (fs : List Frame) (i : ℕ) (d : Frame) (ns : List ℕ) → i < length fs → ns ≡ path_of (take i fs) → ns ++ (get_or fs i d).node ∷ [] ≡ path_of (take (i + 1) fs)
+path_more fs i d ns l e = ap (λ x. x ++ (get_or fs i d).node ∷ []) e ∙ sym (path_of-append (take i fs) (get_or fs i d ∷ [])) ∙ sym (ap path_of (take_more fs i d l))
+
+pub path_all : (fs stack : List Frame) (i : ℕ) (ns : List ℕ) → i ≤ length fs → length fs ≤ i → ns ≡ path_of (take i fs) → reverse fs ≡ stack → reverse ns ≡ path_of stack
+path_all fs stack i ns a b e r =
+    let q : i ≡ length fs = omega arith in
+    ap reverse (e ∙ ap (λ k. path_of (take k fs)) q ∙ ap path_of (take-length fs)) ∙ sym (path_of-reverse fs) ∙ ap path_of r

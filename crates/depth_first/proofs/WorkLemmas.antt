@@ -1,0 +1,23 @@
+-- The work that is left grows less.
+use Rattle.std.proofs.Common.{◌≡◌, ℕ, zero, suc, ◌+◌, ◌≤◌, List, [], ◌∷◌, length, Some, refl, arith}
+use Rattle.std.specs.Prelude.{slice_get, slice_set}
+use Rattle.std.proofs.lemmas.Option.{none-some, same_Some}
+use Rattle.depth_first.specs.declared.edge.Edge.{Edge}
+use Rattle.depth_first.specs.declared.frames.Mark.{Mark}
+use Rattle.depth_first.specs.declared.frames.Mark.TheVariants.{New, OnPath, Done}
+use Rattle.depth_first.specs.Steps.{new_work}
+
+pub enter_less : {S : Type 0} (edges : ℕ → List (Edge S)) (ms : List Mark) (n : ℕ) → slice_get ms n ≡ Some New
+    → new_work edges (slice_set ms n OnPath) + (1 + length (edges n)) ≡ new_work edges ms
+enter_less edges [] n e = absurd (none-some New e)
+enter_less edges (m ∷ ms) zero e =
+    let z : m ≡ New = same_Some m New e in
+    let a : new_work edges (m ∷ ms) ≡ 1 + length (edges zero) + new_work (λ k. edges (suc k)) ms = rw z refl in
+    let b : new_work edges (OnPath ∷ ms) ≡ 0 + new_work (λ k. edges (suc k)) ms = refl in omega arith
+enter_less edges (m ∷ ms) (suc n) e =
+    let r : new_work (λ k. edges (suc k)) (slice_set ms n OnPath) + (1 + length (edges (suc n))) ≡ new_work (λ k. edges (suc k)) ms = enter_less (λ k. edges (suc k)) ms n e in omega arith
+
+pub finish_less : {S : Type 0} (edges : ℕ → List (Edge S)) (ms : List Mark) (n : ℕ) → new_work edges (slice_set ms n Done) ≤ new_work edges ms
+finish_less edges [] n = omega arith
+finish_less edges (m ∷ ms) zero = let b : new_work edges (Done ∷ ms) ≡ 0 + new_work (λ k. edges (suc k)) ms = refl in omega arith
+finish_less edges (m ∷ ms) (suc n) = let r : new_work (λ k. edges (suc k)) (slice_set ms n Done) ≤ new_work (λ k. edges (suc k)) ms = finish_less (λ k. edges (suc k)) ms n in omega arith

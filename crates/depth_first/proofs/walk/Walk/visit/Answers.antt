@@ -1,0 +1,7 @@
+use Rattle.std.proofs.Common.{ap, ◌∙◌}
+use Rattle.depth_first.specs.Walk.{WalkValue}
+use Rattle.depth_first.proofs.VisitLemmas.{no_path}
+use Rattle.depth_first.proofs.walk.Walk.visit.Goals as goal
+
+pub visit_from-requires-clause-empty : goal.visit_from-requires-clause-empty
+visit_from-requires-clause-empty g c = no_path c.self.inside.frames.stack (ap (λ (v : WalkValue). v.path) c.self.view_is ∙ c.requires.path)

@@ -1,0 +1,10 @@
+-- What public clauses say.
+pub mod DepthFirst
+pub mod Order
+pub mod Reach
+pub mod Edges
+pub mod Walk
+-- What only bodies are compared with.
+pub mod Frames
+pub mod Steps
+pub mod Rows

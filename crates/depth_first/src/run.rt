@@ -1,0 +1,97 @@
+//! The walk over a graph's edges.
+ghost use Rattle.std.specs.Prelude.{◌≡◌, [], Some, length, IfOk, OnErr};
+ghost use Rattle.depth_first.specs.Edges.{AreNodes, successors, ways_from};
+ghost use Rattle.depth_first.specs.Frames.{AreKept, AreMarks, first_of, path_of};
+ghost use Rattle.depth_first.specs.Order.{IsSettled};
+ghost use Rattle.depth_first.specs.Steps.{IsEdgeWithin, Followed, IsGoing, Stepped, Ran, seen};
+ghost use Rattle.depth_first.specs.Walk.{Visited};
+
+use crate::edge::{Edge, End, Successors};
+use crate::frames::{Frame, Frames, Mark};
+use std::alloc::AllocError;
+
+// Follows an edge: a new node is put on the path, and a node of the path or a stop is the end.
+fn follow<S: Drop>(frames: &mut Frames, edge: Edge<S>) -> Result<Option<End<S>>, AllocError>
+    requires { IsEdgeWithin edge (length frames.old.marks) }
+    ensures ok { IfOk result (λ found. Followed frames.old edge frames.new found) }
+    ensures err { OnErr result (frames.new ≡ frames.old) }
+{
+    match edge {
+        Edge::Pass => Ok(None),
+        Edge::Stop(reason) => Ok(Some(End::Stop(reason))),
+        Edge::Node(n) => match frames.mark(n) {
+            Mark::New => {
+                frames.enter(n)?;
+                Ok(None)
+            }
+            Mark::OnPath => Ok(Some(End::Loop(n))),
+            Mark::Done => Ok(None),
+        },
+    }
+}
+
+// One step at the path's last frame: its next edge is followed, or its node is left.
+fn step<G: Successors>(
+    graph: &G,
+    frames: &mut Frames,
+    frame: Frame,
+) -> Result<Option<End<G::Stop>>, AllocError>
+    requires nodes { AreNodes (G.is_node graph.now) (successors (G.edges graph.now)) (length frames.old.marks) }
+    requires going { IsGoing (G.edges graph.now) (G.is_node graph.now) frames.old }
+    requires top { first_of frames.old.stack ≡ Some frame }
+    ensures ok { IfOk result (λ found. Stepped (G.edges graph.now) (G.is_node graph.now) frames.old frames.new found) }
+    ensures kept { AreKept frames.old frames.new }
+{
+    match graph.successor(frame.node, frame.place) {
+        None => {
+            frames.finish(frame.node)?;
+            Ok(None)
+        }
+        Some(edge) => {
+            frames.advance(frame);
+            let found = follow(frames, edge)?;
+            Ok(found)
+        }
+    }
+}
+
+// Walks on until the stack is empty or an end is found.
+fn run<G: Successors>(graph: &G, frames: &mut Frames) -> Result<Option<End<G::Stop>>, AllocError>
+    requires nodes { AreNodes (G.is_node graph.now) (successors (G.edges graph.now)) (length frames.old.marks) }
+    requires going { IsGoing (G.edges graph.now) (G.is_node graph.now) frames.old }
+    ensures ok { IfOk result (λ found. Ran (G.edges graph.now) (G.is_node graph.now) frames.old frames.new found) }
+    ensures kept { AreKept frames.old frames.new }
+{
+    while let Some(frame) = frames.top() {
+        let found = step(graph, frames, frame)?;
+        if found.is_some() {
+            return Ok(found);
+        }
+    }
+    Ok(None)
+}
+
+// Walks from a start, unless it is done.
+pub(crate) fn visit_from<G: Successors>(
+    graph: &G,
+    frames: &mut Frames,
+    start: u32,
+) -> Result<Option<End<G::Stop>>, AllocError>
+    requires nodes { AreNodes (G.is_node graph.now) (successors (G.edges graph.now)) (length frames.old.marks) }
+    requires here { G.is_node graph.now start }
+    requires marks { AreMarks frames.old.marks frames.old.order (path_of frames.old.stack) }
+    requires settled { IsSettled (ways_from (G.edges graph.now)) frames.old.order }
+    requires empty { frames.old.stack ≡ [] }
+    ensures ok { IfOk result (λ found. Visited (G.edges graph.now) (seen frames.old) (seen frames.new) start found) }
+    ensures kept { AreKept frames.old frames.new }
+{
+    match frames.mark(start) {
+        Mark::New => {
+            frames.enter(start)?;
+            let found = run(graph, frames)?;
+            Ok(found)
+        }
+        Mark::OnPath => Ok(None),
+        Mark::Done => Ok(None),
+    }
+}

@@ -1,0 +1,121 @@
+//! Walks that share their marks.
+ghost use Rattle.std.specs.Prelude.{◌≡◌, ℕ, [], ◌<◌, All, reverse, IfOk};
+ghost use Rattle.depth_first.specs.Edges.{AreNodes, successors, ways_from};
+ghost use Rattle.depth_first.specs.Order.{IsSettled};
+ghost use Rattle.depth_first.specs.Walk.{Visited, VisitedAll};
+
+use crate::edge::{End, Successors};
+use crate::frames::{Frames, forget_order, forget_path};
+use crate::run::visit_from;
+use std::alloc::{AllocError, Global};
+use std::marker::Model;
+
+/// A depth-first walk over numbered nodes: those that are done, in the order in which they were left, and the path on
+/// which an end was found.
+#[derive(Drop)]
+pub struct Walk {
+    frames: Frames,
+}
+
+impl Model for Walk {
+    ghost use Rattle.std.specs.Prelude.{length};
+    ghost use Rattle.depth_first.specs.Frames.{AreMarks, path_of};
+    ghost use Rattle.depth_first.specs.Walk.{WalkValue};
+
+    ghost Value = { WalkValue };
+
+    ghost view = { λ w. record { count = length w.frames.marks; order = w.frames.order; path = path_of w.frames.stack } };
+
+    ghost invariant = { λ w. AreMarks w.frames.marks w.frames.order (path_of w.frames.stack) };
+}
+
+impl Walk {
+    /// A walk of nodes below the count, of which none is done. It takes time linear in the count.
+    ///
+    /// # Errors
+    /// Only for want of memory.
+    pub fn make(alloc: Global, count: usize) -> Result<Walk, AllocError>
+        ensures { IfOk result (λ w. w ≡ record { count = count; order = []; path = [] }) }
+    {
+        let frames = Frames::make(alloc, count)?;
+        Ok(Walk { frames })
+    }
+
+    /// Walks depth first, left to right, from a start. Nodes that are done are passed.
+    ///
+    /// `None`: all that the start reaches is done; `order` has it. `Some`: the first end that a walk from the start comes
+    /// to, a node that is met again on the path or a stop; `path` has the path. The stack stands in memory, and the time is
+    /// linear in the edges that are looked at.
+    ///
+    /// # Errors
+    /// Only for want of memory. Then the walk may be cleared, and nothing else is known of it.
+    pub fn visit<G: Successors>(
+        &mut self,
+        graph: &G,
+        start: u32,
+    ) -> Result<Option<End<G::Stop>>, AllocError>
+        requires nodes { AreNodes (G.is_node graph.now) (successors (G.edges graph.now)) self.old.count }
+        requires here { G.is_node graph.now start }
+        requires settled { IsSettled (ways_from (G.edges graph.now)) self.old.order }
+        requires path { self.old.path ≡ [] }
+        ensures ok { IfOk result (λ found. Visited (G.edges graph.now) self.old self.new start found) }
+        ensures count { self.new.count ≡ self.old.count }
+    {
+        let found = visit_from(graph, &mut self.frames, start)?;
+        Ok(found)
+    }
+
+    /// Walks from several starts in turn, as `visit` does, up to the first end.
+    ///
+    /// # Errors
+    /// Only for want of memory. Then the walk may be cleared, and nothing else is known of it.
+    pub fn visit_all<G: Successors>(
+        &mut self,
+        graph: &G,
+        starts: &[u32],
+    ) -> Result<Option<End<G::Stop>>, AllocError>
+        requires nodes { AreNodes (G.is_node graph.now) (successors (G.edges graph.now)) self.old.count }
+        requires here { All (λ start. G.is_node graph.now start) starts.now }
+        requires settled { IsSettled (ways_from (G.edges graph.now)) self.old.order }
+        requires path { self.old.path ≡ [] }
+        ensures ok { IfOk result (λ found. VisitedAll (G.edges graph.now) self.old self.new starts.now found) }
+        ensures count { self.new.count ≡ self.old.count }
+    {
+        for &start in starts {
+            let found = self.visit(graph, start)?;
+            if found.is_some() {
+                return Ok(found);
+            }
+        }
+        Ok(None)
+    }
+
+    /// The nodes that are done, in the order in which they were left.
+    pub fn order(&self) -> &[u32]
+        ensures { reverse result.now ≡ self.now.order }
+    {
+        self.frames.order()
+    }
+
+    /// The path on which an end was found, from the start on.
+    ///
+    /// # Errors
+    /// Only for want of memory.
+    pub fn path(&self, alloc: Global) -> Result<Vec<u32>, AllocError>
+        ensures { IfOk result (λ path. reverse path.items ≡ self.now.path) }
+    {
+        let mut path = Vec::new(alloc);
+        for frame in self.frames.stack() {
+            path.push(frame.node)?;
+        }
+        Ok(path)
+    }
+
+    /// Forgets which nodes are done, and the path. It takes time linear in their number.
+    pub fn clear(&mut self)
+        ensures { self.new ≡ record { count = self.old.count; order = []; path = [] } }
+    {
+        forget_order(&mut self.frames);
+        forget_path(&mut self.frames);
+    }
+}
