@@ -1,0 +1,13 @@
+-- A pack has one configuration under any values of its parameters, and what the loop over the bits keeps.
+use Rattle.std.proofs.Common.{Bool, List, map, refl, ap, ◌∙◌}
+use Rattle.aig_core.specs.Roots.{lits_of}
+use Rattle.aig_core.specs.Value.{value_of, HasOneFit}
+use Rattle.ppc_pack.specs.Pack.{PackValue, HasOneConf}
+
+-- there is one configuration where one list of values fits the graph
+pub has_one_conf : (pack : PackValue) (params : List Bool) → HasOneFit pack.graph params → HasOneConf pack params
+has_one_conf pack params one = record {
+  bits = map (value_of one.values) (lits_of pack.bits);
+  is = record { values = one.values; fits = one.fits; are = refl };
+  only = λ others conf. conf.are ∙ ap (λ values. map (value_of values) (lits_of pack.bits)) (one.only conf.values conf.fits);
+}

@@ -1,0 +1,2 @@
+pub mod ConfLemmas
+pub mod PackExample
