@@ -27,10 +27,10 @@ balanced-grows first (suc depth) pairs (a ∷ b ∷ rest) =
     (and_grows first back.pairs (min front.lit back.lit) (max front.lit back.lit)))
 
 -- both halves of a list of two or more are shorter
-front_half-shorter : (lits : List Lit) (depth : ℕ) → 2 ≤ length lits → length lits ≤ suc depth → length (front_half lits) ≤ depth
+pub front_half-shorter : (lits : List Lit) (depth : ℕ) → 2 ≤ length lits → length lits ≤ suc depth → length (front_half lits) ≤ depth
 front_half-shorter lits depth two few = omega (arith, length-take (div_ceil (length lits) 2) lits)
 
-back_half-shorter : (lits : List Lit) (depth : ℕ) → 2 ≤ length lits → length lits ≤ suc depth → length (back_half lits) ≤ depth
+pub back_half-shorter : (lits : List Lit) (depth : ℕ) → 2 ≤ length lits → length lits ≤ suc depth → length (back_half lits) ≤ depth
 back_half-shorter lits depth two few = omega (arith, length-drop (div_ceil (length lits) 2) lits)
 
 -- any number of halvings that suffices gives the same

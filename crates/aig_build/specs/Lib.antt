@@ -1,5 +1,10 @@
 -- What public clauses say.
 pub mod Balanced
 pub mod CoverGraph
+pub mod CoverNodes
+pub mod NetlistGraph
+pub mod NetlistCycle
+pub mod Refusals
 -- What only bodies are compared with.
 pub mod RowsOnto
+pub mod Walked

@@ -23,21 +23,26 @@ fn push_cell(lits: &mut Vec<Lit>, cell: Cell, input: Lit) -> Result<(), AllocErr
     Ok(())
 }
 
-// The literals of a row, left to right.
-fn row_literals(alloc: Global, row: &Row, inputs: &[Lit]) -> Result<Vec<Lit>, AllocError>
+// The literals of a row, left to right, in place of those that stood.
+fn row_literals(lits: &mut Vec<Lit>, row: &Row, inputs: &[Lit]) -> Result<(), AllocError>
     requires { length row.now.cells ≡ length inputs.now }
-    ensures { IfOk result (λ lits. lits.items ≡ row_literals row.now.cells inputs.now) }
+    ensures { OnOk result (lits.new.items ≡ row_literals row.now.cells inputs.now) }
 {
-    let mut lits = Vec::with_capacity(alloc, inputs.len())?;
+    lits.clear();
     let cells = &row.cells;
     for i in 0..cells.len() {
-        push_cell(&mut lits, cells[i], inputs[i])?;
+        push_cell(lits, cells[i], inputs[i])?;
     }
-    Ok(lits)
+    Ok(())
 }
 
 // The balanced AND of a row's literals.
-fn make_row(alloc: Global, graph: &mut Graph, row: &Row, inputs: &[Lit]) -> Result<Lit, AigErr>
+fn make_row(
+    graph: &mut Graph,
+    row: &Row,
+    inputs: &[Lit],
+    scratch: &mut Vec<Lit>,
+) -> Result<Lit, AigErr>
     requires cells { length row.now.cells ≡ length inputs.now }
     requires members { All (λ (input : Lit). IsLit graph.old input.0) inputs.now }
     ensures lit { IfOk result (λ lit. lit.0 ≡ (row_made (first_and graph.old) graph.old.pairs row.now.cells inputs.now).lit) }
@@ -45,31 +50,76 @@ fn make_row(alloc: Global, graph: &mut Graph, row: &Row, inputs: &[Lit]) -> Resu
     ensures is_lit { IfOk result (λ lit. IsLit graph.new lit.0) }
     ensures full { result ≡ Err AigErr.Full → graph.old.max < length (row_made (first_and graph.old) graph.old.pairs row.now.cells inputs.now).pairs }
 {
-    let lits = row_literals(alloc, row, inputs)?;
-    let lit = balanced_and(graph, &lits)?;
+    row_literals(scratch, row, inputs)?;
+    let lit = balanced_and(graph, scratch)?;
     Ok(lit)
 }
 
-// The complements of the rows, made in order.
+// The complements of the rows, made in order, in place of the literals that stood.
 fn make_rows(
-    alloc: Global,
     graph: &mut Graph,
     rows: &[Row],
     inputs: &[Lit],
-) -> Result<Vec<Lit>, AigErr>
+    lits: &mut Vec<Lit>,
+    scratch: &mut Vec<Lit>,
+) -> Result<(), AigErr>
     requires cells { All (λ (row : RowValue). length row.cells ≡ length inputs.now) rows.now }
     requires members { All (λ (input : Lit). IsLit graph.old input.0) inputs.now }
-    ensures lits { IfOk result (λ lits. lits.items ≡ (rows_made (first_and graph.old) graph.old.pairs rows.now inputs.now).lits) }
+    ensures lits { OnOk result (lits.new.items ≡ (rows_made (first_and graph.old) graph.old.pairs rows.now inputs.now).lits) }
     ensures pairs { OnOk result (graph.new ≡ with_pairs graph.old (rows_made (first_and graph.old) graph.old.pairs rows.now inputs.now).pairs) }
-    ensures are_lits { IfOk result (λ lits. All (λ (lit : Lit). IsLit graph.new lit.0) lits.items) }
+    ensures are_lits { OnOk result (All (λ (lit : Lit). IsLit graph.new lit.0) lits.new.items) }
     ensures full { result ≡ Err AigErr.Full → graph.old.max < length (rows_made (first_and graph.old) graph.old.pairs rows.now inputs.now).pairs }
 {
-    let mut lits = Vec::with_capacity(alloc, rows.len())?;
+    lits.clear();
     for row in rows {
-        let lit = make_row(alloc, graph, row, inputs)?;
+        let lit = make_row(graph, row, inputs, scratch)?;
         lits.push(lit.complement())?;
     }
-    Ok(lits)
+    Ok(())
+}
+
+/// Literals that are kept from cover to cover, so that no row and no cover takes memory of its own.
+#[derive(Drop)]
+pub(crate) struct Scratch {
+    row: Vec<Lit>,
+    rows: Vec<Lit>,
+}
+
+impl Scratch {
+    /// No literals.
+    pub(crate) fn new(alloc: Global) -> Scratch {
+        Scratch {
+            row: Vec::new(alloc),
+            rows: Vec::new(alloc),
+        }
+    }
+}
+
+/// Makes a cover over the literals of its inputs, as [`make_cover`] does.
+pub(crate) fn make_into(
+    graph: &mut Graph,
+    cover: &Cover,
+    inputs: &[Lit],
+    scratch: &mut Scratch,
+) -> Result<Lit, AigErr>
+    requires members { All (λ (input : Lit). IsLit graph.old input.0) inputs.now }
+    requires cells { All (λ (row : RowValue). length row.cells ≡ length inputs.now) cover.now.rows }
+    ensures lit { IfOk result (λ lit. lit.0 ≡ (cover_of graph.old cover.now inputs.now).lit) }
+    ensures pairs { OnOk result (graph.new ≡ with_pairs graph.old (cover_of graph.old cover.now inputs.now).pairs) }
+    ensures is_lit { IfOk result (λ lit. IsLit graph.new lit.0) }
+    ensures full { result ≡ Err AigErr.Full → graph.old.max < length (cover_of graph.old cover.now inputs.now).pairs }
+{
+    make_rows(
+        graph,
+        &cover.rows,
+        inputs,
+        &mut scratch.rows,
+        &mut scratch.row,
+    )?;
+    let none = balanced_and(graph, &scratch.rows)?;
+    let some = none.complement();
+    let lit = if cover.value { some } else { some.complement() };
+    Ok(lit)
 }
 
 /// Makes a cover over the literals of its inputs: each row as the balanced AND of its cells' literals, then the
@@ -97,9 +147,7 @@ pub fn make_cover(
     ensures value { IfOk result (λ made. HasCoverValue made.0 cover.now inputs.now made.1.0) }
     ensures kept { IfOk result (λ made. KeepsValues graph made.0) }
 {
-    let rows = make_rows(alloc, &mut graph, &cover.rows, inputs)?;
-    let none = balanced_and(&mut graph, &rows)?;
-    let some = none.complement();
-    let lit = if cover.value { some } else { some.complement() };
+    let mut scratch = Scratch::new(alloc);
+    let lit = make_into(&mut graph, cover, inputs, &mut scratch)?;
     Ok((graph, lit))
 }

@@ -1,0 +1,246 @@
+-- Whatever values fit the graph, the literal of each net has the value that evaluating the flat circuit in its order gives the net.
+use Rattle.std.proofs.Common.{◌≡◌, ℕ, zero, suc, ◌+◌, ◌*◌, ◌/◌, ◌%◌, ◌<◌, ◌≤◌, Bool, true, false, List, [], ◌∷◌, ◌++◌, length, map, replicate, get_or, Option, Some, None, refl, sym, ap, ap₂, ◌∙◌, subst, inl, inr, arith, slice_set}
+use Rattle.std.specs.Prelude.{slice_get, unwrap_or}
+use Rattle.std.specs.Option.{option_map, option_and_then}
+use Rattle.std.proofs.lemmas.List.{length-map, length-replicate, length-append, map-set}
+use Rattle.std.proofs.lemmas.List.Elements.{All-nil, All-cons, All-head, All-tail, All-get_or, All-set, All-replicate}
+use Rattle.std.proofs.lemmas.Option.{none-some, same_Some, slice_get_within, slice_get-map, get_or_from_slice_get}
+use Rattle.list_laws.specs.Members.{In}
+use Rattle.list_laws.proofs.Members.{In-get}
+use Rattle.list_laws.proofs.Places.{at_within, get_left}
+use Rattle.list_laws.proofs.TwoLists.{get_right}
+use Rattle.blif_read.specs.declared.command.Body.{Body}
+use Rattle.blif_read.specs.declared.command.Body.TheVariants.{Cover as CoverBody, Latch as LatchBody, Subckt as SubcktBody}
+use Rattle.blif_read.specs.declared.command.Command.{Command}
+use Rattle.blif_read.specs.CoverValue.{RowValue, CoverValue, cover_value}
+use Rattle.blif_read.specs.LibraryValue.{ModelValue, LibraryValue}
+use Rattle.blif_read.specs.WellFormed.{IsWellFormedBody, IsWellFormed}
+use Rattle.blif_flat.specs.declared.flat.Net.{Net}
+use Rattle.blif_flat.specs.declared.flat.Net.TheVariants.{Input, Latch, Cover}
+use Rattle.blif_flat.specs.FlatCoverValue.{FlatCoverValue}
+use Rattle.blif_flat.specs.FlatValue.{FlatValue}
+use Rattle.blif_flat.specs.FlatCycle.{input_values}
+use Rattle.blif_flat.proofs.LoopOrderLemmas.{all_members}
+use Rattle.blif_flat.specs.Models.{body_at}
+use Rattle.blif_flat.specs.Places.{cover_in}
+use Rattle.blif_flat.specs.Bounds.{IsThere, IsWithinBounds}
+use Rattle.blif_flat.specs.Evaluation.{cover_behind, net_value, gate_value, evaluated, flat_values}
+use Rattle.blif_flat.specs.Evaluation as evaluation
+use Rattle.run_text.specs.declared.params.Param.{Param}
+use Rattle.run_text.specs.Parameters.{param_names, regular_names}
+use Rattle.aig_core.specs.declared.lit.Kind.{Kind}
+use Rattle.aig_core.specs.declared.lit.Kind.TheVariants.{Regular, Parameter}
+use Rattle.aig_core.specs.declared.lit.Lit.{Lit}
+use Rattle.aig_core.specs.declared.lit.Pair.{Pair}
+use Rattle.aig_core.specs.Aig.{AreNormal}
+use Rattle.aig_core.specs.And.{Answer}
+use Rattle.aig_core.specs.Value.{xor, value_of}
+use Rattle.aig_core.proofs.GrowthLemmas.{Extends}
+use Rattle.aig_core.proofs.ProductLemmas.{AreBase, Makes, value_of-more}
+use Rattle.aig_core.proofs.ValueLemmas.{values_from, values_old}
+use Rattle.aig_build.specs.CoverGraph.{cover_made}
+use Rattle.aig_build.specs.NetlistGraph.{input_names, source_kinds, IsSourceLiteral, an_input, a_latch}
+use Rattle.aig_build.specs.NetlistCycle.{source_values}
+use Rattle.aig_build.specs.Walked.{NetLitsValue, no_lit, net_lit, net_lits, Built, gate_made, with_gate, walked}
+use Rattle.aig_build.proofs.BalancedLemmas.{IsBelow, AreBelow, AreBelow-more}
+use Rattle.aig_build.proofs.CoverLemmas.{values_at, HaveWidth, Makes-cover}
+use Rattle.aig_build.proofs.SignalLemmas.{AreSourced, IsBehind, behind_at, gate_is}
+
+-- the cover behind a flat one has rows of its width
+body_rows : (o : Option Body) (cover : CoverValue) → option_and_then cover_in o ≡ Some cover → ((b : Body) → o ≡ Some b → IsWellFormedBody b) → (row : RowValue) → In cover.rows row → length row.cells ≡ length cover.inputs
+body_rows None cover e formed = absurd (none-some cover e)
+body_rows (Some (CoverBody c)) cover e formed = let same : c ≡ cover = same_Some c cover e in subst (λ (y : CoverValue). (row : RowValue) → In y.rows row → length row.cells ≡ length y.inputs) same (formed (CoverBody c) refl)
+body_rows (Some (LatchBody l)) cover e formed = absurd (none-some cover e)
+body_rows (Some (SubcktBody s)) cover e formed = absurd (none-some cover e)
+
+command_formed : (o : Option Command) (b : Body) → option_map (λ (c : Command). c.body) o ≡ Some b → ((c : Command) → o ≡ Some c → IsWellFormedBody c.body) → IsWellFormedBody b
+command_formed None b e formed = absurd (none-some b e)
+command_formed (Some c) b e formed = subst IsWellFormedBody (same_Some c.body b e) (formed c refl)
+
+model_rows : (o : Option ModelValue) (i : ℕ) (cover : CoverValue) → option_and_then (λ (m : ModelValue). option_and_then cover_in (body_at m i)) o ≡ Some cover
+    → ((m : ModelValue) → o ≡ Some m → (c : Command) → In m.commands c → IsWellFormedBody c.body) → (row : RowValue) → In cover.rows row → length row.cells ≡ length cover.inputs
+model_rows None i cover e formed = absurd (none-some cover e)
+model_rows (Some m) i cover e formed = body_rows (body_at m i) cover e (λ b f. command_formed (slice_get m.commands i) b f (λ c g. formed m refl c (In-get m.commands i c g)))
+
+pub behind_rows : (library : LibraryValue) (c : FlatCoverValue) (cover : CoverValue) → IsWellFormed library → cover_behind library c ≡ Some cover → (row : RowValue) → In cover.rows row → length row.cells ≡ length cover.inputs
+behind_rows library c cover formed e = model_rows (slice_get library.models c.model) c.command cover e (λ m f k i. (formed.each m (In-get library.models c.model m f)).commands k i)
+
+-- and over the literals of its nets
+pub behind_width : (library : LibraryValue) (flat : FlatValue) → IsWellFormed library → IsWithinBounds library flat → (k : ℕ) (c : FlatCoverValue) (cover : CoverValue) (lits : List Lit) → slice_get flat.covers k ≡ Some c
+    → cover_behind library c ≡ Some cover → length lits ≡ length c.inputs → HaveWidth lits cover.rows
+behind_width library flat formed bounds k c cover lits at behind n =
+    all_members (λ (row : RowValue). length row.cells ≡ length lits) cover.rows (λ row i. behind_rows library c cover formed behind row i ∙ bounds.reads k c cover at behind ∙ sym n)
+
+xor-false : (b : Bool) → xor b false ≡ b
+xor-false true = refl
+xor-false false = refl
+
+-- the value of a positive literal
+even_value : (vs : List Bool) (lit n : ℕ) → lit ≡ 2 * n → value_of vs lit ≡ get_or vs n false
+even_value vs lit n e =
+    let h : lit / 2 ≡ n = omega arith in
+    let o : lit % 2 ≡ 0 = omega arith in
+    rw (h, o) (xor-false (get_or vs n false))
+
+zero_value : (first : ℕ) (vs : List Bool) (ps : List Pair) → 1 ≤ first → AreBase first vs → value_of (values_from vs ps) 0 ≡ false
+zero_value first vs ps some base = let n : length vs ≡ first = base.count in even_value (values_from vs ps) 0 0 refl ∙ values_old vs ps 0 (omega arith) ∙ base.constant
+
+map-replicate : {A B : Type 0} (f : A → B) (n : ℕ) (x : A) (y : B) → f x ≡ y → map f (replicate n x) ≡ replicate n y
+map-replicate f zero x y e = refl
+map-replicate f (suc n) x y e = ap₂ (λ z zs. z ∷ zs) e (map-replicate f n x y e)
+
+-- what is there of some literals, the constant 0 standing for the others
+at_or_zero : (f : Lit → Bool) (o : Option Lit) → f no_lit ≡ false → f (unwrap_or o no_lit) ≡ unwrap_or (option_map f o) false
+at_or_zero f None e = e
+at_or_zero f (Some lit) e = refl
+
+pub below_or_zero : (first : ℕ) (ps : List Pair) (lits : List Lit) (k : ℕ) (o : Option Lit) → 1 ≤ first → slice_get lits k ≡ o → AreBelow first ps lits → IsBelow first ps (unwrap_or o no_lit)
+below_or_zero first ps lits k None some e below = omega arith
+below_or_zero first ps lits k (Some lit) some e below = subst (IsBelow first ps) (get_or_from_slice_get lits k lit lit e) (All-get_or (IsBelow first ps) lits k lit (slice_get_within lits k lit e) below)
+
+module _ (library : LibraryValue) (flat : FlatValue) (params : List Param) (formed : IsWellFormed library) (bounds : IsWithinBounds library flat) where
+  abbrev pub first : ℕ
+  first = 1 + length (source_kinds flat params)
+
+  -- the sources: the inputs and the latches
+  pub source_count : length (source_kinds flat params) ≡ length (input_names flat params) + length flat.latches
+  source_count =
+      let r : List Kind = replicate (length (regular_names flat params)) Regular in
+      let p : List Kind = replicate (length params) Parameter in
+      let l : List Kind = replicate (length flat.latches) Regular in
+      let a : length (r ++ (p ++ l)) ≡ length r + length (p ++ l) = length-append r (p ++ l) in
+      let b : length (p ++ l) ≡ length p + length l = length-append p l in
+      let c : length r ≡ length (regular_names flat params) = length-replicate (length (regular_names flat params)) Regular in
+      let d : length p ≡ length params = length-replicate (length params) Parameter in
+      let e : length l ≡ length flat.latches = length-replicate (length flat.latches) Regular in
+      let f : length (input_names flat params) ≡ length (regular_names flat params) + length (param_names params) = length-append (regular_names flat params) (param_names params) in
+      let g : length (param_names params) ≡ length params = length-map params (λ (q : Param). q.name) in
+      omega arith
+
+  -- a source's literal is one of every graph over the sources
+  pub source_below : (net : Net) (lit : ℕ) (ps : List Pair) → IsThere flat net → IsSourceLiteral flat params net lit → lit < 2 * (first + length ps)
+  source_below net lit ps there (an_input i place name e g h l) =
+      let w : place < length (input_names flat params) = slice_get_within (input_names flat params) place name h in
+      let n : length (source_kinds flat params) ≡ length (input_names flat params) + length flat.latches = source_count in
+      omega arith
+  source_below net lit ps there (a_latch j e l) =
+      let w : j < length flat.latches = subst (IsThere flat) e there in
+      let n : length (source_kinds flat params) ≡ length (input_names flat params) + length flat.latches = source_count in
+      omega arith
+
+  -- what drives each net is below as well
+  pub net_below : (b : Built) → AreSourced flat params b.nets → AreBelow first b.pairs (b.nets).covers → (net : Net) → IsThere flat net → IsBelow first b.pairs (net_lit b.nets net)
+  net_below b sourced below (Input i) there = source_below (Input i) (net_lit b.nets (Input i)).0 b.pairs there (sourced.inputs i there)
+  net_below b sourced below (Latch j) there = source_below (Latch j) (net_lit b.nets (Latch j)).0 b.pairs there (sourced.latches j)
+  net_below b sourced below (Cover k) there = below_or_zero first b.pairs (b.nets).covers k (slice_get (b.nets).covers k) (omega arith) refl below
+
+  pub nets_below : (b : Built) → AreSourced flat params b.nets → AreBelow first b.pairs (b.nets).covers → (nets : List Net) → ((net : Net) → In nets net → IsThere flat net) → AreBelow first b.pairs (net_lits b.nets nets)
+  nets_below b sourced below [] there = All-nil (IsBelow first b.pairs)
+  nets_below b sourced below (net ∷ nets) there =
+      All-cons (IsBelow first b.pairs) (net_lit b.nets net) (net_lits b.nets nets) (net_below b sourced below net (there net (inl refl))) (nets_below b sourced below nets (λ n i. there n (inr i)))
+
+  module _ (x : List ℕ → Bool) (s : List Bool) (states : length s ≡ length flat.latches) where
+    abbrev pub xs : List Bool
+    xs = input_values flat x
+
+    abbrev pub given : List Bool
+    given = source_values flat params x s
+
+    abbrev pub base : List Bool
+    base = false ∷ given
+
+    are_base : AreBase first base
+    are_base =
+        let a : length given ≡ length (map x (input_names flat params)) + length s = length-append (map x (input_names flat params)) s in
+        let b : length (map x (input_names flat params)) ≡ length (input_names flat params) = length-map (input_names flat params) x in
+        let n : length (source_kinds flat params) ≡ length (input_names flat params) + length flat.latches = source_count in
+        record { count = omega arith; constant = refl }
+
+    -- the value of a source's literal
+    place_value : (ps : List Pair) (lit place : ℕ) (b : Bool) → lit ≡ 2 * (1 + place) → slice_get given place ≡ Some b → value_of (values_from base ps) lit ≡ b
+    place_value ps lit place b e at =
+        let w : place < length given = slice_get_within given place b at in
+        even_value (values_from base ps) lit (suc place) (omega arith) ∙ values_old base ps (suc place) (omega arith) ∙ get_or_from_slice_get given place b false at
+
+    source_value : (ps : List Pair) (values : List Bool) (net : Net) (lit : ℕ) → IsThere flat net → IsSourceLiteral flat params net lit → value_of (values_from base ps) lit ≡ net_value xs s values net
+    source_value ps values net lit there (an_input i place name e g h l) =
+        let at : slice_get given place ≡ Some (x name) = get_left (map x (input_names flat params)) s place (x name) (slice_get-map x (input_names flat params) place ∙ ap (option_map x) h) in
+        let value : net_value xs s values (Input i) ≡ x name = ap (λ o. unwrap_or o false) (slice_get-map x flat.inputs i ∙ ap (option_map x) g) in
+        place_value ps lit place (x name) l at ∙ sym value ∙ ap (net_value xs s values) (sym e)
+    source_value ps values net lit there (a_latch j e l) =
+        let w : j < length flat.latches = subst (IsThere flat) e there in
+        let b = at_within s j (omega arith) in
+        let n : length (map x (input_names flat params)) ≡ length (input_names flat params) = length-map (input_names flat params) x in
+        let at : slice_get given (length (input_names flat params) + j) ≡ Some b.0 = subst (λ m. slice_get given (m + j) ≡ Some b.0) n (get_right (map x (input_names flat params)) s j b.0 b.1) in
+        let value : net_value xs s values (Latch j) ≡ b.0 = ap (λ o. unwrap_or o false) b.1 in
+        place_value ps lit (length (input_names flat params) + j) b.0 l at ∙ sym value ∙ ap (net_value xs s values) (sym e)
+
+    -- the literals of the covers so far have the values of evaluating so far
+    abbrev pub lit_value : List Pair → Lit → Bool
+    lit_value ps lit = value_of (values_from base ps) lit.0
+
+    pub record IsRight (b : Built) (values : List Bool) : Type 0 where
+      pub normal : AreNormal first b.pairs
+      pub sourced : AreSourced flat params b.nets
+      pub below : AreBelow first b.pairs (b.nets).covers
+      pub agree : map (lit_value b.pairs) (b.nets).covers ≡ values
+
+    pub net_right : (b : Built) (values : List Bool) → IsRight b values → (net : Net) → IsThere flat net → lit_value b.pairs (net_lit b.nets net) ≡ net_value xs s values net
+    net_right b values right (Input i) there = source_value b.pairs values (Input i) (net_lit b.nets (Input i)).0 there ((right.sourced).inputs i there)
+    net_right b values right (Latch j) there = source_value b.pairs values (Latch j) (net_lit b.nets (Latch j)).0 there ((right.sourced).latches j)
+    net_right b values right (Cover k) there =
+        at_or_zero (lit_value b.pairs) (slice_get (b.nets).covers k) (zero_value first base b.pairs (omega arith) are_base)
+        ∙ ap (λ o. unwrap_or o false) (sym (slice_get-map (lit_value b.pairs) (b.nets).covers k)) ∙ ap (λ vs. unwrap_or (slice_get vs k) false) right.agree
+
+    nets_right : (b : Built) (values : List Bool) → IsRight b values → (nets : List Net) → ((net : Net) → In nets net → IsThere flat net) → values_at (net_lits b.nets nets) (values_from base b.pairs) ≡ map (net_value xs s values) nets
+    nets_right b values right [] there = refl
+    nets_right b values right (net ∷ nets) there = ap₂ (λ (v : Bool) (vs : List Bool). v ∷ vs) (net_right b values right net (there net (inl refl))) (nets_right b values right nets (λ n i. there n (inr i)))
+
+    -- more nodes change no value
+    kept : (ps qs : List Pair) (lits : List Lit) → Extends ps qs → AreBelow first ps lits → map (lit_value qs) lits ≡ map (lit_value ps) lits
+    kept ps qs [] e below = refl
+    kept ps qs (lit ∷ lits) e below =
+        let l : lit.0 < 2 * (first + length ps) = All-head (IsBelow first ps) lit lits below in
+        let n : length base ≡ first = are_base.count in
+        ap₂ (λ (v : Bool) (vs : List Bool). v ∷ vs) (value_of-more base ps qs lit.0 e (omega arith)) (kept ps qs lits e (All-tail (IsBelow first ps) lit lits below))
+
+    gate_right : (b : Built) (values : List Bool) (k : ℕ) → k < length flat.covers → IsRight b values
+        → IsRight (with_gate b k (gate_made library first b (slice_get flat.covers k))) (slice_set values k (gate_value library (slice_get flat.covers k) xs s values))
+    gate_right b values k l right =
+        let i : IsBehind library flat params bounds k = behind_at library flat params bounds k l in
+        let lits : List Lit = net_lits b.nets (i.c).inputs in
+        let there : (net : Net) → In (i.c).inputs net → IsThere flat net = λ net j. bounds.cover_nets k i.c net i.at j in
+        let below : AreBelow first b.pairs lits = nets_below b right.sourced right.below (i.c).inputs there in
+        let made : Answer = cover_made first b.pairs i.cover lits in
+        let m : Makes first b.pairs (λ vs. cover_value i.cover (values_at lits vs)) made =
+        Makes-cover first b.pairs i.cover lits right.normal (omega arith) below (behind_width library flat formed bounds k i.c i.cover lits i.at i.behind (length-map (i.c).inputs (net_lit b.nets))) in
+        let value : value_of (values_from base made.pairs) made.lit ≡ gate_value library (slice_get flat.covers k) xs s values =
+        m.value base are_base ∙ ap (cover_value i.cover) (nets_right b values right (i.c).inputs there)
+        ∙ sym (ap (λ o. gate_value library o xs s values) i.at ∙ ap (λ o. evaluation.value_of o (map (net_value xs s values) (i.c).inputs)) i.behind) in
+        subst (λ (a : Answer). IsRight (with_gate b k a) (slice_set values k (gate_value library (slice_get flat.covers k) xs s values))) (sym (gate_is library flat params bounds b k i)) (record {
+          normal = m.normal;
+          sourced = record { inputs = (right.sourced).inputs; latches = (right.sourced).latches };
+          below = All-set (IsBelow first made.pairs) (b.nets).covers k (record { 0 = made.lit }) m.below (AreBelow-more first b.pairs made.pairs (b.nets).covers m.grows right.below);
+          agree = map-set (lit_value made.pairs) (b.nets).covers k (record { 0 = made.lit })
+              ∙ ap₂ (λ (vs : List Bool) (v : Bool). slice_set vs k v) (kept b.pairs made.pairs (b.nets).covers m.grows right.below ∙ right.agree) value;
+        })
+
+    -- and so it is along an order
+    pub walked_right : (ks : List ℕ) (b : Built) (values : List Bool) → ((k : ℕ) → In ks k → k < length flat.covers) → IsRight b values → IsRight (walked library flat first b ks) (evaluated library flat xs s ks values)
+    walked_right [] b values there right = right
+    walked_right (k ∷ ks) b values there right =
+        walked_right ks (with_gate b k (gate_made library first b (slice_get flat.covers k))) (slice_set values k (gate_value library (slice_get flat.covers k) xs s values)) (λ j i. there j (inr i))
+        (gate_right b values k (there k (inl refl)) right)
+
+    -- from no node on
+    pub start_right : (nets : NetLitsValue) → AreSourced flat params nets → nets.covers ≡ replicate (length flat.covers) no_lit → IsRight (record { pairs = []; nets = nets }) (replicate (length flat.covers) false)
+    start_right nets sourced none = record {
+      normal = record { each = λ i p e. absurd (none-some p e); once = λ i j p e f. absurd (none-some p e) };
+      sourced = sourced;
+      below = subst (AreBelow first []) (sym none) (All-replicate (IsBelow first []) (length flat.covers) no_lit (omega arith));
+      agree = ap (map (lit_value [])) none ∙ map-replicate (lit_value []) (length flat.covers) no_lit false (zero_value first base [] (omega arith) are_base);
+    }
+
+    -- the literal of each net after the whole order
+    pub flat_right : (nets : NetLitsValue) → AreSourced flat params nets → nets.covers ≡ replicate (length flat.covers) no_lit → IsRight (walked library flat first (record { pairs = []; nets = nets }) flat.order) (flat_values library flat xs s)
+    flat_right nets sourced none = walked_right flat.order (record { pairs = []; nets = nets }) (replicate (length flat.covers) false) (λ k i. bounds.order_there k i) (start_right nets sourced none)

@@ -1,0 +1,92 @@
+-- A worked example: the multiplexer `.names p a b y` with the rows `11- 1` and `0-1 1`, over the inputs a, b and p, of which p is the parameter. Its nodes are 4 = a · p, 5 = b · not p and
+-- 6 = not 4 · not 5, and its root is the complement of node 6, the literal 13.
+use Rattle.std.proofs.Common.{◌≡◌, ℕ, true, false, List, [], ◌∷◌, codes, None, refl}
+use Rattle.blif_read.specs.declared.cell.Cell.TheVariants.{Zero, One, Any}
+use Rattle.blif_read.specs.declared.command.Body.TheVariants.{Cover as CoverBody}
+use Rattle.blif_read.specs.CoverValue.{CoverValue}
+use Rattle.blif_read.specs.LibraryValue.{LibraryValue}
+use Rattle.blif_flat.specs.declared.flat.Net.{Net}
+use Rattle.blif_flat.specs.declared.flat.Net.TheVariants.{Input, Cover}
+use Rattle.blif_flat.specs.FlatCoverValue.{FlatCoverValue}
+use Rattle.blif_flat.specs.FlatValue.{FlatValue}
+use Rattle.run_text.specs.declared.params.Param.{Param}
+use Rattle.aig_core.specs.declared.lit.Kind.TheVariants.{Regular, Parameter}
+use Rattle.aig_core.specs.declared.lit.Lit.{Lit}
+use Rattle.aig_core.specs.Aig.{Aig}
+use Rattle.aig_core.specs.Roots.{RootsValue}
+use Rattle.aig_core.proofs.ValueExample.{pair}
+use Rattle.aig_build.specs.CoverGraph.{Literals}
+use Rattle.aig_build.specs.NetlistGraph.{source_kinds, input_names, IsSourceLiteral, an_input, Makes, a_source, a_cover, MakesAll, none, more, AreRootsMade, IsGraphOf}
+use Rattle.aig_build.proofs.CoverNodeLemmas.{cover_is}
+
+abbrev choice : CoverValue
+choice = record {
+  inputs = codes "p" ∷ codes "a" ∷ codes "b" ∷ [];
+  output = codes "y";
+  value = true;
+  rows = record { cells = One ∷ One ∷ Any ∷ [] } ∷ record { cells = Zero ∷ Any ∷ One ∷ [] } ∷ [];
+}
+
+abbrev library : LibraryValue
+library = record {
+  models = record { name = codes "mux"; line = 1; inputs = codes "a" ∷ codes "b" ∷ codes "p" ∷ []; outputs = codes "y" ∷ []; clocks = []; commands = record { line = 4; body = CoverBody choice } ∷ [] } ∷ [];
+}
+
+abbrev flat_choice : FlatCoverValue
+flat_choice = record { model = 0; command = 0; inputs = Input 2 ∷ Input 0 ∷ Input 1 ∷ [] }
+
+abbrev circuit : FlatValue
+circuit = record {
+  model = codes "mux";
+  inputs = codes "a" ∷ codes "b" ∷ codes "p" ∷ [];
+  clocks = [];
+  control = None;
+  outputs = record { name = codes "y"; net = Cover 0 } ∷ [];
+  covers = flat_choice ∷ [];
+  latches = [];
+  order = 0 ∷ [];
+  under = 0;
+}
+
+abbrev params : List Param
+params = record { name = codes "p"; input = 2; init = false } ∷ []
+
+-- The sources are a and b, and then p.
+names : input_names circuit params ≡ codes "a" ∷ codes "b" ∷ codes "p" ∷ []
+names = refl
+
+kinds : source_kinds circuit params ≡ Regular ∷ Regular ∷ Parameter ∷ []
+kinds = refl
+
+-- Over no node, the inputs have their literals and add nothing.
+abbrev lit : ℕ → Lit
+lit n = record { 0 = n }
+
+source : (net : Net) (n : ℕ) → IsSourceLiteral circuit params net n → Makes library circuit params [] net (record { pairs = []; lit = n })
+source net n is = a_source n is refl
+
+inputs : MakesAll library circuit params [] flat_choice.inputs (record { pairs = []; lits = lit 6 ∷ lit 2 ∷ lit 4 ∷ [] })
+inputs =
+    more (Input 2) (Input 0 ∷ Input 1 ∷ []) (record { pairs = []; lit = 6 }) (record { pairs = []; lits = lit 2 ∷ lit 4 ∷ [] }) refl (source (Input 2) 6 (an_input 2 2 (codes "p") refl refl refl refl))
+    (more (Input 0) (Input 1 ∷ []) (record { pairs = []; lit = 2 }) (record { pairs = []; lits = lit 4 ∷ [] }) refl (source (Input 0) 2 (an_input 0 0 (codes "a") refl refl refl refl))
+    (more (Input 1) [] (record { pairs = []; lit = 4 }) (record { pairs = []; lits = [] }) refl (source (Input 1) 4 (an_input 1 1 (codes "b") refl refl refl refl)) (none refl refl) refl) refl) refl
+
+-- The cover over them has three nodes, and so has the root.
+abbrev made : Literals
+made = record { pairs = pair 2 6 ∷ pair 4 7 ∷ pair 9 11 ∷ []; lits = lit 13 ∷ [] }
+
+root : Makes library circuit params [] (Cover 0) (record { pairs = made.pairs; lit = 13 })
+root = a_cover 0 flat_choice choice (record { pairs = []; lits = lit 6 ∷ lit 2 ∷ lit 4 ∷ [] }) refl refl refl inputs (cover_is 4 [] choice (lit 6 ∷ lit 2 ∷ lit 4 ∷ []))
+
+roots : AreRootsMade library circuit params made
+roots = more (Cover 0) [] (record { pairs = made.pairs; lit = 13 }) (record { pairs = made.pairs; lits = [] }) refl root (none refl refl) refl
+
+-- So this is its graph.
+abbrev graph : Aig
+graph = record { kinds = Regular ∷ Regular ∷ Parameter ∷ []; pairs = made.pairs; max = 131072 }
+
+abbrev literals : RootsValue
+literals = record { outputs = lit 13 ∷ []; next = [] }
+
+is_graph : IsGraphOf library circuit params graph literals
+is_graph = record { made = made; are_made = roots; kinds = refl; pairs = refl; literals = refl; outputs = refl; max = refl }

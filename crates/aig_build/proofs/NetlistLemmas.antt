@@ -1,0 +1,176 @@
+-- The graph that the code makes of a flat circuit is its graph, and its roots have the outputs and the next states of a clock cycle.
+use Rattle.std.proofs.Common.{◌≡◌, ℕ, ◌+◌, ◌<◌, ◌≤◌, Bool, false, List, [], ◌∷◌, ◌++◌, length, map, reverse, replicate, refl, sym, ap, ap₂, ◌∙◌, subst, subst₂, inl, inr, arith}
+use Rattle.std.proofs.lemmas.Simd.{map-map}
+use Rattle.std.proofs.lemmas.List.{length-map, length-replicate, length-append, map-append}
+use Rattle.std.proofs.lemmas.List.Elements.{All-from_get_or, All-replicate}
+use Rattle.std.proofs.lemmas.Option.{unwrap_or-slice_get}
+use Rattle.list_laws.specs.Members.{In}
+use Rattle.list_laws.proofs.Members.{In-append, place_in}
+use Rattle.blif_read.specs.LibraryValue.{LibraryValue}
+use Rattle.blif_read.specs.WellFormed.{IsWellFormed}
+use Rattle.blif_flat.specs.declared.flat.Net.{Net}
+use Rattle.blif_flat.specs.declared.flat.Net.TheVariants.{Input, Latch, Cover}
+use Rattle.blif_flat.specs.declared.flat.OutPort.{OutPort}
+use Rattle.blif_flat.specs.declared.flat.FlatLatch.{FlatLatch}
+use Rattle.blif_flat.specs.FlatValue.{FlatValue}
+use Rattle.blif_flat.specs.Flat.{cover_numbers, reads_at}
+use Rattle.blif_flat.specs.Flattened.{HasValues}
+use Rattle.blif_flat.specs.DepthFirst.{PostsAll}
+use Rattle.blif_flat.specs.Bounds.{IsThere, IsWithinBounds}
+use Rattle.blif_flat.specs.Evaluation.{net_value, flat_values}
+use Rattle.blif_flat.specs.Runs.{IsCycle}
+use Rattle.blif_flat.specs.FlatCycle.{flat_outputs, flat_next, input_values, HasCycles}
+use Rattle.run_text.specs.declared.params.Param.{Param}
+use Rattle.run_text.specs.Parameters.{AreParameters}
+use Rattle.aig_core.specs.declared.lit.Lit.{Lit}
+use Rattle.aig_core.specs.Aig.{Aig, IsLit}
+use Rattle.aig_core.specs.And.{with_pairs}
+use Rattle.aig_core.specs.Roots.{RootsValue, lits_of, roots_of, AreRoots}
+use Rattle.aig_core.specs.Value.{value_of, FitsGraph}
+use Rattle.aig_core.proofs.FitLemmas.{is_values_of}
+use Rattle.aig_build.specs.declared.TheConstants.{MOST_NODES}
+use Rattle.aig_build.specs.CoverGraph.{Literals}
+use Rattle.aig_build.specs.NetlistGraph.{input_names, source_kinds, root_nets, MakesAll, IsGraphOf, HasTooManyNodes}
+use Rattle.aig_build.specs.NetlistCycle.{source_values, literal_values, HasSourceCycles}
+use Rattle.aig_build.specs.Walked.{NetLitsValue, no_lit, net_lit, net_lits, Built, marks_of, regular_lits, regular_next, start_nets, source_aig, order_of, root_lits, HoldsNets}
+use Rattle.aig_build.proofs.SignalLemmas.{AreKnown, order_made}
+use Rattle.aig_build.proofs.SourceLemmas.{mapped_in, length-marked, length-regular, length-param_lits, regular_next-le, start_latches, start_sourced}
+use Rattle.aig_build.proofs.NetValueLemmas.{source_count, source_below, IsRight, net_right, flat_right}
+use Rattle.aig_build.proofs.HoldLemmas.{held_lit}
+
+-- the covers among joined nets
+numbers-append : (xs ys : List Net) → cover_numbers (xs ++ ys) ≡ cover_numbers xs ++ cover_numbers ys
+numbers-append [] ys = refl
+numbers-append (Input i ∷ xs) ys = numbers-append xs ys
+numbers-append (Latch j ∷ xs) ys = numbers-append xs ys
+numbers-append (Cover k ∷ xs) ys = ap (λ l. k ∷ l) (numbers-append xs ys)
+
+-- what drives the roots is there
+module _ (library : LibraryValue) (flat : FlatValue) (bounds : IsWithinBounds library flat) where
+  pub output_there : (o : OutPort) → In flat.outputs o → IsThere flat o.net
+  output_there o i = let p = place_in flat.outputs o i in bounds.output_nets p.0 o p.1
+
+  pub latch_there : (l : FlatLatch) → In flat.latches l → IsThere flat l.input
+  latch_there l i = let p = place_in flat.latches l i in bounds.latch_nets p.0 l p.1
+
+  roots_there : (net : Net) → In (root_nets flat) net → IsThere flat net
+  roots_there net i = elim (In-append (map (λ (o : OutPort). o.net) flat.outputs) (map (λ (l : FlatLatch). l.input) flat.latches) net i) [
+    | inl j ↦ (let r = mapped_in (λ (o : OutPort). o.net) flat.outputs net j in subst (IsThere flat) (sym r.1.1) (output_there r.0 r.1.0))
+    | inr j ↦ (let r = mapped_in (λ (l : FlatLatch). l.input) flat.latches net j in subst (IsThere flat) (sym r.1.1) (latch_there r.0 r.1.0))
+  ]
+
+  -- the roots' literals are literals of the graph
+  pub are_roots : (g : Aig) (nets : NetLitsValue) → HoldsNets flat g nets → AreRoots g (roots_of (root_lits flat nets))
+  are_roots g nets holds l i = elim (In-append (lits_of (root_lits flat nets).outputs) (lits_of (root_lits flat nets).next) l i) [
+    | inl j ↦ (let r = mapped_in (λ (x : Lit). x.0) (root_lits flat nets).outputs l j in
+        let q = mapped_in (λ (o : OutPort). net_lit nets o.net) flat.outputs r.0 r.1.0 in
+        subst (IsLit g) (sym (r.1.1 ∙ ap (λ (x : Lit). x.0) q.1.1)) (held_lit flat g nets holds q.0.net (output_there q.0 q.1.0)))
+    | inr j ↦ (let r = mapped_in (λ (x : Lit). x.0) (root_lits flat nets).next l j in
+        let q = mapped_in (λ (o : FlatLatch). net_lit nets o.input) flat.latches r.0 r.1.0 in
+        subst (IsLit g) (sym (r.1.1 ∙ ap (λ (x : Lit). x.0) q.1.1)) (held_lit flat g nets holds q.0.input (latch_there q.0 q.1.0)))
+  ]
+
+-- a list of literals has the values of the nets that they are made for
+values_of_lits : {A : Type 0} (values : List Bool) (nets : NetLitsValue) (x s evaluated : List Bool) (net : A → Net) (items : List A)
+    → ((a : A) → In items a → value_of values (net_lit nets (net a)).0 ≡ net_value x s evaluated (net a)) → literal_values values (map (λ (a : A). net_lit nets (net a)) items) ≡ map (λ (a : A). net_value x s evaluated (net a)) items
+values_of_lits values nets x s evaluated net [] each = refl
+values_of_lits values nets x s evaluated net (a ∷ items) each = ap₂ (λ (v : Bool) (vs : List Bool). v ∷ vs) (each a (inl refl)) (values_of_lits values nets x s evaluated net items (λ b i. each b (inr i)))
+
+module _ (library : LibraryValue) (flat : FlatValue) (params : List Param) (formed : IsWellFormed library) (bounds : IsWithinBounds library flat) (are : AreParameters flat params) where
+  abbrev nets0 : NetLitsValue
+  nets0 = start_nets flat params
+
+  abbrev g0 : Aig
+  g0 = source_aig flat params
+
+  -- before a cover is made
+  pub start_holds : HoldsNets flat g0 nets0
+  start_holds =
+      let latches : nets0.latches ≡ 1 + length (input_names flat params) = start_latches flat params bounds.inputs_once are in
+      let n : length (source_kinds flat params) ≡ length (input_names flat params) + length flat.latches = source_count library flat params formed bounds in
+      let few : length params ≤ 65535 = are.named.few in
+      let inputs : length nets0.inputs ≡ length flat.inputs =
+      length-param_lits (regular_lits 1 (marks_of flat params)) (regular_next 1 (marks_of flat params)) params ∙ length-regular 1 (marks_of flat params)
+      ∙ length-marked (replicate (length flat.inputs) false) params ∙ length-replicate (length flat.inputs) false in
+      let names : regular_next 1 (marks_of flat params) ≤ 1 + length (marks_of flat params) = regular_next-le 1 (marks_of flat params) in
+      let marks : length (marks_of flat params) ≡ length flat.inputs = length-marked (replicate (length flat.inputs) false) params ∙ length-replicate (length flat.inputs) false in
+      let few_inputs : length flat.inputs ≤ 4194304 = bounds.few_inputs in
+      let few_latches : length flat.latches ≤ 4194304 = bounds.few_latches in
+      record {
+        inputs = inputs;
+        covers = length-replicate (length flat.covers) no_lit;
+        latches = omega arith;
+        small = omega arith;
+        input_lits = All-from_get_or (λ (lit : Lit). IsLit g0 lit.0) nets0.inputs no_lit (λ i l.
+            let there : i < length flat.inputs = omega arith in
+            subst (λ (lit : Lit). IsLit g0 lit.0) (unwrap_or-slice_get nets0.inputs i no_lit)
+            (source_below library flat params formed bounds (Input i) (net_lit nets0 (Input i)).0 [] there ((start_sourced flat params bounds.inputs_once are).inputs i there)));
+        cover_lits = All-replicate (λ (lit : Lit). IsLit g0 lit.0) (length flat.covers) no_lit (omega arith);
+      }
+
+  abbrev final : Built
+  final = order_of library flat g0 nets0 flat.order
+
+  known : AreKnown library flat params (record { pairs = []; nets = nets0 }) []
+  known = record { count = length-replicate (length flat.covers) no_lit; sourced = start_sourced flat params bounds.inputs_once are; each = λ k i. absurd i }
+
+  abbrev made : Literals
+  made = record { pairs = final.pairs; lits = net_lits final.nets (root_nets flat) }
+
+  module _ (values : HasValues library flat) where
+    pub roots_made : MakesAll library flat params [] (root_nets flat) made
+    roots_made =
+        order_made library flat params bounds flat.order (record { pairs = []; nets = nets0 }) known (λ k i. bounds.order_there k i) (root_nets flat) (roots_there library flat bounds)
+        (subst (λ ns. PostsAll (reads_at flat) [] ns (reverse flat.order)) (sym (numbers-append (map (λ (o : OutPort). o.net) flat.outputs) (map (λ (l : FlatLatch). l.input) flat.latches))) values.fields.order)
+
+    pub too_many : MOST_NODES < length final.pairs → HasTooManyNodes library flat params
+    too_many l = record { made = made; are_made = roots_made; many = l }
+
+    pub is_graph : (g : Aig) (roots : RootsValue) → g ≡ with_pairs g0 final.pairs → roots ≡ root_lits flat final.nets → IsGraphOf library flat params g roots
+    is_graph g roots same same_roots =
+        let os : List Net = map (λ (o : OutPort). o.net) flat.outputs in
+        let ls : List Net = map (λ (l : FlatLatch). l.input) flat.latches in
+        let a : (root_lits flat final.nets).outputs ≡ net_lits final.nets os = sym (map-map (net_lit final.nets) (λ (o : OutPort). o.net) flat.outputs) in
+        let b : (root_lits flat final.nets).next ≡ net_lits final.nets ls = sym (map-map (net_lit final.nets) (λ (l : FlatLatch). l.input) flat.latches) in
+        record {
+          made = made;
+          are_made = roots_made;
+          kinds = ap (λ (h : Aig). h.kinds) same;
+          pairs = ap (λ (h : Aig). h.pairs) same;
+          literals = ap (λ (r : RootsValue). r.outputs ++ r.next) same_roots ∙ ap₂ (λ (p q : List Lit). p ++ q) a b ∙ sym (map-append (net_lit final.nets) os ls);
+          outputs = ap (λ (r : RootsValue). length r.outputs) same_roots ∙ length-map flat.outputs (λ (o : OutPort). net_lit final.nets o.net);
+          max = ap (λ (h : Aig). h.max) same;
+        }
+
+  -- under the values of the sources
+  module _ (x : List ℕ → Bool) (s values : List Bool) (g : Aig) (same : g ≡ with_pairs g0 final.pairs) (fits : FitsGraph g (source_values flat params x s) values) where
+    states : length s ≡ length flat.latches
+    states =
+        let a : length (source_values flat params x s) ≡ length (map x (input_names flat params)) + length s = length-append (map x (input_names flat params)) s in
+        let b : length (map x (input_names flat params)) ≡ length (input_names flat params) = length-map (input_names flat params) x in
+        let n : length (source_kinds flat params) ≡ length (input_names flat params) + length flat.latches = source_count library flat params formed bounds in
+        let k : length g.kinds ≡ length (source_kinds flat params) = ap (λ (h : Aig). length h.kinds) same in
+        let e : length (source_values flat params x s) ≡ length g.kinds = fits.given in
+        omega arith
+
+    right : IsRight library flat params formed bounds x s states final (flat_values library flat (input_values flat x) s)
+    right = flat_right library flat params formed bounds x s states nets0 (start_sourced flat params bounds.inputs_once are) refl
+
+    net_values : (net : Net) → IsThere flat net → value_of values (net_lit final.nets net).0 ≡ net_value (input_values flat x) s (flat_values library flat (input_values flat x) s) net
+    net_values net there =
+        let fits' : FitsGraph (with_pairs g0 final.pairs) (source_values flat params x s) values = subst (λ (h : Aig). FitsGraph h (source_values flat params x s) values) same fits in
+        ap (λ vs. value_of vs (net_lit final.nets net).0) (is_values_of (with_pairs g0 final.pairs) (source_values flat params x s) values right.normal fits')
+        ∙ net_right library flat params formed bounds x s states final (flat_values library flat (input_values flat x) s) right net there
+
+    outputs_are : literal_values values (root_lits flat final.nets).outputs ≡ flat_outputs library flat (input_values flat x) s
+    outputs_are = values_of_lits values final.nets (input_values flat x) s (flat_values library flat (input_values flat x) s) (λ (o : OutPort). o.net) flat.outputs (λ o i. net_values o.net (output_there library flat bounds o i))
+
+    next_are : literal_values values (root_lits flat final.nets).next ≡ flat_next library flat (input_values flat x) s
+    next_are = values_of_lits values final.nets (input_values flat x) s (flat_values library flat (input_values flat x) s) (λ (l : FlatLatch). l.input) flat.latches (λ l i. net_values l.input (latch_there library flat bounds l i))
+
+  pub has_cycles : HasCycles library flat → (g : Aig) (roots : RootsValue) → g ≡ with_pairs g0 final.pairs → roots ≡ root_lits flat final.nets → HasSourceCycles library flat params g roots
+  has_cycles cycles g roots same same_roots = subst (λ (r : RootsValue). HasSourceCycles library flat params g r) (sym same_roots) (record {
+    is_cycle = λ x s values n fits. subst₂ (IsCycle library x s) (sym (outputs_are x s values g same fits)) (sym (next_are x s values g same fits)) (cycles.is_cycle x s n);
+    outputs = λ x s values outputs next c fits. cycles.outputs x s outputs next c ∙ sym (outputs_are x s values g same fits);
+    next = λ x s values outputs next c fits. cycles.states x s outputs next c ∙ sym (next_are x s values g same fits);
+  })

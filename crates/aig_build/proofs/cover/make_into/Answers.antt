@@ -1,0 +1,13 @@
+use Rattle.std.proofs.Common.{◌≤◌, length, refl, rules}
+use Rattle.aig_core.specs.Aig.{Aig, first_and}
+use Rattle.aig_build.specs.Balanced.{balanced_and}
+use Rattle.aig_build.specs.CoverGraph.{Literals, rows_made}
+use Rattle.aig_build.proofs.BalancedLemmas.{balanced-grows, full_weaker, length-Extends}
+use Rattle.aig_build.proofs.cover.make_into.Goals as goal
+
+pub returns-in_err-make_rows-clause-full : goal.returns-in_err-make_rows-clause-full
+returns-in_err-make_rows-clause-full c =
+    let g : Aig = c.args.graph.now in
+    let rows : Literals = rows_made (first_and g) g.pairs c.args.cover.now.rows c.args.inputs.now in
+    let l : length rows.pairs ≤ length (balanced_and (first_and g) rows.pairs rows.lits).pairs = length-Extends rows.pairs (balanced_and (first_and g) rows.pairs rows.lits).pairs (balanced-grows (first_and g) (length rows.lits) rows.pairs rows.lits) in
+    full_weaker g.max g.max _ _ refl l (search rules)

@@ -1,0 +1,10 @@
+use Rattle.std.proofs.Common.{◌<◌, length, arith}
+use Rattle.list_laws.proofs.Items.{member_at}
+use Rattle.run_text.specs.declared.params.Param.{Param}
+use Rattle.aig_build.proofs.net_lits.set_param_lits.Goals as goal
+
+pub bounds-lits-param : goal.bounds-lits-param
+bounds-lits-param c =
+    let p : Param = c.param-item.result in
+    let l : p.input < length c.args.lits.now = c.requires.places p (member_at c.args.params.now c.loop-param.param-index p c.loop-param-test.true c.param-item.is) in
+    omega (arith, c.loop-param.invariant.count)
