@@ -1,13 +1,10 @@
 -- A worked example: the multiplexer with the one table of its root, the literal 13, over the inputs a and b. With p = 0 the table has b's values, the configuration 0 0 1 1, and with p = 1 it has a's, 0 1 0 1.
-use Rattle.std.proofs.Common.{◌≡◌, ℕ, zero, suc, ◌+◌, ◌-◌, ◌^◌, ◌<◌, ◌≤◌, Bool, true, false, not, ◌&&◌, List, [], ◌∷◌, length, get_or, Some, refl, inl, inr, arith}
+use Rattle.std.proofs.Common.{◌≡◌, ℕ, zero, suc, ◌-◌, ◌<◌, Bool, true, false, not, ◌&&◌, [], ◌∷◌, get_or, refl, inl, inr, arith}
 use Rattle.list_laws.specs.Members.{In}
 use Rattle.list_laws.specs.Digits.{digit}
-use Rattle.aig_core.specs.Aig.{IsNode, IsSource}
 use Rattle.aig_core.specs.Value.{in_phase}
-use Rattle.aig_core.specs.declared.lit.Kind.TheVariants.{Parameter}
 use Rattle.aig_core.proofs.ValueExample.{multiplexer, pair}
 use Rattle.cover_pick.specs.declared.lut.Lut.{Lut}
-use Rattle.cover_pick.specs.Mapping.{bits_of}
 use Rattle.bit_fun.specs.Parameters.{IsParam}
 use Rattle.bit_fun.specs.BitFunction.{NodeBit, leaf, parameter, node, IsBit}
 use Rattle.bit_fun.specs.Configuration.{IsConfiguration}

@@ -1,18 +1,18 @@
 -- The bit of a node that the leaves block: there is one, no other, and the walk gives it; where each leaf's digit is its value, it is the node's value in the graph.
-use Rattle.std.proofs.Common.{◌≡◌, ℕ, zero, suc, ◌+◌, ◌-◌, ◌/◌, ◌<◌, ◌≤◌, Bool, true, false, ◌&&◌, eqb, List, [], ◌∷◌, length, take, get_or, Option, Some, None, refl, sym, ap, ◌∙◌, subst, inl, inr, ◌⊎◌, arith}
+use Rattle.std.proofs.Common.{◌≡◌, ℕ, zero, suc, ◌-◌, ◌/◌, ◌<◌, ◌≤◌, Bool, true, false, ◌&&◌, eqb, List, [], ◌∷◌, length, take, get_or, Some, None, refl, sym, ap, ◌∙◌, inl, inr, ◌⊎◌, arith}
 use Rattle.std.specs.List.{slice_get, position, list_any}
-use Rattle.std.proofs.lemmas.Option.{slice_get_within, slice_get-get_or, get_or_from_slice_get, none-some, same_Some}
+use Rattle.std.proofs.lemmas.Option.{slice_get_within, slice_get-get_or, get_or_from_slice_get}
 use Rattle.std.proofs.lemmas.Bool.{eqb-true, eq-eqb, cases_Bool, both_ways, ne_eqb}
 use Rattle.list_laws.specs.Members.{In}
 use Rattle.list_laws.specs.Digits.{digit}
 use Rattle.list_laws.specs.Order.{IsAscending}
 use Rattle.list_laws.proofs.FirstPlace.{position_is, position_none}
-use Rattle.list_laws.proofs.Members.{In-get, In-get_or, place_in}
-use Rattle.aig_core.specs.declared.lit.Pair.{Pair}
-use Rattle.aig_core.specs.declared.lit.Kind.TheVariants.{Regular, Parameter}
-use Rattle.aig_core.specs.Aig.{Aig, first_and, node_count, IsAnd, IsSource, IsNode, IsNormal, AreNormal}
+use Rattle.list_laws.proofs.Members.{In-get_or, place_in}
+use Rattle.aig_core.specs.declared.lit.Kind.TheVariants.{Parameter}
+use Rattle.aig_core.specs.Aig.{Aig, first_and, IsSource, IsNormal, AreNormal}
 use Rattle.aig_core.specs.Value.{in_phase, node_value, FitsGraph}
-use Rattle.aig_core.proofs.FitLemmas.{behind_constant, node_normal}
+use Rattle.aig_core.proofs.FitLemmas.{behind_constant}
+use Rattle.aig_core.proofs.NodeLemmas.{node_normal}
 use Rattle.cut_enum.specs.Cuts.{Blocks, member, constant as blocks_constant, parameter as blocks_parameter, fan_ins, CanBeLeaf}
 use Rattle.bit_fun.specs.Parameters.{param_count, IsParam}
 use Rattle.bit_fun.specs.BitFunction.{NodeBit, leaf, constant, parameter, node}
@@ -81,7 +81,7 @@ walk_is g params leaves v sources n bit normal are have (node p x y out is bx by
     (λ f l. walk_is g params leaves v sources (p.x.0 / 2) x normal are have bx f l) (λ f l. walk_is g params leaves v sources (p.y.0 / 2) y normal are have by f l) h
 
 -- is a number in a list
-in_or : (leaves : List ℕ) (n : ℕ) → In leaves n ⊎ (In leaves n → ⊥)
+pub in_or : (leaves : List ℕ) (n : ℕ) → In leaves n ⊎ (In leaves n → ⊥)
 in_or [] n = inr (λ i. i)
 in_or (l ∷ ls) n = elim (cases_Bool (eqb l n)) [
   | inl t ↦ inl (inl (sym (eqb-true l n t)))

@@ -1,5 +1,5 @@
 -- Where tables map a graph, each address has one bit, and there is one configuration: the bits that the walks give.
-use Rattle.std.proofs.Common.{◌≡◌, ℕ, ◌+◌, ◌-◌, ◌/◌, ◌^◌, ◌<◌, ◌≤◌, Bool, false, List, [], ◌∷◌, length, get_or, refl, sym, ap, ◌∙◌, subst, inl, inr, arith}
+use Rattle.std.proofs.Common.{◌≡◌, ℕ, ◌+◌, ◌-◌, ◌/◌, ◌^◌, ◌<◌, ◌≤◌, Bool, false, List, [], length, get_or, refl, sym, ap, ◌∙◌, subst, inl, inr, arith}
 use Rattle.std.proofs.lemmas.List.{ext_get_or}
 use Rattle.list_laws.specs.Members.{In}
 use Rattle.aig_core.specs.declared.lit.Kind.TheVariants.{Regular}
@@ -14,7 +14,7 @@ use Rattle.bit_fun.specs.Configuration.{IsMapped, IsConfiguration, HasOneConfigu
 use Rattle.bit_fun.specs.Walk.{source_values, cone_value, table_bit, all_bits}
 use Rattle.bit_fun.proofs.AddressLemmas.{bit_at, length-all_bits, HasAddress, table_at, one_table}
 use Rattle.bit_fun.proofs.BitLemmas.{AreLeaves, HasBit, has_bit, walk_is}
-use Rattle.bit_fun.proofs.ParamLemmas.{HaveParams, HaveParams-source_values}
+use Rattle.bit_fun.proofs.ParamLemmas.{HaveParams-source_values}
 
 -- the leaves of a table block its node
 pub table_blocks : (g : Aig) (k : ℕ) (t : Lut) → IsTableOf g k t → Blocks g t.leaves (t.lit.0 / 2)

@@ -1,26 +1,26 @@
 -- The place of each parameter: among values for all sources, and in a shape.
-use Rattle.std.proofs.Common.{◌≡◌, ℕ, zero, suc, ◌+◌, ◌-◌, ◌<◌, ◌≤◌, Bool, true, false, ◌&&◌, leb, ltb, List, [], ◌∷◌, ◌++◌, length, take, drop, append_assoc, get_or, Option, Some, None, refl, sym, ap, ◌∙◌, subst, inl, inr, arith}
+use Rattle.std.proofs.Common.{◌≡◌, ℕ, zero, suc, ◌+◌, ◌-◌, ◌<◌, ◌≤◌, Bool, true, false, ◌&&◌, leb, ltb, List, [], ◌∷◌, ◌++◌, length, take, get_or, Some, refl, sym, ap, ◌∙◌, subst, inl, inr, arith}
 use Rattle.std.specs.List.{slice_get}
-use Rattle.std.proofs.lemmas.Bool.{cases_lt, both_ways, le-leb, lt-ltb, and_from, or_right, or_left}
+use Rattle.std.proofs.lemmas.Bool.{cases_lt, le-leb, lt-ltb, and_from, or_right, or_left}
 use Rattle.std.proofs.lemmas.List.{get_or-append-add}
-use Rattle.std.proofs.lemmas.Option.{none-some, same_Some, slice_get_within, get_or_from_slice_get}
+use Rattle.std.proofs.lemmas.Option.{none-some, same_Some, slice_get_within}
 use Rattle.std.proofs.Math.ListN.{get_or-append}
 use Rattle.aig_core.specs.declared.lit.Kind.{Kind}
 use Rattle.aig_core.specs.declared.lit.Kind.TheVariants.{Regular, Parameter}
 use Rattle.aig_core.specs.Aig.{Aig, IsSource}
-use Rattle.list_laws.proofs.Places.{at_within, drop_get}
+use Rattle.list_laws.proofs.Places.{at_within}
 use Rattle.lut_sim.specs.declared.shape.Shape.{Shape}
 use Rattle.lut_sim.specs.Sources.{is_regular, last_source}
 use Rattle.lut_sim.proofs.SourceLemmas.{IsInputOrLatch, input, latch, either_side}
 use Rattle.bit_fun.specs.Parameters.{param_count, IsParam}
-use Rattle.bit_fun.specs.Shape.{HasShape, AreSourceValues}
+use Rattle.lut_sim.specs.GraphShape.{HasShape, AreSourceValues}
 use Rattle.bit_fun.specs.Walk.{source_values}
 
 -- each parameter has its value among those of all sources
 pub record HaveParams (g : Aig) (params sources : List Bool) : Type 0 where
   pub each : (j n : ℕ) → IsParam g j n → get_or sources (n - 1) false ≡ get_or params j false
 
-regular_no_parameter : {P : Type 0} → Some Regular ≡ Some Parameter → P
+pub regular_no_parameter : {P : Type 0} → Some Regular ≡ Some Parameter → P
 regular_no_parameter e = absurd (differ (same_Some Regular Parameter e))
   where
     differ : Regular ≡ Parameter → ⊥
@@ -50,7 +50,7 @@ pub HaveParams-source_values : (g : Aig) (params : List Bool) → HaveParams g p
 HaveParams-source_values g params = record { each = λ j n is. source_value_at g.kinds params (n - 1) (is.source).is ∙ ap (λ k. get_or params k false) is.place }
 
 -- a parameter's place is below their number
-place_below : (kinds : List Kind) (i : ℕ) → slice_get kinds i ≡ Some Parameter → param_count (take i kinds) < param_count kinds
+pub place_below : (kinds : List Kind) (i : ℕ) → slice_get kinds i ≡ Some Parameter → param_count (take i kinds) < param_count kinds
 place_below [] i at = absurd (none-some Parameter at)
 place_below (Regular ∷ kinds) zero at = regular_no_parameter at
 place_below (Regular ∷ kinds) (suc i) at = place_below kinds i at
@@ -139,15 +139,3 @@ HaveParams-shape g shape inputs params states sources has values = record {
       ∙ get_or-append-add inputs (params ++ states) j false
       ∙ get_or-append params states false j (omega arith);
 }
-
--- the values so far and one more, with those still to come
-pub source_values-pushed : (kinds : List Kind) (i : ℕ) (kind : Kind) (rest others sources more whole : List Bool) (value : Bool) → slice_get kinds (i + 1 - 1) ≡ Some kind
-    → ((ks : List Kind) → source_values (kind ∷ ks) rest ≡ value ∷ source_values ks others) → more ≡ sources ++ value ∷ [] → sources ++ source_values (drop i kinds) rest ≡ whole
-    → more ++ source_values (drop (i + 1) kinds) others ≡ whole
-source_values-pushed kinds i kind rest others sources more whole value at step e so_far =
-    let place : i + 1 - 1 ≡ i = omega arith in
-    ap (λ xs. xs ++ source_values (drop (i + 1) kinds) others) e
-    ∙ append_assoc sources (value ∷ []) (source_values (drop (i + 1) kinds) others)
-    ∙ ap (λ ys. sources ++ ys) (sym (step (drop (i + 1) kinds)))
-    ∙ ap (λ ks. sources ++ source_values ks rest) (sym (drop_get kinds i kind (subst (λ m. slice_get kinds m ≡ Some kind) place at)))
-    ∙ so_far

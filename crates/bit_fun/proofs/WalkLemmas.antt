@@ -1,13 +1,12 @@
 -- The walk from a node as the code makes it: what each of its ends gives, whatever the fuel.
-use Rattle.std.proofs.Common.{◌≡◌, ℕ, zero, suc, ◌+◌, ◌-◌, ◌/◌, ◌<◌, ◌≤◌, Bool, false, ◌&&◌, eqb, ltb, List, [], ◌∷◌, ◌++◌, get_or, Some, None, sym, ap, ◌∙◌, arith, append_assoc, append-nil}
+use Rattle.std.proofs.Common.{◌≡◌, ℕ, zero, suc, ◌/◌, ◌<◌, ◌≤◌, Bool, false, ◌&&◌, eqb, ltb, List, ◌∷◌, get_or, Some, None, sym, ap, ◌∙◌, arith}
 use Rattle.std.specs.List.{position}
 use Rattle.std.proofs.lemmas.Bool.{lt-ltb, le-ltb}
 use Rattle.list_laws.specs.Digits.{digit}
 use Rattle.aig_core.specs.declared.lit.Pair.{Pair}
 use Rattle.aig_core.specs.Aig.{Aig, first_and, pair_of}
 use Rattle.aig_core.specs.Value.{in_phase}
-use Rattle.cover_pick.specs.declared.lut.Lut.{Lut}
-use Rattle.bit_fun.specs.Walk.{end_or_product, cone_value, bits_from, table_bits, all_bits, bits_onto}
+use Rattle.bit_fun.specs.Walk.{end_or_product, cone_value}
 
 -- at a leaf the walk gives the leaf's digit
 pub cone_leaf : (g : Aig) (leaves : List ℕ) (v : ℕ) (s : List Bool) (n j fuel : ℕ) → position (λ m. eqb m n) leaves ≡ Some j → n < fuel → digit v j ≡ cone_value g leaves v s fuel n
@@ -33,19 +32,3 @@ cone_product g leaves v s n p bx by (suc fuel) e l at lx ly hx hy h =
     ap (λ o. end_or_product (cone_value g leaves v s fuel) v o (ltb n (first_and g)) (get_or (false ∷ s) n false) (pair_of g n)) e
     ∙ ap (λ t. end_or_product (cone_value g leaves v s fuel) v None t (get_or (false ∷ s) n false) (pair_of g n)) (le-ltb n (first_and g) l)
     ∙ ap (λ q. end_or_product (cone_value g leaves v s fuel) v None false (get_or (false ∷ s) n false) q) at)
-
--- the bits behind a list are the list and the bits
-pub bits_onto-is : (g : Aig) (s bits : List Bool) (ts : List Lut) → bits_onto g s bits ts ≡ bits ++ all_bits g s ts
-bits_onto-is g s bits [] = sym (append-nil bits)
-bits_onto-is g s bits (t ∷ ts) = bits_onto-is g s (bits ++ table_bits g s t) ts ∙ append_assoc bits (table_bits g s t) (all_bits g s ts)
-
--- the values from v up to a bound, one at a time
-pub bits_from-step : (f : ℕ → Bool) (v k : ℕ) → v < k → bits_from f v (k - v) ≡ f v ∷ bits_from f (v + 1) (k - (v + 1))
-bits_from-step f v k h = ap (bits_from f v) (let e : k - v ≡ suc (k - (v + 1)) = omega arith in e)
-
--- a list of bits and the values still to come, when one more has been put behind the bits
-pub bits_from-pushed : (f : ℕ → Bool) (bits more whole : List Bool) (b : Bool) (v k : ℕ) → v < k → more ≡ bits ++ b ∷ [] → b ≡ f v → bits ++ bits_from f v (k - v) ≡ whole
-    → more ++ bits_from f (v + 1) (k - (v + 1)) ≡ whole
-bits_from-pushed f bits more whole b v k h e eb w =
-    ap (λ xs. xs ++ bits_from f (v + 1) (k - (v + 1))) e ∙ append_assoc bits (b ∷ []) (bits_from f (v + 1) (k - (v + 1)))
-    ∙ ap (λ c. bits ++ (c ∷ bits_from f (v + 1) (k - (v + 1)))) eb ∙ ap (λ ys. bits ++ ys) (sym (bits_from-step f v k h)) ∙ w

@@ -5,7 +5,7 @@ use Rattle.aig_core.specs.Value.{value_of, FitsGraph}
 use Rattle.cover_pick.specs.declared.lut.Lut.{Lut}
 use Rattle.lut_sim.specs.declared.shape.Shape.{Shape}
 use Rattle.lut_sim.specs.Cycle.{FitsTables}
-use Rattle.bit_fun.specs.Shape.{HasShape, AreSourceValues}
+use Rattle.lut_sim.specs.GraphShape.{HasShape, AreSourceValues}
 
 -- `params` has the parameters' values that the configuration was made for
 abbrev pub IsLawful : Aig → List Lut → List Bool → List Bool → Type 0

@@ -2,7 +2,9 @@
 pub mod Parameters
 pub mod BitFunction
 pub mod Configuration
-pub mod Shape
 pub mod Lawful
+pub mod PackOf
+pub mod PackLaw
 -- What only bodies are compared with.
 pub mod Walk
+pub mod Pass

@@ -45,8 +45,3 @@ table_bits g sources t = bits_from (table_bit g sources t) 0 (2 ^ length t.leave
 abbrev pub all_bits : Aig → List Bool → List Lut → List Bool
 all_bits g sources [] = []
 all_bits g sources (t ∷ ts) = table_bits g sources t ++ all_bits g sources ts
-
--- the same behind a list of bits
-abbrev pub bits_onto : Aig → List Bool → List Bool → List Lut → List Bool
-bits_onto g sources bits [] = bits
-bits_onto g sources bits (t ∷ ts) = bits_onto g sources (bits ++ table_bits g sources t) ts

@@ -1,10 +1,10 @@
-//! The bits of tunable tables as functions of the parameters, and a configuration from scratch.
+//! The bits of tunable tables as functions of the parameters.
 //!
 //! # The idea
 //!
 //! A circuit is mapped to tables with some inputs, the parameters, left open: they are no leaves, so that the bits of a
-//! table are functions of them (Bruneel, Heirman, Stroobandt, 2011). Once the parameters have values, each bit is found by
-//! the graph's own recursion from the table's node down to its leaves.
+//! table are functions of them (Bruneel, Heirman, Stroobandt, 2011). All these functions stand over one graph of ANDs whose
+//! sources are the parameters, a pack, so that what several bits share stands once.
 //!
 //! # The words
 //!
@@ -21,20 +21,27 @@
 //!
 //! Where the tables map the graph, the leaves of each block its node: each way down ends at a leaf, a parameter or the
 //! constant. So at each address there is one bit, and under each list of parameters' values there is one configuration
-//! (`bit`, `one`): both are functions of the parameters' values alone, and [`configuration`] gives the one (`bits`). The law
-//! of the configuration follows (`law`, `specs/Lawful.antt`): whatever values the regular sources have, the values of the
-//! graph's literals fit the tables under it, so a cycle of the tables is the graph's.
+//! (`bit`, `configuration`): both are functions of the parameters' values alone. The law of the configuration follows
+//! (`specs/Lawful.antt`): whatever values the regular sources have, the values of the graph's literals fit the tables under
+//! it, so a cycle of the tables is the graph's.
 //!
-//! `proofs/BitExample.antt` works out the table of a multiplexer.
+//! [`functions`] makes these functions: all bits as literals of one graph over the parameters, a pack. The function of a
+//! node for the digits of v is made by the recursion from it (`specs/PackOf.antt`): a leaf is a constant, a parameter its source,
+//! and an AND node the product of its fan-ins, the lower one made first. Making it again adds nothing, so one pass over the
+//! postorder of a table's cone makes the same, with one look-up a node and address (`proofs/ConeMakesLemmas.antt`). There is one
+//! such pack (`one`), and its configurations are those of the template, lawful for all values of the parameters (`conf`).
+//!
+//! `proofs/BitExample.antt` works out the table of a multiplexer, and `proofs/PackExample.antt` its pack.
 //!
 //! # The files
 //!
-//! `cone` has a bit, `bits` the list of all.
+//! `cone_graph` has a table's cone as a graph to walk, `pass` the pass over its order, and `pack_of` the pack.
 #![tactic(auto)]
 
-mod bits;
-mod cone;
+mod cone_graph;
+mod pack_of;
 #[cfg(test)]
-mod tests;
+mod pack_tests;
+mod pass;
 
-pub use bits::configuration;
+pub use pack_of::functions;

@@ -1,11 +1,10 @@
 -- The circuit of one table with the latch as its leaf can be played.
-use Rattle.std.proofs.Common.{◌≡◌, ℕ, ◌*◌, ◌/◌, ◌<◌, List, [], ◌∷◌, IsTrue, refl, sym, subst, inl, inr, ◌⊎◌, arith}
+use Rattle.std.proofs.Common.{◌≡◌, ℕ, ◌<◌, [], ◌∷◌, IsTrue, refl, sym, subst, inl, inr, arith}
 use Rattle.list_laws.specs.Members.{In}
-use Rattle.aig_core.specs.declared.lit.Lit.{Lit}
 use Rattle.cover_pick.specs.declared.lut.Lut.{Lut}
 use Rattle.cover_pick.specs.Template.{TemplateValue}
 use Rattle.lut_sim.specs.declared.shape.Shape.{Shape}
-use Rattle.lut_sim.specs.Sources.{is_plain, is_regular, last_source}
+use Rattle.lut_sim.specs.Sources.{is_plain, is_regular}
 use Rattle.lut_sim.specs.Playable.{IsPlayable}
 
 -- its table

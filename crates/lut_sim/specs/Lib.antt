@@ -1,5 +1,6 @@
 -- What public clauses say.
 pub mod Sources
+pub mod GraphShape
 pub mod Playable
 pub mod Cycle
 pub mod Sim

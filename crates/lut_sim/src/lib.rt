@@ -26,7 +26,8 @@
 //! A [`Sim`] keeps a circuit that is *playable* (`specs/Playable.antt`): the tables ascend by their literals, their bases are
 //! the sums of the bits before, and a leaf that is no regular source stands above all sources and below its table's node, and
 //! has a table itself. So there is one value for each literal that fits: a cycle is the relation's (`IsTableCycle`), and whatever
-//! values fit, the roots have the same under them (`IsOnlyTableCycle`).
+//! values fit, the roots have the same under them (`IsOnlyTableCycle`). A template whose tables map a graph can be played in the
+//! shape of the graph's sources (`specs/GraphShape.antt`; the clause `playable` of `Shape::new`).
 //!
 //! # The files
 //!

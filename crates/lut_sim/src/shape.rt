@@ -1,5 +1,12 @@
 //! The shape of a circuit's sources.
-ghost use Rattle.std.specs.Prelude.{◌≡◌};
+ghost use Rattle.std.specs.Prelude.{◌≡◌, ℕ, List, length};
+ghost use Rattle.list_laws.specs.Members.{In};
+ghost use Rattle.aig_core.specs.Aig.{Aig};
+ghost use Rattle.aig_core.specs.Roots.{lits_of};
+ghost use Rattle.cover_pick.specs.Mapping.{IsMapping};
+ghost use Rattle.cover_pick.specs.Template.{TemplateValue};
+ghost use Rattle.lut_sim.specs.GraphShape.{HasShape};
+ghost use Rattle.lut_sim.specs.Playable.{IsPlayable};
 ghost use Rattle.lut_sim.specs.Sources.{is_regular as regular_of, is_plain as plain_of};
 
 use aig_core::Lit;
@@ -16,6 +23,23 @@ pub struct Shape {
     pub params: u32,
     /// The latches.
     pub latches: u32,
+}
+
+impl Shape {
+    /// The shape of so many regular inputs, parameters and latches.
+    ///
+    /// It also tells that each template whose tables map a graph of this shape, for roots among which its outputs and
+    /// next states are, can be played, given one next state for each latch.
+    pub fn new(regular: u32, params: u32, latches: u32) -> Shape
+        ensures value { result ≡ record { regular = regular; params = params; latches = latches } }
+        ensures playable { (g : Aig) (k : ℕ) (roots : List ℕ) (t : TemplateValue) → HasShape g result → IsMapping g k roots t.luts t.bits → ((l : ℕ) → In (lits_of t.outputs) l → In roots l) → ((l : ℕ) → In (lits_of t.next) l → In roots l) → length t.next ≡ result.latches → IsPlayable t result }
+    {
+        Shape {
+            regular,
+            params,
+            latches,
+        }
+    }
 }
 
 // Is this a regular input or a latch?

@@ -33,11 +33,7 @@ fn start(alloc: Global, init: bool) -> Result<Sim, AllocError>
     ensures regular { IfOk result (λ sim. sim.shape.regular ≡ 0) }
 {
     let template = toggle(alloc)?;
-    let shape = Shape {
-        regular: 0,
-        params: 0,
-        latches: 1,
-    };
+    let shape = Shape::new(0, 0, 1);
     let sim = Sim::make(alloc, template, shape, &[init])?;
     Ok(sim)
 }

@@ -1,0 +1,95 @@
+//! The cone of a table as a graph to walk, and its order.
+ghost use Rattle.std.specs.Prelude.{◌≡◌, ◌<◌, Some, OnOk};
+ghost use Rattle.aig_core.specs.Aig.{first_and, node_count, pair_of, IsAnd, IsNormal, AreNormal};
+ghost use Rattle.cover_pick.specs.Cone.{is_stop as ends_way};
+ghost use Rattle.bit_fun.specs.Pass.{cone_edge, IsConeOrder};
+
+use aig_core::{Graph, Pair, Steps};
+use depth_first::{Edge, Successors, Walk};
+use std::alloc::AllocError;
+use std::marker::Brand;
+use std::sync::ledger::{Blank, Ledger};
+
+// The pair of an AND node, read with a counter of its own.
+fn pair_with<L: Ledger>(graph: &Graph, n: u32, blank: Blank) -> Pair
+    requires node { IsAnd graph.now n }
+    requires name { blank.name ≡ L.name }
+    requires parts { blank.parts ≡ L.parts }
+    requires some { 0 < L.parts }
+    ensures pair { pair_of graph.now n ≡ Some result }
+    ensures normal { IsNormal n result }
+{
+    let mut steps = Steps::<L>::start(blank);
+    graph.node(n, &mut steps)
+}
+
+// The pair of an AND node.
+pub fn pair_at(graph: &Graph, n: u32) -> Pair
+    requires { IsAnd graph.now n }
+    ensures pair { pair_of graph.now n ≡ Some result }
+    ensures normal { IsNormal n result }
+{
+    pair_with::<Brand>(graph, n, Blank::new(1))
+}
+
+// Does a node end the way down: the constant, a source or a leaf?
+fn is_stop(graph: &Graph, leaves: &[u32], n: u32) -> bool
+    ensures stops { result ≡ ends_way graph.now leaves.now n }
+    ensures normal { AreNormal (first_and graph.now) graph.now.pairs }
+{
+    n < 1 + graph.sources() || leaves.contains(&n)
+}
+
+// A graph above some leaves.
+#[derive(Drop)]
+struct Cone<'a> {
+    graph: &'a Graph,
+    leaves: &'a [u32],
+}
+
+// The edge to a node.
+fn edge(graph: &Graph, leaves: &[u32], n: u32) -> Edge<()>
+    ensures { result ≡ cone_edge graph.now leaves.now n }
+{
+    if is_stop(graph, leaves, n) {
+        Edge::Pass
+    } else {
+        Edge::Node(n)
+    }
+}
+
+impl Successors for Cone<'_> {
+    ghost use Rattle.cover_pick.specs.Work.{IsInner};
+    ghost use Rattle.bit_fun.specs.Pass.{cone_edges};
+
+    type Stop = ();
+
+    ghost is_node = { λ cone n. IsInner cone.graph.now cone.leaves.now n };
+
+    ghost edges = { λ cone n. cone_edges cone.graph.now cone.leaves.now n };
+
+    fn successor(&self, node: u32, place: usize) -> Option<Edge<()>> {
+        let pair = pair_at(self.graph, node);
+        match place {
+            0 => Some(edge(self.graph, self.leaves, pair.x.0 / 2)),
+            1 => Some(edge(self.graph, self.leaves, pair.y.0 / 2)),
+            _ => None,
+        }
+    }
+}
+
+// Walks the cone of a node above some leaves, from nothing: no node for one that ends the way down.
+pub fn walk_cone(graph: &Graph, leaves: &[u32], top: u32, walk: &mut Walk) -> Result<(), AllocError>
+    requires top { top < node_count graph.now }
+    requires count { walk.old.count ≡ node_count graph.now }
+    ensures order { OnOk result (IsConeOrder graph.now leaves.now top walk.new.order) }
+    ensures count { walk.new.count ≡ walk.old.count }
+{
+    walk.clear();
+    if is_stop(graph, leaves, top) {
+        return Ok(());
+    }
+    let cone = Cone { graph, leaves };
+    let _end = walk.visit(&cone, top)?;
+    Ok(())
+}
