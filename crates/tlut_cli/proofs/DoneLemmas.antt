@@ -1,14 +1,15 @@
 -- A job that was played, and what a status says of its outcome.
-use Rattle.std.proofs.Common.{◌≡◌, ℕ, Bool, List, [], ◌∷◌, length, map, Option, refl, sym, ap, ◌∙◌, subst, inl, inr, ◌⊎◌}
+use Rattle.std.proofs.Common.{◌≡◌, ℕ, Bool, List, ◌∷◌, length, map, Option, sym, ap, ◌∙◌, inl, inr, ◌⊎◌}
 use Rattle.list_laws.specs.Members.{In}
 use Rattle.tl_io.specs.Shelf.{Files, ShelfSeen}
 use Rattle.run_text.specs.Lines.{header_line}
 use Rattle.tlut_cli.specs.Words.{JobWords}
-use Rattle.tlut_cli.specs.Netlist.{NetlistValue}
+use Rattle.blif_flat.specs.FlatCycle.{flat_inits, run_outputs, run_states, input_values}
+use Rattle.tlut_cli.specs.declared.source.Source.{Source}
+use Rattle.tlut_cli.specs.SourceCircuit.{width_of}
 use Rattle.tlut_cli.specs.Refusals.{too_long}
-use Rattle.tlut_cli.specs.NetlistGraph.{IsWellFormed}
-use Rattle.tlut_cli.specs.Source.{source_line}
-use Rattle.tlut_cli.specs.JobText.{AreCycles, none, more, GrewByAll, GrewByPart}
+use Rattle.tlut_cli.specs.SourceCycles.{input_at, source_lines}
+use Rattle.tlut_cli.specs.JobText.{GrewByAll, GrewByPart}
 use Rattle.tlut_cli.specs.Prepared.{IsReady, IsPreparedFor}
 use Rattle.tlut_cli.specs.Ends.{Told, HasLines, IsDone, IsCutOff}
 use Rattle.tlut_cli.specs.Call.{IsEnd, HasRefusal}
@@ -18,45 +19,45 @@ use Rattle.tlut_cli.specs.declared.outcome.Outcome.{Outcome}
 use Rattle.tlut_cli.specs.declared.outcome.Outcome.TheVariants as outcome
 use Rattle.tlut_cli.specs.declared.status.Status.{Status}
 use Rattle.tlut_cli.specs.declared.status.Status.TheVariants as status
-use Rattle.tlut_cli.proofs.CycleLemmas.{source_cycle}
+use Rattle.tlut_cli.proofs.InputLemmas.{input_values_are}
+use Rattle.tlut_cli.proofs.ShowLemmas.{names_once}
+use Rattle.tlut_cli.proofs.RunLemmas.{run_lines}
 
--- the lines of some cycles show the source circuit
-cycles_are : (n : NetlistValue) (vectors : List (List Bool)) → IsWellFormed n → ((x : List Bool) → In vectors x → length x ≡ length n.inputs) → AreCycles n vectors (map (source_line n) vectors)
-cycles_are n [] w h = none
-cycles_are n (x ∷ xs) w h = more (source_cycle n x w (h x (inl refl))) (cycles_are n xs w (λ y i. h y (inr i)))
+-- the lines that are put: the header, and those of the cycles from the latches' inits on
+abbrev pub put_lines : Source → Prepared → List (List ℕ)
+put_lines source p = header_line p.circuit.luts p.circuit.bits p.circuit.depth ∷ source_lines source p.circuit.sim.states p.vectors.items
 
--- the lines that are put are those of the accepted job
-has_lines : (files : Files) (words : JobWords) (p : Prepared) → IsReady p → IsPreparedFor files words p
-    → HasLines files words (header_line p.circuit.luts p.circuit.bits p.circuit.depth ∷ map (source_line p.circuit.netlist) p.vectors.items)
-has_lines files words p r h = record {
-  job = record { netlist = p.circuit.netlist; template = h.maps.template; vectors = p.vectors.items };
-  accepted = record { netlist = h.netlist; params = h.params; mapped = h.maps.mapped; script = h.script };
-  settled = h.settled;
-  are = record {
-    cycles = map (source_line p.circuit.netlist) p.vectors.items;
-    are = cycles_are p.circuit.netlist p.vectors.items r.formed r.widths;
-    all =
-        ap (λ n. header_line n p.circuit.bits p.circuit.depth ∷ map (source_line p.circuit.netlist) p.vectors.items) h.maps.assembled.luts
-        ∙ ap (λ n. header_line (length h.maps.template.luts) n p.circuit.depth ∷ map (source_line p.circuit.netlist) p.vectors.items) h.maps.assembled.bits
-        ∙ ap (λ n. header_line (length h.maps.template.luts) h.maps.template.bits n ∷ map (source_line p.circuit.netlist) p.vectors.items) h.maps.assembled.depth;
-  };
-}
+-- they are those of the accepted job
+has_lines : (files : Files) (words : JobWords) (p : Prepared) → IsReady p → (h : IsPreparedFor files words p) → HasLines files words (put_lines h.source p)
+has_lines files words p r h =
+    let source = h.source in
+    let made = h.maps.assembled in
+    let widths : (v : List Bool) → In p.vectors.items v → length v ≡ width_of source = λ v i. r.widths v i ∙ made.shows.regular in
+    let xs = map (input_at source) p.vectors.items in
+    record {
+      job = record { source = source; template = h.maps.template; vectors = p.vectors.items };
+      accepted = record { has = h.has; mapped = h.maps.mapped; script = h.script };
+      settled = h.settled;
+      are = record {
+        xs = xs;
+        inputs = input_values_are source (names_once source h.read h.params) p.vectors.items widths;
+        outputs = run_outputs source.netlist.library source.netlist.flat (flat_inits source.netlist.flat) (map (input_values source.netlist.flat) xs);
+        states = run_states source.netlist.library source.netlist.flat (flat_inits source.netlist.flat) (map (input_values source.netlist.flat) xs);
+        run = h.read.cycles.is_run xs;
+        all =
+            ap (λ n. header_line n p.circuit.bits p.circuit.depth ∷ source_lines source p.circuit.sim.states p.vectors.items) made.luts
+            ∙ ap (λ n. header_line (length h.maps.template.luts) n p.circuit.depth ∷ source_lines source p.circuit.sim.states p.vectors.items) made.bits
+            ∙ ap (λ n. header_line (length h.maps.template.luts) h.maps.template.bits n ∷ source_lines source p.circuit.sim.states p.vectors.items) made.depth
+            ∙ ap (λ ls. header_line (length h.maps.template.luts) h.maps.template.bits h.maps.template.depth ∷ ls)
+            (ap (λ s. source_lines source s p.vectors.items) made.inits ∙ sym (run_lines source (flat_inits source.netlist.flat) p.vectors.items));
+      };
+    }
 
-pub job_done : (files : Files) (words : JobWords) (p : Prepared) (old new : Option (List ℕ)) (vectors : List (List Bool)) → IsReady p → IsPreparedFor files words p → vectors ≡ p.vectors.items
-    → GrewByAll old new (header_line p.circuit.luts p.circuit.bits p.circuit.depth ∷ map (source_line p.circuit.netlist) vectors) → IsDone files words old new
-job_done files words p old new vectors r h e g = record {
-  lines = header_line p.circuit.luts p.circuit.bits p.circuit.depth ∷ map (source_line p.circuit.netlist) p.vectors.items;
-  has = has_lines files words p r h;
-  grew = subst (λ vs. GrewByAll old new (header_line p.circuit.luts p.circuit.bits p.circuit.depth ∷ map (source_line p.circuit.netlist) vs)) e g;
-}
+pub job_done : (files : Files) (words : JobWords) (p : Prepared) (old new : Option (List ℕ)) → IsReady p → (h : IsPreparedFor files words p) → GrewByAll old new (put_lines h.source p) → IsDone files words old new
+job_done files words p old new r h g = record { lines = put_lines h.source p; has = has_lines files words p r h; grew = g }
 
-pub job_cut_off : (files : Files) (words : JobWords) (p : Prepared) (old new : Option (List ℕ)) (vectors : List (List Bool)) → IsReady p → IsPreparedFor files words p → vectors ≡ p.vectors.items
-    → GrewByPart old new (header_line p.circuit.luts p.circuit.bits p.circuit.depth ∷ map (source_line p.circuit.netlist) vectors) → IsCutOff files words old new
-job_cut_off files words p old new vectors r h e g = record {
-  lines = header_line p.circuit.luts p.circuit.bits p.circuit.depth ∷ map (source_line p.circuit.netlist) p.vectors.items;
-  has = has_lines files words p r h;
-  grew = subst (λ vs. GrewByPart old new (header_line p.circuit.luts p.circuit.bits p.circuit.depth ∷ map (source_line p.circuit.netlist) vs)) e g;
-}
+pub job_cut_off : (files : Files) (words : JobWords) (p : Prepared) (old new : Option (List ℕ)) → IsReady p → (h : IsPreparedFor files words p) → GrewByPart old new (put_lines h.source p) → IsCutOff files words old new
+job_cut_off files words p old new r h g = record { lines = put_lines h.source p; has = has_lines files words p r h; grew = g }
 
 -- a status that refuses is that of a refusal
 refuses_not : {A : Type 0} (s t : Status) → s ≡ t → (t ≡ status.Refused → ⊥) → (t ≡ status.Limit → ⊥) → (s ≡ status.Refused) ⊎ (s ≡ status.Limit) → A

@@ -1,15 +1,18 @@
 -- Why a job was not begun, seen from an earlier state of the shelf.
-use Rattle.std.proofs.Common.{◌≡◌, ℕ, ◌≤◌, List, length, refl, ◌∙◌, subst}
+use Rattle.std.proofs.Common.{◌≡◌, ℕ, ◌≤◌, List, refl, sym, ap, ◌∙◌, subst}
 use Rattle.tl_text.specs.declared.logical_lines.TheConstants.{MOST_BYTES}
 use Rattle.tl_io.specs.Shelf.{Files, ShelfSeen}
 use Rattle.tl_fault.specs.RefusalValue.{RefusalValue}
-use Rattle.tlut_cli.specs.Texts.{IsNetlistText, NetlistRefusal, IsParamsText, ParamsRefusal, ScriptRefusal}
+use Rattle.run_text.specs.declared.params.Param.{Param}
+use Rattle.run_text.specs.ParamsText.{IsParamsText, HasOneReading}
+use Rattle.tlut_cli.specs.Texts.{IsNetlistText, NetlistRefusal, IsParamsRefusal, ScriptRefusal}
 use Rattle.tlut_cli.specs.Words.{JobWords}
-use Rattle.tlut_cli.specs.Netlist.{NetlistValue}
+use Rattle.tlut_cli.specs.declared.netlist.Netlist.{Netlist as NetlistValue}
+use Rattle.tlut_cli.specs.declared.source.Source.{Source}
 use Rattle.tlut_cli.specs.Mapped.{IsUnmapped}
-use Rattle.tlut_cli.specs.Verdict.{HasText, IsOverlong, HasNetlist, HasNoParams, netlist, params, mapping, script}
-use Rattle.tlut_cli.specs.Settled.{IsTextSettled, IsNetlistSettled, IsMappingSettled, IsSettled}
-use Rattle.tlut_cli.specs.Comes.{IsSettledBefore, ComesTo, ComesPast}
+use Rattle.tlut_cli.specs.Verdict.{HasText, IsOverlong, HasNetlist, HasParams, HasSource, netlist, params, mapping, script}
+use Rattle.tlut_cli.specs.Settled.{IsTextSettled, IsNetlistSettled, AreParamsSettled, IsMappingSettled, IsSettled}
+use Rattle.tlut_cli.specs.Comes.{IsSettledBefore, ComesFrom, ComesWith, ComesPast}
 use Rattle.tlut_cli.specs.Stops.{Stops, outcome_at}
 use Rattle.tlut_cli.specs.Ends.{Told, IsTooLongAt, IsRefusedAt, IsFaultAt, Explains}
 use Rattle.tlut_cli.specs.declared.outcome.File.{File}
@@ -54,46 +57,80 @@ netlist_once files job n m settled a b =
 pub text_settles : (files : Files) (job : JobWords) (text : List ℕ) → HasText files job file.Netlist text → IsTextSettled text → IsNetlistSettled files job
 text_settles files job text there settled other has = subst (λ ts. IsTextSettled ts) (text_once files job file.Netlist text other there has) settled
 
+-- so is the list of its parameters, and so is the list of their file
+pub list_settles : (files : Files) (job : JobWords) (n : NetlistValue) (text : List ℕ) → HasText files job file.Params text → HasOneReading n.flat text → AreParamsSettled files job n
+list_settles files job n text there settled other has = subst (λ ts. HasOneReading n.flat ts) (text_once files job file.Params text other there has) settled
+
+-- the parameters that are read for it are the only ones
+params_once : (files : Files) (job : JobWords) (n : NetlistValue) (ps qs : List Param) → AreParamsSettled files job n → HasParams files job n.flat ps → HasParams files job n.flat qs → ps ≡ qs
+params_once files job n ps qs settled a b =
+    (settled b.text b.there).one_list ps qs (subst (λ ts. IsParamsText n.flat ts ps) (text_once files job file.Params a.text b.text a.there b.there) a.is) b.is
+
+-- the source circuit that is read is the only one
+pub source_once : (files : Files) (job : JobWords) (a b : Source) → IsNetlistSettled files job → AreParamsSettled files job b.netlist → HasSource files job a → HasSource files job b → a ≡ b
+source_once files job a b one settled x y =
+    let same : a.netlist ≡ b.netlist = netlist_once files job a.netlist b.netlist one x.netlist y.netlist in
+    let lists : a.params.list ≡ b.params.list = params_once files job b.netlist a.params.list b.params.list settled (subst (λ (n : NetlistValue). HasParams files job n.flat a.params.list) same x.params) y.params in
+    ap (λ n. record { netlist = n; params = a.params }) same ∙ ap (λ ps. record { netlist = b.netlist; params = record { list = ps } }) lists
+
 -- a file that is too long settles what comes after it
 pub long_settles : (files : Files) (job : JobWords) (f : File) → IsSettledBefore files job f → IsOverlong files job f → IsSettled files job
 long_settles files job file.Netlist before long = record {
   netlist = λ text there. absurd (short_or_long files job file.Netlist text there long);
-  mapping = λ n has none. absurd (short_or_long files job file.Netlist has.text has.there long);
+  params = λ n has. absurd (short_or_long files job file.Netlist has.text has.there long);
+  mapping = λ source has. absurd (short_or_long files job file.Netlist has.netlist.text has.netlist.there long);
 }
 long_settles files job file.Params before long = record {
   netlist = before;
-  mapping = λ n has none. absurd (short_or_long files job file.Params none.text none.there long);
+  params = λ n has text there. absurd (short_or_long files job file.Params text there long);
+  mapping = λ source has. absurd (short_or_long files job file.Params has.params.text has.params.there long);
 }
 long_settles files job file.Script before long = before
 
--- so does a netlist or a list that is refused, and a netlist whose mapping is settled
+-- so does a netlist or a list that is refused, and a source circuit whose mapping is settled
 pub netlist_settles : (files : Files) (job : JobWords) (text : List ℕ) (r : RefusalValue) → HasText files job file.Netlist text → IsTextSettled text → NetlistRefusal text r → IsSettled files job
 netlist_settles files job text r there settled refused = record {
   netlist = text_settles files job text there settled;
-  mapping = λ n has none. absurd (settled.not_both n r (subst (λ ts. IsNetlistText ts n) (text_once files job file.Netlist has.text text has.there there) has.is) refused);
+  params = λ n has. absurd (none n has);
+  mapping = λ source has. absurd (none source.netlist has.netlist);
 }
+  where
+    none : (n : NetlistValue) → HasNetlist files job n → ⊥
+    none n has = settled.not_both n r (subst (λ ts. IsNetlistText ts n) (text_once files job file.Netlist has.text text has.there there) has.is) refused
 
-pub params_settles : (files : Files) (job : JobWords) (text : List ℕ) (r : RefusalValue) → IsNetlistSettled files job → HasText files job file.Params text → ParamsRefusal text r → IsSettled files job
-params_settles files job text r settled there refused = record {
-  netlist = settled;
-  mapping = λ n has none. absurd (params_or_refused text r (subst (λ ts. IsParamsText ts) (text_once files job file.Params none.text text none.there there) none.is) refused);
+pub params_settles : (files : Files) (job : JobWords) (n : NetlistValue) (text : List ℕ) (r : RefusalValue) → ComesFrom files job n → HasText files job file.Params text → HasOneReading n.flat text → IsParamsRefusal n.flat text r
+    → IsSettled files job
+params_settles files job n text r comes there one refused = record {
+  netlist = comes.settled;
+  params = λ m has. subst (λ x. AreParamsSettled files job x) (netlist_once files job n m comes.settled comes.netlist has) settled;
+  mapping = λ source has. absurd (none source has);
 }
+  where
+    settled : AreParamsSettled files job n
+    settled = list_settles files job n text there one
 
-pub mapping_settles : (files : Files) (job : JobWords) (n : NetlistValue) → IsNetlistSettled files job → HasNetlist files job n → IsMappingSettled n job.k → IsSettled files job
-mapping_settles files job n settled has mapped = record {
-  netlist = settled;
-  mapping = λ m other none. subst (λ x. IsMappingSettled x job.k) (netlist_once files job n m settled has other) mapped;
+    none : (source : Source) → HasSource files job source → ⊥
+    none source has =
+        let same : source.netlist ≡ n = netlist_once files job source.netlist n comes.settled has.netlist comes.netlist in
+        let here : HasParams files job n.flat source.params.list = subst (λ (m : NetlistValue). HasParams files job m.flat source.params.list) same has.params in
+        params_or_refused n.flat text source.params.list r one (subst (λ ts. IsParamsText n.flat ts source.params.list) (text_once files job file.Params here.text text here.there there) here.is) refused
+
+pub mapping_settles : (files : Files) (job : JobWords) (source : Source) → ComesWith files job source → IsMappingSettled source job.k → IsSettled files job
+mapping_settles files job source comes mapped = record {
+  netlist = comes.netlist;
+  params = λ m has. subst (λ x. AreParamsSettled files job x) (netlist_once files job source.netlist m comes.netlist comes.has.netlist has) comes.params;
+  mapping = λ other has. subst (λ x. IsMappingSettled x job.k) (sym (source_once files job other source comes.netlist comes.params has comes.has)) mapped;
 }
 
 -- what the mapping answers explains the outcome
-pub map_explains : (job : JobWords) (old new : ShelfSeen) (n : NetlistValue) (s : Stop) → new.given ≤ MOST_BYTES → Told old.files (λ files. HasNetlist files job n) → Told old.files (λ files. HasNoParams files job)
-    → Told old.files (λ files. IsNetlistSettled files job) → Stops (IsUnmapped n job.k) s → Stops (λ _. IsMappingSettled n job.k) s → Explains job old new (outcome_at file.Netlist s)
-map_explains job old new n (Refused r) g hn hp hs u settled = record {
+pub map_explains : (job : JobWords) (old new : ShelfSeen) (source : Source) (s : Stop) → new.given ≤ MOST_BYTES → Told old.files (λ files. ComesWith files job source)
+    → Stops (IsUnmapped source job.k) s → Stops (λ _. IsMappingSettled source job.k) s → Explains job old new (outcome_at file.Netlist s)
+map_explains job old new source (Refused r) g comes u settled = record {
   given = g;
-  is = λ files told. mapping refl n (hn files told) (hp files told) u;
-  settled = λ files told. mapping_settles files job n (hs files told) (hn files told) settled;
+  is = λ files told. mapping refl source (comes files told).has u;
+  settled = λ files told. mapping_settles files job source (comes files told) settled;
 }
-map_explains job old new n Memory g hn hp hs u settled = tt
+map_explains job old new source Memory g comes u settled = tt
 
 -- what the reading of a text answers explains it too
 pub netlist_explains : (job : JobWords) (old new : ShelfSeen) (text : List ℕ) (s : Stop) → new.given ≤ MOST_BYTES → Told old.files (λ files. HasText files job file.Netlist text)
@@ -105,20 +142,20 @@ netlist_explains job old new text (Refused r) g there u settled = record {
 }
 netlist_explains job old new text Memory g there u settled = tt
 
-pub params_explains : (job : JobWords) (old new : ShelfSeen) (text : List ℕ) (s : Stop) → new.given ≤ MOST_BYTES → Told old.files (λ files. ComesTo files job file.Params) → Told old.files (λ files. HasText files job file.Params text)
-    → Stops (ParamsRefusal text) s → Explains job old new (outcome_at file.Params s)
-params_explains job old new text (Refused r) g comes there u = record {
+pub params_explains : (job : JobWords) (old new : ShelfSeen) (n : NetlistValue) (text : List ℕ) (s : Stop) → new.given ≤ MOST_BYTES → Told old.files (λ files. ComesFrom files job n) → Told old.files (λ files. HasText files job file.Params text)
+    → HasOneReading n.flat text → Stops (IsParamsRefusal n.flat text) s → Explains job old new (outcome_at file.Params s)
+params_explains job old new n text (Refused r) g comes there one u = record {
   given = g;
-  is = λ files told. params refl (comes files told).reaches text (there files told) u;
-  settled = λ files told. params_settles files job text r (comes files told).settled (there files told) u;
+  is = λ files told. params refl n text (comes files told).netlist (there files told) u;
+  settled = λ files told. params_settles files job n text r (comes files told) (there files told) one u;
 }
-params_explains job old new text Memory g comes there u = tt
+params_explains job old new n text Memory g comes there one u = tt
 
-pub script_explains : (job : JobWords) (old new : ShelfSeen) (n : NetlistValue) (text : List ℕ) (s : Stop) → new.given ≤ MOST_BYTES → Told old.files (λ files. ComesPast files job n) → Told old.files (λ files. HasText files job file.Script text)
-    → Stops (ScriptRefusal (length n.inputs) text) s → Explains job old new (outcome_at file.Script s)
-script_explains job old new n text (Refused r) g comes there u = record {
+pub script_explains : (job : JobWords) (old new : ShelfSeen) (width : ℕ) (text : List ℕ) (s : Stop) → new.given ≤ MOST_BYTES → Told old.files (λ files. ComesPast files job width) → Told old.files (λ files. HasText files job file.Script text)
+    → Stops (ScriptRefusal width text) s → Explains job old new (outcome_at file.Script s)
+script_explains job old new width text (Refused r) g comes there u = record {
   given = g;
-  is = λ files told. script refl n text (comes files told).passes (there files told) u;
+  is = λ files told. let past = comes files told in script refl past.source text past.passes (there files told) (subst (λ w. ScriptRefusal w text r) (sym past.is_width) u);
   settled = λ files told. (comes files told).settled;
 }
-script_explains job old new n text Memory g comes there u = tt
+script_explains job old new width text Memory g comes there u = tt

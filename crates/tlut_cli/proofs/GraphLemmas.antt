@@ -1,6 +1,11 @@
 -- A graph has one template, or is refused for one reason.
 use Rattle.std.proofs.Common.{◌≡◌, ℕ, ◌<◌, ◌≤◌, List, length, Some, sym, ap, ◌∙◌, subst, arith}
 use Rattle.aig_build.specs.declared.TheConstants.{MOST_NODES}
+use Rattle.aig_build.specs.declared.build_err.BuildErr.{BuildErr}
+use Rattle.aig_build.specs.declared.build_err.BuildErr.TheVariants as build_err
+use Rattle.aig_build.specs.Refusals.{refusal_of as build_refusal}
+use Rattle.aig_build.specs.CoverGraph.{Literals}
+use Rattle.aig_build.specs.NetlistGraph.{IsGraphOf, HasTooManyNodes, HasOneGraph}
 use Rattle.std.proofs.Math.Path.{fun_ext}
 use Rattle.std.proofs.lemmas.Option.{same_Some, none-some}
 use Rattle.aig_core.specs.Aig.{Aig, node_count}
@@ -16,10 +21,10 @@ use Rattle.cover_pick.specs.Refusals.{refusal_of as pick_refusal}
 use Rattle.cover_pick.specs.declared.lut.PickErr.{PickErr}
 use Rattle.cover_pick.specs.declared.lut.PickErr.TheVariants as pick_err
 use Rattle.tl_fault.specs.RefusalValue.{RefusalValue}
-use Rattle.tlut_cli.specs.Netlist.{NetlistValue}
-use Rattle.tlut_cli.specs.NetlistGraph.{graph_of, netlist_roots}
-use Rattle.tlut_cli.specs.Mapped.{IsChosen, IsUnchosen, cuts, work, IsUnmapped, too_many, unchosen}
+use Rattle.tlut_cli.specs.declared.source.Source.{Source}
+use Rattle.tlut_cli.specs.Mapped.{IsChosen, IsUnchosen, cuts, work, IsMapped, IsUnmappedGraph, IsUnmapped, too_many, unchosen}
 use Rattle.tlut_cli.specs.Settled.{IsGraphSettled, IsMappingSettled}
+use Rattle.tlut_cli.proofs.InputLemmas.{same_parts}
 
 -- what the enumeration says of limits
 module _ (g : Aig) (k : ℕ) (roots : RootsValue)
@@ -77,37 +82,73 @@ pub work_is : (e : PickErr) (r : RefusalValue) → pick_refusal e ≡ Some r →
 work_is pick_err.Work r is = is
 work_is pick_err.Memory r is = absurd (none-some r is)
 
--- A netlist of too many nodes is settled.
-pub full_settled : (n : NetlistValue) (k : ℕ) → MOST_NODES < length (graph_of n).pairs → IsMappingSettled n k
-full_settled n k over = record {
-  not_both = λ t r m u. let few : length (graph_of n).pairs ≤ MOST_NODES = m.nodes in omega arith;
-  one_refusal = once;
-}
-  where
-    once : (r s : RefusalValue) → IsUnmapped n k r → IsUnmapped n k s → r ≡ s
-    once r s (too_many h e) (too_many h2 e2) = e ∙ sym e2
-    once r s (unchosen few u) other = absurd (omega arith)
-    once r s one (unchosen few u) = absurd (omega arith)
+-- the graph of a source circuit is the only one
+module _ (source : Source) (one : HasOneGraph source.netlist.library source.netlist.flat source.params.list) where
+  abbrev IsGraph : Aig → RootsValue → Type 0
+  IsGraph g roots = IsGraphOf source.netlist.library source.netlist.flat source.params.list g roots
 
--- So is one whose graph is settled.
-mapping_settled : (n : NetlistValue) (k : ℕ) → length (graph_of n).pairs ≤ MOST_NODES → IsGraphSettled (graph_of n) k (netlist_roots n) → IsMappingSettled n k
-mapping_settled n k few graph = record {
-  not_both = λ t r m u. mapped_or t r m.chosen u;
-  one_refusal = once;
-}
-  where
-    mapped_or : (t : TemplateValue) (r : RefusalValue) → IsChosen (graph_of n) k (netlist_roots n) t → IsUnmapped n k r → ⊥
-    mapped_or t r c (too_many over e) = omega arith
-    mapped_or t r c (unchosen h u) = graph.not_both t r c u
+  same_graph : (g h : Aig) (roots others : RootsValue) → IsGraph g roots → IsGraph h others → g ≡ h
+  same_graph g h roots others a b =
+      let made : a.made ≡ b.made = one.only a.made b.made a.are_made b.are_made in
+      let kinds : g.kinds ≡ h.kinds = a.kinds ∙ sym b.kinds in
+      let pairs : g.pairs ≡ h.pairs = a.pairs ∙ ap (λ (m : Literals). m.pairs) made ∙ sym b.pairs in
+      let max : g.max ≡ h.max = a.max ∙ sym b.max in
+      ap (λ ks. record { kinds = ks; pairs = g.pairs; max = g.max }) kinds ∙ ap (λ ps. record { kinds = h.kinds; pairs = ps; max = g.max }) pairs ∙ ap (λ n. record { kinds = h.kinds; pairs = h.pairs; max = n }) max
 
-    once : (r s : RefusalValue) → IsUnmapped n k r → IsUnmapped n k s → r ≡ s
-    once r s (too_many over e) other = absurd (omega arith)
-    once r s one (too_many over e) = absurd (omega arith)
-    once r s (unchosen h u) (unchosen h2 v) = graph.one_refusal r s u v
+  same_roots : (g h : Aig) (roots others : RootsValue) → IsGraph g roots → IsGraph h others → roots ≡ others
+  same_roots g h roots others a b =
+      let made : a.made ≡ b.made = one.only a.made b.made a.are_made b.are_made in
+      let parts = same_parts roots.outputs others.outputs roots.next others.next (a.outputs ∙ sym b.outputs) (a.literals ∙ ap (λ (m : Literals). m.lits) made ∙ sym b.literals) in
+      ap (λ o. record { outputs = o; next = roots.next }) parts.0 ∙ ap (λ n. record { outputs = others.outputs; next = n }) parts.1
 
--- what is said of a netlist's graph and roots, said of the netlist
-pub unmapped_of : (n : NetlistValue) (k : ℕ) (g : Aig) (roots : RootsValue) → g ≡ graph_of n → roots ≡ netlist_roots n → length (graph_of n).pairs ≤ MOST_NODES → (told : RefusalValue) → IsUnchosen g k roots told → IsUnmapped n k told
-unmapped_of n k g roots e f few told u = unchosen few (subst (λ x. IsUnchosen (graph_of n) k x told) f (subst (λ x. IsUnchosen x k roots told) e u))
+  -- it has too many nodes or it doesn't
+  few_or_many : (g : Aig) (roots : RootsValue) → IsGraph g roots → length g.pairs ≤ MOST_NODES → HasTooManyNodes source.netlist.library source.netlist.flat source.params.list → ⊥
+  few_or_many g roots a few over =
+      let made : a.made ≡ over.made = one.only a.made over.made a.are_made over.are_made in
+      let count : length g.pairs ≡ length over.made.pairs = ap length (a.pairs ∙ ap (λ (m : Literals). m.pairs) made) in
+      let many : MOST_NODES < length over.made.pairs = over.many in
+      omega arith
 
-pub settled_of : (n : NetlistValue) (k : ℕ) (g : Aig) (roots : RootsValue) → g ≡ graph_of n → roots ≡ netlist_roots n → length (graph_of n).pairs ≤ MOST_NODES → IsGraphSettled g k roots → IsMappingSettled n k
-settled_of n k g roots e f few s = mapping_settled n k few (subst (λ x. IsGraphSettled (graph_of n) k x) f (subst (λ x. IsGraphSettled x k roots) e s))
+  -- A source circuit with too many nodes is settled.
+  pub full_settled : (k : ℕ) → HasTooManyNodes source.netlist.library source.netlist.flat source.params.list → IsMappingSettled source k
+  full_settled k over = record {
+    not_both = λ t r m u. few_or_many m.graph m.roots m.is_graph m.nodes over;
+    one_refusal = once;
+  }
+    where
+      once : (r s : RefusalValue) → IsUnmapped source k r → IsUnmapped source k s → r ≡ s
+      once r s (too_many h e) (too_many h2 e2) = same_Some r s (sym e ∙ e2)
+      once r s (unchosen u) other = absurd (few_or_many u.graph u.roots u.is_graph u.nodes over)
+      once r s some (unchosen u) = absurd (few_or_many u.graph u.roots u.is_graph u.nodes over)
+
+  -- So is one whose graph is settled.
+  pub mapping_settled : (k : ℕ) (g : Aig) (roots : RootsValue) → IsGraph g roots → length g.pairs ≤ MOST_NODES → IsGraphSettled g k roots → IsMappingSettled source k
+  mapping_settled k g roots is few graph = record {
+    not_both = mapped_or;
+    one_refusal = once;
+  }
+    where
+      chosen_here : (h : Aig) (others : RootsValue) (t : TemplateValue) → IsGraph h others → IsChosen h k others t → IsChosen g k roots t
+      chosen_here h others t a c = subst (λ x. IsChosen g k x t) (same_roots h g others roots a is) (subst (λ x. IsChosen x k others t) (same_graph h g others roots a is) c)
+
+      refused_here : (r : RefusalValue) → IsUnmappedGraph source k r → IsUnchosen g k roots r
+      refused_here r u = subst (λ x. IsUnchosen g k x r) (same_roots u.graph g u.roots roots u.is_graph is) (subst (λ x. IsUnchosen x k u.roots r) (same_graph u.graph g u.roots roots u.is_graph is) u.unchosen)
+
+      mapped_or : (t : TemplateValue) (r : RefusalValue) → IsMapped source k t → IsUnmapped source k r → ⊥
+      mapped_or t r m (too_many over e) = few_or_many g roots is few over
+      mapped_or t r m (unchosen u) = graph.not_both t r (chosen_here m.graph m.roots t m.is_graph m.chosen) (refused_here r u)
+
+      once : (r s : RefusalValue) → IsUnmapped source k r → IsUnmapped source k s → r ≡ s
+      once r s (too_many over e) other = absurd (few_or_many g roots is few over)
+      once r s some (too_many over e) = absurd (few_or_many g roots is few over)
+      once r s (unchosen u) (unchosen v) = graph.one_refusal r s (refused_here r u) (refused_here s v)
+
+-- what is said of its graph, said of the source circuit
+pub unmapped_of : (source : Source) (k : ℕ) (g : Aig) (roots : RootsValue) → IsGraphOf source.netlist.library source.netlist.flat source.params.list g roots → length g.pairs ≤ MOST_NODES → (told : RefusalValue) → IsUnchosen g k roots told
+    → IsUnmapped source k told
+unmapped_of source k g roots is few told u = unchosen (record { graph = g; roots = roots; is_graph = is; nodes = few; unchosen = u })
+
+-- the one refusal of building
+pub nodes_are : (e : BuildErr) (r : RefusalValue) → build_refusal e ≡ Some r → build_refusal build_err.TooManyNodes ≡ Some r
+nodes_are build_err.TooManyNodes r is = is
+nodes_are build_err.Memory r is = absurd (none-some r is)

@@ -13,7 +13,7 @@ use Rattle.cut_enum.specs.Cuts.{CanBeLeaf}
 use Rattle.cover_pick.specs.declared.lut.Lut.{Lut}
 use Rattle.cover_pick.specs.Mapping.{IsTableOf, source, free, node}
 use Rattle.tlut_cli.specs.Words.{JobWords, k_of, job_of}
-use Rattle.tlut_cli.specs.JobText.{AreLines}
+use Rattle.tlut_cli.specs.JobText.{AreLines, cycle_lines}
 use Rattle.tlut_cli.specs.Verdict.{Job}
 use Rattle.tlut_cli.specs.Ends.{Told}
 use Rattle.tlut_cli.specs.Call.{IsEnd, HasDone}
@@ -24,13 +24,13 @@ use Rattle.tlut_cli.specs.declared.outcome.Outcome.TheVariants as outcome
 use Rattle.tlut_cli.specs.declared.status.Status.{Status}
 use Rattle.tlut_cli.specs.declared.status.Status.TheVariants as status
 use Rattle.tlut_cli.specs.LeastDepth.{HasHeader, HasLeastDepth, HasFewLeaves, HasSmallTables}
-use Rattle.tlut_cli.proofs.ListLemmas.{then_none}
+use Rattle.list_laws.proofs.Choice.{some_then}
 
 -- a table's size is 2 at least
 size_of : (word : List ℕ) (k : ℕ) → k_of word ≡ Some k → 2 ≤ k
 size_of [] k e = absurd (none-some k e)
 size_of (digit ∷ []) k e =
-    let h = then_none (leb 50 digit && leb digit 54) (Some (digit - 48)) k e in
+    let h = some_then (leb 50 digit && leb digit 54) (Some (digit - 48)) k e in
     let w : 50 ≤ digit = leb-true 50 digit (and_parts (leb 50 digit) (leb digit 54) h.0).0 in
     subst (λ n. 2 ≤ n) (same_Some (digit - 48) k h.1) (omega arith)
 size_of (digit ∷ other ∷ rest) k e = absurd (none-some k e)
@@ -52,7 +52,7 @@ job_size (a ∷ b ∷ c ∷ d ∷ f ∷ h ∷ []) job e = absurd (none-some job 
 job_size (command ∷ k ∷ netlist ∷ params ∷ script ∷ ports ∷ spares ∷ []) job e =
     let form = bytes_eq command (codes "run") && (bytes_eq ports (codes "0") && bytes_eq spares (codes "0")) in
     let made : Option JobWords = option_map (λ n. record { k = n; netlist = netlist; params = params; script = script }) (k_of k) in
-    size_of k job.k (mapped_size (k_of k) netlist params script job (then_none form made job e).1)
+    size_of k job.k (mapped_size (k_of k) netlist params script job (some_then form made job e).1)
 job_size (a ∷ b ∷ c ∷ d ∷ f ∷ h ∷ i ∷ j ∷ rest) job e = absurd (none-some job e)
 
 -- each table of a mapping has few leaves
@@ -75,7 +75,7 @@ few_leaves g k t big (node is cut) = record { few = cut.few; each = λ m i. (cut
 header_of : (job : Job) (lines : List (List ℕ)) (before after : Option (List ℕ)) → AreLines job lines → after ≡ extended before (concat lines)
     → HasHeader before after (length job.template.luts) job.template.bits job.template.depth
 header_of job lines before after are grew = record {
-  rest = concat are.cycles;
+  rest = concat (cycle_lines are.outputs are.states);
   grew = grew ∙ ap (λ ls. extended before (concat ls)) are.all;
 }
 
@@ -83,32 +83,35 @@ least_of : (files : Files) (words : List (List ℕ)) (before after : Option (Lis
 least_of files words before after h =
     let lines = h.done.has in
     let job = lines.job in
+    let mapped = lines.accepted.mapped in
     record {
       job = h.job;
-      n = job.netlist;
-      of = record { is = h.is; netlist = lines.accepted.netlist };
+      graph = mapped.graph;
+      roots = mapped.roots;
+      of = record { is = h.is; source = job.source; has = lines.accepted.has; is_graph = mapped.is_graph };
       luts = length job.template.luts;
       bits = job.template.bits;
       depth = job.template.depth;
       header = header_of job h.done.lines before after lines.are h.done.grew;
-      is = lines.accepted.mapped.chosen.least.least;
+      is = mapped.chosen.least.least;
     }
 
 small_of : (files : Files) (words : List (List ℕ)) (before after : Option (List ℕ)) → HasDone files words before after → HasSmallTables files words before after
 small_of files words before after h =
     let lines = h.done.has in
     let job = lines.job in
-    let mapping = lines.accepted.mapped.chosen.mapping in
+    let mapped = lines.accepted.mapped in
     record {
       job = h.job;
-      n = job.netlist;
-      of = record { is = h.is; netlist = lines.accepted.netlist };
+      graph = mapped.graph;
+      roots = mapped.roots;
+      of = record { is = h.is; source = job.source; has = lines.accepted.has; is_graph = mapped.is_graph };
       tables = job.template.luts;
       bits = job.template.bits;
       depth = job.template.depth;
       header = header_of job h.done.lines before after lines.are h.done.grew;
-      mapping = mapping;
-      small = λ t i. few_leaves _ h.job.k t (job_size words h.job h.is) (mapping.table t i);
+      mapping = mapped.chosen.mapping;
+      small = λ t i. few_leaves mapped.graph h.job.k t (job_size words h.job h.is) (mapped.chosen.mapping.table t i);
     }
 
 -- another status is not done

@@ -6,7 +6,7 @@ use Rattle.std.proofs.lemmas.Bool.{eqb-true}
 use Rattle.list_laws.specs.Members.{In}
 use Rattle.tl_text.specs.LineValue.{LineValue, WordsLine, words_line}
 use Rattle.tlut_cli.specs.Script.{bit_of, put_bit, bits_of, vector_of, cycle_of, put_vector, vectors_of}
-use Rattle.tlut_cli.proofs.ListLemmas.{then_none}
+use Rattle.list_laws.proofs.Choice.{some_then}
 use Rattle.tlut_cli.proofs.TextLemmas.{ok_once, ok_or_err}
 
 -- values before those of other bytes
@@ -71,19 +71,19 @@ vector_count width token bits h = by_width (eqb width 0) refl h
   where
     by_length : cond (eqb (length token) width) (bits_of token) None ≡ Some bits → length bits ≡ width
     by_length k =
-        let p = then_none (eqb (length token) width) (bits_of token) bits k in
+        let p = some_then (eqb (length token) width) (bits_of token) bits k in
         bits_count token bits p.1 ∙ eqb-true (length token) width p.0
 
     by_width : (b : Bool) → eqb width 0 ≡ b → cond b (cond (bytes_eq token (codes "-")) (Some []) None) (cond (eqb (length token) width) (bits_of token) None) ≡ Some bits → length bits ≡ width
     by_width true z k =
         let e : width ≡ 0 = eqb-true width 0 z in
-        let l : 0 ≡ length bits = ap length (same_Some [] bits (then_none (bytes_eq token (codes "-")) (Some []) bits k).1) in omega arith
+        let l : 0 ≡ length bits = ap length (same_Some [] bits (some_then (bytes_eq token (codes "-")) (Some []) bits k).1) in omega arith
     by_width false z k = by_length k
 
 cycle_count : (width : ℕ) (words : List (List ℕ)) (bits : List Bool) → cycle_of width words ≡ Some bits → length bits ≡ width
 cycle_count width [] bits h = absurd (none-some bits h)
 cycle_count width (word ∷ []) bits h = absurd (none-some bits h)
-cycle_count width (word ∷ token ∷ []) bits h = vector_count width token bits (then_none (bytes_eq word (codes "cycle")) (vector_of width token) bits h).1
+cycle_count width (word ∷ token ∷ []) bits h = vector_count width token bits (some_then (bytes_eq word (codes "cycle")) (vector_of width token) bits h).1
 cycle_count width (word ∷ token ∷ other ∷ others) bits h = absurd (none-some bits h)
 
 -- each vector of a script has a value for each input

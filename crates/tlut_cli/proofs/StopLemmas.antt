@@ -1,16 +1,11 @@
 -- What a stop at a text says: the text's refusal.
-use Rattle.std.proofs.Common.{◌≡◌, ℕ, ◌≤◌, List, [], ◌∷◌, length, get_or, Option, Some, Result, Ok, Err, sym, ap, subst, arith}
+use Rattle.std.proofs.Common.{◌≡◌, Option, Some, Result, Ok, Err, sym, subst}
 use Rattle.std.specs.Prelude.{IsErrAnd, IfOk, IfErr, MatchResult}
 use Rattle.tl_fault.specs.RefusalValue.{RefusalValue}
 use Rattle.tl_fault.specs.OrMemory.{OrMemory}
-use Rattle.tlut_cli.proofs.RefusedErrors.{or_memory}
-use Rattle.tl_text.specs.LineValue.{LineValue}
-use Rattle.tl_text.specs.Lines.{lines_of}
+use Rattle.tl_fault.proofs.OrMemoryLemmas.{or_memory}
 use Rattle.tlut_cli.specs.declared.stop.Stop.{Stop}
 use Rattle.tlut_cli.specs.declared.stop.Stop.TheVariants.{Refused, Memory}
-use Rattle.tlut_cli.specs.Refusals as own
-use Rattle.tlut_cli.specs.Texts.{ParamsRefusal}
-use Rattle.tlut_cli.specs.Texts as texts
 use Rattle.tlut_cli.specs.Stops.{refusal_of, Stops}
 
 -- a stop that tells what a layer's error tells
@@ -56,7 +51,3 @@ pub passed_anyway : {T : Type 0} (P Q : Type 0) (r : Result T Stop) (e : Stop) �
 passed_anyway P Q (Ok v) e is h p = absurd is
 passed_anyway P Q (Err s) (Refused told) is h p = subst (λ x. Stops (λ _. Q) x) (sym is) (h p)
 passed_anyway P Q (Err s) Memory is h p = subst (λ x. Stops (λ _. Q) x) (sym is) tt
-
-pub params_unbuilt : (text : List ℕ) (lines : List LineValue) (line d : LineValue) → lines_of text ≡ Ok lines → 1 ≤ length lines → line ≡ get_or lines 0 d → ParamsRefusal text (own.unbuilt line.number)
-params_unbuilt text [] line d is some e = absurd (omega arith)
-params_unbuilt text (first ∷ lines) line d is some e = texts.ParamsRefusal.unbuilt first lines is (ap (λ (l : LineValue). own.unbuilt l.number) e)

@@ -1,8 +1,8 @@
 -- Each text of a job says one thing, or is refused for one reason.
-use Rattle.std.proofs.Common.{◌≡◌, ℕ, Bool, List, [], ◌∷◌, map, Some, Result, Ok, Err, sym, ap, ◌∙◌, subst}
+use Rattle.std.proofs.Common.{◌≡◌, ℕ, Bool, List, map, Some, Result, Ok, Err, sym, ap, ◌∙◌, subst}
 use Rattle.std.specs.Result.{result_ok, result_err}
 use Rattle.std.proofs.lemmas.Option.{same_Some, none-some}
-use Rattle.tl_text.specs.LineValue.{LineValue, words_line}
+use Rattle.tl_text.specs.LineValue.{words_line}
 use Rattle.tl_text.specs.Lines.{lines_of}
 use Rattle.tl_text.specs.Refusals.{refusal_of as text_refusal}
 use Rattle.blif_read.specs.declared.blif_err.BlifErr.{BlifErr}
@@ -13,14 +13,21 @@ use Rattle.blif_read.specs.ReadFault.{read_fault}
 use Rattle.blif_read.specs.Refusals.{refusal_of as blif_refusal}
 use Rattle.blif_flat.specs.declared.flat_err.FlatErr.{FlatErr}
 use Rattle.blif_flat.specs.Faults.{IsFault, HasOneFault}
+use Rattle.blif_flat.specs.FlatValue.{FlatValue}
+use Rattle.blif_flat.specs.Flat.{IsFlat}
+use Rattle.blif_flat.specs.Flattened.{HasOneFlat}
+use Rattle.blif_flat.specs.Sound.{IsSound}
 use Rattle.blif_flat.specs.Refusals.{refusal_of as flat_refusal}
+use Rattle.run_text.specs.declared.params.Param.{Param}
+use Rattle.run_text.specs.ParamsText.{IsParamsText}
+use Rattle.run_text.specs.ParamsText as params_text
+use Rattle.run_text.specs.Refusals.{refusal_of as params_refusal}
 use Rattle.tl_fault.specs.RefusalValue.{RefusalValue}
 use Rattle.tlut_cli.specs.Refusals as own
-use Rattle.tlut_cli.specs.Netlist.{NetlistValue}
-use Rattle.tlut_cli.specs.Built.{netlist_of}
+use Rattle.tlut_cli.specs.declared.netlist.Netlist.{Netlist}
 use Rattle.tlut_cli.specs.Script.{vectors_of}
 use Rattle.tlut_cli.specs.Settled.{IsTextSettled}
-use Rattle.tlut_cli.specs.Texts.{IsFlattened, IsNetlistText, NetlistRefusal, IsParamsText, ParamsRefusal, IsScriptText, ScriptRefusal}
+use Rattle.tlut_cli.specs.Texts.{IsFlattened, IsNetlistText, NetlistRefusal, IsParamsRefusal, IsScriptText, ScriptRefusal}
 use Rattle.tlut_cli.specs.Texts as texts
 
 -- a result is of one kind, and has one value or one error
@@ -45,20 +52,19 @@ fault_refused text e r s one h (texts.NetlistRefusal.fault d f is) (texts.Netlis
     let same : d ≡ d2 = same_Some d d2 (sym f ∙ f2) in
     same_Some r s (sym is ∙ (ap (λ x. blif_refusal x) same ∙ is2))
 fault_refused text e r s one h (texts.NetlistRefusal.fault d f is) (texts.NetlistRefusal.unsound library d2 den f2 is2) = absurd (fault_alone text e library one h den)
-fault_refused text e r s one h (texts.NetlistRefusal.fault d f is) (texts.NetlistRefusal.unbuilt library line den flat err is2) = absurd (fault_alone text e library one h den)
 fault_refused text e r s one h (texts.NetlistRefusal.unsound library d den f is) other = absurd (fault_alone text e library one h den)
-fault_refused text e r s one h (texts.NetlistRefusal.unbuilt library line den flat err is) other = absurd (fault_alone text e library one h den)
 
 -- A text that is refused itself is settled.
 pub fault_settled : (text : List ℕ) (e : BlifErr) → HasOneReading text → read_fault text ≡ Some e → IsTextSettled text
 fault_settled text e one h = record {
-  one_netlist = λ n m a b. absurd (fault_alone text e a.library one h a.denotes);
-  not_both = λ n r a refused. fault_alone text e a.library one h a.denotes;
+  one_netlist = λ n m a b. absurd (fault_alone text e n.library one h a.denotes);
+  not_both = λ n r a refused. fault_alone text e n.library one h a.denotes;
   one_refusal = λ r s refused other. fault_refused text e r s one h refused other;
 }
 
 -- the netlist of a text
-module _ (text : List ℕ) (library : LibraryValue) (one : HasOneReading text) (denotes : Denotes text library) (flat : HasOneFault library) where
+module _ (text : List ℕ) (library : LibraryValue) (one : HasOneReading text) (denotes : Denotes text library) (flat : HasOneFault library)
+    (circuit : IsSound library → HasOneFlat library) where
   -- every library of the text is this one
   here : (other : LibraryValue) → Denotes text other → other ≡ library
   here other d = one.once other library d denotes
@@ -69,56 +75,42 @@ module _ (text : List ℕ) (library : LibraryValue) (one : HasOneReading text) (
   fault_here : (other : LibraryValue) (e : FlatErr) → Denotes text other → IsFault other e → IsFault library e
   fault_here other e d f = subst (λ l. IsFault l e) (here other d) f
 
-  netlist_here : (other : LibraryValue) (x : Result NetlistValue ℕ) → Denotes text other → netlist_of other ≡ x → netlist_of library ≡ x
-  netlist_here other x d e = subst (λ l. netlist_of l ≡ x) (here other d) e
-
   -- what flattens isn't refused
   flattened_or_not : (other : LibraryValue) (e : FlatErr) → Denotes text other → IsFlattened other → IsFault library e → ⊥
   flattened_or_not other e d f fault = f.clean e (subst (λ l. IsFault l e) (sym (here other d)) fault)
 
-  library_netlist_or : (n : NetlistValue) (r : RefusalValue) → IsNetlistText text n → NetlistRefusal text r → ⊥
-  library_netlist_or n r a (texts.NetlistRefusal.fault e f is) = no_fault e f
-  library_netlist_or n r a (texts.NetlistRefusal.unsound other e d f is) = flattened_or_not a.library e a.denotes a.flattens (fault_here other e d f)
-  library_netlist_or n r a (texts.NetlistRefusal.unbuilt other line d f err is) =
-      ok_or_err (netlist_of library) n line (netlist_here a.library (Ok n) a.denotes a.is) (netlist_here other (Err line) d err)
+  netlist_or_not : (n : Netlist) (r : RefusalValue) → IsNetlistText text n → NetlistRefusal text r → ⊥
+  netlist_or_not n r a (texts.NetlistRefusal.fault e f is) = no_fault e f
+  netlist_or_not n r a (texts.NetlistRefusal.unsound other e d f is) = flattened_or_not n.library e a.denotes a.flattens (fault_here other e d f)
 
-  library_refused : (r s : RefusalValue) → NetlistRefusal text r → NetlistRefusal text s → r ≡ s
-  library_refused r s (texts.NetlistRefusal.fault e f is) other = absurd (no_fault e f)
-  library_refused r s one (texts.NetlistRefusal.fault e f is) = absurd (no_fault e f)
-  library_refused r s (texts.NetlistRefusal.unsound l e d f is) (texts.NetlistRefusal.unsound l2 e2 d2 f2 is2) =
+  netlist_refused : (r s : RefusalValue) → NetlistRefusal text r → NetlistRefusal text s → r ≡ s
+  netlist_refused r s (texts.NetlistRefusal.fault e f is) other = absurd (no_fault e f)
+  netlist_refused r s one (texts.NetlistRefusal.fault e f is) = absurd (no_fault e f)
+  netlist_refused r s (texts.NetlistRefusal.unsound l e d f is) (texts.NetlistRefusal.unsound l2 e2 d2 f2 is2) =
       same_Some r s (sym is ∙ (ap (λ x. flat_refusal x) (flat.once e e2 (fault_here l e d f) (fault_here l2 e2 d2 f2)) ∙ is2))
-  library_refused r s (texts.NetlistRefusal.unsound l e d f is) (texts.NetlistRefusal.unbuilt l2 line d2 f2 err is2) = absurd (flattened_or_not l2 e d2 f2 (fault_here l e d f))
-  library_refused r s (texts.NetlistRefusal.unbuilt l line d f err is) (texts.NetlistRefusal.unsound l2 e d2 f2 is2) = absurd (flattened_or_not l e d f (fault_here l2 e d2 f2))
-  library_refused r s (texts.NetlistRefusal.unbuilt l line d f err is) (texts.NetlistRefusal.unbuilt l2 line2 d2 f2 err2 is2) =
-      is ∙ (ap (λ x. own.unbuilt x) (err_once (netlist_of library) line line2 (netlist_here l (Err line) d err) (netlist_here l2 (Err line2) d2 err2)) ∙ sym is2)
+
+  -- the netlist is the library with its one flat circuit
+  one_circuit : (n m : Netlist) → IsNetlistText text n → IsNetlistText text m → n ≡ m
+  one_circuit n m a b =
+      let first : n.library ≡ library = here n.library a.denotes in
+      let second : m.library ≡ library = here m.library b.denotes in
+      let flats : n.flat ≡ m.flat = (circuit (subst (λ l. IsSound l) first a.flattens.sound)).only n.flat m.flat (subst (λ l. IsFlat l n.flat) first a.flat) (subst (λ l. IsFlat l m.flat) second b.flat) in
+      ap (λ l. record { library = l; flat = n.flat }) (first ∙ sym second) ∙ ap (λ f. record { library = m.library; flat = f }) flats
 
   -- A text that denotes a library is settled.
   pub library_settled : IsTextSettled text
   library_settled = record {
-    one_netlist = λ n m a b. ok_once (netlist_of library) n m (netlist_here a.library (Ok n) a.denotes a.is) (netlist_here b.library (Ok m) b.denotes b.is);
-    not_both = library_netlist_or;
-    one_refusal = library_refused;
+    one_netlist = one_circuit;
+    not_both = netlist_or_not;
+    one_refusal = netlist_refused;
   }
 
 -- the list of parameters of a text
-pub params_or_refused : (text : List ℕ) (r : RefusalValue) → IsParamsText text → ParamsRefusal text r → ⊥
-params_or_refused text r a (texts.ParamsRefusal.fault e f is) = ok_or_err (lines_of text) [] e a f
-params_or_refused text r a (texts.ParamsRefusal.unbuilt line lines f is) = differ (ok_once (lines_of text) [] (line ∷ lines) a f)
-  where
-    differ : [] ≡ line ∷ lines → ⊥
-    differ k = cc
+pub params_or_refused : (flat : FlatValue) (text : List ℕ) (params : List Param) (r : RefusalValue) → params_text.HasOneReading flat text → IsParamsText flat text params → IsParamsRefusal flat text r → ⊥
+params_or_refused flat text params r one a refused = one.not_both params refused.e a refused.fault
 
-abbrev first_number : List LineValue → ℕ
-first_number [] = 0
-first_number (line ∷ lines) = line.number
-
-pub params_refused_once : (text : List ℕ) (r s : RefusalValue) → ParamsRefusal text r → ParamsRefusal text s → r ≡ s
-params_refused_once text r s (texts.ParamsRefusal.fault e f is) (texts.ParamsRefusal.fault e2 f2 is2) =
-    same_Some r s (sym is ∙ (ap (λ x. text_refusal x) (err_once (lines_of text) e e2 f f2) ∙ is2))
-params_refused_once text r s (texts.ParamsRefusal.fault e f is) (texts.ParamsRefusal.unbuilt line lines g is2) = absurd (ok_or_err (lines_of text) (line ∷ lines) e g f)
-params_refused_once text r s (texts.ParamsRefusal.unbuilt line lines g is) (texts.ParamsRefusal.fault e f is2) = absurd (ok_or_err (lines_of text) (line ∷ lines) e g f)
-params_refused_once text r s (texts.ParamsRefusal.unbuilt line lines g is) (texts.ParamsRefusal.unbuilt line2 lines2 h is2) =
-    is ∙ (ap (λ (ls : List LineValue). own.unbuilt (first_number ls)) (ok_once (lines_of text) (line ∷ lines) (line2 ∷ lines2) g h) ∙ sym is2)
+pub params_refused_once : (flat : FlatValue) (text : List ℕ) (r s : RefusalValue) → params_text.HasOneReading flat text → IsParamsRefusal flat text r → IsParamsRefusal flat text s → r ≡ s
+params_refused_once flat text r s one a b = same_Some r s (sym a.tells ∙ (ap (λ x. params_refusal x) (one.one_fault a.e b.e a.fault b.fault) ∙ b.tells))
 
 -- the script of a text
 pub script_or_refused : (width : ℕ) (text : List ℕ) (vectors : List (List Bool)) (r : RefusalValue) → IsScriptText width text vectors → ScriptRefusal width text r → ⊥

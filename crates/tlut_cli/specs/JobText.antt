@@ -1,22 +1,33 @@
--- The text of a job: its header, and for each cycle the outputs of the source circuit.
-use Rattle.std.specs.Prelude.{◌≡◌, ℕ, ◌<◌, Bool, List, [], ◌∷◌, ◌++◌, length, take, slice_index_or, Option, Result, MatchResult}
+-- The text of a job: its header, and for each cycle the outputs of the source circuit and the states after it.
+use Rattle.std.specs.Prelude.{◌≡◌, ℕ, ◌<◌, Bool, List, [], ◌∷◌, ◌++◌, length, map, take, slice_index_or, Option, Result, MatchResult}
 use Rattle.std.specs.List.{concat}
+use Rattle.list_laws.specs.Members.{In}
 use Rattle.tl_io.specs.Content.{extended}
+use Rattle.blif_flat.specs.Runs.{IsRun}
+use Rattle.run_text.specs.Parameters.{regular_names, param_names, param_inits}
 use Rattle.run_text.specs.Lines.{header_line, cycle_line}
-use Rattle.tlut_cli.specs.Netlist.{NetlistValue, IsNetlistCycle}
+use Rattle.tlut_cli.specs.declared.source.Source.{Source}
 use Rattle.tlut_cli.specs.Verdict.{Job}
 
--- the lines of some cycles: each shows the outputs of the source circuit, and that there are no states
-pub data AreCycles (n : NetlistValue) : List (List Bool) → List (List ℕ) → Type 0 where
-  none : AreCycles n [] []
-  more : {inputs outputs : List Bool} {vectors : List (List Bool)} {lines : List (List ℕ)} → IsNetlistCycle n inputs outputs → AreCycles n vectors lines
-      → AreCycles n (inputs ∷ vectors) (cycle_line outputs [] ∷ lines)
+-- the values of the inputs by their names, cycle by cycle: those of the cycle's vector at the regular inputs, and those of the list at the parameters
+pub record AreInputValues (source : Source) (vectors : List (List Bool)) (xs : List (List ℕ → Bool)) : Type 0 where
+  pub regular : map (λ x. map x (regular_names source.netlist.flat source.params.list)) xs ≡ vectors
+  pub params : (x : List ℕ → Bool) → In xs x → map x (param_names source.params.list) ≡ param_inits source.params.list
 
--- the lines of a job
+-- a line a cycle, of its outputs and the states after it
+abbrev pub cycle_lines : List (List Bool) → List (List Bool) → List (List ℕ)
+cycle_lines [] states = []
+cycle_lines (outputs ∷ others) [] = []
+cycle_lines (outputs ∷ others) (next ∷ states) = cycle_line outputs next ∷ cycle_lines others states
+
+-- the lines of a job: the numbers of its template, and the run of its source circuit
 pub record AreLines (job : Job) (lines : List (List ℕ)) : Type 0 where
-  pub cycles : List (List ℕ)
-  pub are : AreCycles job.netlist job.vectors cycles
-  pub all : lines ≡ header_line (length job.template.luts) job.template.bits job.template.depth ∷ cycles
+  pub xs : List (List ℕ → Bool)
+  pub inputs : AreInputValues job.source job.vectors xs
+  pub outputs : List (List Bool)
+  pub states : List (List Bool)
+  pub run : IsRun job.source.netlist.library xs outputs states
+  pub all : lines ≡ header_line (length job.template.luts) job.template.bits job.template.depth ∷ cycle_lines outputs states
 
 -- a sink grew by all lines
 abbrev pub GrewByAll : Option (List ℕ) → Option (List ℕ) → List (List ℕ) → Type 0

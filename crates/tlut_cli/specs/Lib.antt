@@ -1,16 +1,14 @@
 -- What public clauses say.
-pub mod Built
 pub mod Call
 pub mod Ends
 pub mod FaultLine
 pub mod JobText
 pub mod LeastDepth
 pub mod Mapped
-pub mod Netlist
-pub mod NetlistGraph
 pub mod Refusals
 pub mod Script
 pub mod Settled
+pub mod SourceCircuit
 pub mod Statuses
 pub mod Texts
 pub mod Verdict
@@ -20,5 +18,6 @@ pub mod WordsSeen
 pub mod Circuit
 pub mod Comes
 pub mod Prepared
-pub mod Source
+pub mod ReadNetlist
+pub mod SourceCycles
 pub mod Stops

@@ -1,6 +1,9 @@
 -- The template of a graph, and what a graph is refused for.
-use Rattle.std.specs.Prelude.{◌≡◌, ℕ, ◌<◌, ◌≤◌, List, length, Some}
+use Rattle.std.specs.Prelude.{◌≡◌, ℕ, ◌≤◌, List, length, Some}
 use Rattle.aig_build.specs.declared.TheConstants.{MOST_NODES}
+use Rattle.aig_build.specs.declared.build_err.BuildErr.TheVariants.{TooManyNodes}
+use Rattle.aig_build.specs.NetlistGraph.{IsGraphOf, HasTooManyNodes}
+use Rattle.aig_build.specs.Refusals.{refusal_of as build_refusal}
 use Rattle.aig_core.specs.Aig.{Aig, node_count}
 use Rattle.aig_core.specs.Roots.{RootsValue, roots_of}
 use Rattle.cut_enum.specs.Table.{AreRows}
@@ -14,9 +17,7 @@ use Rattle.cover_pick.specs.Work.{IsLight}
 use Rattle.cover_pick.specs.Refusals.{refusal_of as pick_refusal}
 use Rattle.cover_pick.specs.declared.lut.PickErr.TheVariants.{Work}
 use Rattle.tl_fault.specs.RefusalValue.{RefusalValue}
-use Rattle.tlut_cli.specs.Netlist.{NetlistValue}
-use Rattle.tlut_cli.specs.NetlistGraph.{graph_of, netlist_roots}
-use Rattle.tlut_cli.specs.Refusals.{too_many_nodes}
+use Rattle.tlut_cli.specs.declared.source.Source.{Source}
 
 -- the minimal cuts of all nodes of a graph and their labels, within the limits
 pub record IsLabelled (g : Aig) (k : ℕ) (rows : List (List (List ℕ))) (labels : LabelsValue) : Type 0 where
@@ -45,12 +46,23 @@ pub data IsUnchosen (g : Aig) (k : ℕ) (roots : RootsValue) (refusal : RefusalV
   cuts : (e : CutErr) → IsLimit g k e → cut_refusal e ≡ Some refusal → IsUnchosen g k roots refusal
   work : IsOverworked g k roots → pick_refusal Work ≡ Some refusal → IsUnchosen g k roots refusal
 
--- the chosen template of a netlist: its graph has no more AND nodes than it may
-pub record IsMapped (n : NetlistValue) (k : ℕ) (t : TemplateValue) : Type 0 where
-  pub nodes : length (graph_of n).pairs ≤ MOST_NODES
-  pub chosen : IsChosen (graph_of n) k (netlist_roots n) t
+-- the template of a source circuit: that chosen for its graph, which has no more AND nodes than it may
+pub record IsMapped (source : Source) (k : ℕ) (t : TemplateValue) : Type 0 where
+  pub graph : Aig
+  pub roots : RootsValue
+  pub is_graph : IsGraphOf source.netlist.library source.netlist.flat source.params.list graph roots
+  pub nodes : length graph.pairs ≤ MOST_NODES
+  pub chosen : IsChosen graph k roots t
 
--- what a netlist is refused for when it is mapped: too many AND nodes, else what its graph is refused for
-pub data IsUnmapped (n : NetlistValue) (k : ℕ) (refusal : RefusalValue) : Type 0 where
-  too_many : MOST_NODES < length (graph_of n).pairs → refusal ≡ too_many_nodes → IsUnmapped n k refusal
-  unchosen : length (graph_of n).pairs ≤ MOST_NODES → IsUnchosen (graph_of n) k (netlist_roots n) refusal → IsUnmapped n k refusal
+-- what its graph is refused for, when there are no too many nodes
+pub record IsUnmappedGraph (source : Source) (k : ℕ) (refusal : RefusalValue) : Type 0 where
+  pub graph : Aig
+  pub roots : RootsValue
+  pub is_graph : IsGraphOf source.netlist.library source.netlist.flat source.params.list graph roots
+  pub nodes : length graph.pairs ≤ MOST_NODES
+  pub unchosen : IsUnchosen graph k roots refusal
+
+-- what a source circuit is refused for when it is mapped: too many AND nodes, else what its graph is refused for
+pub data IsUnmapped (source : Source) (k : ℕ) (refusal : RefusalValue) : Type 0 where
+  too_many : HasTooManyNodes source.netlist.library source.netlist.flat source.params.list → build_refusal TooManyNodes ≡ Some refusal → IsUnmapped source k refusal
+  unchosen : IsUnmappedGraph source k refusal → IsUnmapped source k refusal

@@ -10,7 +10,3 @@ too_long = refusal (codes "L1") (codes "FileTooLong") Nothing
 -- a line is of a form that isn't built yet
 abbrev pub unbuilt : ℕ → RefusalValue
 unbuilt line = refusal (codes "X1") (codes "Unbuilt") (Line line)
-
--- a graph has too many AND nodes
-abbrev pub too_many_nodes : RefusalValue
-too_many_nodes = refusal (codes "L3") (codes "TooManyNodes") Nothing

@@ -1,4 +1,4 @@
--- The scripts that are read so far: a `cycle` line a clock cycle, with the inputs' values.
+-- The scripts that are read so far: a `cycle` line a clock cycle, with the values of the regular inputs.
 use Rattle.std.specs.Prelude.{ℕ, Bool, true, false, ◌==◌, if◌then◌else◌, List, [], ◌∷◌, length, codes, bytes_eq, Option, Some, None, Result, Ok, Err}
 use Rattle.tl_text.specs.LineValue.{WordsLine}
 

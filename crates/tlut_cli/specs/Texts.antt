@@ -1,5 +1,5 @@
 -- What the texts of a job say, and what each is refused for.
-use Rattle.std.specs.Prelude.{◌≡◌, ℕ, Bool, List, [], ◌∷◌, map, Some, Result, Ok, Err}
+use Rattle.std.specs.Prelude.{◌≡◌, ℕ, Bool, List, map, Some, Result, Ok, Err}
 use Rattle.tl_text.specs.LineValue.{LineValue, words_line}
 use Rattle.tl_text.specs.Lines.{lines_of}
 use Rattle.tl_text.specs.declared.text_err.TextErr.{TextErr}
@@ -13,11 +13,15 @@ use Rattle.blif_flat.specs.declared.flat_err.FlatErr.{FlatErr}
 use Rattle.blif_flat.specs.Refusals.{refusal_of as flat_refusal}
 use Rattle.blif_flat.specs.Faults.{IsFault}
 use Rattle.blif_flat.specs.Sound.{IsSound}
+use Rattle.blif_flat.specs.FlatValue.{FlatValue}
+use Rattle.blif_flat.specs.Flat.{IsFlat}
+use Rattle.run_text.specs.declared.par_err.ParErr.{ParErr}
+use Rattle.run_text.specs.Refusals.{refusal_of as params_refusal}
+use Rattle.run_text.specs.ParamsText.{IsParamsFault}
 use Rattle.tl_fault.specs.RefusalValue.{RefusalValue}
 use Rattle.tlut_cli.specs.Refusals as own
-use Rattle.tlut_cli.specs.Netlist.{NetlistValue}
-use Rattle.tlut_cli.specs.Built.{netlist_of}
 use Rattle.tlut_cli.specs.Script.{vectors_of}
+use Rattle.tlut_cli.specs.declared.netlist.Netlist.{Netlist}
 
 -- the refusal of the line that an answer tells, which isn't built
 abbrev pub IsUnbuilt : {V : Type 0} → Result V ℕ → RefusalValue → Type 0
@@ -28,27 +32,22 @@ pub record IsFlattened (library : LibraryValue) : Type 0 where
   pub sound : IsSound library
   pub clean : (fault : FlatErr) → ¬ (IsFault library fault)
 
--- a text denotes a library that flattens and has this netlist
-pub record IsNetlistText (text : List ℕ) (n : NetlistValue) : Type 0 where
-  pub library : LibraryValue
-  pub denotes : Denotes text library
-  pub flattens : IsFlattened library
-  pub is : netlist_of library ≡ Ok n
+-- a text denotes this library, which flattens, and this is its flat circuit
+pub record IsNetlistText (text : List ℕ) (n : Netlist) : Type 0 where
+  pub denotes : Denotes text n.library
+  pub flattens : IsFlattened n.library
+  pub flat : IsFlat n.library n.flat
 
--- a netlist's text is refused: by its first refusal, else by its library's, else for what isn't built
+-- a netlist's text is refused: by its first refusal, else by its library's
 pub data NetlistRefusal (text : List ℕ) (refusal : RefusalValue) : Type 0 where
   fault : (e : BlifErr) → read_fault text ≡ Some e → blif_refusal e ≡ Some refusal → NetlistRefusal text refusal
   unsound : (library : LibraryValue) (e : FlatErr) → Denotes text library → IsFault library e → flat_refusal e ≡ Some refusal → NetlistRefusal text refusal
-  unbuilt : (library : LibraryValue) (line : ℕ) → Denotes text library → IsFlattened library → netlist_of library ≡ Err line → refusal ≡ own.unbuilt line → NetlistRefusal text refusal
 
--- a list of parameters without any
-abbrev pub IsParamsText : List ℕ → Type 0
-IsParamsText text = lines_of text ≡ Ok []
-
--- another one is refused: by its lines' refusal, else at its first logical line
-pub data ParamsRefusal (text : List ℕ) (refusal : RefusalValue) : Type 0 where
-  fault : (e : TextErr) → lines_of text ≡ Err e → text_refusal e ≡ Some refusal → ParamsRefusal text refusal
-  unbuilt : (line : LineValue) (lines : List LineValue) → lines_of text ≡ Ok (line ∷ lines) → refusal ≡ own.unbuilt line.number → ParamsRefusal text refusal
+-- a list of parameters of a flat circuit is refused: by its one refusal
+pub record IsParamsRefusal (flat : FlatValue) (text : List ℕ) (refusal : RefusalValue) : Type 0 where
+  pub e : ParErr
+  pub fault : IsParamsFault flat text e
+  pub tells : params_refusal e ≡ Some refusal
 
 -- the vectors of a script for so many inputs
 pub record IsScriptText (width : ℕ) (text : List ℕ) (vectors : List (List Bool)) : Type 0 where

@@ -88,7 +88,7 @@ fn fault_name<'a>(words: &'a [String], outcome: &Outcome) -> &'a str
 
 /// Runs the command that the words are, over the files of a shelf: so far
 /// `run K NETLIST PARAMS SCRIPT 0 0`, which maps a netlist to tables of at most K inputs with the least depth and
-/// plays the cycles of a script.
+/// plays the cycles of a script under the listed values of its parameters.
 ///
 /// The status says how the call ended. On every status but `Done` one line stands on `err`; a failing `err`
 /// changes no status. Want of memory is the one free answer, and comes only before the first byte of `out`.
@@ -108,7 +108,8 @@ pub fn tlut<S: Shelf, O: Sink, E: Sink>(
     // The other way round, such a refusal is the answer, where no read fails and memory suffices.
     ensures refused { IsAnswered (map string_bytes words.now) (S.seen shelf.old) (S.seen shelf.new) result }
 
-    // The output grew by the lines of the accepted job, or by whole lines and a part of the next one.
+    // The output grew by the lines of the accepted job, which show the run of the library that the netlist denotes, or by
+    // whole lines and a part of the next one.
     ensures done { result ≡ Status.Done → Told (S.seen shelf.old).files (λ files. HasDone files (map string_bytes words.now) (O.bytes out.old) (O.bytes out.new)) }
     ensures part { result ≡ Status.WriteFault → Told (S.seen shelf.old).files (λ files. HasCutOff files (map string_bytes words.now) (O.bytes out.old) (O.bytes out.new)) }
 

@@ -9,20 +9,21 @@
 //!   `fault_line.rt` how a call ends and what it says.
 //! - `stop.rt` makes a refusal of a layer's error, which tells its code, its word and its details itself; `refusals.rt` has the
 //!   few refusals of the command line itself.
-//! - `built.rt`, `params.rt` and `script.rt` read a netlist, a parameter list and a script, as far as they run so far.
-//! - `circuit.rt` maps a netlist and plays its cycles.
+//! - `netlist.rt` reads a netlist, `source.rt` has it under its parameters, and `script.rt` reads a script, as far as scripts run
+//!   so far.
+//! - `mapping.rt` maps a source circuit to tables, and `circuit.rt` plays the cycles of the mapped circuit.
 #![tactic(auto)]
 
-mod built;
 mod call;
 mod circuit;
 mod fault_line;
+mod mapping;
 mod netlist;
 mod outcome;
-mod params;
 mod prepare;
 mod refusals;
 mod script;
+mod source;
 mod status;
 mod stop;
 mod words;

@@ -2,22 +2,27 @@
 ghost use Rattle.std.specs.Prelude.{◌≡◌, ◌≤◌, ◌<◌, ℕ, [], List, Bool, length, IfOk, IfErr, OnOk, Some};
 ghost use Rattle.list_laws.specs.Members.{In};
 ghost use Rattle.tl_io.specs.Shelf.{Files};
+ghost use Rattle.run_text.specs.Parameters.{AreParameters};
+ghost use Rattle.run_text.specs.ParamsText.{IsParamsText, HasOneReading};
 ghost use Rattle.tlut_cli.specs.WordsSeen.{job_seen};
-ghost use Rattle.tlut_cli.specs.NetlistGraph.{IsWellFormed};
-ghost use Rattle.tlut_cli.specs.Verdict.{HasText, HasNetlist, HasNoParams, HasScript};
-ghost use Rattle.tlut_cli.specs.Settled.{IsNetlistSettled};
-ghost use Rattle.tlut_cli.specs.Comes.{ComesTo, ComesPast};
+ghost use Rattle.tlut_cli.specs.Texts.{IsParamsRefusal};
+ghost use Rattle.tlut_cli.specs.ReadNetlist.{IsReadNetlist};
+ghost use Rattle.tlut_cli.specs.Verdict.{HasText, HasNetlist, HasParams, HasScript};
+ghost use Rattle.tlut_cli.specs.Settled.{IsNetlistSettled, AreParamsSettled};
+ghost use Rattle.tlut_cli.specs.Stops.{Stops};
+ghost use Rattle.tlut_cli.specs.Comes.{ComesTo, ComesFrom, ComesWith, ComesPast};
 ghost use Rattle.tlut_cli.specs.Ends.{Told, Explains};
 ghost use Rattle.tlut_cli.specs.Prepared.{IsReady, IsPreparedFor};
 
-use crate::built::read_netlist;
-use crate::circuit::{Circuit, map_netlist};
-use crate::netlist::Netlist;
+use crate::circuit::Circuit;
+use crate::mapping::map_source;
+use crate::netlist::{Netlist, read_netlist};
 use crate::outcome::{File, Outcome};
-use crate::params::read_params;
 use crate::script::{Vector, read_script};
+use crate::source::Source;
+use crate::stop::Stop;
 use crate::words::{Job, file_name};
-use run_text::LineBuf;
+use run_text::{LineBuf, Params, read_params};
 use std::alloc::Global;
 use tl_io::{Shelf, Slurp, slurp};
 use tl_text::MOST_BYTES;
@@ -58,7 +63,7 @@ fn read_file<S: Shelf>(
 
 // Reads the netlist.
 fn read_netlist_file<S: Shelf>(alloc: Global, job: &Job, shelf: &mut S) -> Result<Netlist, Outcome>
-    ensures formed { IfOk result IsWellFormed }
+    ensures read { IfOk result IsReadNetlist }
     ensures netlist { IfOk result (λ n. Told (S.seen shelf.old).files (λ files. HasNetlist files (job_seen job.now) n)) }
     ensures settled { OnOk result (Told (S.seen shelf.old).files (λ files. IsNetlistSettled files (job_seen job.now))) }
     ensures given { OnOk result ((S.seen shelf.new).given ≤ MOST_BYTES) }
@@ -73,39 +78,77 @@ fn read_netlist_file<S: Shelf>(alloc: Global, job: &Job, shelf: &mut S) -> Resul
     }
 }
 
-// Reads the parameter list, which has to be empty so far.
-fn read_params_file<S: Shelf>(alloc: Global, job: &Job, shelf: &mut S) -> Result<(), Outcome>
-    requires { Told (S.seen shelf.old).files (λ files. ComesTo files (job_seen job.now) File.Params) }
-    ensures params { OnOk result (Told (S.seen shelf.old).files (λ files. HasNoParams files (job_seen job.now))) }
+// The parameters that a text lists.
+fn list_params(alloc: Global, text: &[u8], netlist: &Netlist) -> Result<Params, Stop>
+    requires short { length text.now ≤ MOST_BYTES }
+    requires read { IsReadNetlist netlist.now }
+    ensures params { IfOk result (λ params. IsParamsText netlist.now.flat text.now params.list) }
+    ensures are { IfOk result (λ params. AreParameters netlist.now.flat params.list) }
+    ensures err { IfErr result (Stops (IsParamsRefusal netlist.now.flat text.now)) }
+    ensures one { HasOneReading netlist.now.flat text.now }
+{
+    let params = read_params(alloc, text, &netlist.flat)?;
+    Ok(params)
+}
+
+// Reads the parameters of a netlist.
+fn read_params_file<S: Shelf>(
+    alloc: Global,
+    job: &Job,
+    netlist: &Netlist,
+    shelf: &mut S,
+) -> Result<Params, Outcome>
+    requires read { IsReadNetlist netlist.now }
+    requires comes { Told (S.seen shelf.old).files (λ files. ComesFrom files (job_seen job.now) netlist.now) }
+    ensures params { IfOk result (λ params. Told (S.seen shelf.old).files (λ files. HasParams files (job_seen job.now) netlist.now.flat params.list)) }
+    ensures are { IfOk result (λ params. AreParameters netlist.now.flat params.list) }
+    ensures settled { OnOk result (Told (S.seen shelf.old).files (λ files. AreParamsSettled files (job_seen job.now) netlist.now)) }
     ensures given { OnOk result ((S.seen shelf.new).given ≤ MOST_BYTES) }
     ensures err { IfErr result (λ outcome. Explains (job_seen job.now) (S.seen shelf.old) (S.seen shelf.new) outcome) }
     ensures later { (S.seen shelf.old).read_faults ≤ (S.seen shelf.new).read_faults }
     ensures files { (S.seen shelf.new).files ≡ (S.seen shelf.old).files }
 {
     let text = read_file(alloc, job, File::Params, shelf)?;
-    match read_params(alloc, &text) {
-        Ok(()) => Ok(()),
+    match list_params(alloc, &text, netlist) {
+        Ok(params) => Ok(params),
         Err(stop) => Err(stop.at(File::Params)),
     }
 }
 
-// Reads the script of a netlist.
+// Reads the source circuit: the netlist, then its parameters.
+fn read_source<S: Shelf>(alloc: Global, job: &Job, shelf: &mut S) -> Result<Source, Outcome>
+    ensures read { IfOk result (λ source. IsReadNetlist source.netlist) }
+    ensures params { IfOk result (λ source. AreParameters source.netlist.flat source.params.list) }
+    ensures source { IfOk result (λ source. Told (S.seen shelf.old).files (λ files. ComesWith files (job_seen job.now) source)) }
+    ensures given { OnOk result ((S.seen shelf.new).given ≤ MOST_BYTES) }
+    ensures err { IfErr result (λ outcome. Explains (job_seen job.now) (S.seen shelf.old) (S.seen shelf.new) outcome) }
+    ensures later { (S.seen shelf.old).read_faults ≤ (S.seen shelf.new).read_faults }
+    ensures files { (S.seen shelf.new).files ≡ (S.seen shelf.old).files }
+{
+    let netlist = read_netlist_file(alloc, job, shelf)?;
+    match read_params_file(alloc, job, &netlist, shelf) {
+        Ok(params) => Ok(Source { netlist, params }),
+        Err(outcome) => Err(outcome),
+    }
+}
+
+// Reads the script of a mapped circuit of this width.
 fn read_script_file<S: Shelf>(
     alloc: Global,
     job: &Job,
-    netlist: &Netlist,
+    width: usize,
     shelf: &mut S,
 ) -> Result<Vec<Vector>, Outcome>
-    requires { Told (S.seen shelf.old).files (λ files. ComesPast files (job_seen job.now) netlist.now) }
-    ensures script { IfOk result (λ v. Told (S.seen shelf.old).files (λ files. HasScript files (job_seen job.now) (length netlist.now.inputs) v.items)) }
-    ensures widths { IfOk result (λ v. (x : List Bool) → In v.items x → length x ≡ length netlist.now.inputs) }
+    requires { Told (S.seen shelf.old).files (λ files. ComesPast files (job_seen job.now) width) }
+    ensures script { IfOk result (λ v. Told (S.seen shelf.old).files (λ files. HasScript files (job_seen job.now) width v.items)) }
+    ensures widths { IfOk result (λ v. (x : List Bool) → In v.items x → length x ≡ width) }
     ensures given { OnOk result ((S.seen shelf.new).given ≤ MOST_BYTES) }
     ensures err { IfErr result (λ outcome. Explains (job_seen job.now) (S.seen shelf.old) (S.seen shelf.new) outcome) }
     ensures later { (S.seen shelf.old).read_faults ≤ (S.seen shelf.new).read_faults }
     ensures files { (S.seen shelf.new).files ≡ (S.seen shelf.old).files }
 {
     let text = read_file(alloc, job, File::Script, shelf)?;
-    match read_script(alloc, &text, netlist.inputs.len()) {
+    match read_script(alloc, &text, width) {
         Ok(vectors) => Ok(vectors),
         Err(stop) => Err(stop.at(File::Script)),
     }
@@ -125,15 +168,12 @@ pub fn prepare<S: Shelf>(alloc: Global, job: &Job, shelf: &mut S) -> Result<Prep
     ensures later { (S.seen shelf.old).read_faults ≤ (S.seen shelf.new).read_faults }
     ensures files { (S.seen shelf.new).files ≡ (S.seen shelf.old).files }
 {
-    let netlist = read_netlist_file(alloc, job, shelf)?;
-    if let Err(outcome) = read_params_file(alloc, job, shelf) {
-        return Err(outcome);
-    }
-    let circuit = match map_netlist(alloc, netlist, job.k) {
+    let source = read_source(alloc, job, shelf)?;
+    let circuit = match map_source(alloc, &source, job.k) {
         Ok(circuit) => circuit,
         Err(stop) => return Err(stop.at(File::Netlist)),
     };
-    let vectors = match read_script_file(alloc, job, &circuit.netlist, shelf) {
+    let vectors = match read_script_file(alloc, job, circuit.width as usize, shelf) {
         Ok(vectors) => vectors,
         Err(outcome) => return Err(outcome),
     };

@@ -17,10 +17,3 @@ pub fn unbuilt(line: u32) -> Refusal
 {
     Refusal::new("X1", "Unbuilt", Details::Line(line))
 }
-
-/// The graph has more than `MOST_NODES` AND nodes.
-pub fn too_many_nodes() -> Refusal
-    ensures { result ≡ own.too_many_nodes }
-{
-    Refusal::new("L3", "TooManyNodes", Details::Nothing)
-}

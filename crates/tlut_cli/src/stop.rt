@@ -1,14 +1,16 @@
-//! Why a text isn't read, or a netlist isn't mapped.
+//! Why a text isn't read, or a source circuit isn't mapped.
 use crate::outcome::{File, Outcome};
+use aig_build::BuildErr;
 use blif_flat::FlatErr;
 use blif_read::BlifErr;
 use cover_pick::PickErr;
 use cut_enum::CutErr;
+use run_text::ParErr;
 use std::alloc::{AllocError, AllocFailed};
 use tl_fault::Refusal;
 use tl_text::TextErr;
 
-/// Why a text isn't read, or a netlist isn't mapped.
+/// Why a text isn't read, or a source circuit isn't mapped.
 #[derive(Debug, Drop)]
 pub enum Stop {
     /// It is refused.
@@ -96,6 +98,30 @@ impl From<FlatErr> for Stop {
     ghost from_gives = { λ error stop. refusal_of stop ≡ refusal_there error };
 
     fn from(error: FlatErr) -> Stop {
+        Stop::of(error.refusal())
+    }
+}
+
+impl From<ParErr> for Stop {
+    ghost use Rattle.std.specs.Prelude.{◌≡◌};
+    ghost use Rattle.run_text.specs.Refusals.{refusal_of as refusal_there};
+    ghost use Rattle.tlut_cli.specs.Stops.{refusal_of};
+
+    ghost from_gives = { λ error stop. refusal_of stop ≡ refusal_there error };
+
+    fn from(error: ParErr) -> Stop {
+        Stop::of(error.refusal())
+    }
+}
+
+impl From<BuildErr> for Stop {
+    ghost use Rattle.std.specs.Prelude.{◌≡◌};
+    ghost use Rattle.aig_build.specs.Refusals.{refusal_of as refusal_there};
+    ghost use Rattle.tlut_cli.specs.Stops.{refusal_of};
+
+    ghost from_gives = { λ error stop. refusal_of stop ≡ refusal_there error };
+
+    fn from(error: BuildErr) -> Stop {
         Stop::of(error.refusal())
     }
 }

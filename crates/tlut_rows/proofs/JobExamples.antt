@@ -1,27 +1,29 @@
--- Worked examples of the definitions: words, netlists, scripts, cycles and fault lines.
-use Rattle.std.proofs.Common.{◌≡◌, ℕ, zero, suc, Bool, true, false, cond, List, [], ◌∷◌, bytes_eq, codes, Option, Some, None, Ok, Err, map, refl, sym, ap, ◌∙◌, subst}
-use Rattle.std.specs.List.{slice_get}
-use Rattle.std.proofs.lemmas.Option.{none-some, same_Some}
+-- Worked examples of the definitions: words, widths, scripts, lines and fault lines.
+use Rattle.std.proofs.Common.{◌≡◌, ℕ, Bool, true, false, cond, List, [], ◌∷◌, bytes_eq, codes, Option, Some, None, Ok, Err, map, refl, ap, inl, inr}
+use Rattle.list_laws.specs.Members.{In}
 use Rattle.tl_text.specs.LineValue.{WordsLine}
-use Rattle.blif_read.specs.declared.cell.Cell.TheVariants.{Zero, One}
+use Rattle.blif_read.specs.declared.cell.Cell.TheVariants.{One}
 use Rattle.blif_read.specs.declared.command.Body.TheVariants.{Cover}
-use Rattle.blif_read.specs.CoverValue.{CoverValue, cover_value}
-use Rattle.blif_read.specs.LibraryValue.{ModelValue}
-use Rattle.tlut_cli.specs.declared.outcome.File.TheVariants as file
-use Rattle.tl_fault.specs.RefusalValue.{RefusalValue}
+use Rattle.blif_read.specs.CoverValue.{CoverValue}
+use Rattle.blif_read.specs.LibraryValue.{LibraryValue}
 use Rattle.blif_read.specs.Refusals.{refusal_of as blif_refusal}
 use Rattle.blif_read.specs.declared.blif_err.BlifErr.TheVariants as blif_err
+use Rattle.blif_flat.specs.FlatValue.{FlatValue}
+use Rattle.blif_flat.specs.declared.flat.Net.TheVariants as net
 use Rattle.blif_flat.specs.Refusals.{refusal_of as flat_refusal}
 use Rattle.blif_flat.specs.declared.flat_err.FlatErr.TheVariants as flat_err
 use Rattle.std.specs.Option.{option_map}
-use Rattle.tlut_cli.specs.Statuses.{refusal_status}
-use Rattle.tlut_cli.specs.declared.status.Status.TheVariants as status
+use Rattle.tl_fault.specs.RefusalValue.{RefusalValue}
+use Rattle.tlut_cli.specs.declared.outcome.File.TheVariants as file
 use Rattle.tlut_cli.specs.declared.outcome.Outcome.TheVariants as outcome
-use Rattle.tlut_cli.specs.Words.{job_of}
-use Rattle.tlut_cli.specs.Netlist.{NetlistValue, IsNetlistCycle}
-use Rattle.tlut_cli.specs.Built.{netlist_of}
-use Rattle.tlut_cli.specs.Script.{vectors_of}
+use Rattle.tlut_cli.specs.declared.source.Source.{Source}
+use Rattle.tlut_cli.specs.declared.status.Status.TheVariants as status
 use Rattle.tlut_cli.specs.FaultLine.{line_of}
+use Rattle.tlut_cli.specs.JobText.{AreInputValues, cycle_lines}
+use Rattle.tlut_cli.specs.Script.{vectors_of}
+use Rattle.tlut_cli.specs.SourceCircuit.{width_of}
+use Rattle.tlut_cli.specs.Statuses.{refusal_status}
+use Rattle.tlut_cli.specs.Words.{job_of}
 
 -- the words of a job, and words of no form
 words_of_a_job : job_of (codes "run" ∷ codes "2" ∷ codes "n" ∷ codes "p" ∷ codes "s" ∷ codes "0" ∷ codes "0" ∷ []) ≡ Some (record { k = 2; netlist = codes "n"; params = codes "p"; script = codes "s" })
@@ -30,7 +32,7 @@ words_of_a_job = refl
 tables_of_seven_inputs : job_of (codes "run" ∷ codes "7" ∷ codes "n" ∷ codes "p" ∷ codes "s" ∷ codes "0" ∷ codes "0" ∷ []) ≡ None
 tables_of_seven_inputs = refl
 
--- the netlist of a AND NOT b
+-- the source circuit of a AND b AND p, where p is a parameter of 1
 abbrev a : List ℕ
 a = codes "a"
 
@@ -40,36 +42,51 @@ b = codes "b"
 abbrev y : List ℕ
 y = codes "y"
 
-abbrev a_without_b : CoverValue
-a_without_b = record { inputs = a ∷ b ∷ []; output = y; value = true; rows = record { cells = One ∷ Zero ∷ [] } ∷ [] }
+abbrev p : List ℕ
+p = codes "p"
 
-abbrev model_with : CoverValue → ModelValue
-model_with cover = record { name = codes "m"; line = 1; inputs = a ∷ b ∷ []; outputs = y ∷ []; clocks = []; commands = record { line = 4; body = Cover cover } ∷ [] }
+abbrev and3 : CoverValue
+and3 = record { inputs = a ∷ b ∷ p ∷ []; output = y; value = true; rows = record { cells = One ∷ One ∷ One ∷ [] } ∷ [] }
 
-abbrev netlist : NetlistValue
-netlist = record { inputs = a ∷ b ∷ []; outputs = y ∷ []; cover = Some a_without_b }
+abbrev library : LibraryValue
+library = record { models = record { name = codes "m"; line = 1; inputs = a ∷ b ∷ p ∷ []; outputs = y ∷ []; clocks = []; commands = record { line = 4; body = Cover and3 } ∷ [] } ∷ [] }
 
-one_model : netlist_of (record { models = model_with a_without_b ∷ [] }) ≡ Ok netlist
-one_model = refl
+abbrev flat : FlatValue
+flat = record {
+  model = codes "m";
+  inputs = a ∷ b ∷ p ∷ [];
+  clocks = [];
+  control = None;
+  outputs = record { name = y; net = net.Cover 0 } ∷ [];
+  covers = record { model = 0; command = 0; inputs = net.Input 0 ∷ net.Input 1 ∷ net.Input 2 ∷ [] } ∷ [];
+  latches = [];
+  order = 0 ∷ [];
+  under = 0;
+}
 
--- a model that isn't reached is free
-an_unreached_model : netlist_of (record { models = model_with a_without_b ∷ record (model_with a_without_b) { line = 7; outputs = codes "z" ∷ [] } ∷ [] }) ≡ Ok netlist
-an_unreached_model = refl
+abbrev source : Source
+source = record { netlist = record { library = library; flat = flat }; params = record { list = record { name = p; input = 2; init = true } ∷ [] } }
 
--- what isn't built is told by the line of the main model
-abbrev another_cover : CoverValue
-another_cover = record a_without_b { output = codes "z" }
+-- a cycle gives a and b values
+two_regular_inputs : width_of source ≡ 2
+two_regular_inputs = refl
 
-a_second_cover : netlist_of (record { models = record (model_with a_without_b) { line = 3; commands = record { line = 6; body = Cover a_without_b } ∷ record { line = 8; body = Cover another_cover } ∷ [] } ∷ [] }) ≡ Err 3
-a_second_cover = refl
+-- the values of the inputs by their names: a and p are 1, and b is 0
+abbrev value : List ℕ → Bool
+value name = cond (bytes_eq name b) false true
 
-an_off_set : netlist_of (record { models = model_with (record a_without_b { value = false }) ∷ [] }) ≡ Err 1
-an_off_set = refl
+values_of_a_cycle : AreInputValues source ((true ∷ false ∷ []) ∷ []) (value ∷ [])
+values_of_a_cycle = record { regular = refl; params = listed }
+  where
+    listed : (x : List ℕ → Bool) → In (value ∷ []) x → map x (p ∷ []) ≡ true ∷ []
+    listed x (inl e) = ap (λ (f : List ℕ → Bool). map f (p ∷ [])) e
+    listed x (inr i) = elim i [ ]
 
-an_undriven_output : netlist_of (record { models = record (model_with a_without_b) { outputs = y ∷ codes "z" ∷ [] } ∷ [] }) ≡ Err 1
-an_undriven_output = refl
+-- a latch that turns, over two cycles
+lines_of_two_cycles : cycle_lines ((true ∷ []) ∷ (false ∷ []) ∷ []) ((false ∷ []) ∷ (true ∷ []) ∷ []) ≡ codes "cycle 1 0\n" ∷ codes "cycle 0 1\n" ∷ []
+lines_of_two_cycles = refl
 
--- its script of two cycles
+-- a script of two cycles
 abbrev cycle_line : ℕ → List ℕ → WordsLine
 cycle_line number token = record { number = number; words = codes "cycle" ∷ token ∷ [] }
 
@@ -78,21 +95,6 @@ two_cycles = refl
 
 one_value_too_few : vectors_of 2 (cycle_line 1 (codes "10") ∷ cycle_line 3 (codes "1") ∷ []) ≡ Err 3
 one_value_too_few = refl
-
--- The first cycle: the output is 1.
-abbrev value : List ℕ → Bool
-value name = cond (bytes_eq name b) false true
-
-inputs_fit : (i : ℕ) (name : List ℕ) (bit : Bool) → slice_get (a ∷ b ∷ []) i ≡ Some name → slice_get (true ∷ false ∷ []) i ≡ Some bit → value name ≡ bit
-inputs_fit zero name bit at is = ap value (sym (same_Some a name at)) ∙ same_Some true bit is
-inputs_fit (suc zero) name bit at is = ap value (sym (same_Some b name at)) ∙ same_Some false bit is
-inputs_fit (suc (suc i)) name bit at is = absurd (none-some name at)
-
-cover_fits : (cover : CoverValue) → Some a_without_b ≡ Some cover → value cover.output ≡ cover_value cover (map value cover.inputs)
-cover_fits cover is = subst (λ (c : CoverValue). value c.output ≡ cover_value c (map value c.inputs)) (same_Some a_without_b cover is) refl
-
-first_cycle : IsNetlistCycle netlist (true ∷ false ∷ []) (true ∷ [])
-first_cycle = record { value = value; fits = record { input = inputs_fit; cover = cover_fits }; outputs_are = refl }
 
 -- fault lines, byte by byte
 abbrev told_line : Option RefusalValue → List ℕ

@@ -6,13 +6,15 @@
 //!
 //! - `tests/job.rt` has what a test is made of: files, words, a call, and what the call left.
 //! - `tests/mapping.rt` has accepted jobs: the header's numbers and the lines of the cycles.
+//! - `tests/circuits.rt` has netlists of several covers and models, with latches and with parameters.
+//! - `tests/lists.rt` has parameter lists that are refused, and what a listed value does.
 //! - `tests/refusals.rt` has jobs that are refused, each with its fault line.
-//! - `tests/flat.rt` has netlists whose models, drivers, clocks or loops are refused, and what flattens and isn't built yet.
+//! - `tests/flat.rt` has netlists whose models, drivers, clocks or loops are refused, and what flattens.
 //! - `tests/corners.rt` has corners of texts, models and nets, and a cycle through a thousand models.
 //! - `tests/faults.rt` has files that aren't there, and an output, or an error output, that fails.
 //!
 //! Definitions have worked examples too, as lemmas in `proofs/`: `TextExamples.antt` has a text with the library that it
-//! denotes and one text for each refusal, `JobExamples.antt` words, netlists, scripts, a cycle and fault lines.
+//! denotes and one text for each refusal, `JobExamples.antt` words, widths, scripts, lines and fault lines.
 //!
 //! There is nothing here to call.
 #![tactic(auto)]

@@ -1,5 +1,5 @@
 //! Corners of the texts and of flattening: each refusal with its exact line.
-use crate::tests::job::{Row, assert_ran, assert_rows, refused, run, shelf_of};
+use crate::tests::job::{Row, accepted, assert_ran, assert_rows, refused, run, shelf_of};
 use std::alloc::{AllocError, Global};
 use std::test::Fail;
 use tlut_cli::Status;
@@ -27,10 +27,12 @@ fn corners_of_texts(rt: HostRuntime) -> Result<(), Fail> {
             ".model m\n.latch a b as c 9\n.end\n",
             "tlut: n.blif: B8 LatchKind line 2\n",
         ),
-        refused(
-            "a row of the off-set without inputs, which is read and isn't built",
+        accepted(
+            "a row of the off-set without inputs",
+            "4",
             ".model m\n.outputs y\n.names y\n0\n.end\n",
-            "tlut: n.blif: X1 Unbuilt line 1\n",
+            "cycle -\n",
+            "luts 1 bits 1 depth 0\ncycle 0 -\n",
         ),
         refused(
             "a connection is split at its first =",
@@ -76,10 +78,12 @@ fn corners_of_nets(rt: HostRuntime) -> Result<(), Fail> {
             ".model m\n.inputs d a\n.outputs q\n.subckt box a=a g=k\n.latch d q re k 0\n.end\n.model box\n.inputs a\n.outputs g\n.names a g\n1 1\n.end\n",
             "tlut: n.blif: F8 ClockNotInput 0/g\n",
         ),
-        refused(
-            "a clock name of a model inside is data like another one, and isn't built",
+        accepted(
+            "a clock name of a model inside is data like another one",
+            "4",
             ".model m\n.inputs a\n.outputs y\n.subckt box c=a y=y\n.end\n.model box\n.outputs y\n.clock c\n.names c y\n1 1\n.end\n",
-            "tlut: n.blif: X1 Unbuilt line 1\n",
+            "cycle 1\ncycle 0\n",
+            "luts 0 bits 0 depth 0\ncycle 1 -\ncycle 0 -\n",
         ),
         refused(
             "a loop that no output and no latch reads",

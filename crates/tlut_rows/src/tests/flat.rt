@@ -1,4 +1,4 @@
-//! Netlists that are refused for their models, drivers, clocks or loops, and what flattens and isn't built yet.
+//! Netlists that are refused for their models, drivers, clocks or loops, and what flattens.
 use crate::tests::job::{Row, accepted, assert_rows, refused};
 use std::test::Fail;
 use tlut_cli::Status;
@@ -193,28 +193,37 @@ fn orders_of_clocks(rt: HostRuntime) -> Result<(), Fail> {
     assert_rows(&rt, rt.alloc(), &rows)
 }
 
+// The control is no regular input, so that a cycle gives `d` alone a value. A wire needs no table.
 #[test]
-fn what_flattens_and_is_not_built(rt: HostRuntime) -> Result<(), Fail> {
+fn what_flattens(rt: HostRuntime) -> Result<(), Fail> {
     let rows: [Row; 4] = [
-        refused(
+        accepted(
             "a control through two levels",
+            "4",
             "# top\n.model m\n.inputs d k\n.outputs q\n.subckt box d=d k=k q=q\n.end\n.model box\n.inputs d k\n.outputs q\n.subckt cell d=d c=k q=q\n.end\n.model cell\n.inputs d c\n.outputs q\n.latch d q re c 0\n.end\n",
-            "tlut: n.blif: X1 Unbuilt line 2\n",
+            "cycle 1\ncycle 0\n",
+            "luts 0 bits 0 depth 0\ncycle 0 1\ncycle 1 0\n",
         ),
-        refused(
+        accepted(
             "a clock that is an input too",
+            "4",
             ".model m\n.inputs d k\n.outputs q\n.clock k\n.latch d q re k 0\n.end\n",
-            "tlut: n.blif: X1 Unbuilt line 1\n",
+            "cycle 1\ncycle 0\n",
+            "luts 0 bits 0 depth 0\ncycle 0 1\ncycle 1 0\n",
         ),
-        refused(
+        accepted(
             "an output without a connection",
+            "4",
             ".model m\n.inputs a\n.outputs y\n.subckt box i=a o=y\n.end\n.model box\n.inputs i\n.outputs o p\n.names i o\n1 1\n.names p\n.end\n",
-            "tlut: n.blif: X1 Unbuilt line 1\n",
+            "cycle 1\n",
+            "luts 0 bits 0 depth 0\ncycle 1 -\n",
         ),
-        refused(
+        accepted(
             "covers that reconverge",
+            "4",
             ".model m\n.inputs a\n.outputs y\n.names a s\n1 1\n.names s t\n1 1\n.names s u\n1 1\n.names t u y\n11 1\n.end\n",
-            "tlut: n.blif: X1 Unbuilt line 1\n",
+            "cycle 1\ncycle 0\n",
+            "luts 0 bits 0 depth 0\ncycle 1 -\ncycle 0 -\n",
         ),
     ];
     assert_rows(&rt, rt.alloc(), &rows)

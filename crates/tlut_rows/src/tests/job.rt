@@ -131,6 +131,27 @@ pub fn accepted(
     }
 }
 
+/// An accepted job with a parameter list.
+pub fn accepted_with(
+    title: &'static str,
+    k: &'static str,
+    netlist: &'static str,
+    params: &'static str,
+    script: &'static str,
+    out: &'static str,
+) -> Row {
+    Row {
+        title,
+        k,
+        netlist,
+        params,
+        script,
+        status: Status::Done,
+        out,
+        err: "",
+    }
+}
+
 /// A netlist that is refused, before its script is looked at.
 pub fn refused(title: &'static str, netlist: &'static str, err: &'static str) -> Row {
     Row {

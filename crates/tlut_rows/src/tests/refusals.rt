@@ -1,49 +1,12 @@
 //! Jobs that are refused.
 use crate::tests::job::{
-    AND2, Row, USAGE, WORDS, accepted, assert_ran, assert_rows, refused, run, run_with, shelf_of,
+    AND2, Row, USAGE, WORDS, assert_ran, assert_rows, refused, run, run_with, shelf_of,
 };
 use std::alloc::Global;
 use std::process::Abort;
 use std::test::Fail;
 use tl_io::{ConfigPort, MemPort};
 use tlut_cli::Status;
-
-#[test]
-fn commands_that_are_not_built(rt: HostRuntime) -> Result<(), Fail> {
-    let rows: [Row; 6] = [
-        refused(
-            "a second cover",
-            ".model m\n.inputs a b\n.outputs y\n.names a y\n1 1\n.names b z\n1 1\n.end\n",
-            "tlut: n.blif: X1 Unbuilt line 1\n",
-        ),
-        refused(
-            "a second row",
-            "# rows\n.model m\n.inputs a b\n.outputs y\n.names a b y\n1- 1\n-1 1\n.end\n",
-            "tlut: n.blif: X1 Unbuilt line 2\n",
-        ),
-        refused(
-            "a row of an off-set",
-            ".model m\n.inputs a b\n.outputs y\n.names a b y\n11 0\n.end\n",
-            "tlut: n.blif: X1 Unbuilt line 1\n",
-        ),
-        refused(
-            "a latch",
-            ".model m\n.inputs d\n.outputs q\n.latch d q 0\n.end\n",
-            "tlut: n.blif: X1 Unbuilt line 1\n",
-        ),
-        refused(
-            "a subcircuit",
-            "\n\n.model m\n.inputs a\n.outputs a\n.subckt f i=a\n.end\n.model f\n.inputs i\n.end\n",
-            "tlut: n.blif: X1 Unbuilt line 3\n",
-        ),
-        refused(
-            "a clock",
-            ".model m\n.inputs a\n.outputs a\n.clock c\n.end\n",
-            "tlut: n.blif: X1 Unbuilt line 1\n",
-        ),
-    ];
-    assert_rows(&rt, rt.alloc(), &rows)
-}
 
 #[test]
 fn libraries_that_are_refused(rt: HostRuntime) -> Result<(), Fail> {
@@ -72,26 +35,6 @@ fn libraries_that_are_refused(rt: HostRuntime) -> Result<(), Fail> {
             "an output that nothing drives, before a second model",
             ".model m\n.inputs a\n.outputs y\n.end\n.model n\n.end\n",
             "tlut: n.blif: F6 Undriven model m line 1 y\n",
-        ),
-    ];
-    assert_rows(&rt, rt.alloc(), &rows)
-}
-
-#[test]
-fn second_models(rt: HostRuntime) -> Result<(), Fail> {
-    let rows: [Row; 2] = [
-        refused(
-            "a latch before a second model",
-            ".model m\n.inputs d\n.latch d q\n.model n\n.end\n",
-            "tlut: n.blif: X1 Unbuilt line 1\n",
-        ),
-        // No line places it, so its output may be undriven.
-        accepted(
-            "a second model that isn't reached",
-            "2",
-            ".model m\n.inputs a\n.outputs a\n.end\n.model n\n.outputs z\n.end\n",
-            "cycle 1\n",
-            "luts 0 bits 0 depth 0\ncycle 1 -\n",
         ),
     ];
     assert_rows(&rt, rt.alloc(), &rows)
@@ -202,13 +145,7 @@ fn refused_text(
 
 #[test]
 fn lists_and_scripts_that_are_refused(rt: HostRuntime) -> Result<(), Fail> {
-    let rows: [Row; 7] = [
-        refused_text(
-            "a parameter",
-            "# the list\na 0\n",
-            "cycle 11\n",
-            "tlut: n.par: X1 Unbuilt line 2\n",
-        ),
+    let rows: [Row; 6] = [
         refused_text(
             "a bad byte in the list",
             "\x7f",
