@@ -3,7 +3,7 @@ use Rattle.std.specs.Prelude.{ℕ, Bool, nat_eq, List, [], ◌∷◌, ◌++◌, 
 use Rattle.std.specs.List.{starts_with}
 use Rattle.tl_fault.specs.RefusalValue.{RefusalValue}
 use Rattle.tl_fault.specs.declared.refusal.Details.{Details}
-use Rattle.tl_fault.specs.declared.refusal.Details.TheVariants.{Nothing, Line, Named, Located, One, Two, Listed, Node}
+use Rattle.tl_fault.specs.declared.refusal.Details.TheVariants.{Nothing, Line, Named, Located, One, Two, Listed, Node, Width, Bits, Byte}
 
 -- the words of the details
 abbrev pub details_words : Details → List (List ℕ)
@@ -15,6 +15,9 @@ details_words (One name) = name ∷ []
 details_words (Two first second) = first ∷ second ∷ []
 details_words (Listed names) = names
 details_words (Node node) = codes "node" ∷ decimal node ∷ []
+details_words (Width number width) = codes "line" ∷ decimal number ∷ codes "width" ∷ decimal width ∷ []
+details_words (Bits number bits) = codes "line" ∷ decimal number ∷ codes "bits" ∷ decimal bits ∷ []
+details_words (Byte offset) = codes "byte" ∷ decimal offset ∷ []
 
 -- words, each after a blank
 abbrev pub spaced : List (List ℕ) → List ℕ

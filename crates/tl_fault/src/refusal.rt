@@ -22,6 +22,12 @@ pub enum Details {
     Listed(Names),
     /// A node of a graph.
     Node(u32),
+    /// A line, and how many values a cycle has.
+    Width(u32, u32),
+    /// A line, and how many configuration bits there are.
+    Bits(u32, u32),
+    /// The offset of a byte in a file, from 0.
+    Byte(u32),
 }
 
 /// A refusal. A code that begins with `L` is a limit of the tool; each other one blames the input.

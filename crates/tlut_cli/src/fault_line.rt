@@ -1,5 +1,5 @@
 //! The line on the error output.
-ghost use Rattle.std.specs.Prelude.{◌≡◌, ◌≤◌, ℕ, [], ◌∷◌, List, map};
+ghost use Rattle.std.specs.Prelude.{◌≡◌, ◌≤◌, ℕ, [], ◌∷◌, List, map, codes, decimal};
 ghost use Rattle.std.specs.List.{concat};
 ghost use Rattle.tl_io.specs.Causes.{HasCause, Rose};
 ghost use Rattle.tl_io.specs.Content.{Puts};
@@ -53,6 +53,18 @@ fn put_names<E: Sink>(err: &mut E, names: &[Name]) -> Result<(), Failed>
     Ok(())
 }
 
+// Puts a line's number, a word and another number.
+fn put_counted<E: Sink>(err: &mut E, line: u32, word: &[u8], count: u32) -> Result<(), Failed>
+    ensures cause { HasCause (E.faults err.old) (E.faults err.new) result }
+    ensures grown { Puts (E.bytes err.old) (E.bytes err.new) (spaced (codes "line" ∷ decimal line ∷ word.now ∷ decimal count ∷ [])) result }
+{
+    let mut first = Buffer::new();
+    let mut second = Buffer::new();
+    let line = first.format(line).as_bytes();
+    let count = second.format(count).as_bytes();
+    put_words(err, &[b"line", line, word, count])
+}
+
 // Puts the details of a refusal.
 fn put_details<E: Sink>(err: &mut E, details: &Details) -> Result<(), Failed>
     ensures cause { HasCause (E.faults err.old) (E.faults err.new) result }
@@ -74,6 +86,9 @@ fn put_details<E: Sink>(err: &mut E, details: &Details) -> Result<(), Failed>
         Details::Two(first, second) => put_words(err, &[first.bytes(), second.bytes()]),
         Details::Listed(names) => put_names(err, names.list()),
         Details::Node(node) => put_words(err, &[b"node", digits.format(*node).as_bytes()]),
+        Details::Width(line, width) => put_counted(err, *line, b"width", *width),
+        Details::Bits(line, bits) => put_counted(err, *line, b"bits", *bits),
+        Details::Byte(offset) => put_words(err, &[b"byte", digits.format(*offset).as_bytes()]),
     }
 }
 

@@ -133,7 +133,11 @@ fn put_details(out: &mut Vec<u8>, details: &Details) -> Result<(), AllocError> {
             put_name(out, b" ", second)
         }
         Details::Listed(names) => put_names(out, b"", names.list()),
-        Details::Node(node) => put_number(out, b" ", *node),
+        Details::Node(number) | Details::Byte(number) => put_number(out, b" ", *number),
+        Details::Width(line, number) | Details::Bits(line, number) => {
+            put_number(out, b" ", *line)?;
+            put_number(out, b" ", *number)
+        }
     }
 }
 
