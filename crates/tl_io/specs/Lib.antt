@@ -4,6 +4,7 @@ pub mod Counts
 pub mod Shelf
 pub mod Slurp
 pub mod Port
+pub mod PortLine
 pub mod FaultPlan
 pub mod MemSink
 pub mod MemPort
@@ -13,3 +14,5 @@ pub mod MemFiles
 pub mod ShelfCounts
 pub mod DiskValue
 pub mod StdSinkValue
+pub mod Writes
+pub mod Assigns

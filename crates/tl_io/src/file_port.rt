@@ -1,6 +1,8 @@
-ghost use Rattle.std.specs.Prelude.{◌≡◌, ◌-◌, ◌^◌, ◌≤◌, None, ℕ};
+ghost use Rattle.std.specs.Io.KnownBytes.{Appends};
+ghost use Rattle.std.specs.Prelude.{◌≡◌, ◌-◌, ◌^◌, ◌≤◌, None, ℕ, OnOk};
 ghost use Rattle.tl_io.specs.Counts.{count_of};
 ghost use Rattle.tl_io.specs.Port.{PortSeen, new_port};
+ghost use Rattle.tl_io.specs.PortLine.{port_line};
 
 use crate::inner_write::write_whole;
 use crate::told_name::{NAME_ROOM, ToldName};
@@ -58,11 +60,20 @@ fn created<R: Files>(rt: &R, name: &[u8]) -> Result<R::File, Failed> {
     }
 }
 
-// Writes the line of a bit.
-fn write_line<W: std::io::Write>(writer: &mut W, address: u32, bit: bool) -> Result<(), Failed> {
+// The bytes of the longest line: the 10 digits of an address, `=`, a bit and a line end.
+const LINE_ROOM: usize = 13;
+
+// Writes the line of a bit from one buffer, so that a file that takes it at once gets one write.
+fn write_line<W: std::io::Write>(writer: &mut W, address: u32, bit: bool) -> Result<(), Failed>
+    ensures { OnOk result (Appends (W.contents writer.old) (W.contents writer.new) (port_line address bit)) }
+{
     let mut buffer = Buffer::new();
-    write_whole(writer, buffer.format(address).as_bytes())?;
-    write_whole(writer, if bit { b"=1\n" } else { b"=0\n" })
+    let digits = buffer.format(address).as_bytes();
+    let count = digits.len();
+    let mut line = [0; LINE_ROOM];
+    line[..count].copy_from_slice(digits);
+    line[count..count + 3].copy_from_slice(if bit { b"=1\n" } else { b"=0\n" });
+    write_whole(writer, &line[..count + 3])
 }
 
 // Writes the line of a bit, and makes the file where it isn't there yet.
