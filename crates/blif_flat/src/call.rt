@@ -20,7 +20,7 @@ use crate::connect::connect;
 use crate::flat::Flat;
 use crate::flat_err::FlatErr;
 use crate::model_index::ModelIndex;
-use crate::ports::all_ports;
+use crate::ports::{Ports, all_ports};
 use blif_read::{BlifModel, Library};
 use std::alloc::Global;
 
@@ -30,6 +30,14 @@ fn main_model(library: &Library) -> &BlifModel
     ensures { slice_get library.now.models 0 ≡ Some result.now }
 {
     &library.models[0]
+}
+
+// The ports of the main model.
+fn main_ports(ports: &[Ports]) -> &Ports
+    requires { 0 < length ports.now }
+    ensures { slice_get ports.now 0 ≡ Some result.now }
+{
+    &ports[0]
 }
 
 /// The flat circuit of a library, whose first model is the main one.
@@ -76,7 +84,7 @@ pub fn flatten(alloc: Global, library: &Library) -> Result<Flat, FlatErr>
     check_models(alloc, library, &index, &ports)?;
     let main = main_model(library);
     let circuit = connect(alloc, library, &index, &ports)?;
-    let inputs = all_inputs(alloc, main)?;
+    let inputs = all_inputs(alloc, main, main_ports(&ports))?;
     let clocks = check_clocks(alloc, library, main, &circuit, &inputs)?;
     let flat = assemble(alloc, library, main, &circuit, &inputs, &clocks)?;
     Ok(flat)

@@ -2,9 +2,11 @@
 ghost use Rattle.std.specs.Prelude.{◌≡◌, ◌<◌, ℕ, ◌++◌, ◌||◌, not, filter, length, map, slice_get, Some, IfOk, OnOk};
 ghost use Rattle.std.specs.Option.{option_and_then};
 ghost use Rattle.blif_flat.specs.Models.{has_name, inputs_of};
+ghost use Rattle.blif_flat.specs.Steps.NameSets.{ports_value};
 ghost use Rattle.blif_flat.specs.Steps.ClockSteps.{input_name, is_control as is_control_of, clock_test};
 
 use crate::name_set::{is_among, with_names};
+use crate::ports::Ports;
 use blif_read::BlifModel;
 use std::alloc::{AllocError, Global};
 use tl_text::{Name, NameIndex};
@@ -20,31 +22,47 @@ pub(crate) fn copies(alloc: Global, names: &[Name]) -> Result<Vec<Name>, AllocEr
     Ok(all)
 }
 
-// Adds copies of the names that aren't among others.
-fn add_new(
+// Is the name in the `.inputs` of the model of these ports?
+fn is_listed(model: &BlifModel, ports: &Ports, name: &[u8]) -> bool
+    requires { ports.now ≡ ports_value model.now }
+    ensures { result ≡ has_name model.now.inputs name.now }
+{
+    match ports.input_place(name) {
+        None => false,
+        Some(place) => place < model.inputs.len(),
+    }
+}
+
+// Adds copies of the names of the `.clock` that aren't in the `.inputs`.
+fn add_clocks(
     alloc: Global,
     all: &mut Vec<Name>,
-    others: &NameIndex,
-    names: &[Name],
+    model: &BlifModel,
+    ports: &Ports,
 ) -> Result<(), AllocError>
-    ensures { OnOk result (all.new.items ≡ all.old.items ++ filter (λ name. not (has_name others.now name)) names.now) }
+    requires { ports.now ≡ ports_value model.now }
+    ensures { OnOk result (all.new.items ≡ all.old.items ++ filter (λ name. not (has_name model.now.inputs name)) model.now.clocks) }
 {
-    for name in names {
-        if !is_among(others, name.bytes()) {
+    for name in &model.clocks {
+        if !is_listed(model, ports, name.bytes()) {
             all.push(Name::make(alloc, name.bytes())?)?;
         }
     }
     Ok(())
 }
 
-/// Copies of the inputs of a model: the names of its `.inputs`, then those of its `.clock` that aren't among them. `Err`
-/// comes only for want of memory. It takes time linear in their bytes, on average over the hashes.
-pub(crate) fn all_inputs(alloc: Global, model: &BlifModel) -> Result<Vec<Name>, AllocError>
+/// Copies of the inputs of a model, whose ports are given: the names of its `.inputs`, then those of its `.clock` that
+/// aren't among them. `Err` comes only for want of memory. It takes time linear in their bytes, on average over the hashes.
+pub(crate) fn all_inputs(
+    alloc: Global,
+    model: &BlifModel,
+    ports: &Ports,
+) -> Result<Vec<Name>, AllocError>
+    requires { ports.now ≡ ports_value model.now }
     ensures { IfOk result (λ inputs. inputs.items ≡ inputs_of model.now) }
 {
-    let others = with_names(alloc, NameIndex::new(alloc), &model.inputs)?;
     let mut inputs = copies(alloc, &model.inputs)?;
-    add_new(alloc, &mut inputs, &others, &model.clocks)?;
+    add_clocks(alloc, &mut inputs, model, ports)?;
     Ok(inputs)
 }
 

@@ -1,22 +1,20 @@
 //! The names that are driven twice, and those that are read and aren't driven.
 ghost use Rattle.std.specs.Prelude.{◌≡◌, ℕ, List, [], ◌∷◌, ◌++◌, map, None, slice_get, MatchOption, MatchResult};
-ghost use Rattle.list_laws.specs.Members.{In};
 ghost use Rattle.blif_read.specs.LibraryValue.{ModelValue, LibraryValue};
-ghost use Rattle.blif_read.specs.WellFormed.{IsWellFormed, IsWellFormedModel};
 ghost use Rattle.blif_flat.specs.declared.flat_err.FlatErr.TheVariants.{Memory};
-ghost use Rattle.blif_flat.specs.Models.{model_named, has_name, inputs_of};
+ghost use Rattle.blif_flat.specs.Models.{model_named, has_name};
 ghost use Rattle.blif_flat.specs.Steps.NameSets.{ports_value, model_names};
 ghost use Rattle.blif_flat.specs.DriverFaults.{output_actuals, input_actuals, driven_pairs, read_pairs, with_control, drives, reads, all_drives, twice_in, twice_fault, undriven_in, undriven_fault, model_fault, models_fault};
 ghost use Rattle.blif_flat.specs.Steps.DriverSteps.{Tells, Adds, ArePortsOf, AreOf, fault_of};
 ghost use Rattle.blif_flat.specs.Steps.NumberedModels.{models_at};
 
+use crate::driven::Driven;
 use crate::flat_err::FlatErr;
 use crate::model_index::ModelIndex;
-use crate::name_set::{is_among, with_names};
 use crate::ports::Ports;
 use blif_read::{BlifModel, Body, Latch, Library, Pair, Subckt};
 use std::alloc::Global;
-use tl_text::{Name, NameIndex};
+use tl_text::Name;
 
 fn copy_of(alloc: Global, name: &Name) -> Result<Name, FlatErr>
     ensures { MatchResult result (λ copy. copy ≡ name.now) (λ e. e ≡ Memory) }
@@ -29,12 +27,12 @@ fn drive(
     alloc: Global,
     model: &Name,
     line: u32,
-    driven: &mut NameIndex,
+    driven: &mut Driven,
     name: &Name,
 ) -> Result<(), FlatErr>
     ensures { Adds result (twice_in model.now line driven.old (name.now ∷ [])) driven.old driven.new (name.now ∷ []) }
 {
-    if is_among(driven, name.bytes()) {
+    if driven.has(name.bytes()) {
         let model = copy_of(alloc, model)?;
         let name = copy_of(alloc, name)?;
         return Err(FlatErr::DoublyDriven(model, line, name));
@@ -48,12 +46,12 @@ fn check_driven(
     alloc: Global,
     model: &Name,
     line: u32,
-    driven: &NameIndex,
+    driven: &Driven,
     name: &Name,
 ) -> Result<(), FlatErr>
     ensures { Tells result (undriven_in model.now line driven.now (name.now ∷ [])) }
 {
-    if is_among(driven, name.bytes()) {
+    if driven.has(name.bytes()) {
         return Ok(());
     }
     let model = copy_of(alloc, model)?;
@@ -77,7 +75,7 @@ fn drive_actual(
     alloc: Global,
     model: &Name,
     line: u32,
-    driven: &mut NameIndex,
+    driven: &mut Driven,
     ports: &Ports,
     pair: &Pair,
 ) -> Result<(), FlatErr>
@@ -95,7 +93,7 @@ fn drive_actuals(
     alloc: Global,
     model: &Name,
     line: u32,
-    driven: &mut NameIndex,
+    driven: &mut Driven,
     ports: &Ports,
     pairs: &[Pair],
 ) -> Result<(), FlatErr>
@@ -113,7 +111,7 @@ fn check_actual(
     alloc: Global,
     model: &Name,
     line: u32,
-    driven: &NameIndex,
+    driven: &Driven,
     ports: &Ports,
     pair: &Pair,
 ) -> Result<(), FlatErr>
@@ -130,7 +128,7 @@ fn check_actuals(
     alloc: Global,
     model: &Name,
     line: u32,
-    driven: &NameIndex,
+    driven: &Driven,
     ports: &Ports,
     pairs: &[Pair],
 ) -> Result<(), FlatErr>
@@ -146,7 +144,7 @@ fn check_names(
     alloc: Global,
     model: &Name,
     line: u32,
-    driven: &NameIndex,
+    driven: &Driven,
     names: &[Name],
 ) -> Result<(), FlatErr>
     ensures { Tells result (undriven_in model.now line driven.now names.now) }
@@ -163,7 +161,7 @@ fn drive_subckt(
     ports: &[Ports],
     model: &Name,
     line: u32,
-    driven: &mut NameIndex,
+    driven: &mut Driven,
     subckt: &Subckt,
 ) -> Result<(), FlatErr>
     ensures { (library : LibraryValue) → AreOf library index.now.names ports.now
@@ -183,7 +181,7 @@ fn drive_body(
     ports: &[Ports],
     model: &Name,
     line: u32,
-    driven: &mut NameIndex,
+    driven: &mut Driven,
     body: &Body,
 ) -> Result<(), FlatErr>
     ensures { (library : LibraryValue) → AreOf library index.now.names ports.now
@@ -202,7 +200,7 @@ fn drive_commands(
     index: &ModelIndex,
     ports: &[Ports],
     model: &BlifModel,
-    driven: &mut NameIndex,
+    driven: &mut Driven,
 ) -> Result<(), FlatErr>
     ensures { (library : LibraryValue) → AreOf library index.now.names ports.now
         → Adds result (twice_fault library model.now.name driven.old model.now.commands) driven.old driven.new (all_drives library model.now.commands) }
@@ -227,7 +225,7 @@ fn check_subckt(
     ports: &[Ports],
     model: &Name,
     line: u32,
-    driven: &NameIndex,
+    driven: &Driven,
     subckt: &Subckt,
 ) -> Result<(), FlatErr>
     ensures { (library : LibraryValue) → AreOf library index.now.names ports.now
@@ -243,7 +241,7 @@ fn check_latch(
     alloc: Global,
     model: &Name,
     line: u32,
-    driven: &NameIndex,
+    driven: &Driven,
     latch: &Latch,
 ) -> Result<(), FlatErr>
     ensures { Tells result (undriven_in model.now line driven.now (latch.now.input ∷ with_control latch.now.control)) }
@@ -262,7 +260,7 @@ fn check_body(
     ports: &[Ports],
     model: &Name,
     line: u32,
-    driven: &NameIndex,
+    driven: &Driven,
     body: &Body,
 ) -> Result<(), FlatErr>
     ensures { (library : LibraryValue) → AreOf library index.now.names ports.now
@@ -281,7 +279,7 @@ fn check_commands(
     index: &ModelIndex,
     ports: &[Ports],
     model: &BlifModel,
-    driven: &NameIndex,
+    driven: &Driven,
 ) -> Result<(), FlatErr>
     ensures { (library : LibraryValue) → AreOf library index.now.names ports.now
         → Tells result (undriven_fault library model.now.name driven.now model.now.commands) }
@@ -300,26 +298,18 @@ fn check_commands(
     Ok(())
 }
 
-// The names of a model's inputs.
-fn driven_inputs(alloc: Global, model: &BlifModel) -> Result<NameIndex, FlatErr>
-    requires { IsWellFormedModel model.now }
-    ensures { MatchResult result (λ driven. driven ≡ inputs_of model.now) (λ e. e ≡ Memory) }
-{
-    let inputs = with_names(alloc, NameIndex::new(alloc), &model.inputs)?;
-    Ok(with_names(alloc, inputs, &model.clocks)?)
-}
-
-// Tells the first fault of a model's drivers.
+// Tells the first fault of a model's drivers. The own ports are those of this model.
 fn check_model(
     alloc: Global,
     index: &ModelIndex,
     ports: &[Ports],
     model: &BlifModel,
+    own: &Ports,
 ) -> Result<(), FlatErr>
-    requires { IsWellFormedModel model.now }
+    requires { own.now ≡ ports_value model.now }
     ensures { (library : LibraryValue) → AreOf library index.now.names ports.now → Tells result (model_fault library model.now) }
 {
-    let mut driven = driven_inputs(alloc, model)?;
+    let mut driven = Driven::inputs(alloc, own);
     drive_commands(alloc, index, ports, model, &mut driven)?;
     check_commands(alloc, index, ports, model, &driven)?;
     check_names(alloc, &model.name, model.line, &driven, &model.outputs)
@@ -332,13 +322,12 @@ fn check_number(
     ports: &[Ports],
     number: u32,
 ) -> Result<(), FlatErr>
-    requires form { (m : ModelValue) → In library.now.models m → IsWellFormedModel m }
-    requires ports { AreOf library.now index.now.names ports.now }
+    requires { AreOf library.now index.now.names ports.now }
     ensures { Tells result (fault_of library.now (slice_get library.now.models number)) }
 {
     match library.models.get(number as usize) {
         None => Ok(()),
-        Some(model) => check_model(alloc, index, ports, model),
+        Some(model) => check_model(alloc, index, ports, model, &ports[number as usize]),
     }
 }
 
@@ -353,8 +342,7 @@ pub(crate) fn check_drivers(
     ports: &[Ports],
     order: &[u32],
 ) -> Result<(), FlatErr>
-    requires form { (m : ModelValue) → In library.now.models m → IsWellFormedModel m }
-    requires ports { AreOf library.now index.now.names ports.now }
+    requires { AreOf library.now index.now.names ports.now }
     ensures { Tells result (models_fault library.now (models_at library.now.models order.now)) }
 {
     for &number in order {

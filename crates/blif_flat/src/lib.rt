@@ -17,7 +17,7 @@
 //! - `walk.rt` walks the models depth first from the main one; `walk_state.rt` has its marks and its stack.
 //! - `place_check.rt` checks a line that places a model, and `line_check.rt` its connections.
 //! - `weight.rt` weighs the main model.
-//! - `drivers.rt` finds names that are driven twice or not at all.
+//! - `drivers.rt` finds names that are driven twice or not at all, and `driven.rt` has those that are.
 //! - `model_index.rt`, `ports.rt` and `name_set.rt` find models, ports and names by their hashes.
 //!
 //! `connect.rt` makes the circuit:
@@ -48,6 +48,7 @@ mod clocks;
 mod connect;
 mod controls;
 mod cover_walk;
+mod driven;
 mod drivers;
 mod flat;
 mod flat_err;

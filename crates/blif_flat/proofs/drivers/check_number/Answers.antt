@@ -1,17 +1,9 @@
 use Rattle.std.proofs.Common.{length, ap, sym, subst, refl, ◌∙◌}
 use Rattle.std.specs.List.{slice_get}
 use Rattle.std.proofs.lemmas.Option.{slice_get_read, slice_get_past}
-use Rattle.list_laws.proofs.Members.{In-get}
 use Rattle.blif_read.specs.LibraryValue.{LibraryValue}
 use Rattle.blif_flat.specs.Steps.DriverSteps.{Tells, fault_of}
 use Rattle.blif_flat.proofs.drivers.check_number.Goals as goal
-
-pub check_model-requires : goal.check_model-requires
-check_model-requires c =
-    let same = c.deref.ensures.value ∙ ap (λ (l : LibraryValue). l.models) c.library.view_is in
-    let h = c.in-Some.ensures.lookup in
-    let at = slice_get_read c.deref.result.now (length c.deref.result.now) c.args.number c.in-Some.model.now refl h.3.0 h.1 in
-    c.requires.form c.in-Some.model.now (In-get c.args.library.now.models c.args.number c.in-Some.model.now (ap (λ ms. slice_get ms c.args.number) (sym same) ∙ at))
 
 pub returns-in-None : goal.returns-in-None
 returns-in-None c =
@@ -24,4 +16,4 @@ returns-in-Some c =
     let same = c.deref.ensures.value ∙ ap (λ (l : LibraryValue). l.models) c.library.view_is in
     let h = c.in-Some.ensures.lookup in
     let at = slice_get_read c.deref.result.now (length c.deref.result.now) c.args.number c.in-Some.model.now refl h.3.0 h.1 in
-    subst (λ o. Tells c.check_model.result (fault_of c.args.library.now o)) (sym (ap (λ ms. slice_get ms c.args.number) (sym same) ∙ at)) (c.check_model.ensures c.args.library.now c.requires.ports)
+    subst (λ o. Tells c.check_model.result (fault_of c.args.library.now o)) (sym (ap (λ ms. slice_get ms c.args.number) (sym same) ∙ at)) (c.check_model.ensures c.args.library.now c.requires)

@@ -1,0 +1,8 @@
+use Rattle.std.proofs.Common.{◌≡◌, ◌++◌, not, drop}
+use Rattle.std.specs.Prelude.{filter}
+use Rattle.blif_flat.specs.Models.{has_name}
+use Rattle.blif_flat.proofs.clocks.add_clocks.Given as goal
+
+abbrev pub invariant-loop-name : goal.invariant-loop-name
+invariant-loop-name l = l.all.items ++ filter (λ name. not (has_name l.model.inputs name)) (drop l.name-index l.model.clocks)
+    ≡ l.initial.all.items ++ filter (λ name. not (has_name l.model.inputs name)) l.model.clocks

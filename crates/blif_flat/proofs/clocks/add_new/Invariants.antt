@@ -1,8 +1,0 @@
-use Rattle.std.proofs.Common.{◌≡◌, ◌++◌, not, drop}
-use Rattle.std.specs.Prelude.{filter}
-use Rattle.blif_flat.specs.Models.{has_name}
-use Rattle.blif_flat.proofs.clocks.add_new.Given as goal
-
-abbrev pub invariant-loop-name : goal.invariant-loop-name
-invariant-loop-name l = l.all.items ++ filter (λ name. not (has_name l.others name)) (drop l.name-index l.names)
-    ≡ l.initial.all.items ++ filter (λ name. not (has_name l.others name)) l.names
