@@ -6,8 +6,10 @@ use Rattle.aig_core.specs.declared.lit.Lit.{Lit}
 use Rattle.aig_core.specs.declared.lit.Pair.{Pair}
 use Rattle.aig_core.specs.And.{complement, Answer}
 use Rattle.aig_core.proofs.GrowthLemmas.{Extends, Extends-trans, and_again, and_grows}
-use Rattle.aig_build.specs.Balanced.{product_of, front_half, back_half, balanced, balanced_and}
-use Rattle.aig_build.specs.CoverGraph.{row_literals, row_made, Literals, rows_made, cover_made}
+use Rattle.aig_build.specs.Balanced.{product_of, front_half, back_half}
+use Rattle.aig_build.specs.BalancedMade.{balanced, balanced_and}
+use Rattle.aig_build.specs.CoverGraph.{row_literals, Literals}
+use Rattle.aig_build.specs.CoverMade.{row_made, rows_made, cover_made}
 use Rattle.aig_build.specs.RowsOnto.{rows_onto}
 use Rattle.aig_build.proofs.BalancedLemmas.{balanced-grows}
 use Rattle.aig_build.proofs.CoverLemmas.{rows_onto-grows, rows_alone}

@@ -12,7 +12,8 @@ use Rattle.aig_core.specs.Value.{value_of}
 use Rattle.aig_core.proofs.ValueLemmas.{values_from}
 use Rattle.aig_core.proofs.GrowthLemmas.{Extends, Extends-refl, Extends-trans, and_grows}
 use Rattle.aig_core.proofs.ProductLemmas.{AreBase, Makes, Makes-and, Makes-literal, Makes-one, value_of-more, product}
-use Rattle.aig_build.specs.Balanced.{product_of, front_half, back_half, balanced, balanced_and}
+use Rattle.aig_build.specs.Balanced.{product_of, front_half, back_half}
+use Rattle.aig_build.specs.BalancedMade.{balanced, balanced_and}
 
 -- it only adds nodes
 pub balanced-grows : (first depth : ℕ) (pairs : List Pair) (lits : List Lit) → Extends pairs (balanced first depth pairs lits).pairs

@@ -15,8 +15,9 @@ use Rattle.aig_core.specs.Value.{value_of, KeepsValues}
 use Rattle.aig_core.proofs.ValueLemmas.{values_from, values_of}
 use Rattle.aig_core.proofs.GrowthLemmas.{Extends, Extends-refl, Extends-trans}
 use Rattle.aig_core.proofs.ProductLemmas.{AreBase, AreBase-sources, Makes, Makes-complement, Makes-weaker, value_of-more, value_of-complement, complement-below, not-not, KeepsValues-Extends, Makes-fits}
-use Rattle.aig_build.specs.Balanced.{balanced_and}
-use Rattle.aig_build.specs.CoverGraph.{flipped, cell_literals, row_literals, row_made, Literals, rows_made, cover_made, cover_of, HasCoverValue}
+use Rattle.aig_build.specs.BalancedMade.{balanced_and}
+use Rattle.aig_build.specs.CoverGraph.{flipped, cell_literals, row_literals, Literals}
+use Rattle.aig_build.specs.CoverMade.{row_made, rows_made, cover_made, cover_of, HasCoverValue}
 use Rattle.aig_build.specs.RowsOnto.{rows_onto}
 use Rattle.aig_build.proofs.BalancedLemmas.{balanced-grows, all_true, all_true-append, IsBelow, AreBelow, length-Extends, AreBelow-more, all_true-more, Makes-balanced}
 

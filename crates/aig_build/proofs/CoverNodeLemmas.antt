@@ -4,8 +4,10 @@ use Rattle.blif_read.specs.CoverValue.{RowValue, CoverValue}
 use Rattle.aig_core.specs.declared.lit.Lit.{Lit}
 use Rattle.aig_core.specs.declared.lit.Pair.{Pair}
 use Rattle.aig_core.specs.And.{complement, Answer}
-use Rattle.aig_build.specs.Balanced.{product_of, front_half, back_half, balanced_and}
-use Rattle.aig_build.specs.CoverGraph.{row_literals, row_made, Literals, rows_made, cover_made}
+use Rattle.aig_build.specs.Balanced.{product_of, front_half, back_half}
+use Rattle.aig_build.specs.BalancedMade.{balanced_and}
+use Rattle.aig_build.specs.CoverGraph.{row_literals, Literals}
+use Rattle.aig_build.specs.CoverMade.{row_made, rows_made, cover_made}
 use Rattle.aig_build.specs.CoverNodes.{IsBalanced, none, one, halves, AreRows, no_row, a_row, IsCoverMade}
 use Rattle.aig_build.proofs.BalancedLemmas.{balanced_and-halves, front_half-shorter, back_half-shorter}
 

@@ -19,7 +19,7 @@ use Rattle.aig_core.specs.declared.lit.Pair.{Pair}
 use Rattle.aig_core.specs.Aig.{Aig, IsLit, first_and}
 use Rattle.aig_core.specs.And.{Answer, with_pairs}
 use Rattle.aig_core.proofs.GrowthLemmas.{Extends}
-use Rattle.aig_build.specs.CoverGraph.{cover_of}
+use Rattle.aig_build.specs.CoverMade.{cover_of}
 use Rattle.aig_build.specs.Walked.{NetLitsValue, net_lit, net_lits, with_cover, Built, behind_made, gate_made, with_gate, walked, gate_of, order_of, IsHeld, HoldsNets}
 use Rattle.aig_build.proofs.BalancedLemmas.{IsBelow, AreBelow-more, length-Extends}
 use Rattle.aig_build.proofs.SignalLemmas.{walked-grows}

@@ -38,7 +38,7 @@ use Rattle.aig_core.specs.Value.{xor, value_of}
 use Rattle.aig_core.proofs.GrowthLemmas.{Extends}
 use Rattle.aig_core.proofs.ProductLemmas.{AreBase, Makes, value_of-more}
 use Rattle.aig_core.proofs.ValueLemmas.{values_from, values_old}
-use Rattle.aig_build.specs.CoverGraph.{cover_made}
+use Rattle.aig_build.specs.CoverMade.{cover_made}
 use Rattle.aig_build.specs.NetlistGraph.{input_names, source_kinds, IsSourceLiteral, an_input, a_latch}
 use Rattle.aig_build.specs.NetlistCycle.{source_values}
 use Rattle.aig_build.specs.Walked.{NetLitsValue, no_lit, net_lit, net_lits, Built, gate_made, with_gate, walked}

@@ -13,7 +13,8 @@ use Rattle.list_laws.proofs.Apart.{AreApart, apart_once}
 use Rattle.run_text.specs.declared.params.Param.{Param}
 use Rattle.aig_core.specs.declared.lit.Pair.{Pair}
 use Rattle.aig_core.specs.And.{Answer}
-use Rattle.aig_build.specs.CoverGraph.{Literals, cover_made}
+use Rattle.aig_build.specs.CoverGraph.{Literals}
+use Rattle.aig_build.specs.CoverMade.{cover_made}
 use Rattle.aig_build.proofs.CoverNodeLemmas.{cover_only}
 use Rattle.aig_build.specs.NetlistGraph.{input_names, source_kinds, IsSourceLiteral, an_input, a_latch, Makes, a_source, a_cover, MakesAll, none, more, HasOneGraph}
 

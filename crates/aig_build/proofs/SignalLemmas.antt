@@ -21,7 +21,7 @@ use Rattle.aig_core.specs.declared.lit.Lit.{Lit}
 use Rattle.aig_core.specs.declared.lit.Pair.{Pair}
 use Rattle.aig_core.specs.And.{Answer}
 use Rattle.aig_core.proofs.GrowthLemmas.{Extends, Extends-refl, Extends-trans}
-use Rattle.aig_build.specs.CoverGraph.{cover_made}
+use Rattle.aig_build.specs.CoverMade.{cover_made}
 use Rattle.aig_build.specs.CoverNodes.{IsCoverMade}
 use Rattle.aig_build.specs.NetlistGraph.{source_kinds, IsSourceLiteral, Makes, a_source, a_cover, MakesAll}
 use Rattle.aig_build.specs.NetlistGraph as graph

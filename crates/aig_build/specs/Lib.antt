@@ -6,5 +6,7 @@ pub mod NetlistGraph
 pub mod NetlistCycle
 pub mod Refusals
 -- What only bodies are compared with.
+pub mod BalancedMade
+pub mod CoverMade
 pub mod RowsOnto
 pub mod Walked

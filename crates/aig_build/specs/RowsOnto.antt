@@ -4,7 +4,8 @@ use Rattle.blif_read.specs.CoverValue.{RowValue}
 use Rattle.aig_core.specs.declared.lit.Lit.{Lit}
 use Rattle.aig_core.specs.declared.lit.Pair.{Pair}
 use Rattle.aig_core.specs.And.{complement, Answer}
-use Rattle.aig_build.specs.CoverGraph.{row_made, Literals}
+use Rattle.aig_build.specs.CoverGraph.{Literals}
+use Rattle.aig_build.specs.CoverMade.{row_made}
 
 abbrev pub rows_onto : ℕ → List Pair → List Lit → List RowValue → List Lit → Literals
 rows_onto first pairs lits [] inputs = record { pairs = pairs; lits = lits }

@@ -16,7 +16,7 @@ use Rattle.aig_core.specs.Aig.{Aig, IsLit, first_and}
 use Rattle.aig_core.specs.And.{Answer}
 use Rattle.aig_core.specs.Roots.{RootsValue}
 use Rattle.aig_build.specs.declared.TheConstants.{MOST_NODES}
-use Rattle.aig_build.specs.CoverGraph.{cover_made}
+use Rattle.aig_build.specs.CoverMade.{cover_made}
 use Rattle.aig_build.specs.NetlistGraph.{source_kinds}
 
 -- the literals of nets: of the inputs by their places, of the latches from their first index on, and of the covers

@@ -2,9 +2,9 @@
 ghost use Rattle.std.specs.Prelude.{◌≡◌, ◌+◌, ◌*◌, ◌/◌, ◌<◌, ◌≤◌, [], ◌++◌, length, IfOk, OnOk, All, Err};
 ghost use Rattle.aig_core.specs.Aig.{IsLit, first_and};
 ghost use Rattle.aig_core.specs.And.{with_pairs};
-ghost use Rattle.aig_core.specs.Value.{KeepsValues};
 ghost use Rattle.blif_read.specs.CoverValue.{RowValue};
-ghost use Rattle.aig_build.specs.CoverGraph.{cell_literals, row_literals, row_made, rows_made, cover_of, HasCoverValue};
+ghost use Rattle.aig_build.specs.CoverGraph.{cell_literals, row_literals};
+ghost use Rattle.aig_build.specs.CoverMade.{row_made, rows_made, cover_of};
 
 use crate::balanced::balanced_and;
 use aig_core::{AigErr, Graph, Lit};
@@ -95,7 +95,11 @@ impl Scratch {
     }
 }
 
-/// Makes a cover over the literals of its inputs, as [`make_cover`] does.
+/// Makes a cover over the literals of its inputs: each row as the balanced AND of its cells' literals, then the complement of
+/// the balanced AND of the rows' complements, and where the rows are the off-set its complement.
+///
+/// The time is linear in the number of cells, apart from looking up each product. After an `Err` the graph may have some of the
+/// nodes.
 pub(crate) fn make_into(
     graph: &mut Graph,
     cover: &Cover,
@@ -120,34 +124,4 @@ pub(crate) fn make_into(
     let some = none.complement();
     let lit = if cover.value { some } else { some.complement() };
     Ok(lit)
-}
-
-/// Makes a cover over the literals of its inputs: each row as the balanced AND of its cells' literals, then the
-/// complement of the balanced AND of the rows' complements, and where the rows are the off-set its complement.
-///
-/// The answer is the graph with the new AND nodes and the cover's literal. `Full` comes only where more nodes would
-/// stand than the graph may have, and `Memory` only for want of memory. The time is linear in the number of cells,
-/// apart from looking up each product.
-pub fn make_cover(
-    alloc: Global,
-    mut graph: Graph,
-    cover: &Cover,
-    inputs: &[Lit],
-) -> Result<(Graph, Lit), AigErr>
-    requires count { length inputs.now ≡ length cover.now.inputs }
-    requires members { All (λ (input : Lit). IsLit graph input.0) inputs.now }
-    requires cells { All (λ (row : RowValue). length row.cells ≡ length cover.now.inputs) cover.now.rows }
-    ensures lit { IfOk result (λ made. made.1.0 ≡ (cover_of graph cover.now inputs.now).lit) }
-    ensures pairs { IfOk result (λ made. made.0 ≡ with_pairs graph (cover_of graph cover.now inputs.now).pairs) }
-    ensures room { OnOk result (length (cover_of graph cover.now inputs.now).pairs ≤ graph.max) }
-    ensures full { result ≡ Err AigErr.Full → graph.max < length (cover_of graph cover.now inputs.now).pairs }
-
-    // What this means: the literal has the cover's value, while all others keep theirs.
-    ensures is_lit { IfOk result (λ made. IsLit made.0 made.1.0) }
-    ensures value { IfOk result (λ made. HasCoverValue made.0 cover.now inputs.now made.1.0) }
-    ensures kept { IfOk result (λ made. KeepsValues graph made.0) }
-{
-    let mut scratch = Scratch::new(alloc);
-    let lit = make_into(&mut graph, cover, inputs, &mut scratch)?;
-    Ok((graph, lit))
 }

@@ -1,7 +1,7 @@
 //! Netlists as graphs of AND nodes.
 //!
 //! A flat circuit becomes an `aig_core` graph ([`build`]). Its sources are the regular inputs, the parameters and the latches, its
-//! roots the outputs and the latches' next states. A cover, that is its rows of cells, becomes AND nodes ([`make_cover`]).
+//! roots the outputs and the latches' next states. A cover, that is its rows of cells, becomes AND nodes.
 //! Products of many literals are balanced: a list is halved until one literal is left, so a product of k literals is as shallow
 //! as it can be. A row is the balanced AND of the literals that its cells ask for. A cover is 1 where not all of its rows fail, so
 //! it is the complement of the balanced AND of its rows' complements, and complemented once more where its rows are its off-set.
@@ -13,7 +13,7 @@
 //! the roots, which is the order in which the signals first meet the covers.
 //!
 //! `specs/CoverNodes.antt` has products, rows and covers as relations between the nodes so far, and the nodes that then stand and a
-//! literal; `specs/Balanced.antt` and `specs/CoverGraph.antt` have them as functions, and `proofs/CoverNodeLemmas.antt` shows that
+//! literal; `specs/BalancedMade.antt` and `specs/CoverMade.antt` have them as functions, and `proofs/CoverNodeLemmas.antt` shows that
 //! these are the same. `proofs/CoverLemmas.antt` shows that the literal has the cover's value,
 //! and `proofs/NetValueLemmas.antt` that each net's literal has the value that evaluating the flat circuit gives it, so that the
 //! roots have the outputs and the next states of the source circuit's cycle (`specs/NetlistCycle.antt`).
@@ -31,7 +31,6 @@ mod netlist_tests;
 mod tests;
 
 pub use build_err::BuildErr;
-pub use cover::make_cover;
 pub use netlist::build;
 
 /// The most AND nodes that the graph of a netlist may have.

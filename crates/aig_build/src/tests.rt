@@ -3,7 +3,7 @@ ghost use Rattle.std.specs.Prelude.{◌≡◌, ◌*◌, ◌<◌, ◌≤◌, ◌^
 ghost use Rattle.aig_core.specs.declared.lit.Lit.{Lit};
 ghost use Rattle.blif_read.specs.CoverValue.{RowValue};
 
-use crate::make_cover;
+use crate::cover::{Scratch, make_into};
 use aig_core::{AigErr, Graph, Kind, Lit};
 use blif_read::{Cell, Cover, Row};
 use std::alloc::{AllocError, Global};
@@ -75,7 +75,9 @@ fn made(
     assert!(rt; cover.inputs.len() == 3);
     assert!(rt; are_literals(&inputs, graph.len()));
     assert!(rt; have_width(&cover.rows, 3));
-    let (graph, lit) = make_cover(alloc, graph, cover, &inputs)?;
+    let mut graph = graph;
+    let mut scratch = Scratch::new(alloc);
+    let lit = make_into(&mut graph, cover, &inputs, &mut scratch)?;
     Ok((graph, lit.0))
 }
 

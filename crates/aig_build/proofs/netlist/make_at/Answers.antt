@@ -9,7 +9,7 @@ use Rattle.blif_flat.specs.FlatValue.{FlatValue}
 use Rattle.aig_core.specs.declared.lit.Lit.{Lit}
 use Rattle.aig_core.specs.Aig.{Aig, IsLit, first_and}
 use Rattle.aig_core.specs.And.{Answer, with_pairs}
-use Rattle.aig_build.specs.CoverGraph.{cover_of}
+use Rattle.aig_build.specs.CoverMade.{cover_of}
 use Rattle.aig_build.specs.Walked.{NetLitsValue, net_lit, net_lits, with_cover, gate_of, HoldsNets}
 use Rattle.aig_build.proofs.BalancedLemmas.{full_weaker}
 use Rattle.aig_build.proofs.CoverLemmas.{cover_made-grows}
