@@ -7,3 +7,10 @@ pub mod SameLemmas
 pub mod MarkLemmas
 pub mod RegularLemmas
 pub mod ParamsExample
+pub mod LinesExample
+pub mod EachLemmas
+pub mod SettingLemmas
+pub mod ScriptReadLemmas
+pub mod ScriptOnceLemmas
+pub mod FitLemmas
+pub mod ScriptExample

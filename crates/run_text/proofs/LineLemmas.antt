@@ -1,5 +1,5 @@
 -- A line of a text and its parameter: its name is one of the line's tokens, and is new where the line has no refusal.
-use Rattle.std.proofs.Common.{◌≡◌, ℕ, ◌+◌, ◌<◌, Bool, List, [], ◌∷◌, ◌++◌, length, get_or, map, Option, Some, None, Result, Ok, Err, refl, sym, ap, ◌∙◌, subst, inl, inr, arith}
+use Rattle.std.proofs.Common.{◌≡◌, ℕ, ◌+◌, ◌<◌, Bool, List, [], ◌∷◌, ◌++◌, length, get_or, map, Option, Some, None, Result, Ok, Err, refl, sym, ap, ◌∙◌, subst, inl, inr}
 use Rattle.std.specs.Prelude.{slice_get, IsErrAnd, IfErr}
 use Rattle.std.specs.Option.{option_map}
 use Rattle.std.proofs.lemmas.Option.{none-some, same_Some, slice_get-map, slice_get_read}
@@ -7,9 +7,8 @@ use Rattle.list_laws.specs.Members.{In}
 use Rattle.list_laws.proofs.Items.{member_at}
 use Rattle.tl_text.specs.Clean.{IsClean, AreCleanIn}
 use Rattle.tl_text.specs.Decimal.{bit_of}
-use Rattle.tl_text.specs.LineValue.{LineValue, WordsLine, token_bytes, words_line}
+use Rattle.tl_text.specs.LineValue.{LineValue, token_bytes, words_line}
 use Rattle.tl_text.specs.NameIndex.{place_of}
-use Rattle.tl_text.specs.declared.token.Token.{Token}
 use Rattle.blif_flat.proofs.NameSetLemmas.{place_none}
 use Rattle.run_text.specs.declared.params.Param.{Param}
 use Rattle.run_text.specs.Parameters.{param_names}

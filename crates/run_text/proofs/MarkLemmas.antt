@@ -1,7 +1,7 @@
 -- The marks of inputs whose names are among others, and the places of those that are off.
-use Rattle.std.proofs.Common.{◌≡◌, ℕ, zero, suc, ◌+◌, ◌<◌, ◌≤◌, Bool, true, false, not, cond, ◌||◌, List, [], ◌∷◌, ◌++◌, length, map, Option, Some, None, replicate, bytes_eq, slice_set, refl, sym, ap, ◌∙◌, subst, inl, inr, arith}
+use Rattle.std.proofs.Common.{◌≡◌, ℕ, zero, suc, ◌+◌, Bool, true, false, not, cond, ◌||◌, List, [], ◌∷◌, ◌++◌, length, map, Option, Some, replicate, bytes_eq, slice_set, refl, sym, ap, ◌∙◌, subst, inl, inr, arith}
 use Rattle.std.specs.Prelude.{filter, slice_get}
-use Rattle.std.proofs.lemmas.Bool.{both_ways, cases_Bool, or_left, or_right}
+use Rattle.std.proofs.lemmas.Bool.{or_left, or_right}
 use Rattle.std.proofs.lemmas.Option.{none-some, same_Some}
 use lib.Pointwise.{bytes_decides}
 use Rattle.list_laws.specs.Members.{In}
@@ -25,7 +25,7 @@ or_false false c h = ap (λ d. d || false) h
 has_other : (names : List (List ℕ)) (name x : List ℕ) → (x ≡ name → ⊥) → has_name (names ++ name ∷ []) x ≡ has_name names x
 has_other names name x other = has_one_more names name x ∙ or_false (has_name names x) (bytes_eq x name) (no_match x name other)
 
-has_this : (names : List (List ℕ)) (name : List ℕ) → has_name (names ++ name ∷ []) name ≡ true
+pub has_this : (names : List (List ℕ)) (name : List ℕ) → has_name (names ++ name ∷ []) name ≡ true
 has_this names name = has_one_more names name name ∙ or_right (has_name names name) (bytes_eq name name || false) (or_left (bytes_eq name name) false ((bytes_decides name name).1 refl))
 
 -- its input is marked

@@ -1,12 +1,11 @@
 -- A text is one list of parameters at most, or has one refusal at most, and never both.
-use Rattle.std.proofs.Common.{◌≡◌, ℕ, zero, suc, ◌<◌, Bool, List, [], ◌∷◌, length, map, Some, None, Ok, Err, refl, sym, ap, ◌∙◌, subst, inl, inr, arith}
+use Rattle.std.proofs.Common.{◌≡◌, ℕ, suc, ◌<◌, Bool, List, [], ◌∷◌, length, map, Some, Err, refl, sym, ap, ◌∙◌, subst, inl, inr, arith}
 use Rattle.std.specs.Prelude.{slice_get}
 use Rattle.std.proofs.lemmas.Bool.{cases_lt}
 use Rattle.std.proofs.lemmas.Option.{none-some, same_Some}
-use Rattle.list_laws.specs.Members.{In}
 use Rattle.list_laws.proofs.Members.{place_in}
 use Rattle.list_laws.proofs.TwoLists.{item_there}
-use Rattle.tl_text.specs.LineValue.{LineValue, WordsLine, words_line}
+use Rattle.tl_text.specs.LineValue.{WordsLine, words_line}
 use Rattle.tl_text.specs.Lines.{lines_of}
 use Rattle.tl_text.specs.Once.{AreOnce}
 use Rattle.tl_text.specs.Refusals.{refusal_of as text_refusal}

@@ -1,5 +1,5 @@
 -- Worked examples: a list of two parameters over a small circuit, what is left of the inputs, and each refusal.
-use Rattle.std.proofs.Common.{◌≡◌, ◌⊎◌, ℕ, zero, suc, ◌<◌, ◌≤◌, true, false, List, [], ◌∷◌, codes, length, get_or, map, Option, Some, None, Ok, refl, sym, ap, ◌∙◌, subst, inl, inr, arith}
+use Rattle.std.proofs.Common.{◌≡◌, ℕ, zero, suc, ◌<◌, true, false, List, [], ◌∷◌, codes, map, Option, Some, None, Ok, refl, sym, ap, ◌∙◌, subst, inl, inr, arith}
 use Rattle.std.specs.Prelude.{slice_get, replicate}
 use Rattle.std.proofs.lemmas.Option.{none-some, same_Some}
 use Rattle.list_laws.specs.Members.{In}
@@ -10,7 +10,7 @@ use Rattle.run_text.specs.declared.params.Param.{Param}
 use Rattle.run_text.specs.declared.par_err.ParErr.{ParErr}
 use Rattle.run_text.specs.declared.par_err.ParErr.TheVariants.{Malformed, Parameters, NotInput, IsClock, Repeated}
 use Rattle.run_text.specs.Parameters.{param_names, param_inits, regular_names}
-use Rattle.run_text.specs.ParamsText.{entry_of, line_refusal, refusal_at, IsFirstRefusal, IsParamOf, AreParamsOf, IsParamsText, IsParamsFault, at_line}
+use Rattle.run_text.specs.ParamsText.{line_refusal, refusal_at, IsParamOf, IsParamsText, IsParamsFault, at_line}
 use Rattle.run_text.specs.RegularPlaces.{AreRegularPlaces}
 
 -- a circuit with the inputs `a`, `b` and `p` and the clock net `c`

@@ -6,7 +6,7 @@ use Rattle.std.proofs.lemmas.List.{take-append-le, take_more, take-append-drop, 
 use Rattle.std.proofs.lemmas.List.Concat.{flat_map-append}
 use Rattle.tl_io.specs.Content.{extended, Puts}
 use Rattle.tl_io.proofs.ContentLemmas.{extended_none, extended_twice}
-use Rattle.run_text.specs.Pieces.{Adds, Stops}
+use Rattle.run_text.specs.Pieces.{Adds, Stops, AddsOrStops}
 
 -- nothing is added
 pub adds_none : (told : Option (List ℕ)) (waiting : List ℕ) → Adds told waiting [] told waiting
@@ -48,6 +48,12 @@ stops_later {old = old} {waiting = waiting} {text = text} {between = between} {m
       put = s.put ∙ ap (λ (o : Option (List ℕ)). extended o (take s.count (between ++ more))) a.put ∙ extended_twice old a.sent _
           ∙ ap (extended old) (sym (take-append-add a.sent (between ++ more) s.count) ∙ ap (take (length a.sent + s.count)) all);
     }
+
+-- a text was added, and then the next one was or stopped
+pub adds_then : {E : Type 0} {old mid : Option (List ℕ)} {waiting text between : List ℕ} (more : List ℕ) (new : Option (List ℕ)) (left : List ℕ) (result : Result Unit E) → Adds old waiting text mid between
+    → AddsOrStops mid between more new left result → AddsOrStops old waiting (text ++ more) new left result
+adds_then more new left (Ok u) a b = adds_twice a b
+adds_then more new left (Err e) a b = stops_later a b
 
 -- the parts before an index, and the one there
 one_more : {X : Type 0} (f : X → List ℕ) (xs : List X) (i : ℕ) (d : X) → i < length xs → flat_map f (take i xs) ++ f (get_or xs i d) ≡ flat_map f (take (i + 1) xs)

@@ -4,8 +4,16 @@ pub mod Parameters
 pub mod ParamsText
 pub mod RegularPlaces
 pub mod Refusals
+pub mod NamesValue
+pub mod EventValue
+pub mod Each
+pub mod Sayings
+pub mod ScriptText
+pub mod Fits
+pub mod ScriptRefusals
 -- What only bodies are compared with.
 pub mod Pieces
 pub mod Parts
 pub mod LinesErr
+pub mod ScriptLines
 pub mod Marks

@@ -1,6 +1,7 @@
 -- The lines that are put out, as bytes.
-use Rattle.std.specs.Prelude.{ℕ, Bool, if◌then◌else◌, List, [], ◌∷◌, map, codes, decimal}
-use Rattle.std.specs.List.{concat}
+use Rattle.std.specs.Prelude.{ℕ, Bool, if◌then◌else◌, List, [], ◌∷◌, ◌++◌, length, map, codes, decimal}
+use Rattle.std.specs.List.{concat, flat_map}
+use Rattle.tl_io.specs.declared.Write.{Write}
 
 -- a bit as a digit
 abbrev pub bit_digit : Bool → ℕ
@@ -18,3 +19,27 @@ header_line luts bits depth = concat (codes "luts " ∷ decimal luts ∷ codes "
 -- the outputs of a cycle, and the states after it
 abbrev pub cycle_line : List Bool → List Bool → List ℕ
 cycle_line outputs states = concat (codes "cycle " ∷ bit_string outputs ∷ codes " " ∷ bit_string states ∷ codes "\n" ∷ [])
+
+-- how many configuration bits a pack has
+abbrev pub bits_header_line : ℕ → List ℕ
+bits_header_line bits = concat (codes "bits " ∷ decimal bits ∷ codes "\n" ∷ [])
+
+-- a write after a blank: its address and its bit
+abbrev pub write_text : Write → List ℕ
+write_text write = codes " " ++ (decimal write.address ++ (codes "=" ++ (bit_digit write.bit ∷ [])))
+
+-- the writes of a change of parameters, and how many they are
+abbrev pub set_line : List Write → List ℕ
+set_line writes = concat (codes "set " ∷ decimal (length writes) ∷ flat_map write_text writes ∷ codes "\n" ∷ [])
+
+-- the writes that set upset bits right, and how many they are
+abbrev pub scrub_line : List Write → List ℕ
+scrub_line writes = concat (codes "scrub " ∷ decimal (length writes) ∷ flat_map write_text writes ∷ codes "\n" ∷ [])
+
+-- a bit that was upset, with its new value
+abbrev pub upset_line : Write → List ℕ
+upset_line write = concat (codes "upset" ∷ write_text write ∷ codes "\n" ∷ [])
+
+-- the bits of a configuration in the order of their addresses
+abbrev pub image_line : List Bool → List ℕ
+image_line config = concat (codes "image " ∷ bit_string config ∷ codes "\n" ∷ [])

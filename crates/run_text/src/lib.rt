@@ -1,17 +1,27 @@
-//! The texts of a run: its parameter list, and what it puts out, line by line.
+//! The texts of a run: its parameter list, its script, and what it puts out, line by line.
 //!
 //! [`read_params`] reads a parameter list, or answers the text's first refusal (`specs/ParamsText.antt`). The parameters are
 //! inputs of a flat circuit, each once (`specs/Parameters.antt`), and [`regular`] gives the places of the inputs that are left.
 //!
 //! - `param_line.rt` reads a line, and `param_lines.rt` all lines of a text.
-//! - `name_index.rt` finds the names of the circuit by their hashes.
+//! - `name_index.rt` finds names by their hashes.
+//!
+//! [`read_script`] reads a script, a line for each [`Event`], or answers the text's first refusal (`specs/ScriptText.antt`). What a
+//! line says by its words stands in `specs/Sayings.antt`, and is judged by the [`Names`] of the run. Each event that is answered
+//! fits these names (`specs/Fits.antt`).
+//!
+//! - `setting.rt` reads the words of a `set`, `assigns.rt` finds their parameters, and `cycle_values.rt` reads a cycle's values.
+//! - `script_line.rt` reads a line, and `script_lines.rt` all lines of a text.
 //!
 //! Each line that is put out is one definition in `specs/Lines.antt` and one call here, which puts the line's bytes to a sink
-//! through a [`LineBuf`], in pieces of 4,096 bytes. A line is a list of parts, as a word, a number or a string of
-//! bits, and ends with a line feed. `specs/Pieces.antt` says what stands in the sink, and what still waits in the
+//! through a [`LineBuf`], in pieces of 4,096 bytes. A line is a list of parts, as a word, a number, a string of
+//! bits or a list of writes, and ends with a line feed. `specs/Pieces.antt` says what stands in the sink, and what still waits in the
 //! buffer, once a part is added.
 #![tactic(auto)]
 
+mod assigns;
+mod cycle_values;
+mod event;
 mod line_buf;
 mod lines;
 mod name_index;
@@ -21,14 +31,26 @@ mod param_lines;
 mod params;
 mod part;
 mod regular_inputs;
+mod script_err;
+mod script_line;
+mod script_lines;
+mod scripts;
+mod setting;
+mod write_lines;
 
+pub use event::{Event, MOST_EVENTS, Names};
 pub use line_buf::LineBuf;
-pub use lines::{put_cycle, put_header};
+pub use lines::{put_bits_header, put_cycle, put_header, put_image};
 pub use par_err::ParErr;
 pub use params::{Param, Params, read_params};
 pub use regular_inputs::regular;
+pub use script_err::ScriptErr;
+pub use scripts::read_script;
+pub use write_lines::{put_scrub, put_set, put_upset};
 
 #[cfg(test)]
 mod params_tests;
+#[cfg(test)]
+mod script_tests;
 #[cfg(test)]
 mod tests;

@@ -1,7 +1,7 @@
 ghost use Rattle.std.specs.Prelude.{◌≡◌};
 ghost use Rattle.tl_io.specs.Causes.{HasCause};
 ghost use Rattle.tl_io.specs.Content.{Puts};
-ghost use Rattle.run_text.specs.Lines.{header_line, cycle_line};
+ghost use Rattle.run_text.specs.Lines.{header_line, bits_header_line, cycle_line, image_line};
 
 use crate::line_buf::LineBuf;
 use crate::part::{Part, put_line};
@@ -26,11 +26,30 @@ pub fn put_header<O: Sink>(
 {
     let parts = [
         Part::Text(b"luts "),
-        Part::Number(luts),
+        Part::Number(luts as u64),
         Part::Text(b" bits "),
-        Part::Number(bits),
+        Part::Number(bits as u64),
         Part::Text(b" depth "),
-        Part::Number(depth),
+        Part::Number(depth as u64),
+        Part::Text(b"\n"),
+    ];
+    put_line(&parts, buf, out)
+}
+
+/// Puts the line `bits BITS`: how many configuration bits a pack has. The bytes go in pieces of 4,096, of which the last may
+/// be shorter. It takes no memory.
+///
+/// # Errors
+/// `Failed` only where the sink's count of faults rose: then a prefix of the line stands.
+pub fn put_bits_header<O: Sink>(bits: u32, buf: &mut LineBuf, out: &mut O) -> Result<(), Failed>
+    ensures cause { HasCause (O.faults out.old) (O.faults out.new) result }
+    ensures grown { Puts (O.bytes out.old) (O.bytes out.new) (bits_header_line bits) result }
+    ensures through { O.through out.new ≡ O.through out.old }
+    ensures others { O.others out.new ≡ O.others out.old }
+{
+    let parts = [
+        Part::Text(b"bits "),
+        Part::Number(bits as u64),
         Part::Text(b"\n"),
     ];
     put_line(&parts, buf, out)
@@ -59,5 +78,24 @@ pub fn put_cycle<'a, O: Sink>(
         Part::Bits(states),
         Part::Text(b"\n"),
     ];
+    put_line(&parts, buf, out)
+}
+
+/// Puts the line `image BITS`: the bits of a configuration in the order of their addresses, a string of `0` and `1`, or `-`
+/// where there are none. The bytes go in pieces of 4,096, of which the last may be shorter. It takes no memory.
+///
+/// # Errors
+/// `Failed` only where the sink's count of faults rose: then a prefix of the line stands.
+pub fn put_image<'a, O: Sink>(
+    config: &'a [bool],
+    buf: &mut LineBuf,
+    out: &mut O,
+) -> Result<(), Failed>
+    ensures cause { HasCause (O.faults out.old) (O.faults out.new) result }
+    ensures grown { Puts (O.bytes out.old) (O.bytes out.new) (image_line config.now) result }
+    ensures through { O.through out.new ≡ O.through out.old }
+    ensures others { O.others out.new ≡ O.others out.old }
+{
+    let parts = [Part::Text(b"image "), Part::Bits(config), Part::Text(b"\n")];
     put_line(&parts, buf, out)
 }

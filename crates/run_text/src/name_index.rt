@@ -1,4 +1,4 @@
-//! Names of a flat circuit, found by their hashes.
+//! Names, found by their hashes.
 ghost use Rattle.std.specs.Prelude.{◌≡◌, [], IfOk, OnOk};
 ghost use Rattle.blif_flat.specs.Models.{has_name};
 ghost use Rattle.blif_flat.specs.Steps.NameSets.{with_name, with_names};

@@ -2,17 +2,17 @@
 ghost use Rattle.std.specs.Prelude.{◌<◌, ◌^◌, length, IfOk, OnOk};
 ghost use Rattle.tl_text.specs.Once.{AreOnce};
 
-use crate::{ParErr, Params, read_params, regular};
+use crate::{Params, read_params, regular};
 use blif_flat::Flat;
 use itoa::Buffer;
 use std::alloc::{AllocError, Global};
 use std::process::Abort;
 use std::test::Fail;
-use tl_fault::Details;
+use tl_fault::{Details, Refusal};
 use tl_text::{MOST_BYTES, Name, NameIndex};
 
 // No name stands twice.
-fn check_once(rt: &impl Abort, alloc: Global, names: &[Name]) -> Result<(), AllocError>
+pub(crate) fn check_once(rt: &impl Abort, alloc: Global, names: &[Name]) -> Result<(), AllocError>
     ensures { OnOk result (AreOnce names.now) }
 {
     let mut index = NameIndex::new(alloc);
@@ -49,7 +49,7 @@ fn circuit(
     })
 }
 
-fn names(alloc: Global, words: &[&[u8]]) -> Result<Vec<Name>, AllocError> {
+pub(crate) fn names(alloc: Global, words: &[&[u8]]) -> Result<Vec<Name>, AllocError> {
     let mut names = Vec::new(alloc);
     for word in words {
         names.push(Name::make(alloc, word)?)?;
@@ -57,34 +57,46 @@ fn names(alloc: Global, words: &[&[u8]]) -> Result<Vec<Name>, AllocError> {
     Ok(names)
 }
 
-fn put_number(out: &mut Vec<u8>, number: u32) -> Result<(), AllocError> {
+pub(crate) fn put_number(out: &mut Vec<u8>, number: u32) -> Result<(), AllocError> {
     let mut buffer = Buffer::new();
     out.extend_from_slice(buffer.format(number).as_bytes())?;
     Ok(())
 }
 
-// The code, the line and the name of a refusal.
-fn put_refusal(out: &mut Vec<u8>, error: ParErr) -> Result<(), AllocError> {
-    match error.refusal() {
-        None => out.extend_from_slice(b"memory")?,
-        Some(refusal) => {
-            out.extend_from_slice(refusal.code.as_bytes())?;
-            match &refusal.details {
-                Details::Line(line) => {
-                    out.push(b' ')?;
-                    put_number(out, *line)?;
-                }
-                Details::Named(line, name) => {
-                    out.push(b' ')?;
-                    put_number(out, *line)?;
-                    out.push(b' ')?;
-                    out.extend_from_slice(name.bytes())?;
-                }
-                _ => out.extend_from_slice(b"?")?,
-            }
-        }
+// Numbers, each after a blank.
+fn put_numbers(out: &mut Vec<u8>, numbers: &[u32]) -> Result<(), AllocError> {
+    for number in numbers {
+        out.push(b' ')?;
+        put_number(out, *number)?;
     }
     Ok(())
+}
+
+// A blank, and what the details of a refusal tell.
+fn put_details(out: &mut Vec<u8>, details: &Details) -> Result<(), AllocError> {
+    match details {
+        Details::Line(line) => put_numbers(out, &[*line]),
+        Details::Named(line, name) => {
+            put_numbers(out, &[*line])?;
+            out.push(b' ')?;
+            out.extend_from_slice(name.bytes())
+        }
+        Details::Width(line, number) | Details::Bits(line, number) => {
+            put_numbers(out, &[*line, *number])
+        }
+        _ => out.extend_from_slice(b"?"),
+    }
+}
+
+// The code of a refusal, its line, and the name or the number that it tells.
+pub(crate) fn put_refusal(out: &mut Vec<u8>, refusal: Option<Refusal>) -> Result<(), AllocError> {
+    match refusal {
+        None => out.extend_from_slice(b"memory"),
+        Some(refusal) => {
+            out.extend_from_slice(refusal.code.as_bytes())?;
+            put_details(out, &refusal.details)
+        }
+    }
 }
 
 // Each parameter as its name, `@` and its place, and `=` and its value.
@@ -107,7 +119,7 @@ fn shown(rt: &impl Abort, alloc: Global, text: &[u8]) -> Result<Vec<u8>, AllocEr
     let flat = circuit(rt, alloc, inputs, clocks)?;
     let mut out = Vec::new(alloc);
     match read_params(alloc, text, &flat) {
-        Err(error) => put_refusal(&mut out, error)?,
+        Err(error) => put_refusal(&mut out, error.refusal())?,
         Ok(params) => {
             put_params(&mut out, &params)?;
             for place in &regular(alloc, &flat, &params)? {
@@ -206,7 +218,7 @@ fn as_many_parameters_as_there_may_be(rt: HostRuntime) -> Result<(), Fail> {
     );
     let mut out = Vec::new(alloc);
     match read_params(alloc, all, &flat) {
-        Err(error) => put_refusal(&mut out, error)?,
+        Err(error) => put_refusal(&mut out, error.refusal())?,
         Ok(_) => out.extend_from_slice(b"taken")?,
     }
     assert_eq!(rt; out.as_slice(), b"L8 65536".as_slice());

@@ -1,9 +1,9 @@
-use Rattle.std.proofs.Common.{◌≡◌, ℕ, List, length, map, None, Some, subst, arith}
+use Rattle.std.proofs.Common.{◌≡◌, List, length, map, Some, subst, arith}
 use Rattle.std.proofs.lemmas.List.{length-map}
 use Rattle.list_laws.proofs.Items.{member_at}
 use Rattle.tl_fault.proofs.OrMemoryLemmas.{OrMemory-map}
 use Rattle.tl_fault.specs.OrMemory.{OrMemory}
-use Rattle.tl_text.specs.LineValue.{LineValue, WordsLine, words_line}
+use Rattle.tl_text.specs.LineValue.{WordsLine, words_line}
 use Rattle.run_text.specs.Refusals.{refusal_of}
 use Rattle.run_text.specs.ParamsText.{line_refusal, IsFirstRefusal}
 use Rattle.run_text.proofs.LineLemmas.{passed_err, line_at, new_name, read_next, names_next}

@@ -1,0 +1,102 @@
+-- The events of a script fit what it may name.
+use Rattle.std.proofs.Common.{◌≡◌, ℕ, zero, suc, ◌||◌, Bool, true, false, not, eqb, ltb, leb, List, [], ◌∷◌, ◌++◌, length, Option, Some, None, bytes_eq, refl, sym, ap, ◌∙◌, subst}
+use Rattle.std.specs.Prelude.{slice_get}
+use Rattle.std.specs.Option.{option_map, option_and_then}
+use Rattle.std.proofs.lemmas.Bool.{or_parts, eqb-true, ltb-true}
+use Rattle.std.proofs.lemmas.Option.{none-some, same_Some, slice_get_within}
+use Rattle.list_laws.specs.Members.{In}
+use Rattle.list_laws.proofs.Choice.{none_both, none_else}
+use Rattle.list_laws.proofs.Members.{place_in}
+use Rattle.tl_io.specs.declared.Assign.{Assign}
+use Rattle.tl_text.specs.LineValue.{WordsLine}
+use Rattle.tl_text.specs.NameIndex.{place_of}
+use Rattle.blif_flat.specs.Models.{has_name}
+use Rattle.blif_flat.proofs.ModelNameLemmas.{place_is}
+use Rattle.blif_flat.proofs.NameSetLemmas.{has_one_more}
+use Rattle.run_text.specs.Each.{each_of}
+use Rattle.run_text.specs.EventValue.{EventValue, Set, Cycle, Upset, Scrub, Image}
+use Rattle.run_text.specs.Fits.{Fits}
+use Rattle.tl_io.specs.Assigns.{AreAssigned}
+use Rattle.run_text.specs.NamesValue.{NamesValue}
+use Rattle.run_text.specs.Sayings.{Saying, sets, cycles, upsets, scrubs, images, said_of}
+use Rattle.run_text.specs.ScriptText.{settings_refusal, cycle_refusal, saying_refusal, line_refusal, assigned, assign_of, event_of, line_event, AreEventsOf}
+use Rattle.run_text.specs.declared.setting.Setting.{Setting}
+use Rattle.run_text.specs.declared.script_err.ScriptErr.TheVariants.{NotParameter, RepeatedInSet, Width, Address, Events}
+use Rattle.run_text.proofs.EachLemmas.{each_at}
+use Rattle.run_text.proofs.MarkLemmas.{has_this}
+
+-- settings without a refusal: none has an earlier name, and each name stands once
+module _ (params : List (List ℕ)) (number : ℕ) where
+  later : (earlier : List (List ℕ)) (s : Setting) (rest : List Setting) → settings_refusal params number earlier (s ∷ rest) ≡ None
+      → (has_name earlier s.name ≡ false) × (settings_refusal params number (earlier ++ s.name ∷ []) rest ≡ None)
+  later earlier s rest none =
+      none_both (has_name earlier s.name) (RepeatedInSet number s.name) _ (none_both (not (has_name params s.name)) (NotParameter number s.name) _ none).1
+
+  not_earlier : (earlier : List (List ℕ)) (settings : List Setting) (i : ℕ) (s : Setting) → settings_refusal params number earlier settings ≡ None → slice_get settings i ≡ Some s → has_name earlier s.name ≡ false
+  not_earlier earlier [] i s none at = absurd (none-some s at)
+  not_earlier earlier (x ∷ xs) zero s none at = ap (λ (t : Setting). has_name earlier t.name) (sym (same_Some x s at)) ∙ (later earlier x xs none).0
+  not_earlier earlier (x ∷ xs) (suc i) s none at =
+      (or_parts (has_name earlier s.name) (bytes_eq s.name x.name || false)
+      (sym (has_one_more earlier x.name s.name) ∙ not_earlier (earlier ++ x.name ∷ []) xs i s (later earlier x xs none).1 at)).0
+
+  differ : (earlier : List (List ℕ)) (x : Setting) (xs : List Setting) (i : ℕ) (s : Setting) → settings_refusal params number earlier (x ∷ xs) ≡ None → slice_get xs i ≡ Some s → s.name ≡ x.name → ⊥
+  differ earlier x xs i s none at same =
+      let new : has_name (earlier ++ x.name ∷ []) s.name ≡ false = not_earlier (earlier ++ x.name ∷ []) xs i s (later earlier x xs none).1 at in
+      let there : has_name (earlier ++ x.name ∷ []) s.name ≡ true = ap (has_name (earlier ++ x.name ∷ [])) same ∙ has_this earlier x.name in
+      let wrong : true ≡ false = sym there ∙ new in cc
+
+  one_place : (earlier : List (List ℕ)) (settings : List Setting) (i j : ℕ) (s t : Setting) → settings_refusal params number earlier settings ≡ None → slice_get settings i ≡ Some s → slice_get settings j ≡ Some t → s.name ≡ t.name → i ≡ j
+  one_place earlier [] i j s t none a b same = absurd (none-some s a)
+  one_place earlier (x ∷ xs) zero zero s t none a b same = refl
+  one_place earlier (x ∷ xs) zero (suc j) s t none a b same = absurd (differ earlier x xs j t none b (sym same ∙ ap (λ (u : Setting). u.name) (sym (same_Some x s a))))
+  one_place earlier (x ∷ xs) (suc i) zero s t none a b same = absurd (differ earlier x xs i s none a (same ∙ ap (λ (u : Setting). u.name) (sym (same_Some x t b))))
+  one_place earlier (x ∷ xs) (suc i) (suc j) s t none a b same = ap suc (one_place (earlier ++ x.name ∷ []) xs i j s t (later earlier x xs none).1 a b same)
+
+-- the parameter of a setting
+place_there : (bit : Bool) (o : Option ℕ) (a : Assign) → option_map (assigned bit) o ≡ Some a → o ≡ Some a.param
+place_there bit None a e = absurd (none-some a e)
+place_there bit (Some place) a e = ap (λ (b : Assign). Some b.param) (same_Some (assigned bit place) a e)
+
+named_there : (params : List (List ℕ)) (s : Setting) (a : Assign) → assign_of params s ≡ Some a → slice_get params a.param ≡ Some s.name
+named_there params s a e = place_is params s.name a.param (place_there s.bit (place_of params s.name) a e)
+
+assigned_fit : (params : List (List ℕ)) (number : ℕ) (settings : List Setting) (assigns : List Assign) → settings_refusal params number [] settings ≡ None → each_of (assign_of params) settings ≡ Some assigns → AreAssigned (length params) assigns
+assigned_fit params number settings assigns none are = record {
+  below = λ a i.
+      let p = place_in assigns a i in
+      let s = each_at (assign_of params) settings assigns p.0 a are p.1 in
+      slice_get_within params a.param s.source.name (named_there params s.source a s.is);
+  once = λ i j a b at bt same.
+      let s = each_at (assign_of params) settings assigns i a are at in
+      let t = each_at (assign_of params) settings assigns j b are bt in
+      one_place params number [] settings i j s.source t.source none s.there t.there
+      (same_Some s.source.name t.source.name (sym (named_there params s.source a s.is) ∙ ap (slice_get params) same ∙ named_there params t.source b t.is));
+}
+
+-- a line without a refusal
+width_fits : (width : Option ℕ) (number : ℕ) (values : List Bool) → cycle_refusal width number values ≡ None → width ≡ Some (length values)
+width_fits None number values none = absurd (none-some _ (sym none))
+width_fits (Some width) number values none = ap (λ n. Some n) (sym (eqb-true (length values) width (none_else (eqb (length values) width) (Width number width) None none).0))
+
+set_is : (o : Option (List Assign)) (event : EventValue) → option_map Set o ≡ Some event → (assigns : List Assign) × (o ≡ Some assigns) × (Set assigns ≡ event)
+set_is None event e = absurd (none-some event e)
+set_is (Some assigns) event e = (assigns, refl, same_Some (Set assigns) event e)
+
+said_fits : (names : NamesValue) (number : ℕ) (said : Option Saying) (event : EventValue) → saying_refusal names number said ≡ None → option_and_then (event_of names.params) said ≡ Some event → Fits names event
+said_fits names number None event none is = absurd (none-some _ (sym none))
+said_fits names number (Some (sets settings)) event none is =
+    let s = set_is (each_of (assign_of names.params) settings) event is in
+    subst (Fits names) s.2 (assigned_fit names.params number settings s.0 none s.1)
+said_fits names number (Some (cycles values)) event none is = subst (Fits names) (same_Some (Cycle values) event is) (width_fits names.width number values none)
+said_fits names number (Some (upsets address)) event none is =
+    subst (Fits names) (same_Some (Upset address) event is) (ltb-true address names.bits (none_else (ltb address names.bits) (Address number names.bits) None none).0)
+said_fits names number (Some scrubs) event none is = subst (Fits names) (same_Some Scrub event is) tt
+said_fits names number (Some images) event none is = subst (Fits names) (same_Some Image event is) tt
+
+-- the events of lines
+pub events_fit : (names : NamesValue) (lines : List WordsLine) (events : List EventValue) → AreEventsOf names lines events → (event : EventValue) → In events event → Fits names event
+events_fit names lines events are event i =
+    let p = place_in events event i in
+    let l = each_at (line_event names.params) lines events p.0 event are.are p.1 in
+    let none : line_refusal names p.0 l.source ≡ None = sym (ap (option_and_then (line_refusal names p.0)) l.there) ∙ are.no_refusal p.0 in
+    said_fits names (l.source).number (said_of (l.source).words) event (none_both (leb 1048576 p.0) (Events (l.source).number) _ none).1 l.is

@@ -1,0 +1,186 @@
+-- Worked examples: a script of all five events, what words say, and each refusal.
+use Rattle.std.proofs.Common.{◌≡◌, ℕ, zero, suc, true, false, List, [], ◌∷◌, codes, map, inl, inr, ap, ◌∙◌, Option, Some, None, Ok, refl, sym, subst, arith}
+use Rattle.std.specs.Prelude.{slice_get}
+use Rattle.std.proofs.lemmas.Option.{none-some}
+use Rattle.tl_fault.specs.RefusalValue.{refusal as told}
+use Rattle.tl_fault.specs.declared.refusal.Details.TheVariants.{Line, Bits}
+use Rattle.tl_fault.specs.declared.refusal.Details.TheVariants as details
+use Rattle.tl_io.specs.declared.Assign.{Assign}
+use Rattle.tl_text.specs.LineValue.{LineValue, words_line}
+use Rattle.tl_text.specs.Lines.{lines_of}
+use Rattle.run_text.specs.EventValue.{EventValue, event_values, Set, Cycle, Upset, Scrub, Image}
+use Rattle.run_text.specs.Fits.{Fits}
+use Rattle.run_text.specs.NamesValue.{NamesValue}
+use Rattle.run_text.specs.ScriptRefusals.{refusal_of}
+use Rattle.run_text.specs.Sayings.{split_last, setting_of, settings_of, bits_of, address_of}
+use Rattle.run_text.specs.ScriptText.{line_refusal, refusal_at, IsScript, IsScriptFault, at_line}
+use Rattle.run_text.specs.declared.event.Event.TheVariants as event
+use Rattle.run_text.specs.declared.script_err.ScriptErr.{ScriptErr}
+use Rattle.run_text.specs.declared.script_err.ScriptErr.TheVariants.{Malformed, NotHere, Width, NotParameter, RepeatedInSet, Address, Events, Memory}
+
+-- two parameters, two regular inputs, four bits
+abbrev names : NamesValue
+names = record { params = codes "p" ∷ codes "q" ∷ []; width = Some 2; bits = 4 }
+
+abbrev text : List ℕ
+text = codes "set q=1 p=0\n# no event\ncycle 10\nupset 3\nscrub\nimage\n"
+
+abbrev events : List EventValue
+events = Set (record { param = 1; bit = true } ∷ record { param = 0; bit = false } ∷ []) ∷ Cycle (true ∷ false ∷ []) ∷ Upset 3 ∷ Scrub ∷ Image ∷ []
+
+abbrev lines : List LineValue
+lines =
+    record { number = 1; tokens = record { start = 0; end = 3 } ∷ record { start = 4; end = 7 } ∷ record { start = 8; end = 11 } ∷ [] }
+    ∷ record { number = 3; tokens = record { start = 23; end = 28 } ∷ record { start = 29; end = 31 } ∷ [] }
+    ∷ record { number = 4; tokens = record { start = 32; end = 37 } ∷ record { start = 38; end = 39 } ∷ [] }
+    ∷ record { number = 5; tokens = record { start = 40; end = 45 } ∷ [] }
+    ∷ record { number = 6; tokens = record { start = 46; end = 51 } ∷ [] } ∷ []
+
+text_lines : lines_of text ≡ Ok lines
+text_lines = refl
+
+none_refused : (i : ℕ) → refusal_at names (map (words_line text) lines) i ≡ None
+none_refused zero = refl
+none_refused (suc zero) = refl
+none_refused (suc (suc zero)) = refl
+none_refused (suc (suc (suc zero))) = refl
+none_refused (suc (suc (suc (suc zero)))) = refl
+none_refused (suc (suc (suc (suc (suc i))))) = refl
+
+five_events : IsScript names text events
+five_events = record { lines = lines; lines_are = refl; are = record { no_refusal = none_refused; are = refl } }
+
+-- a word is split at its last `=`
+two_signs : split_last (codes "a=b=1") ≡ Some (record { front = codes "a=b"; back = codes "1" })
+two_signs = refl
+
+no_sign : split_last (codes "ab") ≡ None
+no_sign = refl
+
+odd_name : setting_of (codes "a=b=1") ≡ Some (record { name = codes "a=b"; bit = true })
+odd_name = refl
+
+no_name : setting_of (codes "=1") ≡ None
+no_name = refl
+
+no_setting : settings_of [] ≡ None
+no_setting = refl
+
+-- `-` is no value, and another byte makes a word none of both
+no_values : bits_of (codes "-") ≡ Some []
+no_values = refl
+
+two_values : bits_of (codes "01") ≡ Some (false ∷ true ∷ [])
+two_values = refl
+
+bad_value : bits_of (codes "0-") ≡ None
+bad_value = refl
+
+-- the greatest address, and the number behind it
+greatest : address_of (codes "4294967295") ≡ Some 4294967295
+greatest = refl
+
+too_great : address_of (codes "4294967296") ≡ None
+too_great = refl
+
+-- the refusal of line 7 by its words
+abbrev refusal : List (List ℕ) → Option ScriptErr
+refusal words = line_refusal names 3 (record { number = 7; words = words })
+
+-- S1: an unknown word, a word too many or too few, a value that is none, behind a name that is no parameter
+unknown : refusal (codes "sets" ∷ codes "p=1" ∷ []) ≡ Some (Malformed 7)
+unknown = refl
+
+too_many : refusal (codes "scrub" ∷ codes "1" ∷ []) ≡ Some (Malformed 7)
+too_many = refl
+
+too_few : refusal (codes "set" ∷ []) ≡ Some (Malformed 7)
+too_few = refl
+
+later_word : refusal (codes "set" ∷ codes "z=1" ∷ codes "p=2" ∷ []) ≡ Some (Malformed 7)
+later_word = refl
+
+-- S6 and S2: a cycle where there are none, and one with a value too few
+no_cycles : line_refusal (record { params = []; width = None; bits = 4 }) 3 (record { number = 7; words = codes "cycle" ∷ codes "1" ∷ [] }) ≡ Some (NotHere 7)
+no_cycles = refl
+
+one_short : refusal (codes "cycle" ∷ codes "1" ∷ []) ≡ Some (Width 7 2)
+one_short = refl
+
+none_given : refusal (codes "cycle" ∷ codes "-" ∷ []) ≡ Some (Width 7 2)
+none_given = refl
+
+-- S3 and S4, word by word
+no_parameter : refusal (codes "set" ∷ codes "z=1" ∷ []) ≡ Some (NotParameter 7 (codes "z"))
+no_parameter = refl
+
+twice : refusal (codes "set" ∷ codes "p=1" ∷ codes "p=1" ∷ codes "z=1" ∷ []) ≡ Some (RepeatedInSet 7 (codes "p"))
+twice = refl
+
+before : refusal (codes "set" ∷ codes "p=1" ∷ codes "z=1" ∷ codes "p=1" ∷ []) ≡ Some (NotParameter 7 (codes "z"))
+before = refl
+
+-- S5: the first address that isn't there
+no_bit : refusal (codes "upset" ∷ codes "4" ∷ []) ≡ Some (Address 7 4)
+no_bit = refl
+
+last_bit : refusal (codes "upset" ∷ codes "3" ∷ []) ≡ None
+last_bit = refl
+
+-- L7: behind 2^20 events, whatever the line is; one event fewer is taken
+one_too_many : line_refusal names 1048576 (record { number = 7; words = codes "what" ∷ [] }) ≡ Some (Events 7)
+one_too_many = refl
+
+the_last_one : line_refusal names 1048575 (record { number = 7; words = codes "image" ∷ [] }) ≡ None
+the_last_one = refl
+
+-- the second line is the first that has a refusal
+abbrev refused_text : List ℕ
+refused_text = codes "scrub\nset z=1\nno\n"
+
+abbrev three_lines : List LineValue
+three_lines =
+    record { number = 1; tokens = record { start = 0; end = 5 } ∷ [] }
+    ∷ record { number = 2; tokens = record { start = 6; end = 9 } ∷ record { start = 10; end = 13 } ∷ [] }
+    ∷ record { number = 3; tokens = record { start = 14; end = 16 } ∷ [] } ∷ []
+
+second_refused : IsScriptFault names refused_text (NotParameter 2 (codes "z"))
+second_refused = at_line three_lines refl (record {
+  place = 1;
+  is = refl;
+  none_before = λ i l. let z : i ≡ 0 = omega arith in subst (λ k. refusal_at names (map (words_line refused_text) three_lines) k ≡ None) (sym z) refl;
+})
+
+-- a set fits where its parameters are there, each once, and a cycle where it has a value for each regular input
+one_place : (i : ℕ) (a : Assign) → slice_get (record { param = 1; bit = true } ∷ []) i ≡ Some a → i ≡ 0
+one_place zero a e = refl
+one_place (suc i) a e = absurd (none-some a e)
+
+set_fits : Fits names (Set (record { param = 1; bit = true } ∷ []))
+set_fits = record {
+  below = λ a i. elim i [ inl e ↦ (let n : a.param ≡ 1 = ap (λ (b : Assign). b.param) e in omega arith) | inr o ↦ absurd o ];
+  once = λ i j a b x y same. one_place i a x ∙ sym (one_place j b y);
+}
+
+cycle_fits : Fits names (Cycle (true ∷ false ∷ []))
+cycle_fits = refl
+
+upset_fits : Fits names (Upset 3)
+upset_fits = omega arith
+
+-- events without vectors as they are seen
+plain_events : event_values (event.Upset 3 ∷ event.Scrub ∷ event.Image ∷ []) ≡ Upset 3 ∷ Scrub ∷ Image ∷ []
+plain_events = refl
+
+-- want of memory is no refusal, and two refusals tell a number beside the line
+no_refusal : refusal_of Memory ≡ None
+no_refusal = refl
+
+no_form : refusal_of (Malformed 7) ≡ Some (told (codes "S1") (codes "Malformed") (Line 7))
+no_form = refl
+
+other_width : refusal_of (Width 7 2) ≡ Some (told (codes "S2") (codes "Width") (details.Width 7 2))
+other_width = refl
+
+other_bits : refusal_of (Address 7 4) ≡ Some (told (codes "S5") (codes "Address") (Bits 7 4))
+other_bits = refl

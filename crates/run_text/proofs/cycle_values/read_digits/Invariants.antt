@@ -1,0 +1,7 @@
+use Rattle.std.proofs.Common.{◌≡◌, Some, take}
+use Rattle.run_text.specs.Each.{each_of}
+use Rattle.run_text.specs.Sayings.{digit_bit}
+use Rattle.run_text.proofs.cycle_values.read_digits.Given as goal
+
+abbrev pub invariant-loop-digit : goal.invariant-loop-digit
+invariant-loop-digit l = each_of digit_bit (take l.digit-index l.word) ≡ Some l.values.items

@@ -1,0 +1,8 @@
+use Rattle.std.proofs.Common.{◌≡◌, Some, map, take}
+use Rattle.tl_text.specs.LineValue.{token_bytes}
+use Rattle.run_text.specs.Each.{each_of}
+use Rattle.run_text.specs.Sayings.{setting_of}
+use Rattle.run_text.proofs.setting.read_each.Given as goal
+
+abbrev pub invariant-loop-token : goal.invariant-loop-token
+invariant-loop-token l = each_of setting_of (map (token_bytes l.text) (take l.token-index l.tokens)) ≡ Some l.settings.items

@@ -1,0 +1,102 @@
+//! Why a text is no script.
+use std::alloc::{AllocError, AllocFailed};
+use tl_fault::{Details, Name, Refusal};
+use tl_text::TextErr;
+
+/// Why a text is no script. Each line is a logical line, but for the first two a physical one; lines are counted from 1.
+#[derive(Debug, Drop, thiserror::Error)]
+pub enum ScriptErr {
+    /// T1: a byte that no line may have.
+    #[error("bad byte in line {0}")]
+    BadByte(u32),
+    /// T2: a token ends in `\`.
+    #[error("trailing backslash in line {0}")]
+    TrailingSlash(u32),
+    /// L7: 2^20 events stand already.
+    #[error("too many events in line {0}")]
+    Events(u32),
+    /// S1: the line has none of the five forms.
+    #[error("malformed line {0}")]
+    Malformed(u32),
+    /// S6: a cycle, where there are none.
+    #[error("a cycle in line {0}")]
+    NotHere(u32),
+    /// S2: a cycle has another number of values than there are regular inputs, which is the second number.
+    #[error("not {1} values in line {0}")]
+    Width(u32, u32),
+    /// S3: the name isn't a parameter.
+    #[error("no parameter in line {0}")]
+    NotParameter(u32, Name),
+    /// S4: the parameter stood earlier in the line.
+    #[error("a parameter repeated in line {0}")]
+    RepeatedInSet(u32, Name),
+    /// S5: the address isn't below the number of configuration bits, which is the second number.
+    #[error("not below {1} in line {0}")]
+    Address(u32, u32),
+    /// There is no memory.
+    #[error("out of memory")]
+    Memory,
+}
+
+impl<T: Drop> From<AllocFailed<T>> for ScriptErr {
+    ghost use Rattle.std.specs.Prelude.{◌≡◌};
+    ghost use Rattle.run_text.specs.declared.script_err.ScriptErr.TheVariants.{Memory};
+
+    ghost from_gives = { λ _ e. e ≡ Memory };
+
+    fn from(_: AllocFailed<T>) -> ScriptErr {
+        ScriptErr::Memory
+    }
+}
+
+impl From<AllocError> for ScriptErr {
+    ghost use Rattle.std.specs.Prelude.{◌≡◌};
+    ghost use Rattle.run_text.specs.declared.script_err.ScriptErr.TheVariants.{Memory};
+
+    ghost from_gives = { λ _ e. e ≡ Memory };
+
+    fn from(_: AllocError) -> ScriptErr {
+        ScriptErr::Memory
+    }
+}
+
+impl ScriptErr {
+    ghost use Rattle.std.specs.Prelude.{◌≡◌};
+    ghost use Rattle.run_text.specs.ScriptRefusals.{refusal_of};
+
+    /// What the refusal tells; none for want of memory.
+    pub fn refusal(self) -> Option<Refusal>
+        ensures { result ≡ refusal_of self }
+    {
+        match self {
+            ScriptErr::BadByte(line) => TextErr::BadByte(line).refusal(),
+            ScriptErr::TrailingSlash(line) => TextErr::TrailingSlash(line).refusal(),
+            ScriptErr::Events(line) => Some(Refusal::new("L7", "Events", Details::Line(line))),
+            ScriptErr::Malformed(line) => {
+                Some(Refusal::new("S1", "Malformed", Details::Line(line)))
+            }
+            ScriptErr::NotHere(line) => Some(Refusal::new("S6", "NotHere", Details::Line(line))),
+            ScriptErr::Width(line, width) => Some(Refusal::new(
+                "S2",
+                "Width",
+                Details::Width(line, width),
+            )),
+            ScriptErr::NotParameter(line, name) => Some(Refusal::new(
+                "S3",
+                "NotParameter",
+                Details::Named(line, name),
+            )),
+            ScriptErr::RepeatedInSet(line, name) => Some(Refusal::new(
+                "S4",
+                "RepeatedInSet",
+                Details::Named(line, name),
+            )),
+            ScriptErr::Address(line, bits) => Some(Refusal::new(
+                "S5",
+                "Address",
+                Details::Bits(line, bits),
+            )),
+            ScriptErr::Memory => None,
+        }
+    }
+}

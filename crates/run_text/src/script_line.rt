@@ -1,0 +1,191 @@
+//! A line of a script.
+ghost use Rattle.std.specs.Prelude.{◌≡◌, ◌≤◌, ◌<◌, length, map, None, Some, MatchOption, MatchResult};
+ghost use Rattle.std.specs.Option.{option_map, option_and_then};
+ghost use Rattle.list_laws.specs.Members.{In};
+ghost use Rattle.ppc_pack.specs.declared.pack.TheConstants.{MOST_PARAMETERS};
+ghost use Rattle.tl_fault.specs.OrMemory.{OrMemory};
+ghost use Rattle.tl_text.specs.LineValue.{IsLineIn, IsWithin, token_bytes, words_line};
+ghost use Rattle.tl_text.specs.declared.token.Token.{Token as TokenValue};
+ghost use Rattle.run_text.specs.EventValue.{event_value};
+ghost use Rattle.run_text.specs.Sayings.{sets, cycles, upsets, settings_of, bits_of, address_of, only as only_word, said_by};
+ghost use Rattle.run_text.specs.ScriptLines.{Reads};
+ghost use Rattle.run_text.specs.ScriptText.{line_refusal, line_event};
+ghost use Rattle.run_text.specs.ScriptRefusals.{refusal_of};
+ghost use Rattle.run_text.specs.declared.script_err.ScriptErr.TheVariants.{Malformed};
+
+use crate::assigns::read_assigns;
+use crate::cycle_values::read_values;
+use crate::event::{Event, MOST_EVENTS, Names};
+use crate::script_err::ScriptErr;
+use crate::setting::read_settings;
+use std::alloc::Global;
+use tl_text::{Line, NameIndex, Token, decimal};
+
+// The word of a token that is the only one.
+fn only<'a>(text: &'a [u8], tokens: &[Token]) -> Option<&'a [u8]>
+    requires { (token : TokenValue) → In tokens.now token → IsWithin text.now token }
+    ensures { MatchOption result (only_word (map (token_bytes text.now) tokens.now) ≡ None) (λ word. only_word (map (token_bytes text.now) tokens.now) ≡ Some word.now) }
+{
+    if tokens.len() != 1 {
+        return None;
+    }
+    Some(tokens[0].bytes(text))
+}
+
+// A line of `set`, by the tokens behind it.
+fn read_set(
+    alloc: Global,
+    text: &[u8],
+    number: u32,
+    names: &Names,
+    params: &NameIndex,
+    tokens: &[Token],
+) -> Result<Event, ScriptErr>
+    requires within { (token : TokenValue) → In tokens.now token → IsWithin text.now token }
+    requires few { length params.now ≤ MOST_PARAMETERS }
+    requires same { params.now ≡ names.now.params }
+    ensures { Reads names.now number (option_map sets (settings_of (map (token_bytes text.now) tokens.now))) result }
+{
+    let settings = read_settings(alloc, text, number, tokens)?;
+    let assigns = read_assigns(alloc, number, params, &settings)?;
+    Ok(Event::Set(assigns))
+}
+
+// The cycle that a word says.
+fn cycle(alloc: Global, number: u32, names: &Names, word: &[u8]) -> Result<Event, ScriptErr>
+    ensures { Reads names.now number (option_map cycles (bits_of word.now)) result }
+{
+    let values = read_values(alloc, number, word)?;
+    let Some(width) = names.width else {
+        return Err(ScriptErr::NotHere(number));
+    };
+    if values.len() != width as usize {
+        return Err(ScriptErr::Width(number, width));
+    }
+    Ok(Event::Cycle(values))
+}
+
+// A line of `cycle`, by the tokens behind it.
+fn read_cycle(
+    alloc: Global,
+    text: &[u8],
+    number: u32,
+    names: &Names,
+    tokens: &[Token],
+) -> Result<Event, ScriptErr>
+    requires { (token : TokenValue) → In tokens.now token → IsWithin text.now token }
+    ensures { Reads names.now number (option_map cycles (option_and_then bits_of (only_word (map (token_bytes text.now) tokens.now)))) result }
+{
+    match only(text, tokens) {
+        None => Err(ScriptErr::Malformed(number)),
+        Some(word) => cycle(alloc, number, names, word),
+    }
+}
+
+// The address that a word says.
+fn address(word: &[u8]) -> Option<u32>
+    ensures { result ≡ address_of word.now }
+{
+    let number = decimal(word)?;
+    if number > u32::MAX as u64 {
+        return None;
+    }
+    Some(number as u32)
+}
+
+// The upset that a word says.
+fn upset(number: u32, names: &Names, word: &[u8]) -> Result<Event, ScriptErr>
+    ensures { Reads names.now number (option_map upsets (address_of word.now)) result }
+{
+    let Some(address) = address(word) else {
+        return Err(ScriptErr::Malformed(number));
+    };
+    if address >= names.bits {
+        return Err(ScriptErr::Address(number, names.bits));
+    }
+    Ok(Event::Upset(address))
+}
+
+// A line of `upset`, by the tokens behind it.
+fn read_upset(text: &[u8], number: u32, names: &Names, tokens: &[Token]) -> Result<Event, ScriptErr>
+    requires { (token : TokenValue) → In tokens.now token → IsWithin text.now token }
+    ensures { Reads names.now number (option_map upsets (option_and_then address_of (only_word (map (token_bytes text.now) tokens.now)))) result }
+{
+    match only(text, tokens) {
+        None => Err(ScriptErr::Malformed(number)),
+        Some(word) => upset(number, names, word),
+    }
+}
+
+// An event whose line has no further tokens.
+fn read_alone(event: Event, number: u32, tokens: &[Token]) -> Result<Event, ScriptErr>
+    ensures { MatchResult result
+        (λ e. (length tokens.now ≡ 0) × (e ≡ event))
+        (λ e. (0 < length tokens.now) × (e ≡ Malformed number)) }
+{
+    if !tokens.is_empty() {
+        return Err(ScriptErr::Malformed(number));
+    }
+    Ok(event)
+}
+
+// The event of a line with this first word and the tokens behind it.
+fn read_event(
+    alloc: Global,
+    text: &[u8],
+    number: u32,
+    names: &Names,
+    params: &NameIndex,
+    word: &[u8],
+    tokens: &[Token],
+) -> Result<Event, ScriptErr>
+    requires within { (token : TokenValue) → In tokens.now token → IsWithin text.now token }
+    requires few { length params.now ≤ MOST_PARAMETERS }
+    requires same { params.now ≡ names.now.params }
+    ensures { Reads names.now number (said_by word.now (map (token_bytes text.now) tokens.now)) result }
+{
+    if word == b"set".as_slice() {
+        return read_set(alloc, text, number, names, params, tokens);
+    }
+    if word == b"cycle".as_slice() {
+        return read_cycle(alloc, text, number, names, tokens);
+    }
+    if word == b"upset".as_slice() {
+        return read_upset(text, number, names, tokens);
+    }
+    if word == b"scrub".as_slice() {
+        return read_alone(Event::Scrub, number, tokens);
+    }
+    if word == b"image".as_slice() {
+        return read_alone(Event::Image, number, tokens);
+    }
+    Err(ScriptErr::Malformed(number))
+}
+
+/// The event of a line behind so many others, where the names of the parameters are indexed. It takes time linear in the line,
+/// on average over the hashes.
+///
+/// # Errors
+/// The first of L7, S1, S6 and S2 that the line has, or of S3 and S4 setting by setting, or S5; `Memory` where there is none.
+pub(crate) fn read_line(
+    alloc: Global,
+    text: &[u8],
+    line: &Line,
+    names: &Names,
+    params: &NameIndex,
+    earlier: usize,
+) -> Result<Event, ScriptErr>
+    requires within { IsLineIn text.now line.now }
+    requires few { length params.now ≤ MOST_PARAMETERS }
+    requires same { params.now ≡ names.now.params }
+    ensures { MatchResult result
+        (λ event. (line_refusal names.now earlier (words_line text.now line.now) ≡ None) × (line_event names.now.params (words_line text.now line.now) ≡ Some (event_value event)))
+        (OrMemory refusal_of (λ e. line_refusal names.now earlier (words_line text.now line.now) ≡ Some e)) }
+{
+    if earlier >= MOST_EVENTS {
+        return Err(ScriptErr::Events(line.number));
+    }
+    let tokens = line.tokens.as_slice();
+    let word = tokens[0].bytes(text);
+    read_event(alloc, text, line.number, names, params, word, &tokens[1..])
+}

@@ -1,0 +1,69 @@
+//! Scripts.
+ghost use Rattle.std.specs.Prelude.{◌≡◌, ◌≤◌, length, Ok, IfOk, IfErr};
+ghost use Rattle.list_laws.specs.Members.{In};
+ghost use Rattle.ppc_pack.specs.declared.pack.TheConstants.{MOST_PARAMETERS};
+ghost use Rattle.tl_fault.specs.OrMemory.{OrMemory};
+ghost use Rattle.tl_text.specs.LineValue.{AreLinesIn};
+ghost use Rattle.tl_text.specs.Lines.{lines_of};
+ghost use Rattle.tl_text.specs.Once.{AreOnce};
+ghost use Rattle.tl_text.specs.declared.logical_lines.TheConstants.{MOST_BYTES};
+ghost use Rattle.run_text.specs.EventValue.{EventValue, event_values};
+ghost use Rattle.run_text.specs.Fits.{Fits};
+ghost use Rattle.run_text.specs.NamesValue.{NamesValue};
+ghost use Rattle.run_text.specs.ScriptLines.{script_err};
+ghost use Rattle.run_text.specs.ScriptText.{IsScript, IsScriptFault, HasOneReading};
+ghost use Rattle.run_text.specs.ScriptRefusals.{refusal_of};
+
+use crate::event::{Event, Names};
+use crate::script_err::ScriptErr;
+use crate::script_lines::read_lines;
+use std::alloc::Global;
+use tl_text::{Line, TextErr, lines};
+
+// A refusal of a text's lines as one of a script.
+fn lines_err(error: TextErr) -> ScriptErr
+    ensures { result ≡ script_err error }
+{
+    match error {
+        TextErr::BadByte(line) => ScriptErr::BadByte(line),
+        TextErr::TrailingSlash(line) => ScriptErr::TrailingSlash(line),
+        TextErr::Memory => ScriptErr::Memory,
+    }
+}
+
+// The lines of a text.
+fn text_lines(alloc: Global, text: &[u8]) -> Result<Vec<Line>, ScriptErr>
+    requires { length text.now ≤ MOST_BYTES }
+    ensures lines { IfOk result (λ found. lines_of text.now ≡ Ok found.items) }
+    ensures within { IfOk result (λ found. AreLinesIn text.now found.items) }
+    ensures fault { IfErr result (OrMemory refusal_of (λ e. (names : NamesValue) → IsScriptFault names text.now e)) }
+{
+    match lines(alloc, text) {
+        Ok(found) => Ok(found),
+        Err(error) => Err(lines_err(error)),
+    }
+}
+
+/// The events of a script, a line for each: `set` and words `NAME=BIT`, each split at its last `=`; `cycle` and a string of a
+/// `0` or `1` for each regular input, or `-`; `upset` and an address; `scrub`; `image`. Each event fits what may be named. The
+/// names of the parameters differ.
+///
+/// It takes time and memory linear in the text and in the names of the parameters, on average over the hashes.
+///
+/// # Errors
+/// The text's first refusal, by `specs/ScriptText.antt`: T1 and T2 of its physical lines, else that of the first logical line
+/// that has one. In one line the order is L7, S1, S6, S2, S3 and S4 word by word, S5. `Memory` where there is none. A text is
+/// one script at most, or has one refusal at most, and never both.
+pub fn read_script(alloc: Global, text: &[u8], names: &Names) -> Result<Vec<Event>, ScriptErr>
+    requires short { length text.now ≤ MOST_BYTES }
+    requires few { length names.now.params ≤ MOST_PARAMETERS }
+    requires once { AreOnce names.now.params }
+    ensures events { IfOk result (λ events. IsScript names.now text.now (event_values events.items)) }
+    ensures fit { IfOk result (λ events. (event : EventValue) → In (event_values events.items) event → Fits names.now event) }
+    ensures fault { IfErr result (OrMemory refusal_of (IsScriptFault names.now text.now)) }
+    ensures one_reading { HasOneReading names.now text.now }
+{
+    let found = text_lines(alloc, text)?;
+    let events = read_lines(alloc, text, &found, names)?;
+    Ok(events)
+}

@@ -1,0 +1,77 @@
+//! The lines of writes: configuration bits, each with its address and its value.
+ghost use Rattle.std.specs.Prelude.{◌≡◌};
+ghost use Rattle.tl_io.specs.Causes.{HasCause};
+ghost use Rattle.tl_io.specs.Content.{Puts};
+ghost use Rattle.run_text.specs.Lines.{set_line, scrub_line, upset_line};
+
+use crate::line_buf::LineBuf;
+use crate::part::{Part, put_line};
+use tl_io::{Failed, Sink, Write};
+
+/// Puts the line `set COUNT` and each write as `ADDRESS=BIT`: how many bits a change of parameters wrote, and which.
+/// The bytes go in pieces of 4,096, of which the last may be shorter. It takes no memory.
+///
+/// # Errors
+/// `Failed` only where the sink's count of faults rose: then a prefix of the line stands.
+pub fn put_set<'a, O: Sink>(
+    writes: &'a [Write],
+    buf: &mut LineBuf,
+    out: &mut O,
+) -> Result<(), Failed>
+    ensures cause { HasCause (O.faults out.old) (O.faults out.new) result }
+    ensures grown { Puts (O.bytes out.old) (O.bytes out.new) (set_line writes.now) result }
+    ensures through { O.through out.new ≡ O.through out.old }
+    ensures others { O.others out.new ≡ O.others out.old }
+{
+    let parts = [
+        Part::Text(b"set "),
+        Part::Number(writes.len() as u64),
+        Part::Writes(writes),
+        Part::Text(b"\n"),
+    ];
+    put_line(&parts, buf, out)
+}
+
+/// Puts the line `scrub COUNT` and each write as `ADDRESS=BIT`: how many upset bits were set right, and which.
+/// The bytes go in pieces of 4,096, of which the last may be shorter. It takes no memory.
+///
+/// # Errors
+/// `Failed` only where the sink's count of faults rose: then a prefix of the line stands.
+pub fn put_scrub<'a, O: Sink>(
+    writes: &'a [Write],
+    buf: &mut LineBuf,
+    out: &mut O,
+) -> Result<(), Failed>
+    ensures cause { HasCause (O.faults out.old) (O.faults out.new) result }
+    ensures grown { Puts (O.bytes out.old) (O.bytes out.new) (scrub_line writes.now) result }
+    ensures through { O.through out.new ≡ O.through out.old }
+    ensures others { O.others out.new ≡ O.others out.old }
+{
+    let parts = [
+        Part::Text(b"scrub "),
+        Part::Number(writes.len() as u64),
+        Part::Writes(writes),
+        Part::Text(b"\n"),
+    ];
+    put_line(&parts, buf, out)
+}
+
+/// Puts the line `upset ADDRESS=BIT`: which bit was upset, and its new value.
+/// The bytes go in pieces of 4,096, of which the last may be shorter. It takes no memory.
+///
+/// # Errors
+/// `Failed` only where the sink's count of faults rose: then a prefix of the line stands.
+pub fn put_upset<O: Sink>(write: Write, buf: &mut LineBuf, out: &mut O) -> Result<(), Failed>
+    ensures cause { HasCause (O.faults out.old) (O.faults out.new) result }
+    ensures grown { Puts (O.bytes out.old) (O.bytes out.new) (upset_line write) result }
+    ensures through { O.through out.new ≡ O.through out.old }
+    ensures others { O.others out.new ≡ O.others out.old }
+{
+    let writes = [write];
+    let parts = [
+        Part::Text(b"upset"),
+        Part::Writes(&writes),
+        Part::Text(b"\n"),
+    ];
+    put_line(&parts, buf, out)
+}
