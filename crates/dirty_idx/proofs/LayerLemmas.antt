@@ -1,0 +1,126 @@
+-- Bits of words, and what the words above a word say of it once the bit above it is put right.
+use Rattle.std.proofs.Common.{◌≡◌, ℕ, ◌+◌, ◌-◌, ◌*◌, ◌/◌, ◌%◌, ◌^◌, ◌<◌, ◌≤◌, min, List, length, set, get_or, sym, ap, ◌∙◌, subst, inl, inr, arith, bit_and, bit_or}
+use Rattle.std.specs.Int.{bit_at, bit_not, w64}
+use Rattle.std.proofs.lemmas.List.{length-set, get_or-set_same, get_or-set_other, get_or_read}
+use Rattle.std.proofs.lemmas.Bool.{cases_eq}
+use Rattle.std.proofs.lemmas.Nat.Bits.{bit_at-zero, bit_at_set_same, bit_at_set_other, bit_at_clear_same, bit_at_clear_other}
+use Rattle.dirty_idx.specs.Layers.{word_at, bit_above, AreTold, IsClimbed, IsSomeOnTheWay, IsNoneOnTheWay, IsRetold}
+
+-- a word with a bit is not 0
+pub some_bit : (w b : ℕ) → bit_at w b ≡ 1 → 0 < w
+some_bit w b h = elim (cases_eq w 0) [
+  | inl e ↦ (let z : bit_at 0 b ≡ 0 = bit_at-zero b in let s : bit_at w b ≡ bit_at 0 b = ap (λ m. bit_at m b) e in absurd (omega arith))
+  | inr d ↦ omega arith
+]
+
+pub no_bit : (w b : ℕ) → w ≡ 0 → bit_at w b ≡ 0
+no_bit w b e = ap (λ m. bit_at m b) e ∙ bit_at-zero b
+
+-- the word above says it right
+pub told_set : (base at up b w : ℕ) (words : List ℕ) → at ≡ 64 * up + 1 + b → b < 64 → up < length words → AreTold base at words
+    → bit_at w b ≡ min 1 (word_at words at) → ((i : ℕ) → i < 64 → (i ≡ b → ⊥) → bit_at w i ≡ bit_at (word_at words up) i) → AreTold base up (set words up w)
+told_set base at up b w words e lb lu told here others = record {
+  each = λ a c la lc off.
+      let child : word_at (set words up w) (64 * a + 1 + c) ≡ word_at words (64 * a + 1 + c) = get_or-set_other words up (64 * a + 1 + c) w 0 off in
+      subst (λ n. bit_at (word_at (set words up w) a) c ≡ min 1 n) (sym child) (parent a c la lc);
+}
+  where
+    parent : (a c : ℕ) → a < base → c < 64 → bit_at (word_at (set words up w) a) c ≡ min 1 (word_at words (64 * a + 1 + c))
+    parent a c la lc = elim (cases_eq a up) [
+      | inl q ↦ (let now : word_at (set words up w) a ≡ w = ap (λ m. word_at (set words up w) m) q ∙ get_or-set_same words up w 0 lu in
+          elim (cases_eq c b) [
+            | inl f ↦ (let p : at ≡ 64 * a + 1 + c = omega arith in ap (λ m. bit_at m c) now ∙ ap (λ m. bit_at w m) f ∙ here ∙ ap (λ m. min 1 (word_at words m)) p)
+            | inr f ↦ ap (λ m. bit_at m c) now ∙ others c lc f ∙ ap (λ m. bit_at (word_at words m) c) (sym q) ∙ told.each a c la lc (λ p. f (omega arith))
+          ])
+      | inr q ↦ ap (λ m. bit_at m c) (get_or-set_other words up a w 0 q) ∙ told.each a c la lc (λ p. q (omega arith))
+    ]
+
+-- at the start nothing has changed
+pub climbed_start : (base at : ℕ) (words : List ℕ) → AreTold base at words → at ≤ 64 * base → IsClimbed base at words words
+climbed_start base at words told to = record { count = refl_length; lowest = λ m l. refl_word m; told = told; to = to }
+  where
+    refl_length : length words ≡ length words
+    refl_length = omega arith
+
+    refl_word : (m : ℕ) → word_at words m ≡ word_at words m
+    refl_word m = omega arith
+
+-- one word further up
+pub climbed_up : (base at up b w : ℕ) (old new : List ℕ) → at ≡ 64 * up + 1 + b → b < 64 → up < length new → IsClimbed base at old new
+    → bit_at w b ≡ min 1 (word_at new at) → ((i : ℕ) → i < 64 → (i ≡ b → ⊥) → bit_at w i ≡ bit_at (word_at new up) i) → IsClimbed base up old (set new up w)
+climbed_up base at up b w old new e lb lu climbed here others =
+    let to : at ≤ 64 * base = climbed.to in
+    record {
+      count = length-set new up w ∙ climbed.count;
+      lowest = λ m l. get_or-set_other new up m w 0 (λ q. omega arith) ∙ climbed.lowest m l;
+      told = told_set base at up b w new e lb lu climbed.told here others;
+      to = omega arith;
+    }
+
+-- where the word has a bit
+pub some_up : (base at x : ℕ) (old new : List ℕ) → 0 < at → (at - 1) / 64 < length new → x ≡ get_or new ((at - 1) / 64) x → IsSomeOnTheWay base at old new
+    → IsSomeOnTheWay base ((at - 1) / 64) old (set new ((at - 1) / 64) (bit_or x (1 * 2 ^ ((at - 1) % 64) % 2 ^ 64)))
+some_up base at x old new la lu read way =
+    let up : ℕ = (at - 1) / 64 in
+    let b : ℕ = (at - 1) % 64 in
+    let w : ℕ = bit_or x (1 * 2 ^ b % 2 ^ 64) in
+    let lb : (at - 1) % 64 < 64 = omega arith in
+    let e : at ≡ 64 * ((at - 1) / 64) + 1 + (at - 1) % 64 = omega arith in
+    let some : 0 < word_at new at = way.some in
+    let here : bit_at w b ≡ 1 = bit_at_set_same w64 x b lb in
+    let says : bit_at w b ≡ min 1 (word_at new at) = omega arith in
+    record {
+      climbed = climbed_up base at up b w old new e lb lu way.climbed says (λ i li d. bit_at_set_other w64 x b lb i d ∙ ap (λ m. bit_at m i) (get_or_read new up x lu read 0));
+      some = subst (λ m. 0 < m) (sym (get_or-set_same new up w 0 lu)) (some_bit w b here);
+    }
+
+pub some_end : (base : ℕ) (old new : List ℕ) → IsSomeOnTheWay base 0 old new → IsRetold base old new
+some_end base old new way = record { count = way.climbed.count; lowest = way.climbed.lowest; told = way.climbed.told }
+
+-- where it has none any more
+pub none_up : (base at x : ℕ) (old new : List ℕ) → 0 < at → (at - 1) / 64 < length new → x ≡ get_or new ((at - 1) / 64) x → word_at new at ≡ 0 → IsNoneOnTheWay base at old new
+    → IsNoneOnTheWay base ((at - 1) / 64) old (set new ((at - 1) / 64) (bit_and x (bit_not w64 (1 * 2 ^ ((at - 1) % 64) % 2 ^ 64))))
+none_up base at x old new la lu read none way =
+    let up : ℕ = (at - 1) / 64 in
+    let b : ℕ = (at - 1) % 64 in
+    let w : ℕ = bit_and x (bit_not w64 (1 * 2 ^ b % 2 ^ 64)) in
+    let lb : (at - 1) % 64 < 64 = omega arith in
+    let e : at ≡ 64 * ((at - 1) / 64) + 1 + (at - 1) % 64 = omega arith in
+    let here : bit_at w b ≡ 0 = bit_at_clear_same w64 x b lb in
+    let says : bit_at w b ≡ min 1 (word_at new at) = omega arith in
+    record {
+      climbed = climbed_up base at up b w old new e lb lu way.climbed says (λ i li d. bit_at_clear_other w64 x b lb i li d ∙ ap (λ m. bit_at m i) (get_or_read new up x lu read 0));
+      said = said_above w;
+    }
+  where
+    said_above : (w : ℕ) → 0 < (at - 1) / 64 → bit_above (set new ((at - 1) / 64) w) ((at - 1) / 64) ≡ 1
+    said_above w lup =
+        let up : ℕ = (at - 1) / 64 in
+        let above : ℕ = ((at - 1) / 64 - 1) / 64 in
+        let c : ℕ = ((at - 1) / 64 - 1) % 64 in
+        let to : at ≤ 64 * base = way.climbed.to in
+        let some : 0 < word_at new ((at - 1) / 64) = some_bit (word_at new ((at - 1) / 64)) ((at - 1) % 64) (way.said la) in
+        let child : 64 * (((at - 1) / 64 - 1) / 64) + 1 + ((at - 1) / 64 - 1) % 64 ≡ (at - 1) / 64 = omega arith in
+        let told : bit_at (word_at new above) c ≡ min 1 (word_at new up) = way.climbed.told.each above c (omega arith) (omega arith) (λ q. omega arith) ∙ ap (λ m. min 1 (word_at new m)) child in
+        ap (λ m. bit_at m c) (get_or-set_other new up above w 0 (λ q. omega arith)) ∙ (let r : bit_at (word_at new above) c ≡ 1 = omega arith in r)
+
+-- at the end the word above says it right too
+pub none_end : (base at : ℕ) (old new : List ℕ) → (0 < at → 0 < word_at new at) → IsNoneOnTheWay base at old new → IsRetold base old new
+none_end base at old new some way = record {
+  count = way.climbed.count;
+  lowest = way.climbed.lowest;
+  told = record { each = λ a c la lc off. right a c la lc };
+}
+  where
+    right : (a c : ℕ) → a < base → c < 64 → bit_at (word_at new a) c ≡ min 1 (word_at new (64 * a + 1 + c))
+    right a c la lc = elim (cases_eq (64 * a + 1 + c) at) [
+      | inl q ↦ (
+          let up : (at - 1) / 64 ≡ a = omega arith in
+          let bit : (at - 1) % 64 ≡ c = omega arith in
+          let s : bit_at (word_at new ((at - 1) / 64)) ((at - 1) % 64) ≡ 1 = way.said (omega arith) in
+          let t : bit_at (word_at new a) c ≡ 1 = subst (λ m. bit_at (word_at new m) c ≡ 1) up (subst (λ m. bit_at (word_at new ((at - 1) / 64)) m ≡ 1) bit s) in
+          let n : 0 < word_at new at = some (omega arith) in
+          let m : word_at new (64 * a + 1 + c) ≡ word_at new at = ap (λ k. word_at new k) q in
+          omega arith)
+      | inr d ↦ way.climbed.told.each a c la lc d
+    ]

@@ -1,0 +1,10 @@
+pub mod CountLemmas
+pub mod FillLemmas
+pub mod FirstLemmas
+pub mod LayerLemmas
+pub mod MarkLemmas
+pub mod MarksExample
+pub mod ReadLemmas
+pub mod ReaderLemmas
+pub mod ReadersExample
+pub mod Zeros

@@ -1,0 +1,209 @@
+-- The marks that the lowest words have, and what a bit put into them changes.
+use Rattle.std.proofs.Common.{◌≡◌, ℕ, ◌+◌, ◌-◌, ◌*◌, ◌/◌, ◌%◌, ◌^◌, ◌<◌, ◌≤◌, min, Bool, true, false, eqb, List, length, set, get_or, replicate, sym, ap, ◌∙◌, subst, inl, inr, arith, eq-eqb, eqb-true, bit_and, bit_or}
+use Rattle.std.specs.Int.{bit_at, bit_not, trailing_zeros, w64}
+use Rattle.std.proofs.lemmas.List.{length-set, length-replicate, get_or-replicate, get_or-set_same, get_or-set_other, get_or_past, get_or_read, same_lists}
+use Rattle.std.proofs.lemmas.List.FromFn.{length-map-range_with_len, get_or-map-range_with_len}
+use Rattle.std.proofs.lemmas.Bool.{cases_eq, cases_lt}
+use Rattle.std.proofs.lemmas.Nat.Bits.{bit_at-trailing_zeros, bit_at_set_same, bit_at_set_other, bit_at_clear_same, bit_at_clear_other, shr_and_one}
+use Rattle.dirty_idx.specs.Marks.{is_marked, IsLeast, IsEmpty}
+use Rattle.dirty_idx.specs.Layers.{word_at, upper_words, AreTold, bit_above, mark_bit, marks_of, AreTiers, IsPut, IsRetold, IsFirstWord}
+use Rattle.dirty_idx.proofs.LayerLemmas.{some_bit, no_bit}
+use Rattle.dirty_idx.proofs.FirstLemmas.{none_below}
+use Rattle.dirty_idx.proofs.Zeros.{zeros-at}
+
+-- how many marks there are, and each of them
+pub length-marks_of : (size base : ℕ) (words : List ℕ) → length (marks_of size base words) ≡ size
+length-marks_of size base words = length-map-range_with_len (λ i. eqb (mark_bit base words i) 1) 0 size
+
+pub marks_of-at : (size base i : ℕ) (words : List ℕ) (d : Bool) → i < size → get_or (marks_of size base words) i d ≡ eqb (mark_bit base words i) 1
+marks_of-at size base i words d l = get_or-map-range_with_len (λ n. eqb (mark_bit base words n) 1) 0 size i i d l (omega arith)
+
+pub marked-bit : (size base i : ℕ) (words : List ℕ) → i < size → is_marked (marks_of size base words) i ≡ eqb (mark_bit base words i) 1
+marked-bit size base i words l = marks_of-at size base i words false l
+
+-- a bit put is a mark set
+pub marks_put : (size base i v : ℕ) (old new : List ℕ) → i < size → IsPut base i v old new → marks_of size base new ≡ set (marks_of size base old) i (eqb v 1)
+marks_put size base i v old new l put =
+    same_lists (marks_of size base new) (set (marks_of size base old) i (eqb v 1))
+    (length-marks_of size base new ∙ sym (length-set (marks_of size base old) i (eqb v 1) ∙ length-marks_of size base old))
+    (λ k d h. each k d (subst (λ n. k < n) (length-marks_of size base new) h))
+  where
+    each : (k : ℕ) (d : Bool) → k < size → get_or (marks_of size base new) k d ≡ get_or (set (marks_of size base old) i (eqb v 1)) k d
+    each k d h = elim (cases_eq k i) [
+      | inl e ↦ marks_of-at size base k new d h ∙ ap (λ n. eqb (mark_bit base new n) 1) e ∙ ap (λ b. eqb b 1) put.here
+          ∙ sym (ap (λ n. get_or (set (marks_of size base old) i (eqb v 1)) n d) e ∙ get_or-set_same (marks_of size base old) i (eqb v 1) d (subst (λ n. i < n) (sym (length-marks_of size base old)) l))
+      | inr n ↦ marks_of-at size base k new d h ∙ ap (λ b. eqb b 1) (put.others k n) ∙ sym (get_or-set_other (marks_of size base old) i k (eqb v 1) d n ∙ marks_of-at size base k old d h)
+    ]
+
+-- and the words keep what they keep
+pub tiers_put : (size depth base i v : ℕ) (old new : List ℕ) → i < size → AreTiers size depth base old → IsPut base i v old new → AreTiers size depth base new
+tiers_put size depth base i v old new l tiers put =
+    let count : length new ≡ length old = put.count in
+    let had : length old ≡ base + size / 64 + 1 = tiers.count in
+    let fitted : length old ≤ 64 * base + 1 = tiers.fits in
+    record {
+      small = tiers.small;
+      above = tiers.above;
+      few = tiers.few;
+      count = omega arith;
+      fits = omega arith;
+      told = put.told;
+      outside = λ j h. put.others j (λ e. omega arith) ∙ tiers.outside j h;
+    }
+
+-- a word of the lowest layer says nothing of others
+pub told_lowest : (base at w : ℕ) (words : List ℕ) → base ≤ at → AreTold base 0 words → AreTold base at (set words at w)
+told_lowest base at w words l told = record {
+  each = λ a c la lc off.
+      ap (λ m. bit_at m c) (get_or-set_other words at a w 0 (λ q. omega arith)) ∙ told.each a c la lc (λ q. omega arith)
+      ∙ ap (λ m. min 1 m) (sym (get_or-set_other words at (64 * a + 1 + c) w 0 off));
+}
+
+-- one bit of such a word changed, and the words above told of it
+pub put_is : (base i v w : ℕ) (old new : List ℕ) → base + i / 64 < length old → IsRetold base (set old (base + i / 64) w) new → bit_at w (i % 64) ≡ v
+    → ((b : ℕ) → b < 64 → (b ≡ i % 64 → ⊥) → bit_at w b ≡ bit_at (word_at old (base + i / 64)) b) → IsPut base i v old new
+put_is base i v w old new l told here others = record {
+  count = told.count ∙ length-set old (base + i / 64) w;
+  here = ap (λ m. bit_at m (i % 64)) changed ∙ here;
+  others = λ j d. elim (cases_eq (base + j / 64) (base + i / 64)) [
+    | inl e ↦ ap (λ m. bit_at m (j % 64)) (ap (λ n. word_at new n) e ∙ changed) ∙ others (j % 64) (omega arith) (λ q. d (omega arith)) ∙ ap (λ n. bit_at (word_at old n) (j % 64)) (sym e)
+    | inr n ↦ ap (λ m. bit_at m (j % 64)) (told.lowest (base + j / 64) (omega arith) ∙ get_or-set_other old (base + i / 64) (base + j / 64) w 0 n)
+  ];
+  told = told.told;
+}
+  where
+    changed : word_at new (base + i / 64) ≡ w
+    changed = told.lowest (base + i / 64) (omega arith) ∙ get_or-set_same old (base + i / 64) w 0 l
+
+-- a bit set
+pub set_is : (base i x : ℕ) (old new : List ℕ) → base + i / 64 < length old → length old ≤ 64 * base + 1 → AreTold base 0 old → x ≡ get_or old (base + i / 64) x
+    → ((b : ℕ) → AreTold b (base + i / 64) (set old (base + i / 64) (bit_or x (1 * 2 ^ (i % 64) % 2 ^ 64))) → base + i / 64 ≤ 64 * b → 0 < word_at (set old (base + i / 64) (bit_or x (1 * 2 ^ (i % 64) % 2 ^ 64))) (base + i / 64) → IsRetold b (set old (base + i / 64) (bit_or x (1 * 2 ^ (i % 64) % 2 ^ 64))) new)
+    → IsPut base i 1 old new
+set_is base i x old new l fits told read tells =
+    let at : ℕ = base + i / 64 in
+    let w : ℕ = bit_or x (1 * 2 ^ (i % 64) % 2 ^ 64) in
+    let lb : i % 64 < 64 = omega arith in
+    let here : bit_at w (i % 64) ≡ 1 = bit_at_set_same w64 x (i % 64) lb in
+    let some : 0 < word_at (set old at w) at = subst (λ m. 0 < m) (sym (get_or-set_same old at w 0 l)) (some_bit w (i % 64) here) in
+    put_is base i 1 w old new l (tells base (told_lowest base at w old (omega arith) told) (omega arith) some) here
+    (λ b h d. bit_at_set_other w64 x (i % 64) lb b d ∙ ap (λ m. bit_at m b) (get_or_read old at x l read 0))
+
+-- a bit cleared, which was set
+pub clear_is : (base i x : ℕ) (old new : List ℕ) → base + i / 64 < length old → length old ≤ 64 * base + 1 → AreTold base 0 old → mark_bit base old i ≡ 1 → x ≡ get_or old (base + i / 64) x
+    → ((b : ℕ) → AreTold b (base + i / 64) (set old (base + i / 64) (bit_and x (bit_not w64 (1 * 2 ^ (i % 64) % 2 ^ 64)))) → base + i / 64 ≤ 64 * b → (0 < base + i / 64 → bit_above (set old (base + i / 64) (bit_and x (bit_not w64 (1 * 2 ^ (i % 64) % 2 ^ 64)))) (base + i / 64) ≡ 1) → IsRetold b (set old (base + i / 64) (bit_and x (bit_not w64 (1 * 2 ^ (i % 64) % 2 ^ 64)))) new)
+    → IsPut base i 0 old new
+clear_is base i x old new l fits told was read tells =
+    let at : ℕ = base + i / 64 in
+    let w : ℕ = bit_and x (bit_not w64 (1 * 2 ^ (i % 64) % 2 ^ 64)) in
+    let lb : i % 64 < 64 = omega arith in
+    let here : bit_at w (i % 64) ≡ 0 = bit_at_clear_same w64 x (i % 64) lb in
+    put_is base i 0 w old new l (tells base (told_lowest base at w old (omega arith) told) (omega arith) (λ la. said (base + i / 64) w la (omega arith) (some_bit (word_at old (base + i / 64)) (i % 64) was))) here
+    (λ b h d. bit_at_clear_other w64 x (i % 64) lb b h d ∙ ap (λ m. bit_at m b) (get_or_read old at x l read 0))
+  where
+    said : (at w : ℕ) → 0 < at → at ≤ 64 * base → 0 < word_at old at → bit_above (set old at w) at ≡ 1
+    said at w la to some =
+        let child : 64 * ((at - 1) / 64) + 1 + (at - 1) % 64 ≡ at = omega arith in
+        let t : bit_at (word_at old ((at - 1) / 64)) ((at - 1) % 64) ≡ min 1 (word_at old at) = told.each ((at - 1) / 64) ((at - 1) % 64) (omega arith) (omega arith) (λ q. omega arith) ∙ ap (λ m. min 1 (word_at old m)) child in
+        ap (λ m. bit_at m ((at - 1) % 64)) (get_or-set_other old at ((at - 1) / 64) w 0 (λ q. omega arith)) ∙ (let r : bit_at (word_at old ((at - 1) / 64)) ((at - 1) % 64) ≡ 1 = omega arith in r)
+
+-- the lowest bit of the first word of the lowest layer is the least mark
+pub least_is : (size depth base at : ℕ) (words : List ℕ) → AreTiers size depth base words → IsFirstWord depth at words → word_at words at < 2 ^ 64
+    → IsLeast (marks_of size base words) (64 * (at - base) + trailing_zeros w64 (word_at words at))
+least_is size depth base at words tiers first fits = record {
+  within = subst (λ n. 64 * (at - base) + trailing_zeros w64 (word_at words at) < n) (sym (length-marks_of size base words)) inside;
+  marked = marked-bit size base (64 * (at - base) + trailing_zeros w64 (word_at words at)) words inside ∙ eq-eqb (mark_bit base words (64 * (at - base) + trailing_zeros w64 (word_at words at))) 1 bit;
+  least = λ j h. marked-bit size base j words (omega (arith, inside)) ∙ ap (λ b. eqb b 1) (before j h);
+}
+  where
+    lowest : (trailing_zeros w64 (word_at words at) < 64) × (bit_at (word_at words at) (trailing_zeros w64 (word_at words at)) ≡ 1) × ((i : ℕ) → i < trailing_zeros w64 (word_at words at) → bit_at (word_at words at) i ≡ 0)
+    lowest = bit_at-trailing_zeros w64 (word_at words at) first.some fits
+
+    small : trailing_zeros w64 (word_at words at) < 64
+    small = lowest.0
+
+    above : base ≡ upper_words depth
+    above = tiers.above
+
+    from : upper_words depth ≤ at
+    from = first.from
+
+    place : base + (64 * (at - base) + trailing_zeros w64 (word_at words at)) / 64 ≡ at
+    place = omega (arith, small, above, from)
+
+    shift : (64 * (at - base) + trailing_zeros w64 (word_at words at)) % 64 ≡ trailing_zeros w64 (word_at words at)
+    shift = omega (arith, small)
+
+    bit : mark_bit base words (64 * (at - base) + trailing_zeros w64 (word_at words at)) ≡ 1
+    bit = ap (λ m. bit_at (word_at words m) ((64 * (at - base) + trailing_zeros w64 (word_at words at)) % 64)) place ∙ ap (λ m. bit_at (word_at words at) m) shift ∙ lowest.1
+
+    inside : 64 * (at - base) + trailing_zeros w64 (word_at words at) < size
+    inside = elim (cases_lt (64 * (at - base) + trailing_zeros w64 (word_at words at)) size) [
+      | inl l ↦ l
+      | inr g ↦ (let z : mark_bit base words (64 * (at - base) + trailing_zeros w64 (word_at words at)) ≡ 0 = tiers.outside _ g in absurd (omega (arith, bit)))
+    ]
+
+    before : (j : ℕ) → j < 64 * (at - base) + trailing_zeros w64 (word_at words at) → mark_bit base words j ≡ 0
+    before j h = elim (cases_eq (base + j / 64) at) [
+      | inl e ↦ ap (λ m. bit_at (word_at words m) (j % 64)) e ∙ lowest.2 (j % 64) (omega (arith, small, above, from))
+      | inr d ↦ no_bit (word_at words (base + j / 64)) (j % 64) (first.before (base + j / 64) (omega (arith, above)) (omega (arith, small, above, from)))
+    ]
+
+-- without a bit at the top there is no mark
+pub empty_is : (size depth base : ℕ) (words : List ℕ) → AreTiers size depth base words → word_at words 0 ≡ 0 → IsEmpty (marks_of size base words)
+empty_is size depth base words tiers none = record {
+  none = λ i. elim (cases_lt i size) [
+    | inl l ↦ (
+        let count : length words ≡ base + size / 64 + 1 = tiers.count in
+        let fits : length words ≤ 64 * base + 1 = tiers.fits in
+        let z : word_at words (base + i / 64) ≡ 0 = none_below base (base + i / 64) words tiers.told (omega arith) none in
+        marked-bit size base i words l ∙ ap (λ b. eqb b 1) (no_bit (word_at words (base + i / 64)) (i % 64) z))
+    | inr g ↦ get_or_past (marks_of size base words) i false (subst (λ n. n ≤ i) (sym (length-marks_of size base words)) g)
+  ];
+}
+
+-- words without a bit
+bit-zeros : (n m b : ℕ) → bit_at (word_at (replicate n 0) m) b ≡ 0
+bit-zeros n m b = no_bit (word_at (replicate n 0) m) b (zeros-at n m)
+
+pub marks_zeros : (size base n : ℕ) → marks_of size base (replicate n 0) ≡ replicate size false
+marks_zeros size base n =
+    same_lists (marks_of size base (replicate n 0)) (replicate size false)
+    (length-marks_of size base (replicate n 0) ∙ sym (length-replicate size false))
+    (λ k d h.
+    let l : k < size = subst (λ m. k < m) (length-marks_of size base (replicate n 0)) h in
+    marks_of-at size base k (replicate n 0) d l ∙ ap (λ b. eqb b 1) (bit-zeros n (base + k / 64) (k % 64)) ∙ sym (get_or-replicate size k false d l))
+
+-- past the last word there is no bit
+some_within : (words : List ℕ) (at : ℕ) → 0 < word_at words at → at < length words
+some_within words at some = elim (cases_lt at (length words)) [ inl l ↦ l | inr g ↦ (let z : word_at words at ≡ 0 = get_or_past words at 0 g in absurd (omega arith)) ]
+
+-- what the words are to a set of which only the marks are known
+module _ (size depth base : ℕ) (words : List ℕ) (marks : List Bool) (tiers : AreTiers size depth base words) (are : marks_of size base words ≡ marks) where
+  pub number_within : (i : ℕ) → i < length marks → i < size
+  number_within i l = subst (λ n. i < n) (ap length (sym are) ∙ length-marks_of size base words) l
+
+  pub word_within : (i : ℕ) → i < length marks → base + i / 64 < length words
+  word_within i l = let h : i < size = number_within i l in let n : length words ≡ base + size / 64 + 1 = tiers.count in omega arith
+
+  pub mark_set : (i : ℕ) → i < length marks → is_marked marks i ≡ true → mark_bit base words i ≡ 1
+  mark_set i l is = eqb-true (mark_bit base words i) 1 (sym (marked-bit size base i words (number_within i l)) ∙ ap (λ m. is_marked m i) are ∙ is)
+
+  pub has_is : (i x : ℕ) → i < length marks → x ≡ get_or words (base + i / 64) x → eqb (bit_and (x / 2 ^ (i % 64)) 1) 1 ≡ is_marked marks i
+  has_is i x l read =
+      ap (λ m. eqb m 1) (shr_and_one x (i % 64) ∙ ap (λ m. bit_at m (i % 64)) (get_or_read words (base + i / 64) x (word_within i l) read 0))
+      ∙ sym (marked-bit size base i words (number_within i l)) ∙ ap (λ m. is_marked m i) are
+
+  pub put_marks : (i v : ℕ) (new : List ℕ) → i < length marks → IsPut base i v words new → marks_of size base new ≡ set marks i (eqb v 1)
+  put_marks i v new l put = marks_put size base i v words new (number_within i l) put ∙ ap (λ m. set m i (eqb v 1)) are
+
+  pub least_marks : (at x : ℕ) → x ≡ get_or words at x → x < 2 ^ 64 → IsFirstWord depth at words → IsLeast marks ((at - base) * 64 + trailing_zeros w64 x)
+  least_marks at x read fits first =
+      let e : x ≡ word_at words at = get_or_read words at x (some_within words at first.some) read 0 in
+      let n : 64 * (at - base) + trailing_zeros w64 x ≡ (at - base) * 64 + trailing_zeros w64 x = omega arith in
+      subst (λ k. IsLeast marks k) n (subst (λ w. IsLeast marks (64 * (at - base) + trailing_zeros w64 w)) (sym e) (subst (λ m. IsLeast m (64 * (at - base) + trailing_zeros w64 (word_at words at))) are (least_is size depth base at words tiers first (omega arith))))
+
+  pub least_fits : (i : ℕ) → IsLeast marks i → i < 2 ^ 26
+  least_fits i least = let h : i < size = number_within i least.within in let s : size ≤ 2 ^ 26 = tiers.small in omega arith
+
+  pub empty_marks : (x : ℕ) → x ≡ get_or words 0 x → x ≡ 0 → IsEmpty marks
+  empty_marks x read none = subst IsEmpty are (empty_is size depth base words tiers (let n : length words ≡ base + size / 64 + 1 = tiers.count in sym (get_or_read words 0 x (omega arith) read 0) ∙ none))

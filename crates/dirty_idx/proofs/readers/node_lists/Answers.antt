@@ -1,0 +1,16 @@
+use Rattle.std.proofs.Common.{◌≡◌, ◌*◌, ◌^◌, ◌≤◌, length, sym, ap, ◌∙◌, subst, arith}
+use Rattle.aig_core.specs.Aig.{first_and, node_count}
+use Rattle.dirty_idx.specs.Listed.{AreOf}
+use Rattle.dirty_idx.proofs.ReaderLemmas.{nodes_below, length-node_readings}
+use Rattle.dirty_idx.proofs.readers.node_lists.Goals as goal
+
+pub make-requires-clause-nodes : goal.make-requires-clause-nodes
+make-requires-clause-nodes c =
+    subst (λ count. AreOf count c.deref.result.now) (sym c.len.ensures.count)
+    (subst (AreOf (node_count c.args.graph.now)) (sym (c.deref.ensures.value ∙ c.in_ok-readings.ensures)) (nodes_below c.args.graph.now c.len.ensures.normal))
+
+pub make-requires-clause-few : goal.make-requires-clause-few
+make-requires-clause-few c =
+    let n : length c.deref.result.now ≡ 2 * length c.args.graph.now.pairs = ap length (c.deref.ensures.value ∙ c.in_ok-readings.ensures) ∙ length-node_readings (first_and c.args.graph.now) c.args.graph.now.pairs in
+    let few : length c.args.graph.now.pairs ≤ 2 ^ 25 = c.requires in
+    omega arith

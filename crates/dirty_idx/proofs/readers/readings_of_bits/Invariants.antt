@@ -1,0 +1,6 @@
+use Rattle.std.proofs.Common.{◌≡◌, ◌++◌, drop}
+use Rattle.dirty_idx.specs.Listed.{bit_readings}
+use Rattle.dirty_idx.proofs.readers.readings_of_bits.Given as goal
+
+abbrev pub invariant-loop-address : goal.invariant-loop-address
+invariant-loop-address l = l.readings.items ++ bit_readings l.address (drop l.address l.bits) ≡ bit_readings 0 l.bits

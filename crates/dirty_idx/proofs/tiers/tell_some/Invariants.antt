@@ -1,0 +1,12 @@
+use Rattle.std.proofs.Common.{ℕ, ◌*◌, ◌<◌, ◌≤◌, vec_len}
+use Rattle.dirty_idx.specs.Layers.{word_at, AreTold, IsSomeOnTheWay}
+use Rattle.dirty_idx.proofs.tiers.tell_some.Given as goal
+
+abbrev pub invariant-loop-at : goal.invariant-loop-at
+invariant-loop-at l = record {
+  within : l.at < vec_len l.words;
+  way : (base : ℕ) → AreTold base l.initial.at l.initial.words.items → l.initial.at ≤ 64 * base → 0 < word_at l.initial.words.items l.initial.at → IsSomeOnTheWay base l.at l.initial.words.items l.words.items;
+}
+
+abbrev pub decreases-loop-at : goal.decreases-loop-at
+decreases-loop-at l = l.at

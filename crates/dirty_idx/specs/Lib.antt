@@ -1,0 +1,7 @@
+-- What public clauses say.
+pub mod Marks
+pub mod Readers
+-- What only bodies are compared with.
+pub mod Layers
+pub mod Parts
+pub mod Listed

@@ -1,0 +1,179 @@
+//! A set of numbers below a size, as a bit set in layers.
+ghost use Rattle.std.specs.Prelude.{◌≡◌, ℕ, ◌+◌, ◌*◌, ◌/◌, ◌^◌, ◌<◌, ◌≤◌, true, false, length, replicate, slice_set, IfOk, MatchOption, vec_len};
+ghost use Rattle.dirty_idx.specs.Marks.{is_marked, IsLeast, IsEmpty, without};
+ghost use Rattle.dirty_idx.specs.Layers.{word_at, upper_words, bit_above, mark_bit, AreTold, IsPut, IsRetold, IsFirstWord};
+
+use std::alloc::{AllocError, Global};
+use std::marker::Model;
+
+/// The largest size of a set, 2^26.
+pub const MOST_MARKS: u32 = 67_108_864;
+
+/// A set of numbers below a size.
+///
+/// Each number has a bit in the words of the lowest layer. Each word has a bit in the layer above, which is set exactly
+/// where the word has one itself, and the topmost layer is one word. So the least member is found by one word of each
+/// layer, and there are five layers at most.
+///
+/// All layers lie in one vector, the topmost first: below the word at place p lie the 64 from place 64 p + 1 on. Every
+/// layer but the lowest has room for as many words as can be below the one above it, 266,305 in all at most.
+#[derive(Drop)]
+pub struct Tiers {
+    size: u32,
+    // How many layers there are above the lowest, and how many words they have.
+    depth: u32,
+    base: usize,
+    words: Vec<u64>,
+}
+
+impl Model for Tiers {
+    ghost use Rattle.std.specs.Prelude.{List, Bool};
+    ghost use Rattle.dirty_idx.specs.Layers.{marks_of, AreTiers};
+
+    ghost Value = { List Bool };
+
+    ghost view = { λ t. marks_of t.size t.base t.words.items };
+
+    ghost invariant = { λ t. AreTiers t.size t.depth t.base t.words.items };
+}
+
+// Tells the words above the word at a place that it has a bit.
+fn tell_some(words: &mut Vec<u64>, at: usize)
+    requires { at < vec_len words.old }
+    ensures { (base : ℕ) → AreTold base at words.old.items → at ≤ 64 * base → 0 < word_at words.old.items at → IsRetold base words.old.items words.new.items }
+{
+    let mut at = at;
+    while at > 0 {
+        let up = (at - 1) / 64;
+        words[up] |= 1 << ((at - 1) % 64);
+        at = up;
+    }
+}
+
+// Tells the words above the word at a place, which had a bit, whether it still has one.
+fn tell_none(words: &mut Vec<u64>, at: usize)
+    requires { at < vec_len words.old }
+    ensures { (base : ℕ) → AreTold base at words.old.items → at ≤ 64 * base → (0 < at → bit_above words.old.items at ≡ 1) → IsRetold base words.old.items words.new.items }
+{
+    let mut at = at;
+    while at > 0 && words[at] == 0 {
+        let up = (at - 1) / 64;
+        words[up] &= !(1 << ((at - 1) % 64));
+        at = up;
+    }
+}
+
+// Sets the bit of a number.
+fn set_bit(words: &mut Vec<u64>, base: usize, i: usize)
+    requires within { base + i / 64 < vec_len words.old }
+    requires fits { vec_len words.old ≤ 64 * base + 1 }
+    requires told { AreTold base 0 words.old.items }
+    ensures { IsPut base i 1 words.old.items words.new.items }
+{
+    let at = base + i / 64;
+    words[at] |= 1 << (i % 64);
+    tell_some(words, at);
+}
+
+// Clears the bit of a number, which is set.
+fn clear_bit(words: &mut Vec<u64>, base: usize, i: usize)
+    requires within { base + i / 64 < vec_len words.old }
+    requires fits { vec_len words.old ≤ 64 * base + 1 }
+    requires told { AreTold base 0 words.old.items }
+    requires set { mark_bit base words.old.items i ≡ 1 }
+    ensures { IsPut base i 0 words.old.items words.new.items }
+{
+    let at = base + i / 64;
+    words[at] &= !(1 << (i % 64));
+    tell_none(words, at);
+}
+
+// The place of the first word of the lowest layer that has a bit.
+fn first_word(words: &[u64], depth: u32) -> usize
+    requires some { 0 < word_at words.now 0 }
+    requires room { upper_words depth ≤ length words.now }
+    requires few { upper_words depth ≤ 2 ^ 27 }
+    requires told { AreTold (upper_words depth) 0 words.now }
+    ensures { IsFirstWord depth result words.now }
+{
+    let mut at = 0;
+    for _layer in 0..depth {
+        at = 64 * at + 1 + words[at].trailing_zeros() as usize;
+    }
+    at
+}
+
+// How many layers there are above a lowest layer of so many words, and how many words they have.
+fn layers_above(count: usize) -> (u32, usize)
+    requires { count ≤ 2 ^ 21 }
+    ensures above { result.1 ≡ upper_words result.0 }
+    ensures few { result.1 ≤ 2 ^ 27 }
+    ensures fits { count ≤ 63 * result.1 + 1 }
+{
+    let mut depth = 0;
+    let mut base = 0;
+    while 63 * base + 1 < count {
+        base = 64 * base + 1;
+        depth += 1;
+    }
+    (depth, base)
+}
+
+impl Tiers {
+    /// The empty set of numbers below `size`, which is at most `MOST_MARKS`.
+    ///
+    /// `Err` comes only for want of memory, and no other call takes any.
+    pub fn make(alloc: Global, size: u32) -> Result<Tiers, AllocError>
+        requires { size ≤ MOST_MARKS }
+        ensures { IfOk result (λ tiers. tiers ≡ replicate size false) }
+    {
+        let count = size as usize / 64 + 1;
+        let (depth, base) = layers_above(count);
+        let words = vec![in alloc; 0; base + count]?;
+        Ok(Tiers {
+            size,
+            depth,
+            base,
+            words,
+        })
+    }
+
+    /// Adds a number.
+    pub fn mark(&mut self, i: u32)
+        requires { i < length self.old }
+        ensures { self.new ≡ slice_set self.old i true }
+    {
+        set_bit(&mut self.words, self.base, i as usize);
+    }
+
+    /// Whether a number is a member.
+    pub fn has(&self, i: u32) -> bool
+        requires { i < length self.now }
+        ensures { result ≡ is_marked self.now i }
+    {
+        let i = i as usize;
+        self.words[self.base + i / 64] >> (i % 64) & 1 == 1
+    }
+
+    /// The least member, and `None` exactly where there is none. It takes constant time for each layer.
+    pub fn first(&self) -> Option<u32>
+        ensures { MatchOption result (IsEmpty self.now) (λ i. IsLeast self.now i) }
+    {
+        if self.words[0] == 0 {
+            return None;
+        }
+        let at = first_word(&self.words, self.depth);
+        let word = self.words[at];
+        Some((at - self.base) as u32 * 64 + word.trailing_zeros())
+    }
+
+    /// Removes the least member and tells it; `None` exactly where there is none.
+    pub fn take_first(&mut self) -> Option<u32>
+        ensures least { MatchOption result (IsEmpty self.old) (λ i. IsLeast self.old i) }
+        ensures rest { self.new ≡ without self.old result }
+    {
+        let first = self.first()?;
+        clear_bit(&mut self.words, self.base, first as usize);
+        Some(first)
+    }
+}

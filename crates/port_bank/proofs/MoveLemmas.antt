@@ -1,0 +1,154 @@
+-- Which ports a send moves: how many, and each with its cause.
+use Rattle.std.proofs.Common.{◌≡◌, ◌⊎◌, ℕ, zero, suc, ◌+◌, ◌≤◌, Bool, true, false, List, [], ◌∷◌, ◌++◌, length, Some, refl, ap, sym, ◌∙◌, arith, subst, inl, inr, append-nil, append_assoc, slice_set}
+use Rattle.std.specs.List.{slice_get, remove}
+use Rattle.std.proofs.lemmas.List.{length-append}
+use Rattle.std.proofs.lemmas.List.Edits.{length-remove}
+use Rattle.std.proofs.lemmas.Option.{slice_get_within, same_Some}
+use Rattle.list_laws.specs.Members.{In}
+use Rattle.list_laws.proofs.Members.{In-left, In-right, In-append, In-get}
+use Rattle.list_laws.proofs.Places.{set_length, set_here}
+use Rattle.tl_io.specs.Causes.{Rose}
+use Rattle.tl_io.specs.Port.{PortSeen}
+use Rattle.tl_io.specs.declared.Write.{Write}
+use Rattle.port_bank.specs.Regions.{region_of}
+use Rattle.port_bank.specs.Bank.{BankSeen, Called, Replaced}
+use Rattle.port_bank.specs.Send.{Sends, start, accepted, replaced, Loses}
+use Rattle.port_bank.specs.Moves.{MovesWithCause, KeepsPlaces, LosesPlace}
+
+-- places
+keeps_called : (i : ℕ) (write : Write) (answer : Bool) (base old new : BankSeen) → KeepsPlaces base old → Called i write answer old new → KeepsPlaces base new
+keeps_called i write answer base old new k c = record {
+  serving = ap (λ (b : BankSeen). length b.serving) c.now ∙ (set_length old.serving i c.after ∙ k.serving);
+  used = ap (λ (b : BankSeen). length b.spares + length b.failed) c.now ∙ k.used;
+  left = (k.left.0, k.left.1 ∙ ap (λ (b : BankSeen). k.left.0 ++ b.spares) (sym c.now));
+  rest = ap (λ (b : BankSeen). b.rest) c.now ∙ k.rest;
+}
+
+keeps_replaced : (i : ℕ) (base old new : BankSeen) → KeepsPlaces base old → Replaced i old new → KeepsPlaces base new
+keeps_replaced i base old new k r =
+    let failed : length new.failed ≡ length old.failed + 1 = ap (λ (b : BankSeen). length b.failed) r.now ∙ length-append old.failed (r.port ∷ []) in
+    record {
+      serving = ap (λ (b : BankSeen). length b.serving) r.now ∙ (set_length old.serving i r.spare ∙ k.serving);
+      used = omega (arith, failed, ap length r.first, k.used);
+      left = (k.left.0 ++ r.spare ∷ [], k.left.1 ∙ (ap (λ l. k.left.0 ++ l) r.first ∙ sym (append_assoc k.left.0 (r.spare ∷ []) new.spares)));
+      rest = ap (λ (b : BankSeen). b.rest) r.now ∙ k.rest;
+    }
+
+pub keeps_places : {w : ℕ} {config : List Bool} {writes : List Write} {old : BankSeen} {answers : List Bool} {left : List Write} {new : BankSeen} →
+    Sends w config writes old answers left new → KeepsPlaces old new
+keeps_places start = record { serving = refl; used = refl; left = ([], refl); rest = refl }
+keeps_places {w} {old = old} (accepted {write = write} {mid = mid} {new = new} s c) = keeps_called (region_of w write) write true old mid new (keeps_places s) c
+keeps_places {w} {old = old} (replaced {write = write} {mid = mid} {next = next} {new = new} s c r) =
+    keeps_replaced (region_of w write) old next new (keeps_called (region_of w write) write false old mid next (keeps_places s) c) r
+
+pub loses_place : {w : ℕ} {config : List Bool} {writes : List Write} {old : BankSeen} {i : ℕ} {new : BankSeen} → Loses w config writes old i new → LosesPlace old new
+loses_place {w} {old = old} {new = new} l =
+    let k = keeps_called (region_of w l.write) l.write false old l.mid l.next (keeps_places l.sends) l.failed in
+    let r = l.retired in
+    let serving : length new.serving ≡ length (remove l.next.serving (region_of w l.write)) = ap (λ (b : BankSeen). length b.serving) r.now in
+    let less = length-remove l.next.serving (region_of w l.write) (slice_get_within l.next.serving (region_of w l.write) r.port r.was) in
+    let failed : length new.failed ≡ length l.next.failed + 1 = ap (λ (b : BankSeen). length b.failed) r.now ∙ length-append l.next.failed (r.port ∷ []) in
+    record {
+      serving = omega (arith, serving, less, k.serving);
+      spares = ap (λ (b : BankSeen). b.spares) r.now;
+      failed = omega (arith, failed, ap length r.none_left, k.used);
+      rest = ap (λ (b : BankSeen). b.rest) r.now ∙ k.rest;
+    }
+
+-- what stands in a list with one element set
+in_set : {X : Type 0} (xs : List X) (i : ℕ) (y x : X) → In (slice_set xs i y) x → (x ≡ y) ⊎ In xs x
+in_set [] i y x h = absurd h
+in_set (z ∷ zs) zero y x (inl e) = inl e
+in_set (z ∷ zs) zero y x (inr r) = inr (inr r)
+in_set (z ∷ zs) (suc i) y x (inl e) = inr (inl e)
+in_set (z ∷ zs) (suc i) y x (inr r) = elim (in_set zs i y x r) [ inl e ↦ inl e | inr t ↦ inr (inr t) ]
+
+-- each port that serves or stands by did so before, with a count of faults that was no higher
+pub record Stems (old new : BankSeen) : Type 0 where
+  pub stems : (port : PortSeen) → In (new.serving ++ new.spares) port → (before : PortSeen) × In (old.serving ++ old.spares) before × (before.faults ≤ port.faults)
+
+stems_here : (bank : BankSeen) → Stems bank bank
+stems_here bank = record { stems = λ port h. (port, h, omega arith) }
+
+stems_called : (i : ℕ) (write : Write) (answer : Bool) (base old new : BankSeen) → Stems base old → (c : Called i write answer old new) → c.before.faults ≤ c.after.faults → Stems base new
+stems_called i write answer base old new s c later = record {
+  stems = λ port h.
+      let now : In (slice_set old.serving i c.after ++ old.spares) port = subst (λ (b : BankSeen). In (b.serving ++ b.spares) port) c.now h in
+      elim (In-append (slice_set old.serving i c.after) old.spares port now) [
+        | inl a ↦ elim (in_set old.serving i c.after port a) [
+          | inl e ↦
+              let t = s.stems c.before (In-left old.serving old.spares c.before (In-get old.serving i c.before c.was)) in
+              let same : c.after.faults ≡ port.faults = ap (λ (q : PortSeen). q.faults) (sym e) in
+              (t.0, t.1, omega (arith, t.2, later, same))
+          | inr b ↦ s.stems port (In-left old.serving old.spares port b)
+        ]
+        | inr b ↦ s.stems port (In-right old.serving old.spares port b)
+      ];
+}
+
+stems_replaced : (i : ℕ) (base old new : BankSeen) → Stems base old → Replaced i old new → Stems base new
+stems_replaced i base old new s r = record {
+  stems = λ port h.
+      let now : In (slice_set old.serving i r.spare ++ new.spares) port = subst (λ l. In (l ++ new.spares) port) (ap (λ (b : BankSeen). b.serving) r.now) h in
+      elim (In-append (slice_set old.serving i r.spare) new.spares port now) [
+        | inl a ↦ elim (in_set old.serving i r.spare port a) [
+          | inl e ↦ s.stems port (In-right old.serving old.spares port (subst (λ l. In l port) (sym r.first) (inl e)))
+          | inr b ↦ s.stems port (In-left old.serving old.spares port b)
+        ]
+        | inr b ↦ s.stems port (In-right old.serving old.spares port (subst (λ l. In l port) (sym r.first) (inr b)))
+      ];
+}
+
+-- both facts of a send
+record Traces (old new : BankSeen) : Type 0 where
+  stems : Stems old new
+  moves : MovesWithCause old new
+
+moved_none : (base old new : BankSeen) → MovesWithCause base old → new.failed ≡ old.failed → MovesWithCause base new
+moved_none base old new m e = record { moved = m.moved; behind = e ∙ m.behind; cause = m.cause }
+
+-- the port that was moved is the one that failed
+moved_one : (i : ℕ) (write : Write) (base old mid new : BankSeen) (port : PortSeen) → Stems base old → MovesWithCause base old → (c : Called i write false old mid) →
+    slice_get mid.serving i ≡ Some port → new.failed ≡ mid.failed ++ port ∷ [] → MovesWithCause base new
+moved_one i write base old mid new port s m c was e =
+    let t = s.stems c.before (In-left old.serving old.spares c.before (In-get old.serving i c.before c.was)) in
+    let here : slice_get (slice_set old.serving i c.after) i ≡ Some port = sym (ap (λ (b : BankSeen). slice_get b.serving i) c.now) ∙ was in
+    let same : c.after ≡ port = same_Some c.after port (sym (set_here old.serving i c.after (slice_get_within old.serving i c.before c.was)) ∙ here) in
+    let faults : c.after.faults ≡ port.faults = ap (λ (q : PortSeen). q.faults) same in
+    let rose : Rose t.0.faults port.faults = omega (arith, c.answered.rose, t.2, faults) in
+    record {
+      moved = m.moved ++ port ∷ [];
+      behind = e ∙ (ap (λ l. l ++ port ∷ []) (ap (λ (b : BankSeen). b.failed) c.now ∙ m.behind) ∙ append_assoc base.failed m.moved (port ∷ []));
+      cause = λ q h. elim (In-append m.moved (port ∷ []) q h) [
+        | inl a ↦ m.cause q a
+        | inr b ↦ elim b [
+          | inl g ↦ subst (λ (x : PortSeen). (before : PortSeen) × In (base.serving ++ base.spares) before × Rose before.faults x.faults) (sym g) (t.0, t.1, rose)
+          | inr n ↦ absurd n
+        ]
+      ];
+    }
+
+traces : {w : ℕ} {config : List Bool} {writes : List Write} {old : BankSeen} {answers : List Bool} {left : List Write} {new : BankSeen} →
+    Sends w config writes old answers left new → Traces old new
+traces {old = old} start = record { stems = stems_here old; moves = record { moved = []; behind = sym (append-nil old.failed); cause = λ port h. absurd h } }
+traces {w} {old = old} (accepted {write = write} {mid = mid} {new = new} s c) =
+    let t = traces s in
+    record {
+      stems = stems_called (region_of w write) write true old mid new t.stems c c.answered.later;
+      moves = moved_none old mid new t.moves (ap (λ (b : BankSeen). b.failed) c.now);
+    }
+traces {w} {old = old} (replaced {write = write} {mid = mid} {next = next} {new = new} s c r) =
+    let t = traces s in
+    record {
+      stems = stems_replaced (region_of w write) old next new (stems_called (region_of w write) write false old mid next t.stems c c.answered.later) r;
+      moves = moved_one (region_of w write) write old mid next new r.port t.stems t.moves c r.was (ap (λ (b : BankSeen). b.failed) r.now);
+    }
+
+pub moves_with_cause : {w : ℕ} {config : List Bool} {writes : List Write} {old : BankSeen} {answers : List Bool} {left : List Write} {new : BankSeen} →
+    Sends w config writes old answers left new → MovesWithCause old new
+moves_with_cause s = (traces s).moves
+
+pub loses_with_cause : {w : ℕ} {config : List Bool} {writes : List Write} {old : BankSeen} {i : ℕ} {new : BankSeen} → Loses w config writes old i new → MovesWithCause old new
+loses_with_cause {w} {old = old} {new = new} l =
+    let t = traces l.sends in
+    moved_one (region_of w l.write) l.write old l.mid l.next new l.retired.port t.stems t.moves l.failed l.retired.was (ap (λ (b : BankSeen). b.failed) l.retired.now)

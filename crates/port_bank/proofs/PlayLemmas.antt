@@ -1,0 +1,98 @@
+-- What a send that was played means: the places, the ports that moved, and the configuration that the bank holds.
+use Rattle.std.proofs.Common.{◌≡◌, ℕ, ◌<◌, Bool, List, [], ◌∷◌, length, Some, Result, Ok, Err, OnOk, OnErr, refl, ap, sym, ◌∙◌, arith, subst, inr}
+use Rattle.std.specs.List.{slice_get}
+use Rattle.std.proofs.lemmas.Option.{slice_get_within, none-some}
+use Rattle.std.proofs.lemmas.Result.{MatchResult-weaker}
+use Rattle.tl_io.specs.Port.{PortSeen}
+use Rattle.tl_io.specs.declared.Write.{Write}
+use Rattle.port_bank.specs.declared.bank.PortFault.{PortFault}
+use Rattle.port_bank.specs.Regions.{width}
+use Rattle.tl_io.specs.Writes.{writes_from}
+use Rattle.port_bank.specs.Bank.{BankSeen, bank_width}
+use Rattle.port_bank.specs.Send.{Sends, start, accepted, replaced, Reaches, Loses, Plays, with_port}
+use Rattle.port_bank.specs.Image.{Holds, ShowsRegions}
+use Rattle.tl_io.specs.Writes.{AreBitsOf, written}
+use Rattle.port_bank.specs.Moves.{MovesWithCause, KeepsPlaces, LosesPlace}
+use Rattle.port_bank.proofs.RegionLemmas.{wide, all_bits_are, all_addresses}
+use Rattle.port_bank.proofs.HoldLemmas.{Pends, pends, pends_at_first, holds_at_end, length-written}
+use Rattle.port_bank.proofs.MoveLemmas.{keeps_places, loses_place, moves_with_cause, loses_with_cause}
+
+pub plays_places : (config : List Bool) (writes : List Write) (old new : BankSeen) (result : Result Unit PortFault) → Plays config writes old new result → OnOk result (KeepsPlaces old new)
+plays_places config writes old new result p = MatchResult-weaker result p (λ _ r. keeps_places r.sends) (λ _ _. tt)
+
+pub plays_lost : (config : List Bool) (writes : List Write) (old new : BankSeen) (result : Result Unit PortFault) → Plays config writes old new result → OnErr result (LosesPlace old new)
+plays_lost config writes old new result p = MatchResult-weaker result p (λ _ _. tt) (λ _ l. loses_place l)
+
+pub plays_cause : (config : List Bool) (writes : List Write) (old new : BankSeen) (result : Result Unit PortFault) → Plays config writes old new result → MovesWithCause old new
+plays_cause config writes old new (Ok v) p = moves_with_cause p.sends
+plays_cause config writes old new (Err x) p = loses_with_cause p
+
+with_some : (serving : List PortSeen) (writes : List Write) → 0 < length serving → with_port serving writes ≡ writes
+with_some [] writes h = absurd (omega (arith, h))
+with_some (x ∷ xs) writes h = refl
+
+-- a width that is told of a bank's own ports
+in_bank : (Q : ℕ → List Write → Type 0) (w s bits : ℕ) (serving : List PortSeen) (writes : List Write) → w ≡ width s bits → length serving ≡ s → 0 < s → Q w writes → Q (width (length serving) bits) (with_port serving writes)
+in_bank Q w s bits serving writes e l some q =
+    subst (λ t. Q (width (length serving) bits) t) (sym (with_some serving writes (omega (arith, l, some)))) (subst (λ n. Q n writes) (e ∙ ap (λ n. width n bits) (sym l)) q)
+
+pub sent_in_bank : (w s : ℕ) (config : List Bool) (writes : List Write) (old new : BankSeen) → w ≡ width s (length config) → length old.serving ≡ s → 0 < s → Reaches w config writes old [] new →
+    Reaches (width (length old.serving) (length config)) config (with_port old.serving writes) old [] new
+sent_in_bank w s config writes old new e l some r = in_bank (λ n ws. Reaches n config ws old [] new) w s (length config) old.serving writes e l some r
+
+pub lost_in_bank : (w s : ℕ) (config : List Bool) (writes : List Write) (old new : BankSeen) (i : ℕ) → w ≡ width s (length config) → length old.serving ≡ s → 0 < s → Loses w config writes old i new →
+    Loses (width (length old.serving) (length config)) config (with_port old.serving writes) old i new
+lost_in_bank w s config writes old new i e l some r = in_bank (λ n ws. Loses n config ws old i new) w s (length config) old.serving writes e l some r
+
+-- where no port serves, nothing is to be written
+pub no_port : (w : ℕ) (config : List Bool) (writes : List Write) (bank : BankSeen) → bank.serving ≡ [] → Reaches w config (with_port bank.serving writes) bank [] bank
+no_port w config writes bank e = subst (λ l. Reaches w config (with_port l writes) bank [] bank) (sym e) (record { answers = []; sends = start })
+
+pends_by : (serving : List PortSeen) (w : ℕ) (config : List Bool) (writes : List Write) (bank : BankSeen) → bank.serving ≡ serving → Pends w config writes bank → Pends w config (with_port serving writes) bank
+pends_by [] w config writes bank e p = record {
+  shows = λ i address port log bit here told place there. absurd (none-some port (ap (λ l. slice_get l i) (sym e) ∙ here));
+  bits = record { bits = λ write h. absurd h };
+}
+pends_by (x ∷ xs) w config writes bank e p = p
+
+-- the writes that have a port are among the writes
+pends_with_port : (w : ℕ) (config : List Bool) (writes : List Write) (bank : BankSeen) → Pends w config writes bank → Pends w config (with_port bank.serving writes) bank
+pends_with_port w config writes bank p = pends_by bank.serving w config writes bank refl p
+
+-- where each address of a region shows its bit or has a write, the bank holds the configuration at the end
+holds_sent : (config : List Bool) (writes : List Write) (old new : BankSeen) → Pends (bank_width old config) config writes old →
+    Reaches (bank_width old config) config (with_port old.serving writes) old [] new → Holds config new
+holds_sent config writes old new p r =
+    let w = bank_width old config in
+    let some : (address : ℕ) (bit : Bool) → slice_get config address ≡ Some bit → 0 < w = λ address bit e. wide (length old.serving) (length config) address (slice_get_within config address bit e) in
+    subst (λ n. ShowsRegions (width n (length config)) config new) (sym (keeps_places r.sends).serving) (holds_at_end (pends r.sends some (pends_with_port w config writes old p)))
+
+pub load_holds : (config : List Bool) (old new : BankSeen) (result : Result Unit PortFault) → Plays config (writes_from 0 config) old new result → OnOk result (Holds config new)
+load_holds config old new result q = MatchResult-weaker result q
+    (λ _ r. holds_sent config (writes_from 0 config) old new
+    (record { shows = λ i address port log bit here told place there. inr (all_addresses config address bit there); bits = all_bits_are config }) r)
+    (λ _ _. tt)
+
+pub send_keeps : (config : List Bool) (writes : List Write) (old new : BankSeen) (result : Result Unit PortFault) → AreBitsOf config writes → Plays config writes old new result →
+    OnOk result ((before : List Bool) → Holds before old → config ≡ written before writes → Holds config new)
+send_keeps config writes old new result b q = MatchResult-weaker result q
+    (λ _ r before h e.
+    let long : length before ≡ length config = sym (ap length e ∙ length-written writes before) in
+    let shown = subst (λ n. ShowsRegions (width (length old.serving) n) before old) long h in
+    holds_sent config writes old new (pends_at_first (bank_width old config) before config writes old b shown e) r)
+    (λ _ _. tt)
+
+nil-cons : {write : Write} {left : List Write} → (write ∷ left) ≡ [] → ⊥
+nil-cons {write} {left} e = let l = ap length e in omega (arith, l)
+
+-- where no write is left to begin with, none is made
+none_sent : {w : ℕ} {config : List Bool} {writes : List Write} {old : BankSeen} {answers : List Bool} {left : List Write} {new : BankSeen} →
+    Sends w config writes old answers left new → writes ≡ [] → (left ≡ []) × (new ≡ old)
+none_sent start e = (e, refl)
+none_sent (accepted s c) e = absurd (nil-cons (none_sent s e).0)
+none_sent (replaced s c r) e = absurd (nil-cons (none_sent s e).0)
+
+-- without serving ports a bank stays as it is
+pub plays_none : (config : List Bool) (writes : List Write) (old new : BankSeen) (result : Result Unit PortFault) → Plays config writes old new result → old.serving ≡ [] → new ≡ old
+plays_none config writes old new (Ok v) p e = (none_sent p.sends (ap (λ l. with_port l writes) e)).1
+plays_none config writes old new (Err x) p e = absurd (nil-cons (none_sent p.sends (ap (λ l. with_port l writes) e)).0)

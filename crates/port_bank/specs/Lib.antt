@@ -1,0 +1,10 @@
+-- What public clauses say.
+pub mod Regions
+pub mod Bank
+pub mod Send
+pub mod Image
+pub mod Moves
+pub mod Seen
+-- What only bodies are compared with.
+pub mod Steps
+pub mod Boxes
