@@ -1,5 +1,5 @@
 //! Accepted netlists of several covers and models, with latches and with parameters.
-use crate::tests::job::{Row, accepted, accepted_with, assert_rows};
+use crate::tests::job::{AND7, Row, accepted, accepted_with, assert_rows};
 use std::test::Fail;
 
 // The two inputs of a multiplexer, and the one that chooses between them.
@@ -8,9 +8,6 @@ const MUX: &str = ".model mux\n.inputs a b p\n.outputs y\n.names p a b y\n11- 1\
 // A latch that a parameter turns.
 const TURN: &str =
     ".model t\n.inputs p\n.outputs q\n.latch d q 1\n.names q p d\n10 1\n01 1\n.end\n";
-
-const AND7: &str =
-    ".model n\n.inputs a b c d e f g\n.outputs y\n.names a b c d e f g y\n1111111 1\n.end\n";
 
 // Two cells, the second one over the first. A cell's output is the complement of an AND.
 const CELLS: &str =

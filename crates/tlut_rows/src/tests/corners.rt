@@ -1,8 +1,6 @@
 //! Corners of the texts and of flattening: each refusal with its exact line.
-use crate::tests::job::{Row, accepted, assert_ran, assert_rows, refused, run, shelf_of};
-use std::alloc::{AllocError, Global};
+use crate::tests::job::{Row, accepted, assert_rows, refused};
 use std::test::Fail;
-use tlut_cli::Status;
 
 #[test]
 fn corners_of_texts(rt: HostRuntime) -> Result<(), Fail> {
@@ -92,60 +90,4 @@ fn corners_of_nets(rt: HostRuntime) -> Result<(), Fail> {
         ),
     ];
     assert_rows(&rt, rt.alloc(), &rows)
-}
-
-// The number of models in the chain below: each but the last places the next one.
-const DEEP: u32 = 1000;
-
-// A chain of models: the main one's `y` is driven in the last one, and goes back into the first as an input. So the covers of
-// all models are one cycle.
-fn deep_loop(alloc: Global) -> Result<String, AllocError> {
-    let mut text = format!(in alloc;
-        ".model m0\n.outputs y\n.names y x\n1 1\n.subckt m1 i=x o=y\n.end\n"
-    )?;
-    for n in 1..DEEP - 1 {
-        let next = n + 1;
-        text.push_str(&format!(in alloc;
-            ".model m{n}\n.inputs i\n.outputs o\n.names i x\n1 1\n.subckt m{next} i=x o=o\n.end\n"
-        )?)?;
-    }
-    text.push_str(&format!(in alloc;
-        ".model m{}\n.inputs i\n.outputs o\n.names i o\n1 1\n.end\n",
-        DEEP - 1
-    )?)?;
-    Ok(text)
-}
-
-// Its line: the net of the last model is met first, from the output, and each one reads that of the model above.
-fn deep_line(alloc: Global) -> Result<String, AllocError> {
-    let mut line = String::from_str(alloc, "tlut: n.blif: F10 Loop")?;
-    for above in 0..DEEP {
-        let depth = DEEP - 1 - above;
-        line.push_str(" ")?;
-        for _ in 0..depth {
-            line.push_str("0/")?;
-        }
-        line.push_str(if above == 0 { "o" } else { "x" })?;
-    }
-    line.push_str("\n")?;
-    Ok(line)
-}
-
-#[test]
-fn a_loop_through_a_thousand_models(rt: HostRuntime) -> Result<(), Fail> {
-    let netlist = deep_loop(rt.alloc())?;
-    let line = deep_line(rt.alloc())?;
-    assert!(rt; line.len() > 1_000_000);
-    let mut shelf = shelf_of(rt.alloc(), &netlist, "", "", &[])?;
-    let words = ["run", "4", "n.blif", "n.par", "n.scr", "0", "0"];
-    let ran = run(rt.alloc(), &words, &mut shelf)?;
-    assert_ran(
-        &rt,
-        "the line of the loop",
-        &ran,
-        Status::Refused,
-        "",
-        &line,
-    );
-    Ok(())
 }

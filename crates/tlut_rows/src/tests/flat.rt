@@ -1,7 +1,7 @@
 //! Netlists that are refused for their models, drivers, clocks or loops, and what flattens.
-use crate::tests::job::{Row, accepted, assert_rows, refused};
+use crate::tests::job::{Row, accepted, assert_rows, limited, refused};
+use std::alloc::{AllocError, Global};
 use std::test::Fail;
-use tlut_cli::Status;
 
 #[test]
 fn models_that_are_placed(rt: HostRuntime) -> Result<(), Fail> {
@@ -229,43 +229,46 @@ fn what_flattens(rt: HostRuntime) -> Result<(), Fail> {
     assert_rows(&rt, rt.alloc(), &rows)
 }
 
-// Twenty-four models: each places the next one twice, and the last is empty. The weight is 2^24 - 1.
-const BOMB: &str =
-    ".model m0\n.subckt m1\n.subckt m1\n.end\n.model m1\n.subckt m2\n.subckt m2\n.end\n.model m2\n.subckt m3\n.subckt m3\n.end\n.model m3\n.subckt m4\n.subckt m4\n.end\n.model m4\n.subckt m5\n.subckt m5\n.end\n.model m5\n.subckt m6\n.subckt m6\n.end\n.model m6\n.subckt m7\n.subckt m7\n.end\n.model m7\n.subckt m8\n.subckt m8\n.end\n.model m8\n.subckt m9\n.subckt m9\n.end\n.model m9\n.subckt m10\n.subckt m10\n.end\n.model m10\n.subckt m11\n.subckt m11\n.end\n.model m11\n.subckt m12\n.subckt m12\n.end\n.model m12\n.subckt m13\n.subckt m13\n.end\n.model m13\n.subckt m14\n.subckt m14\n.end\n.model m14\n.subckt m15\n.subckt m15\n.end\n.model m15\n.subckt m16\n.subckt m16\n.end\n.model m16\n.subckt m17\n.subckt m17\n.end\n.model m17\n.subckt m18\n.subckt m18\n.end\n.model m18\n.subckt m19\n.subckt m19\n.end\n.model m19\n.subckt m20\n.subckt m20\n.end\n.model m20\n.subckt m21\n.subckt m21\n.end\n.model m21\n.subckt m22\n.subckt m22\n.end\n.model m22\n.subckt m23\n.subckt m23\n.end\n.model m23\n.end\n";
-
-// The same, and the last model places one that isn't there.
-const BOMB_TO_NOWHERE: &str =
-    ".model m0\n.subckt m1\n.subckt m1\n.end\n.model m1\n.subckt m2\n.subckt m2\n.end\n.model m2\n.subckt m3\n.subckt m3\n.end\n.model m3\n.subckt m4\n.subckt m4\n.end\n.model m4\n.subckt m5\n.subckt m5\n.end\n.model m5\n.subckt m6\n.subckt m6\n.end\n.model m6\n.subckt m7\n.subckt m7\n.end\n.model m7\n.subckt m8\n.subckt m8\n.end\n.model m8\n.subckt m9\n.subckt m9\n.end\n.model m9\n.subckt m10\n.subckt m10\n.end\n.model m10\n.subckt m11\n.subckt m11\n.end\n.model m11\n.subckt m12\n.subckt m12\n.end\n.model m12\n.subckt m13\n.subckt m13\n.end\n.model m13\n.subckt m14\n.subckt m14\n.end\n.model m14\n.subckt m15\n.subckt m15\n.end\n.model m15\n.subckt m16\n.subckt m16\n.end\n.model m16\n.subckt m17\n.subckt m17\n.end\n.model m17\n.subckt m18\n.subckt m18\n.end\n.model m18\n.subckt m19\n.subckt m19\n.end\n.model m19\n.subckt m20\n.subckt m20\n.end\n.model m20\n.subckt m21\n.subckt m21\n.end\n.model m21\n.subckt m22\n.subckt m22\n.end\n.model m22\n.subckt m23\n.subckt m23\n.end\n.model m23\n.subckt nowhere\n.end\n";
-
-// The same as the first, and a cover of the main model drives an input.
-const BOMB_DRIVEN_TWICE: &str =
-    ".model m0\n.inputs a\n.names a\n.subckt m1\n.subckt m1\n.end\n.model m1\n.subckt m2\n.subckt m2\n.end\n.model m2\n.subckt m3\n.subckt m3\n.end\n.model m3\n.subckt m4\n.subckt m4\n.end\n.model m4\n.subckt m5\n.subckt m5\n.end\n.model m5\n.subckt m6\n.subckt m6\n.end\n.model m6\n.subckt m7\n.subckt m7\n.end\n.model m7\n.subckt m8\n.subckt m8\n.end\n.model m8\n.subckt m9\n.subckt m9\n.end\n.model m9\n.subckt m10\n.subckt m10\n.end\n.model m10\n.subckt m11\n.subckt m11\n.end\n.model m11\n.subckt m12\n.subckt m12\n.end\n.model m12\n.subckt m13\n.subckt m13\n.end\n.model m13\n.subckt m14\n.subckt m14\n.end\n.model m14\n.subckt m15\n.subckt m15\n.end\n.model m15\n.subckt m16\n.subckt m16\n.end\n.model m16\n.subckt m17\n.subckt m17\n.end\n.model m17\n.subckt m18\n.subckt m18\n.end\n.model m18\n.subckt m19\n.subckt m19\n.end\n.model m19\n.subckt m20\n.subckt m20\n.end\n.model m20\n.subckt m21\n.subckt m21\n.end\n.model m21\n.subckt m22\n.subckt m22\n.end\n.model m22\n.subckt m23\n.subckt m23\n.end\n.model m23\n.end\n";
-
-fn too_large(title: &'static str, netlist: &'static str) -> Row {
-    Row {
-        title,
-        k: "2",
-        netlist,
-        params: "",
-        script: "",
-        status: Status::Limit,
-        out: "",
-        err: "tlut: n.blif: L2 TooLarge\n",
+// Twenty-four models: each places the next one twice. The first one has these lines too, and the last one.
+fn bomb(alloc: Global, first: &str, last: &str) -> Result<String, AllocError> {
+    let mut text = format!(in alloc; ".model m0\n{first}.subckt m1\n.subckt m1\n.end\n")?;
+    for n in 1..23u32 {
+        let next = n + 1;
+        write!(
+            text,
+            ".model m{n}\n.subckt m{next}\n.subckt m{next}\n.end\n"
+        )?;
     }
+    write!(text, ".model m23\n{last}.end\n")?;
+    Ok(text)
 }
 
 #[test]
 fn weights(rt: HostRuntime) -> Result<(), Fail> {
+    let alloc = rt.alloc();
+    let bare = bomb(alloc, "", "")?;
+    let driven_twice = bomb(alloc, ".inputs a\n.names a\n", "")?;
+    let nowhere = bomb(alloc, "", ".subckt nowhere\n")?;
     let rows: [Row; 3] = [
-        too_large("a weight of 2^24 - 1", BOMB),
-        too_large("the weight before the drivers", BOMB_DRIVEN_TWICE),
+        limited(
+            "a weight of 2^24 - 1",
+            &bare,
+            "",
+            "tlut: n.blif: L2 TooLarge\n",
+        ),
+        limited(
+            "the weight before the drivers",
+            &driven_twice,
+            "",
+            "tlut: n.blif: L2 TooLarge\n",
+        ),
         refused(
             "the walk before the weight",
-            BOMB_TO_NOWHERE,
+            &nowhere,
             "tlut: n.blif: F1 UnknownModel model m23 line 94 nowhere\n",
         ),
     ];
-    assert_rows(&rt, rt.alloc(), &rows)
+    assert_rows(&rt, alloc, &rows)
 }
 
 #[test]

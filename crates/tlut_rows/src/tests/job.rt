@@ -15,24 +15,30 @@ pub const USAGE: &str =
 /// The AND of two inputs.
 pub const AND2: &str = ".model and2\n.inputs a b\n.outputs y\n.names a b y\n11 1\n.end\n";
 
-// The room for a fault line: the names of a long cycle fill a megabyte.
+/// An AND of seven inputs.
+pub const AND7: &str =
+    ".model n\n.inputs a b c d e f g\n.outputs y\n.names a b c d e f g y\n1111111 1\n.end\n";
+
+// The room for the output of a job, and for a fault line: the names of a long cycle fill a megabyte.
+const OUT_ROOM: usize = 10_000;
+
 const ERR_ROOM: usize = 1_100_000;
 
 /// A job, and what it must answer.
 #[derive(Clone, Copy)]
-pub struct Row {
+pub struct Row<'a> {
     /// What the job shows.
-    pub title: &'static str,
+    pub title: &'a str,
     /// The word for the number of a table's inputs.
-    pub k: &'static str,
+    pub k: &'a str,
     /// The files' texts.
-    pub netlist: &'static str,
-    pub params: &'static str,
-    pub script: &'static str,
+    pub netlist: &'a str,
+    pub params: &'a str,
+    pub script: &'a str,
     /// What is wanted.
     pub status: Status,
-    pub out: &'static str,
-    pub err: &'static str,
+    pub out: &'a str,
+    pub err: &'a str,
 }
 
 /// What a call left.
@@ -76,7 +82,7 @@ pub fn run_with(
     ports: &mut Vec<Box<dyn ConfigPort>>,
 ) -> Result<Ran, AllocError> {
     let words = strings(alloc, words)?;
-    let mut out = MemSink::make(alloc, 1000, out_fails)?;
+    let mut out = MemSink::make(alloc, OUT_ROOM, out_fails)?;
     let mut err = MemSink::make(alloc, ERR_ROOM, err_fails)?;
     let status = tlut(alloc, &words, shelf, &mut out, &mut err, ports);
     Ok(Ran { status, out, err })
@@ -111,35 +117,15 @@ pub fn assert_rows(rt: &impl Abort, alloc: Global, rows: &[Row]) -> Result<(), F
     Ok(())
 }
 
-/// An accepted job with an empty parameter list.
-pub fn accepted(
-    title: &'static str,
-    k: &'static str,
-    netlist: &'static str,
-    script: &'static str,
-    out: &'static str,
-) -> Row {
-    Row {
-        title,
-        k,
-        netlist,
-        params: "",
-        script,
-        status: Status::Done,
-        out,
-        err: "",
-    }
-}
-
 /// An accepted job with a parameter list.
-pub fn accepted_with(
-    title: &'static str,
-    k: &'static str,
-    netlist: &'static str,
-    params: &'static str,
-    script: &'static str,
-    out: &'static str,
-) -> Row {
+pub fn accepted_with<'a>(
+    title: &'a str,
+    k: &'a str,
+    netlist: &'a str,
+    params: &'a str,
+    script: &'a str,
+    out: &'a str,
+) -> Row<'a> {
     Row {
         title,
         k,
@@ -152,15 +138,51 @@ pub fn accepted_with(
     }
 }
 
-/// A netlist that is refused, before its script is looked at.
-pub fn refused(title: &'static str, netlist: &'static str, err: &'static str) -> Row {
+/// An accepted job with an empty parameter list.
+pub fn accepted<'a>(
+    title: &'a str,
+    k: &'a str,
+    netlist: &'a str,
+    script: &'a str,
+    out: &'a str,
+) -> Row<'a> {
+    accepted_with(title, k, netlist, "", script, out)
+}
+
+/// A job of which one text is refused.
+pub fn refused_with<'a>(
+    title: &'a str,
+    netlist: &'a str,
+    params: &'a str,
+    script: &'a str,
+    err: &'a str,
+) -> Row<'a> {
     Row {
         title,
-        k: "4",
+        k: "2",
         netlist,
-        params: "",
-        script: "cycle 1\n",
+        params,
+        script,
         status: Status::Refused,
+        out: "",
+        err,
+    }
+}
+
+/// A netlist that is refused, before its script is looked at.
+pub fn refused<'a>(title: &'a str, netlist: &'a str, err: &'a str) -> Row<'a> {
+    refused_with(title, netlist, "", "cycle 1\n", err)
+}
+
+/// A job that is over a limit.
+pub fn limited<'a>(title: &'a str, netlist: &'a str, params: &'a str, err: &'a str) -> Row<'a> {
+    Row {
+        title,
+        k: "2",
+        netlist,
+        params,
+        script: "",
+        status: Status::Limit,
         out: "",
         err,
     }

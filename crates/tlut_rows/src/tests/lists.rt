@@ -1,28 +1,13 @@
 //! Parameter lists: those that are refused, and what a listed value does.
-use crate::tests::job::{AND2, Row, WORDS, accepted_with, assert_ran, assert_rows, run, shelf_of};
+use crate::tests::job::{AND2, Row, accepted_with, assert_rows, limited, refused_with};
 use std::alloc::{AllocError, Global};
 use std::test::Fail;
-use tlut_cli::Status;
 
 // A latch with a control.
 const LATCH: &str = ".model m\n.inputs d k\n.outputs q\n.latch d q re k 0\n.end\n";
 
-fn refused_list(
-    title: &'static str,
-    netlist: &'static str,
-    params: &'static str,
-    err: &'static str,
-) -> Row {
-    Row {
-        title,
-        k: "2",
-        netlist,
-        params,
-        script: "cycle 1\n",
-        status: Status::Refused,
-        out: "",
-        err,
-    }
+fn refused_list<'a>(title: &'a str, netlist: &'a str, params: &'a str, err: &'a str) -> Row<'a> {
+    refused_with(title, netlist, params, "cycle 1\n", err)
 }
 
 #[test]
@@ -111,15 +96,11 @@ fn long_list(alloc: Global, count: usize) -> Result<String, AllocError> {
 #[test]
 fn a_name_that_is_too_long(rt: HostRuntime) -> Result<(), Fail> {
     let list = long_list(rt.alloc(), 65_536)?;
-    let mut shelf = shelf_of(rt.alloc(), AND2, &list, "", &[])?;
-    let ran = run(rt.alloc(), &WORDS, &mut shelf)?;
-    assert_ran(
-        &rt,
+    let rows: [Row; 1] = [limited(
         "a name of 65,536 bytes",
-        &ran,
-        Status::Limit,
-        "",
+        AND2,
+        &list,
         "tlut: n.par: L8 Parameters line 2\n",
-    );
-    Ok(())
+    )];
+    assert_rows(&rt, rt.alloc(), &rows)
 }

@@ -1,12 +1,8 @@
 //! Accepted jobs.
-use crate::tests::job::{AND2, Row, accepted, assert_rows};
+use crate::tests::job::{AND2, AND7, Row, accepted, accepted_with, assert_rows};
 use std::test::Fail;
-use tlut_cli::Status;
 
 const WIRE: &str = ".model w\n.inputs a\n.outputs a\n.end\n";
-
-const AND7: &str =
-    ".model n\n.inputs a b c d e f g\n.outputs y\n.names a b c d e f g y\n1111111 1\n.end\n";
 
 const THREE: &str = ".model m\n.inputs a b c\n.outputs y\n.names a b c y\n101 1\n.end\n";
 
@@ -125,16 +121,14 @@ fn constants(rt: HostRuntime) -> Result<(), Fail> {
 #[test]
 fn lines_in_all_their_forms(rt: HostRuntime) -> Result<(), Fail> {
     let rows: [Row; 3] = [
-        Row {
-            title: "comments, joined lines, tabs and carriage returns",
-            k: "2",
-            netlist: "# two\r\n.model and2\n.inputs a \\\n\tb # both\n.outputs y\n\n.names\ta b y\n11 1",
-            params: "# none\n\n",
-            script: "# one cycle\ncycle \\\n  11 # both\n",
-            status: Status::Done,
-            out: "luts 1 bits 4 depth 1\ncycle 1 -\n",
-            err: "",
-        },
+        accepted_with(
+            "comments, joined lines, tabs and carriage returns",
+            "2",
+            "# two\r\n.model and2\n.inputs a \\\n\tb # both\n.outputs y\n\n.names\ta b y\n11 1",
+            "# none\n\n",
+            "# one cycle\ncycle \\\n  11 # both\n",
+            "luts 1 bits 4 depth 1\ncycle 1 -\n",
+        ),
         accepted(
             "ports in any order, and a name that a tool made",
             "2",

@@ -1,6 +1,7 @@
 //! Jobs that are refused.
 use crate::tests::job::{
-    AND2, Row, USAGE, WORDS, assert_ran, assert_rows, refused, run, run_with, shelf_of,
+    AND2, Row, USAGE, WORDS, assert_ran, assert_rows, refused, refused_with, run, run_with,
+    shelf_of,
 };
 use std::alloc::Global;
 use std::process::Abort;
@@ -125,54 +126,47 @@ fn commands_and_models_that_are_refused(rt: HostRuntime) -> Result<(), Fail> {
     assert_rows(&rt, rt.alloc(), &rows)
 }
 
-fn refused_text(
-    title: &'static str,
-    params: &'static str,
-    script: &'static str,
-    err: &'static str,
-) -> Row {
-    Row {
-        title,
-        k: "2",
-        netlist: AND2,
-        params,
-        script,
-        status: Status::Refused,
-        out: "",
-        err,
-    }
-}
-
 #[test]
 fn lists_and_scripts_that_are_refused(rt: HostRuntime) -> Result<(), Fail> {
     let rows: [Row; 6] = [
-        refused_text(
+        refused_with(
             "a bad byte in the list",
+            AND2,
             "\x7f",
             "cycle 11\n",
             "tlut: n.par: T1 BadByte line 1\n",
         ),
-        refused_text("a set", "", "set p=1\n", "tlut: n.scr: X1 Unbuilt line 1\n"),
-        refused_text(
+        refused_with(
+            "a set",
+            AND2,
+            "",
+            "set p=1\n",
+            "tlut: n.scr: X1 Unbuilt line 1\n",
+        ),
+        refused_with(
             "one value too many, behind a line without tokens",
+            AND2,
             "",
             "cycle 11\n\ncycle 111\n",
             "tlut: n.scr: X1 Unbuilt line 3\n",
         ),
-        refused_text(
+        refused_with(
             "one value too few",
+            AND2,
             "",
             "cycle \\\n1\n",
             "tlut: n.scr: X1 Unbuilt line 1\n",
         ),
-        refused_text(
+        refused_with(
             "a value that is no bit",
+            AND2,
             "",
             "cycle 11\ncycle 10\ncycle 1-\n",
             "tlut: n.scr: X1 Unbuilt line 3\n",
         ),
-        refused_text(
+        refused_with(
             "a trailing backslash in the script",
+            AND2,
             "",
             "set p=1\ncycle 1\\ 1\n",
             "tlut: n.scr: T2 TrailingSlash line 2\n",
