@@ -1,0 +1,107 @@
+-- What a specialiser keeps: at the start, and after an event.
+use Rattle.std.proofs.Common.{◌≡◌, ℕ, ◌≤◌, Bool, false, List, [], length, replicate, refl, sym, ap, ◌∙◌, subst}
+use Rattle.std.proofs.lemmas.List.{length-map}
+use Rattle.tl_io.specs.declared.Assign.{Assign}
+use Rattle.tl_io.specs.Writes.{AreAscending, AreBitsOf, written}
+use Rattle.aig_core.specs.Aig.{first_and, node_count, AreNormal}
+use Rattle.aig_core.specs.Value.{FitsGraph}
+use Rattle.aig_core.proofs.FitLemmas.{one_fit}
+use Rattle.ppc_pack.specs.declared.pack.TheConstants.{MOST_PACK_BITS}
+use Rattle.ppc_pack.specs.declared.pack.PackParam.{PackParam}
+use Rattle.ppc_pack.specs.Pack.{PackValue, IsPack, IsConf, HasOneConf, inits_of}
+use Rattle.ppc_pack.proofs.ConfLemmas.{has_one_conf}
+use Rattle.dirty_idx.specs.Marks.{is_marked}
+use Rattle.spec_core.specs.Differences.{differs_at}
+use Rattle.spec_core.specs.Events.{IsSet, IsScrub}
+use Rattle.spec_core.specs.Sweep.{Progress, EvaluationValue, bits_under}
+use Rattle.spec_core.specs.Device.{DeviceValue, IsSent}
+use Rattle.spec_core.specs.Keeps.{params_in, IsIdle, IsChange, Keeps}
+use Rattle.spec_core.proofs.WriteLemmas.{length-written, writes_ascend, writes_are_bits, written_differences}
+use Rattle.spec_core.proofs.ChangeLemmas.{kinds_count, params_fit, length-bits_under, idle_conf, change_set, change_steady}
+
+-- the parameters' values at the start
+pub start_params : (pack : PackValue) (values : List Bool) → FitsGraph pack.graph (inits_of pack.params) values → params_in pack values ≡ inits_of pack.params
+start_params pack values fits = params_fit pack (inits_of pack.params) values (length-map pack.params (λ (p : PackParam). p.init)) fits
+
+-- the start
+pub IsIdle-start : (pack : PackValue) (now : Progress) → FitsGraph pack.graph (inits_of pack.params) now.values → now.nodes ≡ replicate (node_count pack.graph) false → now.addresses ≡ replicate (length pack.bits) false → IsIdle pack now
+IsIdle-start pack now fits nodes addresses = record {
+  fits = subst (λ ps. FitsGraph pack.graph ps now.values) (sym (start_params pack now.values fits)) fits;
+  nodes = nodes;
+  addresses = addresses;
+}
+
+-- under any values of the parameters there is one configuration
+pub one_conf_each : (pack : PackValue) → AreNormal (first_and pack.graph) pack.graph.pairs → IsPack pack.params pack.graph pack.bits → (given : List Bool) → length given ≡ length pack.params → HasOneConf pack given
+one_conf_each pack normal is given same = has_one_conf pack given (one_fit pack.graph given normal (same ∙ sym (kinds_count pack is)))
+
+-- the device has the configuration at first, and no writes
+pub Keeps-start : (e : EvaluationValue) (device : DeviceValue) → IsIdle e.pack e.now → AreNormal (first_and e.pack.graph) e.pack.graph.pairs → IsPack e.pack.params e.pack.graph e.pack.bits
+    → device ≡ record { config = bits_under e.pack e.now.values; writes = [] } → Keeps e device
+Keeps-start e device idle normal is start = subst (Keeps e) (sym start) (record {
+  idle = idle;
+  normal = normal;
+  few = is.few_bits;
+  bits = length-bits_under e.pack e.now.values;
+  ascending = tt;
+  sent = record { bits = λ w i. elim i [ ] };
+})
+
+-- once the marked addresses are taken, a change leaves nothing marked
+pub change_idle : (pack : PackValue) (assigns : List Assign) (old now : Progress) (start end : ℕ) → IsChange pack assigns old now start end → IsIdle pack (record { values = now.values; nodes = now.nodes; addresses = replicate (length pack.bits) false })
+change_idle pack assigns old now start end change = record { fits = change.fits; nodes = change.swept.nodes; addresses = refl }
+
+-- what is kept after writes are sent to a device
+pub Keeps-sent : (e : EvaluationValue) (device sent : DeviceValue) (test : ℕ → Bool) → IsIdle e.pack e.now → AreNormal (first_and e.pack.graph) e.pack.graph.pairs → length e.pack.bits ≤ MOST_PACK_BITS
+    → length device.config ≡ length e.pack.bits → IsSent test (bits_under e.pack e.now.values) device sent → Keeps e sent
+Keeps-sent e device sent test idle normal few bits done = record {
+  idle = idle;
+  normal = normal;
+  few = few;
+  bits = ap length done.config ∙ length-written sent.writes device.config ∙ bits;
+  ascending = subst AreAscending (sym done.writes) (writes_ascend test (bits_under e.pack e.now.values));
+  sent = subst (λ config. AreBitsOf config sent.writes) (sym done.config)
+      (subst (λ ws. AreBitsOf (written device.config ws) ws) (sym done.writes) (writes_are_bits test (bits_under e.pack e.now.values) device.config (bits ∙ sym (length-bits_under e.pack e.now.values))));
+}
+
+-- A change of parameters, its writes, and what is left then.
+module _ (old changed left : EvaluationValue) (device cleared sent : DeviceValue) (assigns : List Assign) (start end : ℕ) (keeps : Keeps old device) (same : changed.pack ≡ old.pack)
+    (change : IsChange old.pack assigns old.now changed.now start end) (addresses : length changed.now.addresses ≡ length old.pack.bits) (clear : cleared ≡ record { config = device.config; writes = [] })
+    (done : IsSent (is_marked changed.now.addresses) (bits_under changed.pack changed.now.values) cleared sent)
+    (taken : left ≡ record { pack = changed.pack; readers = changed.readers; now = record { values = changed.now.values; nodes = changed.now.nodes; addresses = replicate (length changed.pack.bits) false } }) where
+  left_is : left ≡ record { pack = old.pack; readers = changed.readers; now = record { values = changed.now.values; nodes = changed.now.nodes; addresses = replicate (length old.pack.bits) false } }
+  left_is = taken ∙ ap (λ (p : PackValue). record { pack = p; readers = changed.readers; now = record { values = changed.now.values; nodes = changed.now.nodes; addresses = replicate (length p.bits) false } }) same
+
+  done_over : IsSent (is_marked changed.now.addresses) (bits_under old.pack changed.now.values) (record { config = device.config; writes = [] }) sent
+  done_over = subst (λ (d : DeviceValue). IsSent (is_marked changed.now.addresses) (bits_under old.pack changed.now.values) d sent) clear
+      (subst (λ (p : PackValue). IsSent (is_marked changed.now.addresses) (bits_under p changed.now.values) cleared sent) same done)
+
+  pub change_keeps : Keeps left sent
+  change_keeps = subst (λ (e : EvaluationValue). Keeps e sent) (sym left_is)
+      (Keeps-sent _ (record { config = device.config; writes = [] }) sent (is_marked changed.now.addresses) (change_idle old.pack assigns old.now changed.now start end change) keeps.normal keeps.few keeps.bits done_over)
+
+  pub change_sets : IsSet old.pack assigns (record { params = params_in old.pack old.now.values; config = device.config }) sent.writes (record { params = params_in left.pack left.now.values; config = sent.config })
+  change_sets = subst (λ (e : EvaluationValue). IsSet old.pack assigns (record { params = params_in old.pack old.now.values; config = device.config }) sent.writes (record { params = params_in e.pack e.now.values; config = sent.config })) (sym left_is)
+      (change_set old.pack assigns old.now changed.now start end keeps.idle change (record { config = device.config; writes = [] }) sent addresses done_over)
+
+  pub change_stays : IsConf old.pack (params_in old.pack old.now.values) device.config → IsConf old.pack (params_in left.pack left.now.values) sent.config
+  change_stays conf = subst (λ (e : EvaluationValue). IsConf old.pack (params_in e.pack e.now.values) sent.config) (sym left_is)
+      (change_steady old.pack assigns old.now changed.now start end keeps.idle change (record { config = device.config; writes = [] }) sent addresses done_over keeps.normal conf)
+
+-- The bits are set right.
+module _ (e : EvaluationValue) (device cleared sent : DeviceValue) (keeps : Keeps e device) (clear : cleared ≡ record { config = device.config; writes = [] })
+    (done : IsSent (differs_at cleared.config (bits_under e.pack e.now.values)) (bits_under e.pack e.now.values) cleared sent) where
+  done_from : IsSent (differs_at device.config (bits_under e.pack e.now.values)) (bits_under e.pack e.now.values) (record { config = device.config; writes = [] }) sent
+  done_from = subst (λ (d : DeviceValue). IsSent (differs_at d.config (bits_under e.pack e.now.values)) (bits_under e.pack e.now.values) d sent) clear done
+
+  pub scrub_keeps : Keeps e sent
+  scrub_keeps = Keeps-sent e (record { config = device.config; writes = [] }) sent (differs_at device.config (bits_under e.pack e.now.values)) keeps.idle keeps.normal keeps.few keeps.bits done_from
+
+  pub scrub_sets : IsScrub e.pack (record { params = params_in e.pack e.now.values; config = device.config }) sent.writes (record { params = params_in e.pack e.now.values; config = sent.config })
+  scrub_sets = record { params = refl; right = bits_under e.pack e.now.values; conf = idle_conf e.pack e.now keeps.idle; are = done_from.writes; config = done_from.config }
+
+  pub scrub_rights : IsConf e.pack (params_in e.pack e.now.values) sent.config
+  scrub_rights =
+      let right : sent.config ≡ bits_under e.pack e.now.values =
+      done_from.config ∙ ap (written device.config) done_from.writes ∙ written_differences device.config (bits_under e.pack e.now.values) (keeps.bits ∙ sym (length-bits_under e.pack e.now.values)) in
+      subst (IsConf e.pack (params_in e.pack e.now.values)) (sym right) (idle_conf e.pack e.now keeps.idle)

@@ -1,0 +1,10 @@
+pub mod MarkLemmas
+pub mod StoreLemmas
+pub mod LeastLemmas
+pub mod SweepLemmas
+pub mod AssignLemmas
+pub mod WriteLemmas
+pub mod ChangeLemmas
+pub mod KeepLemmas
+pub mod TestLemmas
+pub mod EventsExample

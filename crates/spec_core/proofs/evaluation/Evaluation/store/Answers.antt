@@ -1,0 +1,10 @@
+use Rattle.std.proofs.Common.{◌<◌, ap}
+use Rattle.aig_core.specs.Aig.{node_count}
+use Rattle.spec_core.specs.Sweep.{EvaluationValue}
+use Rattle.spec_core.proofs.StoreLemmas.{Belong-written}
+use Rattle.spec_core.proofs.evaluation.Evaluation.store.Goals as goal
+
+pub invariant_of-self : goal.invariant_of-self
+invariant_of-self c =
+    let inside : c.args.n < node_count c.self.inside.pack.graph = rw (ap (λ (e : EvaluationValue). e.pack) c.self.view_is) c.requires in
+    rw (c.mark_all.ensures, c.mark_all-then-index-value.ensures, c.nodes.ensures) (Belong-written c.self.inside.pack c.self.inside.readers _ c.args.n c.args.value c.addresses.result.now inside c.self.invariant)

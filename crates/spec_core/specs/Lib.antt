@@ -1,0 +1,9 @@
+-- What public clauses say.
+pub mod Differences
+pub mod Events
+pub mod Touched
+pub mod Specialiser
+-- What only bodies are compared with.
+pub mod Sweep
+pub mod Device
+pub mod Keeps

@@ -1,0 +1,121 @@
+//! The specialiser: a pack, the values of its nodes, and the configuration that the device has.
+ghost use Rattle.std.specs.Prelude.{◌≡◌, ◌<◌, ◌≤◌, Bool, List, [], length, IfOk};
+ghost use Rattle.tl_io.specs.Assigns.{AreAssigned};
+ghost use Rattle.tl_io.specs.Writes.{AreAscending, AreBitsOf};
+ghost use Rattle.ppc_pack.specs.Pack.{IsConf, HasOneConf, inits_of};
+ghost use Rattle.spec_core.specs.Events.{IsSet, IsUpset, IsScrub};
+ghost use Rattle.spec_core.specs.Touched.{IsWithinTouched};
+
+use crate::device::Device;
+use crate::evaluation::Evaluation;
+use aig_core::Steps;
+use ppc_pack::{MOST_PACK_BITS, Pack};
+use std::alloc::{AllocError, Global};
+use std::marker::Model;
+use std::sync::ledger::Ledger;
+use tl_io::{Assign, Write};
+
+/// A pack under given values of its parameters, with the configuration that the device has and the writes of the last event.
+#[derive(Drop)]
+pub struct Specialiser {
+    evaluation: Evaluation,
+    device: Device,
+}
+
+impl Model for Specialiser {
+    ghost use Rattle.spec_core.specs.Specialiser.{SpecialiserValue};
+    ghost use Rattle.spec_core.specs.Keeps.{Keeps, params_in};
+
+    ghost Value = { SpecialiserValue };
+
+    ghost view = { λ s. record { pack = s.evaluation.pack; state = record { params = params_in s.evaluation.pack s.evaluation.now.values; config = s.device.config }; writes = s.device.writes } };
+
+    ghost invariant = { λ s. Keeps s.evaluation s.device };
+}
+
+impl Specialiser {
+    /// The pack at the listed values, with their configuration on the device, and no writes.
+    ///
+    /// One evaluation of the pack. It takes all the memory that events need: `Err` comes only for want of it.
+    pub fn make(alloc: Global, pack: Pack) -> Result<Specialiser, AllocError>
+        ensures pack { IfOk result (λ s. s.pack ≡ pack) }
+        ensures params { IfOk result (λ s. s.state.params ≡ inits_of pack.params) }
+        ensures config { IfOk result (λ s. IsConf pack (inits_of pack.params) s.state.config) }
+        ensures writes { IfOk result (λ s. s.writes ≡ []) }
+
+        // Under any values of the parameters there is one configuration, and no other.
+        ensures one { (given : List Bool) → length given ≡ length pack.params → HasOneConf pack given }
+    {
+        let evaluation = Evaluation::make(alloc, pack)?;
+        let config = evaluation.config(alloc)?;
+        let device = Device::make(alloc, config)?;
+        Ok(Specialiser { evaluation, device })
+    }
+
+    /// Gives some parameters new values, each parameter once.
+    ///
+    /// The writes are the bits in which the configurations specialised from scratch before and after differ, ascending.
+    /// Only nodes with a fan-in whose value changed are read, each once.
+    pub fn change<L: Ledger>(&mut self, assigns: &[Assign], steps: &mut Steps<L>)
+        requires assigns { AreAssigned (length self.old.state.params) assigns.now }
+        ensures pack { self.new.pack ≡ self.old.pack }
+        ensures set { IsSet self.old.pack assigns.now self.old.state self.new.writes self.new.state }
+        ensures cost { IsWithinTouched self.old.pack.graph self.old.state.params self.new.state.params steps.old steps.new }
+
+        // Where no bit was upset, none is.
+        ensures steady { IsConf self.old.pack self.old.state.params self.old.state.config → IsConf self.old.pack self.new.state.params self.new.state.config }
+    {
+        self.device.clear();
+        self.evaluation.change(assigns, steps);
+        self.device.write_marked(&mut self.evaluation);
+    }
+
+    /// Flips the configuration bit at an address, as a fault does.
+    pub fn upset(&mut self, address: u32)
+        requires { address < length self.old.state.config }
+        ensures pack { self.new.pack ≡ self.old.pack }
+        ensures upset { IsUpset address self.old.state self.new.writes self.new.state }
+    {
+        let bit = self.device.config()[address as usize];
+        self.device.clear();
+        self.device.write(address, !bit);
+    }
+
+    /// Sets the bits right that were upset, in time linear in all bits.
+    pub fn scrub(&mut self)
+        ensures pack { self.new.pack ≡ self.old.pack }
+        ensures scrub { IsScrub self.old.pack self.old.state self.new.writes self.new.state }
+
+        // No bit is upset any more.
+        ensures right { IsConf self.old.pack self.new.state.params self.new.state.config }
+    {
+        self.device.clear();
+        self.device.write_differing(&self.evaluation);
+    }
+
+    /// The writes of the last change, upset or scrub, ascending; none before the first.
+    pub fn writes(&self) -> &[Write]
+        ensures value { result.now ≡ self.now.writes }
+        ensures ascending { AreAscending self.now.writes }
+        ensures bits { AreBitsOf self.now.state.config self.now.writes }
+    {
+        self.device.writes()
+    }
+
+    /// The configuration of the device, in the order of the addresses.
+    pub fn image(&self) -> &[bool]
+        ensures value { result.now ≡ self.now.state.config }
+        ensures len { length self.now.state.config ≡ length self.now.pack.bits }
+        ensures few { length self.now.pack.bits ≤ MOST_PACK_BITS }
+    {
+        self.device.config()
+    }
+
+    /// The parameters' values, in their order.
+    pub fn values(&self) -> &[bool]
+        ensures value { result.now ≡ self.now.state.params }
+        ensures len { length self.now.state.params ≡ length self.now.pack.params }
+    {
+        self.evaluation.params()
+    }
+}
