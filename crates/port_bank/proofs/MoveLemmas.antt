@@ -11,7 +11,7 @@ use Rattle.tl_io.specs.Causes.{Rose}
 use Rattle.tl_io.specs.Port.{PortSeen}
 use Rattle.tl_io.specs.declared.Write.{Write}
 use Rattle.port_bank.specs.Regions.{region_of}
-use Rattle.port_bank.specs.Bank.{BankSeen, Called, Replaced}
+use Rattle.port_bank.specs.Bank.{BankSeen, Called, Replaced, Retired}
 use Rattle.port_bank.specs.Send.{Sends, start, accepted, replaced, Loses}
 use Rattle.port_bank.specs.Moves.{MovesWithCause, KeepsPlaces, LosesPlace}
 
@@ -64,8 +64,8 @@ in_set (z ∷ zs) (suc i) y x (inl e) = inr (inl e)
 in_set (z ∷ zs) (suc i) y x (inr r) = elim (in_set zs i y x r) [ inl e ↦ inl e | inr t ↦ inr (inr t) ]
 
 -- each port that serves or stands by did so before, with a count of faults that was no higher
-pub record Stems (old new : BankSeen) : Type 0 where
-  pub stems : (port : PortSeen) → In (new.serving ++ new.spares) port → (before : PortSeen) × In (old.serving ++ old.spares) before × (before.faults ≤ port.faults)
+record Stems (old new : BankSeen) : Type 0 where
+  stems : (port : PortSeen) → In (new.serving ++ new.spares) port → (before : PortSeen) × In (old.serving ++ old.spares) before × (before.faults ≤ port.faults)
 
 stems_here : (bank : BankSeen) → Stems bank bank
 stems_here bank = record { stems = λ port h. (port, h, omega arith) }
@@ -99,17 +99,26 @@ stems_replaced i base old new s r = record {
       ];
 }
 
+-- which ports moved, and why
+record Moved (old new : BankSeen) : Type 0 where
+  moved : List PortSeen
+  behind : new.failed ≡ old.failed ++ moved
+  cause : (port : PortSeen) → In moved port → (before : PortSeen) × In (old.serving ++ old.spares) before × Rose before.faults port.faults
+
 -- both facts of a send
 record Traces (old new : BankSeen) : Type 0 where
   stems : Stems old new
-  moves : MovesWithCause old new
+  moves : Moved old new
 
-moved_none : (base old new : BankSeen) → MovesWithCause base old → new.failed ≡ old.failed → MovesWithCause base new
+with_cause : (old new : BankSeen) → Stems old new → Moved old new → MovesWithCause old new
+with_cause old new s m = record { moved = m.moved; behind = m.behind; cause = m.cause; stay = s.stems }
+
+moved_none : (base old new : BankSeen) → Moved base old → new.failed ≡ old.failed → Moved base new
 moved_none base old new m e = record { moved = m.moved; behind = e ∙ m.behind; cause = m.cause }
 
 -- the port that was moved is the one that failed
-moved_one : (i : ℕ) (write : Write) (base old mid new : BankSeen) (port : PortSeen) → Stems base old → MovesWithCause base old → (c : Called i write false old mid) →
-    slice_get mid.serving i ≡ Some port → new.failed ≡ mid.failed ++ port ∷ [] → MovesWithCause base new
+moved_one : (i : ℕ) (write : Write) (base old mid new : BankSeen) (port : PortSeen) → Stems base old → Moved base old → (c : Called i write false old mid) →
+    slice_get mid.serving i ≡ Some port → new.failed ≡ mid.failed ++ port ∷ [] → Moved base new
 moved_one i write base old mid new port s m c was e =
     let t = s.stems c.before (In-left old.serving old.spares c.before (In-get old.serving i c.before c.was)) in
     let here : slice_get (slice_set old.serving i c.after) i ≡ Some port = sym (ap (λ (b : BankSeen). slice_get b.serving i) c.now) ∙ was in
@@ -146,9 +155,27 @@ traces {w} {old = old} (replaced {write = write} {mid = mid} {next = next} {new 
 
 pub moves_with_cause : {w : ℕ} {config : List Bool} {writes : List Write} {old : BankSeen} {answers : List Bool} {left : List Write} {new : BankSeen} →
     Sends w config writes old answers left new → MovesWithCause old new
-moves_with_cause s = (traces s).moves
+moves_with_cause {old = old} {new = new} s = let t = traces s in with_cause old new t.stems t.moves
+
+-- a port that is left in a list was there
+in_remove : (xs : List PortSeen) (i : ℕ) (x : PortSeen) → In (remove xs i) x → In xs x
+in_remove [] zero x h = h
+in_remove [] (suc i) x h = h
+in_remove (z ∷ zs) zero x h = inr h
+in_remove (z ∷ zs) (suc i) x (inl e) = inl e
+in_remove (z ∷ zs) (suc i) x (inr r) = inr (in_remove zs i x r)
+
+stems_retired : (i : ℕ) (base old new : BankSeen) → Stems base old → Retired i old new → Stems base new
+stems_retired i base old new s r = record {
+  stems = λ port h.
+      let now : In (remove old.serving i ++ []) port = subst (λ (b : BankSeen). In (b.serving ++ b.spares) port) r.now h in
+      let left : In (remove old.serving i) port = subst (λ l. In l port) (append-nil (remove old.serving i)) now in
+      s.stems port (In-left old.serving old.spares port (in_remove old.serving i port left));
+}
 
 pub loses_with_cause : {w : ℕ} {config : List Bool} {writes : List Write} {old : BankSeen} {i : ℕ} {new : BankSeen} → Loses w config writes old i new → MovesWithCause old new
 loses_with_cause {w} {old = old} {new = new} l =
     let t = traces l.sends in
-    moved_one (region_of w l.write) l.write old l.mid l.next new l.retired.port t.stems t.moves l.failed l.retired.was (ap (λ (b : BankSeen). b.failed) l.retired.now)
+    let called : Stems old l.next = stems_called (region_of w l.write) l.write false old l.mid l.next t.stems l.failed l.failed.answered.later in
+    with_cause old new (stems_retired (region_of w l.write) old l.next new called l.retired)
+    (moved_one (region_of w l.write) l.write old l.mid l.next new l.retired.port t.stems t.moves l.failed l.retired.was (ap (λ (b : BankSeen). b.failed) l.retired.now))
