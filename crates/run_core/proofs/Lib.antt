@@ -1,0 +1,3 @@
+pub mod HostLemmas
+pub mod TableLemmas
+pub mod MultiplexerLemmas

@@ -1,0 +1,50 @@
+-- How a step ends: its event is played; then its writes are sent; then its line is put.
+use Rattle.std.specs.Prelude.{◌≡◌, ℕ, ◌≤◌, Bool, List, length, take, Option, Result, Ok, Err}
+use Rattle.tl_io.specs.Causes.{Rose}
+use Rattle.tl_io.specs.Content.{extended}
+use Rattle.tl_io.specs.Writes.{writes_from}
+use Rattle.port_bank.specs.Bank.{BankSeen}
+use Rattle.port_bank.specs.Image.{Holds}
+use Rattle.port_bank.specs.Moves.{KeepsPlaces, LosesPlace}
+use Rattle.port_bank.specs.Send.{Plays}
+use Rattle.run_text.specs.EventValue.{EventValue}
+use Rattle.spec_core.specs.Specialiser.{SpecialiserValue}
+use Rattle.run_core.specs.declared.step_err.StepErr.{StepErr}
+use Rattle.run_core.specs.declared.step_err.StepErr.TheVariants.{WriteFault, PortFault}
+use Rattle.run_core.specs.Sends.{LosesRegion, HasSent, HasLost}
+
+-- the whole send was made, or it met a region that lost its port
+abbrev pub IsSent : EventValue → SpecialiserValue → BankSeen → BankSeen → Result Unit StepErr → Type 0
+IsSent event host old new (Ok done) = HasSent event host old new
+IsSent event host old new (Err WriteFault) = HasSent event host old new
+IsSent event host old new (Err PortFault) = HasLost event host old new
+
+-- the whole line was put, or a prefix of it, or none of its bytes
+abbrev pub IsPut : List ℕ → Option (List ℕ) → Option (List ℕ) → Result Unit StepErr → Type 0
+IsPut line old new (Ok done) = new ≡ extended old line
+IsPut line old new (Err WriteFault) = (n : ℕ) × (n ≤ length line) × (new ≡ extended old (take n line))
+IsPut line old new (Err PortFault) = new ≡ old
+
+-- A fault of writing comes only where the sink's count rose, and no call of the sink is made behind a fault of a port.
+abbrev pub HasSinkCause : ℕ → ℕ → Result Unit StepErr → Type 0
+HasSinkCause before now (Ok done) = before ≤ now
+HasSinkCause before now (Err WriteFault) = (before ≤ now) × Rose before now
+HasSinkCause before now (Err PortFault) = now ≡ before
+
+-- every region still has its port, or one has none
+abbrev pub HasPlaces : BankSeen → BankSeen → Result Unit StepErr → Type 0
+HasPlaces old new (Ok done) = KeepsPlaces old new
+HasPlaces old new (Err WriteFault) = KeepsPlaces old new
+HasPlaces old new (Err PortFault) = LosesPlace old new
+
+-- where the bank held the configuration before the step, it holds the one behind it, unless a region lost its port
+abbrev pub StillHolds : SpecialiserValue → SpecialiserValue → BankSeen → BankSeen → Result Unit StepErr → Type 0
+StillHolds before after old new (Ok done) = Holds before.state.config old → Holds after.state.config new
+StillHolds before after old new (Err WriteFault) = Holds before.state.config old → Holds after.state.config new
+StillHolds before after old new (Err PortFault) = Unit {0}
+
+-- the whole configuration was written, or a region lost its port
+abbrev pub IsLoaded : List Bool → BankSeen → BankSeen → Result Unit StepErr → Type 0
+IsLoaded config old new (Ok done) = Plays config (writes_from 0 config) old new (Ok tt)
+IsLoaded config old new (Err WriteFault) = ⊥
+IsLoaded config old new (Err PortFault) = LosesRegion config (writes_from 0 config) old new

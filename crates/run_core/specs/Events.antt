@@ -1,0 +1,71 @@
+-- The script machine: the host's part, which has the parameters' values and the configuration, and the circuit of tables that the clock plays under this configuration. Each event gives a new state and its writes.
+use Rattle.std.specs.Prelude.{◌≡◌, ℕ, Bool, List}
+use Rattle.ppc_pack.specs.Pack.{IsConf}
+use Rattle.run_text.specs.EventValue.{EventValue, Set, Cycle, Upset, Scrub, Image}
+use Rattle.lut_sim.specs.Cycle.{IsTableCycle, IsOnlyTableCycle}
+use Rattle.lut_sim.specs.Sim.{SimValue}
+use Rattle.spec_core.specs.Events.{IsSet, IsUpset, IsScrub}
+use Rattle.spec_core.specs.Specialiser.{SpecialiserValue}
+use Rattle.spec_core.specs.Touched.{IsWithinTouched}
+
+-- the host's part, and the circuit with its latches' states and the outputs of its last cycle
+pub record MachineValue : Type 0 where
+  pub host : SpecialiserValue
+  pub sim : SimValue
+
+-- what an event makes of the host's part
+abbrev pub IsHostEvent : EventValue → SpecialiserValue → SpecialiserValue → Type 0
+IsHostEvent (Set assigns) old new = IsSet old.pack assigns old.state new.writes new.state
+IsHostEvent (Cycle values) old new = new ≡ old
+IsHostEvent (Upset address) old new = IsUpset address old.state new.writes new.state
+IsHostEvent Scrub old new = IsScrub old.pack old.state new.writes new.state
+IsHostEvent Image old new = new ≡ old
+
+-- what an event makes of the circuit, under a configuration: a cycle is one of its tables, and nothing else changes it
+abbrev pub IsClockEvent : EventValue → List Bool → SimValue → SimValue → Type 0
+IsClockEvent (Set assigns) config old new = new ≡ old
+IsClockEvent (Cycle values) config old new = IsTableCycle old.template old.shape config values old.states new.outputs new.states
+IsClockEvent (Upset address) config old new = new ≡ old
+IsClockEvent Scrub config old new = new ≡ old
+IsClockEvent Image config old new = new ≡ old
+
+-- whatever values fit the tables, a cycle's outputs and states are theirs
+abbrev pub HasOneCycle : EventValue → List Bool → SimValue → SimValue → Type 0
+HasOneCycle (Set assigns) config old new = Unit {0}
+HasOneCycle (Cycle values) config old new = IsOnlyTableCycle old.template old.shape config values old.states new.outputs new.states
+HasOneCycle (Upset address) config old new = Unit {0}
+HasOneCycle Scrub config old new = Unit {0}
+HasOneCycle Image config old new = Unit {0}
+
+-- an event of the host was played
+pub record IsHostPlayed (event : EventValue) (old new : SpecialiserValue) : Type 0 where
+  pub pack : new.pack ≡ old.pack
+  pub is : IsHostEvent event old new
+
+-- an event was played: a cycle over the configuration that stands, with bits that were upset
+pub record IsPlayed (event : EventValue) (old new : MachineValue) : Type 0 where
+  pub host : IsHostPlayed event old.host new.host
+  pub template : new.sim.template ≡ old.sim.template
+  pub shape : new.sim.shape ≡ old.sim.shape
+  pub clock : IsClockEvent event old.host.state.config old.sim new.sim
+  pub one : HasOneCycle event old.host.state.config old.sim new.sim
+
+-- the steps that an event takes: a change of parameters at most one for each touched node, and no other event any
+abbrev pub IsWithinSteps : EventValue → SpecialiserValue → SpecialiserValue → ℕ → ℕ → Type 0
+IsWithinSteps (Set assigns) old new start end = IsWithinTouched old.pack.graph old.state.params new.state.params start end
+IsWithinSteps (Cycle values) old new start end = end ≡ start
+IsWithinSteps (Upset address) old new start end = end ≡ start
+IsWithinSteps Scrub old new start end = end ≡ start
+IsWithinSteps Image old new start end = end ≡ start
+
+-- the configuration of the device is the one specialised from scratch: no bit stands upset
+abbrev pub IsRight : SpecialiserValue → Type 0
+IsRight host = IsConf host.pack host.state.params host.state.config
+
+-- where no bit stands upset, only an upset makes one; behind a scrub none does
+abbrev pub IsSteady : EventValue → SpecialiserValue → SpecialiserValue → Type 0
+IsSteady (Set assigns) old new = IsRight old → IsRight new
+IsSteady (Cycle values) old new = IsRight old → IsRight new
+IsSteady (Upset address) old new = Unit {0}
+IsSteady Scrub old new = IsRight new
+IsSteady Image old new = IsRight old → IsRight new

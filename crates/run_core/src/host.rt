@@ -1,0 +1,237 @@
+//! The host: a pack whose parameters change.
+ghost use Rattle.std.specs.Prelude.{◌≡◌, ◌<◌, Bool, List, [], length, IfOk, OnOk, OnErr};
+ghost use Rattle.tl_io.specs.Causes.{HasCause};
+ghost use Rattle.tl_io.specs.Content.{Puts};
+ghost use Rattle.tl_io.specs.Writes.{written, writes_from};
+ghost use Rattle.port_bank.specs.Seen.{bank_seen};
+ghost use Rattle.port_bank.specs.Send.{Plays};
+ghost use Rattle.port_bank.specs.Image.{Holds};
+ghost use Rattle.port_bank.specs.Moves.{KeepsPlaces, LosesPlace, MovesWithCause};
+ghost use Rattle.ppc_pack.specs.Pack.{IsConf, HasOneConf, inits_of};
+ghost use Rattle.run_text.specs.EventValue.{event_value};
+ghost use Rattle.run_text.specs.Lines.{header_line, cycle_line};
+ghost use Rattle.spec_core.specs.Differences.{write_of};
+ghost use Rattle.spec_core.specs.Specialiser.{SpecialiserValue};
+ghost use Rattle.run_core.specs.Fits.{FitsPack, IsOfHost};
+ghost use Rattle.run_core.specs.Events.{IsHostEvent, IsHostPlayed, IsWithinSteps, IsSteady};
+ghost use Rattle.run_core.specs.EventLines.{host_line};
+ghost use Rattle.run_core.specs.Sends.{HasSent, HasLost};
+ghost use Rattle.run_core.specs.Ends.{IsSent, IsPut, HasSinkCause, HasPlaces, StillHolds};
+
+use crate::step_err::StepErr;
+use aig_core::Steps;
+use lut_sim::Sim;
+use port_bank::{PortBank, PortFault};
+use ppc_pack::Pack;
+use run_text::{Event, LineBuf, put_cycle, put_header, put_image, put_scrub, put_set, put_upset};
+use spec_core::Specialiser;
+use std::alloc::{AllocError, Global};
+use std::marker::Model;
+use std::sync::ledger::Ledger;
+use tl_io::{ConfigPort, Failed, Sink, Write};
+
+/// A pack under changing values of its parameters, with a buffer for lines.
+#[derive(Drop)]
+pub struct Host {
+    specialiser: Specialiser,
+    buf: LineBuf,
+}
+
+impl Model for Host {
+    ghost use Rattle.spec_core.specs.Specialiser.{SpecialiserValue};
+    ghost use Rattle.run_core.specs.Keeps.{KeepsHost};
+
+    ghost Value = { SpecialiserValue };
+
+    ghost view = { λ h. h.specialiser };
+
+    ghost invariant = { λ h. KeepsHost h.specialiser };
+}
+
+// The write of a configuration's bit.
+fn write_at(config: &[bool], address: u32) -> Write
+    requires { address < length config.now }
+    ensures { result ≡ write_of config.now address }
+{
+    Write {
+        address,
+        bit: config[address as usize],
+    }
+}
+
+impl Host {
+    /// The pack at the listed values, with their configuration. It takes all the memory that events need: `Err` comes only
+    /// for want of it.
+    pub fn make(alloc: Global, pack: Pack) -> Result<Host, AllocError>
+        ensures pack { IfOk result (λ host. host.pack ≡ pack) }
+        ensures params { IfOk result (λ host. host.state.params ≡ inits_of pack.params) }
+        ensures config { IfOk result (λ host. IsConf pack (inits_of pack.params) host.state.config) }
+        ensures writes { IfOk result (λ host. host.writes ≡ []) }
+
+        // Under any values of the parameters there is one configuration, and no other.
+        ensures one { (given : List Bool) → length given ≡ length pack.params → HasOneConf pack given }
+    {
+        let specialiser = Specialiser::make(alloc, pack)?;
+        let buf = LineBuf::make(alloc)?;
+        Ok(Host { specialiser, buf })
+    }
+
+    // Plays an event; a cycle changes nothing here.
+    pub(crate) fn play<L: Ledger>(&mut self, event: &Event, steps: &mut Steps<L>)
+        requires fits { FitsPack self.old.pack (event_value event.now) }
+        ensures played { IsHostPlayed (event_value event.now) self.old self.new }
+        ensures steps { IsWithinSteps (event_value event.now) self.old self.new steps.old steps.new }
+        ensures steady { IsSteady (event_value event.now) self.old self.new }
+    {
+        match event {
+            Event::Set(assigns) => self.specialiser.change(assigns, steps),
+            Event::Upset(address) => self.specialiser.upset(*address),
+            Event::Scrub => self.specialiser.scrub(),
+            Event::Cycle(_) => {}
+            Event::Image => {}
+        }
+    }
+
+    // Sends the writes of an event that was played.
+    pub(crate) fn send<P: ConfigPort>(
+        &self,
+        event: &Event,
+        bank: &mut PortBank<P>,
+    ) -> Result<(), PortFault>
+        ensures sent { OnOk result (HasSent (event_value event.now) self.now (bank_seen P.port_seen bank.old) (bank_seen P.port_seen bank.new)) }
+        ensures lost { OnErr result (HasLost (event_value event.now) self.now (bank_seen P.port_seen bank.old) (bank_seen P.port_seen bank.new)) }
+        ensures holds { OnOk result ((before : SpecialiserValue) → IsHostEvent (event_value event.now) before self.now → Holds before.state.config (bank_seen P.port_seen bank.old) → Holds self.now.state.config (bank_seen P.port_seen bank.new)) }
+        ensures moved { MovesWithCause (bank_seen P.port_seen bank.old) (bank_seen P.port_seen bank.new) }
+        ensures places { OnOk result (KeepsPlaces (bank_seen P.port_seen bank.old) (bank_seen P.port_seen bank.new)) }
+        ensures lost_place { OnErr result (LosesPlace (bank_seen P.port_seen bank.old) (bank_seen P.port_seen bank.new)) }
+    {
+        match event {
+            Event::Set(_) | Event::Upset(_) | Event::Scrub => self.send_writes(bank),
+            Event::Cycle(_) | Event::Image => Ok(()),
+        }
+    }
+
+    // Sends the writes of the last event that made some.
+    fn send_writes<P: ConfigPort>(&self, bank: &mut PortBank<P>) -> Result<(), PortFault>
+        ensures plays { Plays self.now.state.config self.now.writes (bank_seen P.port_seen bank.old) (bank_seen P.port_seen bank.new) result }
+        ensures holds { OnOk result ((before : List Bool) → Holds before (bank_seen P.port_seen bank.old) → self.now.state.config ≡ written before self.now.writes → Holds self.now.state.config (bank_seen P.port_seen bank.new)) }
+        ensures moved { MovesWithCause (bank_seen P.port_seen bank.old) (bank_seen P.port_seen bank.new) }
+        ensures places { OnOk result (KeepsPlaces (bank_seen P.port_seen bank.old) (bank_seen P.port_seen bank.new)) }
+        ensures lost_place { OnErr result (LosesPlace (bank_seen P.port_seen bank.old) (bank_seen P.port_seen bank.new)) }
+    {
+        bank.send(self.specialiser.writes(), self.specialiser.image())
+    }
+
+    // Puts the line of an event that was played; a cycle has none here.
+    pub(crate) fn put<O: Sink>(&mut self, event: &Event, out: &mut O) -> Result<(), Failed>
+        requires { FitsPack self.old.pack (event_value event.now) }
+        ensures same { self.new ≡ self.old }
+        ensures cause { HasCause (O.faults out.old) (O.faults out.new) result }
+        ensures grown { Puts (O.bytes out.old) (O.bytes out.new) (host_line (event_value event.now) self.old) result }
+        ensures through { O.through out.new ≡ O.through out.old }
+        ensures others { O.others out.new ≡ O.others out.old }
+    {
+        let buf = &mut self.buf;
+        match event {
+            Event::Set(_) => put_set(self.specialiser.writes(), buf, out),
+            Event::Upset(address) => {
+                let write = write_at(self.specialiser.image(), *address);
+                put_upset(write, buf, out)
+            }
+            Event::Scrub => put_scrub(self.specialiser.writes(), buf, out),
+            Event::Image => put_image(self.specialiser.image(), buf, out),
+            Event::Cycle(_) => Ok(()),
+        }
+    }
+
+    // Puts the header line of a machine with this host.
+    pub(crate) fn put_header<O: Sink>(
+        &mut self,
+        luts: u32,
+        depth: u32,
+        out: &mut O,
+    ) -> Result<(), Failed>
+        ensures same { self.new ≡ self.old }
+        ensures cause { HasCause (O.faults out.old) (O.faults out.new) result }
+        ensures grown { Puts (O.bytes out.old) (O.bytes out.new) (header_line luts (length self.old.pack.bits) depth) result }
+        ensures through { O.through out.new ≡ O.through out.old }
+        ensures others { O.others out.new ≡ O.others out.old }
+    {
+        let bits = self.specialiser.image().len() as u32;
+        put_header(luts, bits, depth, &mut self.buf, out)
+    }
+
+    // Puts the line of the last cycle of a simulator.
+    pub(crate) fn put_cycle<O: Sink>(&mut self, sim: &Sim, out: &mut O) -> Result<(), Failed>
+        ensures same { self.new ≡ self.old }
+        ensures cause { HasCause (O.faults out.old) (O.faults out.new) result }
+        ensures grown { Puts (O.bytes out.old) (O.bytes out.new) (cycle_line sim.now.outputs sim.now.states) result }
+        ensures through { O.through out.new ≡ O.through out.old }
+        ensures others { O.others out.new ≡ O.others out.old }
+    {
+        put_cycle(sim.outputs(), sim.states(), &mut self.buf, out)
+    }
+
+    // Writes the whole configuration to a bank.
+    pub(crate) fn load<P: ConfigPort>(&self, bank: &mut PortBank<P>) -> Result<(), PortFault>
+        ensures plays { Plays self.now.state.config (writes_from 0 self.now.state.config) (bank_seen P.port_seen bank.old) (bank_seen P.port_seen bank.new) result }
+        ensures holds { OnOk result (Holds self.now.state.config (bank_seen P.port_seen bank.new)) }
+        ensures moved { MovesWithCause (bank_seen P.port_seen bank.old) (bank_seen P.port_seen bank.new) }
+        ensures places { OnOk result (KeepsPlaces (bank_seen P.port_seen bank.old) (bank_seen P.port_seen bank.new)) }
+        ensures lost_place { OnErr result (LosesPlace (bank_seen P.port_seen bank.old) (bank_seen P.port_seen bank.new)) }
+    {
+        bank.load(self.specialiser.image())
+    }
+
+    // The configuration, in the order of the addresses.
+    pub(crate) fn image(&self) -> &[bool]
+        ensures value { result.now ≡ self.now.state.config }
+        ensures len { length self.now.state.config ≡ length self.now.pack.bits }
+    {
+        self.specialiser.image()
+    }
+
+    // The writes of the last event that made some.
+    pub(crate) fn writes(&self) -> &[Write]
+        ensures { result.now ≡ self.now.writes }
+    {
+        self.specialiser.writes()
+    }
+
+    /// Plays an event, sends its writes, and puts its line. The state is the one behind the event whatever is answered.
+    ///
+    /// # Errors
+    /// [`StepErr::PortFault`] where a region lost its port while no spare was left: then no byte of the line was put.
+    /// [`StepErr::WriteFault`] only where the sink's count of faults rose: then the whole send was made, and a prefix of the
+    /// line was put.
+    pub fn step<O: Sink, P: ConfigPort, L: Ledger>(
+        &mut self,
+        event: &Event,
+        out: &mut O,
+        bank: &mut PortBank<P>,
+        steps: &mut Steps<L>,
+    ) -> Result<(), StepErr>
+        requires fits { FitsPack self.old.pack (event_value event.now) }
+        requires host { IsOfHost (event_value event.now) }
+        ensures played { IsHostPlayed (event_value event.now) self.old self.new }
+        ensures steps { IsWithinSteps (event_value event.now) self.old self.new steps.old steps.new }
+        ensures sent { IsSent (event_value event.now) self.new (bank_seen P.port_seen bank.old) (bank_seen P.port_seen bank.new) result }
+        ensures put { IsPut (host_line (event_value event.now) self.new) (O.bytes out.old) (O.bytes out.new) result }
+        ensures cause { HasSinkCause (O.faults out.old) (O.faults out.new) result }
+
+        // Ports that failed moved with a cause, and each region still has its port, or one has none.
+        ensures moved { MovesWithCause (bank_seen P.port_seen bank.old) (bank_seen P.port_seen bank.new) }
+        ensures places { HasPlaces (bank_seen P.port_seen bank.old) (bank_seen P.port_seen bank.new) result }
+        ensures holds { StillHolds self.old self.new (bank_seen P.port_seen bank.old) (bank_seen P.port_seen bank.new) result }
+
+        // Where no bit was upset, a change leaves none upset, and a scrub leaves none in any case.
+        ensures steady { IsSteady (event_value event.now) self.old self.new }
+        ensures through { O.through out.new ≡ O.through out.old }
+        ensures others { O.others out.new ≡ O.others out.old }
+    {
+        self.play(event, steps);
+        self.send(event, bank)?;
+        self.put(event, out)?;
+        Ok(())
+    }
+}

@@ -1,0 +1,220 @@
+//! The machine: a host, and the circuit that the clock plays under its configuration.
+ghost use Rattle.std.specs.Prelude.{◌≡◌, ◌≤◌, Bool, List, [], false, length, replicate, IfOk, OnOk, OnErr, Ok, Err};
+ghost use Rattle.tl_io.specs.Causes.{HasCause};
+ghost use Rattle.tl_io.specs.Content.{Puts};
+ghost use Rattle.port_bank.specs.Seen.{bank_seen};
+ghost use Rattle.port_bank.specs.Image.{Holds};
+ghost use Rattle.port_bank.specs.Moves.{MovesWithCause};
+ghost use Rattle.ppc_pack.specs.Pack.{IsConf, HasOneConf, inits_of};
+ghost use Rattle.lut_sim.specs.Playable.{IsPlayable};
+ghost use Rattle.run_text.specs.EventValue.{event_value};
+ghost use Rattle.run_text.specs.Lines.{header_line};
+ghost use Rattle.run_core.specs.Fits.{FitsPack, FitsShape};
+ghost use Rattle.run_core.specs.Events.{IsPlayed, IsClockEvent, HasOneCycle, IsWithinSteps, IsSteady};
+ghost use Rattle.run_core.specs.EventLines.{event_line};
+ghost use Rattle.run_core.specs.Ends.{IsLoaded, IsSent, IsPut, HasSinkCause, HasPlaces, StillHolds};
+
+use crate::host::Host;
+use crate::step_err::StepErr;
+use aig_core::Steps;
+use cover_pick::Template;
+use lut_sim::{Shape, Sim};
+use port_bank::PortBank;
+use ppc_pack::Pack;
+use run_text::Event;
+use std::alloc::{AllocError, Global};
+use std::marker::Model;
+use std::sync::ledger::Ledger;
+use tl_io::{ConfigPort, Failed, Sink, Write};
+
+/// A mapped circuit whose host changes parameters while its clock ticks.
+#[derive(Drop)]
+pub struct Machine {
+    host: Host,
+    sim: Sim,
+    // The numbers of the header: how many tables there are, and how deep they stand.
+    luts: u32,
+    depth: u32,
+}
+
+impl Model for Machine {
+    ghost use Rattle.run_core.specs.Events.{MachineValue};
+    ghost use Rattle.run_core.specs.Keeps.{Keeps};
+
+    ghost Value = { MachineValue };
+
+    ghost view = { λ m. record { host = m.host; sim = m.sim } };
+
+    ghost invariant = { λ m. Keeps m.host m.sim m.luts m.depth };
+}
+
+// How many tables a template has.
+fn table_count(template: &Template) -> u32
+    requires { length template.now.luts ≤ template.now.bits }
+    ensures { result ≡ length template.now.luts }
+{
+    let _bits = template.bits;
+    template.luts.len() as u32
+}
+
+impl Machine {
+    /// A circuit of tables with its latches at `inits`, and the pack of its bits at the listed values, with their
+    /// configuration. It takes all the memory that events need: `Err` comes only for want of it.
+    pub fn make(
+        alloc: Global,
+        template: Template,
+        pack: Pack,
+        shape: Shape,
+        inits: &[bool],
+    ) -> Result<Machine, AllocError>
+        requires playable { IsPlayable template shape }
+        requires inits { length inits.now ≡ shape.latches }
+        requires bits { length pack.bits ≡ template.bits }
+        requires params { length pack.params ≡ shape.params }
+        ensures pack { IfOk result (λ machine. machine.host.pack ≡ pack) }
+        ensures params { IfOk result (λ machine. machine.host.state.params ≡ inits_of pack.params) }
+        ensures config { IfOk result (λ machine. IsConf pack (inits_of pack.params) machine.host.state.config) }
+        ensures writes { IfOk result (λ machine. machine.host.writes ≡ []) }
+        ensures sim { IfOk result (λ machine. machine.sim ≡ record { template = template; shape = shape; outputs = replicate (length template.outputs) false; states = inits.now }) }
+
+        // Under any values of the parameters there is one configuration, and no other.
+        ensures one { (given : List Bool) → length given ≡ length pack.params → HasOneConf pack given }
+    {
+        let luts = table_count(&template);
+        let depth = template.depth;
+        let host = Host::make(alloc, pack)?;
+        let sim = Sim::make(alloc, template, shape, inits)?;
+        Ok(Machine {
+            host,
+            sim,
+            luts,
+            depth,
+        })
+    }
+
+    /// Puts the header line: how many tables there are, how many bits they have, and how deep they stand.
+    ///
+    /// # Errors
+    /// [`StepErr::WriteFault`] only where the sink's count of faults rose: then a prefix of the line stands.
+    pub fn header<O: Sink>(&mut self, out: &mut O) -> Result<(), StepErr>
+        ensures same { self.new ≡ self.old }
+        ensures cause { HasCause (O.faults out.old) (O.faults out.new) result }
+        ensures grown { Puts (O.bytes out.old) (O.bytes out.new) (header_line (length self.old.sim.template.luts) self.old.sim.template.bits self.old.sim.template.depth) result }
+        ensures err { OnErr result (result ≡ Err StepErr.WriteFault) }
+        ensures through { O.through out.new ≡ O.through out.old }
+        ensures others { O.others out.new ≡ O.others out.old }
+    {
+        self.host.put_header(self.luts, self.depth, out)?;
+        Ok(())
+    }
+
+    /// Writes the whole configuration to the bank's ports.
+    ///
+    /// # Errors
+    /// [`StepErr::PortFault`] where a region lost its port while no spare was left.
+    pub fn load<P: ConfigPort>(&mut self, bank: &mut PortBank<P>) -> Result<(), StepErr>
+        ensures same { self.new ≡ self.old }
+        ensures loaded { IsLoaded self.old.host.state.config (bank_seen P.port_seen bank.old) (bank_seen P.port_seen bank.new) result }
+        ensures holds { OnOk result (Holds self.old.host.state.config (bank_seen P.port_seen bank.new)) }
+        ensures moved { MovesWithCause (bank_seen P.port_seen bank.old) (bank_seen P.port_seen bank.new) }
+        ensures places { HasPlaces (bank_seen P.port_seen bank.old) (bank_seen P.port_seen bank.new) result }
+    {
+        self.host.load(bank)?;
+        Ok(())
+    }
+
+    /// Plays an event, sends its writes, and puts its line. The state is the one behind the event whatever is answered.
+    ///
+    /// # Errors
+    /// [`StepErr::PortFault`] where a region lost its port while no spare was left: then no byte of the line was put.
+    /// [`StepErr::WriteFault`] only where the sink's count of faults rose: then the whole send was made, and a prefix of the
+    /// line was put.
+    pub fn step<O: Sink, P: ConfigPort, L: Ledger>(
+        &mut self,
+        event: &Event,
+        out: &mut O,
+        bank: &mut PortBank<P>,
+        steps: &mut Steps<L>,
+    ) -> Result<(), StepErr>
+        requires pack { FitsPack self.old.host.pack (event_value event.now) }
+        requires shape { FitsShape self.old.sim.shape (event_value event.now) }
+        ensures played { IsPlayed (event_value event.now) self.old self.new }
+        ensures steps { IsWithinSteps (event_value event.now) self.old.host self.new.host steps.old steps.new }
+        ensures sent { IsSent (event_value event.now) self.new.host (bank_seen P.port_seen bank.old) (bank_seen P.port_seen bank.new) result }
+        ensures put { IsPut (event_line (event_value event.now) self.new) (O.bytes out.old) (O.bytes out.new) result }
+        ensures cause { HasSinkCause (O.faults out.old) (O.faults out.new) result }
+
+        // Ports that failed moved with a cause, and each region still has its port, or one has none.
+        ensures moved { MovesWithCause (bank_seen P.port_seen bank.old) (bank_seen P.port_seen bank.new) }
+        ensures places { HasPlaces (bank_seen P.port_seen bank.old) (bank_seen P.port_seen bank.new) result }
+        ensures holds { StillHolds self.old.host self.new.host (bank_seen P.port_seen bank.old) (bank_seen P.port_seen bank.new) result }
+
+        // Where no bit was upset, a change leaves none upset, and a scrub leaves none in any case.
+        ensures steady { IsSteady (event_value event.now) self.old.host self.new.host }
+        ensures through { O.through out.new ≡ O.through out.old }
+        ensures others { O.others out.new ≡ O.others out.old }
+    {
+        self.play(event, steps);
+        self.host.send(event, bank)?;
+        self.put(event, out)?;
+        Ok(())
+    }
+
+    /// Plays an event: neither sends its writes nor puts its line. It can't be refused.
+    pub fn play<L: Ledger>(&mut self, event: &Event, steps: &mut Steps<L>)
+        requires pack { FitsPack self.old.host.pack (event_value event.now) }
+        requires shape { FitsShape self.old.sim.shape (event_value event.now) }
+        ensures played { IsPlayed (event_value event.now) self.old self.new }
+        ensures steps { IsWithinSteps (event_value event.now) self.old.host self.new.host steps.old steps.new }
+        ensures steady { IsSteady (event_value event.now) self.old.host self.new.host }
+    {
+        self.host.play(event, steps);
+        self.tick(event);
+    }
+
+    /// The writes of the last change, upset or scrub, ascending; none before the first.
+    pub fn writes(&self) -> &[Write]
+        ensures { result.now ≡ self.now.host.writes }
+    {
+        self.host.writes()
+    }
+
+    /// The outputs of the last cycle, in order; all false before the first.
+    pub fn outputs(&self) -> &[bool]
+        ensures { result.now ≡ self.now.sim.outputs }
+    {
+        self.sim.outputs()
+    }
+
+    // Ticks the clock at a cycle, under the host's configuration.
+    fn tick(&mut self, event: &Event)
+        requires { FitsShape self.old.sim.shape (event_value event.now) }
+        ensures host { self.new.host ≡ self.old.host }
+        ensures template { self.new.sim.template ≡ self.old.sim.template }
+        ensures shape { self.new.sim.shape ≡ self.old.sim.shape }
+        ensures clock { IsClockEvent (event_value event.now) self.old.host.state.config self.old.sim self.new.sim }
+        ensures one { HasOneCycle (event_value event.now) self.old.host.state.config self.old.sim self.new.sim }
+    {
+        match event {
+            Event::Cycle(inputs) => self.sim.cycle(self.host.image(), inputs),
+            Event::Set(_) | Event::Upset(_) | Event::Scrub | Event::Image => {}
+        }
+    }
+
+    // Puts the line of an event that was played.
+    fn put<O: Sink>(&mut self, event: &Event, out: &mut O) -> Result<(), Failed>
+        requires { FitsPack self.old.host.pack (event_value event.now) }
+        ensures same { self.new ≡ self.old }
+        ensures cause { HasCause (O.faults out.old) (O.faults out.new) result }
+        ensures grown { Puts (O.bytes out.old) (O.bytes out.new) (event_line (event_value event.now) self.old) result }
+        ensures through { O.through out.new ≡ O.through out.old }
+        ensures others { O.others out.new ≡ O.others out.old }
+    {
+        match event {
+            Event::Cycle(_) => self.host.put_cycle(&self.sim, out),
+            Event::Set(_) | Event::Upset(_) | Event::Scrub | Event::Image => {
+                self.host.put(event, out)
+            }
+        }
+    }
+}
