@@ -5,8 +5,11 @@ use std::env;
 use std::io::ErrorKind;
 use std::process::ExitCode;
 use std::rt::Env;
-use tl_io::{ConfigPort, DiskShelf, StdSink};
+use tl_io::{ConfigPort, DiskShelf, FilePort, StdSink};
 use tlut_cli::{Status, tlut};
+
+// The files of the configuration ports.
+const PORTS: [&str; 4] = ["port0.bits", "port1.bits", "port2.bits", "port3.bits"];
 
 // Why there are no words.
 enum NoWords {
@@ -38,9 +41,19 @@ fn main(rt: HostRuntime) -> ExitCode {
         Err(NoWords::Memory) => return ExitCode::from(Status::Memory.code()),
     };
     let mut ports: Vec<Box<dyn ConfigPort>> = Vec::new(alloc);
+    for name in PORTS {
+        let port = match Box::new(alloc, FilePort::make(rt, name)) {
+            Ok(port) => port,
+            Err(_) => return ExitCode::from(Status::Memory.code()),
+        };
+        if ports.push(port).is_err() {
+            return ExitCode::from(Status::Memory.code());
+        }
+    }
     let mut shelf = DiskShelf::make(rt);
     let mut out = StdSink::make(rt.stdout());
     let mut err = StdSink::make(rt.stderr());
     let status = tlut(alloc, &words, &mut shelf, &mut out, &mut err, &mut ports);
+    drop(ports);
     ExitCode::from(status.code())
 }

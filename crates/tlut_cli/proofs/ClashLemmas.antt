@@ -1,79 +1,54 @@
--- An accepted job isn't refused, so it is done where nothing fails.
-use Rattle.std.proofs.Common.{◌≡◌, ℕ, List, Option, Some, None, refl, sym, ◌∙◌, subst, inl, inr}
-use Rattle.std.proofs.lemmas.Option.{same_Some}
+-- What files hold isn't refused.
+use Rattle.std.proofs.Common.{◌≡◌, ℕ, List, subst}
 use Rattle.tl_fault.specs.RefusalValue.{RefusalValue}
-use Rattle.tl_io.specs.Causes.{Rose}
-use Rattle.tl_io.specs.Shelf.{Files, ShelfSeen}
+use Rattle.tl_io.specs.Shelf.{Files}
+use Rattle.cover_pick.specs.Template.{TemplateValue}
+use Rattle.run_text.specs.EventValue.{EventValue}
+use Rattle.run_text.specs.NamesValue.{NamesValue}
 use Rattle.run_text.specs.ParamsText.{IsParamsText}
-use Rattle.tlut_cli.specs.declared.netlist.Netlist.{Netlist as NetlistValue}
-use Rattle.tlut_cli.specs.declared.source.Source.{Source}
-use Rattle.tlut_cli.specs.SourceCircuit.{width_of}
-use Rattle.tlut_cli.specs.Refusals.{too_long}
-use Rattle.tlut_cli.specs.Texts.{IsNetlistText, IsParamsRefusal, IsScriptText}
-use Rattle.tlut_cli.specs.Words.{JobWords}
-use Rattle.tlut_cli.specs.Mapped.{IsMapped}
-use Rattle.tlut_cli.specs.Verdict.{HasText, IsOverlong, HasNetlist, HasParams, HasSource, Job, IsAccepted, IsRefused, overlong, netlist, params, mapping, script}
-use Rattle.tlut_cli.specs.Settled.{IsSettled}
-use Rattle.tlut_cli.specs.Call.{IsEnd, IsComplete}
-use Rattle.tlut_cli.specs.Statuses.{status_of}
-use Rattle.tlut_cli.specs.declared.outcome.File.{File}
-use Rattle.tlut_cli.specs.declared.outcome.File.TheVariants as file
-use Rattle.tlut_cli.specs.declared.outcome.Outcome.{Outcome}
-use Rattle.tlut_cli.specs.declared.outcome.Outcome.TheVariants as outcome
-use Rattle.tlut_cli.specs.declared.status.Status.{Status}
-use Rattle.tlut_cli.proofs.EndLemmas.{netlist_once, source_once}
+use Rattle.run_text.specs.ScriptText.{IsScript}
+use Rattle.tlut_cli.specs.declared.ends.outcome.File.{File}
+use Rattle.tlut_cli.specs.declared.stations.netlist.Netlist.{Netlist as NetlistValue}
+use Rattle.tlut_cli.specs.declared.stations.source.Source.{Source}
+use Rattle.tlut_cli.specs.Stations.Words.{SourceWords}
+use Rattle.tlut_cli.specs.Stations.Texts.{HasText, IsNetlistText, NetlistRefusal, IsParamsRefusal}
+use Rattle.tlut_cli.specs.Stations.Mapped.{IsMapped, IsUnmapped}
+use Rattle.tlut_cli.specs.Stations.Source.{HasNetlist, HasParams, HasSource, HasMapped, IsSourceRefused, long_netlist, netlist, long_params, params, mapping}
+use Rattle.tlut_cli.specs.Stations.Script.{HasScript, IsScriptRefused, IsScriptSettled}
+use Rattle.tlut_cli.specs.Stations.Script as script
+use Rattle.tlut_cli.specs.Stations.Settled.{IsSourceSettled}
 use Rattle.tlut_cli.proofs.FileLemmas.{text_once, short_or_long}
 use Rattle.tlut_cli.proofs.TextLemmas.{params_or_refused, script_or_refused}
+use Rattle.tlut_cli.proofs.OnceLemmas.{netlist_once, settled_once}
 
--- no file of an accepted job is too long
-accepted_short : (files : Files) (words : JobWords) (job : Job) (f : File) → IsAccepted files words job → IsOverlong files words f → ⊥
-accepted_short files words job file.Netlist a o = short_or_long files words file.Netlist a.has.netlist.text a.has.netlist.there o
-accepted_short files words job file.Params a o = short_or_long files words file.Params a.has.params.text a.has.params.there o
-accepted_short files words job file.Script a o = short_or_long files words file.Script a.script.text a.script.there o
+module _ (files : Files) (words : SourceWords) (settled : IsSourceSettled files words) where
+  -- a netlist is read or refused
+  pub read_or_not : (n : NetlistValue) (text : List ℕ) (r : RefusalValue) → HasNetlist files words n → HasText files words.netlist text → NetlistRefusal text r → ⊥
+  read_or_not n text r has there refused =
+      (settled.netlist text there).not_both n r (subst (λ ts. IsNetlistText ts n) (text_once files words.netlist has.text text has.there there) has.is) refused
 
--- a list is read or refused
-pub list_or_not : (files : Files) (job : JobWords) (source : Source) (n : NetlistValue) (text : List ℕ) (r : RefusalValue) → IsSettled files job → HasSource files job source → HasNetlist files job n → HasText files job file.Params text
-    → IsParamsRefusal n.flat text r → ⊥
-list_or_not files job source n text r settled has own there refused =
-    let same : source.netlist ≡ n = netlist_once files job source.netlist n settled.netlist has.netlist own in
-    let here : HasParams files job n.flat source.params.list = subst (λ (m : NetlistValue). HasParams files job m.flat source.params.list) same has.params in
-    params_or_refused n.flat text source.params.list r (settled.params n own text there)
-    (subst (λ ts. IsParamsText n.flat ts source.params.list) (text_once files job file.Params here.text text here.there there) here.is) refused
+  -- a list is read or refused
+  pub list_or_not : (source : Source) (n : NetlistValue) (text : List ℕ) (r : RefusalValue) → HasSource files words source → HasNetlist files words n → HasText files words.params text → IsParamsRefusal n.flat text r → ⊥
+  list_or_not source n text r has own there refused =
+      let same : source.netlist ≡ n = netlist_once files words source.netlist n settled.netlist has.netlist own in
+      let here : HasParams files words n.flat source.params.list = subst (λ (m : NetlistValue). HasParams files words m.flat source.params.list) same has.params in
+      params_or_refused n.flat text source.params.list r (settled.params n own text there)
+      (subst (λ ts. IsParamsText n.flat ts source.params.list) (text_once files words.params here.text text here.there there) here.is) refused
 
--- An accepted job isn't refused, at any of its files, for any reason.
-pub accepted_not_refused : (files : Files) (words : JobWords) (job : Job) (f : File) (r : RefusalValue) → IsSettled files words → IsAccepted files words job → IsRefused files words f r → ⊥
-accepted_not_refused files words job f r settled a (overlong reaches long e) = accepted_short files words job f a long
-accepted_not_refused files words job f r settled a (netlist at text there refused) =
-    let has = a.has.netlist in
-    let same : has.text ≡ text = text_once files words file.Netlist has.text text has.there there in
-    (settled.netlist text there).not_both job.source.netlist r (subst (λ ts. IsNetlistText ts job.source.netlist) same has.is) refused
-accepted_not_refused files words job f r settled a (params at n text has there refused) =
-    list_or_not files words job.source n text r settled a.has has there refused
-accepted_not_refused files words job f r settled a (mapping at source has u) =
-    let same : job.source ≡ source = source_once files words job.source source settled.netlist (settled.params source.netlist has.netlist) a.has has in
-    (settled.mapping source has).not_both job.template r (subst (λ (m : Source). IsMapped m words.k job.template) same a.mapped) u
-accepted_not_refused files words job f r settled a (script at source text passes there refused) =
-    let one : job.source ≡ source = source_once files words job.source source settled.netlist (settled.params source.netlist passes.has.netlist) a.has passes.has in
-    let same : a.script.text ≡ text = text_once files words file.Script a.script.text text a.script.there there in
-    script_or_refused (width_of source) text job.vectors r
-    (subst (λ (i : Source). IsScriptText (width_of i) text job.vectors) one (subst (λ ts. IsScriptText (width_of job.source) ts job.vectors) same a.script.is)) refused
+  -- the walk comes past the mapping or it doesn't
+  pub mapped_or_not : (a b : Source) (t : TemplateValue) (r : RefusalValue) → HasMapped files words a t → HasSource files words b → IsUnmapped b words.k r → ⊥
+  mapped_or_not a b t r past has u = (settled.mapping b has).not_both t r (subst (λ s. IsMapped s words.k t) (settled_once files words a b settled past.has has) past.mapped) u
 
--- So the call that is lent its files is done, but for want of memory, where no read and no write fails.
-pub accepted_done : (words : List (List ℕ)) (old new : ShelfSeen) (before after : Option (List ℕ)) (faults_before faults_after : ℕ) (o : Outcome) (s : Status) → s ≡ status_of o → IsEnd words old new before after o
-    → (o ≡ outcome.WriteFault → Rose faults_before faults_after) → IsComplete words old new faults_before faults_after s
-accepted_done words old new before after fb fa o s e (inl u) w files told has read write = absurd (none_some (sym u.no_job ∙ has.is))
-  where
-    none_some : None ≡ Some has.job → ⊥
-    none_some k = cc
-accepted_done words old new before after fb fa outcome.Done s e (inr run) w files told has read write = inl e
-accepted_done words old new before after fb fa outcome.Memory s e (inr run) w files told has read write = inr e
-accepted_done words old new before after fb fa outcome.Usage s e (inr run) w files told has read write = absurd run.ends
-accepted_done words old new before after fb fa outcome.PortFault s e (inr run) w files told has read write = absurd run.ends
-accepted_done words old new before after fb fa outcome.WriteFault s e (inr run) w files told has read write = absurd (write (w refl))
-accepted_done words old new before after fb fa (outcome.ReadFault f) s e (inr run) w files told has read write = absurd (read run.ends.0.fault.rose)
-accepted_done words old new before after fb fa (outcome.TooLong f) s e (inr run) w files told has read write =
-    let same : has.job ≡ run.job = same_Some has.job run.job (sym has.is ∙ run.is) in
-    absurd (accepted_not_refused files run.job has.accepted f too_long (run.ends.0.settled files told) (subst (λ j. IsAccepted files j has.accepted) same has.holds) (run.ends.0.is files told))
-accepted_done words old new before after fb fa (outcome.Refused f r) s e (inr run) w files told has read write =
-    let same : has.job ≡ run.job = same_Some has.job run.job (sym has.is ∙ run.is) in
-    absurd (accepted_not_refused files run.job has.accepted f r (run.ends.0.settled files told) (subst (λ j. IsAccepted files j has.accepted) same has.holds) (run.ends.0.is files told))
+  -- so a source circuit that is mapped isn't refused, at any of its files, for any reason
+  pub source_or_not : (source : Source) (t : TemplateValue) (f : File) (r : RefusalValue) → HasMapped files words source t → IsSourceRefused files words f r → ⊥
+  source_or_not source t f r past (long_netlist at long is) = short_or_long files words.netlist past.has.netlist.text past.has.netlist.there long
+  source_or_not source t f r past (netlist at text there refused) = read_or_not source.netlist text r past.has.netlist there refused
+  source_or_not source t f r past (long_params at n has long is) = short_or_long files words.params past.has.params.text past.has.params.there long
+  source_or_not source t f r past (params at n text has there refused) = list_or_not source n text r past.has has there refused
+  source_or_not source t f r past (mapping at other has u) = mapped_or_not source other t r past has u
+
+-- nor is a script that is read
+pub events_or_not : (files : Files) (name : List ℕ) (names : NamesValue) (events : List EventValue) (f : File) (r : RefusalValue) → IsScriptSettled files name names → HasScript files name names events → IsScriptRefused files name names f r → ⊥
+events_or_not files name names events f r settled has (script.IsScriptRefused.long at long is) = short_or_long files name has.text has.there long
+events_or_not files name names events f r settled has (script.IsScriptRefused.text at ts there refused) =
+    script_or_refused names ts events r (settled ts there) (subst (λ xs. IsScript names xs events) (text_once files name has.text ts has.there there) has.is) refused

@@ -1,161 +1,145 @@
--- Why a job was not begun, seen from an earlier state of the shelf.
-use Rattle.std.proofs.Common.{◌≡◌, ℕ, ◌≤◌, List, refl, sym, ap, ◌∙◌, subst}
-use Rattle.tl_text.specs.declared.logical_lines.TheConstants.{MOST_BYTES}
-use Rattle.tl_io.specs.Shelf.{Files, ShelfSeen}
+-- Why a job was not begun, seen from an earlier state of the shelf, and from a reading of more files.
+use Rattle.std.proofs.Common.{◌≡◌, ℕ, ◌≤◌, take, Option, refl, ap, ◌∙◌, subst, arith}
 use Rattle.tl_fault.specs.RefusalValue.{RefusalValue}
-use Rattle.run_text.specs.declared.params.Param.{Param}
-use Rattle.run_text.specs.ParamsText.{IsParamsText, HasOneReading}
-use Rattle.tlut_cli.specs.Texts.{IsNetlistText, NetlistRefusal, IsParamsRefusal, ScriptRefusal}
-use Rattle.tlut_cli.specs.Words.{JobWords}
-use Rattle.tlut_cli.specs.declared.netlist.Netlist.{Netlist as NetlistValue}
-use Rattle.tlut_cli.specs.declared.source.Source.{Source}
-use Rattle.tlut_cli.specs.Mapped.{IsUnmapped}
-use Rattle.tlut_cli.specs.Verdict.{HasText, IsOverlong, HasNetlist, HasParams, HasSource, netlist, params, mapping, script}
-use Rattle.tlut_cli.specs.Settled.{IsTextSettled, IsNetlistSettled, AreParamsSettled, IsMappingSettled, IsSettled}
-use Rattle.tlut_cli.specs.Comes.{IsSettledBefore, ComesFrom, ComesWith, ComesPast}
-use Rattle.tlut_cli.specs.Stops.{Stops, outcome_at}
+use Rattle.tl_io.specs.Causes.{Rose}
+use Rattle.tl_io.specs.Shelf.{Files, ShelfSeen}
+use Rattle.cover_pick.specs.Template.{TemplateValue}
+use Rattle.tlut_cli.specs.Walk.{Reading}
+use Rattle.tlut_cli.specs.Refusals.{too_long}
 use Rattle.tlut_cli.specs.Ends.{Told, IsTooLongAt, IsRefusedAt, IsFaultAt, Explains}
-use Rattle.tlut_cli.specs.declared.outcome.File.{File}
-use Rattle.tlut_cli.specs.declared.outcome.File.TheVariants as file
-use Rattle.tlut_cli.specs.declared.outcome.Outcome.{Outcome}
-use Rattle.tlut_cli.specs.declared.outcome.Outcome.TheVariants as outcome
-use Rattle.tlut_cli.specs.declared.stop.Stop.{Stop}
-use Rattle.tlut_cli.specs.declared.stop.Stop.TheVariants.{Refused, Memory}
-use Rattle.tlut_cli.proofs.LineLemmas.{Rose-from}
-use Rattle.tlut_cli.proofs.FileLemmas.{text_once, short_or_long}
-use Rattle.tlut_cli.proofs.TextLemmas.{params_or_refused}
+use Rattle.tlut_cli.specs.declared.ends.outcome.File.{File}
+use Rattle.tlut_cli.specs.declared.ends.outcome.File.TheVariants as file
+use Rattle.tlut_cli.specs.declared.ends.outcome.Outcome.{Outcome}
+use Rattle.tlut_cli.specs.declared.ends.outcome.Outcome.TheVariants as outcome
+use Rattle.tlut_cli.specs.declared.stations.source.Source.{Source}
+use Rattle.tlut_cli.specs.Stations.Source.{HasMapped, ReachesSource}
+use Rattle.tlut_cli.specs.Stations.Script.{names_of, IsScriptFile, IsScriptSettled, script_reading}
+use Rattle.tlut_cli.specs.Stations.Settled.{IsOfSource, source_word, IsSourceSettled, source_reading}
+use Rattle.tlut_cli.specs.Run.Words.{RunWords}
+use Rattle.tlut_cli.specs.Run.Job.{run_word, IsSettled, run_reading}
+use Rattle.tlut_cli.specs.Run.Job as job
+use Rattle.tlut_cli.proofs.OnceLemmas.{settled_once, template_once}
+use Rattle.tlut_cli.proofs.ClashLemmas.{source_or_not}
 
-long_from : (job : JobWords) (old mid new : ShelfSeen) (f : File) → mid.files ≡ old.files → IsTooLongAt job mid new f → IsTooLongAt job old new f
-long_from job old mid new f e h = record { given = h.given; is = λ files told. h.is files (e ∙ told); settled = λ files told. h.settled files (e ∙ told) }
+-- a count that rose from a later one rose
+pub Rose_from : (first mid last : ℕ) → first ≤ mid → Rose mid last → Rose first last
+Rose_from first mid last h r = omega arith
 
-refused_from : (job : JobWords) (old mid new : ShelfSeen) (f : File) (r : RefusalValue) → mid.files ≡ old.files → IsRefusedAt job mid new f r → IsRefusedAt job old new f r
-refused_from job old mid new f r e h = record { given = h.given; is = λ files told. h.is files (e ∙ told); settled = λ files told. h.settled files (e ∙ told) }
+-- What explains an outcome from a later state of the shelf does from an earlier one.
+module _ (reading : Reading) (old mid new : ShelfSeen) (later : old.read_faults ≤ mid.read_faults) (same : mid.files ≡ old.files) where
+  long_from : (f : File) → IsTooLongAt reading mid new f → IsTooLongAt reading old new f
+  long_from f h = record { given = h.given; is = λ files told. h.is files (same ∙ told); settled = λ files told. h.settled files (same ∙ told) }
 
-fault_from : (job : JobWords) (old mid new : ShelfSeen) (f : File) → old.read_faults ≤ mid.read_faults → mid.files ≡ old.files → IsFaultAt job mid new f → IsFaultAt job old new f
-fault_from job old mid new f l e h = record {
-  given = h.given;
-  fault = record { rose = Rose-from old.read_faults mid.read_faults new.read_faults l h.fault.rose; rose_since = h.fault.rose_since; told = h.fault.told };
-  reached = λ files told. h.reached files (e ∙ told);
-}
+  refused_from : (f : File) (r : RefusalValue) → IsRefusedAt reading mid new f r → IsRefusedAt reading old new f r
+  refused_from f r h = record { given = h.given; is = λ files told. h.is files (same ∙ told); settled = λ files told. h.settled files (same ∙ told) }
 
-pub Explains-from : (job : JobWords) (old mid new : ShelfSeen) (o : Outcome) → old.read_faults ≤ mid.read_faults → mid.files ≡ old.files → Explains job mid new o → Explains job old new o
-Explains-from job old mid new (outcome.TooLong f) l e h = long_from job old mid new f e h
-Explains-from job old mid new (outcome.Refused f r) l e h = refused_from job old mid new f r e h
-Explains-from job old mid new (outcome.ReadFault f) l e h = fault_from job old mid new f l e h
-Explains-from job old mid new outcome.Memory l e h = h
-Explains-from job old mid new outcome.Done l e h = h
-Explains-from job old mid new outcome.Usage l e h = h
-Explains-from job old mid new outcome.WriteFault l e h = h
-Explains-from job old mid new outcome.PortFault l e h = h
+  fault_from : (f : File) → IsFaultAt reading mid new f → IsFaultAt reading old new f
+  fault_from f h = record {
+    given = h.given;
+    is_read = h.is_read;
+    fault = record { rose = Rose_from old.read_faults mid.read_faults new.read_faults later h.fault.rose; rose_since = h.fault.rose_since; told = h.fault.told };
+    reached = λ files told. h.reached files (same ∙ told);
+  }
 
--- the netlist that is read is the only one
-pub netlist_once : (files : Files) (job : JobWords) (n m : NetlistValue) → IsNetlistSettled files job → HasNetlist files job n → HasNetlist files job m → n ≡ m
-netlist_once files job n m settled a b =
-    (settled b.text b.there).one_netlist n m (subst (λ ts. IsNetlistText ts n) (text_once files job file.Netlist a.text b.text a.there b.there) a.is) b.is
+  pub Explains_from : (o : Outcome) → Explains reading mid new o → Explains reading old new o
+  Explains_from (outcome.TooLong f) h = long_from f h
+  Explains_from (outcome.Refused f r) h = refused_from f r h
+  Explains_from (outcome.ReadFault f) h = fault_from f h
+  Explains_from outcome.Memory h = h
+  Explains_from outcome.Done h = h
+  Explains_from outcome.Usage h = h
+  Explains_from outcome.WriteFault h = h
+  Explains_from outcome.PortFault h = h
 
--- a netlist's text is settled, and so is the netlist of its file
-pub text_settles : (files : Files) (job : JobWords) (text : List ℕ) → HasText files job file.Netlist text → IsTextSettled text → IsNetlistSettled files job
-text_settles files job text there settled other has = subst (λ ts. IsTextSettled ts) (text_once files job file.Netlist text other there has) settled
+-- a reading is part of another: its files have the same words there, and what ends it ends the other
+pub record IsPart (part whole : Reading) (told : Option Files) : Type 0 where
+  pub read : (f : File) → part.IsRead f → whole.IsRead f
+  pub word : (f : File) → part.IsRead f → part.word f ≡ whole.word f
+  pub reaches : Told told (λ files. (f : File) → part.IsRead f → part.Reaches files f → whole.Reaches files f)
+  pub refused : Told told (λ files. (f : File) (r : RefusalValue) → part.IsRefused files f r → whole.IsRefused files f r)
+  pub settled : Told told (λ files. (f : File) (r : RefusalValue) → part.IsSettled files → part.IsRefused files f r → whole.IsSettled files)
 
--- so is the list of its parameters, and so is the list of their file
-pub list_settles : (files : Files) (job : JobWords) (n : NetlistValue) (text : List ℕ) → HasText files job file.Params text → HasOneReading n.flat text → AreParamsSettled files job n
-list_settles files job n text there settled other has = subst (λ ts. HasOneReading n.flat ts) (text_once files job file.Params text other there has) settled
+-- What explains an outcome by a part explains it by the whole.
+module _ (part whole : Reading) (old new : ShelfSeen) (is_part : IsPart part whole old.files) where
+  long_lift : (f : File) → IsTooLongAt part old new f → IsTooLongAt whole old new f
+  long_lift f h = record {
+    given = h.given;
+    is = λ files told. is_part.refused files told f too_long (h.is files told);
+    settled = λ files told. is_part.settled files told f too_long (h.settled files told) (h.is files told);
+  }
 
--- the parameters that are read for it are the only ones
-params_once : (files : Files) (job : JobWords) (n : NetlistValue) (ps qs : List Param) → AreParamsSettled files job n → HasParams files job n.flat ps → HasParams files job n.flat qs → ps ≡ qs
-params_once files job n ps qs settled a b =
-    (settled b.text b.there).one_list ps qs (subst (λ ts. IsParamsText n.flat ts ps) (text_once files job file.Params a.text b.text a.there b.there) a.is) b.is
+  refused_lift : (f : File) (r : RefusalValue) → IsRefusedAt part old new f r → IsRefusedAt whole old new f r
+  refused_lift f r h = record {
+    given = h.given;
+    is = λ files told. is_part.refused files told f r (h.is files told);
+    settled = λ files told. is_part.settled files told f r (h.settled files told) (h.is files told);
+  }
 
--- the source circuit that is read is the only one
-pub source_once : (files : Files) (job : JobWords) (a b : Source) → IsNetlistSettled files job → AreParamsSettled files job b.netlist → HasSource files job a → HasSource files job b → a ≡ b
-source_once files job a b one settled x y =
-    let same : a.netlist ≡ b.netlist = netlist_once files job a.netlist b.netlist one x.netlist y.netlist in
-    let lists : a.params.list ≡ b.params.list = params_once files job b.netlist a.params.list b.params.list settled (subst (λ (n : NetlistValue). HasParams files job n.flat a.params.list) same x.params) y.params in
-    ap (λ n. record { netlist = n; params = a.params }) same ∙ ap (λ ps. record { netlist = b.netlist; params = record { list = ps } }) lists
+  fault_lift : (f : File) → IsFaultAt part old new f → IsFaultAt whole old new f
+  fault_lift f h = record {
+    given = h.given;
+    is_read = is_part.read f h.is_read;
+    fault = record { rose = h.fault.rose; rose_since = h.fault.rose_since; told = h.fault.told ∙ ap (λ name. take 4096 name) (is_part.word f h.is_read) };
+    reached = λ files told. is_part.reaches files told f h.is_read (h.reached files told);
+  }
 
--- a file that is too long settles what comes after it
-pub long_settles : (files : Files) (job : JobWords) (f : File) → IsSettledBefore files job f → IsOverlong files job f → IsSettled files job
-long_settles files job file.Netlist before long = record {
-  netlist = λ text there. absurd (short_or_long files job file.Netlist text there long);
-  params = λ n has. absurd (short_or_long files job file.Netlist has.text has.there long);
-  mapping = λ source has. absurd (short_or_long files job file.Netlist has.netlist.text has.netlist.there long);
-}
-long_settles files job file.Params before long = record {
-  netlist = before;
-  params = λ n has text there. absurd (short_or_long files job file.Params text there long);
-  mapping = λ source has. absurd (short_or_long files job file.Params has.params.text has.params.there long);
-}
-long_settles files job file.Script before long = before
+  pub Explains_lift : (o : Outcome) → Explains part old new o → Explains whole old new o
+  Explains_lift (outcome.TooLong f) h = long_lift f h
+  Explains_lift (outcome.Refused f r) h = refused_lift f r h
+  Explains_lift (outcome.ReadFault f) h = fault_lift f h
+  Explains_lift outcome.Memory h = h
+  Explains_lift outcome.Done h = h
+  Explains_lift outcome.Usage h = h
+  Explains_lift outcome.WriteFault h = h
+  Explains_lift outcome.PortFault h = h
 
--- so does a netlist or a list that is refused, and a source circuit whose mapping is settled
-pub netlist_settles : (files : Files) (job : JobWords) (text : List ℕ) (r : RefusalValue) → HasText files job file.Netlist text → IsTextSettled text → NetlistRefusal text r → IsSettled files job
-netlist_settles files job text r there settled refused = record {
-  netlist = text_settles files job text there settled;
-  params = λ n has. absurd (none n has);
-  mapping = λ source has. absurd (none source.netlist has.netlist);
+-- the reading of a source circuit is part of that of `run`
+source_part : (words : RunWords) (told : Option Files) → IsPart (source_reading words.source) (run_reading words) told
+source_part words told = record {
+  read = λ f h. tt;
+  word = same_word;
+  reaches = λ files told f h reached. reached;
+  refused = λ files told f r refused. job.IsRefused.source refused;
+  settled = λ files told f r settled refused. record { source = settled; script = λ source template past. absurd (source_or_not files words.source settled source template f r past refused) };
 }
   where
-    none : (n : NetlistValue) → HasNetlist files job n → ⊥
-    none n has = settled.not_both n r (subst (λ ts. IsNetlistText ts n) (text_once files job file.Netlist has.text text has.there there) has.is) refused
+    same_word : (f : File) → IsOfSource f → source_word words.source f ≡ run_word words f
+    same_word file.Netlist h = refl
+    same_word file.Params h = refl
+    same_word file.Script h = absurd h
 
-pub params_settles : (files : Files) (job : JobWords) (n : NetlistValue) (text : List ℕ) (r : RefusalValue) → ComesFrom files job n → HasText files job file.Params text → HasOneReading n.flat text → IsParamsRefusal n.flat text r
-    → IsSettled files job
-params_settles files job n text r comes there one refused = record {
-  netlist = comes.settled;
-  params = λ m has. subst (λ x. AreParamsSettled files job x) (netlist_once files job n m comes.settled comes.netlist has) settled;
-  mapping = λ source has. absurd (none source has);
-}
-  where
-    settled : AreParamsSettled files job n
-    settled = list_settles files job n text there one
+pub source_to_run : (words : RunWords) (old new : ShelfSeen) (o : Outcome) → Explains (source_reading words.source) old new o → Explains (run_reading words) old new o
+source_to_run words old new o h = Explains_lift (source_reading words.source) (run_reading words) old new (source_part words old.files) o h
 
-    none : (source : Source) → HasSource files job source → ⊥
-    none source has =
-        let same : source.netlist ≡ n = netlist_once files job source.netlist n comes.settled has.netlist comes.netlist in
-        let here : HasParams files job n.flat source.params.list = subst (λ (m : NetlistValue). HasParams files job m.flat source.params.list) same has.params in
-        params_or_refused n.flat text source.params.list r one (subst (λ ts. IsParamsText n.flat ts source.params.list) (text_once files job file.Params here.text text here.there there) here.is) refused
+-- and so is that of a script behind a source circuit that is mapped
+module _ (words : RunWords) (source : Source) (template : TemplateValue) where
+  pub names_settled : (files : Files) → HasMapped files words.source source template → IsSourceSettled files words.source → IsScriptSettled files words.script (names_of source template.bits)
+      → (other : Source) (t : TemplateValue) → HasMapped files words.source other t → IsScriptSettled files words.script (names_of other t.bits)
+  names_settled files past settled script other t has =
+      subst (λ (u : TemplateValue). IsScriptSettled files words.script (names_of other u.bits)) (template_once files words.source source other template t settled past has)
+      (subst (λ s. IsScriptSettled files words.script (names_of s template.bits)) (settled_once files words.source source other settled past.has has.has) script)
 
-pub mapping_settles : (files : Files) (job : JobWords) (source : Source) → ComesWith files job source → IsMappingSettled source job.k → IsSettled files job
-mapping_settles files job source comes mapped = record {
-  netlist = comes.netlist;
-  params = λ m has. subst (λ x. AreParamsSettled files job x) (netlist_once files job source.netlist m comes.netlist comes.has.netlist has) comes.params;
-  mapping = λ other has. subst (λ x. IsMappingSettled x job.k) (sym (source_once files job other source comes.netlist comes.params has comes.has)) mapped;
-}
+  script_part : (told : Option Files) → Told told (λ files. HasMapped files words.source source template × IsSourceSettled files words.source) → IsPart (script_reading words.script (names_of source template.bits)) (run_reading words) told
+  script_part is_told comes = record {
+    read = λ f h. tt;
+    word = same_word;
+    reaches = λ files told f h reached. reaches files f h (comes files told).0;
+    refused = λ files told f r refused. job.IsRefused.script source template (comes files told).0 refused;
+    settled = λ files told f r settled refused. record { source = (comes files told).1; script = names_settled files (comes files told).0 (comes files told).1 settled };
+  }
+    where
+      same_word : (f : File) → IsScriptFile f → words.script ≡ run_word words f
+      same_word file.Netlist h = absurd h
+      same_word file.Params h = absurd h
+      same_word file.Script h = refl
 
--- what the mapping answers explains the outcome
-pub map_explains : (job : JobWords) (old new : ShelfSeen) (source : Source) (s : Stop) → new.given ≤ MOST_BYTES → Told old.files (λ files. ComesWith files job source)
-    → Stops (IsUnmapped source job.k) s → Stops (λ _. IsMappingSettled source job.k) s → Explains job old new (outcome_at file.Netlist s)
-map_explains job old new source (Refused r) g comes u settled = record {
-  given = g;
-  is = λ files told. mapping refl source (comes files told).has u;
-  settled = λ files told. mapping_settles files job source (comes files told) settled;
-}
-map_explains job old new source Memory g comes u settled = tt
+      reaches : (files : Files) (f : File) → IsScriptFile f → HasMapped files words.source source template → ReachesSource files words.source f
+      reaches files file.Netlist h past = absurd h
+      reaches files file.Params h past = absurd h
+      reaches files file.Script h past = (source, template, past)
 
--- what the reading of a text answers explains it too
-pub netlist_explains : (job : JobWords) (old new : ShelfSeen) (text : List ℕ) (s : Stop) → new.given ≤ MOST_BYTES → Told old.files (λ files. HasText files job file.Netlist text)
-    → Stops (NetlistRefusal text) s → Stops (λ _. IsTextSettled text) s → Explains job old new (outcome_at file.Netlist s)
-netlist_explains job old new text (Refused r) g there u settled = record {
-  given = g;
-  is = λ files told. netlist refl text (there files told) u;
-  settled = λ files told. netlist_settles files job text r (there files told) settled u;
-}
-netlist_explains job old new text Memory g there u settled = tt
-
-pub params_explains : (job : JobWords) (old new : ShelfSeen) (n : NetlistValue) (text : List ℕ) (s : Stop) → new.given ≤ MOST_BYTES → Told old.files (λ files. ComesFrom files job n) → Told old.files (λ files. HasText files job file.Params text)
-    → HasOneReading n.flat text → Stops (IsParamsRefusal n.flat text) s → Explains job old new (outcome_at file.Params s)
-params_explains job old new n text (Refused r) g comes there one u = record {
-  given = g;
-  is = λ files told. params refl n text (comes files told).netlist (there files told) u;
-  settled = λ files told. params_settles files job n text r (comes files told) (there files told) one u;
-}
-params_explains job old new n text Memory g comes there one u = tt
-
-pub script_explains : (job : JobWords) (old new : ShelfSeen) (width : ℕ) (text : List ℕ) (s : Stop) → new.given ≤ MOST_BYTES → Told old.files (λ files. ComesPast files job width) → Told old.files (λ files. HasText files job file.Script text)
-    → Stops (ScriptRefusal width text) s → Explains job old new (outcome_at file.Script s)
-script_explains job old new width text (Refused r) g comes there u = record {
-  given = g;
-  is = λ files told. let past = comes files told in script refl past.source text past.passes (there files told) (subst (λ w. ScriptRefusal w text r) (sym past.is_width) u);
-  settled = λ files told. (comes files told).settled;
-}
-script_explains job old new width text Memory g comes there u = tt
+pub script_to_run : (words : RunWords) (old new : ShelfSeen) (o : Outcome) (source : Source) (template : TemplateValue)
+    → Told old.files (λ files. HasMapped files words.source source template × IsSourceSettled files words.source)
+    → Explains (script_reading words.script (names_of source template.bits)) old new o → Explains (run_reading words) old new o
+script_to_run words old new o source template comes h =
+    Explains_lift (script_reading words.script (names_of source template.bits)) (run_reading words) old new (script_part words source template old.files comes) o h

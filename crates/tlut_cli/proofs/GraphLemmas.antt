@@ -1,9 +1,6 @@
 -- A graph has one template, or is refused for one reason.
 use Rattle.std.proofs.Common.{◌≡◌, ℕ, ◌<◌, ◌≤◌, List, length, Some, sym, ap, ◌∙◌, subst, arith}
 use Rattle.aig_build.specs.declared.TheConstants.{MOST_NODES}
-use Rattle.aig_build.specs.declared.build_err.BuildErr.{BuildErr}
-use Rattle.aig_build.specs.declared.build_err.BuildErr.TheVariants as build_err
-use Rattle.aig_build.specs.Refusals.{refusal_of as build_refusal}
 use Rattle.aig_build.specs.CoverGraph.{Literals}
 use Rattle.aig_build.specs.NetlistGraph.{IsGraphOf, HasTooManyNodes, HasOneGraph}
 use Rattle.std.proofs.Math.Path.{fun_ext}
@@ -21,9 +18,9 @@ use Rattle.cover_pick.specs.Refusals.{refusal_of as pick_refusal}
 use Rattle.cover_pick.specs.declared.lut.PickErr.{PickErr}
 use Rattle.cover_pick.specs.declared.lut.PickErr.TheVariants as pick_err
 use Rattle.tl_fault.specs.RefusalValue.{RefusalValue}
-use Rattle.tlut_cli.specs.declared.source.Source.{Source}
-use Rattle.tlut_cli.specs.Mapped.{IsChosen, IsUnchosen, cuts, work, IsMapped, IsUnmappedGraph, IsUnmapped, too_many, unchosen}
-use Rattle.tlut_cli.specs.Settled.{IsGraphSettled, IsMappingSettled}
+use Rattle.tlut_cli.specs.declared.stations.source.Source.{Source}
+use Rattle.tlut_cli.specs.Stations.Mapped.{IsChosen, IsUnchosen, cuts, work, IsMapped, IsUnmappedGraph, IsUnmapped, too_many, unchosen}
+use Rattle.tlut_cli.specs.Stations.Settled.{IsGraphSettled, IsMappingSettled}
 use Rattle.tlut_cli.proofs.InputLemmas.{same_parts}
 
 -- what the enumeration says of limits
@@ -38,6 +35,7 @@ module _ (g : Aig) (k : ℕ) (roots : RootsValue)
   -- A graph with too many cuts is settled.
   pub limit_settled : (e : CutErr) → IsLimit g k e → IsGraphSettled g k roots
   limit_settled e l = record {
+    one_template = λ t u c d. absurd (excluded e c.rows l c.labelled.rows_are);
     not_both = λ t r c u. excluded e c.rows l c.labelled.rows_are;
     one_refusal = λ r s u v. limit_refused e r s l u v;
   }
@@ -46,6 +44,7 @@ module _ (g : Aig) (k : ℕ) (roots : RootsValue)
   module _ (rows : List (List (List ℕ))) (are : AreRows g k (node_count g) rows)
       (one_table : (some other : List (List (List ℕ))) → AreRows g k (node_count g) some → AreRows g k (node_count g) other → some ≡ other)
       (labels : LabelsValue) (labelled : AreLabelled g rows labels) (one : HasOneLabelling g rows)
+      (same_template : (t u : TemplateValue) → IsTemplate g rows (label_of labels) roots t → IsTemplate g rows (label_of labels) roots u → t ≡ u)
       (apart : (t : TemplateValue) → IsTemplate g rows (label_of labels) roots t → IsLight g t.luts → IsTooMuch g rows (label_of labels) (roots_of roots) → ⊥) where
     labels_here : (other : LabelsValue) → AreLabelled g rows other → label_of other ≡ label_of labels
     labels_here other w = fun_ext (λ n. one.once other labels w labelled n)
@@ -63,10 +62,14 @@ module _ (g : Aig) (k : ℕ) (roots : RootsValue)
     -- A graph with a table is settled.
     pub table_settled : IsGraphSettled g k roots
     table_settled = record {
+      one_template = λ t u c d. same_template t u (chosen_here t c) (chosen_here u d);
       not_both = λ t r c u. chosen_or t r c.rows c.labels c.labelled.rows_are c.labelled.labels_are c.chosen c.light u;
       one_refusal = table_refused;
     }
       where
+        chosen_here : (t : TemplateValue) → IsChosen g k roots t → IsTemplate g rows (label_of labels) roots t
+        chosen_here t c = template_here c.rows c.labels t c.labelled.rows_are c.labelled.labels_are c.chosen
+
         chosen_or : (t : TemplateValue) (r : RefusalValue) (some : List (List (List ℕ))) (other : LabelsValue) → AreRows g k (node_count g) some → AreLabelled g some other → IsTemplate g some (label_of other) roots t → IsLight g t.luts
             → IsUnchosen g k roots r → ⊥
         chosen_or t r some other a w is light (cuts e l told) = excluded e some l a
@@ -112,6 +115,7 @@ module _ (source : Source) (one : HasOneGraph source.netlist.library source.netl
   -- A source circuit with too many nodes is settled.
   pub full_settled : (k : ℕ) → HasTooManyNodes source.netlist.library source.netlist.flat source.params.list → IsMappingSettled source k
   full_settled k over = record {
+    one_template = λ t u m n. absurd (few_or_many m.graph m.roots m.is_graph m.nodes over);
     not_both = λ t r m u. few_or_many m.graph m.roots m.is_graph m.nodes over;
     one_refusal = once;
   }
@@ -124,6 +128,7 @@ module _ (source : Source) (one : HasOneGraph source.netlist.library source.netl
   -- So is one whose graph is settled.
   pub mapping_settled : (k : ℕ) (g : Aig) (roots : RootsValue) → IsGraph g roots → length g.pairs ≤ MOST_NODES → IsGraphSettled g k roots → IsMappingSettled source k
   mapping_settled k g roots is few graph = record {
+    one_template = λ t u m n. graph.one_template t u (chosen_here m.graph m.roots t m.is_graph m.chosen) (chosen_here n.graph n.roots u n.is_graph n.chosen);
     not_both = mapped_or;
     one_refusal = once;
   }
@@ -142,13 +147,3 @@ module _ (source : Source) (one : HasOneGraph source.netlist.library source.netl
       once r s (too_many over e) other = absurd (few_or_many g roots is few over)
       once r s some (too_many over e) = absurd (few_or_many g roots is few over)
       once r s (unchosen u) (unchosen v) = graph.one_refusal r s (refused_here r u) (refused_here s v)
-
--- what is said of its graph, said of the source circuit
-pub unmapped_of : (source : Source) (k : ℕ) (g : Aig) (roots : RootsValue) → IsGraphOf source.netlist.library source.netlist.flat source.params.list g roots → length g.pairs ≤ MOST_NODES → (told : RefusalValue) → IsUnchosen g k roots told
-    → IsUnmapped source k told
-unmapped_of source k g roots is few told u = unchosen (record { graph = g; roots = roots; is_graph = is; nodes = few; unchosen = u })
-
--- the one refusal of building
-pub nodes_are : (e : BuildErr) (r : RefusalValue) → build_refusal e ≡ Some r → build_refusal build_err.TooManyNodes ≡ Some r
-nodes_are build_err.TooManyNodes r is = is
-nodes_are build_err.Memory r is = absurd (none-some r is)

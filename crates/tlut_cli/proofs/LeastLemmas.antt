@@ -1,30 +1,23 @@
--- The header of a job that is done: its depth is the least, and its tables have few leaves.
-use Rattle.std.proofs.Common.{◌≡◌, ℕ, ◌≤◌, ◌-◌, ◌/◌, Bool, true, false, cond, ◌&&◌, leb, bytes_eq, codes, List, [], ◌∷◌, length, Option, Some, None, sym, ap, ◌∙◌, subst, inl, inr, arith}
-use Rattle.std.specs.List.{concat}
-use Rattle.std.specs.Option.{option_map}
+-- The chosen template of a source circuit is a mapping of the least depth, whose tables have few leaves.
+use Rattle.std.proofs.Common.{◌≡◌, ℕ, ◌≤◌, ◌-◌, ◌/◌, ◌&&◌, leb, bytes_eq, codes, List, [], ◌∷◌, length, Option, Some, None, sym, ap, subst, inl, inr, arith}
 use Rattle.std.proofs.lemmas.Bool.{and_parts, leb-true}
 use Rattle.std.proofs.lemmas.Option.{none-some, same_Some}
-use Rattle.tl_io.specs.Shelf.{Files, ShelfSeen}
-use Rattle.tl_io.specs.Content.{extended}
 use Rattle.list_laws.specs.Members.{In}
-use Rattle.aig_core.specs.Aig.{Aig, IsSource}
+use Rattle.list_laws.proofs.Choice.{some_then}
+use Rattle.tl_text.specs.Decimal.{decimal_of}
 use Rattle.aig_core.specs.declared.lit.Kind.TheVariants.{Regular}
+use Rattle.aig_core.specs.Aig.{Aig, IsSource}
+use Rattle.aig_core.specs.Roots.{roots_of}
 use Rattle.cut_enum.specs.Cuts.{CanBeLeaf}
 use Rattle.cover_pick.specs.declared.lut.Lut.{Lut}
 use Rattle.cover_pick.specs.Mapping.{IsTableOf, source, free, node}
-use Rattle.tlut_cli.specs.Words.{JobWords, k_of, job_of}
-use Rattle.tlut_cli.specs.JobText.{AreLines, cycle_lines}
-use Rattle.tlut_cli.specs.Verdict.{Job}
-use Rattle.tlut_cli.specs.Ends.{Told}
-use Rattle.tlut_cli.specs.Call.{IsEnd, HasDone}
-use Rattle.tlut_cli.specs.Statuses.{status_of, refusal_status}
-use Rattle.tl_fault.specs.Refusals.{is_limit}
-use Rattle.tlut_cli.specs.declared.outcome.Outcome.{Outcome}
-use Rattle.tlut_cli.specs.declared.outcome.Outcome.TheVariants as outcome
-use Rattle.tlut_cli.specs.declared.status.Status.{Status}
-use Rattle.tlut_cli.specs.declared.status.Status.TheVariants as status
-use Rattle.tlut_cli.specs.LeastDepth.{HasHeader, HasLeastDepth, HasFewLeaves, HasSmallTables}
-use Rattle.list_laws.proofs.Choice.{some_then}
+use Rattle.cover_pick.specs.Template.{TemplateValue}
+use Rattle.tlut_cli.specs.declared.run.words.PortCounts.{PortCounts}
+use Rattle.tlut_cli.specs.declared.stations.source.Source.{Source}
+use Rattle.tlut_cli.specs.Stations.Words.{k_of}
+use Rattle.tlut_cli.specs.Stations.Mapped.{IsMapped}
+use Rattle.tlut_cli.specs.Run.Words.{RunWords, counts_of, run_words, run_of}
+use Rattle.tlut_cli.specs.Run.Headline.{HasFewLeaves, IsLeastMapping}
 
 -- a table's size is 2 at least
 size_of : (word : List ℕ) (k : ℕ) → k_of word ≡ Some k → 2 ≤ k
@@ -35,25 +28,26 @@ size_of (digit ∷ []) k e =
     subst (λ n. 2 ≤ n) (same_Some (digit - 48) k h.1) (omega arith)
 size_of (digit ∷ other ∷ rest) k e = absurd (none-some k e)
 
--- the size of a job that was made of a size
-mapped_size : (o : Option ℕ) (netlist params script : List ℕ) (job : JobWords) → option_map (λ n. record { k = n; netlist = netlist; params = params; script = script }) o ≡ Some job → o ≡ Some job.k
-mapped_size None netlist params script job e = absurd (none-some job e)
-mapped_size (Some n) netlist params script job e =
-    ap Some (ap (λ (j : JobWords). j.k) (same_Some (record { k = n; netlist = netlist; params = params; script = script }) job e))
+-- the size in words that were made of a size
+made_size : (netlist params script : List ℕ) (k : Option ℕ) (counts : Option PortCounts) (words : RunWords) → run_words netlist params script k counts ≡ Some words → k ≡ Some words.source.k
+made_size netlist params script None counts words e = absurd (none-some words e)
+made_size netlist params script (Some k) None words e = absurd (none-some words e)
+made_size netlist params script (Some k) (Some counts) words e =
+    ap (λ (w : RunWords). Some w.source.k) (same_Some (record { source = record { k = k; netlist = netlist; params = params }; script = script; ports = counts }) words e)
 
-job_size : (words : List (List ℕ)) (job : JobWords) → job_of words ≡ Some job → 2 ≤ job.k
-job_size [] job e = absurd (none-some job e)
-job_size (a ∷ []) job e = absurd (none-some job e)
-job_size (a ∷ b ∷ []) job e = absurd (none-some job e)
-job_size (a ∷ b ∷ c ∷ []) job e = absurd (none-some job e)
-job_size (a ∷ b ∷ c ∷ d ∷ []) job e = absurd (none-some job e)
-job_size (a ∷ b ∷ c ∷ d ∷ f ∷ []) job e = absurd (none-some job e)
-job_size (a ∷ b ∷ c ∷ d ∷ f ∷ h ∷ []) job e = absurd (none-some job e)
-job_size (command ∷ k ∷ netlist ∷ params ∷ script ∷ ports ∷ spares ∷ []) job e =
-    let form = bytes_eq command (codes "run") && (bytes_eq ports (codes "0") && bytes_eq spares (codes "0")) in
-    let made : Option JobWords = option_map (λ n. record { k = n; netlist = netlist; params = params; script = script }) (k_of k) in
-    size_of k job.k (mapped_size (k_of k) netlist params script job (some_then form made job e).1)
-job_size (a ∷ b ∷ c ∷ d ∷ f ∷ h ∷ i ∷ j ∷ rest) job e = absurd (none-some job e)
+pub run_size : (ports : ℕ) (words : List (List ℕ)) (run : RunWords) → run_of ports words ≡ Some run → 2 ≤ run.source.k
+run_size ports [] run e = absurd (none-some run e)
+run_size ports (a ∷ []) run e = absurd (none-some run e)
+run_size ports (a ∷ b ∷ []) run e = absurd (none-some run e)
+run_size ports (a ∷ b ∷ c ∷ []) run e = absurd (none-some run e)
+run_size ports (a ∷ b ∷ c ∷ d ∷ []) run e = absurd (none-some run e)
+run_size ports (a ∷ b ∷ c ∷ d ∷ f ∷ []) run e = absurd (none-some run e)
+run_size ports (a ∷ b ∷ c ∷ d ∷ f ∷ h ∷ []) run e = absurd (none-some run e)
+run_size ports (command ∷ k ∷ netlist ∷ params ∷ script ∷ serving ∷ spares ∷ []) run e =
+    let counts = counts_of ports (decimal_of serving) (decimal_of spares) in
+    let made = some_then (bytes_eq command (codes "run")) (run_words netlist params script (k_of k) counts) run e in
+    size_of k run.source.k (made_size netlist params script (k_of k) counts run made.1)
+run_size ports (a ∷ b ∷ c ∷ d ∷ f ∷ h ∷ i ∷ j ∷ rest) run e = absurd (none-some run e)
 
 -- each table of a mapping has few leaves
 few_leaves : (g : Aig) (k : ℕ) (t : Lut) → 2 ≤ k → IsTableOf g k t → HasFewLeaves g k t
@@ -71,77 +65,9 @@ few_leaves g k t big (free kind leaves) = record {
 }
 few_leaves g k t big (node is cut) = record { few = cut.few; each = λ m i. (cut.below m i).1 }
 
--- the output of a job that is done begins with its header
-header_of : (job : Job) (lines : List (List ℕ)) (before after : Option (List ℕ)) → AreLines job lines → after ≡ extended before (concat lines)
-    → HasHeader before after (length job.template.luts) job.template.bits job.template.depth
-header_of job lines before after are grew = record {
-  rest = concat (cycle_lines are.outputs are.states);
-  grew = grew ∙ ap (λ ls. extended before (concat ls)) are.all;
+pub least_mapping : (circuit : Source) (k : ℕ) (t : TemplateValue) → 2 ≤ k → (m : IsMapped circuit k t) → IsLeastMapping m.graph k (roots_of m.roots) t.luts t.bits t.depth
+least_mapping circuit k t big m = record {
+  mapping = m.chosen.mapping;
+  small = λ u i. few_leaves m.graph k u big (m.chosen.mapping.table u i);
+  least = m.chosen.least;
 }
-
-least_of : (files : Files) (words : List (List ℕ)) (before after : Option (List ℕ)) → HasDone files words before after → HasLeastDepth files words before after
-least_of files words before after h =
-    let lines = h.done.has in
-    let job = lines.job in
-    let mapped = lines.accepted.mapped in
-    record {
-      job = h.job;
-      graph = mapped.graph;
-      roots = mapped.roots;
-      of = record { is = h.is; source = job.source; has = lines.accepted.has; is_graph = mapped.is_graph };
-      luts = length job.template.luts;
-      bits = job.template.bits;
-      depth = job.template.depth;
-      header = header_of job h.done.lines before after lines.are h.done.grew;
-      is = mapped.chosen.least.least;
-    }
-
-small_of : (files : Files) (words : List (List ℕ)) (before after : Option (List ℕ)) → HasDone files words before after → HasSmallTables files words before after
-small_of files words before after h =
-    let lines = h.done.has in
-    let job = lines.job in
-    let mapped = lines.accepted.mapped in
-    record {
-      job = h.job;
-      graph = mapped.graph;
-      roots = mapped.roots;
-      of = record { is = h.is; source = job.source; has = lines.accepted.has; is_graph = mapped.is_graph };
-      tables = job.template.luts;
-      bits = job.template.bits;
-      depth = job.template.depth;
-      header = header_of job h.done.lines before after lines.are h.done.grew;
-      mapping = mapped.chosen.mapping;
-      small = λ t i. few_leaves mapped.graph h.job.k t (job_size words h.job h.is) (mapped.chosen.mapping.table t i);
-    }
-
--- another status is not done
-not_done : {A : Type 0} (s t : Status) → s ≡ t → (t ≡ status.Done → ⊥) → s ≡ status.Done → A
-not_done s t e other h = absurd (other (sym e ∙ h))
-
-refused_not_done : (limit : Bool) → cond limit status.Limit status.Refused ≡ status.Done → ⊥
-refused_not_done true k = cc
-refused_not_done false k = cc
-
--- a call that is done did its job
-done_is : (words : List (List ℕ)) (old new : ShelfSeen) (before after : Option (List ℕ)) (o : Outcome) (s : Status) → s ≡ status_of o → IsEnd words old new before after o
-    → s ≡ status.Done → Told old.files (λ files. HasDone files words before after)
-done_is words old new before after outcome.Done s e (inl u) h = absurd (differ u.is)
-  where
-    differ : outcome.Done ≡ outcome.Usage → ⊥
-    differ k = cc
-done_is words old new before after outcome.Done s e (inr run) h = λ files told. record { job = run.job; is = run.is; done = run.ends.1 files told }
-done_is words old new before after (outcome.TooLong f) s e end h = not_done s status.Limit e (λ k. cc) h
-done_is words old new before after (outcome.Refused f r) s e end h = not_done s (refusal_status r) e (λ k. refused_not_done (is_limit r) k) h
-done_is words old new before after (outcome.ReadFault f) s e end h = not_done s status.ReadFault e (λ k. cc) h
-done_is words old new before after outcome.Usage s e end h = not_done s status.Usage e (λ k. cc) h
-done_is words old new before after outcome.WriteFault s e end h = not_done s status.WriteFault e (λ k. cc) h
-done_is words old new before after outcome.PortFault s e end h = not_done s status.PortFault e (λ k. cc) h
-done_is words old new before after outcome.Memory s e end h = not_done s status.Memory e (λ k. cc) h
-
-pub least_is : (words : List (List ℕ)) (old new : ShelfSeen) (before after : Option (List ℕ)) (o : Outcome) (s : Status) → s ≡ status_of o → IsEnd words old new before after o
-    → s ≡ status.Done → Told old.files (λ files. HasLeastDepth files words before after)
-least_is words old new before after o s e end h files told = least_of files words before after (done_is words old new before after o s e end h files told)
-
-pub small_is : (words : List (List ℕ)) (old new : ShelfSeen) (before after : Option (List ℕ)) (o : Outcome) (s : Status) → s ≡ status_of o → IsEnd words old new before after o
-    → s ≡ status.Done → Told old.files (λ files. HasSmallTables files words before after)
-small_is words old new before after o s e end h files told = small_of files words before after (done_is words old new before after o s e end h files told)

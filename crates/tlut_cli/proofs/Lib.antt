@@ -1,17 +1,25 @@
-pub mod TextLemmas
-pub mod StopLemmas
-pub mod LineLemmas
-pub mod ScriptLemmas
-pub mod FileLemmas
-pub mod InputLemmas
-pub mod SourceLemmas
-pub mod ShowLemmas
-pub mod RunLemmas
-pub mod GraphLemmas
-pub mod EndLemmas
-pub mod PutLemmas
-pub mod SpacedLemmas
-pub mod DoneLemmas
-pub mod LeastLemmas
-pub mod ClashLemmas
-pub mod RefusedLemmas
+mod PutLemmas
+mod SpacedLemmas
+mod StopLemmas
+mod FileLemmas
+mod TextLemmas
+mod OnceLemmas
+mod GraphLemmas
+mod InputLemmas
+mod SourceLemmas
+mod ShowLemmas
+mod EndLemmas
+mod StationLemmas
+mod KeptLemmas
+mod StartLemmas
+mod ReadyLemmas
+mod PlayLemmas
+mod PortLemmas
+mod LeastLemmas
+mod ShownLemmas
+mod HeadlineLemmas
+mod ClashLemmas
+mod RefusedLemmas
+mod WalkLemmas
+mod CallLemmas
+mod RunLemmas

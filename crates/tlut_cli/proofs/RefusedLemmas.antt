@@ -1,111 +1,85 @@
--- A job is refused for one reason, so that reason is the answer where nothing fails.
-use Rattle.std.proofs.Common.{◌≡◌, ℕ, List, Option, Some, None, sym, ap, ◌∙◌, subst, inl, inr}
-use Rattle.std.proofs.lemmas.Option.{same_Some}
+-- Files are refused for one reason.
+use Rattle.std.proofs.Common.{◌≡◌, ℕ, List, sym, ◌∙◌, subst}
 use Rattle.tl_fault.specs.RefusalValue.{RefusalValue}
-use Rattle.tl_io.specs.Shelf.{Files, ShelfSeen}
-use Rattle.tlut_cli.specs.declared.netlist.Netlist.{Netlist as NetlistValue}
-use Rattle.tlut_cli.specs.declared.source.Source.{Source}
-use Rattle.tlut_cli.specs.SourceCircuit.{width_of}
+use Rattle.tl_io.specs.Shelf.{Files}
+use Rattle.run_text.specs.NamesValue.{NamesValue}
 use Rattle.tlut_cli.specs.Refusals.{too_long}
-use Rattle.tlut_cli.specs.Texts.{IsNetlistText, NetlistRefusal, IsParamsRefusal, ScriptRefusal}
-use Rattle.tlut_cli.specs.Words.{JobWords}
-use Rattle.tlut_cli.specs.Mapped.{IsMapped, IsUnmapped}
-use Rattle.tlut_cli.specs.Verdict.{HasText, IsOverlong, HasNetlist, HasSource, Passes, Reaches, IsRefused, overlong, netlist, params, mapping, script}
-use Rattle.tlut_cli.specs.Settled.{IsSettled}
-use Rattle.tlut_cli.specs.Call.{IsEnd, IsAnswered}
-use Rattle.tlut_cli.specs.Statuses.{status_of, refusal_status}
-use Rattle.tlut_cli.specs.declared.outcome.File.{File}
-use Rattle.tlut_cli.specs.declared.outcome.File.TheVariants as file
-use Rattle.tlut_cli.specs.declared.outcome.Outcome.{Outcome}
-use Rattle.tlut_cli.specs.declared.outcome.Outcome.TheVariants as outcome
-use Rattle.tlut_cli.specs.declared.status.Status.{Status}
-use Rattle.tlut_cli.proofs.EndLemmas.{netlist_once, source_once}
+use Rattle.tlut_cli.specs.declared.ends.outcome.File.{File}
+use Rattle.tlut_cli.specs.declared.stations.netlist.Netlist.{Netlist as NetlistValue}
+use Rattle.tlut_cli.specs.declared.stations.source.Source.{Source}
+use Rattle.tlut_cli.specs.Stations.Words.{SourceWords}
+use Rattle.tlut_cli.specs.Stations.Texts.{HasText, IsOverlong, NetlistRefusal, IsParamsRefusal, IsScriptRefusal}
+use Rattle.tlut_cli.specs.Stations.Mapped.{IsUnmapped}
+use Rattle.tlut_cli.specs.Stations.Source.{HasNetlist, HasSource, IsSourceRefused, long_netlist, netlist, long_params, params, mapping}
+use Rattle.tlut_cli.specs.Stations.Script.{IsScriptRefused, IsScriptSettled}
+use Rattle.tlut_cli.specs.Stations.Script as script
+use Rattle.tlut_cli.specs.Stations.Settled.{IsSourceSettled}
 use Rattle.tlut_cli.proofs.FileLemmas.{text_once, short_or_long}
-use Rattle.tlut_cli.proofs.ClashLemmas.{list_or_not, accepted_not_refused}
 use Rattle.tlut_cli.proofs.TextLemmas.{params_refused_once, script_refused_once}
+use Rattle.tlut_cli.proofs.OnceLemmas.{netlist_once, settled_once}
+use Rattle.tlut_cli.proofs.ClashLemmas.{read_or_not, list_or_not}
 
--- a netlist that was read isn't too long
-netlist_short : (files : Files) (job : JobWords) (n : NetlistValue) → HasNetlist files job n → IsOverlong files job file.Netlist → ⊥
-netlist_short files job n has long = short_or_long files job file.Netlist has.text has.there long
+module _ (files : Files) (words : SourceWords) (settled : IsSourceSettled files words) where
+  netlist_short : {A : Type 0} (n : NetlistValue) → HasNetlist files words n → IsOverlong files words.netlist → A
+  netlist_short n has long = absurd (short_or_long files words.netlist has.text has.there long)
 
--- the netlist is read or refused
-read_or_not : (files : Files) (job : JobWords) (n : NetlistValue) (text : List ℕ) (r : RefusalValue) → IsSettled files job → HasNetlist files job n → HasText files job file.Netlist text → NetlistRefusal text r → ⊥
-read_or_not files job n text r settled has there refused =
-    (settled.netlist text there).not_both n r (subst (λ ts. IsNetlistText ts n) (text_once files job file.Netlist has.text text has.there there) has.is) refused
+  -- a netlist that is too long is refused for that
+  netlist_long : (f : File) (r : RefusalValue) → IsOverlong files words.netlist → IsSourceRefused files words f r → r ≡ too_long
+  netlist_long f r long (long_netlist at again is) = is
+  netlist_long f r long (netlist at text there refused) = absurd (short_or_long files words.netlist text there long)
+  netlist_long f r long (long_params at n has other is) = netlist_short n has long
+  netlist_long f r long (params at n text has there refused) = netlist_short n has long
+  netlist_long f r long (mapping at source has u) = netlist_short source.netlist has.netlist long
 
--- the walk comes past the mapping or it doesn't
-mapped_or_not : (files : Files) (job : JobWords) (a b : Source) (r : RefusalValue) → IsSettled files job → Passes files job a → HasSource files job b → IsUnmapped b job.k r → ⊥
-mapped_or_not files job a b r settled passes has u =
-    let same : a ≡ b = source_once files job a b settled.netlist (settled.params b.netlist has.netlist) passes.has has in
-    (settled.mapping b has).not_both passes.template r (subst (λ (x : Source). IsMapped x job.k passes.template) same passes.mapped) u
+  -- one that is refused for what it says, for that
+  netlist_refused : (f : File) (text : List ℕ) (r s : RefusalValue) → HasText files words.netlist text → NetlistRefusal text s → IsSourceRefused files words f r → r ≡ s
+  netlist_refused f text r s there refused (long_netlist at long is) = absurd (short_or_long files words.netlist text there long)
+  netlist_refused f text r s there refused (netlist at other has first) =
+      (settled.netlist text there).one_refusal r s (subst (λ ts. NetlistRefusal ts r) (text_once files words.netlist other text has there) first) refused
+  netlist_refused f text r s there refused (long_params at n has other is) = absurd (read_or_not files words settled n text s has there refused)
+  netlist_refused f text r s there refused (params at n other has has_list bad) = absurd (read_or_not files words settled n text s has there refused)
+  netlist_refused f text r s there refused (mapping at source has u) = absurd (read_or_not files words settled source.netlist text s has.netlist there refused)
 
--- where a file that the walk reaches is too long, there is no other refusal
-overlong_clash : (files : Files) (job : JobWords) (f e : File) (s : RefusalValue) → IsSettled files job → Reaches files job f → IsOverlong files job f → IsRefused files job e s → s ≡ too_long
-overlong_clash files job f e s settled reach long (overlong again other is) = is
-overlong_clash files job file.Netlist e s settled reach long (netlist at text there refused) = absurd (short_or_long files job file.Netlist text there long)
-overlong_clash files job file.Netlist e s settled reach long (params at n text has there refused) = absurd (netlist_short files job n has long)
-overlong_clash files job file.Netlist e s settled reach long (mapping at source has u) = absurd (netlist_short files job source.netlist has.netlist long)
-overlong_clash files job file.Netlist e s settled reach long (script at source text passes there refused) = absurd (netlist_short files job source.netlist passes.has.netlist long)
-overlong_clash files job file.Params e s settled reach long (netlist at text there refused) = absurd (read_or_not files job reach.0 text s settled reach.1 there refused)
-overlong_clash files job file.Params e s settled reach long (params at n text has there refused) = absurd (short_or_long files job file.Params text there long)
-overlong_clash files job file.Params e s settled reach long (mapping at source has u) = absurd (short_or_long files job file.Params has.params.text has.params.there long)
-overlong_clash files job file.Params e s settled reach long (script at source text passes there refused) = absurd (short_or_long files job file.Params passes.has.params.text passes.has.params.there long)
-overlong_clash files job file.Script e s settled reach long (netlist at text there refused) = absurd (read_or_not files job reach.0.netlist text s settled reach.1.has.netlist there refused)
-overlong_clash files job file.Script e s settled reach long (params at n text has there refused) = absurd (list_or_not files job reach.0 n text s settled reach.1.has has there refused)
-overlong_clash files job file.Script e s settled reach long (mapping at source has u) = absurd (mapped_or_not files job reach.0 source s settled reach.1 has u)
-overlong_clash files job file.Script e s settled reach long (script at source text passes there refused) = absurd (short_or_long files job file.Script text there long)
+  -- a list that is too long, behind a netlist that is read
+  params_long : (f : File) (n : NetlistValue) (r : RefusalValue) → HasNetlist files words n → IsOverlong files words.params → IsSourceRefused files words f r → r ≡ too_long
+  params_long f n r has long (long_netlist at other is) = is
+  params_long f n r has long (netlist at text there refused) = absurd (read_or_not files words settled n text r has there refused)
+  params_long f n r has long (long_params at m own other is) = is
+  params_long f n r has long (params at m text own there refused) = absurd (short_or_long files words.params text there long)
+  params_long f n r has long (mapping at source own u) = absurd (short_or_long files words.params own.params.text own.params.there long)
 
--- A job is refused for one reason.
-pub refused_once : (files : Files) (job : JobWords) (f e : File) (r s : RefusalValue) → IsSettled files job → IsRefused files job f r → IsRefused files job e s → r ≡ s
-refused_once files job f e r s settled (overlong reach long is) other = is ∙ sym (overlong_clash files job f e s settled reach long other)
-refused_once files job f e r s settled one (overlong reach long is) = overlong_clash files job e f r settled reach long one ∙ sym is
-refused_once files job f e r s settled (netlist at text there refused) (netlist at2 text2 there2 refused2) =
-    (settled.netlist text2 there2).one_refusal r s (subst (λ ts. NetlistRefusal ts r) (text_once files job file.Netlist text text2 there there2) refused) refused2
-refused_once files job f e r s settled (netlist at text there refused) (params at2 n text2 has there2 refused2) = absurd (read_or_not files job n text r settled has there refused)
-refused_once files job f e r s settled (netlist at text there refused) (mapping at2 source has u) = absurd (read_or_not files job source.netlist text r settled has.netlist there refused)
-refused_once files job f e r s settled (netlist at text there refused) (script at2 source text2 passes there2 refused2) = absurd (read_or_not files job source.netlist text r settled passes.has.netlist there refused)
-refused_once files job f e r s settled (params at n text has there refused) (netlist at2 text2 there2 refused2) = absurd (read_or_not files job n text2 s settled has there2 refused2)
-refused_once files job f e r s settled (params at n text has there refused) (params at2 m text2 has2 there2 refused2) =
-    let same : n ≡ m = netlist_once files job n m settled.netlist has has2 in
-    let here : IsParamsRefusal m.flat text2 r = subst (λ (x : NetlistValue). IsParamsRefusal x.flat text2 r) same (subst (λ ts. IsParamsRefusal n.flat ts r) (text_once files job file.Params text text2 there there2) refused) in
-    params_refused_once m.flat text2 r s (settled.params m has2 text2 there2) here refused2
-refused_once files job f e r s settled (params at n text has there refused) (mapping at2 source owns u) = absurd (list_or_not files job source n text r settled owns has there refused)
-refused_once files job f e r s settled (params at n text has there refused) (script at2 source text2 passes there2 refused2) = absurd (list_or_not files job source n text r settled passes.has has there refused)
-refused_once files job f e r s settled (mapping at source has u) (netlist at2 text2 there2 refused2) = absurd (read_or_not files job source.netlist text2 s settled has.netlist there2 refused2)
-refused_once files job f e r s settled (mapping at source has u) (params at2 n text own there refused2) = absurd (list_or_not files job source n text s settled has own there refused2)
-refused_once files job f e r s settled (mapping at source has u) (mapping at2 other has2 v) =
-    let same : source ≡ other = source_once files job source other settled.netlist (settled.params other.netlist has2.netlist) has has2 in
-    (settled.mapping other has2).one_refusal r s (subst (λ (x : Source). IsUnmapped x job.k r) same u) v
-refused_once files job f e r s settled (mapping at source has u) (script at2 other text passes there refused2) = absurd (mapped_or_not files job other source r settled passes has u)
-refused_once files job f e r s settled (script at source text passes there refused) (netlist at2 text2 there2 refused2) = absurd (read_or_not files job source.netlist text2 s settled passes.has.netlist there2 refused2)
-refused_once files job f e r s settled (script at source text passes there refused) (params at2 n text2 own there2 refused2) = absurd (list_or_not files job source n text2 s settled passes.has own there2 refused2)
-refused_once files job f e r s settled (script at source text passes there refused) (mapping at2 other has u) = absurd (mapped_or_not files job source other s settled passes has u)
-refused_once files job f e r s settled (script at source text passes there refused) (script at2 other text2 passes2 there2 refused2) =
-    let same : text ≡ text2 = text_once files job file.Script text text2 there there2 in
-    let one : source ≡ other = source_once files job source other settled.netlist (settled.params other.netlist passes2.has.netlist) passes.has passes2.has in
-    script_refused_once (width_of other) text2 r s (subst (λ (i : Source). ScriptRefusal (width_of i) text2 r) one (subst (λ ts. ScriptRefusal (width_of source) ts r) same refused)) refused2
+  -- one that is refused for what it says
+  params_refused : (f : File) (n : NetlistValue) (text : List ℕ) (r s : RefusalValue) → HasNetlist files words n → HasText files words.params text → IsParamsRefusal n.flat text s → IsSourceRefused files words f r → r ≡ s
+  params_refused f n text r s has there refused (long_netlist at long is) = netlist_short n has long
+  params_refused f n text r s has there refused (netlist at other own bad) = absurd (read_or_not files words settled n other r has own bad)
+  params_refused f n text r s has there refused (long_params at m own long is) = absurd (short_or_long files words.params text there long)
+  params_refused f n text r s has there refused (params at m other own there2 bad) =
+      let same : m ≡ n = netlist_once files words m n settled.netlist own has in
+      let here : IsParamsRefusal n.flat text r = subst (λ (x : NetlistValue). IsParamsRefusal x.flat text r) same (subst (λ ts. IsParamsRefusal m.flat ts r) (text_once files words.params other text there2 there) bad) in
+      params_refused_once n.flat text r s (settled.params n has text there) here refused
+  params_refused f n text r s has there refused (mapping at source own u) = absurd (list_or_not files words settled source n text s own has there refused)
 
--- So the refusal is answered where no read fails and memory suffices.
-pub refused_answered : (words : List (List ℕ)) (old new : ShelfSeen) (before after : Option (List ℕ)) (o : Outcome) (s : Status) → s ≡ status_of o → IsEnd words old new before after o → IsAnswered words old new s
-refused_answered words old new before after o s e (inl u) files told job is f r refused read = absurd (none_some (sym u.no_job ∙ is))
-  where
-    none_some : None ≡ Some job → ⊥
-    none_some k = cc
-refused_answered words old new before after outcome.Usage s e (inr run) files told job is f r refused read = absurd run.ends
-refused_answered words old new before after outcome.PortFault s e (inr run) files told job is f r refused read = absurd run.ends
-refused_answered words old new before after outcome.Memory s e (inr run) files told job is f r refused read = inr e
-refused_answered words old new before after (outcome.ReadFault g) s e (inr run) files told job is f r refused read = absurd (read run.ends.0.fault.rose)
-refused_answered words old new before after outcome.Done s e (inr run) files told job is f r refused read =
-    let same : job ≡ run.job = same_Some job run.job (sym is ∙ run.is) in
-    let has = (run.ends.1 files told).has in
-    absurd (accepted_not_refused files run.job has.job f r has.settled has.accepted (subst (λ j. IsRefused files j f r) same refused))
-refused_answered words old new before after outcome.WriteFault s e (inr run) files told job is f r refused read =
-    let same : job ≡ run.job = same_Some job run.job (sym is ∙ run.is) in
-    let has = (run.ends.1 files told).has in
-    absurd (accepted_not_refused files run.job has.job f r has.settled has.accepted (subst (λ j. IsRefused files j f r) same refused))
-refused_answered words old new before after (outcome.Refused g q) s e (inr run) files told job is f r refused read =
-    let same : job ≡ run.job = same_Some job run.job (sym is ∙ run.is) in
-    inl (e ∙ ap (λ x. refusal_status x) (refused_once files run.job g f q r (run.ends.0.settled files told) (run.ends.0.is files told) (subst (λ j. IsRefused files j f r) same refused)))
-refused_answered words old new before after (outcome.TooLong g) s e (inr run) files told job is f r refused read =
-    let same : job ≡ run.job = same_Some job run.job (sym is ∙ run.is) in
-    inl (e ∙ ap (λ x. refusal_status x) (refused_once files run.job g f too_long r (run.ends.0.settled files told) (run.ends.0.is files told) (subst (λ j. IsRefused files j f r) same refused)))
+  -- and a mapping that is
+  mapping_refused : (f : File) (source : Source) (r s : RefusalValue) → HasSource files words source → IsUnmapped source words.k s → IsSourceRefused files words f r → r ≡ s
+  mapping_refused f source r s has u (long_netlist at long is) = netlist_short source.netlist has.netlist long
+  mapping_refused f source r s has u (netlist at text there refused) = absurd (read_or_not files words settled source.netlist text r has.netlist there refused)
+  mapping_refused f source r s has u (long_params at n own long is) = absurd (short_or_long files words.params has.params.text has.params.there long)
+  mapping_refused f source r s has u (params at n text own there refused) = absurd (list_or_not files words settled source n text r has own there refused)
+  mapping_refused f source r s has u (mapping at other own v) =
+      (settled.mapping source has).one_refusal r s (subst (λ x. IsUnmapped x words.k r) (settled_once files words other source settled own has) v) u
+
+  -- So a source circuit is refused for one reason.
+  pub source_refused_once : (f e : File) (r s : RefusalValue) → IsSourceRefused files words f r → IsSourceRefused files words e s → r ≡ s
+  source_refused_once f e r s one (long_netlist at long is) = netlist_long f r long one ∙ sym is
+  source_refused_once f e r s one (netlist at text there refused) = netlist_refused f text r s there refused one
+  source_refused_once f e r s one (long_params at n has long is) = params_long f n r has long one ∙ sym is
+  source_refused_once f e r s one (params at n text has there refused) = params_refused f n text r s has there refused one
+  source_refused_once f e r s one (mapping at source has u) = mapping_refused f source r s has u one
+
+-- and so is a script
+pub events_refused_once : (files : Files) (name : List ℕ) (names : NamesValue) (f e : File) (r s : RefusalValue) → IsScriptSettled files name names → IsScriptRefused files name names f r → IsScriptRefused files name names e s → r ≡ s
+events_refused_once files name names f e r s settled (script.IsScriptRefused.long at long is) (script.IsScriptRefused.long at2 long2 is2) = is ∙ sym is2
+events_refused_once files name names f e r s settled (script.IsScriptRefused.long at long is) (script.IsScriptRefused.text at2 ts there refused) = absurd (short_or_long files name ts there long)
+events_refused_once files name names f e r s settled (script.IsScriptRefused.text at ts there refused) (script.IsScriptRefused.long at2 long is) = absurd (short_or_long files name ts there long)
+events_refused_once files name names f e r s settled (script.IsScriptRefused.text at ts there refused) (script.IsScriptRefused.text at2 ts2 there2 refused2) =
+    script_refused_once names ts2 r s (settled ts2 there2) (subst (λ xs. IsScriptRefusal names xs r) (text_once files name ts ts2 there there2) refused) refused2

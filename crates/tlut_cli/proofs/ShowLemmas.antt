@@ -1,8 +1,7 @@
--- A circuit over a source circuit's graph shows the source circuit's cycles.
-use Rattle.std.proofs.Common.{◌≡◌, ℕ, ◌+◌, ◌^◌, ◌≤◌, Bool, List, [], ◌∷◌, ◌++◌, length, map, refl, sym, ap, ◌∙◌, subst, arith}
+-- The tables of a source circuit's graph, under the configuration of any values of the parameters, play the source circuit's cycles.
+use Rattle.std.proofs.Common.{◌≡◌, ℕ, ◌+◌, Bool, List, ◌∷◌, ◌++◌, length, map, sym, ap, ◌∙◌, subst, subst₂, arith}
 use Rattle.std.proofs.lemmas.List.{length-map, length-append}
-use Rattle.std.proofs.lemmas.List.Sums.{sum_by-cons}
-use Rattle.std.proofs.Math.Nat.{one-le-pow}
+use Rattle.std.proofs.lemmas.Simd.{map-map}
 use Rattle.list_laws.specs.Members.{In}
 use Rattle.list_laws.proofs.Members.{In-left, In-right}
 use Rattle.tl_text.specs.Once.{AreOnce}
@@ -11,10 +10,10 @@ use Rattle.blif_flat.specs.declared.flat.FlatLatch.{FlatLatch}
 use Rattle.blif_flat.specs.declared.flat.Net.{Net}
 use Rattle.blif_flat.specs.declared.flat.OutPort.{OutPort}
 use Rattle.blif_flat.specs.FlatValue.{FlatValue}
-use Rattle.blif_flat.specs.FlatCycle.{flat_inits}
 use Rattle.blif_flat.specs.Runs.{IsCycle}
 use Rattle.run_text.specs.declared.params.Param.{Param}
-use Rattle.run_text.specs.Parameters.{AreParameters, param_inits}
+use Rattle.run_text.specs.Parameters.{param_inits}
+use Rattle.run_text.proofs.RegularLemmas.{is_split}
 use Rattle.aig_core.specs.declared.lit.Lit.{Lit}
 use Rattle.aig_core.specs.declared.lit.Pair.{Pair}
 use Rattle.aig_core.specs.Aig.{Aig, first_and, AreNormal}
@@ -26,37 +25,23 @@ use Rattle.aig_build.specs.NetlistGraph.{MakesAll, none, more, input_names}
 use Rattle.aig_build.specs.NetlistCycle.{source_values, literal_values}
 use Rattle.cover_pick.specs.declared.lut.Lut.{Lut}
 use Rattle.cover_pick.specs.Template.{TemplateValue}
-use Rattle.cover_pick.specs.Mapping.{bits_of}
-use Rattle.lut_sim.specs.declared.shape.Shape.{Shape}
 use Rattle.lut_sim.specs.Cycle.{FitsTables}
+use Rattle.ppc_pack.specs.Pack.{PackValue, inits_of}
+use Rattle.bit_fun.specs.Configuration.{IsMapped}
 use Rattle.bit_fun.specs.Lawful.{IsLawful}
-use Rattle.bit_fun.specs.Configuration.{IsMapped, IsConfiguration}
-use Rattle.tlut_cli.specs.declared.circuit.Circuit.{Circuit}
-use Rattle.tlut_cli.specs.declared.source.Source.{Source}
-use Rattle.tlut_cli.specs.ReadNetlist.{IsReadNetlist}
-use Rattle.tlut_cli.specs.SourceCircuit.{width_of}
-use Rattle.tlut_cli.specs.SourceCycles.{input_at, PlaysSource}
-use Rattle.tlut_cli.specs.Circuit.{shape_of, HasTables, IsAssembled}
-use Rattle.tlut_cli.proofs.InputLemmas.{inputs_once}
-use Rattle.tlut_cli.proofs.SourceLemmas.{source_shape, source_values_are, source_values_count}
-
--- there are no more tables than bits
-tables_fit : (ts : List Lut) → length ts ≤ bits_of ts
-tables_fit [] = omega arith
-tables_fit (t ∷ ts) =
-    let s : bits_of (t ∷ ts) ≡ 2 ^ length t.leaves + bits_of ts = sum_by-cons (λ (u : Lut). 2 ^ length u.leaves) t ts in
-    let p : 1 ≤ 2 ^ length t.leaves = one-le-pow (length t.leaves) 2 (omega arith) in
-    let r : length ts ≤ bits_of ts = tables_fit ts in omega arith
-
-pub tables_within_bits : (source : Source) (g : Aig) (t : TemplateValue) → HasTables source g t → length t.luts ≤ t.bits
-tables_within_bits source g t h =
-    let sum : t.bits ≡ bits_of t.luts = h.chosen.mapping.sum in
-    let fit : length t.luts ≤ bits_of t.luts = tables_fit t.luts in
-    omega arith
+use Rattle.bit_fun.specs.PackLaw.{HasConfigurations}
+use Rattle.bit_fun.specs.PackOf.{pack_param, IsPackOf}
+use Rattle.bit_fun.proofs.PackLemmas.{pack_made}
+use Rattle.tlut_cli.specs.declared.stations.source.Source.{Source}
+use Rattle.tlut_cli.specs.Stations.SourceCircuit.{width_of, shape_of}
+use Rattle.tlut_cli.specs.Stations.Tables.{HasTables, IsReadSource}
+use Rattle.tlut_cli.specs.Stations.Tunable.{HasSourceTables}
+use Rattle.tlut_cli.proofs.InputLemmas.{input_at, parts_are}
+use Rattle.tlut_cli.proofs.SourceLemmas.{source_shape, source_params, source_values_are, source_values_count}
 
 -- the inputs of a source circuit that was read stand once
-pub names_once : (source : Source) → IsReadNetlist source.netlist → AreParameters source.netlist.flat source.params.list → AreOnce (input_names source.netlist.flat source.params.list)
-names_once source read params = inputs_once source.netlist.flat source.params.list read.bounds.inputs_once params.named.once
+names_once : (source : Source) → IsReadSource source → AreOnce (input_names source.netlist.flat source.params.list)
+names_once source read = (is_split source.netlist.flat source.params.list read.netlist.bounds.inputs_once read.params).once
 
 -- its tables map its graph
 pub tables_mapped : (source : Source) (g : Aig) (t : TemplateValue) → HasTables source g t → IsMapped g t.luts
@@ -95,52 +80,52 @@ next_count source g t h =
     let n : length t.next ≡ length h.roots.next = ap (λ (ls : List Lit). length ls) h.chosen.chosen.next in
     omega arith
 
--- a cycle of the tables is the source circuit's
-module _ (source : Source) (read : IsReadNetlist source.netlist) (params : AreParameters source.netlist.flat source.params.list) (g : Aig) (normal : AreNormal (first_and g) g.pairs)
-    (t : TemplateValue) (h : HasTables source g t) (config : List Bool) (law : IsLawful g t.luts (param_inits source.params.list) config) where
-  -- the values of a cycle: of the inputs by their names, and of the graph
-  values_in : (vector s : List Bool) → length s ≡ length source.netlist.flat.latches → HasOneFit g (source_values source.netlist.flat source.params.list (input_at source vector) s)
-  values_in vector s states = one_fit g (source_values source.netlist.flat source.params.list (input_at source vector) s) normal (source_values_count source g vector s h.is_graph.kinds states)
+-- the pack of tables has the parameters of the list, and a bit of it for each bit of the template
+pub pack_params : (g : Aig) (luts : List Lut) (list : List Param) (pack : PackValue) → IsPackOf g luts list pack → length pack.params ≡ length list
+pack_params g luts list pack is = ap length is.params_are ∙ length-map list pack_param
 
-  table_values : (vector s : List Bool) → length vector ≡ width_of source → (states : length s ≡ length source.netlist.flat.latches) → FitsTables t.luts (shape_of source) config vector s (value_of (values_in vector s states).values)
-  table_values vector s len states =
-      law (shape_of source) vector s (source_values source.netlist.flat source.params.list (input_at source vector) s) (values_in vector s states).values
-      (source_shape source g h.is_graph.kinds) (source_values_are source vector s (names_once source read params) len states) (values_in vector s states).fits
+pub pack_inits : (g : Aig) (luts : List Lut) (list : List Param) (pack : PackValue) → IsPackOf g luts list pack → inits_of pack.params ≡ param_inits list
+pack_inits g luts list pack is = ap inits_of is.params_are ∙ map-map (λ p. p.init) pack_param list
 
-  cycle_in : (vector s : List Bool) → (states : length s ≡ length source.netlist.flat.latches)
-      → IsCycle source.netlist.library (input_at source vector) s (literal_values (values_in vector s states).values h.roots.outputs) (literal_values (values_in vector s states).values h.roots.next)
-  cycle_in vector s states = h.cycles.is_cycle (input_at source vector) s (values_in vector s states).values states (values_in vector s states).fits
+pub pack_bits : (source : Source) (g : Aig) (t : TemplateValue) (pack : PackValue) → HasTables source g t → IsPackOf g t.luts source.params.list pack → length pack.bits ≡ t.bits
+pack_bits source g t pack h is =
+    let list = source.params.list in
+    ap length is.bits ∙ (pack_made g t.luts list (param_inits list) is.made (tables_mapped source g t h) (source_params source g h.is_graph.kinds) (length-map list (λ (p : Param). p.init)) is.makes).count ∙ sym h.chosen.mapping.sum
 
-  pub tables_play : PlaysSource source t (shape_of source) config
-  tables_play = record {
-    regular = refl;
-    latches = refl;
-    plays = λ vector s outputs next len states only.
-        let value = value_of (values_in vector s states).values in (
-          only.outputs_are value (table_values vector s len states)
-              ∙ ap (λ ls. map value (lits_of ls)) h.chosen.chosen.outputs
-              ∙ read.cycles.outputs (input_at source vector) s _ _ (cycle_in vector s states),
-          only.next_are value (table_values vector s len states)
-              ∙ ap (λ ls. map value (lits_of ls)) h.chosen.chosen.next
-              ∙ read.cycles.states (input_at source vector) s _ _ (cycle_in vector s states),
-        );
-  }
+-- a cycle of the tables is the source circuit's, under any values of the parameters
+module _ (source : Source) (read : IsReadSource source) (g : Aig) (normal : AreNormal (first_and g) g.pairs) (t : TemplateValue) (h : HasTables source g t) where
+  -- the values of the sources, and of the graph
+  abbrev sources : (List ℕ → Bool) → List Bool → List Bool
+  sources x s = source_values source.netlist.flat source.params.list x s
 
-  -- so the circuit of the template is that of the source circuit
-  pub is_assembled : (c : Circuit) → IsConfiguration g t.luts (param_inits source.params.list) config → c.config.items ≡ config → c.width ≡ width_of source → c.luts ≡ length t.luts → c.bits ≡ t.bits → c.depth ≡ t.depth
-      → c.sim.template ≡ t → c.sim.shape ≡ shape_of source → c.sim.states ≡ flat_inits source.netlist.flat → IsAssembled source t c
-  is_assembled c bits ec ew el eb ed et es est = record {
-    width = ew;
-    luts = el;
-    bits = eb;
-    depth = ed;
-    can_play = record {
-      config_len = ap length ec ∙ bits.count ∙ sym (h.chosen.mapping).sum ∙ ap (λ (v : TemplateValue). v.bits) (sym et);
-      states_len = ap length est ∙ length-map source.netlist.flat.latches (λ (l : FlatLatch). l.init) ∙ ap (λ (v : Shape). v.latches) (sym es);
-    };
-    inits = est;
-    shows =
-        subst (λ (v : List Bool). PlaysSource source c.sim.template c.sim.shape v) (sym ec)
-        (subst (λ (v : Shape). PlaysSource source c.sim.template v config) (sym es)
-        (subst (λ (v : TemplateValue). PlaysSource source v (shape_of source) config) (sym et) tables_play));
+  values_in : (x : List ℕ → Bool) (s : List Bool) → length s ≡ length source.netlist.flat.latches → HasOneFit g (sources x s)
+  values_in x s states = one_fit g (sources x s) normal (source_values_count source g x s h.is_graph.kinds states)
+
+  cycle_in : (x : List ℕ → Bool) (s : List Bool) → (states : length s ≡ length source.netlist.flat.latches)
+      → IsCycle source.netlist.library x s (literal_values (values_in x s states).values h.roots.outputs) (literal_values (values_in x s states).values h.roots.next)
+  cycle_in x s states = h.cycles.is_cycle x s (values_in x s states).values states (values_in x s states).fits
+
+  table_values : (params config values s : List Bool) → IsLawful g t.luts params config → length params ≡ length source.params.list → length values ≡ width_of source → (states : length s ≡ length source.netlist.flat.latches)
+      → FitsTables t.luts (shape_of source) config values s (value_of (values_in (input_at source params values) s states).values)
+  table_values params config values s law params_len len states =
+      let x = input_at source params values in
+      law (shape_of source) values s (sources x s) (values_in x s states).values (source_shape source g h.is_graph.kinds) (source_values_are source params values s (names_once source read) params_len len states)
+      (values_in x s states).fits
+
+  pub tables_play : (pack : PackValue) → IsPackOf g t.luts source.params.list pack → HasConfigurations g t.luts pack → HasSourceTables source t pack
+  tables_play pack is conf = record {
+    cycles = λ params config values s outputs next params_len is_conf len states only.
+        let x = input_at source params values in
+        let parts = parts_are source (names_once source read) params values params_len len in
+        let graph : List Bool = (values_in x s states).values in
+        let law : IsLawful g t.luts params config = conf.law params config (params_len ∙ sym (pack_params g t.luts source.params.list pack is)) is_conf in
+        let fits = table_values params config values s law params_len len states in
+        let outputs_are : outputs ≡ literal_values graph h.roots.outputs = only.outputs_are (value_of graph) fits ∙ ap (λ ls. literal_values graph ls) h.chosen.chosen.outputs in
+        let next_are : next ≡ literal_values graph h.roots.next = only.next_are (value_of graph) fits ∙ ap (λ ls. literal_values graph ls) h.chosen.chosen.next in
+        record {
+          x = x;
+          regular = parts.0;
+          parameters = parts.1;
+          cycle = subst₂ (IsCycle source.netlist.library x s) (sym outputs_are) (sym next_are) (cycle_in x s states);
+        };
   }

@@ -8,7 +8,7 @@ use Rattle.list_laws.proofs.Places.{get_left, replicate_at}
 use Rattle.list_laws.proofs.TwoLists.{get_right}
 use Rattle.tl_text.specs.Once.{AreOnce}
 use Rattle.run_text.specs.declared.params.Param.{Param}
-use Rattle.run_text.specs.Parameters.{param_names, param_inits, regular_names}
+use Rattle.run_text.specs.Parameters.{param_names, regular_names}
 use Rattle.aig_core.specs.declared.lit.Kind.{Kind}
 use Rattle.aig_core.specs.declared.lit.Kind.TheVariants.{Regular, Parameter}
 use Rattle.aig_core.specs.Aig.{Aig}
@@ -18,11 +18,9 @@ use Rattle.lut_sim.specs.declared.shape.Shape.{Shape}
 use Rattle.lut_sim.specs.Sources.{is_regular, last_source}
 use Rattle.lut_sim.specs.GraphShape.{HasShape, AreSourceValues}
 use Rattle.bit_fun.specs.Parameters.{param_count}
-use Rattle.tlut_cli.specs.declared.source.Source.{Source}
-use Rattle.tlut_cli.specs.SourceCircuit.{width_of}
-use Rattle.tlut_cli.specs.SourceCycles.{input_at}
-use Rattle.tlut_cli.specs.Circuit.{shape_of}
-use Rattle.tlut_cli.proofs.InputLemmas.{inputs_are}
+use Rattle.tlut_cli.specs.declared.stations.source.Source.{Source}
+use Rattle.tlut_cli.specs.Stations.SourceCircuit.{width_of, shape_of}
+use Rattle.tlut_cli.proofs.InputLemmas.{input_at, inputs_are}
 
 -- regular sources, parameters, and regular sources again
 abbrev three : ℕ → ℕ → ℕ → List Kind
@@ -109,6 +107,13 @@ regular_there r p l n a h = go (part_of r p (n - 1))
         let c : length (three r p l) ≡ r + p + l = three_count r p l in
         let w : n - 1 < length (three r p l) = within in a_latch (omega arith) (omega arith)
 
+-- a shape with a source circuit's numbers is its shape
+pub shape_is : (source : Source) (shape : Shape) → shape.regular ≡ width_of source → shape.params ≡ length source.params.list → shape.latches ≡ length source.netlist.flat.latches → shape ≡ shape_of source
+shape_is source shape regular params latches =
+    ap (λ r. record { regular = r; params = shape.params; latches = shape.latches }) regular
+    ∙ ap (λ p. record { regular = width_of source; params = p; latches = shape.latches }) params
+    ∙ ap (λ l. record { regular = width_of source; params = length source.params.list; latches = l }) latches
+
 -- the shape of the graph's sources
 pub source_shape : (source : Source) (g : Aig) → g.kinds ≡ source_kinds source.netlist.flat source.params.list → HasShape g (shape_of source)
 source_shape source g kinds = record {
@@ -148,19 +153,18 @@ source_params source g kinds =
     omega arith
 
 -- the values of the sources in a cycle
-pub source_values_are : (source : Source) (vector s : List Bool) → AreOnce (input_names source.netlist.flat source.params.list) → length vector ≡ width_of source → length s ≡ length source.netlist.flat.latches
-    → AreSourceValues (shape_of source) vector (param_inits source.params.list) s (source_values source.netlist.flat source.params.list (input_at source vector) s)
-source_values_are source vector s once len states = record {
+pub source_values_are : (source : Source) (params values s : List Bool) → AreOnce (input_names source.netlist.flat source.params.list) → length params ≡ length source.params.list → length values ≡ width_of source
+    → length s ≡ length source.netlist.flat.latches → AreSourceValues (shape_of source) values params s (source_values source.netlist.flat source.params.list (input_at source params values) s)
+source_values_are source params values s once params_len len states = record {
   inputs_len = len;
-  params_len = length-map source.params.list (λ (p : Param). p.init);
+  params_len = params_len;
   states_len = states;
-  all = ap (λ vs. vs ++ s) (inputs_are source once vector len) ∙ append_assoc vector (param_inits source.params.list) s;
+  all = ap (λ vs. vs ++ s) (inputs_are source once params values params_len len) ∙ append_assoc values params s;
 }
 
-pub source_values_count : (source : Source) (g : Aig) (vector s : List Bool) → g.kinds ≡ source_kinds source.netlist.flat source.params.list → length s ≡ length source.netlist.flat.latches
-    → length (source_values source.netlist.flat source.params.list (input_at source vector) s) ≡ length g.kinds
-source_values_count source g vector s kinds states =
-    let x = input_at source vector in
+pub source_values_count : (source : Source) (g : Aig) (x : List ℕ → Bool) (s : List Bool) → g.kinds ≡ source_kinds source.netlist.flat source.params.list → length s ≡ length source.netlist.flat.latches
+    → length (source_values source.netlist.flat source.params.list x s) ≡ length g.kinds
+source_values_count source g x s kinds states =
     let names = input_names source.netlist.flat source.params.list in
     let a : length (map x names ++ s) ≡ length (map x names) + length s = length-append (map x names) s in
     let b : length (map x names) ≡ length names = length-map names x in

@@ -4,8 +4,8 @@ use Rattle.std.specs.Prelude.{IsErrAnd, IfOk, IfErr, MatchResult}
 use Rattle.tl_fault.specs.RefusalValue.{RefusalValue}
 use Rattle.tl_fault.specs.OrMemory.{OrMemory}
 use Rattle.tl_fault.proofs.OrMemoryLemmas.{or_memory}
-use Rattle.tlut_cli.specs.declared.stop.Stop.{Stop}
-use Rattle.tlut_cli.specs.declared.stop.Stop.TheVariants.{Refused, Memory}
+use Rattle.tlut_cli.specs.declared.ends.stop.Stop.{Stop}
+use Rattle.tlut_cli.specs.declared.ends.stop.Stop.TheVariants.{Refused, Memory}
 use Rattle.tlut_cli.specs.Stops.{refusal_of, Stops}
 
 -- a stop that tells what a layer's error tells

@@ -1,10 +1,6 @@
 -- Each text of a job says one thing, or is refused for one reason.
-use Rattle.std.proofs.Common.{◌≡◌, ℕ, Bool, List, map, Some, Result, Ok, Err, sym, ap, ◌∙◌, subst}
-use Rattle.std.specs.Result.{result_ok, result_err}
+use Rattle.std.proofs.Common.{◌≡◌, ℕ, List, Some, sym, ap, ◌∙◌, subst}
 use Rattle.std.proofs.lemmas.Option.{same_Some, none-some}
-use Rattle.tl_text.specs.LineValue.{words_line}
-use Rattle.tl_text.specs.Lines.{lines_of}
-use Rattle.tl_text.specs.Refusals.{refusal_of as text_refusal}
 use Rattle.blif_read.specs.declared.blif_err.BlifErr.{BlifErr}
 use Rattle.blif_read.specs.LibraryValue.{LibraryValue}
 use Rattle.blif_read.specs.Denotes.{Denotes}
@@ -19,29 +15,19 @@ use Rattle.blif_flat.specs.Flattened.{HasOneFlat}
 use Rattle.blif_flat.specs.Sound.{IsSound}
 use Rattle.blif_flat.specs.Refusals.{refusal_of as flat_refusal}
 use Rattle.run_text.specs.declared.params.Param.{Param}
+use Rattle.run_text.specs.EventValue.{EventValue}
+use Rattle.run_text.specs.NamesValue.{NamesValue}
 use Rattle.run_text.specs.ParamsText.{IsParamsText}
 use Rattle.run_text.specs.ParamsText as params_text
 use Rattle.run_text.specs.Refusals.{refusal_of as params_refusal}
+use Rattle.run_text.specs.ScriptText.{IsScript}
+use Rattle.run_text.specs.ScriptText as script_text
+use Rattle.run_text.specs.ScriptRefusals.{refusal_of as script_refusal}
 use Rattle.tl_fault.specs.RefusalValue.{RefusalValue}
-use Rattle.tlut_cli.specs.Refusals as own
-use Rattle.tlut_cli.specs.declared.netlist.Netlist.{Netlist}
-use Rattle.tlut_cli.specs.Script.{vectors_of}
-use Rattle.tlut_cli.specs.Settled.{IsTextSettled}
-use Rattle.tlut_cli.specs.Texts.{IsFlattened, IsNetlistText, NetlistRefusal, IsParamsRefusal, IsScriptText, ScriptRefusal}
-use Rattle.tlut_cli.specs.Texts as texts
-
--- a result is of one kind, and has one value or one error
-pub ok_or_err : {T E : Type 0} (r : Result T E) (v : T) (e : E) → r ≡ Ok v → r ≡ Err e → ⊥
-ok_or_err r v e a b = differ (sym a ∙ b)
-  where
-    differ : Ok v ≡ Err e → ⊥
-    differ k = cc
-
-pub ok_once : {T E : Type 0} (r : Result T E) (v w : T) → r ≡ Ok v → r ≡ Ok w → v ≡ w
-ok_once {T} {E} r v w a b = same_Some v w (ap (λ (x : Result T E). result_ok x) (sym a ∙ b))
-
-pub err_once : {T E : Type 0} (r : Result T E) (d e : E) → r ≡ Err d → r ≡ Err e → d ≡ e
-err_once {T} {E} r d e a b = same_Some d e (ap (λ (x : Result T E). result_err x) (sym a ∙ b))
+use Rattle.tlut_cli.specs.declared.stations.netlist.Netlist.{Netlist}
+use Rattle.tlut_cli.specs.Stations.Settled.{IsTextSettled}
+use Rattle.tlut_cli.specs.Stations.Texts.{IsFlattened, IsNetlistText, NetlistRefusal, IsParamsRefusal, IsScriptRefusal}
+use Rattle.tlut_cli.specs.Stations.Texts as texts
 
 -- a text with a refusal denotes no library
 fault_alone : (text : List ℕ) (e : BlifErr) (library : LibraryValue) → HasOneReading text → read_fault text ≡ Some e → Denotes text library → ⊥
@@ -113,17 +99,8 @@ pub params_refused_once : (flat : FlatValue) (text : List ℕ) (r s : RefusalVal
 params_refused_once flat text r s one a b = same_Some r s (sym a.tells ∙ (ap (λ x. params_refusal x) (one.one_fault a.e b.e a.fault b.fault) ∙ b.tells))
 
 -- the script of a text
-pub script_or_refused : (width : ℕ) (text : List ℕ) (vectors : List (List Bool)) (r : RefusalValue) → IsScriptText width text vectors → ScriptRefusal width text r → ⊥
-script_or_refused width text vectors r a (texts.ScriptRefusal.fault e f is) = ok_or_err (lines_of text) a.lines e a.lines_are f
-script_or_refused width text vectors r a (texts.ScriptRefusal.unbuilt lines line f err is) =
-    let same : lines ≡ a.lines = ok_once (lines_of text) lines a.lines f a.lines_are in
-    ok_or_err (vectors_of width (map (words_line text) lines)) vectors line (ap (λ ls. vectors_of width (map (words_line text) ls)) same ∙ a.are) err
+pub script_or_refused : (names : NamesValue) (text : List ℕ) (events : List EventValue) (r : RefusalValue) → script_text.HasOneReading names text → IsScript names text events → IsScriptRefusal names text r → ⊥
+script_or_refused names text events r one a refused = one.not_both events refused.e a refused.fault
 
-pub script_refused_once : (width : ℕ) (text : List ℕ) (r s : RefusalValue) → ScriptRefusal width text r → ScriptRefusal width text s → r ≡ s
-script_refused_once width text r s (texts.ScriptRefusal.fault e f is) (texts.ScriptRefusal.fault e2 f2 is2) =
-    same_Some r s (sym is ∙ (ap (λ x. text_refusal x) (err_once (lines_of text) e e2 f f2) ∙ is2))
-script_refused_once width text r s (texts.ScriptRefusal.fault e f is) (texts.ScriptRefusal.unbuilt lines line g err is2) = absurd (ok_or_err (lines_of text) lines e g f)
-script_refused_once width text r s (texts.ScriptRefusal.unbuilt lines line g err is) (texts.ScriptRefusal.fault e f is2) = absurd (ok_or_err (lines_of text) lines e g f)
-script_refused_once width text r s (texts.ScriptRefusal.unbuilt lines line g err is) (texts.ScriptRefusal.unbuilt lines2 line2 h err2 is2) =
-    let same : lines ≡ lines2 = ok_once (lines_of text) lines lines2 g h in
-    is ∙ (ap (λ x. own.unbuilt x) (err_once (vectors_of width (map (words_line text) lines)) line line2 err (ap (λ ls. vectors_of width (map (words_line text) ls)) same ∙ err2)) ∙ sym is2)
+pub script_refused_once : (names : NamesValue) (text : List ℕ) (r s : RefusalValue) → script_text.HasOneReading names text → IsScriptRefusal names text r → IsScriptRefusal names text s → r ≡ s
+script_refused_once names text r s one a b = same_Some r s (sym a.tells ∙ (ap (λ x. script_refusal x) (one.one_fault a.e b.e a.fault b.fault) ∙ b.tells))

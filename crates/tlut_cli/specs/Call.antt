@@ -1,33 +1,34 @@
 -- What a call says of itself: its outcome with its cause, and what each status means.
-use Rattle.std.specs.Prelude.{◌≡◌, ℕ, ◌⊎◌, List, [], Option, Some, None}
+use Rattle.std.specs.Prelude.{◌≡◌, ℕ, ◌⊎◌, List, [], Option, Some, None, length}
+use Rattle.tl_fault.specs.RefusalValue.{RefusalValue}
 use Rattle.tl_io.specs.Causes.{Rose}
 use Rattle.tl_io.specs.Shelf.{Files, ShelfSeen}
-use Rattle.tlut_cli.specs.Words.{JobWords, job_of, file_word}
-use Rattle.tlut_cli.specs.Verdict.{Job, IsAccepted, IsRefused, Reaches}
-use Rattle.tlut_cli.specs.Ends.{Told, Ends, IsDone, IsCutOff, IsReadFault}
+use Rattle.tlut_cli.specs.Outside.{Outside}
+use Rattle.tlut_cli.specs.Walk.{Walk}
+use Rattle.tlut_cli.specs.Commands.{Command, command_of, walk_of}
+use Rattle.tlut_cli.specs.Ends.{Told, Ends, IsReadFault}
 use Rattle.tlut_cli.specs.Statuses.{refusal_status}
-use Rattle.tlut_cli.specs.declared.outcome.File.{File}
-use Rattle.tl_fault.specs.RefusalValue.{RefusalValue}
-use Rattle.tlut_cli.specs.declared.outcome.Outcome.{Outcome}
-use Rattle.tlut_cli.specs.declared.outcome.Outcome.TheVariants as outcome
-use Rattle.tlut_cli.specs.declared.status.Status.{Status}
-use Rattle.tlut_cli.specs.declared.status.Status.TheVariants as status
+use Rattle.tlut_cli.specs.declared.ends.outcome.File.{File}
+use Rattle.tlut_cli.specs.declared.ends.outcome.Outcome.{Outcome}
+use Rattle.tlut_cli.specs.declared.ends.outcome.Outcome.TheVariants as outcome
+use Rattle.tlut_cli.specs.declared.ends.status.Status.{Status}
+use Rattle.tlut_cli.specs.declared.ends.status.Status.TheVariants as status
 
--- the words are of no form, and nothing was read or put
-pub record IsUsage (words : List (List ℕ)) (old new : ShelfSeen) (before after : Option (List ℕ)) (o : Outcome) : Type 0 where
+-- the words are of no form, and nothing was read, put or sent
+pub record IsUsage (words : List (List ℕ)) (old new : ShelfSeen) (before after : Outside) (o : Outcome) : Type 0 where
   pub is : o ≡ outcome.Usage
-  pub no_job : job_of words ≡ None
+  pub no_command : command_of (length before.ports) words ≡ None
   pub shelf : new ≡ old
-  pub out : after ≡ before
+  pub same : after ≡ before
 
--- the words are a job, and the outcome says how it ended
-pub record IsJobEnd (words : List (List ℕ)) (old new : ShelfSeen) (before after : Option (List ℕ)) (o : Outcome) : Type 0 where
-  pub job : JobWords
-  pub is : job_of words ≡ Some job
-  pub ends : Ends job old new before after o
+-- the words are a command, and the outcome says how it ended
+pub record IsCommandEnd (words : List (List ℕ)) (old new : ShelfSeen) (before after : Outside) (o : Outcome) : Type 0 where
+  pub command : Command
+  pub is : command_of (length before.ports) words ≡ Some command
+  pub ends : Ends (walk_of command) old new before after o
 
-abbrev pub IsEnd : List (List ℕ) → ShelfSeen → ShelfSeen → Option (List ℕ) → Option (List ℕ) → Outcome → Type 0
-IsEnd words old new before after o = IsUsage words old new before after o ⊎ IsJobEnd words old new before after o
+abbrev pub IsEnd : List (List ℕ) → ShelfSeen → ShelfSeen → Outside → Outside → Outcome → Type 0
+IsEnd words old new before after o = IsUsage words old new before after o ⊎ IsCommandEnd words old new before after o
 
 -- the file that a fault line tells
 abbrev pub fault_file : Outcome → Option File
@@ -41,55 +42,68 @@ fault_file outcome.PortFault = None
 fault_file outcome.Memory = None
 
 -- the word that names it
-abbrev pub word_at : Option JobWords → Option File → List ℕ
-word_at (Some job) (Some file) = file_word job file
-word_at (Some job) None = []
+abbrev pub word_at : Option Command → Option File → List ℕ
+word_at (Some command) (Some file) = (walk_of command).reading.word file
+word_at (Some command) None = []
 word_at None file = []
 
-abbrev pub fault_word : List (List ℕ) → Outcome → List ℕ
-fault_word words o = word_at (job_of words) (fault_file o)
+abbrev pub fault_word : ℕ → List (List ℕ) → Outcome → List ℕ
+fault_word ports words o = word_at (command_of ports words) (fault_file o)
+
+-- the words are a command with this in its walk
+pub record HasCommand (ports : ℕ) (words : List (List ℕ)) (P : Walk → Type 0) : Type 0 where
+  pub command : Command
+  pub is : command_of ports words ≡ Some command
+  pub holds : P (walk_of command)
 
 -- a refusal of the verdict with this status
-pub record HasRefusal (files : Files) (words : List (List ℕ)) (s : Status) : Type 0 where
-  pub job : JobWords
-  pub is : job_of words ≡ Some job
+pub record IsRefusal (files : Files) (walk : Walk) (s : Status) : Type 0 where
   pub file : File
   pub refusal : RefusalValue
-  pub refused : IsRefused files job file refusal
+  pub refused : walk.reading.IsRefused files file refusal
   pub status_is : s ≡ refusal_status refusal
 
--- a job that was done, or cut off
-pub record HasDone (files : Files) (words : List (List ℕ)) (before after : Option (List ℕ)) : Type 0 where
-  pub job : JobWords
-  pub is : job_of words ≡ Some job
-  pub done : IsDone files job before after
+abbrev pub HasRefusal : Files → ℕ → List (List ℕ) → Status → Type 0
+HasRefusal files ports words s = HasCommand ports words (λ walk. IsRefusal files walk s)
 
-pub record HasCutOff (files : Files) (words : List (List ℕ)) (before after : Option (List ℕ)) : Type 0 where
-  pub job : JobWords
-  pub is : job_of words ≡ Some job
-  pub cut_off : IsCutOff files job before after
+-- a job that was done, cut off, or ended by a fault of the ports
+abbrev pub HasDone : Files → List (List ℕ) → Outside → Outside → Type 0
+HasDone files words before after = HasCommand (length before.ports) words (λ walk. walk.IsDone files before after)
+
+abbrev pub HasCutOff : Files → List (List ℕ) → Outside → Outside → Type 0
+HasCutOff files words before after = HasCommand (length before.ports) words (λ walk. walk.IsCutOff files before after)
+
+abbrev pub HasLost : Files → List (List ℕ) → Outside → Outside → Type 0
+HasLost files words before after = HasCommand (length before.ports) words (λ walk. walk.IsLost files before after)
 
 -- a read fault at a file that the walk reaches
-pub record HasFault (words : List (List ℕ)) (old new : ShelfSeen) : Type 0 where
-  pub job : JobWords
-  pub is : job_of words ≡ Some job
+pub record IsFault (walk : Walk) (old new : ShelfSeen) : Type 0 where
   pub file : File
-  pub fault : IsReadFault old new (file_word job file)
-  pub reached : Told old.files (λ files. Reaches files job file)
+  pub fault : IsReadFault old new (walk.reading.word file)
+  pub reached : Told old.files (λ files. walk.reading.Reaches files file)
+
+abbrev pub HasFault : ℕ → List (List ℕ) → ShelfSeen → ShelfSeen → Type 0
+HasFault ports words old new = HasCommand ports words (λ walk. IsFault walk old new)
+
+-- the cause of a fault of the ports
+abbrev pub HasPortFault : List (List ℕ) → Outside → Outside → Type 0
+HasPortFault words before after = HasCommand (length before.ports) words (λ walk. walk.HasPortFault before after)
 
 -- the files hold an accepted job for the words
-pub record HasJob (files : Files) (words : List (List ℕ)) : Type 0 where
-  pub job : JobWords
-  pub is : job_of words ≡ Some job
-  pub accepted : Job
-  pub holds : IsAccepted files job accepted
+abbrev pub HasJob : Files → ℕ → List (List ℕ) → Type 0
+HasJob files ports words = HasCommand ports words (λ walk. walk.IsAccepted files)
 
--- Where the shelf tells its files and they hold an accepted job, and neither a read nor a write to the output failed, the job is done: want of memory alone can stop it.
-abbrev pub IsComplete : List (List ℕ) → ShelfSeen → ShelfSeen → ℕ → ℕ → Status → Type 0
-IsComplete words old new faults_before faults_after s =
-    Told old.files (λ files. HasJob files words → ¬ (Rose old.read_faults new.read_faults) → ¬ (Rose faults_before faults_after) → (s ≡ status.Done) ⊎ (s ≡ status.Memory))
+-- Where the shelf tells its files and they hold an accepted job, and no read and no write of the output failed, nor more ports than stand by, the job is done: want of memory alone can stop it.
+abbrev pub IsComplete : List (List ℕ) → ShelfSeen → ShelfSeen → Outside → Outside → ℕ → ℕ → Status → Type 0
+IsComplete words old new before after faults_before faults_after s =
+    Told old.files (λ files. HasJob files (length before.ports) words → ¬ (Rose old.read_faults new.read_faults) → ¬ (Rose faults_before faults_after) → ¬ (HasPortFault words before after) → (s ≡ status.Done) ⊎ (s ≡ status.Memory))
 
--- nothing was put
+-- where moreover the output grew by a byte, an accepted job is done
+abbrev pub IsFinished : List (List ℕ) → ShelfSeen → ShelfSeen → Outside → Outside → ℕ → ℕ → Status → Type 0
+IsFinished words old new before after faults_before faults_after s =
+    Told old.files (λ files. HasJob files (length before.ports) words → ¬ (Rose old.read_faults new.read_faults) → ¬ (Rose faults_before faults_after) → ¬ (HasPortFault words before after) → ¬ (after.bytes ≡ before.bytes) → s ≡ status.Done)
+
+-- nothing was put or sent
 abbrev pub IsQuiet : Status → Type 0
 IsQuiet status.Usage = Unit {0}
 IsQuiet status.Refused = Unit {0}
@@ -101,11 +115,6 @@ IsQuiet status.WriteFault = ⊥
 IsQuiet status.PortFault = ⊥
 
 -- where the files hold a refusal of the job and no read failed, its status is the answer, but for want of memory
-abbrev pub IsAnswered : List (List ℕ) → ShelfSeen → ShelfSeen → Status → Type 0
-IsAnswered words old new s = Told old.files (λ files. (job : JobWords) → job_of words ≡ Some job → (file : File) (refusal : RefusalValue) → IsRefused files job file refusal
+abbrev pub IsAnswered : List (List ℕ) → ShelfSeen → ShelfSeen → ℕ → Status → Type 0
+IsAnswered words old new ports s = Told old.files (λ files. (command : Command) → command_of ports words ≡ Some command → (file : File) (refusal : RefusalValue) → (walk_of command).reading.IsRefused files file refusal
     → ¬ (Rose old.read_faults new.read_faults) → (s ≡ refusal_status refusal) ⊎ (s ≡ status.Memory))
-
--- where moreover the output grew by a byte, an accepted job is done
-abbrev pub IsFinished : List (List ℕ) → ShelfSeen → ShelfSeen → Option (List ℕ) → Option (List ℕ) → ℕ → ℕ → Status → Type 0
-IsFinished words old new before after faults_before faults_after s =
-    Told old.files (λ files. HasJob files words → ¬ (Rose old.read_faults new.read_faults) → ¬ (Rose faults_before faults_after) → ¬ (after ≡ before) → s ≡ status.Done)

@@ -6,8 +6,8 @@ use Rattle.tl_io.specs.Content.{extended}
 use Rattle.tl_fault.specs.RefusalValue.{RefusalValue}
 use Rattle.tl_fault.specs.Refusals.{details_words, spaced}
 use Rattle.tlut_cli.specs.Refusals.{too_long}
-use Rattle.tlut_cli.specs.declared.outcome.Outcome.{Outcome}
-use Rattle.tlut_cli.specs.declared.outcome.Outcome.TheVariants as outcome
+use Rattle.tlut_cli.specs.declared.ends.outcome.Outcome.{Outcome}
+use Rattle.tlut_cli.specs.declared.ends.outcome.Outcome.TheVariants as outcome
 
 -- a line of a file's name and a word
 abbrev pub plain_line : List ℕ → List ℕ → List ℕ

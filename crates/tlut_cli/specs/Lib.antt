@@ -1,23 +1,15 @@
--- What public clauses say.
-pub mod Call
+-- What public clauses say: how a call ends, for every command,
+pub mod Outside
+pub mod Walk
+pub mod Commands
 pub mod Ends
+pub mod Call
 pub mod FaultLine
-pub mod JobText
-pub mod LeastDepth
-pub mod Mapped
 pub mod Refusals
-pub mod Script
-pub mod Settled
-pub mod SourceCircuit
 pub mod Statuses
-pub mod Texts
-pub mod Verdict
-pub mod Words
-pub mod WordsSeen
+-- the stations that commands share,
+pub mod Stations
+-- and the commands.
+pub mod Run
 -- What only bodies are compared with.
-pub mod Circuit
-pub mod Comes
-pub mod Prepared
-pub mod ReadNetlist
-pub mod SourceCycles
 pub mod Stops

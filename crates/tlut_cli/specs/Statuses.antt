@@ -2,10 +2,10 @@
 use Rattle.std.specs.Prelude.{ℕ, if◌then◌else◌}
 use Rattle.tl_fault.specs.RefusalValue.{RefusalValue}
 use Rattle.tl_fault.specs.Refusals.{is_limit}
-use Rattle.tlut_cli.specs.declared.status.Status.{Status}
-use Rattle.tlut_cli.specs.declared.status.Status.TheVariants as status
-use Rattle.tlut_cli.specs.declared.outcome.Outcome.{Outcome}
-use Rattle.tlut_cli.specs.declared.outcome.Outcome.TheVariants as outcome
+use Rattle.tlut_cli.specs.declared.ends.status.Status.{Status}
+use Rattle.tlut_cli.specs.declared.ends.status.Status.TheVariants as status
+use Rattle.tlut_cli.specs.declared.ends.outcome.Outcome.{Outcome}
+use Rattle.tlut_cli.specs.declared.ends.outcome.Outcome.TheVariants as outcome
 
 abbrev pub refusal_status : RefusalValue → Status
 refusal_status refusal = if is_limit refusal then status.Limit else status.Refused

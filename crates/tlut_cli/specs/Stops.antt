@@ -1,11 +1,11 @@
 -- What a stop at a text or a netlist tells: want of memory, which is free, tells nothing.
 use Rattle.std.specs.Prelude.{Option, Some, None, IfSome}
 use Rattle.tl_fault.specs.RefusalValue.{RefusalValue}
-use Rattle.tlut_cli.specs.declared.stop.Stop.{Stop}
-use Rattle.tlut_cli.specs.declared.stop.Stop.TheVariants.{Refused, Memory}
-use Rattle.tlut_cli.specs.declared.outcome.File.{File}
-use Rattle.tlut_cli.specs.declared.outcome.Outcome.{Outcome}
-use Rattle.tlut_cli.specs.declared.outcome.Outcome.TheVariants as outcome
+use Rattle.tlut_cli.specs.declared.ends.stop.Stop.{Stop}
+use Rattle.tlut_cli.specs.declared.ends.stop.Stop.TheVariants.{Refused, Memory}
+use Rattle.tlut_cli.specs.declared.ends.outcome.File.{File}
+use Rattle.tlut_cli.specs.declared.ends.outcome.Outcome.{Outcome}
+use Rattle.tlut_cli.specs.declared.ends.outcome.Outcome.TheVariants as outcome
 
 abbrev pub refusal_of : Stop → Option RefusalValue
 refusal_of (Refused refusal) = Some refusal

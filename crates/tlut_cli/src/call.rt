@@ -1,52 +1,57 @@
 //! The top call.
-ghost use Rattle.std.specs.Prelude.{◌≡◌, ◌≢◌, ◌≤◌, ◌↔◌, ◌⊎◌, ℕ, List, None, Some, map, string_bytes};
+ghost use Rattle.std.specs.Prelude.{◌≡◌, ◌≤◌, ◌↔◌, ◌⊎◌, ℕ, List, length, None, Some, map, string_bytes};
 ghost use Rattle.tl_io.specs.Causes.{Rose};
 ghost use Rattle.tl_io.specs.Shelf.{Files};
-ghost use Rattle.tlut_cli.specs.WordsSeen.{job_seen};
-ghost use Rattle.tlut_cli.specs.Words.{job_of};
+ghost use Rattle.tlut_cli.specs.Outside.{outside};
+ghost use Rattle.tlut_cli.specs.Commands.{command_of, walk_of, command_seen, HasRange};
 ghost use Rattle.tlut_cli.specs.Ends.{Told, Ends};
-ghost use Rattle.tlut_cli.specs.LeastDepth.{HasLeastDepth, HasSmallTables};
-ghost use Rattle.tlut_cli.specs.Call.{IsEnd, fault_file, word_at, fault_word, HasRefusal, HasDone, HasCutOff, HasFault, IsAnswered, IsComplete, IsFinished, IsQuiet};
+ghost use Rattle.tlut_cli.specs.Call.{IsEnd, fault_file, word_at, fault_word, HasRefusal, HasDone, HasCutOff, HasLost, HasFault, HasPortFault, IsAnswered, IsComplete, IsFinished, IsQuiet};
 ghost use Rattle.tlut_cli.specs.FaultLine.{Reports, line_of};
 ghost use Rattle.tlut_cli.specs.Statuses.{status_of};
-ghost use Rattle.tlut_cli.specs.declared.outcome.Outcome.{Outcome as OutcomeValue};
+ghost use Rattle.tlut_cli.specs.Run.Headline.{HasHeadline};
+ghost use Rattle.tlut_cli.specs.declared.ends.outcome.Outcome.{Outcome as OutcomeValue};
 
-use crate::circuit::play;
-use crate::fault_line::report;
-use crate::outcome::{File, Outcome};
-use crate::prepare::prepare;
-use crate::status::Status;
-use crate::words::{Job, file_name, read_job};
+use crate::command::{Command, file_name, read_command};
+use crate::ends::fault_line::report;
+use crate::ends::outcome::{File, Outcome};
+use crate::ends::status::Status;
+use crate::run::job::run_job;
 use std::alloc::Global;
-use tl_io::{ConfigPort, Failed, Shelf, Sink};
+use tl_io::{ConfigPort, Shelf, Sink};
 
-// Runs a job.
-fn run_job<S: Shelf, O: Sink>(alloc: Global, job: &Job, shelf: &mut S, out: &mut O) -> Outcome
-    requires least { 2 ≤ job.now.k }
-    requires most { job.now.k ≤ 6 }
-    ensures ends { Ends (job_seen job.now) (S.seen shelf.old) (S.seen shelf.new) (O.bytes out.old) (O.bytes out.new) result }
+// Runs a command.
+fn run_command<S: Shelf, O: Sink, P: ConfigPort>(
+    alloc: Global,
+    command: &Command,
+    shelf: &mut S,
+    out: &mut O,
+    ports: &mut Vec<P>,
+) -> Outcome
+    requires { HasRange (length ports.old.items) command.now }
+    ensures ends { Ends (walk_of (command_seen command.now)) (S.seen shelf.old) (S.seen shelf.new) (outside (O.bytes out.old) (map P.port_seen ports.old.items)) (outside (O.bytes out.new) (map P.port_seen ports.new.items)) result }
     ensures write_fault { result ≡ Outcome.WriteFault → Rose (O.faults out.old) (O.faults out.new) }
     ensures files { (S.seen shelf.new).files ≡ (S.seen shelf.old).files }
 {
-    let mut ready = match prepare(alloc, job, shelf) {
-        Ok(ready) => ready,
-        Err(outcome) => return outcome,
-    };
-    match play(&mut ready.circuit, &ready.vectors, &mut ready.buf, out) {
-        Ok(()) => Outcome::Done,
-        Err(Failed) => Outcome::WriteFault,
+    match command {
+        Command::Run(words) => run_job(alloc, words, shelf, out, ports),
     }
 }
 
-// Runs the job of some words.
-fn run<S: Shelf, O: Sink>(alloc: Global, words: &[String], shelf: &mut S, out: &mut O) -> Outcome
-    ensures end { IsEnd (map string_bytes words.now) (S.seen shelf.old) (S.seen shelf.new) (O.bytes out.old) (O.bytes out.new) result }
+// Runs the command of some words.
+fn run_words<S: Shelf, O: Sink, P: ConfigPort>(
+    alloc: Global,
+    words: &[String],
+    shelf: &mut S,
+    out: &mut O,
+    ports: &mut Vec<P>,
+) -> Outcome
+    ensures end { IsEnd (map string_bytes words.now) (S.seen shelf.old) (S.seen shelf.new) (outside (O.bytes out.old) (map P.port_seen ports.old.items)) (outside (O.bytes out.new) (map P.port_seen ports.new.items)) result }
     ensures write_fault { result ≡ Outcome.WriteFault → Rose (O.faults out.old) (O.faults out.new) }
     ensures files { (S.seen shelf.new).files ≡ (S.seen shelf.old).files }
 {
-    match read_job(words) {
+    match read_command(ports.len(), words) {
         None => Outcome::Usage,
-        Some(job) => run_job(alloc, &job, shelf, out),
+        Some(command) => run_command(alloc, &command, shelf, out, ports),
     }
 }
 
@@ -67,28 +72,29 @@ fn told_file(outcome: &Outcome) -> Option<File>
 }
 
 // The word that names a file.
-fn told_word(words: &[String], file: File) -> &str
-    ensures { result.now ≡ word_at (job_of (map string_bytes words.now)) (Some file) }
+fn told_word(ports: usize, words: &[String], file: File) -> &str
+    ensures { result.now ≡ word_at (command_of ports (map string_bytes words.now)) (Some file) }
 {
-    match read_job(words) {
+    match read_command(ports, words) {
         None => "",
-        Some(job) => file_name(&job, file),
+        Some(command) => file_name(&command, file),
     }
 }
 
 // The word that a fault line tells.
-fn fault_name<'a>(words: &'a [String], outcome: &Outcome) -> &'a str
-    ensures { result.now ≡ fault_word (map string_bytes words.now) outcome.now }
+fn fault_name<'a>(ports: usize, words: &'a [String], outcome: &Outcome) -> &'a str
+    ensures { result.now ≡ fault_word ports (map string_bytes words.now) outcome.now }
 {
     match told_file(outcome) {
         None => "",
-        Some(file) => told_word(words, file),
+        Some(file) => told_word(ports, words, file),
     }
 }
 
-/// Runs the command that the words are, over the files of a shelf: so far
-/// `run K NETLIST PARAMS SCRIPT 0 0`, which maps a netlist to tables of at most K inputs with the least depth and
-/// plays the cycles of a script under the listed values of its parameters.
+/// Runs the command that the words are, over the files of a shelf and the ports that are handed in: so far
+/// `run K NETLIST PARAMS SCRIPT PORTS SPARES`, which maps a netlist to tables of at most K inputs with the least depth, loads
+/// their configuration into the first PORTS ports, and plays the events of a script: changes of parameters, clock cycles, upset
+/// bits, scrubs, and images of the configuration. The SPARES next ports stand by for those that fail.
 ///
 /// The status says how the call ended. On every status but `Done` one line stands on `err`; a failing `err`
 /// changes no status. Want of memory is the one free answer, and comes only before the first byte of `out`.
@@ -100,44 +106,49 @@ pub fn tlut<S: Shelf, O: Sink, E: Sink>(
     err: &mut E,
     ports: &mut Vec<Box<dyn ConfigPort>>,
 ) -> Status
-    ensures usage { result ≡ Status.Usage ↔ job_of (map string_bytes words.now) ≡ None }
+    ensures usage { result ≡ Status.Usage ↔ command_of (length ports.old.items) (map string_bytes words.now) ≡ None }
 
     // A refusal or a limit is the verdict's on the words and the files.
-    ensures refusal { (result ≡ Status.Refused) ⊎ (result ≡ Status.Limit) → Told (S.seen shelf.old).files (λ files. HasRefusal files (map string_bytes words.now) result) }
+    ensures refusal { (result ≡ Status.Refused) ⊎ (result ≡ Status.Limit) → Told (S.seen shelf.old).files (λ files. HasRefusal files (length ports.old.items) (map string_bytes words.now) result) }
 
     // The other way round, such a refusal is the answer, where no read fails and memory suffices.
-    ensures refused { IsAnswered (map string_bytes words.now) (S.seen shelf.old) (S.seen shelf.new) result }
+    ensures refused { IsAnswered (map string_bytes words.now) (S.seen shelf.old) (S.seen shelf.new) (length ports.old.items) result }
 
-    // The output grew by the lines of the accepted job, which show the run of the library that the netlist denotes, or by
-    // whole lines and a part of the next one.
-    ensures done { result ≡ Status.Done → Told (S.seen shelf.old).files (λ files. HasDone files (map string_bytes words.now) (O.bytes out.old) (O.bytes out.new)) }
-    ensures part { result ≡ Status.WriteFault → Told (S.seen shelf.old).files (λ files. HasCutOff files (map string_bytes words.now) (O.bytes out.old) (O.bytes out.new)) }
+    // The output grew by the lines of the accepted job, and the ports got its load and its writes: all of them, or those up to
+    // the fault.
+    ensures done { result ≡ Status.Done → Told (S.seen shelf.old).files (λ files. HasDone files (map string_bytes words.now) (outside (O.bytes out.old) (map (λ port. port_seen port) ports.old.items)) (outside (O.bytes out.new) (map (λ port. port_seen port) ports.new.items))) }
+    ensures part { result ≡ Status.WriteFault → Told (S.seen shelf.old).files (λ files. HasCutOff files (map string_bytes words.now) (outside (O.bytes out.old) (map (λ port. port_seen port) ports.old.items)) (outside (O.bytes out.new) (map (λ port. port_seen port) ports.new.items))) }
+    ensures lost { result ≡ Status.PortFault → Told (S.seen shelf.old).files (λ files. HasLost files (map string_bytes words.now) (outside (O.bytes out.old) (map (λ port. port_seen port) ports.old.items)) (outside (O.bytes out.new) (map (λ port. port_seen port) ports.new.items))) }
 
-    // The depth in the header is the least over all covers, and no table has more than K leaves or a parameter among them.
-    ensures least { result ≡ Status.Done → Told (S.seen shelf.old).files (λ files. HasLeastDepth files (map string_bytes words.now) (O.bytes out.old) (O.bytes out.new)) }
-    ensures few_leaves { result ≡ Status.Done → Told (S.seen shelf.old).files (λ files. HasSmallTables files (map string_bytes words.now) (O.bytes out.old) (O.bytes out.new)) }
+    // The headline: the source circuit's outputs and latch states cycle by cycle, at each change exactly the bits in which the
+    // configurations specialised from scratch differ, tables of at most K inputs, and the least depth over all covers.
+    ensures headline { result ≡ Status.Done → Told (S.seen shelf.old).files (λ files. HasHeadline files (map string_bytes words.now) (outside (O.bytes out.old) (map (λ port. port_seen port) ports.old.items)) (outside (O.bytes out.new) (map (λ port. port_seen port) ports.new.items))) }
 
-    // An accepted job is done, where no read and no write fails and memory suffices.
-    ensures complete { IsComplete (map string_bytes words.now) (S.seen shelf.old) (S.seen shelf.new) (O.faults out.old) (O.faults out.new) result }
-    ensures finished { IsFinished (map string_bytes words.now) (S.seen shelf.old) (S.seen shelf.new) (O.bytes out.old) (O.bytes out.new) (O.faults out.old) (O.faults out.new) result }
+    // An accepted job is done, where no read, no write and no more ports than stand by fail, and memory suffices.
+    ensures complete { IsComplete (map string_bytes words.now) (S.seen shelf.old) (S.seen shelf.new) (outside (O.bytes out.old) (map (λ port. port_seen port) ports.old.items)) (outside (O.bytes out.new) (map (λ port. port_seen port) ports.new.items)) (O.faults out.old) (O.faults out.new) result }
+    ensures finished { IsFinished (map string_bytes words.now) (S.seen shelf.old) (S.seen shelf.new) (outside (O.bytes out.old) (map (λ port. port_seen port) ports.old.items)) (outside (O.bytes out.new) (map (λ port. port_seen port) ports.new.items)) (O.faults out.old) (O.faults out.new) result }
 
     // A fault has its cause.
-    ensures read_fault { result ≡ Status.ReadFault → HasFault (map string_bytes words.now) (S.seen shelf.old) (S.seen shelf.new) }
+    ensures read_fault { result ≡ Status.ReadFault → HasFault (length ports.old.items) (map string_bytes words.now) (S.seen shelf.old) (S.seen shelf.new) }
     ensures write_fault { result ≡ Status.WriteFault → Rose (O.faults out.old) (O.faults out.new) }
-    ensures no_port_fault { result ≢ Status.PortFault }
+    ensures port_fault { result ≡ Status.PortFault → HasPortFault (map string_bytes words.now) (outside (O.bytes out.old) (map (λ port. port_seen port) ports.old.items)) (outside (O.bytes out.new) (map (λ port. port_seen port) ports.new.items)) }
 
     // What stays.
     ensures quiet { IsQuiet result → O.bytes out.new ≡ O.bytes out.old }
+    ensures ports { IsQuiet result → map (λ port. port_seen port) ports.new.items ≡ map (λ port. port_seen port) ports.old.items }
     ensures files { (S.seen shelf.new).files ≡ (S.seen shelf.old).files }
-    ensures ports { ports.new.items ≡ ports.old.items }
 
     // The outcome, its cause, and the fault line.
     ensures told { (outcome : OutcomeValue) × (result ≡ status_of outcome)
-        × IsEnd (map string_bytes words.now) (S.seen shelf.old) (S.seen shelf.new) (O.bytes out.old) (O.bytes out.new) outcome
-        × Reports (E.faults err.old) (E.faults err.new) (E.bytes err.old) (E.bytes err.new) (line_of (fault_word (map string_bytes words.now) outcome) outcome) }
+        × IsEnd (map string_bytes words.now) (S.seen shelf.old) (S.seen shelf.new) (outside (O.bytes out.old) (map (λ port. port_seen port) ports.old.items)) (outside (O.bytes out.new) (map (λ port. port_seen port) ports.new.items)) outcome
+        × Reports (E.faults err.old) (E.faults err.new) (E.bytes err.old) (E.bytes err.new) (line_of (fault_word (length ports.old.items) (map string_bytes words.now) outcome) outcome) }
 {
-    let _ports = ports;
-    let outcome = run(alloc, words, shelf, out);
-    report(err, fault_name(words, &outcome).as_bytes(), &outcome);
+    let handed_in = ports.len();
+    let outcome = run_words(alloc, words, shelf, out, ports);
+    report(
+        err,
+        fault_name(handed_in, words, &outcome).as_bytes(),
+        &outcome,
+    );
     outcome.status()
 }

@@ -1,7 +1,8 @@
--- Worked examples of the definitions: words, widths, scripts, lines and fault lines.
-use Rattle.std.proofs.Common.{◌≡◌, ℕ, Bool, true, false, cond, List, [], ◌∷◌, bytes_eq, codes, Option, Some, None, Ok, Err, map, refl, ap, inl, inr}
-use Rattle.list_laws.specs.Members.{In}
-use Rattle.tl_text.specs.LineValue.{WordsLine}
+-- Worked examples of the definitions: words, ports, what a script may name, and fault lines.
+use Rattle.std.proofs.Common.{◌≡◌, ℕ, Bool, true, false, cond, List, [], ◌∷◌, bytes_eq, codes, Option, Some, None, map, refl}
+use Rattle.std.specs.Fmt.{digits}
+use Rattle.std.specs.Option.{option_map}
+use Rattle.tl_io.specs.Port.{PortSeen}
 use Rattle.blif_read.specs.declared.cell.Cell.TheVariants.{One}
 use Rattle.blif_read.specs.declared.command.Body.TheVariants.{Cover}
 use Rattle.blif_read.specs.CoverValue.{CoverValue}
@@ -12,25 +13,59 @@ use Rattle.blif_flat.specs.FlatValue.{FlatValue}
 use Rattle.blif_flat.specs.declared.flat.Net.TheVariants as net
 use Rattle.blif_flat.specs.Refusals.{refusal_of as flat_refusal}
 use Rattle.blif_flat.specs.declared.flat_err.FlatErr.TheVariants as flat_err
-use Rattle.std.specs.Option.{option_map}
+use Rattle.run_text.specs.Parameters.{regular_names, param_names}
+use Rattle.run_text.specs.ScriptRefusals.{refusal_of as script_refusal}
+use Rattle.run_text.specs.declared.script_err.ScriptErr.TheVariants as script_err
 use Rattle.tl_fault.specs.RefusalValue.{RefusalValue}
-use Rattle.tlut_cli.specs.declared.outcome.File.TheVariants as file
-use Rattle.tlut_cli.specs.declared.outcome.Outcome.TheVariants as outcome
-use Rattle.tlut_cli.specs.declared.source.Source.{Source}
-use Rattle.tlut_cli.specs.declared.status.Status.TheVariants as status
+use Rattle.tlut_cli.specs.declared.ends.outcome.File.{File}
+use Rattle.tlut_cli.specs.declared.ends.outcome.File.TheVariants as file
+use Rattle.tlut_cli.specs.declared.ends.outcome.Outcome.TheVariants as outcome
+use Rattle.tlut_cli.specs.declared.ends.status.Status.TheVariants as status
+use Rattle.tlut_cli.specs.declared.stations.source.Source.{Source}
+use Rattle.tlut_cli.specs.Call.{fault_word}
 use Rattle.tlut_cli.specs.FaultLine.{line_of}
-use Rattle.tlut_cli.specs.JobText.{AreInputValues, cycle_lines}
-use Rattle.tlut_cli.specs.Script.{vectors_of}
-use Rattle.tlut_cli.specs.SourceCircuit.{width_of}
-use Rattle.tlut_cli.specs.Statuses.{refusal_status}
-use Rattle.tlut_cli.specs.Words.{job_of}
+use Rattle.tlut_cli.specs.Run.Machine.{bank_of}
+use Rattle.tlut_cli.specs.Run.Words.{RunWords, run_of}
+use Rattle.tlut_cli.specs.Stations.Script.{names_of}
+use Rattle.tlut_cli.specs.Stations.SourceCircuit.{width_of, shape_of}
+use Rattle.tlut_cli.specs.Statuses.{refusal_status, status_of}
 
--- the words of a job, and words of no form
-words_of_a_job : job_of (codes "run" ∷ codes "2" ∷ codes "n" ∷ codes "p" ∷ codes "s" ∷ codes "0" ∷ codes "0" ∷ []) ≡ Some (record { k = 2; netlist = codes "n"; params = codes "p"; script = codes "s" })
-words_of_a_job = refl
+-- the words of a job with tables of K inputs, and these ports and spares
+abbrev words : List ℕ → List ℕ → List ℕ → List (List ℕ)
+words k serving spares = codes "run" ∷ k ∷ codes "n" ∷ codes "p" ∷ codes "s" ∷ serving ∷ spares ∷ []
 
-tables_of_seven_inputs : job_of (codes "run" ∷ codes "7" ∷ codes "n" ∷ codes "p" ∷ codes "s" ∷ codes "0" ∷ codes "0" ∷ []) ≡ None
+-- where four ports are handed in
+abbrev job_of : List ℕ → List ℕ → List ℕ → Option RunWords
+job_of k serving spares = run_of 4 (words k serving spares)
+
+a_job : job_of (codes "2") (codes "3") (codes "1") ≡ Some (record { source = record { k = 2; netlist = codes "n"; params = codes "p" }; script = codes "s"; ports = record { serving = 3; spares = 1 } })
+a_job = refl
+
+no_ports : run_of 0 (words (codes "6") (codes "0") (codes "0")) ≡ Some (record { source = record { k = 6; netlist = codes "n"; params = codes "p" }; script = codes "s"; ports = record { serving = 0; spares = 0 } })
+no_ports = refl
+
+-- and words of no form: tables of one input or seven, more ports than are handed in, numbers that aren't written so, a word too few
+tables_of_one_input : job_of (codes "1") (codes "0") (codes "0") ≡ None
+tables_of_one_input = refl
+
+tables_of_seven_inputs : job_of (codes "7") (codes "0") (codes "0") ≡ None
 tables_of_seven_inputs = refl
+
+five_ports : job_of (codes "2") (codes "3") (codes "2") ≡ None
+five_ports = refl
+
+two_zeros : job_of (codes "2") (codes "00") (codes "0") ≡ None
+two_zeros = refl
+
+above_all_numbers : job_of (codes "2") (codes "0") (codes "18446744073709551616") ≡ None
+above_all_numbers = refl
+
+no_spares : run_of 4 (codes "run" ∷ codes "2" ∷ codes "n" ∷ codes "p" ∷ codes "s" ∷ codes "0" ∷ []) ≡ None
+no_spares = refl
+
+-- two ports serve, the third one is a spare, and the fourth one is not touched
+parts_of_four : (a b c d : PortSeen) → bank_of (record { serving = 2; spares = 1 }) (a ∷ b ∷ c ∷ d ∷ []) ≡ record { serving = a ∷ b ∷ []; spares = c ∷ []; rest = d ∷ []; failed = [] }
+parts_of_four a b c d = refl
 
 -- the source circuit of a AND b AND p, where p is a parameter of 1
 abbrev a : List ℕ
@@ -67,34 +102,25 @@ flat = record {
 abbrev source : Source
 source = record { netlist = record { library = library; flat = flat }; params = record { list = record { name = p; input = 2; init = true } ∷ [] } }
 
--- a cycle gives a and b values
+-- a cycle gives a and b values, and a change p
 two_regular_inputs : width_of source ≡ 2
 two_regular_inputs = refl
+
+sources : shape_of source ≡ record { regular = 2; params = 1; latches = 0 }
+sources = refl
+
+named : names_of source 4 ≡ record { params = p ∷ []; width = Some 2; bits = 4 }
+named = refl
 
 -- the values of the inputs by their names: a and p are 1, and b is 0
 abbrev value : List ℕ → Bool
 value name = cond (bytes_eq name b) false true
 
-values_of_a_cycle : AreInputValues source ((true ∷ false ∷ []) ∷ []) (value ∷ [])
-values_of_a_cycle = record { regular = refl; params = listed }
-  where
-    listed : (x : List ℕ → Bool) → In (value ∷ []) x → map x (p ∷ []) ≡ true ∷ []
-    listed x (inl e) = ap (λ (f : List ℕ → Bool). map f (p ∷ [])) e
-    listed x (inr i) = elim i [ ]
+values_of_a_cycle : map value (regular_names source.netlist.flat source.params.list) ≡ true ∷ false ∷ []
+values_of_a_cycle = refl
 
--- a latch that turns, over two cycles
-lines_of_two_cycles : cycle_lines ((true ∷ []) ∷ (false ∷ []) ∷ []) ((false ∷ []) ∷ (true ∷ []) ∷ []) ≡ codes "cycle 1 0\n" ∷ codes "cycle 0 1\n" ∷ []
-lines_of_two_cycles = refl
-
--- a script of two cycles
-abbrev cycle_line : ℕ → List ℕ → WordsLine
-cycle_line number token = record { number = number; words = codes "cycle" ∷ token ∷ [] }
-
-two_cycles : vectors_of 2 (cycle_line 1 (codes "10") ∷ cycle_line 3 (codes "11") ∷ []) ≡ Ok ((true ∷ false ∷ []) ∷ (true ∷ true ∷ []) ∷ [])
-two_cycles = refl
-
-one_value_too_few : vectors_of 2 (cycle_line 1 (codes "10") ∷ cycle_line 3 (codes "1") ∷ []) ≡ Err 3
-one_value_too_few = refl
+values_of_parameters : map value (param_names source.params.list) ≡ true ∷ []
+values_of_parameters = refl
 
 -- fault lines, byte by byte
 abbrev told_line : Option RefusalValue → List ℕ
@@ -110,17 +136,39 @@ chain_line = refl
 clocks_line : told_line (flat_refusal (flat_err.SecondClock (codes "c") (codes "0/e"))) ≡ codes "tlut: l.blif: F7 SecondClock c 0/e\n"
 clocks_line = refl
 
-no_input_line : told_line (flat_refusal (flat_err.ClockNotInput (codes "0/k"))) ≡ codes "tlut: l.blif: F8 ClockNotInput 0/k\n"
-no_input_line = refl
-
-data_line : told_line (flat_refusal (flat_err.ClockAsData (codes "c"))) ≡ codes "tlut: l.blif: F9 ClockAsData c\n"
-data_line = refl
-
-loop_line : told_line (flat_refusal (flat_err.Loop (codes "y" ∷ codes "1/z" ∷ []))) ≡ codes "tlut: l.blif: F10 Loop y 1/z\n"
-loop_line = refl
-
 large_line : told_line (flat_refusal flat_err.TooLarge) ≡ codes "tlut: l.blif: L2 TooLarge\n"
 large_line = refl
+
+width_line : told_line (script_refusal (script_err.Width 1 2)) ≡ codes "tlut: l.blif: S2 Width line 1 width 2\n"
+unfolding digits
+width_line = refl
+
+parameter_line : told_line (script_refusal (script_err.NotParameter 1 (codes "q"))) ≡ codes "tlut: l.blif: S3 NotParameter line 1 q\n"
+unfolding digits
+parameter_line = refl
+
+address_line : told_line (script_refusal (script_err.Address 12 4)) ≡ codes "tlut: l.blif: S5 Address line 12 bits 4\n"
+unfolding digits
+address_line = refl
+
+long_line : line_of (codes "s.scr") (outcome.TooLong file.Script) ≡ codes "tlut: s.scr: L1 FileTooLong\n"
+long_line = refl
+
+read_line : line_of (codes "p.par") (outcome.ReadFault file.Params) ≡ codes "tlut: p.par: read failed\n"
+read_line = refl
+
+usage_line : line_of [] outcome.Usage ≡ codes "tlut: usage: run K NETLIST PARAMS SCRIPT PORTS SPARES, spec K NETLIST PARAMS OUT, map K NETLIST PARAMS TEMPLATE PACK, bits PACK SCRIPT, gen N SEED\n"
+usage_line = refl
+
+port_line : line_of [] outcome.PortFault ≡ codes "tlut: port failed\n"
+port_line = refl
+
+-- the word that a fault line tells
+abbrev told_word : File → List ℕ
+told_word f = fault_word 4 (words (codes "2") (codes "1") (codes "0")) (outcome.ReadFault f)
+
+three_words : told_word file.Netlist ∷ told_word file.Params ∷ told_word file.Script ∷ [] ≡ codes "n" ∷ codes "p" ∷ codes "s" ∷ []
+three_words = refl
 
 -- a limit has another status than what blames the netlist
 loop_status : option_map (λ r. refusal_status r) (flat_refusal (flat_err.Loop [])) ≡ Some status.Refused
@@ -129,8 +177,5 @@ loop_status = refl
 large_status : option_map (λ r. refusal_status r) (flat_refusal flat_err.TooLarge) ≡ Some status.Limit
 large_status = refl
 
-long_line : line_of (codes "s.scr") (outcome.TooLong file.Script) ≡ codes "tlut: s.scr: L1 FileTooLong\n"
-long_line = refl
-
-read_line : line_of (codes "p.par") (outcome.ReadFault file.Params) ≡ codes "tlut: p.par: read failed\n"
-read_line = refl
+ports_status : status_of outcome.PortFault ≡ status.PortFault
+ports_status = refl

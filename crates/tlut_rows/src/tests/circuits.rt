@@ -1,9 +1,7 @@
 //! Accepted netlists of several covers and models, with latches and with parameters.
 use crate::tests::job::{AND7, Row, accepted, accepted_with, assert_rows};
+use crate::tests::multiplexer::MUX;
 use std::test::Fail;
-
-// The two inputs of a multiplexer, and the one that chooses between them.
-const MUX: &str = ".model mux\n.inputs a b p\n.outputs y\n.names p a b y\n11- 1\n0-1 1\n.end\n";
 
 // A latch that a parameter turns.
 const TURN: &str =
@@ -47,15 +45,15 @@ fn covers(rt: HostRuntime) -> Result<(), Fail> {
             "a cover over another one",
             "2",
             ".model r\n.inputs a b c\n.outputs y\n.names a b t\n10 1\n01 1\n.names t c y\n11 1\n.end\n",
-            "cycle 101\ncycle 111\n",
-            "luts 2 bits 8 depth 2\ncycle 1 -\ncycle 0 -\n",
+            "image\ncycle 101\ncycle 111\n",
+            "luts 2 bits 8 depth 2\nimage 10010100\ncycle 1 -\ncycle 0 -\n",
         ),
         accepted(
             "an inverter, a cover without rows, a constant and a row without cells that count",
             "2",
             ".model k\n.inputs a\n.outputs w x y z\n.names a w\n1 0\n.names a x\n.names y\n1\n.names a z\n- 1\n.end\n",
-            "cycle 1\n",
-            "luts 3 bits 4 depth 1\ncycle 0011 -\n",
+            "image\ncycle 1\n",
+            "luts 3 bits 4 depth 1\nimage 0110\ncycle 0011 -\n",
         ),
     ];
     assert_rows(&rt, rt.alloc(), &rows)
@@ -63,7 +61,7 @@ fn covers(rt: HostRuntime) -> Result<(), Fail> {
 
 #[test]
 fn latches(rt: HostRuntime) -> Result<(), Fail> {
-    let rows: [Row; 4] = [
+    let rows: [Row; 3] = [
         accepted(
             "a latch, which has its input one cycle later",
             "2",
@@ -80,20 +78,12 @@ fn latches(rt: HostRuntime) -> Result<(), Fail> {
         ),
         // The latch starts at 1, and is turned in each cycle.
         accepted_with(
-            "a latch that a parameter of 1 turns",
+            "a latch that a parameter of 1 turns, and one of 0 leaves",
             "2",
             TURN,
             "p 1\n",
-            "cycle -\ncycle -\n",
-            "luts 1 bits 2 depth 1\ncycle 1 0\ncycle 0 1\n",
-        ),
-        accepted_with(
-            "a latch that a parameter of 0 leaves",
-            "2",
-            TURN,
-            "p 0\n",
-            "cycle -\ncycle -\n",
-            "luts 1 bits 2 depth 1\ncycle 1 1\ncycle 1 1\n",
+            "cycle -\ncycle -\nset p=0\ncycle -\ncycle -\n",
+            "luts 1 bits 2 depth 1\ncycle 1 0\ncycle 0 1\nset 2 0=0 1=1\ncycle 1 1\ncycle 1 1\n",
         ),
     ];
     assert_rows(&rt, rt.alloc(), &rows)
@@ -101,7 +91,7 @@ fn latches(rt: HostRuntime) -> Result<(), Fail> {
 
 #[test]
 fn models(rt: HostRuntime) -> Result<(), Fail> {
-    let rows: [Row; 4] = [
+    let rows: [Row; 3] = [
         accepted(
             "a model without an output",
             "2",
@@ -111,20 +101,12 @@ fn models(rt: HostRuntime) -> Result<(), Fail> {
         ),
         // The complement of the first cell's AND is an AND with p, complemented.
         accepted_with(
-            "two cells, with a parameter of 1",
+            "two cells",
             "2",
             CELLS,
             "p 1\n",
-            "cycle 11\ncycle 01\n",
-            "luts 1 bits 4 depth 1\ncycle 1 -\ncycle 0 -\n",
-        ),
-        accepted_with(
-            "two cells, with a parameter of 0",
-            "2",
-            CELLS,
-            "p 0\n",
-            "cycle 11\ncycle 01\n",
-            "luts 1 bits 4 depth 1\ncycle 1 -\ncycle 1 -\n",
+            "cycle 11\ncycle 01\nset p=0\ncycle 11\ncycle 01\n",
+            "luts 1 bits 4 depth 1\ncycle 1 -\ncycle 0 -\nset 3 0=1 1=1 2=1\ncycle 1 -\ncycle 1 -\n",
         ),
         // The state is 0 at the start, for an init of 2.
         accepted_with(
@@ -132,8 +114,8 @@ fn models(rt: HostRuntime) -> Result<(), Fail> {
             "4",
             COUNTER,
             "lim 1\n",
-            "cycle 1\ncycle 1\ncycle 0\n",
-            "luts 1 bits 4 depth 1\ncycle 0 1\ncycle 1 0\ncycle 0 0\n",
+            "cycle 1\ncycle 1\ncycle 0\nset lim=0\n",
+            "luts 1 bits 4 depth 1\ncycle 0 1\ncycle 1 0\ncycle 0 0\nset 2 1=0 2=0\n",
         ),
     ];
     assert_rows(&rt, rt.alloc(), &rows)
@@ -141,39 +123,23 @@ fn models(rt: HostRuntime) -> Result<(), Fail> {
 
 #[test]
 fn parameters(rt: HostRuntime) -> Result<(), Fail> {
-    let rows: [Row; 6] = [
+    let rows: [Row; 4] = [
         accepted_with(
-            "a multiplexer that shows its second input",
+            "a multiplexer that shows its second input, and then its first",
             "2",
             MUX,
             "p 0\n",
-            "cycle 10\ncycle 01\n",
-            "luts 1 bits 4 depth 1\ncycle 0 -\ncycle 1 -\n",
-        ),
-        accepted_with(
-            "a multiplexer that shows its first input",
-            "2",
-            MUX,
-            "p 1\n",
-            "cycle 10\ncycle 01\n",
-            "luts 1 bits 4 depth 1\ncycle 1 -\ncycle 0 -\n",
+            "cycle 10\ncycle 01\nset p=1\ncycle 10\ncycle 01\n",
+            "luts 1 bits 4 depth 1\ncycle 0 -\ncycle 1 -\nset 2 1=1 2=0\ncycle 1 -\ncycle 0 -\n",
         ),
         // The output needs a bit of its own, as a parameter is no wire.
         accepted_with(
-            "an output that is a parameter of 0",
+            "an output that is a parameter",
             "2",
             ".model w\n.inputs p\n.outputs p\n.end\n",
             "p 0\n",
-            "cycle -\n",
-            "luts 1 bits 1 depth 0\ncycle 0 -\n",
-        ),
-        accepted_with(
-            "an output that is a parameter of 1",
-            "2",
-            ".model w\n.inputs p\n.outputs p\n.end\n",
-            "p 1\n",
-            "cycle -\n",
-            "luts 1 bits 1 depth 0\ncycle 1 -\n",
+            "cycle -\nset p=1\ncycle -\n",
+            "luts 1 bits 1 depth 0\ncycle 0 -\nset 1 0=1\ncycle 1 -\n",
         ),
         accepted(
             "an AND of seven inputs in tables of six",
@@ -187,8 +153,8 @@ fn parameters(rt: HostRuntime) -> Result<(), Fail> {
             "6",
             AND7,
             "g 1\n",
-            "cycle 111111\ncycle 111101\n",
-            "luts 1 bits 64 depth 1\ncycle 1 -\ncycle 0 -\n",
+            "cycle 111111\ncycle 111101\nset g=0\ncycle 111111\n",
+            "luts 1 bits 64 depth 1\ncycle 1 -\ncycle 0 -\nset 1 63=0\ncycle 0 -\n",
         ),
     ];
     assert_rows(&rt, rt.alloc(), &rows)

@@ -1,11 +1,11 @@
-//! What a test is made of.
+//! What a test is made of: a row is a job with what it has outside, and what it must leave.
 use std::alloc::{AllocError, Global};
 use std::process::Abort;
 use std::test::Fail;
-use tl_io::{ConfigPort, MemShelf, MemSink};
+use tl_io::{ConfigPort, MemPort, MemShelf, MemSink};
 use tlut_cli::{Status, tlut};
 
-/// The words of a job on the files of [`shelf_of`], with tables of two inputs.
+/// The words of a job on the files of [`shelf_of`], with tables of two inputs and without ports.
 pub const WORDS: [&str; 7] = ["run", "2", "n.blif", "n.par", "n.scr", "0", "0"];
 
 /// The fault line of words of no form.
@@ -24,7 +24,42 @@ const OUT_ROOM: usize = 10_000;
 
 const ERR_ROOM: usize = 1_100_000;
 
-/// A job, and what it must answer.
+// The most writes of a port that are told.
+const TOLD_WRITES: usize = 100;
+
+/// A port that is handed in: it has room for so many writes of the job, and its calls of these numbers fail.
+#[derive(Clone, Copy)]
+pub struct HandedIn<'a> {
+    pub room: usize,
+    pub fails: &'a [u64],
+}
+
+/// A port with room enough.
+pub fn port(fails: &[u64]) -> HandedIn<'_> {
+    HandedIn { room: 20, fails }
+}
+
+/// What a job has outside: the ports that are handed in, and the numbers of the calls that fail, of the shelf and of both
+/// outputs.
+#[derive(Clone, Copy)]
+pub struct Outside<'a> {
+    pub ports: &'a [HandedIn<'a>],
+    pub shelf: &'a [u64],
+    pub out: &'a [u64],
+    pub err: &'a [u64],
+}
+
+/// No port is handed in, and nothing fails.
+pub fn nothing<'a>() -> Outside<'a> {
+    Outside {
+        ports: &[],
+        shelf: &[],
+        out: &[],
+        err: &[],
+    }
+}
+
+/// A job, what it has outside, and what it must leave.
 #[derive(Clone, Copy)]
 pub struct Row<'a> {
     /// What the job shows.
@@ -35,10 +70,16 @@ pub struct Row<'a> {
     pub netlist: &'a str,
     pub params: &'a str,
     pub script: &'a str,
+    /// The words for the number of ports that serve, and of spares.
+    pub serving: &'a str,
+    pub spares: &'a str,
+    pub outside: Outside<'a>,
     /// What is wanted.
     pub status: Status,
     pub out: &'a str,
     pub err: &'a str,
+    /// The ports behind the job, as [`Ran`] tells them.
+    pub ports: &'a str,
 }
 
 /// What a call left.
@@ -47,6 +88,9 @@ pub struct Ran {
     pub status: Status,
     pub out: MemSink,
     pub err: MemSink,
+    /// The ports in their order, each by its number among those that were handed in, the writes that it accepted, and its faults
+    /// if there are any: `0: 0=0 1=0 1=1; 1: 2=1 3=1 faults 1`.
+    pub ports: String,
 }
 
 /// A shelf with the three files of a job, of which a read gives seven bytes at most.
@@ -72,26 +116,88 @@ fn strings(alloc: Global, words: &[&str]) -> Result<Vec<String>, AllocError> {
     Ok(strings)
 }
 
-/// Runs the program on these words, with sinks whose calls of these numbers fail, and the ports.
-pub fn run_with(
+// A port whose log begins with its number, written before the job: so a port is known again, wherever it stands.
+fn numbered(alloc: Global, number: u32, port: &HandedIn) -> Result<MemPort, AllocError> {
+    let mut fails = Vec::new(alloc);
+    for call in port.fails {
+        fails.push(call.saturating_add(1))?;
+    }
+    let mut made = MemPort::make(alloc, port.room.saturating_add(1), &fails)?;
+    let _ = made.write(number, true);
+    Ok(made)
+}
+
+// Tells a port.
+fn put_port<P: ConfigPort>(text: &mut String, port: &P) -> Result<(), AllocError> {
+    if let Some(first) = port.logged(0) {
+        let number = first.address;
+        write!(text, "{number}:")?;
+    }
+    for i in 1..TOLD_WRITES {
+        let Some(write) = port.logged(i) else {
+            break;
+        };
+        let address = write.address;
+        let bit = u8::from(write.bit);
+        write!(text, " {address}={bit}")?;
+    }
+    let faults = port.faults();
+    if faults > 0 {
+        write!(text, " faults {faults}")?;
+    }
+    Ok(())
+}
+
+// Tells ports in their order.
+fn told<P: ConfigPort>(alloc: Global, ports: &[P]) -> Result<String, AllocError> {
+    let mut text = String::new(alloc);
+    for port in ports {
+        if !text.is_empty() {
+            text.push_str("; ")?;
+        }
+        put_port(&mut text, port)?;
+    }
+    Ok(text)
+}
+
+/// Runs the program on these words and files. The failing calls of the shelf are the shelf's own.
+pub fn run(
     alloc: Global,
     words: &[&str],
     shelf: &mut MemShelf,
-    out_fails: &[u64],
-    err_fails: &[u64],
-    ports: &mut Vec<Box<dyn ConfigPort>>,
+    outside: &Outside,
 ) -> Result<Ran, AllocError> {
     let words = strings(alloc, words)?;
-    let mut out = MemSink::make(alloc, OUT_ROOM, out_fails)?;
-    let mut err = MemSink::make(alloc, ERR_ROOM, err_fails)?;
-    let status = tlut(alloc, &words, shelf, &mut out, &mut err, ports);
-    Ok(Ran { status, out, err })
+    let mut out = MemSink::make(alloc, OUT_ROOM, outside.out)?;
+    let mut err = MemSink::make(alloc, ERR_ROOM, outside.err)?;
+    let mut ports: Vec<Box<dyn ConfigPort>> = Vec::new(alloc);
+    for (number, port) in (0..u32::MAX).zip(outside.ports) {
+        ports.push(Box::new(alloc, numbered(alloc, number, port)?)?)?;
+    }
+    let status = tlut(alloc, &words, shelf, &mut out, &mut err, &mut ports);
+    let ports = told(alloc, &ports)?;
+    Ok(Ran {
+        status,
+        out,
+        err,
+        ports,
+    })
 }
 
-/// Runs the program on these words without ports, with sinks that don't fail.
-pub fn run(alloc: Global, words: &[&str], shelf: &mut MemShelf) -> Result<Ran, AllocError> {
-    let mut ports = Vec::new(alloc);
-    run_with(alloc, words, shelf, &[], &[], &mut ports)
+/// Runs the program on a row's files.
+pub fn run_row(alloc: Global, row: &Row) -> Result<Ran, AllocError> {
+    let words = [
+        "run",
+        row.k,
+        "n.blif",
+        "n.par",
+        "n.scr",
+        row.serving,
+        row.spares,
+    ];
+    let fails = row.outside.shelf;
+    let mut shelf = shelf_of(alloc, row.netlist, row.params, row.script, fails)?;
+    run(alloc, &words, &mut shelf, &row.outside)
 }
 
 /// Tells whether a call left what is wanted.
@@ -101,20 +207,45 @@ pub fn assert_ran(rt: &impl Abort, title: &str, ran: &Ran, status: Status, out: 
     assert_eq!(rt; ran.status, status, "status of {title}");
 }
 
-fn assert_row(rt: &impl Abort, alloc: Global, row: &Row) -> Result<(), AllocError> {
-    let words = ["run", row.k, "n.blif", "n.par", "n.scr", "0", "0"];
-    let mut shelf = shelf_of(alloc, row.netlist, row.params, row.script, &[])?;
-    let ran = run(alloc, &words, &mut shelf)?;
-    assert_ran(rt, row.title, &ran, row.status, row.out, row.err);
+/// Runs a job, and tells whether it leaves what it must.
+pub fn assert_row(rt: &impl Abort, alloc: Global, row: &Row) -> Result<(), AllocError> {
+    let title = row.title;
+    let ran = run_row(alloc, row)?;
+    assert_ran(rt, title, &ran, row.status, row.out, row.err);
+    assert_eq!(rt; ran.ports.as_str(), row.ports, "ports of {title}");
     Ok(())
 }
 
-/// Runs each job, and tells whether it answers what it must.
+/// Runs each job, and tells whether it leaves what it must.
 pub fn assert_rows(rt: &impl Abort, alloc: Global, rows: &[Row]) -> Result<(), Fail> {
     for row in rows {
         assert_row(rt, alloc, row)?;
     }
     Ok(())
+}
+
+// A job without ports that leaves nothing.
+fn silent<'a>(
+    title: &'a str,
+    k: &'a str,
+    netlist: &'a str,
+    params: &'a str,
+    script: &'a str,
+) -> Row<'a> {
+    Row {
+        title,
+        k,
+        netlist,
+        params,
+        script,
+        serving: "0",
+        spares: "0",
+        outside: nothing(),
+        status: Status::Done,
+        out: "",
+        err: "",
+        ports: "",
+    }
 }
 
 /// An accepted job with a parameter list.
@@ -127,14 +258,8 @@ pub fn accepted_with<'a>(
     out: &'a str,
 ) -> Row<'a> {
     Row {
-        title,
-        k,
-        netlist,
-        params,
-        script,
-        status: Status::Done,
         out,
-        err: "",
+        ..silent(title, k, netlist, params, script)
     }
 }
 
@@ -158,14 +283,9 @@ pub fn refused_with<'a>(
     err: &'a str,
 ) -> Row<'a> {
     Row {
-        title,
-        k: "2",
-        netlist,
-        params,
-        script,
         status: Status::Refused,
-        out: "",
         err,
+        ..silent(title, "2", netlist, params, script)
     }
 }
 
@@ -177,13 +297,8 @@ pub fn refused<'a>(title: &'a str, netlist: &'a str, err: &'a str) -> Row<'a> {
 /// A job that is over a limit.
 pub fn limited<'a>(title: &'a str, netlist: &'a str, params: &'a str, err: &'a str) -> Row<'a> {
     Row {
-        title,
-        k: "2",
-        netlist,
-        params,
-        script: "",
         status: Status::Limit,
-        out: "",
         err,
+        ..silent(title, "2", netlist, params, "")
     }
 }

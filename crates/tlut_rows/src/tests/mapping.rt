@@ -21,8 +21,8 @@ fn one_table_or_none(rt: HostRuntime) -> Result<(), Fail> {
             "a wire",
             "2",
             WIRE,
-            "cycle 1\n",
-            "luts 0 bits 0 depth 0\ncycle 1 -\n",
+            "image\ncycle 1\n",
+            "luts 0 bits 0 depth 0\nimage -\ncycle 1 -\n",
         ),
         // The table of a AND NOT b: of its four bits that of a = 1, b = 0 is 1.
         accepted(
@@ -37,8 +37,8 @@ fn one_table_or_none(rt: HostRuntime) -> Result<(), Fail> {
             "an inverter",
             "2",
             ".model inv\n.inputs a\n.outputs y\n.names a y\n0 1\n.end\n",
-            "cycle 0\ncycle 1\n",
-            "luts 1 bits 2 depth 1\ncycle 1 -\ncycle 0 -\n",
+            "image\ncycle 0\ncycle 1\n",
+            "luts 1 bits 2 depth 1\nimage 10\ncycle 1 -\ncycle 0 -\n",
         ),
     ];
     assert_rows(&rt, rt.alloc(), &rows)

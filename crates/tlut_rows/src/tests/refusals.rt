@@ -1,12 +1,11 @@
 //! Jobs that are refused.
 use crate::tests::job::{
-    AND2, Row, USAGE, WORDS, assert_ran, assert_rows, refused, refused_with, run, run_with,
-    shelf_of,
+    AND2, Row, USAGE, assert_ran, assert_rows, nothing, port, refused, run, shelf_of,
 };
+use crate::tests::multiplexer::with_ports;
 use std::alloc::Global;
 use std::process::Abort;
 use std::test::Fail;
-use tl_io::{ConfigPort, MemPort};
 use tlut_cli::Status;
 
 #[test]
@@ -126,60 +125,14 @@ fn commands_and_models_that_are_refused(rt: HostRuntime) -> Result<(), Fail> {
     assert_rows(&rt, rt.alloc(), &rows)
 }
 
-#[test]
-fn lists_and_scripts_that_are_refused(rt: HostRuntime) -> Result<(), Fail> {
-    let rows: [Row; 6] = [
-        refused_with(
-            "a bad byte in the list",
-            AND2,
-            "\x7f",
-            "cycle 11\n",
-            "tlut: n.par: T1 BadByte line 1\n",
-        ),
-        refused_with(
-            "a set",
-            AND2,
-            "",
-            "set p=1\n",
-            "tlut: n.scr: X1 Unbuilt line 1\n",
-        ),
-        refused_with(
-            "one value too many, behind a line without tokens",
-            AND2,
-            "",
-            "cycle 11\n\ncycle 111\n",
-            "tlut: n.scr: X1 Unbuilt line 3\n",
-        ),
-        refused_with(
-            "one value too few",
-            AND2,
-            "",
-            "cycle \\\n1\n",
-            "tlut: n.scr: X1 Unbuilt line 1\n",
-        ),
-        refused_with(
-            "a value that is no bit",
-            AND2,
-            "",
-            "cycle 11\ncycle 10\ncycle 1-\n",
-            "tlut: n.scr: X1 Unbuilt line 3\n",
-        ),
-        refused_with(
-            "a trailing backslash in the script",
-            AND2,
-            "",
-            "set p=1\ncycle 1\\ 1\n",
-            "tlut: n.scr: T2 TrailingSlash line 2\n",
-        ),
-    ];
-    assert_rows(&rt, rt.alloc(), &rows)
-}
-
-// Words that are of no form: then no file is looked at.
+// Words that are of no form, where two ports are handed in: then no file is looked at.
 fn assert_usage(rt: &impl Abort, alloc: Global, words: &[&str]) -> Result<(), Fail> {
+    let ports = [port(&[]), port(&[])];
+    let outside = with_ports(&ports);
     let mut shelf = shelf_of(alloc, AND2, "", "cycle 11\n", &[])?;
-    let ran = run(alloc, words, &mut shelf)?;
+    let ran = run(alloc, words, &mut shelf, &outside)?;
     assert_ran(rt, "words of no form", &ran, Status::Usage, "", USAGE);
+    assert_eq!(rt; ran.ports.as_str(), "0:; 1:");
     Ok(())
 }
 
@@ -190,6 +143,32 @@ fn numbers_of_table_inputs(rt: HostRuntime) -> Result<(), Fail> {
             &rt,
             rt.alloc(),
             &["run", k, "n.blif", "n.par", "n.scr", "0", "0"],
+        )?;
+    }
+    Ok(())
+}
+
+#[test]
+fn numbers_of_ports(rt: HostRuntime) -> Result<(), Fail> {
+    for (serving, spares) in [
+        ("3", "0"),
+        ("0", "3"),
+        ("2", "1"),
+        ("1", "2"),
+        ("00", "0"),
+        ("01", "0"),
+        ("0", "+1"),
+        ("-0", "0"),
+        ("", "0"),
+        ("0", "one"),
+        ("18446744073709551615", "1"),
+        ("1", "18446744073709551615"),
+        ("18446744073709551616", "0"),
+    ] {
+        assert_usage(
+            &rt,
+            rt.alloc(),
+            &["run", "2", "n.blif", "n.par", "n.scr", serving, spares],
         )?;
     }
     Ok(())
@@ -209,35 +188,15 @@ fn words_of_no_form(rt: HostRuntime) -> Result<(), Fail> {
         &rt,
         alloc,
         &["map", "2", "n.blif", "n.par", "n.scr", "0", "0"],
-    )?;
-    assert_usage(
-        &rt,
-        alloc,
-        &["run", "2", "n.blif", "n.par", "n.scr", "0", "1"],
     )
 }
 
 #[test]
-fn ports_are_not_touched(rt: HostRuntime) -> Result<(), Fail> {
+fn no_port_is_handed_in(rt: HostRuntime) -> Result<(), Fail> {
     let alloc = rt.alloc();
-    let mut shelf = shelf_of(alloc, AND2, "", "cycle 11\n", &[])?;
-    let mut ports: Vec<Box<dyn ConfigPort>> = Vec::new(alloc);
-    ports.push(Box::new(alloc, MemPort::make(alloc, 10, &[])?)?)?;
-    let ran = run_with(alloc, &WORDS, &mut shelf, &[], &[], &mut ports)?;
-    assert_ran(
-        &rt,
-        "a port",
-        &ran,
-        Status::Done,
-        "luts 1 bits 4 depth 1\ncycle 1 -\n",
-        "",
-    );
     let words = ["run", "2", "n.blif", "n.par", "n.scr", "1", "0"];
-    let ran = run_with(alloc, &words, &mut shelf, &[], &[], &mut ports)?;
-    assert_ran(&rt, "one port asked for", &ran, Status::Usage, "", USAGE);
-    assert_eq!(rt; ports.len(), 1);
-    let port = ports.pop().ok_or("the port")?;
-    assert_eq!(rt; port.logged(0), None);
-    assert_eq!(rt; port.faults(), 0);
+    let mut shelf = shelf_of(alloc, AND2, "", "cycle 11\n", &[])?;
+    let ran = run(alloc, &words, &mut shelf, &nothing())?;
+    assert_ran(&rt, "a port", &ran, Status::Usage, "", USAGE);
     Ok(())
 }

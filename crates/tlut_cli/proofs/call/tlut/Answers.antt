@@ -1,31 +1,41 @@
-use Rattle.std.proofs.Common.{map, string_bytes}
-use Rattle.tlut_cli.proofs.DoneLemmas.{refusal_is}
-use Rattle.tlut_cli.proofs.LeastLemmas.{least_is, small_is}
-use Rattle.tlut_cli.proofs.ClashLemmas.{accepted_done}
-use Rattle.tlut_cli.proofs.RefusedLemmas.{refused_answered}
+use Rattle.std.proofs.Common.{map, string_bytes, subst}
+use Rattle.std.proofs.lemmas.List.{length-map}
+use Rattle.tlut_cli.specs.Call.{HasRefusal, HasFault, IsAnswered}
+use Rattle.tlut_cli.specs.declared.ends.status.Status.TheVariants as status
+use Rattle.tlut_cli.proofs.CallLemmas.{tells, refusal_is, refused_answered, accepted_done}
+use Rattle.tlut_cli.proofs.HeadlineLemmas.{headline_of}
 use Rattle.tlut_cli.proofs.call.tlut.Goals as goal
 
 pub returns-clause-refusal : goal.returns-clause-refusal
-returns-clause-refusal g c =
-    refusal_is (map string_bytes c.args.words.now) (g.S.Shelf.seen c.args.shelf.now) (g.S.Shelf.seen c.run-outcome.new.shelf) (g.O.Sink.bytes c.args.out.now) (g.O.Sink.bytes c.run-outcome.new.out) c.run-outcome.result c.status.result
-    c.status.ensures c.run-outcome.ensures.end
-
-pub returns-clause-least : goal.returns-clause-least
-returns-clause-least g c =
-    least_is (map string_bytes c.args.words.now) (g.S.Shelf.seen c.args.shelf.now) (g.S.Shelf.seen c.run-outcome.new.shelf) (g.O.Sink.bytes c.args.out.now) (g.O.Sink.bytes c.run-outcome.new.out) c.run-outcome.result c.status.result
-    c.status.ensures c.run-outcome.ensures.end
-
-pub returns-clause-few_leaves : goal.returns-clause-few_leaves
-returns-clause-few_leaves g c =
-    small_is (map string_bytes c.args.words.now) (g.S.Shelf.seen c.args.shelf.now) (g.S.Shelf.seen c.run-outcome.new.shelf) (g.O.Sink.bytes c.args.out.now) (g.O.Sink.bytes c.run-outcome.new.out) c.run-outcome.result c.status.result
-    c.status.ensures c.run-outcome.ensures.end
-
-pub returns-clause-complete : goal.returns-clause-complete
-returns-clause-complete g c =
-    accepted_done (map string_bytes c.args.words.now) (g.S.Shelf.seen c.args.shelf.now) (g.S.Shelf.seen c.run-outcome.new.shelf) (g.O.Sink.bytes c.args.out.now) (g.O.Sink.bytes c.run-outcome.new.out)
-    (g.O.Sink.faults c.args.out.now) (g.O.Sink.faults c.run-outcome.new.out) c.run-outcome.result c.status.result c.status.ensures c.run-outcome.ensures.end c.run-outcome.ensures.write_fault
+returns-clause-refusal g c refuses files told =
+    let words = map string_bytes c.args.words.now in
+    subst (λ n. HasRefusal files n words c.status.result) (length-map c.args.ports.now.items _)
+    (refusal_is words _ _ _ _ c.run_words-outcome.result c.status.result c.status.ensures c.run_words-outcome.ensures.end refuses files told)
 
 pub returns-clause-refused : goal.returns-clause-refused
 returns-clause-refused g c =
-    refused_answered (map string_bytes c.args.words.now) (g.S.Shelf.seen c.args.shelf.now) (g.S.Shelf.seen c.run-outcome.new.shelf) (g.O.Sink.bytes c.args.out.now) (g.O.Sink.bytes c.run-outcome.new.out) c.run-outcome.result c.status.result
-    c.status.ensures c.run-outcome.ensures.end
+    let words = map string_bytes c.args.words.now in
+    subst (λ n. IsAnswered words (g.S.Shelf.seen c.args.shelf.now) (g.S.Shelf.seen c.run_words-outcome.new.shelf) n c.status.result) (length-map c.args.ports.now.items _)
+    (refused_answered words _ _ _ _ c.run_words-outcome.result c.status.result c.status.ensures c.run_words-outcome.ensures.end)
+
+pub returns-clause-done : goal.returns-clause-done
+returns-clause-done g c = tells _ _ _ _ _ c.run_words-outcome.result c.status.result status.Done c.status.ensures c.run_words-outcome.ensures.end
+
+pub returns-clause-part : goal.returns-clause-part
+returns-clause-part g c = tells _ _ _ _ _ c.run_words-outcome.result c.status.result status.WriteFault c.status.ensures c.run_words-outcome.ensures.end
+
+pub returns-clause-lost : goal.returns-clause-lost
+returns-clause-lost g c = tells _ _ _ _ _ c.run_words-outcome.result c.status.result status.PortFault c.status.ensures c.run_words-outcome.ensures.end
+
+pub returns-clause-headline : goal.returns-clause-headline
+returns-clause-headline g c done files told =
+    headline_of files _ _ _ (tells _ _ _ _ _ c.run_words-outcome.result c.status.result status.Done c.status.ensures c.run_words-outcome.ensures.end done files told)
+
+pub returns-clause-complete : goal.returns-clause-complete
+returns-clause-complete g c =
+    accepted_done _ _ _ _ _ _ _ c.run_words-outcome.result c.status.result c.status.ensures c.run_words-outcome.ensures.end c.run_words-outcome.ensures.write_fault
+
+pub returns-clause-read_fault : goal.returns-clause-read_fault
+returns-clause-read_fault g c fault =
+    subst (λ n. HasFault n (map string_bytes c.args.words.now) (g.S.Shelf.seen c.args.shelf.now) (g.S.Shelf.seen c.run_words-outcome.new.shelf)) (length-map c.args.ports.now.items _)
+    (tells _ _ _ _ _ c.run_words-outcome.result c.status.result status.ReadFault c.status.ensures c.run_words-outcome.ensures.end fault)

@@ -1,0 +1,50 @@
+-- The job of `run`: a source circuit, the template that it is mapped to, and the events of a script.
+use Rattle.std.specs.Prelude.{ℕ, List}
+use Rattle.tl_fault.specs.RefusalValue.{RefusalValue}
+use Rattle.tl_io.specs.Shelf.{Files}
+use Rattle.cover_pick.specs.Template.{TemplateValue}
+use Rattle.run_text.specs.EventValue.{EventValue}
+use Rattle.tlut_cli.specs.Walk.{Reading}
+use Rattle.tlut_cli.specs.declared.ends.outcome.File.{File}
+use Rattle.tlut_cli.specs.declared.ends.outcome.File.TheVariants.{Netlist, Params, Script}
+use Rattle.tlut_cli.specs.declared.stations.source.Source.{Source}
+use Rattle.tlut_cli.specs.Stations.Source.{HasMapped, ReachesSource, IsSourceRefused}
+use Rattle.tlut_cli.specs.Stations.Script.{names_of, HasScript, IsScriptRefused, IsScriptSettled}
+use Rattle.tlut_cli.specs.Stations.Settled.{IsSourceSettled}
+use Rattle.tlut_cli.specs.Run.Words.{RunWords}
+
+pub record Job : Type 0 where
+  pub source : Source
+  pub template : TemplateValue
+  pub events : List EventValue
+
+-- the files hold it
+pub record IsJob (files : Files) (words : RunWords) (job : Job) : Type 0 where
+  pub mapped : HasMapped files words.source job.source job.template
+  pub script : HasScript files words.script (names_of job.source job.template.bits) job.events
+
+-- the first refusal of its walk, at a file: up to the mapping, then the script's
+pub data IsRefused (files : Files) (words : RunWords) (file : File) (refusal : RefusalValue) : Type 0 where
+  source : IsSourceRefused files words.source file refusal → IsRefused files words file refusal
+  script : (source : Source) (template : TemplateValue) → HasMapped files words.source source template → IsScriptRefused files words.script (names_of source template.bits) file refusal → IsRefused files words file refusal
+
+-- each of its files says one thing, or is refused for one reason
+pub record IsSettled (files : Files) (words : RunWords) : Type 0 where
+  pub source : IsSourceSettled files words.source
+  pub script : (source : Source) (template : TemplateValue) → HasMapped files words.source source template → IsScriptSettled files words.script (names_of source template.bits)
+
+-- the word that names a file of it
+abbrev pub run_word : RunWords → File → List ℕ
+run_word words Netlist = words.source.netlist
+run_word words Params = words.source.params
+run_word words Script = words.script
+
+-- how its files are read
+abbrev pub run_reading : RunWords → Reading
+run_reading words = record {
+  IsRead = λ file. Unit {0};
+  word = run_word words;
+  Reaches = λ files file. ReachesSource files words.source file;
+  IsRefused = λ files file refusal. IsRefused files words file refusal;
+  IsSettled = λ files. IsSettled files words;
+}

@@ -1,0 +1,49 @@
+-- The script that a file holds.
+use Rattle.std.specs.Prelude.{◌≡◌, ℕ, List, Some}
+use Rattle.tl_fault.specs.RefusalValue.{RefusalValue}
+use Rattle.tl_io.specs.Shelf.{Files}
+use Rattle.run_text.specs.EventValue.{EventValue}
+use Rattle.run_text.specs.NamesValue.{NamesValue}
+use Rattle.run_text.specs.Parameters.{param_names}
+use Rattle.run_text.specs.ScriptText.{IsScript, HasOneReading}
+use Rattle.tlut_cli.specs.Walk.{Reading}
+use Rattle.tlut_cli.specs.Refusals.{too_long}
+use Rattle.tlut_cli.specs.declared.ends.outcome.File.{File}
+use Rattle.tlut_cli.specs.declared.ends.outcome.File.TheVariants.{Netlist, Params, Script}
+use Rattle.tlut_cli.specs.declared.stations.source.Source.{Source}
+use Rattle.tlut_cli.specs.Stations.SourceCircuit.{width_of}
+use Rattle.tlut_cli.specs.Stations.Texts.{HasText, IsOverlong, IsScriptRefusal}
+
+-- what a script may name, where a source circuit is mapped to so many configuration bits
+abbrev pub names_of : Source → ℕ → NamesValue
+names_of source bits = record { params = param_names source.params.list; width = Some (width_of source); bits = bits }
+
+-- its events
+pub record HasScript (files : Files) (name : List ℕ) (names : NamesValue) (events : List EventValue) : Type 0 where
+  pub text : List ℕ
+  pub there : HasText files name text
+  pub is : IsScript names text events
+
+-- it is too long, or its text is refused
+pub data IsScriptRefused (files : Files) (name : List ℕ) (names : NamesValue) (file : File) (refusal : RefusalValue) : Type 0 where
+  long : file ≡ Script → IsOverlong files name → refusal ≡ too_long → IsScriptRefused files name names file refusal
+  text : file ≡ Script → (text : List ℕ) → HasText files name text → IsScriptRefusal names text refusal → IsScriptRefused files name names file refusal
+
+-- it says one thing, or is refused for one reason
+abbrev pub IsScriptSettled : Files → List ℕ → NamesValue → Type 0
+IsScriptSettled files name names = (text : List ℕ) → HasText files name text → HasOneReading names text
+
+abbrev pub IsScriptFile : File → Type 0
+IsScriptFile Netlist = ⊥
+IsScriptFile Params = ⊥
+IsScriptFile Script = Unit {0}
+
+-- how it is read
+abbrev pub script_reading : List ℕ → NamesValue → Reading
+script_reading name names = record {
+  IsRead = IsScriptFile;
+  word = λ file. name;
+  Reaches = λ files file. Unit {0};
+  IsRefused = λ files file refusal. IsScriptRefused files name names file refusal;
+  IsSettled = λ files. IsScriptSettled files name names;
+}

@@ -1,0 +1,52 @@
+-- The source circuit that files hold, mapped: the walk through NETLIST, PARAMS and the mapping.
+use Rattle.std.specs.Prelude.{◌≡◌, ℕ, List}
+use Rattle.tl_fault.specs.RefusalValue.{RefusalValue}
+use Rattle.tl_io.specs.Shelf.{Files}
+use Rattle.blif_flat.specs.FlatValue.{FlatValue}
+use Rattle.run_text.specs.declared.params.Param.{Param}
+use Rattle.run_text.specs.ParamsText.{IsParamsText}
+use Rattle.cover_pick.specs.Template.{TemplateValue}
+use Rattle.tlut_cli.specs.Refusals.{too_long}
+use Rattle.tlut_cli.specs.declared.ends.outcome.File.{File}
+use Rattle.tlut_cli.specs.declared.ends.outcome.File.TheVariants.{Netlist, Params, Script}
+use Rattle.tlut_cli.specs.declared.stations.netlist.Netlist.{Netlist as NetlistValue}
+use Rattle.tlut_cli.specs.declared.stations.source.Source.{Source}
+use Rattle.tlut_cli.specs.Stations.Words.{SourceWords}
+use Rattle.tlut_cli.specs.Stations.Texts.{HasText, IsOverlong, IsNetlistText, NetlistRefusal, IsParamsRefusal}
+use Rattle.tlut_cli.specs.Stations.Mapped.{IsMapped, IsUnmapped}
+
+-- the netlist that is read
+pub record HasNetlist (files : Files) (words : SourceWords) (n : NetlistValue) : Type 0 where
+  pub text : List ℕ
+  pub there : HasText files words.netlist text
+  pub is : IsNetlistText text n
+
+-- the parameters that are listed, for a flat circuit
+pub record HasParams (files : Files) (words : SourceWords) (flat : FlatValue) (params : List Param) : Type 0 where
+  pub text : List ℕ
+  pub there : HasText files words.params text
+  pub is : IsParamsText flat text params
+
+-- the source circuit: the netlist with its parameters
+pub record HasSource (files : Files) (words : SourceWords) (source : Source) : Type 0 where
+  pub netlist : HasNetlist files words source.netlist
+  pub params : HasParams files words source.netlist.flat source.params.list
+
+-- the walk comes past the netlist, the list and the mapping
+pub record HasMapped (files : Files) (words : SourceWords) (source : Source) (template : TemplateValue) : Type 0 where
+  pub has : HasSource files words source
+  pub mapped : IsMapped source words.k template
+
+-- the walk comes to a file; a script is read behind the mapping
+abbrev pub ReachesSource : Files → SourceWords → File → Type 0
+ReachesSource files words Netlist = Unit {0}
+ReachesSource files words Params = (n : NetlistValue) × HasNetlist files words n
+ReachesSource files words Script = (source : Source) × (template : TemplateValue) × HasMapped files words source template
+
+-- the first refusal up to the mapping, at a file
+pub data IsSourceRefused (files : Files) (words : SourceWords) (file : File) (refusal : RefusalValue) : Type 0 where
+  long_netlist : file ≡ Netlist → IsOverlong files words.netlist → refusal ≡ too_long → IsSourceRefused files words file refusal
+  netlist : file ≡ Netlist → (text : List ℕ) → HasText files words.netlist text → NetlistRefusal text refusal → IsSourceRefused files words file refusal
+  long_params : file ≡ Params → (n : NetlistValue) → HasNetlist files words n → IsOverlong files words.params → refusal ≡ too_long → IsSourceRefused files words file refusal
+  params : file ≡ Params → (n : NetlistValue) (text : List ℕ) → HasNetlist files words n → HasText files words.params text → IsParamsRefusal n.flat text refusal → IsSourceRefused files words file refusal
+  mapping : file ≡ Netlist → (source : Source) → HasSource files words source → IsUnmapped source words.k refusal → IsSourceRefused files words file refusal
