@@ -1,40 +1,81 @@
-//! Runs the examples, and compares what each one prints with the text beside it.
+//! Runs the examples, and compares what each one prints, and what its configuration ports take, with the texts beside it.
 //!
 //! `data/` has a folder for each netlist, and is what `examples` at the top of the repository names. The program runs in there: each
-//! example is the words of a command line on these files, and a file of what it must print. A line for each tells how it went, and
-//! the file `stdout` beside `src/` has the lines that are wanted.
+//! example is the words of a command line on these files, and the files of what it must print and of what its ports must take. A
+//! line for each tells how it went, and the file `stdout` beside `src/` has the lines that are wanted.
 #![tactic(auto)]
 
 use std::alloc::{AllocError, Global};
 use std::io;
-use tl_io::{DiskShelf, MemSink, Shelf, slurp};
+use tl_io::{ConfigPort, DiskShelf, MemPort, MemSink, Shelf, slurp};
 use tlut_cli::{Status, tlut};
 
 // The room for what an example prints.
 const ROOM: usize = 10_000;
 
-// The words of each example, and the file of what it prints.
-const EXAMPLES: [(&str, &str); 5] = [
-    (
-        "run 2 and2/and2.blif and2/none.par and2/one.scr 0 0",
-        "and2/expected.txt",
-    ),
-    (
-        "run 6 and7/and7.blif and7/none.par and7/two.scr 0 0",
-        "and7/expected.txt",
-    ),
-    (
-        "run 6 and7/and7.blif and7/tuned.par and7/tuned.scr 0 0",
-        "and7/expected_tuned.txt",
-    ),
-    (
-        "run 4 fir/fir.blif fir/fir.par fir/ten.scr 0 0",
-        "fir/expected.txt",
-    ),
-    (
-        "run 4 guard/guard.blif guard/none.par guard/four.scr 0 0",
-        "guard/expected.txt",
-    ),
+// How many ports the program is handed, and how many writes each one takes.
+const PORTS: usize = 4;
+
+const WRITES: usize = 1_000;
+
+// The words of a command line, the file of what it prints, and those of what its first ports take. Each further port takes nothing.
+struct Example {
+    words: &'static str,
+    printed: &'static str,
+    taken: &'static [&'static str],
+}
+
+const EXAMPLES: [Example; 10] = [
+    Example {
+        words: "run 2 and2/and2.blif and2/none.par and2/one.scr 0 0",
+        printed: "and2/expected.txt",
+        taken: &[],
+    },
+    Example {
+        words: "run 6 and7/and7.blif and7/none.par and7/two.scr 0 0",
+        printed: "and7/expected.txt",
+        taken: &[],
+    },
+    Example {
+        words: "run 6 and7/and7.blif and7/tuned.par and7/tuned.scr 0 0",
+        printed: "and7/expected_tuned.txt",
+        taken: &[],
+    },
+    Example {
+        words: "run 2 mux/mux.blif mux/mux.par mux/events.scr 2 1",
+        printed: "mux/expected.txt",
+        taken: &["mux/expected_port0.bits", "mux/expected_port1.bits"],
+    },
+    Example {
+        words: "run 4 fir/fir.blif fir/fir.par fir/ten.scr 0 0",
+        printed: "fir/expected.txt",
+        taken: &[],
+    },
+    Example {
+        words: "run 4 fir/fir.blif fir/fir.par fir/changing.scr 0 0",
+        printed: "fir/expected_changing.txt",
+        taken: &[],
+    },
+    Example {
+        words: "run 4 matcher/matcher.blif matcher/matcher.par matcher/patterns.scr 0 0",
+        printed: "matcher/expected.txt",
+        taken: &[],
+    },
+    Example {
+        words: "run 4 matcher/matcher.blif matcher/none.par matcher/inputs.scr 0 0",
+        printed: "matcher/expected_inputs.txt",
+        taken: &[],
+    },
+    Example {
+        words: "run 4 coder/coder.blif coder/coder.par coder/keys.scr 0 0",
+        printed: "coder/expected.txt",
+        taken: &[],
+    },
+    Example {
+        words: "run 4 guard/guard.blif guard/none.par guard/four.scr 0 0",
+        printed: "guard/expected.txt",
+        taken: &[],
+    },
 ];
 
 fn strings(alloc: Global, words: &str) -> Result<Vec<String>, AllocError> {
@@ -45,31 +86,75 @@ fn strings(alloc: Global, words: &str) -> Result<Vec<String>, AllocError> {
     Ok(strings)
 }
 
-// Runs an example, and answers whether it is done and prints what the file has.
+// Answers whether a file has these bytes.
+fn has_bytes<S: Shelf>(alloc: Global, shelf: &mut S, file: &str, bytes: &[u8]) -> bool {
+    match slurp(alloc, shelf, file, ROOM as u64) {
+        Ok(text) => text.as_slice() == bytes,
+        Err(_) => false,
+    }
+}
+
+// The lines of the writes that a port took, as a port over a file writes them.
+fn port_lines<P: ConfigPort>(alloc: Global, port: &P) -> Result<String, AllocError> {
+    let mut lines = String::new(alloc);
+    for i in 0..WRITES {
+        let Some(write) = port.logged(i) else {
+            break;
+        };
+        write!(lines, "{}={}\n", write.address, u8::from(write.bit))?;
+    }
+    Ok(lines)
+}
+
+// Answers whether each port took what its file has, and the ports without a file nothing.
+fn have_taken<S: Shelf, P: ConfigPort>(
+    alloc: Global,
+    shelf: &mut S,
+    ports: &[P],
+    files: &[&str],
+) -> Result<bool, AllocError> {
+    for (i, port) in ports.iter().enumerate() {
+        let lines = port_lines(alloc, port)?;
+        let as_expected = match files.get(i) {
+            Some(file) => has_bytes(alloc, shelf, file, lines.as_bytes()),
+            None => lines.is_empty(),
+        };
+        if !as_expected {
+            return Ok(false);
+        }
+    }
+    Ok(true)
+}
+
+// Runs an example, and answers whether it is done, prints what its file has, and its ports take what theirs have.
 fn is_as_expected<S: Shelf>(
     alloc: Global,
     shelf: &mut S,
-    words: &str,
-    file: &str,
+    example: &Example,
 ) -> Result<bool, AllocError> {
-    let words = strings(alloc, words)?;
+    let words = strings(alloc, example.words)?;
     let mut out = MemSink::make(alloc, ROOM, &[])?;
     let mut err = MemSink::make(alloc, ROOM, &[])?;
-    let mut ports = Vec::new(alloc);
-    let status = tlut(alloc, &words, shelf, &mut out, &mut err, &mut ports);
-    match slurp(alloc, shelf, file, ROOM as u64) {
-        Ok(text) => Ok(status == Status::Done && text.as_slice() == out.bytes()),
-        Err(_) => Ok(false),
+    let mut ports: Vec<Box<dyn ConfigPort>> = Vec::new(alloc);
+    for _ in 0..PORTS {
+        ports.push(Box::new(alloc, MemPort::make(alloc, WRITES, &[])?)?)?;
     }
+    let status = tlut(alloc, &words, shelf, &mut out, &mut err, &mut ports);
+    Ok(
+        status == Status::Done
+            && has_bytes(alloc, shelf, example.printed, out.bytes())
+            && have_taken(alloc, shelf, &ports, example.taken)?,
+    )
 }
 
 fn main(rt: HostRuntime) -> io::Result<()> {
     let mut shelf = DiskShelf::make(rt);
-    for (words, file) in EXAMPLES {
-        if is_as_expected(rt.alloc(), &mut shelf, words, file)? {
-            println!(rt; "{file}: as expected")?;
+    for example in &EXAMPLES {
+        let printed = example.printed;
+        if is_as_expected(rt.alloc(), &mut shelf, example)? {
+            println!(rt; "{printed}: as expected")?;
         } else {
-            println!(rt; "{file}: OTHERWISE")?;
+            println!(rt; "{printed}: OTHERWISE")?;
         }
     }
     Ok(())
