@@ -1,0 +1,7 @@
+use Rattle.std.proofs.Common.{arith}
+use Rattle.gen_case.specs.Script.{setting}
+use Rattle.gen_case.proofs.LineLemmas.{word_added}
+use Rattle.gen_case.proofs.changes.add_settings.Goals as goal
+
+pub loop-place-preserved : goal.loop-place-preserved
+loop-place-preserved c = word_added (setting c.args.value) 0 c.loop-place.place _ c.loop-place.place _ _ _ (omega arith) (omega arith) c.loop-place.invariant c.in_ok-add_setting.ensures

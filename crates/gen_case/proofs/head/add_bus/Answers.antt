@@ -1,0 +1,8 @@
+use Rattle.std.proofs.Common.{arith}
+use Rattle.gen_case.specs.declared.net.Net.TheVariants.{Digit}
+use Rattle.gen_case.specs.Nets.{net_name}
+use Rattle.gen_case.proofs.LineLemmas.{word_added}
+use Rattle.gen_case.proofs.head.add_bus.Goals as goal
+
+pub loop-place-preserved : goal.loop-place-preserved
+loop-place-preserved c = word_added (λ place. net_name (Digit c.args.bus place)) 0 c.loop-place.place _ c.loop-place.place _ _ _ (omega arith) (omega arith) c.loop-place.invariant c.in_ok-write.ensures.bytes

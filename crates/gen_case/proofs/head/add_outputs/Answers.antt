@@ -1,0 +1,9 @@
+use Rattle.std.proofs.Common.{◌*◌, codes}
+use Rattle.gen_case.specs.declared.net.Bus.TheVariants.{Product}
+use Rattle.gen_case.specs.Netlist.{bus_names}
+use Rattle.gen_case.proofs.LineLemmas.{line_added}
+use Rattle.gen_case.proofs.head.add_outputs.Goals as goal
+
+pub returns : goal.returns
+returns c =
+    line_added (codes ".outputs") (bus_names Product (2 * c.args.n)) _ _ _ _ c.in_ok-push_str.ensures.bytes c.in_ok-add_bus.ensures c.in_ok-push_str-2.ensures.bytes

@@ -1,0 +1,7 @@
+use Rattle.std.proofs.Common.{arith}
+use Rattle.gen_case.specs.Netlist.{adder_lines}
+use Rattle.gen_case.proofs.LineLemmas.{lines_added}
+use Rattle.gen_case.proofs.netlist.add_adder_row.Goals as goal
+
+pub loop-i-preserved : goal.loop-i-preserved
+loop-i-preserved c = lines_added (adder_lines c.args.n c.args.j) 0 c.loop-i.i _ c.loop-i.i _ _ _ (omega arith) (omega arith) c.loop-i.invariant c.in_ok-add_adder.ensures

@@ -1,0 +1,9 @@
+-- What public clauses say.
+pub mod Nets
+pub mod Lines
+pub mod Netlist
+pub mod Numbers
+pub mod Script
+pub mod Case
+-- What only bodies are compared with.
+pub mod Steps

@@ -1,0 +1,21 @@
+//! A generated case.
+use std::marker::Model;
+
+/// A netlist with a parameter list and a script for it, as texts.
+#[derive(Drop)]
+pub struct Case {
+    /// The netlist.
+    pub netlist: Vec<u8>,
+    /// The list of its parameters, with their values at the start.
+    pub params: Vec<u8>,
+    /// The script.
+    pub script: Vec<u8>,
+}
+
+impl Model for Case {
+    ghost use Rattle.gen_case.specs.Case.{CaseValue};
+
+    ghost Value = { CaseValue };
+
+    ghost view = { λ c. record { netlist = c.netlist.items; params = c.params.items; script = c.script.items } };
+}

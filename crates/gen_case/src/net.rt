@@ -1,0 +1,60 @@
+//! The nets of a multiplier, and their names.
+use std::fmt;
+
+/// A number of the multiplier, by its binary digits.
+#[derive(Clone, Copy)]
+pub enum Bus {
+    /// The data.
+    Data,
+    /// The coefficient.
+    Coefficient,
+    /// The product of both.
+    Product,
+}
+
+impl fmt::Display for Bus {
+    ghost use Rattle.std.specs.Prelude.{Some};
+    ghost use Rattle.gen_case.specs.Nets.{bus_letter};
+
+    ghost output = { λ bus. Some (bus_letter bus) };
+
+    fn fmt<W: fmt::Write>(&self, f: &mut fmt::Formatter<W>) -> fmt::Result {
+        match self {
+            Bus::Data => write!(f, "x"),
+            Bus::Coefficient => write!(f, "c"),
+            Bus::Product => write!(f, "y"),
+        }
+    }
+}
+
+/// A net.
+#[derive(Clone, Copy)]
+pub enum Net {
+    /// The net that is always 0.
+    Zero,
+    /// The digit of a number at a place.
+    Digit(Bus, u32),
+    /// The partial product of a digit of the data and a digit of the coefficient.
+    Partial(u32, u32),
+    /// The sum bit of the full adder in a row at a place.
+    Sum(u32, u32),
+    /// The carry bit of the full adder in a row at a place.
+    Carry(u32, u32),
+}
+
+impl fmt::Display for Net {
+    ghost use Rattle.std.specs.Prelude.{Some};
+    ghost use Rattle.gen_case.specs.Nets.{net_name};
+
+    ghost output = { λ net. Some (net_name net) };
+
+    fn fmt<W: fmt::Write>(&self, f: &mut fmt::Formatter<W>) -> fmt::Result {
+        match self {
+            Net::Zero => write!(f, "zero"),
+            Net::Digit(bus, place) => write!(f, "{bus}{place}"),
+            Net::Partial(i, j) => write!(f, "p{i}_{j}"),
+            Net::Sum(j, i) => write!(f, "s{j}_{i}"),
+            Net::Carry(j, i) => write!(f, "k{j}_{i}"),
+        }
+    }
+}
