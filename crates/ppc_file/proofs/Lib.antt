@@ -1,0 +1,12 @@
+pub mod FieldTakes
+pub mod FieldsAgain
+pub mod FileExamples
+pub mod FileLemmas
+pub mod NameRules
+pub mod NumberLemmas
+pub mod OneReading
+pub mod PowerLemmas
+pub mod PutLemmas
+pub mod ReadLemmas
+pub mod ReadsLemmas
+pub mod StandLemmas

@@ -1,0 +1,176 @@
+-- A number that is read is the number that was spelled, and what was spelled is read again.
+use Rattle.std.proofs.Common.{◌≡◌, ℕ, zero, suc, ◌+◌, ◌-◌, ◌*◌, ◌/◌, ◌%◌, ◌^◌, ◌<◌, ◌≤◌, Bool, true, false, cond, ltb, eqb, List, [], ◌∷◌, ◌++◌, length, get_or, take, drop, Result, Ok, Err, refl, sym, ap, subst, ◌∙◌, append_assoc, arith, inl, inr}
+use Rattle.std.specs.Int.{Width, w16, w32, byte_len, from_be_bytes, to_be_bytes}
+use Rattle.std.proofs.Math.Nat.{pow-succ'}
+use Rattle.std.proofs.lemmas.Bool.{cases_lt, ltb-false, le-ltb, lt-ltb, eqb-false}
+use Rattle.std.proofs.lemmas.List.{take_at, drop_at, take-append-drop, length-append, length-take, get_or-drop, get_or-take, get_or_past}
+use Rattle.std.proofs.lemmas.Nat.{be_bytes_2, be_bytes_4, from_be_bytes-to_be_bytes_2, from_be_bytes-to_be_bytes_4}
+use Rattle.ppc_file.specs.declared.pack_err.PackErr.{PackErr}
+use Rattle.ppc_file.specs.declared.pack_err.PackErr.TheVariants.{Truncated, BadNumber}
+use Rattle.ppc_file.specs.declared.version.Version.{Version}
+use Rattle.ppc_file.specs.declared.version.Version.TheVariants.{One, Two}
+use Rattle.ppc_file.specs.Numbers.{Field, ◌>>=◌, offset, sevens, spelled, sevens_at, behind_byte, unless_over, number_at}
+
+-- numbers below 256
+abbrev pub IsBytes : List ℕ → Type 0
+IsBytes bytes = (i : ℕ) → get_or bytes i 0 < 256
+
+IsBytes-drop : (n : ℕ) (bytes : List ℕ) → IsBytes bytes → IsBytes (drop n bytes)
+IsBytes-drop n bytes h i = rw get_or-drop (h (n + i))
+
+IsBytes-take : (n : ℕ) (bytes : List ℕ) → IsBytes bytes → IsBytes (take n bytes)
+IsBytes-take n bytes h i =
+    elim (cases_lt i n) [
+      | inl lt ↦ rw (get_or-take n bytes i 0 lt) (h i)
+      | inr le ↦ rw (get_or_past (take n bytes) i 0 (omega (arith, length-take n bytes))) (omega arith)
+    ]
+
+-- the value of a step that wasn't refused
+pub bind_ok : {A B : Type 0} (r : Result A PackErr) (f : A → Result B PackErr) (y : B) → (r >>= f) ≡ Ok y → (x : A) × (r ≡ Ok x) × (f x ≡ Ok y)
+bind_ok (Ok x) f y e = (x, refl, e)
+bind_ok (Err d) f y e = absurd cc
+
+abbrev done : {A : Type 0} → A → Result A PackErr
+done x = Ok x
+
+pub ok_is : {A : Type 0} (x y : A) → done x ≡ done y → x ≡ y
+ok_is x y e = cc
+
+-- a test that refused nothing
+pub guard_ok : {A : Type 0} (b : Bool) (d : PackErr) (x y : A) → cond b (Err d) (Ok x) ≡ Ok y → (b ≡ false) × (x ≡ y)
+guard_ok true d x y e = absurd cc
+guard_ok false d x y e = (refl, cc)
+
+-- what a reader took from the front
+pub record Takes (bytes text rest : List ℕ) : Type 0 where
+  pub parts : bytes ≡ text ++ rest
+  pub rest_fits : IsBytes rest
+
+pub Takes-then : (a x b y c : List ℕ) → Takes a x b → Takes b y c → Takes a (x ++ y) c
+Takes-then a x b y c p q = record { parts = p.parts ∙ ap (λ (t : List ℕ). x ++ t) q.parts ∙ sym (append_assoc x y c); rest_fits = q.rest_fits }
+
+-- so many bytes are taken
+pub front_taken : (n : ℕ) (bytes : List ℕ) → IsBytes bytes → Takes bytes (take n bytes) (drop n bytes)
+front_taken n bytes fits = record { parts = sym (take-append-drop n bytes); rest_fits = IsBytes-drop n bytes fits }
+
+-- ---- bytes of seven bits
+
+pub sevens_again : (at left n : ℕ) (rest : List ℕ) → n < 128 ^ suc left → sevens_at at (suc left) (sevens (suc left) n ++ rest) ≡ Ok (n, rest)
+sevens_again at zero n rest h =
+    let small : n < 128 = omega arith in
+    rw (lt-ltb n 128 small) (rw (lt-ltb n 128 small) refl)
+sevens_again at (suc left) n rest h = elim (cases_lt n 128) [
+  | inl small ↦ rw (lt-ltb n 128 small) (rw (lt-ltb n 128 small) refl)
+  | inr large ↦ (
+      let p : 128 ^ suc (suc left) ≡ 128 * 128 ^ suc left = pow-succ' 128 (suc left) in
+      let high : n / 128 < 128 ^ suc left = omega arith in
+      let again : sevens_at at (suc left) (sevens (suc left) (n / 128) ++ rest) ≡ Ok (n / 128, rest) = sevens_again at left (n / 128) rest high in
+      let top : ltb (128 + n % 128) 128 ≡ false = le-ltb (128 + n % 128) 128 (omega arith) in
+      let some : eqb (n / 128) 0 ≡ false = (let q : 1 ≤ n / 128 = omega arith in grind arith) in
+      let value : 128 + n % 128 - 128 + 128 * (n / 128) ≡ n = omega arith in
+      rw (le-ltb n 128 large) (rw (top, again, some, value) refl)
+      )
+]
+
+pub not_zero : (n : ℕ) → eqb n 0 ≡ false → 1 ≤ n
+not_zero n h = elim (cases_lt 0 n) [ inl some ↦ omega arith | inr none ↦ absurd (eqb-false n 0 h (omega arith)) ]
+
+behind_ok : (at low : ℕ) (field : Field ℕ) (y : ℕ × List ℕ) → behind_byte at low field ≡ Ok y → (x : ℕ × List ℕ) × (field ≡ Ok x) × (1 ≤ x.0) × (y ≡ (low + 128 * x.0, x.1))
+behind_ok at low (Err e) y h = absurd cc
+behind_ok at low (Ok x) y h =
+    let g = guard_ok (eqb x.0 0) (BadNumber at) (low + 128 * x.0, x.1) y h in
+    (x, refl, not_zero x.0 g.0, sym g.1)
+
+rest_bytes : (b : ℕ) (bytes : List ℕ) → IsBytes (b ∷ bytes) → IsBytes bytes
+rest_bytes b bytes h i = h (suc i)
+
+one_more : (left b n high : ℕ) (bytes rest : List ℕ) → 128 ≤ b → b < 256 → 1 ≤ high → n ≡ b - 128 + 128 * high → Takes bytes (sevens left high) rest → Takes (b ∷ bytes) (sevens (suc left) n) rest
+one_more left b n high bytes rest large byte some number inner =
+    let up : n / 128 ≡ high = omega arith in
+    let low : 128 + n % 128 ≡ b = omega arith in
+    let above : 128 ≤ n = omega arith in
+    record { parts = rw (le-ltb n 128 above) (rw (up, low) (ap (λ (t : List ℕ). b ∷ t) inner.parts)); rest_fits = inner.rest_fits }
+
+pub sevens_takes : (at left : ℕ) (bytes : List ℕ) (n : ℕ) (rest : List ℕ) → IsBytes bytes → sevens_at at left bytes ≡ Ok (n, rest) → Takes bytes (sevens left n) rest
+sevens_takes at zero bytes n rest fits e = absurd cc
+sevens_takes at (suc left) [] n rest fits e = absurd cc
+sevens_takes at (suc left) (b ∷ bytes) n rest fits e = elim (cases_lt b 128) [
+  | inl small ↦ (
+      let h : Ok (b, bytes) ≡ Ok (n, rest) = rw (lt-ltb b 128 small) at e in
+      let same : (b, bytes) ≡ (n, rest) = ok_is (b, bytes) (n, rest) h in
+      let number : b ≡ n = ap (λ (p : ℕ × List ℕ). p.0) same in
+      let behind : bytes ≡ rest = ap (λ (p : ℕ × List ℕ). p.1) same in
+      record {
+        parts = rw (lt-ltb n 128 (omega arith)) (rw (number, behind) refl);
+        rest_fits = subst IsBytes behind (rest_bytes b bytes fits);
+      }
+      )
+  | inr large ↦ (
+      let h : behind_byte at (b - 128) (sevens_at at left bytes) ≡ Ok (n, rest) = rw (le-ltb b 128 large) at e in
+      let x = behind_ok at (b - 128) (sevens_at at left bytes) (n, rest) h in
+      let number : n ≡ b - 128 + 128 * x.0.0 = ap (λ (p : ℕ × List ℕ). p.0) x.3 in
+      let behind : rest ≡ x.0.1 = ap (λ (p : ℕ × List ℕ). p.1) x.3 in
+      subst (λ (r : List ℕ). Takes (b ∷ bytes) (sevens (suc left) n) r) (sym behind)
+      (one_more left b n x.0.0 bytes x.0.1 large (fits 0) x.2 number (sevens_takes at left bytes x.0.0 x.0.1 (rest_bytes b bytes fits) x.1))
+      )
+]
+
+-- ---- numbers of a field
+
+pub record IsWide (w : Width) (limit : ℕ) : Type 0 where
+  pub len : (n : ℕ) → length (to_be_bytes w n) ≡ byte_len w
+  pub back : (bytes : List ℕ) → length bytes ≡ byte_len w → IsBytes bytes → to_be_bytes w (from_be_bytes w bytes) ≡ bytes
+  pub again : (n : ℕ) → n < limit → from_be_bytes w (to_be_bytes w n) ≡ n
+  pub below : (bytes : List ℕ) → IsBytes bytes → from_be_bytes w bytes < limit
+  pub word : limit ≤ 4294967296
+
+pub wide16 : IsWide w16 65536
+wide16 = record {
+  len = λ n. refl;
+  back = λ bytes len fits. be_bytes_2 bytes _ len fits refl;
+  again = λ n lt. from_be_bytes-to_be_bytes_2 n lt;
+  below = λ bytes fits. omega (arith, fits 0, fits 1);
+  word = omega arith;
+}
+
+pub wide32 : IsWide w32 4294967296
+wide32 = record {
+  len = λ n. refl;
+  back = λ bytes len fits. be_bytes_4 bytes _ len fits refl;
+  again = λ n lt. from_be_bytes-to_be_bytes_4 n lt;
+  below = λ bytes fits. omega (arith, fits 0, fits 1, fits 2, fits 3);
+  word = omega arith;
+}
+
+pub unless_ok : (most : ℕ) (e : PackErr) (field : Field ℕ) (y : ℕ × List ℕ) → unless_over most e field ≡ Ok y → (field ≡ Ok y) × (y.0 ≤ most)
+unless_ok most e (Err f) y h = absurd cc
+unless_ok most e (Ok x) y h =
+    let g = guard_ok (ltb most x.0) e x y h in
+    (ap (λ (z : ℕ × List ℕ). Ok z) g.1, subst (λ (z : ℕ × List ℕ). z.0 ≤ most) g.1 (ltb-false most x.0 g.0))
+
+pub unless_again : (most : ℕ) (e : PackErr) (field : Field ℕ) (n : ℕ) (rest : List ℕ) → field ≡ Ok (n, rest) → n ≤ most → unless_over most e field ≡ Ok (n, rest)
+unless_again most e field n rest is within = rw (is, le-ltb most n within) refl
+
+module _ (w : Width) (limit : ℕ) (wide : IsWide w limit) (total : ℕ) where
+  pub number_takes : (v : Version) (bytes : List ℕ) (n : ℕ) (rest : List ℕ) → IsBytes bytes → number_at total v w bytes ≡ Ok (n, rest) → Takes bytes (spelled v w n) rest × (n < 4294967296)
+  number_takes One bytes n rest fits e =
+      let g = guard_ok (ltb (length bytes) (byte_len w)) (Truncated (offset total bytes)) (from_be_bytes w (take (byte_len w) bytes), drop (byte_len w) bytes) (n, rest) e in
+      let long : byte_len w ≤ length bytes = ltb-false _ _ g.0 in
+      let n-is : from_be_bytes w (take (byte_len w) bytes) ≡ n = ap (λ (p : ℕ × List ℕ). p.0) g.1 in
+      let rest-is : drop (byte_len w) bytes ≡ rest = ap (λ (p : ℕ × List ℕ). p.1) g.1 in
+      let front : to_be_bytes w n ≡ take (byte_len w) bytes = rw (← n-is) (wide.back (take (byte_len w) bytes) (omega (arith, length-take (byte_len w) bytes)) (IsBytes-take (byte_len w) bytes fits)) in
+      let below : n < limit = rw (← n-is) (wide.below (take (byte_len w) bytes) (IsBytes-take (byte_len w) bytes fits)) in
+      (record { parts = rw (front, ← rest-is) (sym (take-append-drop (byte_len w) bytes)); rest_fits = rw (← rest-is) (IsBytes-drop (byte_len w) bytes fits) }, omega (arith, wide.word))
+  number_takes Two bytes n rest fits e =
+      let u = unless_ok 4294967295 (BadNumber (offset total bytes)) (sevens_at (offset total bytes) 5 bytes) (n, rest) e in
+      let small : n ≤ 4294967295 = u.1 in
+      (sevens_takes (offset total bytes) 5 bytes n rest fits u.0, omega arith)
+
+  pub number_again : (v : Version) (n : ℕ) (rest : List ℕ) → n < limit → number_at total v w (spelled v w n ++ rest) ≡ Ok (n, rest)
+  number_again One n rest lt =
+      let len = wide.len n in
+      let long : ltb (length (to_be_bytes w n ++ rest)) (byte_len w) ≡ false = le-ltb _ _ (omega (arith, length-append (to_be_bytes w n) rest)) in
+      rw (long, take_at (to_be_bytes w n) rest (byte_len w) len, drop_at (to_be_bytes w n) rest (byte_len w) len, wide.again n lt) refl
+  number_again Two n rest lt =
+      unless_again 4294967295 (BadNumber (offset total (sevens 5 n ++ rest))) (sevens_at (offset total (sevens 5 n ++ rest)) 5 (sevens 5 n ++ rest)) n rest
+      (sevens_again (offset total (sevens 5 n ++ rest)) 4 n rest (omega (arith, lt, wide.word))) (omega (arith, lt, wide.word))

@@ -1,0 +1,150 @@
+-- What the readers of a file's parts are compared with: refusals, new names, and new pairs of a graph.
+use Rattle.std.proofs.Common.{◌≡◌, ℕ, ◌+◌, ◌*◌, ◌/◌, ◌<◌, ◌≤◌, Bool, true, false, ◌||◌, List, [], ◌∷◌, ◌++◌, length, replicate, min, max, Option, Some, None, Ok, Err, refl, sym, ap, subst, ◌∙◌, arith, inl, inr, cond}
+use Rattle.std.specs.List.{list_any, position}
+use Rattle.std.proofs.lemmas.Bool.{cases_Bool}
+use Rattle.std.proofs.lemmas.List.{length-replicate}
+use Rattle.std.proofs.lemmas.List.Quantifiers.{position-Some}
+use Rattle.list_laws.proofs.FirstPlace.{position_none, list_any-position_none}
+use Rattle.tl_fault.specs.OrMemory.{Unless, OrMemory}
+use Rattle.tl_fault.specs.RefusalValue.{RefusalValue}
+use Rattle.tl_text.specs.NameIndex.{place_of}
+use Rattle.aig_core.specs.Aig.{Aig, IsNormal, first_and, node_count}
+use Rattle.aig_core.specs.And.{Answer, and_of, is_pair, found_or_new}
+use Rattle.aig_core.specs.declared.lit.Kind.TheVariants.{Parameter}
+use Rattle.aig_core.specs.declared.lit.Lit.{Lit}
+use Rattle.aig_core.specs.declared.lit.Pair.{Pair}
+use Rattle.ppc_pack.specs.declared.pack.PackParam.{PackParam}
+use Rattle.ppc_file.specs.declared.pack_err.PackErr.{PackErr}
+use Rattle.ppc_file.specs.declared.pack_err.PackErr.TheVariants as refused
+use Rattle.ppc_file.specs.declared.version.Version.{Version}
+use Rattle.ppc_file.specs.Numbers.{Field, ◌>>=◌, offset}
+use Rattle.ppc_file.specs.Fields.{param_at, names_of_params, fan_ins_at, is_bad_pair, if_new_pair, node_at, bit_at}
+use Rattle.ppc_file.specs.Fronts.{in_params, in_nodes, in_bits}
+use Rattle.ppc_file.specs.PackFile.{IsPackFault}
+use Rattle.ppc_file.specs.Reading.{StandsAt}
+use Rattle.ppc_file.specs.Refusals.{refusal_of}
+use Rattle.ppc_file.proofs.FieldTakes.{param_takes}
+use Rattle.ppc_file.proofs.NameRules.{eqb_off, new_place}
+use Rattle.ppc_file.proofs.NumberLemmas.{IsBytes}
+use Rattle.ppc_file.proofs.StandLemmas.{rest_bytes, stands_param, stands_node, stands_bit, no_param, no_node, no_bit}
+
+-- a refusal that is so whatever it tells
+unless_said : (refusal : Option RefusalValue) (P : Type 0) → P → Unless refusal P
+unless_said None P p = tt
+unless_said (Some r) P p = p
+
+pub said : (P : PackErr → Type 0) (e : PackErr) → P e → OrMemory refusal_of P e
+said P e p = unless_said (refusal_of e) (P e) p
+
+-- the product of the fan-ins of a node that would be the next one
+module _ (g : Aig) (p : Pair) (normal : IsNormal (node_count g) p) where
+  searched : and_of g p.x.0 p.y.0 ≡ found_or_new (first_and g) g.pairs p.x.0 p.y.0 (position (is_pair p.x.0 p.y.0) g.pairs)
+  searched =
+      let low : 2 ≤ p.x.0 = normal.no_constant in
+      let order : p.x.0 / 2 < p.y.0 / 2 = normal.ordered in
+      let least : min p.x.0 p.y.0 ≡ p.x.0 = omega arith in
+      let most : max p.x.0 p.y.0 ≡ p.y.0 = omega arith in
+      rw (least, most) (rw (eqb_off p.x.0 0 (λ e. absurd (omega arith)), eqb_off p.x.0 1 (λ e. absurd (omega arith)), eqb_off p.x.0 p.y.0 (λ e. absurd (omega arith)), eqb_off (p.x.0 / 2) (p.y.0 / 2) (λ e. absurd (omega arith))) refl)
+
+  -- it is made where its literal is that of the next node
+  pub record IsMade : Type 0 where
+    pub new : list_any (is_pair p.x.0 p.y.0) g.pairs ≡ false
+    pub pairs : (and_of g p.x.0 p.y.0).pairs ≡ g.pairs ++ p ∷ []
+
+  pub is_made : (and_of g p.x.0 p.y.0).lit ≡ 2 * node_count g → IsMade
+  is_made e = go (position (is_pair p.x.0 p.y.0) g.pairs) refl
+    where
+      go : (o : Option ℕ) → position (is_pair p.x.0 p.y.0) g.pairs ≡ o → IsMade
+      go None is = record {
+        new = list_any-position_none (is_pair p.x.0 p.y.0) g.pairs is;
+        pairs = ap (λ (a : Answer). a.pairs) (searched ∙ ap (found_or_new (first_and g) g.pairs p.x.0 p.y.0) is);
+      }
+      go (Some i) is =
+          let within : i < length g.pairs = (position-Some (is_pair p.x.0 p.y.0) g.pairs i p is).0 in
+          let lit : 2 * (first_and g + i) ≡ 2 * node_count g = sym (ap (λ (a : Answer). a.lit) (searched ∙ ap (found_or_new (first_and g) g.pairs p.x.0 p.y.0) is)) ∙ e in
+          absurd (omega arith)
+
+  -- else the pair stood earlier
+  pub is_found : ((and_of g p.x.0 p.y.0).lit ≡ 2 * node_count g → ⊥) → list_any (is_pair p.x.0 p.y.0) g.pairs ≡ true
+  is_found other = elim (cases_Bool (list_any (is_pair p.x.0 p.y.0) g.pairs)) [
+    | inl t ↦ t
+    | inr f ↦ absurd (other (ap (λ (a : Answer). a.lit) (searched ∙ ap (found_or_new (first_and g) g.pairs p.x.0 p.y.0) (position_none (is_pair p.x.0 p.y.0) g.pairs f))))
+  ]
+
+-- ---- parameters
+
+module _ (bytes : List ℕ) (fits : IsBytes bytes) (v : Version) (count : ℕ) (params : List PackParam) (names : List (List ℕ)) (rest : List ℕ) (stands : StandsAt bytes (in_params v count params) rest) (are : names ≡ names_of_params params) (more : length params < count) where
+  -- a parameter that is read has a new name
+  pub param_new : (p : PackParam) (behind : List ℕ) → param_at (length bytes) v names rest ≡ Ok (p, behind) → place_of names p.name ≡ None
+  param_new p behind e =
+      let e' : param_at (length bytes) v (names_of_params params) rest ≡ Ok (p, behind) = subst (λ (ns : List (List ℕ)). param_at (length bytes) v ns rest ≡ Ok (p, behind)) are e in
+      let t = param_takes (length bytes) v (names_of_params params) rest (p, behind) (rest_bytes bytes fits (in_params v count params) rest stands) e' in
+      subst (λ (ns : List (List ℕ)). place_of ns p.name ≡ None) (sym are) (new_place (names_of_params params) p.name t.1.new)
+
+  -- the reader stands behind it
+  pub param_read : (p : PackParam) (behind : List ℕ) (all : List PackParam) → param_at (length bytes) v names rest ≡ Ok (p, behind) → all ≡ params ++ p ∷ [] → StandsAt bytes (in_params v count all) behind
+  param_read p behind all e is =
+      subst (λ (ps : List PackParam). StandsAt bytes (in_params v count ps) behind) (sym is)
+      (stands_param bytes fits v count params rest (p, behind) stands more (subst (λ (ns : List (List ℕ)). param_at (length bytes) v ns rest ≡ Ok (p, behind)) are e))
+
+  -- or it is refused
+  pub param_refused : (e : PackErr) → param_at (length bytes) v names rest ≡ Err e → IsPackFault bytes e
+  param_refused e is = no_param bytes fits v count params rest e stands more (subst (λ (ns : List (List ℕ)). param_at (length bytes) v ns rest ≡ Err e) are is)
+
+-- all of them were read
+pub all_params : (bytes : List ℕ) (v : Version) (count read : ℕ) (params : List PackParam) (rest : List ℕ) → StandsAt bytes (in_params v count params) rest → length params ≡ read → count ≤ read → StandsAt bytes (in_params v (length params) params) rest
+all_params bytes v count read params rest stands is past =
+    let within : length params ≤ count = stands.sound.0.within in
+    let same : count ≡ length params = omega arith in
+    subst (λ (n : ℕ). StandsAt bytes (in_params v n params) rest) same stands
+
+-- ---- nodes
+
+module _ (total : ℕ) (v : Version) (node : ℕ) (earlier : List Pair) (rest : List ℕ) where
+  pub node_taken : (p : Pair) (behind : List ℕ) → fan_ins_at total v node rest ≡ Ok (p, behind) → (is_bad_pair node p || list_any (is_pair p.x.0 p.y.0) earlier) ≡ false → node_at total v node earlier rest ≡ Ok (p, behind)
+  node_taken p behind e good =
+      ap (λ (f : Field Pair). f >>= if_new_pair (offset total rest) node earlier) e
+      ∙ ap (λ (b : Bool). cond b (Err (refused.BadNode (offset total rest))) (Ok (p, behind))) good
+
+  pub node_bad : (p : Pair) (behind : List ℕ) → fan_ins_at total v node rest ≡ Ok (p, behind) → (is_bad_pair node p || list_any (is_pair p.x.0 p.y.0) earlier) ≡ true → node_at total v node earlier rest ≡ Err (refused.BadNode (offset total rest))
+  node_bad p behind e bad =
+      ap (λ (f : Field Pair). f >>= if_new_pair (offset total rest) node earlier) e
+      ∙ ap (λ (b : Bool). cond b (Err (refused.BadNode (offset total rest))) (Ok (p, behind))) bad
+
+  pub node_refused : (e : PackErr) → fan_ins_at total v node rest ≡ Err e → node_at total v node earlier rest ≡ Err e
+  node_refused e is = ap (λ (f : Field Pair). f >>= if_new_pair (offset total rest) node earlier) is
+
+module _ (bytes : List ℕ) (fits : IsBytes bytes) (v : Version) (params : List PackParam) (count : ℕ) (g : Aig) (rest : List ℕ) (stands : StandsAt bytes (in_nodes v params count g.pairs) rest) (kinds : g.kinds ≡ replicate (length params) Parameter) (more : length g.pairs < count) where
+  place : node_count g ≡ 1 + length params + length g.pairs
+  place = ap (λ (n : ℕ). 1 + n + length g.pairs) (ap length kinds ∙ length-replicate (length params) Parameter)
+
+  pub node_read : (p : Pair) (behind : List ℕ) (all : List Pair) → node_at (length bytes) v (node_count g) g.pairs rest ≡ Ok (p, behind) → all ≡ g.pairs ++ p ∷ [] → StandsAt bytes (in_nodes v params count all) behind
+  node_read p behind all e is =
+      subst (λ (ps : List Pair). StandsAt bytes (in_nodes v params count ps) behind) (sym is)
+      (stands_node bytes fits v params count g.pairs rest (p, behind) stands more (subst (λ (n : ℕ). node_at (length bytes) v n g.pairs rest ≡ Ok (p, behind)) place e))
+
+  pub no_next_node : (e : PackErr) → node_at (length bytes) v (node_count g) g.pairs rest ≡ Err e → IsPackFault bytes e
+  no_next_node e is = no_node bytes fits v params count g.pairs rest e stands more (subst (λ (n : ℕ). node_at (length bytes) v n g.pairs rest ≡ Err e) place is)
+
+pub all_nodes : (bytes : List ℕ) (v : Version) (params : List PackParam) (count read : ℕ) (pairs : List Pair) (rest : List ℕ) → StandsAt bytes (in_nodes v params count pairs) rest → length pairs ≡ read → count ≤ read → StandsAt bytes (in_nodes v params (length pairs) pairs) rest
+all_nodes bytes v params count read pairs rest stands is past =
+    let within : length pairs ≤ count = stands.sound.0.within in
+    let same : count ≡ length pairs = omega arith in
+    subst (λ (n : ℕ). StandsAt bytes (in_nodes v params n pairs) rest) same stands
+
+-- ---- bits
+
+module _ (bytes : List ℕ) (fits : IsBytes bytes) (v : Version) (params : List PackParam) (pairs : List Pair) (count nodes : ℕ) (bits : List Lit) (rest : List ℕ) (stands : StandsAt bytes (in_bits v params pairs count bits) rest) (are : nodes ≡ 1 + length params + length pairs) (more : length bits < count) where
+  pub bit_read : (l : Lit) (behind : List ℕ) (all : List Lit) → bit_at (length bytes) v nodes rest ≡ Ok (l, behind) → all ≡ bits ++ l ∷ [] → StandsAt bytes (in_bits v params pairs count all) behind
+  bit_read l behind all e is =
+      subst (λ (ls : List Lit). StandsAt bytes (in_bits v params pairs count ls) behind) (sym is)
+      (stands_bit bytes fits v params pairs count bits rest (l, behind) stands more (subst (λ (n : ℕ). bit_at (length bytes) v n rest ≡ Ok (l, behind)) are e))
+
+  pub bit_refused : (e : PackErr) → bit_at (length bytes) v nodes rest ≡ Err e → IsPackFault bytes e
+  bit_refused e is = no_bit bytes fits v params pairs count bits rest e stands more (subst (λ (n : ℕ). bit_at (length bytes) v n rest ≡ Err e) are is)
+
+pub all_bits : (bytes : List ℕ) (v : Version) (params : List PackParam) (pairs : List Pair) (count read : ℕ) (bits : List Lit) (rest : List ℕ) → StandsAt bytes (in_bits v params pairs count bits) rest → length bits ≡ read → count ≤ read → StandsAt bytes (in_bits v params pairs (length bits) bits) rest
+all_bits bytes v params pairs count read bits rest stands is past =
+    let within : length bits ≤ count = stands.sound.0.within in
+    let same : count ≡ length bits = omega arith in
+    subst (λ (n : ℕ). StandsAt bytes (in_bits v params pairs n bits) rest) same stands

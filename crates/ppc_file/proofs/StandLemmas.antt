@@ -1,0 +1,213 @@
+-- A reader that stands behind a front stands behind a longer one once the next field is taken.
+use Rattle.std.proofs.Common.{◌≡◌, ℕ, suc, ◌+◌, ◌*◌, ◌<◌, ◌≤◌, List, [], ◌∷◌, ◌++◌, length, Some, Ok, Err, refl, sym, ap, subst, ◌∙◌, append_assoc, append-nil, arith, inl, inr, length-append}
+use Rattle.std.specs.Prelude.{slice_get}
+use Rattle.std.specs.Int.{w16, w32, to_be_bytes}
+use Rattle.std.specs.List.{flat_map}
+use Rattle.std.proofs.lemmas.Bool.{le-ltb, lt-ltb}
+use Rattle.std.proofs.lemmas.List.{map-append}
+use Rattle.std.proofs.lemmas.List.Concat.{flat_map-append}
+use Rattle.std.proofs.lemmas.Option.{none-some}
+use Rattle.list_laws.proofs.FirstPlace.{position_none}
+use Rattle.list_laws.proofs.Members.{In-push}
+use Rattle.tl_text.specs.Clean.{IsClean}
+use Rattle.tl_text.specs.Once.{AreOnce}
+use Rattle.tl_text.proofs.NameLemmas.{once_push}
+use Rattle.aig_core.specs.And.{is_pair}
+use Rattle.aig_core.specs.declared.lit.Lit.{Lit}
+use Rattle.aig_core.specs.declared.lit.Pair.{Pair}
+use Rattle.aig_core.proofs.Keeping.{AreNormal-push}
+use Rattle.ppc_pack.specs.declared.pack.PackParam.{PackParam}
+use Rattle.ppc_pack.specs.declared.pack.TheConstants.{MOST_PARAMETERS, MOST_NAME_BYTES, MOST_PACK_NODES, MOST_PACK_BITS}
+use Rattle.ppc_file.specs.declared.pack_err.PackErr.{PackErr}
+use Rattle.ppc_file.specs.declared.pack_err.PackErr.TheVariants as refused
+use Rattle.ppc_file.specs.declared.version.Version.{Version}
+use Rattle.ppc_file.specs.Numbers.{Field, offset, spelled}
+use Rattle.ppc_file.specs.Bytes.{version_number, head_bytes, param_bytes, node_bytes, nodes_bytes, bit_bytes, params_part, nodes_part, bits_part}
+use Rattle.ppc_file.specs.Fields.{magic_at, version_at, param_count_at, node_count_at, bit_count_at, param_at, names_of_params, node_at, bit_at}
+use Rattle.ppc_file.specs.Fronts.{Front, nothing, lettered, versioned, in_params, in_nodes, in_bits, spelling, AreParams, IsSound, read_into, next_at}
+use Rattle.ppc_file.specs.PackFile.{IsPackFault}
+use Rattle.ppc_file.specs.Reading.{StandsAt}
+use Rattle.ppc_file.proofs.NumberLemmas.{IsBytes, Takes}
+use Rattle.ppc_file.proofs.FieldTakes.{IsNextParam, magic_takes, version_takes, count16_takes, count32_takes, param_takes, node_takes, bit_takes}
+
+bytes_behind : (front rest : List ℕ) → IsBytes (front ++ rest) → IsBytes rest
+bytes_behind [] rest fits = fits
+bytes_behind (b ∷ front) rest fits = bytes_behind front rest (λ i. fits (suc i))
+
+inner : (a b c d : List ℕ) → b ++ c ≡ d → (a ++ b) ++ c ≡ a ++ d
+inner a b c d e = append_assoc a b c ∙ ap (λ (t : List ℕ). a ++ t) e
+
+grown : {X : Type 0} (f : X → List ℕ) (xs : List X) (x : X) → flat_map f xs ++ f x ≡ flat_map f (xs ++ x ∷ [])
+grown f xs x = sym (flat_map-append f xs (x ∷ []) ∙ ap (λ (t : List ℕ). flat_map f xs ++ t) (append-nil (f x)))
+
+grown_nodes : (v : Version) (node : ℕ) (ps : List Pair) (p : Pair) → nodes_bytes v node ps ++ node_bytes v (node + length ps) p ≡ nodes_bytes v node (ps ++ p ∷ [])
+grown_nodes v node [] p = (let e : node + 0 ≡ node = omega arith in ap (λ (n : ℕ). node_bytes v n p) e ∙ sym (append-nil (node_bytes v node p)))
+grown_nodes v node (q ∷ ps) p =
+    let e : node + suc (length ps) ≡ node + 1 + length ps = omega arith in
+    inner (node_bytes v node q) (nodes_bytes v (node + 1) ps) (node_bytes v (node + suc (length ps)) p) (nodes_bytes v (node + 1) (ps ++ p ∷ []))
+    (ap (λ (n : ℕ). nodes_bytes v (node + 1) ps ++ node_bytes v n p) e ∙ grown_nodes v (node + 1) ps p)
+
+abbrev no_pairs : List Pair
+no_pairs = []
+
+none_there : (i : ℕ) (p : Pair) → slice_get no_pairs i ≡ Some p → ⊥
+none_there i p h = none-some p h
+
+module _ (bytes : List ℕ) (fits : IsBytes bytes) where
+  -- what is left are bytes
+  pub rest_bytes : (f : Front) (rest : List ℕ) → StandsAt bytes f rest → IsBytes rest
+  rest_bytes f rest stands = bytes_behind (spelling f) rest (subst IsBytes stands.spelled fits)
+
+  further : (f g : Front) (text rest behind : List ℕ) → StandsAt bytes f rest → Takes rest text behind → spelling f ++ text ≡ spelling g → IsSound g → StandsAt bytes g behind
+  further f g text rest behind stands takes e sound = record {
+    spelled = stands.spelled ∙ ap (λ (t : List ℕ). spelling f ++ t) takes.parts ∙ sym (append_assoc (spelling f) text behind) ∙ ap (λ (t : List ℕ). t ++ behind) e;
+    sound = sound;
+  }
+
+  pub stands_magic : (y : List ℕ × List ℕ) → magic_at (length bytes) bytes ≡ Ok y → StandsAt bytes lettered y.1
+  stands_magic y e = record { spelled = (magic_takes (length bytes) bytes y fits e).parts; sound = tt }
+
+  pub stands_version : (rest : List ℕ) (y : Version × List ℕ) → StandsAt bytes lettered rest → version_at (length bytes) rest ≡ Ok y → StandsAt bytes (versioned y.0) y.1
+  stands_version rest y stands e = further lettered (versioned y.0) (to_be_bytes w16 (version_number y.0)) rest y.1 stands (version_takes (length bytes) rest y (rest_bytes lettered rest stands) e) refl tt
+
+  pub stands_param_count : (v : Version) (rest : List ℕ) (y : ℕ × List ℕ) → StandsAt bytes (versioned v) rest → param_count_at (length bytes) v rest ≡ Ok y → StandsAt bytes (in_params v y.0 []) y.1
+  stands_param_count v rest y stands e =
+      let t = count16_takes (length bytes) v MOST_PARAMETERS (refused.BadNumber (offset (length bytes) rest)) rest y (rest_bytes (versioned v) rest stands) e in
+      further (versioned v) (in_params v y.0 []) (spelled v w16 y.0) rest y.1 stands t.0 (ap (λ (s : List ℕ). head_bytes v ++ s) (sym (append-nil (spelled v w16 y.0))))
+      (record { few = t.1; within = omega arith }, record { few = omega arith; short = λ p i. absurd i; clean = λ p i. absurd i; once = tt })
+
+  more_params : (params : List PackParam) (p : PackParam) (total : ℕ) → AreParams params → length params < MOST_PARAMETERS → IsNextParam total (names_of_params params) p → AreParams (params ++ p ∷ [])
+  more_params params p total are few next = record {
+    few = omega (arith, length-append params (p ∷ []));
+    short = λ q i. elim (In-push params p q i) [ inl old ↦ are.short q old | inr new ↦ subst (λ (r : PackParam). length r.name ≤ MOST_NAME_BYTES) (sym new) next.short ];
+    clean = λ q i. elim (In-push params p q i) [ inl old ↦ are.clean q old | inr new ↦ subst (λ (r : PackParam). IsClean r.name) (sym new) next.clean ];
+    once = subst AreOnce (sym (map-append (λ (r : PackParam). r.name) params (p ∷ []))) (once_push (names_of_params params) p.name are.once next.new);
+  }
+
+  pub stands_param : (v : Version) (count : ℕ) (params : List PackParam) (rest : List ℕ) (y : PackParam × List ℕ) → StandsAt bytes (in_params v count params) rest → length params < count
+      → param_at (length bytes) v (names_of_params params) rest ≡ Ok y → StandsAt bytes (in_params v count (params ++ y.0 ∷ [])) y.1
+  stands_param v count params rest y stands more e =
+      let t = param_takes (length bytes) v (names_of_params params) rest y (rest_bytes (in_params v count params) rest stands) e in
+      let sound = stands.sound in
+      let few : count ≤ MOST_PARAMETERS = sound.0.few in
+      further (in_params v count params) (in_params v count (params ++ y.0 ∷ [])) (param_bytes v y.0) rest y.1 stands t.0
+      (inner (head_bytes v) (params_part v count params) (param_bytes v y.0) (params_part v count (params ++ y.0 ∷ []))
+      (inner (spelled v w16 count) (flat_map (param_bytes v) params) (param_bytes v y.0) (flat_map (param_bytes v) (params ++ y.0 ∷ [])) (grown (param_bytes v) params y.0)))
+      (record { few = few; within = omega (arith, length-append params (y.0 ∷ [])) }, more_params params y.0 (length bytes) sound.1 (omega arith) t.1)
+
+  pub stands_node_count : (v : Version) (params : List PackParam) (rest : List ℕ) (y : ℕ × List ℕ) → StandsAt bytes (in_params v (length params) params) rest → node_count_at (length bytes) v rest ≡ Ok y
+      → StandsAt bytes (in_nodes v params y.0 []) y.1
+  stands_node_count v params rest y stands e =
+      let t = count32_takes (length bytes) v MOST_PACK_NODES (refused.BadNode (offset (length bytes) rest)) rest y (rest_bytes (in_params v (length params) params) rest stands) e in
+      further (in_params v (length params) params) (in_nodes v params y.0 []) (spelled v w32 y.0) rest y.1 stands t.0
+      (inner (head_bytes v) (params_part v (length params) params) (spelled v w32 y.0) (params_part v (length params) params ++ nodes_part v (1 + length params) y.0 [])
+      (ap (λ (s : List ℕ). params_part v (length params) params ++ s) (sym (append-nil (spelled v w32 y.0)))))
+      (record { few = t.1; within = omega arith }, (stands.sound.1, record { few = omega arith; normal = record { each = λ i p h. absurd (none_there i p h); once = λ i j p h k. absurd (none_there i p h) } }))
+
+  pub stands_node : (v : Version) (params : List PackParam) (count : ℕ) (pairs : List Pair) (rest : List ℕ) (y : Pair × List ℕ) → StandsAt bytes (in_nodes v params count pairs) rest → length pairs < count
+      → node_at (length bytes) v (1 + length params + length pairs) pairs rest ≡ Ok y → StandsAt bytes (in_nodes v params count (pairs ++ y.0 ∷ [])) y.1
+  stands_node v params count pairs rest y stands more e =
+      let node : ℕ = 1 + length params + length pairs in
+      let t = node_takes (length bytes) v node pairs rest y (rest_bytes (in_nodes v params count pairs) rest stands) e in
+      let sound = stands.sound in
+      let few : count ≤ MOST_PACK_NODES = sound.0.few in
+      let P : List ℕ = params_part v (length params) params in
+      let old : List ℕ = nodes_part v (1 + length params) count pairs in
+      let new : List ℕ = nodes_part v (1 + length params) count (pairs ++ y.0 ∷ []) in
+      further (in_nodes v params count pairs) (in_nodes v params count (pairs ++ y.0 ∷ [])) (node_bytes v node y.0) rest y.1 stands t.0
+      (inner (head_bytes v) (P ++ old) (node_bytes v node y.0) (P ++ new) (inner P old (node_bytes v node y.0) new
+      (inner (spelled v w32 count) (nodes_bytes v (1 + length params) pairs) (node_bytes v node y.0) (nodes_bytes v (1 + length params) (pairs ++ y.0 ∷ [])) (grown_nodes v (1 + length params) pairs y.0)))) (
+        record { few = few; within = omega (arith, length-append pairs (y.0 ∷ [])) },
+        (
+          sound.1.0,
+          record {
+            few = omega (arith, length-append pairs (y.0 ∷ []));
+            normal = AreNormal-push (1 + length params) pairs y.0 sound.1.1.normal (position_none (is_pair y.0.x.0 y.0.y.0) pairs t.1.new) t.1.normal;
+          },
+        ),
+      )
+
+  pub stands_bit_count : (v : Version) (params : List PackParam) (pairs : List Pair) (rest : List ℕ) (y : ℕ × List ℕ) → StandsAt bytes (in_nodes v params (length pairs) pairs) rest → bit_count_at (length bytes) v rest ≡ Ok y
+      → StandsAt bytes (in_bits v params pairs y.0 []) y.1
+  stands_bit_count v params pairs rest y stands e =
+      let t = count32_takes (length bytes) v MOST_PACK_BITS (refused.BadBit (offset (length bytes) rest)) rest y (rest_bytes (in_nodes v params (length pairs) pairs) rest stands) e in
+      let P : List ℕ = params_part v (length params) params in
+      let N : List ℕ = nodes_part v (1 + length params) (length pairs) pairs in
+      let C : List ℕ = spelled v w32 y.0 in
+      further (in_nodes v params (length pairs) pairs) (in_bits v params pairs y.0 []) C rest y.1 stands t.0
+      (inner (head_bytes v) (P ++ N) C (P ++ (N ++ bits_part v y.0 [])) (inner P N C (N ++ bits_part v y.0 []) (ap (λ (s : List ℕ). N ++ s) (sym (append-nil C)))))
+      (record { few = t.1; within = omega arith }, (stands.sound.1.0, (stands.sound.1.1, record { few = omega arith; below = λ l i. absurd i })))
+
+  pub stands_bit : (v : Version) (params : List PackParam) (pairs : List Pair) (count : ℕ) (bits : List Lit) (rest : List ℕ) (y : Lit × List ℕ) → StandsAt bytes (in_bits v params pairs count bits) rest → length bits < count
+      → bit_at (length bytes) v (1 + length params + length pairs) rest ≡ Ok y → StandsAt bytes (in_bits v params pairs count (bits ++ y.0 ∷ [])) y.1
+  stands_bit v params pairs count bits rest y stands more e =
+      let nodes : ℕ = 1 + length params + length pairs in
+      let t = bit_takes (length bytes) v nodes rest y (rest_bytes (in_bits v params pairs count bits) rest stands) e in
+      let sound = stands.sound in
+      let few : count ≤ MOST_PACK_BITS = sound.0.few in
+      let P : List ℕ = params_part v (length params) params in
+      let N : List ℕ = nodes_part v (1 + length params) (length pairs) pairs in
+      let old : List ℕ = bits_part v count bits in
+      let new : List ℕ = bits_part v count (bits ++ y.0 ∷ []) in
+      let c : List ℕ = bit_bytes v y.0 in
+      further (in_bits v params pairs count bits) (in_bits v params pairs count (bits ++ y.0 ∷ [])) c rest y.1 stands t.0
+      (inner (head_bytes v) (P ++ (N ++ old)) c (P ++ (N ++ new)) (inner P (N ++ old) c (N ++ new) (inner N old c new
+      (inner (spelled v w32 count) (flat_map (bit_bytes v) bits) c (flat_map (bit_bytes v) (bits ++ y.0 ∷ [])) (grown (bit_bytes v) bits y.0))))) (
+        record { few = few; within = omega (arith, length-append bits (y.0 ∷ [])) },
+        (
+          sound.1.0,
+          (
+            sound.1.1.0,
+            record {
+              few = omega (arith, length-append bits (y.0 ∷ []));
+              below = λ l i. elim (In-push bits y.0 l i) [ inl old ↦ sound.1.1.1.below l old | inr new ↦ subst (λ (m : Lit). m.0 < 2 * nodes) (sym new) t.1 ];
+            },
+          ),
+        ),
+      )
+
+  -- ---- the field that comes next is refused
+
+  refused_there : (f : Front) (rest : List ℕ) (e : PackErr) → StandsAt bytes f rest → next_at (length bytes) f rest ≡ Some (Err e) → IsPackFault bytes e
+  refused_there f rest e stands is = record { front = f; rest = rest; spelled = stands.spelled; sound = stands.sound; refused = is }
+
+  into : {A : Type 0} (more : A → Front) (field : Field A) (e : PackErr) → field ≡ Err e → Some (read_into more field) ≡ Some (Err e)
+  into {A = A} more field e is = ap (λ (f : Field A). Some (read_into more f)) is
+
+  pub no_magic : (e : PackErr) → magic_at (length bytes) bytes ≡ Err e → IsPackFault bytes e
+  no_magic e is = refused_there nothing bytes e (record { spelled = refl; sound = tt }) (into (λ letters. lettered) (magic_at (length bytes) bytes) e is)
+
+  pub no_version : (rest : List ℕ) (e : PackErr) → StandsAt bytes lettered rest → version_at (length bytes) rest ≡ Err e → IsPackFault bytes e
+  no_version rest e stands is = refused_there lettered rest e stands (into versioned (version_at (length bytes) rest) e is)
+
+  pub no_param_count : (v : Version) (rest : List ℕ) (e : PackErr) → StandsAt bytes (versioned v) rest → param_count_at (length bytes) v rest ≡ Err e → IsPackFault bytes e
+  no_param_count v rest e stands is = refused_there (versioned v) rest e stands (into (λ n. in_params v n []) (param_count_at (length bytes) v rest) e is)
+
+  pub no_param : (v : Version) (count : ℕ) (params : List PackParam) (rest : List ℕ) (e : PackErr) → StandsAt bytes (in_params v count params) rest → length params < count
+      → param_at (length bytes) v (names_of_params params) rest ≡ Err e → IsPackFault bytes e
+  no_param v count params rest e stands more is =
+      refused_there (in_params v count params) rest e stands (rw (lt-ltb (length params) count more) (into (λ p. in_params v count (params ++ p ∷ [])) (param_at (length bytes) v (names_of_params params) rest) e is))
+
+  pub no_node_count : (v : Version) (params : List PackParam) (rest : List ℕ) (e : PackErr) → StandsAt bytes (in_params v (length params) params) rest → node_count_at (length bytes) v rest ≡ Err e → IsPackFault bytes e
+  no_node_count v params rest e stands is =
+      refused_there (in_params v (length params) params) rest e stands (rw (le-ltb (length params) (length params) (omega arith)) (into (λ n. in_nodes v params n []) (node_count_at (length bytes) v rest) e is))
+
+  pub no_node : (v : Version) (params : List PackParam) (count : ℕ) (pairs : List Pair) (rest : List ℕ) (e : PackErr) → StandsAt bytes (in_nodes v params count pairs) rest → length pairs < count
+      → node_at (length bytes) v (1 + length params + length pairs) pairs rest ≡ Err e → IsPackFault bytes e
+  no_node v params count pairs rest e stands more is =
+      refused_there (in_nodes v params count pairs) rest e stands
+      (rw (lt-ltb (length pairs) count more) (into (λ p. in_nodes v params count (pairs ++ p ∷ [])) (node_at (length bytes) v (1 + length params + length pairs) pairs rest) e is))
+
+  pub no_bit_count : (v : Version) (params : List PackParam) (pairs : List Pair) (rest : List ℕ) (e : PackErr) → StandsAt bytes (in_nodes v params (length pairs) pairs) rest → bit_count_at (length bytes) v rest ≡ Err e → IsPackFault bytes e
+  no_bit_count v params pairs rest e stands is =
+      refused_there (in_nodes v params (length pairs) pairs) rest e stands (rw (le-ltb (length pairs) (length pairs) (omega arith)) (into (λ n. in_bits v params pairs n []) (bit_count_at (length bytes) v rest) e is))
+
+  pub no_bit : (v : Version) (params : List PackParam) (pairs : List Pair) (count : ℕ) (bits : List Lit) (rest : List ℕ) (e : PackErr) → StandsAt bytes (in_bits v params pairs count bits) rest → length bits < count
+      → bit_at (length bytes) v (1 + length params + length pairs) rest ≡ Err e → IsPackFault bytes e
+  no_bit v params pairs count bits rest e stands more is =
+      refused_there (in_bits v params pairs count bits) rest e stands
+      (rw (lt-ltb (length bits) count more) (into (λ l. in_bits v params pairs count (bits ++ l ∷ [])) (bit_at (length bytes) v (1 + length params + length pairs) rest) e is))
+
+  pub no_end : (v : Version) (params : List PackParam) (pairs : List Pair) (bits : List Lit) (b : ℕ) (rest : List ℕ) → StandsAt bytes (in_bits v params pairs (length bits) bits) (b ∷ rest) → IsPackFault bytes (refused.Trailing (offset (length bytes) (b ∷ rest)))
+  no_end v params pairs bits b rest stands =
+      refused_there (in_bits v params pairs (length bits) bits) (b ∷ rest) (refused.Trailing (offset (length bytes) (b ∷ rest))) stands (rw (le-ltb (length bits) (length bits) (omega arith)) refl)

@@ -1,0 +1,28 @@
+use Rattle.std.proofs.Common.{◌≡◌, ◌<◌, ◌+◌, ℕ, length, ap, ◌∙◌, arith, length-append, [], ◌∷◌}
+use Rattle.tl_fault.proofs.PassedOn.{passed_on}
+use Rattle.tl_fault.specs.OrMemory.{OrMemory}
+use Rattle.ppc_file.specs.PackFile.{IsPackFault}
+use Rattle.ppc_file.specs.Refusals.{refusal_of}
+use Rattle.ppc_file.proofs.ReadLemmas.{said, bit_read, bit_refused, all_bits}
+use Rattle.ppc_file.proofs.read_bits.read_each.Goals as goal
+
+pub returns-in_err-literal-clause-fault : goal.returns-in_err-literal-clause-fault
+returns-in_err-literal-clause-fault c =
+    let below : length c.loop.bits.items < c.args.count = omega (arith, c.loop.invariant.count, c.loop-test.true) in
+    let nodes : c.len-nodes.result ≡ 1 + length c.args.params.now + length c.args.graph.now.pairs = c.len-nodes.ensures.count ∙ ap (λ (n : ℕ). 1 + n + length c.args.graph.now.pairs) c.requires.sources in
+    let e = c.in_err-literal.field-0.0 in
+    passed_on c.from_residual.result e (λ _. Unit {0}) (OrMemory refusal_of (IsPackFault c.args.file.now)) c.from_residual.ensures.1
+    (said (IsPackFault c.args.file.now) e (bit_refused c.args.file.now (λ i. omega (arith, c.type_inv.file i)) c.args.version c.args.params.now c.args.graph.now.pairs c.args.count c.len-nodes.result c.loop.bits.items c.loop.rest.now c.loop.invariant.stands nodes below e c.in_err-literal.ensures))
+
+pub loop-preserved : goal.loop-preserved
+loop-preserved c =
+    let below : length c.loop.bits.items < c.args.count = omega (arith, c.loop.invariant.count, c.loop-test.true) in
+    let nodes : c.len-nodes.result ≡ 1 + length c.args.params.now + length c.args.graph.now.pairs = c.len-nodes.ensures.count ∙ ap (λ (n : ℕ). 1 + n + length c.args.graph.now.pairs) c.requires.sources in
+    record {
+      stands = bit_read c.args.file.now (λ i. omega (arith, c.type_inv.file i)) c.args.version c.args.params.now c.args.graph.now.pairs c.args.count c.len-nodes.result c.loop.bits.items c.loop.rest.now c.loop.invariant.stands nodes below
+          c.in_ok-literal.literal c.in_ok-literal.behind.now _ c.in_ok-literal.ensures c.in_ok-push.ensures.items;
+      count = ap length c.in_ok-push.ensures.items ∙ omega (arith, c.loop.invariant.count, length-append c.loop.bits.items (c.in_ok-literal.literal ∷ []));
+    }
+
+pub returns-clause-stands : goal.returns-clause-stands
+returns-clause-stands c = all_bits c.args.file.now c.args.version c.args.params.now c.args.graph.now.pairs c.args.count c.loop.counter c.loop.bits.items c.loop.rest.now c.loop.invariant.stands c.loop.invariant.count (omega (arith, c.loop-test.false))

@@ -1,0 +1,50 @@
+use Rattle.std.proofs.Common.{◌≡◌, ◌<◌, ◌≤◌, List, [], ◌∷◌, ◌++◌, Err, length, replicate, ap, ◌∙◌, sym, arith, length-append}
+use Rattle.std.proofs.lemmas.List.{length-replicate}
+use Rattle.tl_fault.proofs.OrMemoryLemmas.{OrMemory-map}
+use Rattle.tl_fault.proofs.PassedOn.{passed_on}
+use Rattle.tl_fault.specs.OrMemory.{OrMemory}
+use Rattle.aig_core.specs.Aig.{Aig, node_count}
+use Rattle.aig_core.specs.And.{with_pairs}
+use Rattle.aig_core.specs.declared.lit.Kind.TheVariants.{Parameter}
+use Rattle.aig_core.specs.declared.lit.Pair.{Pair}
+use Rattle.ppc_pack.specs.declared.pack.PackParam.{PackParam}
+use Rattle.ppc_pack.specs.declared.pack.TheConstants.{MOST_PACK_NODES}
+use Rattle.ppc_file.specs.Fields.{node_at}
+use Rattle.ppc_file.specs.PackFile.{IsPackFault}
+use Rattle.ppc_file.specs.Refusals.{refusal_of}
+use Rattle.ppc_file.proofs.ReadLemmas.{node_read, no_next_node}
+use Rattle.ppc_file.proofs.read_nodes.read_each.Goals as goal
+
+-- the graph over some parameters with these nodes
+abbrev graph_with : List PackParam → List Pair → Aig
+graph_with params pairs = record { kinds = replicate (length params) Parameter; pairs = pairs; max = MOST_PACK_NODES }
+
+pub read_node-requires : goal.read_node-requires
+read_node-requires c =
+    let kinds : length c.loop.graph.kinds ≡ length c.args.params.now = ap (λ (g : Aig). length g.kinds) c.loop.invariant.graph ∙ length-replicate (length c.args.params.now) Parameter in
+    let params : length c.args.params.now ≤ 65535 = c.loop.invariant.stands.sound.1.0.few in
+    let pairs : length c.loop.graph.pairs ≤ 33554432 = c.loop.invariant.stands.sound.1.1.few in
+    omega arith
+
+pub returns-in_err-_pair-clause-fault : goal.returns-in_err-_pair-clause-fault
+returns-in_err-_pair-clause-fault c =
+    let g = c.loop.graph in
+    let below : length g.pairs < c.args.count = omega (arith, c.loop.invariant.count, c.loop-test.true) in
+    let e = c.in_err-_pair.field-0.0 in
+    passed_on c.from_residual.result e (λ _. Unit {0}) (OrMemory refusal_of (IsPackFault c.args.file.now)) c.from_residual.ensures.1
+    (OrMemory-map refusal_of (λ d. node_at (length c.args.file.now) c.args.version (node_count g) g.pairs c.loop.rest.now ≡ Err d) (IsPackFault c.args.file.now) e
+    (no_next_node c.args.file.now (λ i. omega (arith, c.type_inv.file i)) c.args.version c.args.params.now c.args.count g c.loop.rest.now c.loop.invariant.stands (ap (λ (h : Aig). h.kinds) c.loop.invariant.graph) below)
+    c.in_err-_pair.ensures.fault)
+
+pub loop-preserved : goal.loop-preserved
+loop-preserved c =
+    let g = c.loop.graph in
+    let p = c.in_ok-_pair._pair in
+    let below : length g.pairs < c.args.count = omega (arith, c.loop.invariant.count, c.loop-test.true) in
+    let pairs : c.read_node.new.graph.pairs ≡ g.pairs ++ p ∷ [] = ap (λ (h : Aig). h.pairs) c.in_ok-_pair.ensures.graph in
+    record {
+      stands = node_read c.args.file.now (λ i. omega (arith, c.type_inv.file i)) c.args.version c.args.params.now c.args.count g c.loop.rest.now c.loop.invariant.stands (ap (λ (h : Aig). h.kinds) c.loop.invariant.graph) below
+          p c.in_ok-_pair.behind.now c.read_node.new.graph.pairs c.in_ok-_pair.ensures.node pairs;
+      graph = c.in_ok-_pair.ensures.graph ∙ ap (λ (h : Aig). with_pairs h (g.pairs ++ p ∷ [])) c.loop.invariant.graph ∙ ap (graph_with c.args.params.now) (sym pairs);
+      count = ap length pairs ∙ omega (arith, c.loop.invariant.count, length-append g.pairs (p ∷ []));
+    }

@@ -1,0 +1,20 @@
+use Rattle.std.proofs.Common.{arith}
+use Rattle.tl_fault.proofs.PassedOn.{passed_on}
+use Rattle.tl_fault.specs.OrMemory.{OrMemory}
+use Rattle.ppc_file.specs.PackFile.{IsPackFault}
+use Rattle.ppc_file.specs.Refusals.{refusal_of}
+use Rattle.ppc_file.proofs.ReadLemmas.{said}
+use Rattle.ppc_file.proofs.StandLemmas.{stands_node_count, no_node_count}
+use Rattle.ppc_file.proofs.read_nodes.read_nodes.Goals as goal
+
+pub graph_over-requires : goal.graph_over-requires
+graph_over-requires c = c.requires.stands.sound.1.few
+
+pub read_each-requires-clause-stands : goal.read_each-requires-clause-stands
+read_each-requires-clause-stands c = stands_node_count c.args.file.now (λ i. omega (arith, c.type_inv.file i)) c.args.version c.args.params.now c.args.rest.now (c.in_ok-count.count, c.in_ok-count.rest.now) c.requires.stands c.in_ok-count.ensures
+
+pub returns-in_err-count-clause-fault : goal.returns-in_err-count-clause-fault
+returns-in_err-count-clause-fault c =
+    let e = c.in_err-count.field-0.0 in
+    passed_on c.from_residual.result e (λ _. Unit {0}) (OrMemory refusal_of (IsPackFault c.args.file.now)) c.from_residual.ensures.1
+    (said (IsPackFault c.args.file.now) e (no_node_count c.args.file.now (λ i. omega (arith, c.type_inv.file i)) c.args.version c.args.params.now c.args.rest.now e c.requires.stands c.in_err-count.ensures))

@@ -1,0 +1,57 @@
+//! Packs from their files.
+ghost use Rattle.std.specs.Prelude.{◌≡◌, ◌^◌, ◌≤◌, length, IfOk, IfErr};
+ghost use Rattle.tl_fault.specs.OrMemory.{OrMemory};
+ghost use Rattle.ppc_pack.specs.declared.pack.TheConstants.{MOST_PACK_NODES};
+ghost use Rattle.ppc_file.specs.Fronts.{versioned};
+ghost use Rattle.ppc_file.specs.PackFile.{IsPackFile, IsPackFault, HasOneReading};
+ghost use Rattle.ppc_file.specs.Reading.{StandsAt};
+ghost use Rattle.ppc_file.specs.Refusals.{refusal_of};
+
+use crate::field::{magic, version};
+use crate::number::offset;
+use crate::pack_err::PackErr;
+use crate::read_bits::read_bits;
+use crate::read_nodes::read_nodes;
+use crate::read_params::read_params;
+use crate::version::Version;
+use ppc_pack::Pack;
+use std::alloc::Global;
+
+// The version of a file, and what is left behind it.
+fn read_head(file: &[u8]) -> Result<(Version, &[u8]), PackErr>
+    requires { length file.now ≤ 2 ^ 29 }
+    ensures stands { IfOk result (λ x. StandsAt file.now (versioned x.0) x.1.now) }
+    ensures fault { IfErr result (OrMemory refusal_of (IsPackFault file.now)) }
+{
+    let total = file.len() as u32;
+    let (_letters, rest) = magic(total, file)?;
+    let (version, rest) = version(total, rest)?;
+    Ok((version, rest))
+}
+
+/// The pack of a file, in either version of it.
+///
+/// It takes time and memory linear in the bytes, on average over the hashes: nothing is reserved by a number that the file
+/// tells, but for what was read.
+///
+/// # Errors
+/// The file's first refusal, by `specs/PackFile.antt`: K1 to K8, each with the offset of the field that is refused. A field is
+/// refused as truncated before anything else of it is looked at. `Memory` where there is none. Bytes are the file of one pack
+/// at most, or have one refusal at most, and never both.
+#[tactic(auto, using(crate::proofs::OneReading::one_reading))]
+pub fn decode(alloc: Global, bytes: &[u8]) -> Result<Pack, PackErr>
+    requires { length bytes.now ≤ 2 ^ 29 }
+    ensures ok { IfOk result (λ pack. IsPackFile bytes.now pack) }
+    ensures room { IfOk result (λ pack. pack.graph.max ≡ MOST_PACK_NODES) }
+    ensures fault { IfErr result (OrMemory refusal_of (IsPackFault bytes.now)) }
+    ensures one_reading { HasOneReading bytes.now }
+{
+    let (version, rest) = read_head(bytes)?;
+    let (params, rest) = read_params(alloc, version, bytes, rest)?;
+    let (graph, rest) = read_nodes(alloc, version, &params, bytes, rest)?;
+    let (bits, rest) = read_bits(alloc, version, &params, &graph, bytes, rest)?;
+    if !rest.is_empty() {
+        return Err(PackErr::Trailing(offset(bytes.len() as u32, rest)));
+    }
+    Ok(Pack::make(params, graph, bits))
+}

@@ -1,0 +1,81 @@
+//! Why bytes are no pack file.
+use std::alloc::{AllocError, AllocFailed};
+use tl_fault::{Details, Refusal};
+
+/// Why bytes are no pack file, each with the offset of the field that is refused.
+#[derive(Clone, Copy, Debug, PartialEq, Eq, thiserror::Error)]
+pub enum PackErr {
+    /// K1: the file doesn't begin with the magic.
+    #[error("bad magic at byte {0}")]
+    Magic(u32),
+    /// K2: the version is neither 1 nor 2.
+    #[error("unknown version at byte {0}")]
+    Version(u32),
+    /// K3: the file ends before the field or inside it.
+    #[error("truncated at byte {0}")]
+    Truncated(u32),
+    /// K4: the name of a parameter or its length or its value at the start is none, or the name stood earlier.
+    #[error("bad name at byte {0}")]
+    BadName(u32),
+    /// K5: there are more than 2^25 nodes, a node's fan-ins are none of two earlier nodes in order, or the pair stood earlier.
+    #[error("bad node at byte {0}")]
+    BadNode(u32),
+    /// K6: there are more than 2^25 bits, or a bit is no literal of the graph.
+    #[error("bad bit at byte {0}")]
+    BadBit(u32),
+    /// K7: bytes follow the last bit.
+    #[error("trailing bytes from byte {0}")]
+    Trailing(u32),
+    /// K8: a number of version 2 is of more than five bytes or above 2^32 - 1, or its last byte isn't needed; or there are more
+    /// than 65,535 parameters.
+    #[error("bad number at byte {0}")]
+    BadNumber(u32),
+    /// There is no memory.
+    #[error("out of memory")]
+    Memory,
+}
+
+impl<T: Drop> From<AllocFailed<T>> for PackErr {
+    ghost use Rattle.std.specs.Prelude.{◌≡◌};
+    ghost use Rattle.ppc_file.specs.declared.pack_err.PackErr.TheVariants.{Memory};
+
+    ghost from_gives = { λ _ e. e ≡ Memory };
+
+    fn from(_: AllocFailed<T>) -> PackErr {
+        PackErr::Memory
+    }
+}
+
+impl From<AllocError> for PackErr {
+    ghost use Rattle.std.specs.Prelude.{◌≡◌};
+    ghost use Rattle.ppc_file.specs.declared.pack_err.PackErr.TheVariants.{Memory};
+
+    ghost from_gives = { λ _ e. e ≡ Memory };
+
+    fn from(_: AllocError) -> PackErr {
+        PackErr::Memory
+    }
+}
+
+impl PackErr {
+    ghost use Rattle.std.specs.Prelude.{◌≡◌};
+    ghost use Rattle.ppc_file.specs.Refusals.{refusal_of};
+
+    /// What the refusal tells; none for want of memory.
+    pub fn refusal(self) -> Option<Refusal>
+        ensures { result ≡ refusal_of self }
+    {
+        let (code, word, at) = match self {
+            PackErr::Magic(at) => ("K1", "Magic", at),
+            PackErr::Version(at) => ("K2", "Version", at),
+            PackErr::Truncated(at) => ("K3", "Truncated", at),
+            PackErr::BadName(at) => ("K4", "BadName", at),
+            PackErr::BadNode(at) => ("K5", "BadNode", at),
+            PackErr::BadBit(at) => ("K6", "BadBit", at),
+            PackErr::Trailing(at) => ("K7", "Trailing", at),
+            PackErr::BadNumber(at) => ("K8", "BadNumber", at),
+            PackErr::Memory => return None,
+        };
+        Some(Refusal::new(code, word, Details::Byte(at)))
+    }
+}

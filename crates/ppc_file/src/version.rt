@@ -1,0 +1,10 @@
+//! The versions of a pack file.
+
+/// A version of the pack file.
+#[derive(Clone, Copy, Debug, PartialEq, Eq)]
+pub enum Version {
+    /// Numbers of two or four bytes, the highest byte first.
+    One,
+    /// Numbers of one to five bytes of seven bits, the lowest bits first, and nodes by differences.
+    Two,
+}
