@@ -1,6 +1,7 @@
 pub mod MemberLaws
 pub mod TargetLaws
 pub mod ChoiceLaws
+pub mod CandidateLaws
 pub mod WalkLaws
 pub mod PlanLaws
 pub mod TableLaws

@@ -1,51 +1,99 @@
 //! The rule by which a cut is chosen for a node with a required depth.
-ghost use Rattle.std.specs.Prelude.{◌≡◌, ℕ, ◌<◌, ◌≤◌, None};
+ghost use Rattle.std.specs.Prelude.{◌≡◌, ℕ, ◌<◌, ◌≤◌, true, List, [], length, Option, None, slice_index_or};
+ghost use Rattle.cut_enum.specs.Sets.{IsOrdered};
 ghost use Rattle.cut_enum.specs.Table.{row_at};
-ghost use Rattle.depth_label.specs.Label.{label_of};
-ghost use Rattle.cover_pick.specs.Fewest.{better as the_better, fewest as the_fewest, choice_of};
+ghost use Rattle.depth_label.specs.Label.{height, label_of};
+ghost use Rattle.cover_pick.specs.Fewest.{IsAt, IsShorter, better as the_better, fewest as the_fewest, choice_of};
 
 use cut_enum::{Cut, CutTable};
 use depth_label::Labels;
 use std::alloc::Global;
 
-// The better of two cuts, where the second has no fewer leaves and comes later.
-fn better(labels: &Labels, r: u32, best: Option<Cut>, cut: &Cut) -> Option<Cut>
-    ensures { result ≡ the_better (label_of labels.now) r best cut.now }
+// A cut of a node, by its place, with the number of its leaves and its height.
+#[derive(Clone, Copy)]
+struct Candidate {
+    place: u32,
+    len: usize,
+    height: u32,
+}
+
+// The candidate at a place.
+fn candidate_at(labels: &Labels, table: &CutTable, n: u32, i: u32) -> Candidate
+    requires { i < length (row_at table.now n) }
+    ensures place { result.place ≡ i }
+    ensures len { result.len ≡ length (slice_index_or (row_at table.now n) i []) }
+    ensures height { result.height ≡ height (label_of labels.now) (slice_index_or (row_at table.now n) i []) }
 {
-    let height = labels.cut_height(cut);
+    let len = table.leaves(n, i).len();
+    let height = labels.height(table, n, i);
+    Candidate {
+        place: i,
+        len,
+        height,
+    }
+}
+
+// The better of the best cut so far and a later one, which has no fewer leaves.
+fn better(
+    labels: &Labels,
+    table: &CutTable,
+    n: u32,
+    r: u32,
+    best: Option<Candidate>,
+    i: u32,
+) -> Option<Candidate>
+    requires { i < length (row_at table.now n) }
+    ensures { (o : Option (List ℕ)) → IsAt (label_of labels.now) (row_at table.now n) best o → IsAt (label_of labels.now) (row_at table.now n) result (the_better (label_of labels.now) r o (slice_index_or (row_at table.now n) i [])) }
+{
+    let candidate = candidate_at(labels, table, n, i);
     match best {
         None => {
-            if height > r {
+            if candidate.height > r {
                 return None;
             }
-            Some(cut.copy())
+            Some(candidate)
         }
         Some(b) => {
-            if cut.len() == b.len() && height < labels.cut_height(&b) {
-                return Some(cut.copy());
+            if candidate.len == b.len && candidate.height < b.height {
+                return Some(candidate);
             }
             Some(b)
         }
     }
 }
 
-// The best of some ordered cuts for a required depth, if one is low enough.
-fn fewest(labels: &Labels, cuts: &[Cut], r: u32) -> Option<Cut>
-    ensures { result ≡ the_fewest (label_of labels.now) r None cuts.now }
+// Has the best cut so far fewer leaves?
+fn has_fewer(best: Option<Candidate>, len: usize) -> bool
+    ensures { result ≡ true → IsShorter best len }
+{
+    match best {
+        None => false,
+        Some(b) => b.len < len,
+    }
+}
+
+// The best cut of a node for a required depth, if one is low enough. No cut after one with more leaves is better.
+fn fewest(labels: &Labels, table: &CutTable, n: u32, r: u32) -> Option<Candidate>
+    requires { IsOrdered (row_at table.now n) }
+    ensures { IsAt (label_of labels.now) (row_at table.now n) result (the_fewest (label_of labels.now) r None (row_at table.now n)) }
 {
     let mut best = None;
-    for cut in cuts {
-        best = better(labels, r, best, cut);
+    for i in 0..table.count(n) {
+        if has_fewer(best, table.leaves(n, i).len()) {
+            return best;
+        }
+        best = better(labels, table, n, r, best, i);
     }
     best
 }
 
 // The cut that is chosen for a node and its required depth.
 pub fn choose(alloc: Global, table: &CutTable, labels: &Labels, n: u32, r: u32) -> Cut
+    requires { IsOrdered (row_at table.now n) }
     ensures { result ≡ choice_of (row_at table.now) (label_of labels.now) n r }
 {
-    match fewest(labels, table.row(n), r) {
+    match fewest(labels, table, n, r) {
         None => Cut::empty(alloc),
-        Some(cut) => cut,
+        Some(best) => table.cut(n, best.place),
     }
 }

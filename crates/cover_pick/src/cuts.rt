@@ -24,7 +24,9 @@ fn chosen_cut(
     depths: &[Option<u32>],
     n: u32,
 ) -> Option<Cut>
-    requires node { n < length depths.now }
+    requires table { IsCutTable graph.now table.now }
+    requires node { n < node_count graph.now }
+    requires len { length depths.now ≡ node_count graph.now }
     ensures { result ≡ cover_of graph.now (choice_of (row_at table.now) (label_of labels.now)) depths.now n }
 {
     if n <= graph.sources() {

@@ -1,16 +1,19 @@
 -- The least unions of the sets of two fan-ins are the minimal cuts of the node.
-use Rattle.std.proofs.Common.{◌≡◌, ℕ, ◌/◌, ◌<◌, ◌≤◌, List, [], ◌∷◌, length, refl, sym, subst, inl, inr, ◌⊎◌, arith}
+use Rattle.std.proofs.Common.{◌≡◌, ℕ, suc, ◌/◌, ◌<◌, ◌≤◌, true, false, List, [], ◌∷◌, length, refl, sym, subst, inl, inr, ◌⊎◌, arith}
 use Rattle.aig_core.specs.Aig.{Aig, first_and, IsAnd, IsNormal, AreNormal}
 use Rattle.aig_core.specs.declared.lit.Kind.TheVariants.{Regular, Parameter}
 use Rattle.aig_core.specs.declared.lit.Pair.{Pair}
 use Rattle.list_laws.specs.Members.{In, Within}
 use Rattle.list_laws.specs.Order.{IsAscending}
-use Rattle.cut_enum.specs.Merging.{union, merged}
+use Rattle.cut_enum.specs.Merging.{union, merged, starts_empty, with_own}
 use Rattle.aig_core.specs.Aig.{IsSource, IsNode}
 use Rattle.cut_enum.specs.Cuts.{Blocks, member, constant, parameter, fan_ins, CanBeLeaf, IsCut, IsMinimal, AreMinimal, Covers}
 use Rattle.aig_core.proofs.NodeLemmas.{source_below}
 use Rattle.cut_enum.proofs.BlockLemmas.{Blocks-within, same_pair, regular_blocked, contains_one}
 use Rattle.cut_enum.proofs.SetLemmas.{union_left, union_right, In-union, IsAscending-union, length_within, same_within, union_within}
+use Rattle.std.proofs.lemmas.Bool.{false≢true}
+use Rattle.list_laws.proofs.Choice.{choose}
+use Rattle.cut_enum.proofs.LevelLemmas.{IsRising, IsRising-ordered, first_least}
 use Rattle.cut_enum.proofs.LeastLemmas.{IsLeast, IsLeast-merged, merged_covers, merged_only, IsUnionOf}
 
 -- The sets from which a node's readers make theirs: each blocks the node, and each list that blocks it has one within.
@@ -19,6 +22,7 @@ pub record IsFront (g : Aig) (k m : ℕ) (cs : List (List ℕ)) : Type 0 where
   pub leaves : (c : List ℕ) (l : ℕ) → In cs c → In c l → (l ≤ m) × CanBeLeaf g l
   pub blocks : (c : List ℕ) → In cs c → Blocks g c m
   pub contains : (c : List ℕ) → IsAscending c → length c ≤ k → Blocks g c m → Covers cs c
+  pub rising : IsRising cs
 
 module _ (g : Aig) (k n : ℕ) (p : Pair) (xs ys : List (List ℕ)) (node : IsNode g p n) (normal : IsNormal n p)
     (x : IsFront g k (p.x.0 / 2) xs) (y : IsFront g k (p.y.0 / 2) ys) where
@@ -33,27 +37,27 @@ module _ (g : Aig) (k n : ℕ) (p : Pair) (xs ys : List (List ℕ)) (node : IsNo
       let b : Covers ys c = y.contains c up few (subst (λ (r : Pair). Blocks g c (r.y.0 / 2)) e by) in
       let w : Within (union b.by a.by) c = union_within b.by a.by c b.part a.part in
       let short : length (union b.by a.by) ≤ length c = length_within c (union b.by a.by) up (IsAscending-union b.by a.by (x.ascending a.by a.in')) w in
-      let m : Covers (merged k xs ys) (union b.by a.by) = merged_covers k xs ys a.by b.by a.in' b.in' (omega arith) in
+      let m : Covers (merged k xs ys) (union b.by a.by) = merged_covers xs ys x.ascending y.ascending x.rising y.rising k a.by b.by a.in' b.in' (omega arith) in
       inr (record { by = m.by; in' = m.in'; part = λ l i. w l (m.part l i) })
 
   leaf_below : (l : ℕ) (left right : List ℕ) → In xs left → In ys right → In right l ⊎ In left l → (l < n) × CanBeLeaf g l
   leaf_below l left right i j (inl h) = let o : p.y.0 / 2 < n = normal.below in let b : l ≤ p.y.0 / 2 = (y.leaves right l j h).0 in (omega arith, (y.leaves right l j h).1)
   leaf_below l left right i j (inr h) = let o : p.y.0 / 2 < n = normal.below in let q : p.x.0 / 2 < p.y.0 / 2 = normal.ordered in let b : l ≤ p.x.0 / 2 = (x.leaves left l i h).0 in (omega arith, (x.leaves left l i h).1)
 
-  union_cut : (c : List ℕ) → IsUnionOf k xs ys c → IsCut g k n c
-  union_cut c u = rw u.is (record {
+  least_of : IsLeast (suc k) (merged k xs ys)
+  least_of = IsLeast-merged xs ys x.ascending y.ascending k
+
+  union_cut : (c : List ℕ) → IsUnionOf xs ys c → length c ≤ k → IsCut g k n c
+  union_cut c u few = rw u.is (record {
     ascending = IsAscending-union u.right u.left (x.ascending u.left u.in_left);
-    few = rw u.is at u.few;
+    few = rw u.is at few;
     below = λ l i. leaf_below l u.left u.right u.in_left u.in_right (In-union u.right u.left l i);
     blocks = fan_ins p node (Blocks-within g u.left (union u.right u.left) (union_right u.right u.left) (x.blocks u.left u.in_left))
         (Blocks-within g u.right (union u.right u.left) (union_left u.right u.left) (y.blocks u.right u.in_right));
   })
 
   merged_cut : (c : List ℕ) → In (merged k xs ys) c → IsCut g k n c
-  merged_cut c i = union_cut c (merged_only k xs ys c i)
-
-  least_of : IsLeast k (merged k xs ys)
-  least_of = IsLeast-merged k xs ys x.ascending
+  merged_cut c i = let l : length c < suc k = least_of.short c i in union_cut c (merged_only xs ys x.ascending y.ascending k c i) (omega arith)
 
   -- no cut has the node itself
   covered : (c : List ℕ) → IsCut g k n c → Covers (merged k xs ys) c
@@ -82,9 +86,9 @@ front_leaves : (g : Aig) (k n : ℕ) (cs : List (List ℕ)) → IsAnd g n → Ar
 front_leaves g k n cs and m c l (inl e) h = elim (let i : In (n ∷ []) l = subst (λ s. In s l) e h in i) [ inl q ↦ (omega arith, subst (λ s. CanBeLeaf g s) (sym q) (inr and)) | inr j ↦ absurd j ]
 front_leaves g k n cs and m c l (inr i) h = let b : l < n = ((m.only c i).cut.below l h).0 in (omega arith, ((m.only c i).cut.below l h).1)
 
--- the front of an AND node: its cuts, and itself
-pub IsFront-node : (g : Aig) (k n : ℕ) (cs : List (List ℕ)) → AreNormal (first_and g) g.pairs → IsAnd g n → AreMinimal g k n cs → IsFront g k n ((n ∷ []) ∷ cs)
-IsFront-node g k n cs normal and m = record {
+-- the front of an AND node without the empty cut: itself, and its cuts
+own_front : (g : Aig) (k n : ℕ) (cs : List (List ℕ)) → AreNormal (first_and g) g.pairs → IsAnd g n → AreMinimal g k n cs → ((c : List ℕ) → In cs c → 1 ≤ length c) → IsFront g k n ((n ∷ []) ∷ cs)
+own_front g k n cs normal and m some = record {
   ascending = λ c i. elim i [ inl e ↦ subst IsAscending (sym e) ((λ l j. absurd j), tt) | inr j ↦ (m.only c j).cut.ascending ];
   leaves = λ c l i h. front_leaves g k n cs and m c l i h;
   blocks = λ c i. elim i [ inl e ↦ subst (λ s. Blocks g s n) (sym e) (member (inl refl)) | inr j ↦ (m.only c j).cut.blocks ];
@@ -92,7 +96,33 @@ IsFront-node g k n cs normal and m = record {
     | inl i ↦ record { by = n ∷ []; in' = inl refl; part = λ l j. elim j [ inl e ↦ subst (λ s. In c s) (sym e) i | inr j ↦ absurd j ] }
     | inr r ↦ record { by = r.by; in' = inr r.in'; part = r.part }
   ];
+  rising = ((λ c i. some c i), IsRising-ordered cs m.ordered);
 }
+
+-- the front of an AND node with the empty cut: its cuts
+free_front : (g : Aig) (k n : ℕ) (cs : List (List ℕ)) → AreMinimal g k n cs → In cs [] → IsFront g k n cs
+free_front g k n cs m i = record {
+  ascending = λ c j. (m.only c j).cut.ascending;
+  leaves = λ c l j h. (let b : l < n = ((m.only c j).cut.below l h).0 in (omega arith, ((m.only c j).cut.below l h).1));
+  blocks = λ c j. (m.only c j).cut.blocks;
+  contains = λ c up few _. record { by = []; in' = i; part = λ l j. absurd j };
+  rising = IsRising-ordered cs m.ordered;
+}
+
+some_leaves : (cs : List (List ℕ)) → IsRising cs → starts_empty cs ≡ false → (c : List ℕ) → In cs c → 1 ≤ length c
+some_leaves [] r e c i = absurd i
+some_leaves ([] ∷ cs) r e c i = absurd (false≢true (sym e))
+some_leaves ((l ∷ ls) ∷ cs) r e c i = let h : length (l ∷ ls) ≤ length c = first_least (l ∷ ls) cs c r i in omega arith
+
+first_empty : (cs : List (List ℕ)) → starts_empty cs ≡ true → In cs []
+first_empty [] e = absurd (false≢true e)
+first_empty ([] ∷ cs) e = inl refl
+first_empty ((l ∷ ls) ∷ cs) e = absurd (false≢true e)
+
+pub IsFront-node : (g : Aig) (k n : ℕ) (cs : List (List ℕ)) → AreNormal (first_and g) g.pairs → IsAnd g n → AreMinimal g k n cs → IsFront g k n (with_own n cs)
+IsFront-node g k n cs normal and m =
+    choose (λ s. IsFront g k n s) (starts_empty cs) cs ((n ∷ []) ∷ cs) (λ t. free_front g k n cs m (first_empty cs t))
+    (λ f. own_front g k n cs normal and m (some_leaves cs (IsRising-ordered cs m.ordered) f))
 
 -- the front of the constant and of a parameter: the empty set
 pub IsFront-free : (g : Aig) (k n : ℕ) → Blocks g [] n → IsFront g k n ([] ∷ [])
@@ -101,6 +131,7 @@ IsFront-free g k n b = record {
   leaves = λ c l i h. elim i [ inl e ↦ absurd (subst (λ s. In s l) e h) | inr j ↦ absurd j ];
   blocks = λ c i. elim i [ inl e ↦ subst (λ s. Blocks g s n) (sym e) b | inr j ↦ absurd j ];
   contains = λ c up few _. record { by = []; in' = inl refl; part = λ l j. absurd j };
+  rising = ((λ c i. absurd i), tt);
 }
 
 regular_leaves : (g : Aig) (n : ℕ) → IsSource g Regular n → (c : List ℕ) (l : ℕ) → In ((n ∷ []) ∷ []) c → In c l → (l ≤ n) × CanBeLeaf g l
@@ -114,4 +145,5 @@ IsFront-regular g k n s = record {
   leaves = λ c l i h. regular_leaves g n s c l i h;
   blocks = λ c i. elim i [ inl e ↦ subst (λ s. Blocks g s n) (sym e) (member (inl refl)) | inr j ↦ absurd j ];
   contains = λ c up few b. record { by = n ∷ []; in' = inl refl; part = λ l j. elim j [ inl e ↦ subst (λ s. In c s) (sym e) (regular_blocked g c s b) | inr j ↦ absurd j ] };
+  rising = ((λ c i. absurd i), tt);
 }

@@ -1,10 +1,15 @@
 pub mod SetLemmas
 pub mod UnionLemmas
 pub mod SignatureLemmas
+pub mod LevelLemmas
+pub mod PlaceLemmas
+pub mod HeadLemmas
 pub mod LeastLemmas
 pub mod BlockLemmas
 pub mod CutLemmas
 pub mod PutLemmas
+pub mod SignedLemmas
+pub mod StepLemmas
 pub mod RowLemmas
 pub mod SpanLemmas
 pub mod LimitLemmas

@@ -15,7 +15,7 @@ use Rattle.cut_enum.specs.Merging.{merged}
 use Rattle.aig_core.specs.Aig.{IsNode}
 use Rattle.cut_enum.specs.Cuts.{AreMinimal, constant, parameter}
 use Rattle.cut_enum.specs.Table.{row_at, AreRows}
-use Rattle.cut_enum.specs.Merging.{IsRow, IsTooMany, front_of, source_front}
+use Rattle.cut_enum.specs.Merging.{IsRow, IsTooMany, front_of, source_front, with_own}
 use Rattle.cut_enum.specs.Limits.{Reaches, IsLimit}
 use Rattle.cut_enum.specs.declared.table.CutErr.TheVariants.{NodeCuts, TotalCuts, Memory}
 use Rattle.cut_enum.specs.declared.table.CutErr.{CutErr}
@@ -32,10 +32,10 @@ source_ok g k m None a b e = absurd (none-some (get_or g.kinds (m - 1) Regular) 
 -- the front that the code makes is one
 pub IsFront-front_of : (g : Aig) (k m : ℕ) (row : List (List ℕ)) → AreNormal (first_and g) g.pairs → m < node_count g → (IsAnd g m → AreMinimal g k m row) → IsFront g k m (front_of g m row)
 IsFront-front_of g k m row normal below ok =
-    choose (λ s. IsFront g k m s) (eqb m 0) ([] ∷ []) (cond (ltb m (first_and g)) (source_front m (slice_get g.kinds (m - 1))) ((m ∷ []) ∷ row))
+    choose (λ s. IsFront g k m s) (eqb m 0) ([] ∷ []) (cond (ltb m (first_and g)) (source_front m (slice_get g.kinds (m - 1))) (with_own m row))
     (λ t. IsFront-free g k m (constant (eqb-true m 0 t)))
     (λ t. let some : m ≡ 0 → ⊥ = eqb-false m 0 t in
-    choose (λ s. IsFront g k m s) (ltb m (first_and g)) (source_front m (slice_get g.kinds (m - 1))) ((m ∷ []) ∷ row)
+    choose (λ s. IsFront g k m s) (ltb m (first_and g)) (source_front m (slice_get g.kinds (m - 1))) (with_own m row)
     (λ u. let l : m < first_and g = ltb-true m (first_and g) u in source_ok g k m (slice_get g.kinds (m - 1)) (omega arith) (omega arith) refl)
     (λ u. let l : first_and g ≤ m = ltb-false m (first_and g) u in let and : IsAnd g m = (l, below) in IsFront-node g k m row normal and (ok and)))
 

@@ -124,7 +124,7 @@ pub subset_from : (a b : List ℕ) → Within a b → subset a b ≡ true
 subset_from [] b w = refl
 subset_from (x ∷ xs) b w = and_from (list_any (λ y. eqb y x) b) (subset xs b) (has_from b x (w x (inl refl))) (subset_from xs b (λ n i. w n (inr i)))
 
--- the order of lists is total and transitive
+-- the order of lists is transitive
 
 lex_at : (P : Bool → Type 0) (x y : ℕ) (xs ys : List ℕ) → (x < y → P true) → (x ≡ y → P (lex xs ys)) → (y < x → P false) → P (lex (x ∷ xs) (y ∷ ys))
 lex_at P x y xs ys less same more =
@@ -137,16 +137,6 @@ lex_head x y xs ys h = lex_at (λ b. b ≡ true) x y xs ys (λ a. refl) (λ e. a
 
 lex_tail : (x y : ℕ) (xs ys : List ℕ) → x ≡ y → lex xs ys ≡ true → lex (x ∷ xs) (y ∷ ys) ≡ true
 lex_tail x y xs ys h t = lex_at (λ b. b ≡ true) x y xs ys (λ a. refl) (λ e. t) (λ a. absurd (omega arith))
-
--- of two lists of one length, neither of which is before the other, both are equal
-lex_total : (a b : List ℕ) → length a ≡ length b → lex a b ≡ false → (a ≡ b → ⊥) → lex b a ≡ true
-lex_total [] [] l h d = absurd (d refl)
-lex_total [] (y ∷ ys) l h d = absurd (omega arith)
-lex_total (x ∷ xs) [] l h d = absurd (omega arith)
-lex_total (x ∷ xs) (y ∷ ys) l h0 d =
-    lex_at (λ b. b ≡ false → lex (y ∷ ys) (x ∷ xs) ≡ true) x y xs ys (λ a h. absurd (false≢true (sym h)))
-    (λ e h. lex_tail y x ys xs (sym e) (lex_total xs ys (omega arith) h (λ t. d (ap (λ m. m ∷ xs) e ∙ ap (λ m. y ∷ m) t))))
-    (λ a h. lex_head y x ys xs a) h0
 
 pub lex_trans : (a b c : List ℕ) → lex a b ≡ true → lex b c ≡ true → lex a c ≡ true
 lex_trans [] b c h k = absurd (false≢true h)
@@ -166,16 +156,34 @@ before_at P a b less same more =
     (λ c. choose P (eqb (length a) (length b)) (lex a b) false (λ e. same (eqb-true (length a) (length b) e))
     (λ e. let past : length b ≤ length a = ltb-false (length a) (length b) c in let apart : length a ≡ length b → ⊥ = eqb-false (length a) (length b) e in more (omega arith)))
 
-before_shorter : (a b : List ℕ) → length a < length b → before a b ≡ true
+pub before_shorter : (a b : List ℕ) → length a < length b → before a b ≡ true
 before_shorter a b h = before_at (λ t. t ≡ true) a b (λ _. refl) (λ e. absurd (omega arith)) (λ l. absurd (omega arith))
 
 before_lex : (a b : List ℕ) → length a ≡ length b → lex a b ≡ true → before a b ≡ true
 before_lex a b h t = before_at (λ t. t ≡ true) a b (λ _. refl) (λ e. t) (λ l. absurd (omega arith))
 
-pub before_total : (a b : List ℕ) → before a b ≡ false → (a ≡ b → ⊥) → before b a ≡ true
-before_total a b h0 d =
-    before_at (λ t. t ≡ false → before b a ≡ true) a b (λ l h. absurd (false≢true (sym h)))
-    (λ e h. before_lex b a (sym e) (lex_total a b e h d)) (λ l h. before_shorter b a l) h0
+-- two lists of one length, neither of which is before the other, are equal
+lex_none : (a b : List ℕ) → length a ≡ length b → lex a b ≡ false → lex b a ≡ false → a ≡ b
+lex_none [] [] l h k = refl
+lex_none [] (y ∷ ys) l h k = absurd (omega arith)
+lex_none (x ∷ xs) [] l h k = absurd (omega arith)
+lex_none (x ∷ xs) (y ∷ ys) l h0 k0 =
+    lex_at (λ b. b ≡ false → lex (y ∷ ys) (x ∷ xs) ≡ false → x ∷ xs ≡ y ∷ ys) x y xs ys (λ a h k. absurd (false≢true (sym h)))
+    (λ e h k. (
+    let t : lex ys xs ≡ false = lex_at (λ b. b ≡ false → lex ys xs ≡ false) y x ys xs (λ a. absurd (omega arith)) (λ q m. m) (λ a. absurd (omega arith)) k in
+    ap (λ m. m ∷ xs) e ∙ ap (λ m. y ∷ m) (lex_none xs ys (omega arith) h t)))
+    (λ a h k. absurd (false≢true (sym k ∙ lex_head y x ys xs a))) h0 k0
+
+-- and so are two lists
+pub before_none : (a b : List ℕ) → before a b ≡ false → before b a ≡ false → a ≡ b
+before_none a b h0 k0 =
+    before_at (λ t. t ≡ false → before b a ≡ false → a ≡ b) a b (λ l h. absurd (false≢true (sym h)))
+    (λ e h k. lex_none a b e h (before_at (λ t. t ≡ false → lex b a ≡ false) b a (λ l. absurd (omega arith)) (λ q m. m) (λ l. absurd (omega arith)) k))
+    (λ l h k. absurd (false≢true (sym k ∙ before_shorter b a l))) h0 k0
+
+-- what is before another is no longer
+pub before_length : (a b : List ℕ) → before a b ≡ true → length a ≤ length b
+before_length a b h0 = before_at (λ t. t ≡ true → length a ≤ length b) a b (λ l h. omega arith) (λ e h. omega arith) (λ l h. absurd (false≢true h)) h0
 
 pub before_trans : (a b c : List ℕ) → before a b ≡ true → before b c ≡ true → before a c ≡ true
 before_trans a b c h0 k0 =

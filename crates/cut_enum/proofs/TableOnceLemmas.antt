@@ -1,5 +1,5 @@
 -- A graph has one table of cuts.
-use Rattle.std.proofs.Common.{◌≡◌, ℕ, ◌≤◌, List, [], length, arith}
+use Rattle.std.proofs.Common.{◌≡◌, ℕ, List, [], length, arith}
 use Rattle.std.proofs.lemmas.List.{ext_get_or}
 use Rattle.aig_core.specs.Aig.{Aig, node_count}
 use Rattle.cut_enum.specs.Table.{AreRows}

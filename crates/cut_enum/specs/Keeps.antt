@@ -1,5 +1,5 @@
 -- What the fields of a cut keep.
-use Rattle.std.specs.Prelude.{◌≡◌, ℕ, ◌≤◌, List, length}
+use Rattle.std.specs.Prelude.{◌≡◌, ℕ, ◌≤◌, List, length, take}
 use Rattle.list_laws.specs.Order.{IsAscending}
 use Rattle.cut_enum.specs.Signature.{signature_of}
 
@@ -9,3 +9,8 @@ pub record IsCutLeaves (leaves : List ℕ) (capacity signature : ℕ) : Type 0 w
   pub few : length leaves ≤ 6
   pub inline : capacity ≡ 6
   pub signed : signature ≡ signature_of leaves
+
+-- the first len of the six numbers are leaves, and ascend
+pub record IsFlatCut (leaves : List ℕ) (len : ℕ) : Type 0 where
+  pub few : len ≤ 6
+  pub ascending : IsAscending (take len leaves)

@@ -1,10 +1,11 @@
 //! A cut of at most six leaves, with its signature.
 ghost use Rattle.std.specs.Prelude.{◌≡◌, ℕ, ◌<◌, ◌≤◌, ◌↔◌, false, List, [], ◌∷◌, length, MatchOption, IsTrue, IfSome, IfNone, IfOk, IfErr, insert};
 ghost use Rattle.list_laws.specs.Members.{Within};
+ghost use Rattle.list_laws.specs.Order.{IsAscending};
 ghost use Rattle.cut_enum.specs.Merging.{put, union, subset};
-ghost use Rattle.cut_enum.specs.Signature.{leaf_bit as bit_of};
 ghost use Rattle.cut_enum.specs.Unions.{IsUnion};
 
+use crate::signature::{leaf_bit, signature};
 use smallvec::SmallVec;
 use std::alloc::Global;
 use std::marker::Model;
@@ -27,13 +28,6 @@ impl Model for Cut {
     ghost view = { λ c. c.leaves.items };
 
     ghost invariant = { λ c. IsCutLeaves c.leaves.items c.leaves.capacity c.signature };
-}
-
-// The word with the bit of one leaf.
-fn leaf_bit(leaf: u32) -> u64
-    ensures { result ≡ bit_of leaf }
-{
-    1 << (leaf % 64)
 }
 
 // Where a leaf stands, or else its place among the others.
@@ -74,7 +68,7 @@ fn put_leaf(leaves: &mut SmallVec<u32, 6>, x: u32, k: usize) -> bool
 }
 
 // The leaves of both, unless they are more than k. Where their signatures alone have more bits, no leaf is looked at.
-pub fn joined(a: &Cut, b: &Cut, k: u8) -> Option<Cut>
+fn joined(a: &Cut, b: &Cut, k: u8) -> Option<Cut>
     requires { k ≤ 6 }
     ensures { MatchOption result (k < length (union a.now b.now)) (λ c. (c ≡ union a.now b.now) × (length c ≤ k)) }
 {
@@ -114,7 +108,7 @@ fn is_subset(a: &[u32], b: &[u32]) -> bool
 }
 
 // Is every leaf of a one of b? Leaves are looked at only where b's signature has every bit of a's.
-pub fn is_part(a: &Cut, b: &Cut) -> bool
+fn is_part(a: &Cut, b: &Cut) -> bool
     ensures { result ≡ subset a.now b.now }
 {
     if (a.signature | b.signature) != b.signature {
@@ -148,6 +142,17 @@ impl Cut {
         let mut leaves = SmallVec::new(alloc);
         leaves.push_reserved(leaf);
         let signature = leaf_bit(leaf);
+        Cut { leaves, signature }
+    }
+
+    // The cut of these leaves.
+    pub(crate) fn of(alloc: Global, leaves: &[u32]) -> Cut
+        requires few { length leaves.now ≤ 6 }
+        requires ascending { IsAscending leaves.now }
+        ensures { result ≡ leaves.now }
+    {
+        let signature = signature(leaves);
+        let leaves = SmallVec::from_slice(alloc, leaves).unwrap();
         Cut { leaves, signature }
     }
 

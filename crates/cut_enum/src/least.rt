@@ -2,131 +2,199 @@
 //!
 //! The unions are taken by their size, those with no leaf first. So a cut that is kept is never within a later one
 //! of fewer leaves, nothing is dropped again, and a list that has grown too long stays so.
-ghost use Rattle.std.specs.Prelude.{◌≡◌, ℕ, ◌<◌, ◌≤◌, [], length, OnOk, IfOk, IfErr, insert};
-ghost use Rattle.std.specs.List.{list_any};
+//!
+//! In the pass of one size all kept cuts of fewer leaves stand apart. Only one of these can be within a union of this
+//! size: two cuts of one size are equal, or neither is within the other. And where one of two cuts has all leaves of
+//! their union, the other is within it: so the cuts of this size that have one of the other list's within them are
+//! taken as they are, and only pairs of cuts that both have fewer are joined.
+ghost use Rattle.std.specs.Prelude.{◌≡◌, ℕ, ◌+◌, ◌<◌, ◌≤◌, [], ◌++◌, length, OnOk, IfOk, IfErr};
 ghost use Rattle.tl_fault.specs.OrMemory.{OrMemory};
 ghost use Rattle.cut_enum.specs.Refusals.{refusal_of};
-ghost use Rattle.cut_enum.specs.Sets.{before as comes_before, lex};
-ghost use Rattle.cut_enum.specs.Merging.{IsTooMany, subset, place, add as add_to, add_union as with_union, add_unions as with_unions, add_pairs as with_pairs, merged as all_merged};
+ghost use Rattle.cut_enum.specs.Merging.{IsTooMany, add as with_cut, add_holder as with_holder, add_holders as with_holders, add_union as with_union, add_unions as with_unions, add_pairs as with_pairs, unions_at, merged as all_merged};
 
-use crate::cut::{Cut, is_part, joined};
+use crate::flat::{FlatCut, joined};
+use crate::level::Level;
 use crate::limits::MOST_OF_A_NODE;
+use crate::signed::{Signed, SignedPart, has_part};
 use crate::table::CutErr;
-use std::alloc::{AllocError, Global};
+use std::alloc::Global;
 
-// Does a come before b: fewer leaves first, then the lexicographically smaller.
-fn before(a: &Cut, b: &Cut) -> bool
-    ensures { result ≡ comes_before a.now b.now }
+// Adds a cut to those of its size, until the node has too many.
+fn add_cut(
+    node: u32,
+    smaller: &SignedPart<'_>,
+    cut: FlatCut,
+    level: &mut Level,
+) -> Result<(), CutErr>
+    requires { length smaller.now + length level.old ≤ MOST_OF_A_NODE }
+    ensures ok { OnOk result (level.new ≡ with_cut smaller.now cut level.old) }
+    ensures few { OnOk result (length smaller.now + length level.new ≤ MOST_OF_A_NODE) }
+    ensures too_many { IfErr result (OrMemory refusal_of (λ e. IsTooMany node (smaller.now ++ with_cut smaller.now cut level.old) e)) }
 {
-    let (n, m) = (a.len(), b.len());
-    if n != m {
-        return n < m;
+    level.add(smaller, cut)?;
+    if level.len() > MOST_OF_A_NODE - smaller.cuts.len() {
+        return Err(CutErr::NodeCuts(node));
     }
-    lex_before(a.leaves(), b.leaves())
+    Ok(())
 }
 
-// The lexicographic order of two lists.
-fn lex_before(a: &[u32], b: &[u32]) -> bool
-    ensures { result ≡ lex a.now b.now }
+// Adds a cut, if it has size leaves and one of some others is within it.
+fn add_holder(
+    node: u32,
+    size: usize,
+    smaller: &SignedPart<'_>,
+    parts: &SignedPart<'_>,
+    cut: &FlatCut,
+    level: &mut Level,
+) -> Result<(), CutErr>
+    requires { length smaller.now + length level.old ≤ MOST_OF_A_NODE }
+    ensures ok { OnOk result (level.new ≡ with_holder size smaller.now parts.now cut.now level.old) }
+    ensures few { OnOk result (length smaller.now + length level.new ≤ MOST_OF_A_NODE) }
+    ensures too_many { IfErr result (OrMemory refusal_of (λ e. IsTooMany node (smaller.now ++ with_holder size smaller.now parts.now cut.now level.old) e)) }
 {
-    match a {
-        [] => false,
-        [x, xs @ ..] => match b {
-            [] => false,
-            [y, ys @ ..] => *x < *y || (*x == *y && lex_before(xs, ys)),
-        },
-    }
-}
-
-// Is one of the cuts within this one?
-fn has_part(cuts: &[Cut], cut: &Cut) -> bool
-    ensures { result ≡ list_any (λ d. subset d cut.now) cuts.now }
-{
-    cuts.iter().any(|d| is_part(d, cut))
-}
-
-// The place of a cut among others in order.
-fn cut_place(cuts: &[Cut], cut: &Cut) -> usize
-    ensures within { result ≤ length cuts.now }
-    ensures place { insert cuts.now result cut.now ≡ place cut.now cuts.now }
-{
-    for (i, d) in cuts.iter().enumerate() {
-        if before(cut, d) {
-            return i;
-        }
-    }
-    cuts.len()
-}
-
-// Puts a cut in its place, unless one of the cuts is within it.
-fn add(cuts: &mut Vec<Cut>, cut: Cut) -> Result<(), AllocError>
-    ensures { OnOk result (cuts.new.items ≡ add_to cuts.old.items cut) }
-{
-    if has_part(cuts, &cut) {
+    if cut.len() != size {
         return Ok(());
     }
-    let at = cut_place(cuts, &cut);
-    cuts.insert(at, cut)?;
+    if !has_part(parts, cut) {
+        return Ok(());
+    }
+    add_cut(node, smaller, cut.copy(), level)?;
+    Ok(())
+}
+
+// Adds the cuts of size leaves of a list that have one of some others within them.
+fn add_holders(
+    node: u32,
+    size: usize,
+    smaller: &SignedPart<'_>,
+    parts: &SignedPart<'_>,
+    cuts: &[FlatCut],
+    level: &mut Level,
+) -> Result<(), CutErr>
+    requires { length smaller.now + length level.old ≤ MOST_OF_A_NODE }
+    ensures ok { OnOk result (level.new ≡ with_holders size smaller.now parts.now cuts.now level.old) }
+    ensures few { OnOk result (length smaller.now + length level.new ≤ MOST_OF_A_NODE) }
+    ensures too_many { IfErr result (OrMemory refusal_of (λ e. IsTooMany node (smaller.now ++ with_holders size smaller.now parts.now cuts.now level.old) e)) }
+{
+    for cut in cuts {
+        add_holder(node, size, smaller, parts, cut, level)?;
+    }
     Ok(())
 }
 
 // Adds the union of c and d, if it has size leaves.
-fn add_union(size: u8, c: &Cut, d: &Cut, cuts: &mut Vec<Cut>) -> Result<(), AllocError>
-    requires { size ≤ 6 }
-    ensures { OnOk result (cuts.new.items ≡ with_union size c.now d.now cuts.old.items) }
+fn add_union(
+    node: u32,
+    size: usize,
+    smaller: &SignedPart<'_>,
+    c: &FlatCut,
+    d: &FlatCut,
+    level: &mut Level,
+) -> Result<(), CutErr>
+    requires size { size ≤ 6 }
+    requires few { length smaller.now + length level.old ≤ MOST_OF_A_NODE }
+    ensures ok { OnOk result (level.new ≡ with_union size smaller.now c.now d.now level.old) }
+    ensures few { OnOk result (length smaller.now + length level.new ≤ MOST_OF_A_NODE) }
+    ensures too_many { IfErr result (OrMemory refusal_of (λ e. IsTooMany node (smaller.now ++ with_union size smaller.now c.now d.now level.old) e)) }
 {
-    if let Some(cut) = joined(d, c, size) {
-        if cut.len() == size as usize {
-            add(cuts, cut)?;
+    match joined(d, c, size) {
+        None => Ok(()),
+        Some(cut) => {
+            add_cut(node, smaller, cut, level)?;
+            Ok(())
         }
+    }
+}
+
+// Adds the unions of size leaves of c and each of ds. Where two signatures have more bits, no leaf is looked at.
+fn add_unions(
+    node: u32,
+    size: usize,
+    smaller: &SignedPart<'_>,
+    c: &FlatCut,
+    ds: &SignedPart<'_>,
+    level: &mut Level,
+) -> Result<(), CutErr>
+    requires size { size ≤ 6 }
+    requires few { length smaller.now + length level.old ≤ MOST_OF_A_NODE }
+    ensures ok { OnOk result (level.new ≡ with_unions size smaller.now c.now ds.now level.old) }
+    ensures few { OnOk result (length smaller.now + length level.new ≤ MOST_OF_A_NODE) }
+    ensures too_many { IfErr result (OrMemory refusal_of (λ e. IsTooMany node (smaller.now ++ with_unions size smaller.now c.now ds.now level.old) e)) }
+{
+    let signature = c.signature();
+    let cuts = ds.cuts;
+    for (i, other) in ds.signatures.iter().enumerate() {
+        if (*other | signature).count_ones() as usize > size {
+            continue;
+        }
+        add_union(node, size, smaller, c, &cuts[i], level)?;
     }
     Ok(())
 }
 
-// Adds the unions of size leaves of c and each of ds to those of a node, until there are too many. A larger c has none.
-fn add_unions(node: u32, size: u8, c: &Cut, ds: &[Cut], cuts: &mut Vec<Cut>) -> Result<(), CutErr>
+// Adds the unions of size leaves of a cut of each list.
+fn add_pairs(
+    node: u32,
+    size: usize,
+    smaller: &SignedPart<'_>,
+    cs: &[FlatCut],
+    ds: &SignedPart<'_>,
+    level: &mut Level,
+) -> Result<(), CutErr>
     requires size { size ≤ 6 }
-    requires few { length cuts.old.items ≤ MOST_OF_A_NODE }
-    ensures ok { OnOk result (cuts.new.items ≡ with_unions size c.now ds.now cuts.old.items) }
-    ensures few { OnOk result (length cuts.new.items ≤ MOST_OF_A_NODE) }
-    ensures too_many { IfErr result (OrMemory refusal_of (λ e. IsTooMany node (with_unions size c.now ds.now cuts.old.items) e)) }
-{
-    if c.len() > size as usize {
-        return Ok(());
-    }
-    for d in ds {
-        add_union(size, c, d, cuts)?;
-        if cuts.len() > MOST_OF_A_NODE {
-            return Err(CutErr::NodeCuts(node));
-        }
-    }
-    Ok(())
-}
-
-// Adds the unions of size leaves of a cut of each list to those of a node, until there are too many.
-fn add_pairs(node: u32, size: u8, cs: &[Cut], ds: &[Cut], cuts: &mut Vec<Cut>) -> Result<(), CutErr>
-    requires size { size ≤ 6 }
-    requires few { length cuts.old.items ≤ MOST_OF_A_NODE }
-    ensures ok { OnOk result (cuts.new.items ≡ with_pairs size cs.now ds.now cuts.old.items) }
-    ensures few { OnOk result (length cuts.new.items ≤ MOST_OF_A_NODE) }
-    ensures too_many { IfErr result (OrMemory refusal_of (λ e. IsTooMany node (with_pairs size cs.now ds.now cuts.old.items) e)) }
+    requires few { length smaller.now + length level.old ≤ MOST_OF_A_NODE }
+    ensures ok { OnOk result (level.new ≡ with_pairs size smaller.now cs.now ds.now level.old) }
+    ensures few { OnOk result (length smaller.now + length level.new ≤ MOST_OF_A_NODE) }
+    ensures too_many { IfErr result (OrMemory refusal_of (λ e. IsTooMany node (smaller.now ++ with_pairs size smaller.now cs.now ds.now level.old) e)) }
 {
     for c in cs {
-        add_unions(node, size, c, ds, cuts)?;
+        add_unions(node, size, smaller, c, ds, level)?;
     }
     Ok(())
+}
+
+// The least unions of size leaves of a cut of each list, beside those that have fewer.
+fn unions_of_size(
+    alloc: Global,
+    node: u32,
+    size: usize,
+    xs: &Signed,
+    ys: &Signed,
+    smaller: &SignedPart<'_>,
+) -> Result<Vec<FlatCut>, CutErr>
+    requires size { size ≤ 6 }
+    requires few { length smaller.now ≤ MOST_OF_A_NODE }
+    ensures ok { IfOk result (λ cuts. cuts.items ≡ unions_at size smaller.now xs.now ys.now) }
+    ensures few { IfOk result (λ cuts. length smaller.now + length cuts.items ≤ MOST_OF_A_NODE) }
+    ensures too_many { IfErr result (OrMemory refusal_of (λ e. IsTooMany node (smaller.now ++ unions_at size smaller.now xs.now ys.now) e)) }
+{
+    let mut level = Level::new(alloc);
+    let xs_below = xs.leading(size);
+    let ys_below = ys.leading(size);
+    let ys_parts = ys.leading(size + 1);
+    add_holders(node, size, smaller, &ys_parts, xs.cuts(), &mut level)?;
+    add_holders(node, size, smaller, &xs_below, ys.cuts(), &mut level)?;
+    add_pairs(node, size, smaller, xs_below.cuts, &ys_below, &mut level)?;
+    Ok(level.into_cuts())
 }
 
 // The least unions of a cut of each list, of at most k leaves: the cuts of a node.
-pub fn merged(alloc: Global, node: u32, k: u8, cs: &[Cut], ds: &[Cut]) -> Result<Vec<Cut>, CutErr>
+pub fn merged(
+    alloc: Global,
+    node: u32,
+    k: u8,
+    xs: &Signed,
+    ys: &Signed,
+) -> Result<Vec<FlatCut>, CutErr>
     requires { k ≤ 6 }
-    ensures ok { IfOk result (λ cuts. cuts.items ≡ all_merged k cs.now ds.now) }
+    ensures ok { IfOk result (λ cuts. cuts.items ≡ all_merged k xs.now ys.now) }
     ensures few { IfOk result (λ cuts. length cuts.items ≤ MOST_OF_A_NODE) }
-    ensures too_many { IfErr result (OrMemory refusal_of (λ e. IsTooMany node (all_merged k cs.now ds.now) e)) }
+    ensures too_many { IfErr result (OrMemory refusal_of (λ e. IsTooMany node (all_merged k xs.now ys.now) e)) }
 {
-    let mut cuts = Vec::new(alloc);
+    let mut cuts = Signed::new(alloc);
     for size in 0..k + 1 {
-        add_pairs(node, size, cs, ds, &mut cuts)?;
+        let more = unions_of_size(alloc, node, size as usize, xs, ys, &cuts.all())?;
+        cuts = cuts.extended(more)?;
     }
-    Ok(cuts)
+    Ok(cuts.into_cuts())
 }

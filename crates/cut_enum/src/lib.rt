@@ -10,8 +10,9 @@
 //!
 //! # How they are found
 //! Nodes are taken in their order, so the cuts of both fan-ins are known. A fan-in hands on the cut of itself alone
-//! and its own minimal cuts; a regular source hands on itself, and the constant and a parameter the empty cut. The
-//! least unions of a cut of either list, of at most k leaves, are the node's minimal cuts. Nothing is lost so: a set
+//! and its own minimal cuts, or the empty cut alone where it has that one; a regular source hands on itself, and the
+//! constant and a parameter the empty cut. The least unions of a cut of either list, of at most k leaves, are the
+//! node's minimal cuts. Nothing is lost so: a set
 //! that blocks the node and does not have it blocks both fan-ins, hence contains a set that each of them hands on,
 //! hence contains the union of the two; and a minimal cut contains no other cut. What the argument needs of the
 //! fan-ins is a law of the minimal cuts (`EachContainsOne`): each list of at most k that blocks a node has the node
@@ -19,18 +20,22 @@
 //! cut until it is minimal (`proofs/BlockLemmas.antt`).
 //!
 //! Unions are taken by their size, the smallest first (`least.rt`). So what is kept is never dropped again, and a
-//! node is known to have too many cuts as soon as there is one more than the limit.
+//! node is known to have too many cuts as soon as there is one more than the limit. In the pass of one size only the
+//! kept cuts of fewer leaves are looked at for one within a union, and the union's place among those of its own size
+//! is found by halves (`level.rt`). A cut that has all leaves of its union with another is taken as it is, once any
+//! cut of the other list is found within it; only cuts that both have fewer leaves are joined.
 //!
 //! # Signatures
-//! Beside its leaves a cut has a word with bit (leaf mod 64) of each leaf. A cut whose word has a bit that another's
+//! The signature of a cut is a word with bit (leaf mod 64) of each leaf. A cut whose word has a bit that another's
 //! lacks is not within it, and two cuts whose words have more than k bits together have a union of more than k
 //! leaves. Both tests are proved to change no answer (`proofs/SignatureLemmas.antt`), and spare most comparisons.
+//! While the cuts of a node are made, the words stand in vectors of their own, one after another (`signed.rt`).
 //!
 //! # What the table keeps
 //! All cuts lie in one vector, one node's after another's, those of a node with fewer leaves first and then
-//! lexicographically. A node has at most `MOST_OF_A_NODE` of them and the table at most `MOST_OF_A_TABLE`; a graph that
-//! has more is refused at the first node at which it shows. A graph has one such limit at most, and no table where it
-//! has one.
+//! lexicographically. Each is six places for leaves and their number, and no signature (`flat.rt`). A node has at most
+//! `MOST_OF_A_NODE` of them and the table at most `MOST_OF_A_TABLE`; a graph that has more is refused at the first node
+//! at which it shows. A graph has one such limit at most, and no table where it has one.
 //!
 //! `proofs/Examples.antt` has the table of a small graph.
 //!
@@ -39,9 +44,13 @@
 #![tactic(auto)]
 
 mod cut;
+mod flat;
 mod least;
+mod level;
 mod limits;
 mod row;
+mod signature;
+mod signed;
 mod table;
 #[cfg(test)]
 mod tests;

@@ -1,43 +1,83 @@
 //! The cuts of one node, from those of its two fan-ins.
-ghost use Rattle.std.specs.Prelude.{◌≡◌, ℕ, ◌/◌, ◌<◌, ◌≤◌, length, IfOk, IfErr};
+ghost use Rattle.std.specs.Prelude.{◌≡◌, ℕ, ◌-◌, ◌/◌, ◌<◌, ◌≤◌, [], ◌∷◌, ◌++◌, if◌then◌else◌, ◌==◌, length, slice_get, OnOk, IfOk, IfErr};
 ghost use Rattle.aig_core.specs.Aig.{first_and, node_count, AreNormal};
 ghost use Rattle.tl_fault.specs.OrMemory.{OrMemory};
 ghost use Rattle.cut_enum.specs.Refusals.{refusal_of};
 ghost use Rattle.cut_enum.specs.Limits.{IsLimit};
-ghost use Rattle.cut_enum.specs.Merging.{IsRow, IsTooMany, front_of, unions_of};
+ghost use Rattle.cut_enum.specs.Merging.{IsRow, IsTooMany, starts_empty, with_own, source_front, front_of, unions_of};
 ghost use Rattle.cut_enum.specs.Table.{AreRows};
 
-use crate::cut::Cut;
+use crate::flat::FlatCut;
 use crate::least::merged;
 use crate::limits::MOST_OF_A_NODE;
+use crate::signed::Signed;
 use crate::table::{CutErr, CutTable};
 use aig_core::{Graph, Kind, Pair, Steps};
 use std::alloc::{AllocError, Global};
 use std::sync::ledger::Ledger;
 
-// What a node hands to its readers: itself and its own cuts, or the empty cut where it costs nothing.
-fn front(alloc: Global, graph: &Graph, row: &[Cut], m: u32) -> Result<Vec<Cut>, AllocError>
-    requires { m < node_count graph.now }
-    ensures { IfOk result (λ v. v.items ≡ front_of graph.now m row.now) }
+// Adds these cuts again.
+fn push_all(cuts: &mut Vec<FlatCut>, row: &[FlatCut]) -> Result<(), AllocError>
+    ensures { OnOk result (cuts.new.items ≡ cuts.old.items ++ row.now) }
 {
-    let mut cuts = Vec::new(alloc);
-    if m == 0 {
-        cuts.push(Cut::empty(alloc))?;
-        return Ok(cuts);
-    }
-    if m <= graph.sources() {
-        let cut = match graph.kind(m) {
-            Kind::Regular => Cut::one(alloc, m),
-            Kind::Parameter => Cut::empty(alloc),
-        };
-        cuts.push(cut)?;
-        return Ok(cuts);
-    }
-    cuts.push(Cut::one(alloc, m))?;
     for cut in row {
         cuts.push(cut.copy())?;
     }
+    Ok(())
+}
+
+// Is the first cut empty?
+fn is_free(row: &[FlatCut]) -> bool
+    ensures { result ≡ starts_empty row.now }
+{
+    match row {
+        [] => false,
+        [first, ..] => first.len() == 0,
+    }
+}
+
+// The cut of an AND node alone and its own cuts, or these alone where the empty one is one of them.
+fn own_cuts(alloc: Global, row: &[FlatCut], m: u32) -> Result<Vec<FlatCut>, AllocError>
+    ensures { IfOk result (λ v. v.items ≡ with_own m row.now) }
+{
+    let mut cuts = Vec::new(alloc);
+    if is_free(row) {
+        push_all(&mut cuts, row)?;
+        return Ok(cuts);
+    }
+    cuts.push(FlatCut::one(m))?;
+    push_all(&mut cuts, row)?;
     Ok(cuts)
+}
+
+// The cut of a source alone, or the empty one where it costs nothing.
+fn source_cut(graph: &Graph, m: u32) -> FlatCut
+    requires { m < first_and graph.now }
+    ensures { result ∷ [] ≡ (if m == 0 then [] ∷ [] else source_front m (slice_get graph.now.kinds (m - 1))) }
+{
+    if m == 0 {
+        return FlatCut::empty();
+    }
+    match graph.kind(m) {
+        Kind::Regular => FlatCut::one(m),
+        Kind::Parameter => FlatCut::empty(),
+    }
+}
+
+// What a node hands to its readers: itself and its own cuts, or the empty cut where it costs nothing.
+fn front(alloc: Global, graph: &Graph, row: &[FlatCut], m: u32) -> Result<Signed, AllocError>
+    requires { m < node_count graph.now }
+    ensures { IfOk result (λ v. v ≡ front_of graph.now m row.now) }
+{
+    if m <= graph.sources() {
+        let mut cuts = Vec::new(alloc);
+        cuts.push(source_cut(graph, m))?;
+        let signed = Signed::of(alloc, cuts)?;
+        return Ok(signed);
+    }
+    let cuts = own_cuts(alloc, row, m)?;
+    let signed = Signed::of(alloc, cuts)?;
+    Ok(signed)
 }
 
 // The least unions of what the two nodes of a pair hand on.
@@ -48,7 +88,7 @@ fn node_row(
     n: u32,
     pair: Pair,
     k: u8,
-) -> Result<Vec<Cut>, CutErr>
+) -> Result<Vec<FlatCut>, CutErr>
     requires few { k ≤ 6 }
     requires x { pair.x.0 / 2 < node_count graph.now }
     requires y { pair.y.0 / 2 < node_count graph.now }
@@ -58,8 +98,8 @@ fn node_row(
 {
     let x = pair.x.0 / 2;
     let y = pair.y.0 / 2;
-    let xs = front(alloc, graph, table.row(x), x)?;
-    let ys = front(alloc, graph, table.row(y), y)?;
+    let xs = front(alloc, graph, table.cuts_of(x), x)?;
+    let ys = front(alloc, graph, table.cuts_of(y), y)?;
     merged(alloc, n, k, &xs, &ys)
 }
 
@@ -71,7 +111,7 @@ pub fn row_of<L: Ledger>(
     n: u32,
     k: u8,
     steps: &mut Steps<L>,
-) -> Result<Vec<Cut>, CutErr>
+) -> Result<Vec<FlatCut>, CutErr>
     requires least { 2 ≤ k }
     requires most { k ≤ 6 }
     requires node { n < node_count graph.now }

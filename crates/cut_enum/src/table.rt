@@ -9,6 +9,7 @@ ghost use Rattle.cut_enum.specs.Table.{row_at, AreRows};
 ghost use Rattle.cut_enum.specs.declared.table.CutErr.{CutErr};
 
 use crate::cut::Cut;
+use crate::flat::FlatCut;
 use crate::limits::MOST_OF_A_TABLE;
 use crate::row::row_of;
 use aig_core::{Graph, Steps};
@@ -68,11 +69,11 @@ impl From<AllocError> for CutErr {
 
 /// The minimal cuts of each AND node, and none of a source.
 ///
-/// All cuts lie in one vector, one node's after another's; `starts` has the place of each node's first cut, and
-/// then the number of all cuts.
+/// All cuts lie in one vector, one node's after another's, seven numbers each; `starts` has the place of each node's
+/// first cut, and then the number of all cuts.
 #[derive(Drop)]
 pub struct CutTable {
-    cuts: Vec<Cut>,
+    cuts: Vec<FlatCut>,
     starts: Vec<u32>,
 }
 
@@ -88,7 +89,7 @@ impl Model for CutTable {
 }
 
 // The cuts between two places.
-fn part(cuts: &[Cut], start: usize, end: usize) -> &[Cut]
+fn part(cuts: &[FlatCut], start: usize, end: usize) -> &[FlatCut]
     requires ordered { start ≤ end }
     requires inside { end ≤ length cuts.now }
     ensures { result.now ≡ slice_range cuts.now start end }
@@ -140,8 +141,8 @@ fn enumerate_with<L: Ledger>(
 /// node; `Memory` where there is none left.
 ///
 /// # Complexity
-/// For a node whose fan-ins hand on p and q cuts, and which has r: at most (k + 1) p q tests of two signatures, and
-/// r tests for each union that has few enough leaves.
+/// For a node whose fan-ins hand on p and q cuts, and which has r: at most (k + 2) p q tests of two signatures, and for
+/// each union of few enough leaves a search by halves, and at most r tests of two signatures.
 ///
 /// # Source
 /// Cong, Wu and Ding, "Cut ranking and pruning", 1999, for the merging of the fan-ins' lists; the signatures are
@@ -188,7 +189,7 @@ impl CutTable {
     }
 
     // One more node, with these cuts.
-    fn push_row(&mut self, row: Vec<Cut>) -> Result<(), AllocError>
+    fn push_row(&mut self, row: Vec<FlatCut>) -> Result<(), AllocError>
         requires { sum_by length self.old + length row.items ≤ MOST_OF_A_TABLE }
         ensures { OnOk result (self.new ≡ self.old ++ row.items ∷ []) }
     {
@@ -200,8 +201,8 @@ impl CutTable {
         Ok(())
     }
 
-    // The cuts of a node.
-    fn cuts_of(&self, n: u32) -> &[Cut]
+    // The cuts of a node, in the table's order: none of a source, or of a node that the table does not have.
+    pub(crate) fn cuts_of(&self, n: u32) -> &[FlatCut]
         ensures row { result.now ≡ row_at self.now n }
         ensures small { length result.now ≤ MOST_OF_A_TABLE }
     {
@@ -212,13 +213,6 @@ impl CutTable {
         let start = self.starts[n] as usize;
         let end = self.starts[n + 1] as usize;
         part(&self.cuts, start, end)
-    }
-
-    /// The cuts of a node, in the table's order: none of a source, or of a node that the table does not have.
-    pub fn row(&self, n: u32) -> &[Cut]
-        ensures { result.now ≡ row_at self.now n }
-    {
-        self.cuts_of(n)
     }
 
     /// How many cuts a node has.
@@ -233,7 +227,8 @@ impl CutTable {
         requires { i < length (row_at self.now n) }
         ensures { slice_get (row_at self.now n) i ≡ Some result }
     {
-        self.row(n)[i as usize].copy()
+        let row = self.cuts_of(n);
+        Cut::of(*self.cuts.allocator(), row[i as usize].leaves())
     }
 
     /// The leaves of a cut of a node, in ascending order, without a copy.
@@ -241,7 +236,7 @@ impl CutTable {
         requires { i < length (row_at self.now n) }
         ensures { slice_get (row_at self.now n) i ≡ Some result.now }
     {
-        let row = self.row(n);
+        let row = self.cuts_of(n);
         row[i as usize].leaves()
     }
 }

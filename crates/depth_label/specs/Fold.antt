@@ -1,6 +1,7 @@
 -- How the best cut of an ordered list is found: the first of the lowest ones.
-use Rattle.std.specs.Prelude.{◌≡◌, ℕ, ◌+◌, ◌^◌, ◌<◌, ◌≤◌, if◌then◌else◌, nat_lt, List, [], ◌∷◌, length, Option, Some, None}
+use Rattle.std.specs.Prelude.{◌≡◌, ℕ, ◌+◌, ◌^◌, ◌<◌, ◌≤◌, if◌then◌else◌, nat_lt, List, [], ◌∷◌, length, Option, Some, None, slice_index_or}
 use Rattle.aig_core.specs.Aig.{Aig, first_and, IsAnd}
+use Rattle.depth_label.specs.declared.labelling.Low.{Low}
 use Rattle.depth_label.specs.Label.{height, LabelsValue, label_at, label_of, best_of}
 
 -- the lower of two cuts, the first where they are as low
@@ -12,6 +13,13 @@ lower_of label (Some b) c = if nat_lt (height label c) (height label b) then Som
 abbrev pub lowest : (ℕ → ℕ) → Option (List ℕ) → List (List ℕ) → Option (List ℕ)
 lowest label best [] = best
 lowest label best (c ∷ cs) = lowest label (lower_of label best c) cs
+
+-- a place and a height tell of a cut of a list, or none of none
+abbrev pub IsAt : (ℕ → ℕ) → List (List ℕ) → Option Low → Option (List ℕ) → Type 0
+IsAt label cs None None = Unit {0}
+IsAt label cs None (Some c) = ⊥
+IsAt label cs (Some b) None = ⊥
+IsAt label cs (Some b) (Some c) = (b.place < length cs) × (slice_index_or cs b.place [] ≡ c) × (b.height ≡ height label c)
 
 abbrev pub or_empty : Option (List ℕ) → List ℕ
 or_empty None = []

@@ -1,9 +1,9 @@
 //! Labels and best cuts, node by node.
-ghost use Rattle.std.specs.Prelude.{◌≡◌, ℕ, ◌<◌, ◌≤◌, [], None, IfOk};
+ghost use Rattle.std.specs.Prelude.{◌≡◌, ℕ, ◌<◌, ◌≤◌, List, [], length, Option, None, slice_index_or, IfOk};
 ghost use Rattle.aig_core.specs.Aig.{first_and, node_count, IsAnd};
 ghost use Rattle.cut_enum.specs.Table.{row_at, AreRows};
 ghost use Rattle.depth_label.specs.Label.{label_at, label_of, IsCutTable, AreLabelled, HasOneLabelling, AreLeastDepths};
-ghost use Rattle.depth_label.specs.Fold.{AreSmall, lower_of, lowest, lowest_cut};
+ghost use Rattle.depth_label.specs.Fold.{AreSmall, IsAt, lower_of, lowest, lowest_cut};
 
 use crate::height::cut_height;
 use crate::node_labels::Labels;
@@ -11,31 +11,39 @@ use aig_core::Graph;
 use cut_enum::{Cut, CutTable};
 use std::alloc::{AllocError, Global};
 
-// The lower of two cuts, the first where they are as low.
-fn lower(labels: &[u32], best: Option<Cut>, cut: &Cut) -> Option<Cut>
-    requires { AreSmall labels.now }
-    ensures { result ≡ lower_of (label_at labels.now) best cut.now }
+// A cut of a node, by its place, and its height.
+#[derive(Clone, Copy)]
+struct Low {
+    place: u32,
+    height: u32,
+}
+
+// The lower of the best cut so far and a later one, the first where they are as low.
+fn lower(labels: &[u32], table: &CutTable, n: u32, best: Option<Low>, i: u32) -> Option<Low>
+    requires small { AreSmall labels.now }
+    requires inside { i < length (row_at table.now n) }
+    ensures { (o : Option (List ℕ)) → IsAt (label_at labels.now) (row_at table.now n) best o → IsAt (label_at labels.now) (row_at table.now n) result (lower_of (label_at labels.now) o (slice_index_or (row_at table.now n) i [])) }
 {
+    let height = cut_height(labels, table.leaves(n, i));
     match best {
-        None => Some(cut.copy()),
+        None => Some(Low { place: i, height }),
         Some(b) => {
-            if cut_height(labels, cut.leaves()) < cut_height(labels, b.leaves()) {
-                Some(cut.copy())
-            } else {
-                Some(b)
+            if height < b.height {
+                return Some(Low { place: i, height });
             }
+            Some(b)
         }
     }
 }
 
-// The first of the lowest cuts of a list.
-fn lowest_of(labels: &[u32], cuts: &[Cut]) -> Option<Cut>
+// The first of the lowest cuts of a node.
+fn lowest_of(labels: &[u32], table: &CutTable, n: u32) -> Option<Low>
     requires { AreSmall labels.now }
-    ensures { result ≡ lowest (label_at labels.now) None cuts.now }
+    ensures { IsAt (label_at labels.now) (row_at table.now n) result (lowest (label_at labels.now) None (row_at table.now n)) }
 {
     let mut best = None;
-    for cut in cuts {
-        best = lower(labels, best, cut);
+    for i in 0..table.count(n) {
+        best = lower(labels, table, n, best, i);
     }
     best
 }
@@ -49,9 +57,9 @@ fn best_cut(alloc: Global, graph: &Graph, table: &CutTable, labels: &[u32], n: u
     if n <= graph.sources() {
         return Cut::empty(alloc);
     }
-    match lowest_of(labels, table.row(n)) {
+    match lowest_of(labels, table, n) {
         None => Cut::empty(alloc),
-        Some(cut) => cut,
+        Some(low) => table.cut(n, low.place),
     }
 }
 

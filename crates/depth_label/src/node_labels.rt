@@ -70,6 +70,6 @@ impl Labels {
         requires { i < length (row_at table.now n) }
         ensures { result ≡ height_of (label_of self.now) (slice_index_or (row_at table.now n) i []) }
     {
-        self.cut_height(&table.cut(n, i))
+        cut_height(&self.labels, table.leaves(n, i))
     }
 }

@@ -1,7 +1,8 @@
-use Rattle.std.proofs.Common.{◌≡◌, drop, None}
+use Rattle.std.proofs.Common.{◌≡◌, ℕ, List, Option, None, drop}
+use Rattle.cut_enum.specs.Table.{row_at}
 use Rattle.depth_label.specs.Label.{label_of}
-use Rattle.cover_pick.specs.Fewest.{fewest}
+use Rattle.cover_pick.specs.Fewest.{IsAt, fewest}
 use Rattle.cover_pick.proofs.choice.fewest.Given as goal
 
-abbrev pub invariant-loop-cut : goal.invariant-loop-cut
-invariant-loop-cut l = fewest (label_of l.labels) l.r l.best (drop l.cut-index l.cuts) ≡ fewest (label_of l.labels) l.r None l.cuts
+abbrev pub invariant-loop-i : goal.invariant-loop-i
+invariant-loop-i l = (o : Option (List ℕ)) × IsAt (label_of l.labels) (row_at l.table l.n) l.best o × (fewest (label_of l.labels) l.r o (drop l.i (row_at l.table l.n)) ≡ fewest (label_of l.labels) l.r None (row_at l.table l.n))

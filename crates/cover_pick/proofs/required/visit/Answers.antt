@@ -16,3 +16,6 @@ require_each-requires c i l =
     let j : In (choice_of (row_at c.args.table.now) (label_of c.args.labels.now) c.args.n c.in-Some.r) (get_or leaves i 0) = subst (λ ms. In ms (get_or leaves i 0)) e (In-get_or leaves i 0 l) in
     let b : get_or leaves i 0 < c.args.n = choice_leaf (row_at c.args.table.now) (label_of c.args.labels.now) c.args.n c.in-Some.r c.args.n (λ x m y z. leaves_below c.args.graph.now c.args.table.now c.args.n c.requires.table c.requires.node x m y z) (get_or leaves i 0) j in
     omega arith
+
+pub choose-cut-requires : goal.choose-cut-requires
+choose-cut-requires c = (c.requires.table.are.each c.args.n c.requires.node.1 c.requires.node).ordered

@@ -1,12 +1,16 @@
+use Rattle.std.proofs.Common.{◌++◌}
 use Rattle.std.proofs.lemmas.Result.{err_from_is_err_and}
 use Rattle.cut_enum.specs.Merging.{add_unions, add_pairs}
-use Rattle.cut_enum.proofs.LeastLemmas.{pairs_step}
 use Rattle.cut_enum.proofs.RowLemmas.{too_many_more}
+use Rattle.cut_enum.proofs.StepLemmas.{pairs_step}
 use Rattle.cut_enum.proofs.least.add_pairs.Goals as goal
 
 pub returns-in_err-add_unions-clause-too_many : goal.returns-in_err-add_unions-clause-too_many
 returns-in_err-add_unions-clause-too_many c =
     let p = err_from_is_err_and c.from_residual.result c.from_residual.ensures.1 in
-    rw (p.1, p.2) (too_many_more c.args.node (add_unions c.args.size c.c-item.result c.args.ds.now c.loop-c.cuts.items) (add_pairs c.args.size c.args.cs.now c.args.ds.now c.args.cuts.now.items) c.in_err-add_unions.field-0.0
-    (pairs_step c.args.size c.c-item.result c.args.cs.now c.args.ds.now c.loop-c.cuts.items (add_pairs c.args.size c.args.cs.now c.args.ds.now c.args.cuts.now.items) c.loop-c.c-index c.loop-c-test.true c.c-item.is c.loop-c.invariant.rest)
+    rw (p.1, p.2)
+    (too_many_more c.args.node (c.args.smaller.now ++ add_unions c.args.size c.args.smaller.now c.c-item.result c.args.ds.now c.loop-c.level)
+    (c.args.smaller.now ++ add_pairs c.args.size c.args.smaller.now c.args.cs.now c.args.ds.now c.args.level.now) c.in_err-add_unions.field-0.0
+    (pairs_step c.args.size c.args.smaller.now c.c-item.result c.args.cs.now c.args.ds.now c.loop-c.level (add_pairs c.args.size c.args.smaller.now c.args.cs.now c.args.ds.now c.args.level.now) c.loop-c.c-index
+    c.loop-c-test.true c.c-item.is c.loop-c.invariant.rest)
     c.in_err-add_unions.ensures.too_many)

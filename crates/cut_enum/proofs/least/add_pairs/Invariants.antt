@@ -1,10 +1,10 @@
-use Rattle.std.proofs.Common.{◌≡◌, ◌≤◌, drop, length}
+use Rattle.std.proofs.Common.{◌≡◌, ◌+◌, ◌≤◌, drop, length}
 use Rattle.cut_enum.specs.declared.limits.TheConstants.{MOST_OF_A_NODE}
 use Rattle.cut_enum.specs.Merging.{add_pairs}
 use Rattle.cut_enum.proofs.least.add_pairs.Given as goal
 
 abbrev pub invariant-loop-c : goal.invariant-loop-c
 invariant-loop-c l = record {
-  rest : add_pairs l.size (drop l.c-index l.cs) l.ds l.cuts.items ≡ add_pairs l.size l.cs l.ds l.fn.cuts.items;
-  few : length l.cuts.items ≤ MOST_OF_A_NODE;
+  rest : add_pairs l.size l.smaller (drop l.c-index l.cs) l.ds l.level ≡ add_pairs l.size l.smaller l.cs l.ds l.fn.level;
+  few : length l.smaller + length l.level ≤ MOST_OF_A_NODE;
 }

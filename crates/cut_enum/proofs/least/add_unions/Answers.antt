@@ -1,15 +1,32 @@
-use Rattle.std.proofs.Common.{arith, refl, sym, ◌≡◌, ◌≤◌, length, ap, vec_len}
-use Rattle.cut_enum.specs.Merging.{add_unions, add_union}
-use Rattle.cut_enum.proofs.LeastLemmas.{union_step, add_unions-large}
+use Rattle.std.proofs.Common.{◌≡◌, ◌<◌, ◌++◌, ◌∙◌, ℕ, List, length, map, get_or, ap, subst, arith, bit_or, count_ones}
+use Rattle.std.proofs.lemmas.Result.{err_from_is_err_and}
+use Rattle.cut_enum.specs.Merging.{add_union, add_unions}
+use Rattle.cut_enum.specs.Signature.{signature_of}
+use Rattle.cut_enum.proofs.RowLemmas.{too_many_more}
+use Rattle.cut_enum.proofs.SignedLemmas.{signed_length}
+use Rattle.cut_enum.proofs.StepLemmas.{unions_pass, unions_step}
 use Rattle.cut_enum.proofs.least.add_unions.Goals as goal
 
-pub returns-then-len-gt-MOST_OF_A_NODE-clause-too_many :
-    goal.returns-then-len-gt-MOST_OF_A_NODE-clause-too_many
-returns-then-len-gt-MOST_OF_A_NODE-clause-too_many c =
-    let made : length c.add_union.new.cuts.items ≡ length (add_union c.args.size c.args.c.now c.d-item.result c.loop-d.cuts.items) = ap length c.in_ok-add_union.ensures in
-    let step : length (add_union c.args.size c.args.c.now c.d-item.result c.loop-d.cuts.items) ≤ length (add_unions c.args.size c.args.c.now c.args.ds.now c.args.cuts.now.items) =
-    union_step c.args.size c.args.c.now c.d-item.result c.args.ds.now c.loop-d.cuts.items (add_unions c.args.size c.args.c.now c.args.ds.now c.args.cuts.now.items) c.loop-d.d-index c.loop-d-test.true c.d-item.is c.loop-d.invariant.rest in
-    let len : vec_len c.add_union.new.cuts ≡ length c.add_union.new.cuts.items = c.add_union.new.cuts.ok.0 in record { is = refl; over = omega arith }
+pub loop-i-preserved-then-other-signature : goal.loop-i-preserved-then-other-signature
+loop-i-preserved-then-other-signature c =
+    let signed : c.ds.inside.signatures.now ≡ map signature_of c.args.ds.now = c.ds.invariant ∙ ap (λ (s : List (List ℕ)). map signature_of s) c.ds.view_is in
+    record {
+      rest =
+          unions_pass c.args.size c.args.smaller.now c.args.c.now c.args.ds.now c.loop-i.level (add_unions c.args.size c.args.smaller.now c.args.c.now c.args.ds.now c.args.level.now) c.ds.inside.signatures.now c.loop-i.i signed
+          c.loop-i-test.true (subst (λ w. c.args.size < count_ones (bit_or (get_or c.ds.inside.signatures.now c.loop-i.i 0) w)) c.signature-signature.ensures c.if-other-signature.true) c.loop-i.invariant.rest;
+      few = c.loop-i.invariant.few;
+    }
 
-pub returns-then-len-size-clause-ok : goal.returns-then-len-size-clause-ok
-returns-then-len-size-clause-ok c = sym (add_unions-large c.args.size c.args.c.now c.args.ds.now c.args.cuts.now.items (omega arith))
+pub returns-in_err-add_union-clause-too_many : goal.returns-in_err-add_union-clause-too_many
+returns-in_err-add_union-clause-too_many c =
+    let p = err_from_is_err_and c.from_residual.result c.from_residual.ensures.1 in
+    let d : List ℕ = c.index-cuts-i.result in
+    let signed : c.ds.inside.signatures.now ≡ map signature_of c.args.ds.now = c.ds.invariant ∙ ap (λ (s : List (List ℕ)). map signature_of s) c.ds.view_is in
+    let n : length c.ds.inside.signatures.now ≡ length c.args.ds.now = signed_length c.ds.inside.signatures.now c.args.ds.now signed in
+    let at : d ≡ get_or c.args.ds.now c.loop-i.i d = c.index-cuts-i.is ∙ ap (λ (s : List (List ℕ)). get_or s c.loop-i.i d) c.ds.view_is in
+    let l : c.loop-i.i < length c.ds.inside.signatures.now = c.loop-i-test.true in
+    rw (p.1, p.2)
+    (too_many_more c.args.node (c.args.smaller.now ++ add_union c.args.size c.args.smaller.now c.args.c.now d c.loop-i.level)
+    (c.args.smaller.now ++ add_unions c.args.size c.args.smaller.now c.args.c.now c.args.ds.now c.args.level.now) c.in_err-add_union.field-0.0
+    (unions_step c.args.size c.args.smaller.now c.args.c.now d c.args.ds.now c.loop-i.level (add_unions c.args.size c.args.smaller.now c.args.c.now c.args.ds.now c.args.level.now) c.loop-i.i (omega arith) at c.loop-i.invariant.rest)
+    c.in_err-add_union.ensures.too_many)

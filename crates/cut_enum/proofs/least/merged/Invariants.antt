@@ -5,6 +5,6 @@ use Rattle.cut_enum.proofs.least.merged.Given as goal
 
 abbrev pub invariant-loop-size : goal.invariant-loop-size
 invariant-loop-size l = record {
-  below : l.cuts.items ≡ unions_below l.size l.cs l.ds;
-  few : length l.cuts.items ≤ MOST_OF_A_NODE;
+  below : l.cuts ≡ unions_below l.size l.xs l.ys;
+  few : length l.cuts ≤ MOST_OF_A_NODE;
 }

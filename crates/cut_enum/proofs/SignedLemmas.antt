@@ -1,0 +1,42 @@
+-- Signatures one after another: of the leaves of a cut, and of the cuts of a list.
+use Rattle.std.proofs.Common.{◌≡◌, ℕ, zero, suc, ◌+◌, ◌<◌, ◌≤◌, max, List, [], ◌∷◌, length, get_or, map, take, drop, sym, ap, ◌∙◌, arith, bit_or}
+use Rattle.std.specs.Int.{bit_at}
+use Rattle.std.specs.Int.Bits.{or_zero_r}
+use Rattle.std.proofs.lemmas.List.{take-map, length-map, drop_all, drop_more}
+use Rattle.std.proofs.lemmas.Nat.Bits.{bit_at_or, same_from_bits}
+use Rattle.cut_enum.specs.Signature.{leaf_bit, signature_of}
+
+or_assoc : (a b c : ℕ) → bit_or (bit_or a b) c ≡ bit_or a (bit_or b c)
+or_assoc a b c =
+    same_from_bits (bit_or (bit_or a b) c) (bit_or a (bit_or b c))
+    (λ i. let p : bit_at (bit_or (bit_or a b) c) i ≡ max (bit_at (bit_or a b) i) (bit_at c i) = bit_at_or (bit_or a b) c i in
+    let q : bit_at (bit_or a b) i ≡ max (bit_at a i) (bit_at b i) = bit_at_or a b i in
+    let r : bit_at (bit_or a (bit_or b c)) i ≡ max (bit_at a i) (bit_at (bit_or b c) i) = bit_at_or a (bit_or b c) i in
+    let s : bit_at (bit_or b c) i ≡ max (bit_at b i) (bit_at c i) = bit_at_or b c i in omega arith)
+
+-- one more leaf's bit
+pub signature_next : (leaves : List ℕ) (word i bit full : ℕ) → i < length leaves → bit ≡ leaf_bit (get_or leaves i 0) → bit_or word (signature_of (drop i leaves)) ≡ full
+    → bit_or (bit_or word bit) (signature_of (drop (i + 1) leaves)) ≡ full
+signature_next leaves word i bit full l b e =
+    or_assoc word bit (signature_of (drop (i + 1) leaves)) ∙ ap (λ w. bit_or word (bit_or w (signature_of (drop (i + 1) leaves)))) b
+    ∙ ap (λ s. bit_or word (signature_of s)) (sym (drop_more leaves i 0 l)) ∙ e
+
+pub signature_end : (leaves : List ℕ) (word i full : ℕ) → length leaves ≤ i → bit_or word (signature_of (drop i leaves)) ≡ full → word ≡ full
+signature_end leaves word i full l e = sym (or_zero_r word) ∙ ap (λ s. bit_or word (signature_of s)) (sym (drop_all i leaves l)) ∙ e
+
+mapped_at : (cs : List (List ℕ)) (i : ℕ) (c : List ℕ) → i < length cs → c ≡ get_or cs i c → get_or (map signature_of cs) i 0 ≡ signature_of c
+mapped_at [] i c l e = absurd (omega arith)
+mapped_at (d ∷ ds) zero c l e = ap signature_of (sym e)
+mapped_at (d ∷ ds) (suc i) c l e = mapped_at ds i c (omega arith) e
+
+-- the signature at a cut's place is the cut's
+pub signed_at : (words : List ℕ) (cs : List (List ℕ)) (i : ℕ) (c : List ℕ) → words ≡ map signature_of cs → i < length cs → c ≡ get_or cs i c → get_or words i 0 ≡ signature_of c
+signed_at words cs i c w l e = ap (λ s. get_or s i 0) w ∙ mapped_at cs i c l e
+
+-- there are as many
+pub signed_length : (words : List ℕ) (cs : List (List ℕ)) → words ≡ map signature_of cs → length words ≡ length cs
+signed_length words cs w = ap length w ∙ length-map cs signature_of
+
+-- those at the head
+pub signed_head : (words : List ℕ) (cs : List (List ℕ)) (n : ℕ) → words ≡ map signature_of cs → take n words ≡ map signature_of (take n cs)
+signed_head words cs n w = ap (λ s. take n s) w ∙ take-map signature_of n cs

@@ -1,0 +1,16 @@
+use Rattle.std.proofs.Common.{◌++◌}
+use Rattle.std.proofs.lemmas.Result.{err_from_is_err_and}
+use Rattle.cut_enum.specs.Merging.{add_holder, add_holders}
+use Rattle.cut_enum.proofs.RowLemmas.{too_many_more}
+use Rattle.cut_enum.proofs.StepLemmas.{holders_step}
+use Rattle.cut_enum.proofs.least.add_holders.Goals as goal
+
+pub returns-in_err-add_holder-clause-too_many : goal.returns-in_err-add_holder-clause-too_many
+returns-in_err-add_holder-clause-too_many c =
+    let p = err_from_is_err_and c.from_residual.result c.from_residual.ensures.1 in
+    rw (p.1, p.2)
+    (too_many_more c.args.node (c.args.smaller.now ++ add_holder c.args.size c.args.smaller.now c.args.parts.now c.cut-item.result c.loop-cut.level)
+    (c.args.smaller.now ++ add_holders c.args.size c.args.smaller.now c.args.parts.now c.args.cuts.now c.args.level.now) c.in_err-add_holder.field-0.0
+    (holders_step c.args.size c.args.smaller.now c.args.parts.now c.cut-item.result c.args.cuts.now c.loop-cut.level (add_holders c.args.size c.args.smaller.now c.args.parts.now c.args.cuts.now c.args.level.now) c.loop-cut.cut-index
+    c.loop-cut-test.true c.cut-item.is c.loop-cut.invariant.rest)
+    c.in_err-add_holder.ensures.too_many)

@@ -1,0 +1,6 @@
+use Rattle.std.proofs.Common.{◌≡◌, drop, bit_or}
+use Rattle.cut_enum.specs.Signature.{signature_of}
+use Rattle.cut_enum.proofs.signature.signature.Given as goal
+
+abbrev pub invariant-loop-leaf : goal.invariant-loop-leaf
+invariant-loop-leaf l = bit_or l.word (signature_of (drop l.leaf-index l.leaves)) ≡ signature_of l.leaves

@@ -1,0 +1,6 @@
+use Rattle.std.proofs.Common.{◌≡◌, ◌++◌, map, take}
+use Rattle.cut_enum.specs.Signature.{signature_of}
+use Rattle.cut_enum.proofs.signed.sign.Given as goal
+
+abbrev pub invariant-loop-cut : goal.invariant-loop-cut
+invariant-loop-cut l = l.signatures.items ≡ l.fn.signatures.items ++ map signature_of (take l.cut-index l.cuts)

@@ -1,0 +1,199 @@
+//! A cut of at most six leaves as seven numbers, as a table keeps it.
+ghost use Rattle.std.specs.Prelude.{◌≡◌, ℕ, ◌≤◌, List, [], ◌∷◌, length, MatchOption, IfSome, IfNone, IsTrue};
+ghost use Rattle.list_laws.specs.Order.{IsAscending};
+ghost use Rattle.cut_enum.specs.Sets.{before as comes_before, lex};
+ghost use Rattle.cut_enum.specs.Merging.{union, subset};
+ghost use Rattle.cut_enum.specs.Signature.{signature_of};
+
+use crate::signature::signature;
+use std::marker::Model;
+
+// The leaves of a cut as a table keeps it: at most six nodes, ascending and without repeats.
+#[derive(Drop)]
+pub struct FlatCut {
+    leaves: [u32; 6],
+    len: u32,
+}
+
+impl Model for FlatCut {
+    ghost use Rattle.std.specs.Prelude.{ℕ, List, take};
+    ghost use Rattle.cut_enum.specs.Keeps.{IsFlatCut};
+
+    ghost Value = { List ℕ };
+
+    ghost view = { λ c. take c.len c.leaves };
+
+    ghost invariant = { λ c. IsFlatCut c.leaves c.len };
+}
+
+impl FlatCut {
+    // The cut without leaves.
+    pub fn empty() -> FlatCut
+        ensures { result ≡ [] }
+    {
+        FlatCut {
+            leaves: [0; 6],
+            len: 0,
+        }
+    }
+
+    // The cut of one leaf.
+    pub fn one(leaf: u32) -> FlatCut
+        ensures { result ≡ leaf ∷ [] }
+    {
+        FlatCut {
+            leaves: [leaf, 0, 0, 0, 0, 0],
+            len: 1,
+        }
+    }
+
+    // The same leaves again.
+    pub fn copy(&self) -> FlatCut
+        ensures { result ≡ self.now }
+    {
+        FlatCut {
+            leaves: self.leaves,
+            len: self.len,
+        }
+    }
+
+    // How many leaves there are: at most six.
+    pub fn len(&self) -> usize
+        ensures count { result ≡ length self.now }
+        ensures few { length self.now ≤ 6 }
+    {
+        self.len as usize
+    }
+
+    // The leaves, in ascending order.
+    pub fn leaves(&self) -> &[u32]
+        ensures leaves { result.now ≡ self.now }
+        ensures few { length self.now ≤ 6 }
+        ensures ascending { IsAscending self.now }
+    {
+        &self.leaves[..self.len as usize]
+    }
+
+    // The bits of all leaves.
+    pub fn signature(&self) -> u64
+        ensures { result ≡ signature_of self.now }
+    {
+        signature(self.leaves())
+    }
+}
+
+// The least head of two lists, and what is left of them.
+#[derive(Clone, Copy)]
+struct Heads<'a> {
+    least: u32,
+    xs: &'a [u32],
+    ys: &'a [u32],
+}
+
+// The least head of two ascending lists, if there is one.
+fn least_head<'a>(xs: &'a [u32], ys: &'a [u32]) -> Option<Heads<'a>>
+    requires x_up { IsAscending xs.now }
+    requires y_up { IsAscending ys.now }
+    ensures none { IfNone result (union xs.now ys.now ≡ []) }
+    ensures some { IfSome result (λ h. union xs.now ys.now ≡ h.least ∷ union h.xs.now h.ys.now) }
+    ensures x_up { IfSome result (λ h. IsAscending h.xs.now) }
+    ensures y_up { IfSome result (λ h. IsAscending h.ys.now) }
+{
+    match xs {
+        [] => match ys {
+            [] => None,
+            [y, y_rest @ ..] => Some(Heads {
+                least: *y,
+                xs,
+                ys: y_rest,
+            }),
+        },
+        [x, x_rest @ ..] => match ys {
+            [] => Some(Heads {
+                least: *x,
+                xs: x_rest,
+                ys,
+            }),
+            [y, y_rest @ ..] => {
+                if *x < *y {
+                    return Some(Heads {
+                        least: *x,
+                        xs: x_rest,
+                        ys,
+                    });
+                }
+                if *y < *x {
+                    return Some(Heads {
+                        least: *y,
+                        xs,
+                        ys: y_rest,
+                    });
+                }
+                Some(Heads {
+                    least: *x,
+                    xs: x_rest,
+                    ys: y_rest,
+                })
+            }
+        },
+    }
+}
+
+// The leaves of both, if they are so many.
+pub fn joined(a: &FlatCut, b: &FlatCut, size: usize) -> Option<FlatCut>
+    requires { size ≤ 6 }
+    ensures { MatchOption result (length (union a.now b.now) ≡ size → ⊥) (λ c. (c ≡ union a.now b.now) × (length c ≡ size)) }
+{
+    let mut leaves = [0; 6];
+    let mut xs = a.leaves();
+    let mut ys = b.leaves();
+    for n in 0..size {
+        match least_head(xs, ys) {
+            None => return None,
+            Some(heads) => {
+                leaves[n] = heads.least;
+                xs = heads.xs;
+                ys = heads.ys;
+            }
+        }
+    }
+    match least_head(xs, ys) {
+        Some(_) => None,
+        None => Some(FlatCut {
+            leaves,
+            len: size as u32,
+        }),
+    }
+}
+
+// Is every leaf of a one of b?
+pub fn is_part(a: &FlatCut, b: &FlatCut) -> bool
+    ensures { result ≡ subset a.now b.now }
+{
+    let leaves = b.leaves();
+    a.leaves().iter().all(|x| leaves.contains(x))
+}
+
+// The lexicographic order of two lists.
+fn lex_before(a: &[u32], b: &[u32]) -> bool
+    ensures { result ≡ lex a.now b.now }
+{
+    match a {
+        [] => false,
+        [x, xs @ ..] => match b {
+            [] => false,
+            [y, ys @ ..] => *x < *y || (*x == *y && lex_before(xs, ys)),
+        },
+    }
+}
+
+// Does a come before b: fewer leaves first, then the lexicographically smaller.
+pub fn before(a: &FlatCut, b: &FlatCut) -> bool
+    ensures { result ≡ comes_before a.now b.now }
+{
+    let (n, m) = (a.len(), b.len());
+    if n != m {
+        return n < m;
+    }
+    lex_before(a.leaves(), b.leaves())
+}

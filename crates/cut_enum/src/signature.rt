@@ -1,0 +1,21 @@
+//! The signature of leaves: a word that has bit (leaf mod 64) of each.
+ghost use Rattle.std.specs.Prelude.{◌≡◌};
+ghost use Rattle.cut_enum.specs.Signature.{leaf_bit as bit_of, signature_of};
+
+// The word with the bit of one leaf.
+pub fn leaf_bit(leaf: u32) -> u64
+    ensures { result ≡ bit_of leaf }
+{
+    1 << (leaf % 64)
+}
+
+// The bits of all leaves.
+pub fn signature(leaves: &[u32]) -> u64
+    ensures { result ≡ signature_of leaves.now }
+{
+    let mut word = 0;
+    for leaf in leaves {
+        word |= leaf_bit(*leaf);
+    }
+    word
+}

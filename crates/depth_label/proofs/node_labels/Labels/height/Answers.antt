@@ -1,0 +1,12 @@
+use Rattle.std.proofs.Common.{ℕ, List, [], get_or, sym, ap, ◌≡◌, ◌∙◌}
+use Rattle.std.proofs.lemmas.Option.{get_or_from_slice_get}
+use Rattle.cut_enum.specs.Table.{row_at}
+use Rattle.depth_label.specs.Label.{height, LabelsValue, label_at, label_of}
+use Rattle.depth_label.proofs.node_labels.Labels.height.Goals as goal
+
+pub returns : goal.returns
+returns c =
+    let row : List (List ℕ) = row_at c.args.table.now c.args.n in
+    let at : get_or row c.args.i [] ≡ c.leaves.result.now = get_or_from_slice_get row c.args.i c.leaves.result.now [] c.leaves.ensures in
+    c.cut_height.ensures ∙ (ap (λ ls. height (label_at ls) c.leaves.result.now) c.deref.ensures.value ∙ (ap (λ x. height (label_at c.self.inside.labels.items) x) (sym at)
+    ∙ ap (λ (v : LabelsValue). height (label_of v) (get_or row c.args.i [])) c.self.view_is))
