@@ -1,0 +1,343 @@
+-- The text of a netlist without hierarchy denotes its one model.
+use Rattle.std.proofs.Common.{◌≡◌, ℕ, suc, ◌+◌, ◌-◌, ◌<◌, Bool, true, false, cond, eqb, ◌||◌, List, [], ◌∷◌, ◌++◌, length, map, get_or, codes, bytes_eq, Option, Some, None, refl, sym, ap, subst, ◌∙◌, inl, inr, arith, append_assoc, append-nil}
+use Rattle.std.specs.List.{list_any, flat_map}
+use Rattle.std.proofs.lemmas.List.{map-append, length-map}
+use Rattle.std.proofs.lemmas.Slice.Eq.{bytes_eq-Decides}
+use Rattle.std.proofs.lemmas.Bool.{ne_eqb}
+use Rattle.list_laws.specs.Members.{In}
+use Rattle.list_laws.proofs.Members.{In-append, In-get_or}
+use Rattle.tl_text.specs.LineValue.{LineValue, WordsLine, words_line}
+use Rattle.tl_text.specs.Lines.{is_bad}
+use Rattle.tl_text.specs.Tokens.{is_blank}
+use Rattle.tl_text.specs.Clean.{IsClean}
+use Rattle.tl_text.specs.Once.{AreOnce}
+use Rattle.blif_read.specs.declared.cell.Cell.{Cell}
+use Rattle.blif_read.specs.declared.cell.Cell.TheVariants.{Zero, One, Any}
+use Rattle.blif_read.specs.declared.latch.Latch.{Latch as LatchValue}
+use Rattle.blif_read.specs.declared.command.Command.{Command}
+use Rattle.blif_read.specs.declared.command.Body.TheVariants.{Cover, Latch}
+use Rattle.blif_read.specs.CoverValue.{RowValue, CoverValue}
+use Rattle.blif_read.specs.LibraryValue.{Ports, input_ports, output_ports, clock_ports, ports_of}
+use Rattle.blif_read.specs.Statement.{StatementValue, statement_at, statement_of, statements}
+use Rattle.blif_read.specs.Rows.{cell_character, output_token, IsRow, alone, behind, AreRows, none, more}
+use Rattle.blif_read.specs.Latches.{Starts, one, zero_, Controls, nil, net, IsLatch, with_init, whole}
+use Rattle.blif_read.specs.Denotes.{names_in, port_names, IsCoverLine, AreCommands, AreModels, IsModel, AreLibrary, Denotes}
+use Rattle.blif_read.specs.HasCleanNames.{IsCleanBody}
+use Rattle.blif_read.specs.Denotes as denotes
+use Rattle.blif_write.specs.PlainNetlist.{PlainNetlist, IsPlain, all_inputs, control_words, latch_line, row_line, cover_lines, netlist_lines, netlist_text, read_control, read_latch, latch_commands, cover_commands, model_of, library_of}
+use Rattle.blif_write.proofs.LineTextLemmas.{IsWritable, AreWritable, numbered, ReadsAgain, reads_again}
+
+-- statements of lines, the first of which has this number
+abbrev statements_of : ℕ → List (List (List ℕ)) → List StatementValue
+statements_of number lines = map statement_of (numbered number lines)
+
+numbered_append : (number : ℕ) (xs ys : List (List (List ℕ))) → numbered number (xs ++ ys) ≡ numbered number xs ++ numbered (number + length xs) ys
+numbered_append number [] ys = let e : number ≡ number + 0 = omega arith in ap (λ (k : ℕ). numbered k ys) e
+numbered_append number (x ∷ xs) ys =
+    let e : suc number + length xs ≡ number + length (x ∷ xs) = omega arith in
+    ap (λ (t : List WordsLine). record { number = number; words = x } ∷ t) (numbered_append (suc number) xs ys ∙ ap (λ (k : ℕ). numbered (suc number) xs ++ numbered k ys) e)
+
+statements_append : (number : ℕ) (xs ys : List (List (List ℕ))) → statements_of number (xs ++ ys) ≡ statements_of number xs ++ statements_of (number + length xs) ys
+statements_append number xs ys = ap (map statement_of) (numbered_append number xs ys) ∙ map-append statement_of (numbered number xs) (numbered (number + length xs) ys)
+
+-- rows
+row_is : (inputs number : ℕ) (value : Bool) (cells : List Cell) → value ≡ true → length cells ≡ inputs → IsRow inputs value (statement_at number (row_line cells)) (record { cells = cells })
+row_is inputs number value [] on count = alone (sym count) refl (ap (λ (v : Bool). output_token v ∷ []) (sym on)) refl
+row_is inputs number value (Zero ∷ cells) on count =
+    behind (omega (arith, count)) refl (ap (λ (v : Bool). map cell_character (Zero ∷ cells) ∷ output_token v ∷ []) (sym on)) count
+row_is inputs number value (One ∷ cells) on count =
+    behind (omega (arith, count)) refl (ap (λ (v : Bool). map cell_character (One ∷ cells) ∷ output_token v ∷ []) (sym on)) count
+row_is inputs number value (Any ∷ cells) on count =
+    behind (omega (arith, count)) refl (ap (λ (v : Bool). map cell_character (Any ∷ cells) ∷ output_token v ∷ []) (sym on)) count
+
+rows_are : (inputs number : ℕ) (value : Bool) (rows : List RowValue) → value ≡ true → ((row : RowValue) → In rows row → length row.cells ≡ inputs)
+    → AreRows inputs value (statements_of number (map (λ row. row_line row.cells) rows)) rows
+rows_are inputs number value [] on count = none
+rows_are inputs number value (row ∷ rows) on count =
+    more (statement_at number (row_line row.cells)) (statements_of (suc number) (map (λ row. row_line row.cells) rows)) row rows (row_is inputs number value row.cells on (count row (inl refl))) (rows_are inputs (suc number) value rows on (λ r i. count r (inr i)))
+
+-- latches
+starts : (init : Bool) → Starts (output_token init) init
+starts true = one refl refl
+starts false = zero_ (inl refl) refl
+
+controls_by : (control : List ℕ) (is : Bool) → bytes_eq control (codes "NIL") ≡ is → Controls control (cond is None (Some control))
+controls_by control true e = nil ((bytes_eq-Decides control (codes "NIL")).0 e) refl
+controls_by control false e = net (λ same. let t : bytes_eq control (codes "NIL") ≡ true = (bytes_eq-Decides control (codes "NIL")).1 same in let wrong : ⊥ = cc in wrong) refl
+
+latch_is : (l : LatchValue) → (control : Option (List ℕ)) → l.control ≡ control → IsLatch (l.input ∷ l.output ∷ (control_words control ++ output_token l.init ∷ [])) (read_latch l)
+latch_is l None e = with_init (output_token l.init) refl (ap read_control e) (starts l.init)
+latch_is l (Some control) e = whole control (output_token l.init) refl (subst (Controls control) (sym (ap read_control e)) (controls_by control (bytes_eq control (codes "NIL")) refl)) (starts l.init)
+
+-- commands
+cover_line_is : (number : ℕ) (c : CoverValue) → c.value ≡ true → IsCoverLine (statement_at number (codes ".names" ∷ (c.inputs ++ c.output ∷ []))) c
+cover_line_is number c on = record { is = refl; names = refl; no_rows = λ e. on }
+
+end_is : (number : ℕ) → AreCommands (statements_of number ((codes ".end" ∷ []) ∷ [])) []
+end_is number = denotes.end (statement_at number (codes ".end" ∷ [])) refl refl
+
+covers_are : (number : ℕ) (cs : List CoverValue) → ((c : CoverValue) → In cs c → c.value ≡ true) → ((c : CoverValue) → In cs c → (row : RowValue) → In c.rows row → length row.cells ≡ length c.inputs)
+    → AreCommands (statements_of number (flat_map cover_lines cs ++ (codes ".end" ∷ []) ∷ [])) (cover_commands number cs)
+covers_are number [] on count = end_is number
+covers_are number (c ∷ cs) on count =
+    let rows : List (List (List ℕ)) = map (λ (row : RowValue). row_line row.cells) c.rows in
+    let others : List (List (List ℕ)) = flat_map cover_lines cs ++ (codes ".end" ∷ []) ∷ [] in
+    let head : StatementValue = statement_at number (codes ".names" ∷ (c.inputs ++ c.output ∷ [])) in
+    let long : suc number + length rows ≡ suc number + length c.rows = ap (λ (k : ℕ). suc number + k) (length-map c.rows (λ (row : RowValue). row_line row.cells)) in
+    let rest : AreCommands (statements_of (suc number + length c.rows) others) (cover_commands (suc number + length c.rows) cs) = covers_are (suc number + length c.rows) cs (λ d i. on d (inr i)) (λ d i. count d (inr i)) in
+    let parts : statements_of (suc number) (rows ++ others) ≡ statements_of (suc number) rows ++ statements_of (suc number + length c.rows) others =
+    statements_append (suc number) rows others ∙ ap (λ (k : ℕ). statements_of (suc number) rows ++ statements_of k others) long in
+    let shape : statements_of number (flat_map cover_lines (c ∷ cs) ++ (codes ".end" ∷ []) ∷ []) ≡ head ∷ statements_of (suc number) (rows ++ others) =
+    ap (λ (t : List (List (List ℕ))). statements_of number t) (append_assoc (cover_lines c) (flat_map cover_lines cs) ((codes ".end" ∷ []) ∷ [])) in
+    subst (λ (t : List StatementValue). AreCommands t (cover_commands number (c ∷ cs))) (sym shape)
+    (denotes.cover head (statements_of (suc number) rows) (statements_of (suc number + length c.rows) others) (statements_of (suc number) (rows ++ others)) c (cover_commands (suc number + length c.rows) cs)
+    (cover_line_is number c (on c (inl refl))) (rows_are (length c.inputs) (suc number) c.value c.rows (on c (inl refl)) (count c (inl refl))) parts rest)
+
+latches_are : (number : ℕ) (ls : List LatchValue) (lines : List (List (List ℕ))) (commands : List Command) → AreCommands (statements_of (number + length ls) lines) commands
+    → AreCommands (statements_of number (map latch_line ls ++ lines)) (latch_commands number ls ++ commands)
+latches_are number [] lines commands rest =
+    let e : number + 0 ≡ number = omega arith in subst (λ (k : ℕ). AreCommands (statements_of k lines) commands) e rest
+latches_are number (l ∷ ls) lines commands rest =
+    let e : number + length (l ∷ ls) ≡ suc number + length ls = omega arith in
+    let later : AreCommands (statements_of (suc number) (map latch_line ls ++ lines)) (latch_commands (suc number) ls ++ commands) =
+    latches_are (suc number) ls lines commands (subst (λ (k : ℕ). AreCommands (statements_of k lines) commands) e rest) in
+    denotes.latch (statement_at number (latch_line l)) (statements_of (suc number) (map latch_line ls ++ lines)) (read_latch l) (latch_commands (suc number) ls ++ commands) refl (latch_is l l.control refl) later
+
+inputs_are : (number : ℕ) (inputs lines : List (List (List ℕ))) (commands : List Command) → AreCommands (statements_of (number + length inputs) lines) commands
+    → AreCommands (statements_of number (map (λ names. codes ".inputs" ∷ names) inputs ++ lines)) commands
+inputs_are number [] lines commands rest =
+    let e : number + 0 ≡ number = omega arith in subst (λ (k : ℕ). AreCommands (statements_of k lines) commands) e rest
+inputs_are number (names ∷ inputs) lines commands rest =
+    let e : number + length (names ∷ inputs) ≡ suc number + length inputs = omega arith in
+    denotes.ports (statement_at number (codes ".inputs" ∷ names)) (statements_of (suc number) (map (λ names. codes ".inputs" ∷ names) inputs ++ lines)) commands (inl refl)
+    (inputs_are (suc number) inputs lines commands (subst (λ (k : ℕ). AreCommands (statements_of k lines) commands) e rest))
+
+-- the lines behind the first one
+abbrev body_lines : PlainNetlist → List (List (List ℕ))
+body_lines n = map (λ (names : List (List ℕ)). codes ".inputs" ∷ names) n.inputs ++ ((codes ".outputs" ∷ n.outputs) ∷ (map latch_line n.latches ++ (flat_map cover_lines n.covers ++ (codes ".end" ∷ []) ∷ [])))
+
+commands_are : (n : PlainNetlist) → IsPlain n → AreCommands (statements_of 2 (body_lines n)) (model_of n).commands
+commands_are n h =
+    let at : ℕ = 2 + length n.inputs in
+    let covers : AreCommands (statements_of (suc at + length n.latches) (flat_map cover_lines n.covers ++ (codes ".end" ∷ []) ∷ [])) (cover_commands (suc at + length n.latches) n.covers) =
+    covers_are (suc at + length n.latches) n.covers h.on h.cells in
+    let latches : AreCommands (statements_of (suc at) (map latch_line n.latches ++ (flat_map cover_lines n.covers ++ (codes ".end" ∷ []) ∷ []))) (latch_commands (suc at) n.latches ++ cover_commands (suc at + length n.latches) n.covers) =
+    latches_are (suc at) n.latches (flat_map cover_lines n.covers ++ (codes ".end" ∷ []) ∷ []) (cover_commands (suc at + length n.latches) n.covers) covers in
+    let e : suc at ≡ 3 + length n.inputs = omega arith in
+    let all : AreCommands (statements_of at ((codes ".outputs" ∷ n.outputs) ∷ (map latch_line n.latches ++ (flat_map cover_lines n.covers ++ (codes ".end" ∷ []) ∷ [])))) (latch_commands (suc at) n.latches ++ cover_commands (suc at + length n.latches) n.covers) =
+    denotes.ports (statement_at at (codes ".outputs" ∷ n.outputs)) _ _ (inr (inl refl)) latches in
+    subst (λ (k : ℕ). AreCommands (statements_of 2 (body_lines n)) (latch_commands k n.latches ++ cover_commands (k + length n.latches) n.covers)) e
+    (inputs_are 2 n.inputs ((codes ".outputs" ∷ n.outputs) ∷ (map latch_line n.latches ++ (flat_map cover_lines n.covers ++ (codes ".end" ∷ []) ∷ []))) _ all)
+
+-- ports
+names_append : (p : Ports) (xs ys : List StatementValue) → names_in p (xs ++ ys) ≡ names_in p xs ++ names_in p ys
+names_append p [] ys = refl
+names_append p (x ∷ xs) ys =
+    ap (λ (t : List (List ℕ)). port_names p x.keyword x.arguments ++ t) (names_append p xs ys) ∙ sym (append_assoc (port_names p x.keyword x.arguments) (names_in p xs) (names_in p ys))
+
+no_port : (p : Ports) (k : Ports → List (List ℕ)) → k input_ports ≡ [] → k output_ports ≡ [] → k clock_ports ≡ [] → k p ≡ []
+no_port input_ports k i o c = i
+no_port output_ports k i o c = o
+no_port clock_ports k i o c = c
+
+row_portless : (p : Ports) (number : ℕ) (cells : List Cell) → names_in p (statement_at number (row_line cells) ∷ []) ≡ []
+row_portless p number [] = no_port p (λ q. names_in q (statement_at number (row_line []) ∷ [])) refl refl refl
+row_portless p number (Zero ∷ cells) = no_port p (λ q. names_in q (statement_at number (row_line (Zero ∷ cells)) ∷ [])) refl refl refl
+row_portless p number (One ∷ cells) = no_port p (λ q. names_in q (statement_at number (row_line (One ∷ cells)) ∷ [])) refl refl refl
+row_portless p number (Any ∷ cells) = no_port p (λ q. names_in q (statement_at number (row_line (Any ∷ cells)) ∷ [])) refl refl refl
+
+first_portless : (p : Ports) (s : StatementValue) (ss : List StatementValue) → names_in p (s ∷ []) ≡ [] → names_in p (s ∷ ss) ≡ names_in p ss
+first_portless p s ss h = names_append p (s ∷ []) ss ∙ ap (λ (t : List (List ℕ)). t ++ names_in p ss) h
+
+rows_portless : (p : Ports) (number : ℕ) (rows : List RowValue) (lines : List (List (List ℕ))) → ((k : ℕ) → names_in p (statements_of k lines) ≡ []) → names_in p (statements_of number (map (λ row. row_line row.cells) rows ++ lines)) ≡ []
+rows_portless p number [] lines rest = rest number
+rows_portless p number (row ∷ rows) lines rest =
+    first_portless p (statement_at number (row_line row.cells)) (statements_of (suc number) (map (λ row. row_line row.cells) rows ++ lines)) (row_portless p number row.cells) ∙ rows_portless p (suc number) rows lines rest
+
+covers_portless : (p : Ports) (number : ℕ) (cs : List CoverValue) → names_in p (statements_of number (flat_map cover_lines cs ++ (codes ".end" ∷ []) ∷ [])) ≡ []
+covers_portless p number [] = no_port p (λ q. names_in q (statements_of number ((codes ".end" ∷ []) ∷ []))) refl refl refl
+covers_portless p number (c ∷ cs) =
+    let others : List (List (List ℕ)) = flat_map cover_lines cs ++ (codes ".end" ∷ []) ∷ [] in
+    let head : StatementValue = statement_at number (codes ".names" ∷ (c.inputs ++ c.output ∷ [])) in
+    let rows : List (List (List ℕ)) = map (λ (row : RowValue). row_line row.cells) c.rows in
+    ap (λ (t : List (List (List ℕ))). names_in p (statements_of number t)) (append_assoc (cover_lines c) (flat_map cover_lines cs) ((codes ".end" ∷ []) ∷ []))
+    ∙ first_portless p head (statements_of (suc number) (rows ++ others)) (no_port p (λ q. names_in q (head ∷ [])) refl refl refl)
+    ∙ rows_portless p (suc number) c.rows others (λ k. covers_portless p k cs)
+
+latches_portless : (p : Ports) (number : ℕ) (ls : List LatchValue) (lines : List (List (List ℕ))) → ((k : ℕ) → names_in p (statements_of k lines) ≡ []) → names_in p (statements_of number (map latch_line ls ++ lines)) ≡ []
+latches_portless p number [] lines rest = rest number
+latches_portless p number (l ∷ ls) lines rest =
+    let head : StatementValue = statement_at number (latch_line l) in
+    first_portless p head (statements_of (suc number) (map latch_line ls ++ lines)) (no_port p (λ q. names_in q (head ∷ [])) refl refl refl) ∙ latches_portless p (suc number) ls lines rest
+
+-- the names of the `.inputs` lines, and what other lines have
+abbrev own_ports : Ports → List (List (List ℕ)) → List (List ℕ)
+own_ports input_ports inputs = flat_map (λ (names : List (List ℕ)). names) inputs
+own_ports output_ports inputs = []
+own_ports clock_ports inputs = []
+
+inputs_named : (p : Ports) (number : ℕ) (inputs : List (List (List ℕ))) → names_in p (statements_of number (map (λ names. codes ".inputs" ∷ names) inputs)) ≡ own_ports p inputs
+inputs_named input_ports number [] = refl
+inputs_named output_ports number [] = refl
+inputs_named clock_ports number [] = refl
+inputs_named input_ports number (names ∷ inputs) = ap (λ (t : List (List ℕ)). names ++ t) (inputs_named input_ports (suc number) inputs)
+inputs_named output_ports number (names ∷ inputs) = inputs_named output_ports (suc number) inputs
+inputs_named clock_ports number (names ∷ inputs) = inputs_named clock_ports (suc number) inputs
+
+abbrev outputs_ports : Ports → List (List ℕ) → List (List ℕ)
+outputs_ports input_ports outputs = []
+outputs_ports output_ports outputs = outputs
+outputs_ports clock_ports outputs = []
+
+outputs_named : (p : Ports) (number : ℕ) (outputs : List (List ℕ)) (lines : List (List (List ℕ))) → ((k : ℕ) → names_in p (statements_of k lines) ≡ []) → names_in p (statements_of number ((codes ".outputs" ∷ outputs) ∷ lines)) ≡ outputs_ports p outputs
+outputs_named input_ports number outputs lines rest = rest (suc number)
+outputs_named output_ports number outputs lines rest = ap (λ (t : List (List ℕ)). outputs ++ t) (rest (suc number)) ∙ append-nil outputs
+outputs_named clock_ports number outputs lines rest = rest (suc number)
+
+ports_both : (p : Ports) (n : PlainNetlist) → own_ports p n.inputs ++ outputs_ports p n.outputs ≡ ports_of p (model_of n)
+ports_both input_ports n = append-nil (all_inputs n)
+ports_both output_ports n = refl
+ports_both clock_ports n = refl
+
+ports_are : (n : PlainNetlist) (p : Ports) → ports_of p (model_of n) ≡ names_in p (statements_of 2 (body_lines n))
+ports_are n p =
+    let behind_inputs : List (List (List ℕ)) = (codes ".outputs" ∷ n.outputs) ∷ (map latch_line n.latches ++ (flat_map cover_lines n.covers ++ (codes ".end" ∷ []) ∷ [])) in
+    let inputs : List (List (List ℕ)) = map (λ (names : List (List ℕ)). codes ".inputs" ∷ names) n.inputs in
+    sym (ap (names_in p) (statements_append 2 inputs behind_inputs) ∙ names_append p (statements_of 2 inputs) (statements_of (2 + length inputs) behind_inputs)
+    ∙ ap (λ (t : List (List ℕ)). t ++ names_in p (statements_of (2 + length inputs) behind_inputs)) (inputs_named p 2 n.inputs)
+    ∙ ap (λ (t : List (List ℕ)). own_ports p n.inputs ++ t) (outputs_named p (2 + length inputs) n.outputs (map latch_line n.latches ++ (flat_map cover_lines n.covers ++ (codes ".end" ∷ []) ∷ []))
+    (λ k. latches_portless p k n.latches (flat_map cover_lines n.covers ++ (codes ".end" ∷ []) ∷ []) (λ j. covers_portless p j n.covers)))
+    ∙ ports_both p n)
+
+pub ports_once : (n : PlainNetlist) → IsPlain n → (p : Ports) → AreOnce (ports_of p (model_of n))
+ports_once n h input_ports = h.inputs_once
+ports_once n h output_ports = h.outputs_once
+ports_once n h clock_ports = tt
+
+model_is : (n : PlainNetlist) → IsPlain n → IsModel (statement_at 1 (codes ".model" ∷ n.name ∷ [])) (statements_of 2 (body_lines n)) (model_of n)
+model_is n h = record { is = refl; name = refl; line = refl; ports = ports_are n; once = ports_once n h; commands = commands_are n h }
+
+library_is : (n : PlainNetlist) → IsPlain n → AreLibrary (statements_of 1 (netlist_lines n)) (library_of n)
+library_is n h = record {
+  models = denotes.model (statement_at 1 (codes ".model" ∷ n.name ∷ [])) (statements_of 2 (body_lines n)) [] (statements_of 2 (body_lines n)) (model_of n) [] (model_is n h) (sym (append-nil (statements_of 2 (body_lines n)))) denotes.none;
+  some = omega arith;
+  once = (λ i. i, tt);
+}
+
+-- the words are clean
+abbrev pub is_odd : ℕ → Bool
+is_odd b = is_blank b || (is_bad b || (eqb b 35 || eqb b 92))
+
+part_free : (a b : Bool) → (a || b) ≡ false → (a ≡ false) × (b ≡ false)
+part_free true b h = absurd (let wrong : ⊥ = cc in wrong)
+part_free false b h = (refl, h)
+
+even_there : (w : List ℕ) → list_any is_odd w ≡ false → (b : ℕ) → In w b → is_odd b ≡ false
+even_there [] h b i = elim i [ ]
+even_there (c ∷ w) h b (inl e) = ap is_odd e ∙ (part_free (is_odd c) (list_any is_odd w) h).0
+even_there (c ∷ w) h b (inr i) = even_there w (part_free (is_odd c) (list_any is_odd w) h).1 b i
+
+pub even_clean : (w : List ℕ) → 0 < length w → ((b : ℕ) → In w b → is_odd b ≡ false) → IsClean w
+even_clean w some h = record {
+  bytes = record {
+    some = some;
+    no_blank = λ b i. (part_free (is_blank b) (is_bad b || (eqb b 35 || eqb b 92)) (h b i)).0;
+    no_bad = λ b i. (part_free (is_bad b) (eqb b 35 || eqb b 92) (part_free (is_blank b) (is_bad b || (eqb b 35 || eqb b 92)) (h b i)).1).0;
+    no_comment = λ b i e. let f : is_odd b ≡ false = h b i in let t : is_odd b ≡ true = ap is_odd e in let wrong : ⊥ = cc in wrong;
+  };
+  no_slash = ne_eqb (get_or w (length w - 1) 0) 92 (λ e. let f : is_odd (get_or w (length w - 1) 0) ≡ false = h _ (In-get_or w (length w - 1) 0 (omega (arith, some))) in let t : is_odd (get_or w (length w - 1) 0) ≡ true = ap is_odd e in let wrong : ⊥ = cc in wrong);
+}
+
+token_clean : (w : List ℕ) → 0 < length w → list_any is_odd w ≡ false → IsClean w
+token_clean w some h = even_clean w some (even_there w h)
+
+output_clean : (b : Bool) → IsClean (output_token b)
+output_clean true = token_clean (codes "1") (omega arith) refl
+output_clean false = token_clean (codes "0") (omega arith) refl
+
+cells_even : (cells : List Cell) → list_any is_odd (map cell_character cells) ≡ false
+cells_even [] = refl
+cells_even (Zero ∷ cells) = cells_even cells
+cells_even (One ∷ cells) = cells_even cells
+cells_even (Any ∷ cells) = cells_even cells
+
+headed : (word : List ℕ) (words : List (List ℕ)) → IsClean word → ((w : List ℕ) → In words w → IsClean w) → IsWritable (word ∷ words)
+headed word words c h w (inl e) = subst IsClean (sym e) c
+headed word words c h w (inr i) = h w i
+
+one_clean : (word : List ℕ) → IsClean word → (w : List ℕ) → In (word ∷ []) w → IsClean w
+one_clean word c w (inl e) = subst IsClean (sym e) c
+one_clean word c w (inr i) = elim i [ ]
+
+row_writable : (cells : List Cell) → IsWritable (row_line cells)
+row_writable [] = one_clean (codes "1") (output_clean true)
+row_writable (cell ∷ cells) = headed (map cell_character (cell ∷ cells)) (codes "1" ∷ []) (token_clean (map cell_character (cell ∷ cells)) (omega arith) (cells_even (cell ∷ cells))) (one_clean (codes "1") (output_clean true))
+
+rows_writable : (rows : List RowValue) → AreWritable (map (λ row. row_line row.cells) rows)
+rows_writable [] words i = elim i [ ]
+rows_writable (row ∷ rows) words (inl e) = subst IsWritable (sym e) (row_writable row.cells)
+rows_writable (row ∷ rows) words (inr i) = rows_writable rows words i
+
+either_writable : (xs ys : List (List (List ℕ))) → AreWritable xs → AreWritable ys → AreWritable (xs ++ ys)
+either_writable xs ys a b words i = elim (In-append xs ys words i) [ inl j ↦ a words j | inr j ↦ b words j ]
+
+either_clean : (xs ys : List (List ℕ)) → ((w : List ℕ) → In xs w → IsClean w) → ((w : List ℕ) → In ys w → IsClean w) → (w : List ℕ) → In (xs ++ ys) w → IsClean w
+either_clean xs ys a b w i = elim (In-append xs ys w i) [ inl j ↦ a w j | inr j ↦ b w j ]
+
+cover_writable : (c : CoverValue) → IsCleanBody (Cover c) → AreWritable (cover_lines c)
+cover_writable c h words (inl e) =
+    subst IsWritable (sym e) (headed (codes ".names") (c.inputs ++ c.output ∷ []) (token_clean (codes ".names") (omega arith) refl) (either_clean c.inputs (c.output ∷ []) h.0 (one_clean c.output h.1)))
+cover_writable c h words (inr i) = rows_writable c.rows words i
+
+covers_writable : (cs : List CoverValue) → ((c : CoverValue) → In cs c → IsCleanBody (Cover c)) → AreWritable (flat_map cover_lines cs)
+covers_writable [] h words i = elim i [ ]
+covers_writable (c ∷ cs) h words i = either_writable (cover_lines c) (flat_map cover_lines cs) (cover_writable c (h c (inl refl))) (covers_writable cs (λ d j. h d (inr j))) words i
+
+control_clean : (control : Option (List ℕ)) → ((name : List ℕ) → control ≡ Some name → IsClean name) → (w : List ℕ) → In (control_words control) w → IsClean w
+control_clean None h w i = elim i [ ]
+control_clean (Some name) h w (inl e) = subst IsClean (sym e) (token_clean (codes "re") (omega arith) refl)
+control_clean (Some name) h w (inr (inl e)) = subst IsClean (sym e) (h name refl)
+control_clean (Some name) h w (inr (inr i)) = elim i [ ]
+
+latch_writable : (l : LatchValue) → IsCleanBody (Latch l) → IsWritable (latch_line l)
+latch_writable l h =
+    headed (codes ".latch") (l.input ∷ l.output ∷ (control_words l.control ++ output_token l.init ∷ [])) (token_clean (codes ".latch") (omega arith) refl)
+    (either_clean (l.input ∷ l.output ∷ []) (control_words l.control ++ output_token l.init ∷ []) (either_clean (l.input ∷ []) (l.output ∷ []) (one_clean l.input h.0) (one_clean l.output h.1))
+    (either_clean (control_words l.control) (output_token l.init ∷ []) (control_clean l.control h.2) (one_clean (output_token l.init) (output_clean l.init))))
+
+latches_writable : (ls : List LatchValue) → ((l : LatchValue) → In ls l → IsCleanBody (Latch l)) → AreWritable (map latch_line ls)
+latches_writable [] h words i = elim i [ ]
+latches_writable (l ∷ ls) h words (inl e) = subst IsWritable (sym e) (latch_writable l (h l (inl refl)))
+latches_writable (l ∷ ls) h words (inr i) = latches_writable ls (λ d j. h d (inr j)) words i
+
+inputs_writable : (inputs : List (List (List ℕ))) → ((names : List (List ℕ)) → In inputs names → (w : List ℕ) → In names w → IsClean w) → AreWritable (map (λ names. codes ".inputs" ∷ names) inputs)
+inputs_writable [] h words i = elim i [ ]
+inputs_writable (names ∷ inputs) h words (inl e) = subst IsWritable (sym e) (headed (codes ".inputs") names (token_clean (codes ".inputs") (omega arith) refl) (h names (inl refl)))
+inputs_writable (names ∷ inputs) h words (inr i) = inputs_writable inputs (λ d j. h d (inr j)) words i
+
+one_writable : (words : List (List ℕ)) → IsWritable words → AreWritable (words ∷ [])
+one_writable words h other (inl e) = subst IsWritable (sym e) h
+one_writable words h other (inr i) = elim i [ ]
+
+lines_writable : (n : PlainNetlist) → IsPlain n → AreWritable (netlist_lines n)
+lines_writable n h =
+    either_writable ((codes ".model" ∷ n.name ∷ []) ∷ []) (body_lines n) (one_writable (codes ".model" ∷ n.name ∷ []) (headed (codes ".model") (n.name ∷ []) (token_clean (codes ".model") (omega arith) refl) (one_clean n.name h.name)))
+    (either_writable (map (λ (names : List (List ℕ)). codes ".inputs" ∷ names) n.inputs) _ (inputs_writable n.inputs h.inputs)
+    (either_writable ((codes ".outputs" ∷ n.outputs) ∷ []) _ (one_writable (codes ".outputs" ∷ n.outputs) (headed (codes ".outputs") n.outputs (token_clean (codes ".outputs") (omega arith) refl) h.outputs))
+    (either_writable (map latch_line n.latches) _ (latches_writable n.latches h.latches)
+    (either_writable (flat_map cover_lines n.covers) ((codes ".end" ∷ []) ∷ []) (covers_writable n.covers h.covers)
+    (one_writable (codes ".end" ∷ []) (headed (codes ".end") [] (token_clean (codes ".end") (omega arith) refl) (λ w i. elim i [ ])))))))
+
+statements_words : (text : List ℕ) (lines : List LineValue) → statements text lines ≡ map statement_of (map (words_line text) lines)
+statements_words text [] = refl
+statements_words text (line ∷ lines) = ap (λ (t : List StatementValue). statement_of (words_line text line) ∷ t) (statements_words text lines)
+
+-- the text denotes its model
+pub denotes_plain : (n : PlainNetlist) → IsPlain n → Denotes (netlist_text n) (library_of n)
+denotes_plain n h =
+    let r : ReadsAgain (netlist_lines n) = reads_again (netlist_lines n) (lines_writable n h) in
+    record {
+      lines = r.logical;
+      lines_are = r.are;
+      models_are = subst (λ (t : List StatementValue). AreLibrary t (library_of n)) (sym (statements_words (netlist_text n) r.logical ∙ ap (map statement_of) r.words)) (library_is n h);
+    }

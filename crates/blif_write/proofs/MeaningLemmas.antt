@@ -1,0 +1,170 @@
+-- What the two written netlists mean.
+use Rattle.std.proofs.Common.{◌≡◌, ℕ, zero, suc, ◌+◌, ◌-◌, ◌^◌, ◌<◌, ◌≤◌, Bool, false, List, [], ◌∷◌, ◌++◌, length, map, filter, replicate, slice_index_or, Option, refl, sym, ap, ◌∙◌, inl, inr, arith, length-append}
+use Rattle.std.specs.List.{flat_map, range_with_len}
+use Rattle.std.proofs.lemmas.List.{length-map, length-replicate}
+use Rattle.std.proofs.lemmas.List.FromFn.{length-map-range_with_len}
+use Rattle.std.proofs.lemmas.List.Sums.{sum_by-cons}
+use Rattle.list_laws.specs.Members.{In}
+use Rattle.list_laws.specs.Digits.{digit}
+use Rattle.list_laws.proofs.Members.{In-append, In-map}
+use Rattle.tl_text.specs.Once.{AreOnce}
+use Rattle.blif_read.specs.declared.cell.Cell.TheVariants.{One, Any}
+use Rattle.blif_read.specs.declared.command.Body.TheVariants.{Cover}
+use Rattle.blif_read.specs.declared.latch.Latch.{Latch as LatchValue}
+use Rattle.blif_read.specs.CoverValue.{RowValue}
+use Rattle.blif_read.specs.Denotes.{Denotes}
+use Rattle.blif_read.specs.WellFormed.{IsWellFormedBody}
+use Rattle.blif_flat.specs.declared.flat.FlatLatch.{FlatLatch}
+use Rattle.blif_flat.specs.FlatValue.{FlatValue}
+use Rattle.run_text.specs.declared.params.Param.{Param}
+use Rattle.aig_core.specs.declared.lit.Lit.{Lit}
+use Rattle.cover_pick.specs.declared.lut.Lut.{Lut}
+use Rattle.cover_pick.specs.Mapping.{HaveBases, bits_of}
+use Rattle.cover_pick.specs.Template.{TemplateValue}
+use Rattle.blif_write.specs.PlainNetlist.{netlist_text, library_of}
+use Rattle.blif_write.specs.OwnNames.{Naming, naming_of, bit_name}
+use Rattle.blif_write.specs.Netlists.{digit_cell, digit_cells, leaf_names, bit_names, chosen_cells, fixed_table, tunable_table, written_latches, specialised_netlist, template_netlist}
+use Rattle.blif_write.specs.Meaning.{HasPorts, AreTablesOf, Means, input_bits}
+use Rattle.blif_write.proofs.DenoteLemmas.{denotes_plain}
+use Rattle.blif_write.proofs.PlainCycleLemmas.{IsPlainCycle, plain_cycle, plain_inits}
+use Rattle.blif_write.proofs.PlainSoundLemmas.{IsOrderly, plain_sound}
+use Rattle.blif_write.proofs.RowValueLemmas.{unmapped, of_range, in_range}
+use Rattle.blif_write.proofs.OwnNameLemmas.{own_number}
+use Rattle.blif_write.proofs.TableCycleLemmas.{in_all, table_cycle, fixed_valued, tunable_valued}
+use Rattle.blif_write.proofs.DrivenLemmas.{once_both}
+use Rattle.blif_write.proofs.OrderlyLemmas.{AreCovers, orderly}
+
+-- rows have a cell for each input
+digits_long : (leaves v : ℕ) → length (digit_cells leaves v) ≡ leaves
+digits_long leaves v = length-map-range_with_len (λ (place : ℕ). digit_cell (digit v place)) 0 leaves
+
+chosen_long : (bits v : ℕ) → v < bits → length (chosen_cells bits v) ≡ bits
+chosen_long bits v small =
+    let front : length (replicate v Any) ≡ v = length-replicate v Any in
+    let rest : length (replicate (bits - suc v) Any) ≡ bits - suc v = length-replicate (bits - suc v) Any in
+    let both : length (chosen_cells bits v) ≡ length (replicate v Any) + length (One ∷ replicate (bits - suc v) Any) = length-append (replicate v Any) (One ∷ replicate (bits - suc v) Any) in
+    omega (arith, front, rest, both, small)
+
+fixed_cells : (g : Naming) (config : List Bool) (u : Lut) → IsWellFormedBody (Cover (fixed_table g config u))
+fixed_cells g config u row i =
+    let leaves : ℕ = length u.leaves in
+    let r : (v : ℕ) × In (filter (λ v. slice_index_or config (u.base + v) false) (range_with_len 0 (2 ^ leaves))) v × (row ≡ record { cells = digit_cells leaves v }) =
+    unmapped (λ (v : ℕ). record { cells = digit_cells leaves v }) (filter (λ v. slice_index_or config (u.base + v) false) (range_with_len 0 (2 ^ leaves))) row i in
+    ap (λ (q : RowValue). length q.cells) r.2 ∙ digits_long leaves r.0 ∙ sym (length-map u.leaves (λ (m : ℕ). _))
+
+tunable_cells : (g : Naming) (u : Lut) → IsWellFormedBody (Cover (tunable_table g u))
+tunable_cells g u row i =
+    let leaves : ℕ = length u.leaves in
+    let make : ℕ → RowValue = λ v. record { cells = digit_cells leaves v ++ chosen_cells (2 ^ leaves) v } in
+    let r : (v : ℕ) × In (range_with_len 0 (2 ^ leaves)) v × (row ≡ make v) = unmapped make (range_with_len 0 (2 ^ leaves)) row i in
+    let small : (0 ≤ r.0) × (r.0 < 0 + 2 ^ leaves) = of_range 0 (2 ^ leaves) r.0 r.1 in
+    let cells : length (digit_cells leaves r.0 ++ chosen_cells (2 ^ leaves) r.0) ≡ length (digit_cells leaves r.0) + length (chosen_cells (2 ^ leaves) r.0) = length-append (digit_cells leaves r.0) (chosen_cells (2 ^ leaves) r.0) in
+    let digits : length (digit_cells leaves r.0) ≡ leaves = digits_long leaves r.0 in
+    let chosen : length (chosen_cells (2 ^ leaves) r.0) ≡ 2 ^ leaves = chosen_long (2 ^ leaves) r.0 (omega (arith, small.1)) in
+    let inputs : length (leaf_names g u ++ bit_names g u) ≡ length (leaf_names g u) + length (bit_names g u) = length-append (leaf_names g u) (bit_names g u) in
+    let names : length (leaf_names g u) ≡ leaves = length-map u.leaves (λ (m : ℕ). _) in
+    let bits : length (bit_names g u) ≡ 2 ^ leaves = length-map-range_with_len (bit_name g) u.base (2 ^ leaves) in
+    ap (λ (q : RowValue). length q.cells) r.2 ∙ omega (arith, cells, digits, chosen, inputs, names, bits)
+
+-- the names of the bits
+abbrev all_bits : Naming → List Lut → List (List ℕ)
+all_bits g luts = flat_map (λ (l : List (List ℕ)). l) (map (bit_names g) luts)
+
+bits_there : (g : Naming) (b : ℕ) (luts : List Lut) (name : List ℕ) → HaveBases b luts → In (all_bits g luts) name → (a : ℕ) × (b ≤ a) × (a < b + bits_of luts) × (name ≡ bit_name g a)
+bits_there g b [] name h i = elim i [ ]
+bits_there g b (t ∷ ts) name h i =
+    let sum : bits_of (t ∷ ts) ≡ 2 ^ length t.leaves + bits_of ts = sum_by-cons (λ (k : Lut). 2 ^ length k.leaves) t ts in
+    elim (In-append (bit_names g t) (all_bits g ts) name i) [
+      | inl j ↦ let r : (a : ℕ) × In (range_with_len t.base (2 ^ length t.leaves)) a × (name ≡ bit_name g a) = unmapped (bit_name g) (range_with_len t.base (2 ^ length t.leaves)) name j in
+          let s : (t.base ≤ r.0) × (r.0 < t.base + 2 ^ length t.leaves) = of_range t.base (2 ^ length t.leaves) r.0 r.1 in
+          let base : t.base ≡ b = h.0 in
+          (r.0, omega (arith, s.0, base), omega (arith, s.1, base, sum), r.2)
+      | inr j ↦ let r : (a : ℕ) × (b + 2 ^ length t.leaves ≤ a) × (a < b + 2 ^ length t.leaves + bits_of ts) × (name ≡ bit_name g a) = bits_there g (b + 2 ^ length t.leaves) ts name h.1 j in
+          (r.0, omega (arith, r.1), omega (arith, r.2, sum), r.3)
+    ]
+
+range_once : (g : Naming) (a n : ℕ) → a + n ≤ 2 ^ 64 → AreOnce (map (bit_name g) (range_with_len a n))
+range_once g a zero small = tt
+range_once g a (suc n) small = (
+  λ i. let r : (b : ℕ) × In (range_with_len (a + 1) n) b × (bit_name g a ≡ bit_name g b) = unmapped (bit_name g) (range_with_len (a + 1) n) (bit_name g a) i in
+      let s : (a + 1 ≤ r.0) × (r.0 < a + 1 + n) = of_range (a + 1) n r.0 r.1 in
+      let same : a ≡ r.0 = own_number g 99 a r.0 (omega (arith, small)) (omega (arith, small, s.1)) r.2 in
+      omega (arith, same, s.0),
+  range_once g (a + 1) n (omega (arith, small)),
+)
+
+bits_once : (g : Naming) (b : ℕ) (luts : List Lut) → HaveBases b luts → b + bits_of luts ≤ 2 ^ 64 → AreOnce (all_bits g luts)
+bits_once g b [] h small = tt
+bits_once g b (t ∷ ts) h small =
+    let sum : bits_of (t ∷ ts) ≡ 2 ^ length t.leaves + bits_of ts = sum_by-cons (λ (k : Lut). 2 ^ length k.leaves) t ts in
+    let base : t.base ≡ b = h.0 in
+    once_both (bit_names g t) (all_bits g ts) (range_once g t.base (2 ^ length t.leaves) (omega (arith, small, sum, base))) (bits_once g (b + 2 ^ length t.leaves) ts h.1 (omega (arith, small, sum)))
+    (λ name i j.
+    let r : (a : ℕ) × In (range_with_len t.base (2 ^ length t.leaves)) a × (name ≡ bit_name g a) = unmapped (bit_name g) (range_with_len t.base (2 ^ length t.leaves)) name i in
+    let s : (t.base ≤ r.0) × (r.0 < t.base + 2 ^ length t.leaves) = of_range t.base (2 ^ length t.leaves) r.0 r.1 in
+    let q : (a : ℕ) × (b + 2 ^ length t.leaves ≤ a) × (a < b + 2 ^ length t.leaves + bits_of ts) × (name ≡ bit_name g a) = bits_there g (b + 2 ^ length t.leaves) ts name h.1 j in
+    let same : r.0 ≡ q.0 = own_number g 99 r.0 q.0 (omega (arith, s.1, small, sum, base)) (omega (arith, q.2, small, sum)) (sym r.2 ∙ q.3) in
+    omega (arith, same, s.1, q.1, base))
+
+fixed_covers : (g : Naming) (luts : List Lut) (config : List Bool) → AreCovers g luts [] (fixed_table g config)
+fixed_covers g luts config = record {
+  output = λ u. refl;
+  on = λ u. refl;
+  inputs = λ u i name j. inl j;
+  cells = fixed_cells g config;
+  bits_own = λ name i. elim i [ ];
+  bits_once = tt;
+}
+
+tunable_covers : (g : Naming) (luts : List Lut) (bits : ℕ) → HaveBases 0 luts → bits ≡ bits_of luts → bits < 2 ^ 32 → AreCovers g luts (map (bit_names g) luts) (tunable_table g)
+tunable_covers g luts bits bases sum few = record {
+  output = λ u. refl;
+  on = λ u. refl;
+  inputs = λ u i name j. elim (In-append (leaf_names g u) (bit_names g u) name j) [ inl k ↦ inl k | inr k ↦ inr (in_all (bit_names g) luts u name i k) ];
+  cells = tunable_cells g;
+  bits_own = λ name i. let r : (a : ℕ) × (0 ≤ a) × (a < 0 + bits_of luts) × (name ≡ bit_name g a) = bits_there g 0 luts name bases i in (r.0, omega (arith, r.2, sum, few), r.3);
+  bits_once = bits_once g 0 luts bases (omega (arith, sum, few));
+}
+
+-- the latches' inits
+inits_are : (g : Naming) (control : Option (List ℕ)) (ordinal : ℕ) (ls : List FlatLatch) (nexts : List Lit) → length nexts ≡ length ls → map (λ (l : LatchValue). l.init) (written_latches g control ordinal ls nexts) ≡ map (λ (l : FlatLatch). l.init) ls
+inits_are g control ordinal [] nexts same = refl
+inits_are g control ordinal (l ∷ ls) [] same = absurd (omega (arith, same))
+inits_are g control ordinal (l ∷ ls) (next ∷ nexts) same = ap (λ (t : List Bool). l.init ∷ t) (inits_are g control (suc ordinal) ls nexts (omega (arith, same)))
+
+module _ (flat : FlatValue) (params : List Param) (t : TemplateValue) (ports : HasPorts flat) (are : AreTablesOf flat params t) where
+  abbrev g : Naming
+  g = naming_of flat params
+
+  specialised_orderly : (config : List Bool) → IsOrderly (specialised_netlist flat params t config)
+  specialised_orderly config = orderly flat params t [] (fixed_table g config) ports are (fixed_covers g t.luts config)
+
+  template_orderly : IsOrderly (template_netlist flat params t)
+  template_orderly = orderly flat params t (map (bit_names g) t.luts) (tunable_table g) ports are (tunable_covers g t.luts t.bits are.playable.bases are.playable.sum are.few_bits)
+
+  pub specialised_denotes : (config : List Bool) → Denotes (netlist_text (specialised_netlist flat params t config)) (library_of (specialised_netlist flat params t config))
+  specialised_denotes config = denotes_plain (specialised_netlist flat params t config) (specialised_orderly config).plain
+
+  pub template_denotes : Denotes (netlist_text (template_netlist flat params t)) (library_of (template_netlist flat params t))
+  template_denotes = denotes_plain (template_netlist flat params t) template_orderly.plain
+
+  pub specialised_means : (config : List Bool) → Means flat params t (specialised_netlist flat params t config) (λ x. config)
+  specialised_means config = record {
+    sound = plain_sound (specialised_netlist flat params t config) (specialised_orderly config);
+    cycles = λ x s outputs next c.
+        let p : IsPlainCycle (specialised_netlist flat params t config) x s outputs next = plain_cycle (specialised_netlist flat params t config) x s outputs next c in
+        table_cycle flat params t [] (map (fixed_table g config) t.luts) ports are x s p.value p.fits config outputs next p.outputs_are p.next_are
+        (λ u i. fixed_valued flat params t [] (map (fixed_table g config) t.luts) ports are x s p.value p.fits config u (In-map (fixed_table g config) t.luts u i));
+    starts = λ main latches h. plain_inits (specialised_netlist flat params t config) main latches h ∙ inits_are g flat.control 0 flat.latches t.next are.roots.next;
+  }
+
+  pub template_means : Means flat params t (template_netlist flat params t) (input_bits g t.bits)
+  template_means = record {
+    sound = plain_sound (template_netlist flat params t) template_orderly;
+    cycles = λ x s outputs next c.
+        let p : IsPlainCycle (template_netlist flat params t) x s outputs next = plain_cycle (template_netlist flat params t) x s outputs next c in
+        table_cycle flat params t (map (bit_names g) t.luts) (map (tunable_table g) t.luts) ports are x s p.value p.fits (input_bits g t.bits x) outputs next p.outputs_are p.next_are
+        (λ u i. tunable_valued flat params t (map (bit_names g) t.luts) (map (tunable_table g) t.luts) ports are x s p.value p.fits u i (In-map (tunable_table g) t.luts u i)
+        (λ b low high. in_all (bit_names g) t.luts u (bit_name g b) i (In-map (bit_name g) (range_with_len u.base (2 ^ length u.leaves)) b (in_range u.base (2 ^ length u.leaves) b low high))));
+    starts = λ main latches h. plain_inits (template_netlist flat params t) main latches h ∙ inits_are g flat.control 0 flat.latches t.next are.roots.next;
+  }

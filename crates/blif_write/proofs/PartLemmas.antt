@@ -1,0 +1,118 @@
+-- The parts of a written netlist: what its commands are named, and the ranks of the names.
+use Rattle.std.proofs.Common.{◌≡◌, ◌⊎◌, ℕ, suc, ◌^◌, ◌<◌, Bool, true, false, not, cond, nat_le, List, [], ◌∷◌, length, map, bytes_eq, Option, Some, None, refl, sym, ap, subst, ◌∙◌, inl, inr}
+use Rattle.std.specs.List.{flat_map}
+use Rattle.std.proofs.lemmas.Option.{none-some, same_Some}
+use Rattle.std.proofs.lemmas.Slice.Eq.{bytes_eq-Decides}
+use Rattle.list_laws.specs.Members.{In}
+use Rattle.list_laws.proofs.Members.{In-left, In-right}
+use Rattle.tl_text.specs.Once.{AreOnce}
+use Rattle.blif_read.specs.declared.command.Body.TheVariants.{Cover, Latch}
+use Rattle.blif_read.specs.declared.latch.Latch.{Latch as LatchValue}
+use Rattle.blif_read.specs.CoverValue.{RowValue, CoverValue}
+use Rattle.blif_read.specs.WellFormed.{IsWellFormedBody}
+use Rattle.blif_flat.specs.FlatValue.{FlatValue}
+use Rattle.blif_flat.specs.Flat.{underscores}
+use Rattle.run_text.specs.declared.params.Param.{Param}
+use Rattle.run_text.specs.Parameters.{regular_names, param_names}
+use Rattle.blif_flat.specs.Models.{has_name}
+use Rattle.cover_pick.specs.declared.lut.Lut.{Lut}
+use Rattle.blif_write.specs.PlainNetlist.{read_latch}
+use Rattle.blif_write.specs.OwnNames.{Naming, table_name, literal_name}
+use Rattle.blif_write.specs.Netlists.{wire_of, clock_of, control_names, wire, wires, written_latches}
+use Rattle.blif_write.proofs.PlainSoundLemmas.{body_output}
+use Rattle.blif_write.proofs.OwnNameLemmas.{own_number}
+use Rattle.blif_write.proofs.DrivenLemmas.{once_filter, table_names}
+use Rattle.std.proofs.lemmas.List.{map-append}
+use Rattle.tl_text.specs.Clean.{IsClean}
+use Rattle.aig_core.specs.declared.lit.Lit.{Lit}
+use Rattle.aig_core.specs.Roots.{lits_of}
+use Rattle.blif_flat.specs.declared.flat.OutPort.{OutPort}
+use Rattle.blif_flat.specs.declared.flat.FlatLatch.{FlatLatch}
+
+-- the outputs of the commands
+pub latch_outputs_are : (ls : List LatchValue) → map body_output (map (λ (l : LatchValue). Latch (read_latch l)) ls) ≡ map (λ (l : LatchValue). l.output) ls
+latch_outputs_are [] = refl
+latch_outputs_are (l ∷ ls) = ap (λ (t : List (List ℕ)). l.output ∷ t) (latch_outputs_are ls)
+
+pub cover_outputs_are : (cs : List CoverValue) → map body_output (map (λ (c : CoverValue). Cover c) cs) ≡ map (λ (c : CoverValue). c.output) cs
+cover_outputs_are [] = refl
+cover_outputs_are (c ∷ cs) = ap (λ (t : List (List ℕ)). c.output ∷ t) (cover_outputs_are cs)
+
+pub table_outputs_are : (g : Naming) (table : Lut → CoverValue) (luts : List Lut) → ((u : Lut) → (table u).output ≡ table_name g u.lit.0) → map (λ (c : CoverValue). c.output) (map table luts) ≡ table_names g luts
+table_outputs_are g table [] h = refl
+table_outputs_are g table (u ∷ us) h = ap (λ (t : List ℕ). t ∷ map (λ (c : CoverValue). c.output) (map table us)) (h u) ∙ ap (λ (t : List (List ℕ)). table_name g u.lit.0 ∷ t) (table_outputs_are g table us h)
+
+-- the rank of a name: a table's is by its literal, and an output that is a wire stands above all tables
+abbrev pub rank_in : Naming → List Lut → List ℕ → ℕ
+rank_in g [] name = 0
+rank_in g (u ∷ us) name = cond (bytes_eq name (table_name g u.lit.0)) (suc u.lit.0) (rank_in g us name)
+
+abbrev pub rank_of : Naming → List Lut → List ℕ → ℕ
+rank_of g luts name = cond (nat_le (underscores name) g.under) (2 ^ 33) (rank_in g luts name)
+
+pub rank_by : (g : Naming) (us : List Lut) (u : Lut) (lit : ℕ) (same : Bool) → bytes_eq (table_name g lit) (table_name g u.lit.0) ≡ same → u.lit.0 < 2 ^ 64 → lit < 2 ^ 64 → (rank_in g us (table_name g lit) ≡ suc lit) ⊎ (lit ≡ u.lit.0)
+    → cond same (suc u.lit.0) (rank_in g us (table_name g lit)) ≡ suc lit
+rank_by g us u lit true e small other later = ap suc (sym (own_number g 110 lit u.lit.0 other small ((bytes_eq-Decides (table_name g lit) (table_name g u.lit.0)).0 e)))
+rank_by g us u lit false e small other (inl later) = later
+rank_by g us u lit false e small other (inr same) =
+    absurd (let t : bytes_eq (table_name g lit) (table_name g u.lit.0) ≡ true = (bytes_eq-Decides (table_name g lit) (table_name g u.lit.0)).1 (ap (table_name g) same) in let wrong : ⊥ = cc in wrong)
+
+pub rank_there : (g : Naming) (luts : List Lut) (u : Lut) → ((w : Lut) → In luts w → w.lit.0 < 2 ^ 64) → In luts u → rank_in g luts (table_name g u.lit.0) ≡ suc u.lit.0
+rank_there g [] u small i = elim i [ ]
+rank_there g (w ∷ ws) u small (inl e) =
+    rank_by g ws w u.lit.0 (bytes_eq (table_name g u.lit.0) (table_name g w.lit.0)) refl (small w (inl refl)) (subst (λ (k : Lut). k.lit.0 < 2 ^ 64) (sym e) (small w (inl refl))) (inr (ap (λ (k : Lut). k.lit.0) e))
+rank_there g (w ∷ ws) u small (inr i) =
+    rank_by g ws w u.lit.0 (bytes_eq (table_name g u.lit.0) (table_name g w.lit.0)) refl (small w (inl refl)) (small u (inr i)) (inl (rank_there g ws u (λ k j. small k (inr j)) i))
+
+pub in_control : (control : Option (List ℕ)) (name : List ℕ) → In (control_names control) name → control ≡ Some name
+in_control None name i = elim i [ ]
+in_control (Some own) name (inl e) = ap Some (sym e)
+in_control (Some own) name (inr i) = elim i [ ]
+
+pub control_once : (control : Option (List ℕ)) → AreOnce (control_names control)
+control_once None = tt
+control_once (Some own) = (λ i. i, tt)
+
+pub regular_once : (flat : FlatValue) (params : List Param) → AreOnce flat.inputs → AreOnce (regular_names flat params)
+regular_once flat params h = once_filter (λ (name : List ℕ). not (has_name (param_names params) name)) flat.inputs h
+
+pub clock_given : (control : Option (List ℕ)) (clocked : Bool) (name : List ℕ) → clock_of control clocked ≡ Some name → control ≡ Some name
+clock_given control true name e = e
+clock_given control false name e = absurd (none-some name e)
+
+pub wire_formed : (root name : List ℕ) → IsWellFormedBody (Cover (wire_of root name))
+wire_formed root name row (inl e) = ap (λ (r : RowValue). length r.cells) e
+wire_formed root name row (inr i) = elim i [ ]
+
+pub in_lines : (lines : List (List (List ℕ))) (names : List (List ℕ)) (name : List ℕ) → In lines names → In names name → In (flat_map (λ (l : List (List ℕ)). l) lines) name
+in_lines [] names name i j = elim i [ ]
+in_lines (line ∷ lines) names name (inl e) j = In-left line (flat_map (λ (l : List (List ℕ)). l) lines) name (subst (λ (k : List (List ℕ)). In k name) e j)
+in_lines (line ∷ lines) names name (inr i) j = In-right line (flat_map (λ (l : List (List ℕ)). l) lines) name (in_lines lines names name i j)
+
+pub control_named_in : (control : Option (List ℕ)) (name : List ℕ) → control ≡ Some name → In (control_names control) name
+control_named_in None name e = absurd (none-some name e)
+control_named_in (Some own) name e = inl (sym (same_Some own name e))
+
+pub in_lits : (lits : List Lit) (lit : Lit) → In lits lit → In (lits_of lits) lit.0
+in_lits [] lit i = elim i [ ]
+in_lits (k ∷ lits) lit (inl e) = inl (ap (λ (m : Lit). m.0) e)
+in_lits (k ∷ lits) lit (inr i) = inr (in_lits lits lit i)
+
+pub outputs_clean : (os : List OutPort) → ((o : OutPort) → In os o → IsClean o.name) → (name : List ℕ) → In (map (λ (o : OutPort). o.name) os) name → IsClean name
+outputs_clean [] h name i = elim i [ ]
+outputs_clean (o ∷ os) h name (inl e) = subst IsClean (sym e) (h o (inl refl))
+outputs_clean (o ∷ os) h name (inr i) = outputs_clean os (λ p j. h p (inr j)) name i
+
+pub latch_next : (g : Naming) (control : Option (List ℕ)) (ordinal : ℕ) (ls : List FlatLatch) (nexts : List Lit) (l : LatchValue) → In (written_latches g control ordinal ls nexts) l
+    → (lit : Lit) × In nexts lit × (l.input ≡ literal_name g lit.0) × ((name : List ℕ) → l.control ≡ Some name → control ≡ Some name)
+latch_next g control ordinal [] nexts l i = elim i [ ]
+latch_next g control ordinal (k ∷ ls) [] l i = elim i [ ]
+latch_next g control ordinal (k ∷ ls) (next ∷ nexts) l (inl e) = (next, inl refl, ap (λ (m : LatchValue). m.input) e, λ c f. clock_given control k.clocked c (sym (ap (λ (m : LatchValue). m.control) e) ∙ f))
+latch_next g control ordinal (k ∷ ls) (next ∷ nexts) l (inr i) =
+    let r : (lit : Lit) × In nexts lit × (l.input ≡ literal_name g lit.0) × ((name : List ℕ) → l.control ≡ Some name → control ≡ Some name) = latch_next g control (suc ordinal) ls nexts l i in
+    (r.0, inr r.1, r.2, r.3)
+
+pub later_wire : (g : Naming) (o : OutPort) (lit : Lit) (os : List OutPort) (lits : List Lit) (name : List ℕ) → In (map (λ (c : CoverValue). c.output) (wires g os lits)) name → In (map (λ (c : CoverValue). c.output) (wires g (o ∷ os) (lit ∷ lits))) name
+later_wire g o lit os lits name i =
+    subst (λ (k : List (List ℕ)). In k name) (sym (map-append (λ (c : CoverValue). c.output) (wire (literal_name g lit.0) o.name) (wires g os lits)))
+    (In-right (map (λ (c : CoverValue). c.output) (wire (literal_name g lit.0) o.name)) (map (λ (c : CoverValue). c.output) (wires g os lits)) name i)

@@ -1,0 +1,178 @@
+-- A clock cycle of a netlist without hierarchy, over the names of its one instance.
+use Rattle.std.proofs.Common.{◌≡◌, ℕ, zero, suc, ◌+◌, ◌<◌, Bool, true, false, cond, ◌||◌, IsTrue, List, [], ◌∷◌, ◌++◌, length, map, slice_get, slice_index_or, bytes_eq, Option, Some, refl, sym, ap, subst, ◌∙◌, inl, inr, arith, append-nil}
+use Rattle.std.specs.List.{list_any}
+use Rattle.std.specs.Option.{option_and_then}
+use Rattle.std.proofs.lemmas.Slice.Eq.{bytes_eq-Decides}
+use Rattle.std.proofs.lemmas.Bool.{eq-eqb, ne_eqb}
+use Rattle.std.proofs.lemmas.Option.{slice_get_within}
+use Rattle.list_laws.specs.Members.{In}
+use Rattle.list_laws.proofs.Members.{In-get}
+use Rattle.blif_read.specs.declared.command.Command.{Command}
+use Rattle.blif_read.specs.declared.latch.Latch.{Latch as LatchValue}
+use Rattle.blif_read.specs.CoverValue.{CoverValue, cover_value}
+use Rattle.blif_read.specs.SubcktValue.{SubcktValue}
+use Rattle.blif_read.specs.LibraryValue.{ModelValue, LibraryValue}
+use Rattle.blif_flat.specs.Models.{Path, body_at, subckts_of, has_name, is_input}
+use Rattle.blif_flat.specs.Instances.{CoverAt, LatchAt, IsMainInput}
+use Rattle.blif_flat.specs.Nets.{Net, input_net, latch_net, cover_net, Drives, main_input, latch_output, cover_output, from_inside, from_outside, IsClock, listed, controls}
+use Rattle.blif_flat.specs.Places.{Place, latch_at, latch_in, is_latch, own_places, FlatOrder, FlatUnder, flat, none, more}
+use Rattle.blif_flat.specs.Cycle.{Fits}
+use Rattle.blif_flat.specs.Runs.{AreLatches, init_state, inits_of, state_of, next_state, next_states, IsCycle}
+use Rattle.blif_write.specs.PlainNetlist.{PlainNetlist, all_inputs, read_control, read_latch, latch_commands, cover_commands, model_of, library_of}
+use Rattle.blif_write.proofs.PlainLemmas.{no_subckts, only_top, latch_there, cover_at_top, latch_at_top, no_connection}
+
+-- a name is the control of a latch
+pub record IsControlName (n : PlainNetlist) (name : List ℕ) : Type 0 where
+  pub latch : LatchValue
+  pub in' : In n.latches latch
+  pub is : read_control latch.control ≡ Some name
+
+-- values of the names fit the values x of the inputs and the states s
+pub record PlainFits (n : PlainNetlist) (x : List ℕ → Bool) (s : List Bool) (value : List ℕ → Bool) : Type 0 where
+  pub inputs : (name : List ℕ) → In (all_inputs n) name → (IsControlName n name → ⊥) → value name ≡ x name
+  pub covers : (c : CoverValue) → In n.covers c → value c.output ≡ cover_value c (map value c.inputs)
+  pub latches : (j : ℕ) (l : LatchValue) → slice_get n.latches j ≡ Some l → value l.output ≡ slice_index_or s j false
+
+-- a cycle of these names
+pub record IsPlainCycle (n : PlainNetlist) (x : List ℕ → Bool) (s outputs next : List Bool) : Type 0 where
+  pub states : length s ≡ length n.latches
+  pub value : List ℕ → Bool
+  pub fits : PlainFits n x s value
+  pub outputs_are : outputs ≡ map value n.outputs
+  pub next_are : next ≡ map (λ (l : LatchValue). value l.input) n.latches
+
+-- the places of the latches, the first of which is command i
+abbrev pub places_from : ℕ → ℕ → List Place
+places_from i zero = []
+places_from i (suc count) = record { path = []; command = i } ∷ places_from (suc i) count
+
+no_places : (i line : ℕ) (cs : List CoverValue) → own_places is_latch [] i (cover_commands line cs) ≡ []
+no_places i line [] = refl
+no_places i line (c ∷ cs) = no_places (suc i) (suc line + length c.rows) cs
+
+latch_places : (i line : ℕ) (ls : List LatchValue) (commands : List Command) → ((k : ℕ) → own_places is_latch [] k commands ≡ []) → own_places is_latch [] i (latch_commands line ls ++ commands) ≡ places_from i (length ls)
+latch_places i line [] commands h = h i
+latch_places i line (l ∷ ls) commands h = ap (λ (t : List Place). record { path = []; command = i } ∷ t) (latch_places (suc i) (suc line) ls commands h)
+
+pub places_are : (n : PlainNetlist) → own_places is_latch [] 0 (model_of n).commands ≡ places_from 0 (length n.latches)
+places_are n = latch_places 0 (3 + length n.inputs) n.latches (cover_commands (3 + length n.inputs + length n.latches) n.covers) (λ k. no_places k (3 + length n.inputs + length n.latches) n.covers)
+
+none_under : (library : LibraryValue) (path : Path) (k : ℕ) (subckts : List SubcktValue) (inner : List Place) → subckts ≡ [] → FlatUnder library is_latch path k subckts inner → inner ≡ []
+none_under library path k subckts inner e (none s p) = p
+none_under library path k subckts inner e (more s rest child these others f a b c d) = let t : s ∷ rest ≡ [] = sym f ∙ e in absurd (let l : length (s ∷ rest) ≡ length {A = SubcktValue} [] = ap length t in omega (arith, l))
+
+order_is : (n : PlainNetlist) (places : List Place) → FlatOrder (library_of n) is_latch [] (model_of n) places → places ≡ places_from 0 (length n.latches)
+order_is n places (flat inner under e) =
+    e ∙ ap (λ (t : List Place). own_places is_latch [] 0 (model_of n).commands ++ t) (none_under (library_of n) [] 0 (subckts_of (model_of n).commands) inner (no_subckts n) under)
+    ∙ append-nil (own_places is_latch [] 0 (model_of n).commands) ∙ places_are n
+
+-- the latches of the library, in flat order
+pub latches_are_places : (n : PlainNetlist) (main : ModelValue) (places : List Place) → AreLatches (library_of n) main places → (main ≡ model_of n) × (places ≡ places_from 0 (length n.latches))
+latches_are_places n main places h =
+    let top : main ≡ model_of n = (only_top n [] main h.at).1 in
+    (top, order_is n places (subst (λ (m : ModelValue). FlatOrder (library_of n) is_latch [] m places) top h.order))
+
+pub places_are_latches : (n : PlainNetlist) → AreLatches (library_of n) (model_of n) (places_from 0 (length n.latches))
+places_are_latches n = record { at = refl; order = flat [] (none (no_subckts n) refl) (sym (append-nil (own_places is_latch [] 0 (model_of n).commands) ∙ places_are n)) }
+
+-- the state of the latch at a place
+state_there : (i j count : ℕ) (s : List Bool) → j < count → state_of (places_from i count) s [] (i + j) ≡ slice_index_or s j false
+state_there i j zero s h = absurd (omega (arith, h))
+state_there i j (suc count) [] h = refl
+state_there i zero (suc count) (b ∷ s) h =
+    ap (λ (t : Bool). cond t b (state_of (places_from (suc i) count) s [] (i + 0))) (eq-eqb (i + 0) i (omega arith))
+state_there i (suc j) (suc count) (b ∷ s) h =
+    let e : i + suc j ≡ suc i + j = omega arith in
+    ap (λ (t : Bool). cond t b (state_of (places_from (suc i) count) s [] (i + suc j))) (ne_eqb (i + suc j) i (λ w. omega (arith, w)))
+    ∙ ap (λ (k : ℕ). state_of (places_from (suc i) count) s [] k) e ∙ state_there (suc i) j count s (omega (arith, h))
+
+-- a main input, and a clock
+or_true : (b : Bool) → (b || true) ≡ true
+or_true true = refl
+or_true false = refl
+
+abbrev pub net_name : List ℕ → Net → List ℕ
+net_name d (input_net name) = name
+net_name d (latch_net path i) = d
+net_name d (cover_net path i) = d
+
+abbrev pub is_input_net : Net → Bool
+is_input_net (input_net name) = true
+is_input_net (latch_net path i) = false
+is_input_net (cover_net path i) = false
+
+has_there : (names : List (List ℕ)) (name : List ℕ) → In names name → has_name names name ≡ true
+has_there (other ∷ names) name (inl e) = ap (λ (t : Bool). t || list_any (bytes_eq name) names) ((bytes_eq-Decides name other).1 e)
+has_there (other ∷ names) name (inr i) = ap (λ (t : Bool). bytes_eq name other || t) (has_there names name i) ∙ or_true (bytes_eq name other)
+has_there [] name i = elim i [ ]
+
+pub input_is : (n : PlainNetlist) (name : List ℕ) → In (all_inputs n) name → IsTrue (is_input (model_of n) name)
+input_is n name i = ap (λ (t : Bool). t || has_name [] name) (has_there (all_inputs n) name i)
+
+pub main_there : (n : PlainNetlist) (name : List ℕ) → In (all_inputs n) name → IsMainInput (library_of n) name
+main_there n name i = record { model = model_of n; at = refl; is = input_is n name i }
+
+pub driven_by_input : (n : PlainNetlist) (path : Path) (name net : List ℕ) → Drives (library_of n) path name (input_net net) → name ≡ net
+driven_by_input n path name net (main_input p m e) = sym (ap (net_name name) e)
+driven_by_input n path name net (latch_output i l at o e) = absurd (let t : true ≡ false = ap is_input_net e in let wrong : ⊥ = cc in wrong)
+driven_by_input n path name net (cover_output i c at o e) = absurd (let t : true ≡ false = ap is_input_net e in let wrong : ⊥ = cc in wrong)
+driven_by_input n path name net (from_inside k pair at t o d) = absurd (no_connection n path k pair at)
+driven_by_input n path name net (from_outside k outer pair at t p o d) = absurd (no_connection n outer k pair at)
+
+pub clock_there : (n : PlainNetlist) (name : List ℕ) → IsClock (library_of n) name → IsControlName n name
+clock_there n name (listed m at has) = let top : m ≡ model_of n = (only_top n [] m at).1 in absurd (let t : false ≡ true = subst (λ (k : ModelValue). IsTrue (has_name k.clocks name)) top has in let wrong : ⊥ = cc in wrong)
+clock_there n name (controls path i l control at is d) =
+    let there : (path ≡ []) × ((k : LatchValue) × (slice_get n.latches i ≡ Some k) × (l ≡ read_latch k)) = latch_there n path i l at in
+    let k : LatchValue = there.1.0 in
+    record { latch = k; in' = In-get n.latches i k there.1.1; is = sym (ap (λ (m : LatchValue). m.control) there.1.2) ∙ is ∙ ap Some (driven_by_input n path control name d) }
+
+length_places : (i count : ℕ) → length (places_from i count) ≡ count
+length_places i zero = refl
+length_places i (suc count) = ap suc (length_places (suc i) count)
+
+latch_found : (n : PlainNetlist) (i : ℕ) (l : LatchValue) → LatchAt (library_of n) [] i (read_latch l) → latch_at (library_of n) (record { path = []; command = i }) ≡ Some (read_latch l)
+latch_found n i l at =
+    let top : at.model ≡ model_of n = (only_top n [] at.model at.at).1 in
+    ap (option_and_then latch_in) (ap (λ (m : ModelValue). body_at m i) (sym top) ∙ at.is)
+
+next_there : (n : PlainNetlist) (value : Path → List ℕ → Bool) (ls : List LatchValue) (i : ℕ) → ((j : ℕ) (l : LatchValue) → slice_get ls j ≡ Some l → slice_get n.latches (i + j) ≡ Some l)
+    → next_states (library_of n) value (places_from i (length ls)) ≡ map (λ (l : LatchValue). value [] l.input) ls
+next_there n value [] i h = refl
+next_there n value (l ∷ ls) i h =
+    let e : i + 0 ≡ i = omega arith in
+    let at : LatchAt (library_of n) [] i (read_latch l) = latch_at_top n i l (subst (λ (k : ℕ). slice_get n.latches k ≡ Some l) e (h 0 l refl)) in
+    let found : latch_at (library_of n) (record { path = []; command = i }) ≡ Some (read_latch l) = latch_found n i l at in
+    ap (λ (o : Option LatchValue). next_state (value []) o ∷ next_states (library_of n) value (places_from (suc i) (length ls))) found
+    ∙ ap (λ (t : List Bool). value [] l.input ∷ t) (next_there n value ls (suc i) (λ j k f. let g : i + suc j ≡ suc i + j = omega arith in subst (λ (m : ℕ). slice_get n.latches m ≡ Some k) g (h (suc j) k f)))
+
+inits_there : (n : PlainNetlist) (ls : List LatchValue) (i : ℕ) → ((j : ℕ) (l : LatchValue) → slice_get ls j ≡ Some l → slice_get n.latches (i + j) ≡ Some l)
+    → inits_of (library_of n) (places_from i (length ls)) ≡ map (λ (l : LatchValue). l.init) ls
+inits_there n [] i h = refl
+inits_there n (l ∷ ls) i h =
+    let e : i + 0 ≡ i = omega arith in
+    let at : LatchAt (library_of n) [] i (read_latch l) = latch_at_top n i l (subst (λ (k : ℕ). slice_get n.latches k ≡ Some l) e (h 0 l refl)) in
+    ap (λ (o : Option LatchValue). init_state o ∷ inits_of (library_of n) (places_from (suc i) (length ls))) (latch_found n i l at)
+    ∙ ap (λ (t : List Bool). l.init ∷ t) (inits_there n ls (suc i) (λ j k f. let g : i + suc j ≡ suc i + j = omega arith in subst (λ (m : ℕ). slice_get n.latches m ≡ Some k) g (h (suc j) k f)))
+
+-- the latches' inits
+pub plain_inits : (n : PlainNetlist) (main : ModelValue) (latches : List Place) → AreLatches (library_of n) main latches → inits_of (library_of n) latches ≡ map (λ (l : LatchValue). l.init) n.latches
+plain_inits n main latches h =
+    ap (inits_of (library_of n)) (latches_are_places n main latches h).1
+    ∙ inits_there n n.latches 0 (λ j l e. let z : j ≡ 0 + j = omega arith in subst (λ (k : ℕ). slice_get n.latches k ≡ Some l) z e)
+
+-- a cycle of the library is one over the names of its instance
+pub plain_cycle : (n : PlainNetlist) (x : List ℕ → Bool) (s outputs next : List Bool) → IsCycle (library_of n) x s outputs next → IsPlainCycle n x s outputs next
+plain_cycle n x s outputs next c =
+    let are : (c.main ≡ model_of n) × (c.latches ≡ places_from 0 (length n.latches)) = latches_are_places n c.main c.latches c.are_latches in
+    let fits : Fits (library_of n) x (state_of (places_from 0 (length n.latches)) s) c.value = subst (λ (p : List Place). Fits (library_of n) x (state_of p s) c.value) are.1 c.fits in
+    record {
+      states = c.states ∙ ap length are.1 ∙ length_places 0 (length n.latches);
+      value = c.value [];
+      fits = record {
+        inputs = λ name i free. fits.inputs name (main_there n name i) (λ clock. free (clock_there n name clock));
+        covers = λ d i. let at : (k : ℕ) × CoverAt (library_of n) [] k d = cover_at_top n d i in fits.covers [] at.0 d at.1;
+        latches = λ j l e. let z : j ≡ 0 + j = omega arith in fits.latches [] j (read_latch l) (latch_at_top n j l e) ∙ ap (state_of (places_from 0 (length n.latches)) s []) z ∙ state_there 0 j (length n.latches) s (slice_get_within n.latches j l e);
+      };
+      outputs_are = c.outputs_are ∙ ap (λ (m : ModelValue). map (c.value []) m.outputs) are.0;
+      next_are = c.next_are ∙ ap (next_states (library_of n) c.value) are.1 ∙ next_there n c.value n.latches 0 (λ j l e. let z : j ≡ 0 + j = omega arith in subst (λ (k : ℕ). slice_get n.latches k ≡ Some l) z e);
+    }

@@ -1,0 +1,323 @@
+-- A netlist without hierarchy is sound where each name that is read has one driver, and its covers can be put in order.
+use Rattle.std.proofs.Common.{◌≡◌, ℕ, zero, suc, ◌<◌, Bool, true, false, not, ◌||◌, ◌&&◌, IsTrue, List, [], ◌∷◌, ◌++◌, length, map, slice_get, bytes_eq, Some, refl, sym, ap, subst, ◌∙◌, inl, inr, arith}
+use Rattle.std.specs.List.{list_any}
+use Rattle.std.specs.Option.{option_map}
+use Rattle.std.proofs.lemmas.Slice.Eq.{bytes_eq-Decides}
+use Rattle.std.proofs.lemmas.Option.{none-some, same_Some, slice_get-map}
+use Rattle.list_laws.specs.Members.{In}
+use Rattle.list_laws.proofs.Members.{In-get, In-append, In-left, In-right, place_in}
+use Rattle.tl_text.specs.Once.{AreOnce}
+use Rattle.blif_read.specs.declared.command.Body.{Body}
+use Rattle.blif_read.specs.declared.command.Body.TheVariants.{Cover, Latch, Subckt}
+use Rattle.blif_read.specs.declared.command.Command.{Command}
+use Rattle.blif_read.specs.declared.latch.Latch.{Latch as LatchValue}
+use Rattle.blif_read.specs.CoverValue.{CoverValue}
+use Rattle.blif_read.specs.SubcktValue.{SubcktValue}
+use Rattle.blif_read.specs.LibraryValue.{ModelValue}
+use Rattle.blif_read.specs.WellFormed.{IsWellFormedBody, IsWellFormedModel, IsWellFormed}
+use Rattle.blif_flat.specs.Models.{Path, body_at, subckts_of, has_name, is_input, is_output}
+use Rattle.blif_flat.specs.Instances.{CoverAt, LatchAt}
+use Rattle.blif_flat.specs.Nets.{Net, input_net, latch_net, cover_net, Drives, main_input, latch_output, cover_output, from_inside, from_outside}
+use Rattle.blif_flat.specs.Places.{Place}
+use Rattle.blif_flat.specs.Loops.{ReadsCover, Depends, direct, through}
+use Rattle.blif_flat.specs.Drivers.{Driver, by_input, by_latch, by_cover, IsDriver, input, latch, cover, output, IsRead, cover_input, latch_input, latch_control, input_actual, model_output, Ends, ends, IsDriven}
+use Rattle.blif_flat.specs.Sound.{IsData, cover_data, latch_data, IsSound}
+use Rattle.blif_write.specs.PlainNetlist.{PlainNetlist, IsPlain, all_inputs, read_latch, model_of, library_of}
+use Rattle.blif_write.proofs.DenoteLemmas.{ports_once}
+use Rattle.blif_write.proofs.PlainLemmas.{bodies_of, body_is, cover_or, no_subckts, none_placed, only_top, cover_there, latch_there, no_connection}
+use Rattle.blif_write.proofs.PlainCycleLemmas.{IsControlName, input_is, main_there, driven_by_input, clock_there}
+
+-- the name that a command drives
+abbrev pub body_output : Body → List ℕ
+body_output (Cover c) = c.output
+body_output (Latch l) = l.output
+body_output (Subckt s) = []
+
+abbrev pub command_outputs : PlainNetlist → List (List ℕ)
+command_outputs n = map body_output (bodies_of n)
+
+-- Each name that is read is driven, once; no control is read as data; and a cover's inputs have a lower rank than its output.
+pub record IsOrderly (n : PlainNetlist) : Type 0 where
+  pub plain : IsPlain n
+  pub once : AreOnce (all_inputs n ++ command_outputs n)
+  pub cover_inputs : (c : CoverValue) → In n.covers c → (name : List ℕ) → In c.inputs name → In (all_inputs n ++ command_outputs n) name × (IsControlName n name → ⊥)
+  pub latch_inputs : (l : LatchValue) → In n.latches l → In (all_inputs n ++ command_outputs n) l.input × (IsControlName n l.input → ⊥)
+  pub outputs : (name : List ℕ) → In n.outputs name → In (all_inputs n ++ command_outputs n) name × (IsControlName n name → ⊥)
+  pub controls : (name : List ℕ) → IsControlName n name → In (all_inputs n) name
+  pub one_control : (name other : List ℕ) → IsControlName n name → IsControlName n other → name ≡ other
+  pub rank : List ℕ → ℕ
+  pub falls : (c d : CoverValue) → In n.covers c → In n.covers d → In c.inputs d.output → rank d.output < rank c.output
+
+-- names without repeats
+once_left : (xs ys : List (List ℕ)) (name : List ℕ) → AreOnce (xs ++ ys) → In xs name → In ys name → ⊥
+once_left [] ys name h i j = elim i [ ]
+once_left (x ∷ xs) ys name h (inl e) j = h.0 (In-right xs ys x (subst (In ys) e j))
+once_left (x ∷ xs) ys name h (inr i) j = once_left xs ys name h.1 i j
+
+once_rest : (xs ys : List (List ℕ)) → AreOnce (xs ++ ys) → AreOnce ys
+once_rest [] ys h = h
+once_rest (x ∷ xs) ys h = once_rest xs ys h.1
+
+once_place : (names : List (List ℕ)) (i j : ℕ) (name : List ℕ) → AreOnce names → slice_get names i ≡ Some name → slice_get names j ≡ Some name → i ≡ j
+once_place [] i j name h e f = absurd (none-some name e)
+once_place (x ∷ xs) zero zero name h e f = refl
+once_place (x ∷ xs) zero (suc j) name h e f = absurd (h.0 (subst (In xs) (sym (same_Some x name e)) (In-get xs j name f)))
+once_place (x ∷ xs) (suc i) zero name h e f = absurd (h.0 (subst (In xs) (sym (same_Some x name f)) (In-get xs i name e)))
+once_place (x ∷ xs) (suc i) (suc j) name h e f = ap suc (once_place xs i j name h.1 e f)
+
+-- the command of a cover or a latch
+cover_body : (n : PlainNetlist) (path : Path) (i : ℕ) (c : CoverValue) → CoverAt (library_of n) path i c → slice_get (bodies_of n) i ≡ Some (Cover c)
+cover_body n path i c at =
+    let top : (path ≡ []) × (at.model ≡ model_of n) = only_top n path at.model at.at in
+    sym (body_is n i) ∙ ap (λ (m : ModelValue). body_at m i) (sym top.1) ∙ at.is
+
+latch_body : (n : PlainNetlist) (path : Path) (i : ℕ) (l : LatchValue) → LatchAt (library_of n) path i l → slice_get (bodies_of n) i ≡ Some (Latch l)
+latch_body n path i l at =
+    let top : (path ≡ []) × (at.model ≡ model_of n) = only_top n path at.model at.at in
+    sym (body_is n i) ∙ ap (λ (m : ModelValue). body_at m i) (sym top.1) ∙ at.is
+
+output_at : (n : PlainNetlist) (i : ℕ) (body : Body) → slice_get (bodies_of n) i ≡ Some body → slice_get (command_outputs n) i ≡ Some (body_output body)
+output_at n i body e = slice_get-map body_output (bodies_of n) i ∙ ap (option_map body_output) e
+
+-- a name of the one instance is driven by an input or by a command
+data Drivers (n : PlainNetlist) (name : List ℕ) (driver : Driver) : Type 0 where
+  an_input : In (all_inputs n) name → driver ≡ by_input → Drivers n name driver
+  a_latch : (i : ℕ) (l : LatchValue) → slice_get (bodies_of n) i ≡ Some (Latch l) → slice_get (command_outputs n) i ≡ Some name → driver ≡ by_latch i → Drivers n name driver
+  a_cover : (i : ℕ) (c : CoverValue) → slice_get (bodies_of n) i ≡ Some (Cover c) → slice_get (command_outputs n) i ≡ Some name → driver ≡ by_cover i → Drivers n name driver
+
+there_by : (name other : List ℕ) (names : List (List ℕ)) (is : Bool) → bytes_eq name other ≡ is → (is || list_any (bytes_eq name) names) ≡ true → (list_any (bytes_eq name) names ≡ true → In names name) → In (other ∷ names) name
+there_by name other names true e h later = inl ((bytes_eq-Decides name other).0 e)
+there_by name other names false e h later = inr (later h)
+
+pub there_has : (names : List (List ℕ)) (name : List ℕ) → IsTrue (has_name names name) → In names name
+there_has [] name h = absurd (let t : false ≡ true = h in let wrong : ⊥ = cc in wrong)
+there_has (other ∷ names) name h = there_by name other names (bytes_eq name other) refl h (there_has names name)
+
+or_false : (b : Bool) → (b || false) ≡ true → b ≡ true
+or_false true h = refl
+or_false false h = h
+
+mapped : (bodies : List Body) (i : ℕ) (name : List ℕ) → slice_get (map body_output bodies) i ≡ Some name → (body : Body) × (slice_get bodies i ≡ Some body) × (body_output body ≡ name)
+mapped [] i name e = absurd (none-some name e)
+mapped (body ∷ bodies) zero name e = (body, refl, same_Some (body_output body) name e)
+mapped (body ∷ bodies) (suc i) name e = mapped bodies i name e
+
+abbrev is_latch_body : Body → Bool
+is_latch_body (Cover c) = false
+is_latch_body (Latch l) = true
+is_latch_body (Subckt s) = false
+
+abbrev is_subckt_body : Body → Bool
+is_subckt_body (Cover c) = false
+is_subckt_body (Latch l) = false
+is_subckt_body (Subckt s) = true
+
+latch_no_cover : (n : PlainNetlist) (i j : ℕ) (l : LatchValue) (c : CoverValue) → slice_get (bodies_of n) i ≡ Some (Latch l) → slice_get (bodies_of n) j ≡ Some (Cover c) → i ≡ j → ⊥
+latch_no_cover n i j l c e f same =
+    let g : Some (Latch l) ≡ Some (Cover c) = sym e ∙ ap (slice_get (bodies_of n)) same ∙ f in
+    let t : true ≡ false = ap is_latch_body (same_Some (Latch l) (Cover c) g) in let wrong : ⊥ = cc in wrong
+
+no_subckt_cover : (cs : List CoverValue) (i : ℕ) (s : SubcktValue) → slice_get (map (λ (c : CoverValue). Cover c) cs) i ≡ Some (Subckt s) → ⊥
+no_subckt_cover [] i s e = none-some (Subckt s) e
+no_subckt_cover (c ∷ cs) zero s e = let t : false ≡ true = ap is_subckt_body (same_Some (Cover c) (Subckt s) e) in let wrong : ⊥ = cc in wrong
+no_subckt_cover (c ∷ cs) (suc i) s e = no_subckt_cover cs i s e
+
+no_subckt_body : (ls : List LatchValue) (cs : List CoverValue) (i : ℕ) (s : SubcktValue) → slice_get (map (λ (l : LatchValue). Latch (read_latch l)) ls ++ map (λ (c : CoverValue). Cover c) cs) i ≡ Some (Subckt s) → ⊥
+no_subckt_body [] cs i s e = no_subckt_cover cs i s e
+no_subckt_body (l ∷ ls) cs zero s e = let t : false ≡ true = ap is_subckt_body (same_Some (Latch (read_latch l)) (Subckt s) e) in let wrong : ⊥ = cc in wrong
+no_subckt_body (l ∷ ls) cs (suc i) s e = no_subckt_body ls cs i s e
+
+driver_there : (n : PlainNetlist) (path : Path) (name : List ℕ) (driver : Driver) → IsDriver (library_of n) path name driver → Drivers n name driver
+driver_there n path name driver (input at t e) =
+    let top : at.model ≡ model_of n = (only_top n path at.model at.at).1 in
+    an_input (there_has (all_inputs n) name (or_false (has_name (all_inputs n) name) (subst (λ (m : ModelValue). IsTrue (is_input m name)) top t))) e
+driver_there n path name driver (latch i l at o e) =
+    let b : slice_get (bodies_of n) i ≡ Some (Latch l) = latch_body n path i l at in a_latch i l b (output_at n i (Latch l) b ∙ ap Some (sym o)) e
+driver_there n path name driver (cover i c at o e) =
+    let b : slice_get (bodies_of n) i ≡ Some (Cover c) = cover_body n path i c at in a_cover i c b (output_at n i (Cover c) b ∙ ap Some (sym o)) e
+driver_there n path name driver (output k pair at t o e) = absurd (no_connection n path k pair at)
+
+one_driver : (n : PlainNetlist) → IsOrderly n → (name : List ℕ) (driver other : Driver) → Drivers n name driver → Drivers n name other → driver ≡ other
+one_driver n h name driver other (an_input i e) (an_input j f) = e ∙ sym f
+one_driver n h name driver other (an_input i e) (a_latch j l b g f) = absurd (once_left (all_inputs n) (command_outputs n) name h.once i (In-get (command_outputs n) j name g))
+one_driver n h name driver other (an_input i e) (a_cover j c b g f) = absurd (once_left (all_inputs n) (command_outputs n) name h.once i (In-get (command_outputs n) j name g))
+one_driver n h name driver other (a_latch j l b g f) (an_input i e) = absurd (once_left (all_inputs n) (command_outputs n) name h.once i (In-get (command_outputs n) j name g))
+one_driver n h name driver other (a_cover j c b g f) (an_input i e) = absurd (once_left (all_inputs n) (command_outputs n) name h.once i (In-get (command_outputs n) j name g))
+one_driver n h name driver other (a_latch i l b g f) (a_latch j m d k e) =
+    f ∙ ap by_latch (once_place (command_outputs n) i j name (once_rest (all_inputs n) (command_outputs n) h.once) g k) ∙ sym e
+one_driver n h name driver other (a_cover i c b g f) (a_cover j d a k e) =
+    f ∙ ap by_cover (once_place (command_outputs n) i j name (once_rest (all_inputs n) (command_outputs n) h.once) g k) ∙ sym e
+one_driver n h name driver other (a_latch i l b g f) (a_cover j d a k e) =
+    absurd (latch_no_cover n i j l d b a (once_place (command_outputs n) i j name (once_rest (all_inputs n) (command_outputs n) h.once) g k))
+one_driver n h name driver other (a_cover j d a k e) (a_latch i l b g f) =
+    absurd (latch_no_cover n i j l d b a (once_place (command_outputs n) i j name (once_rest (all_inputs n) (command_outputs n) h.once) g k))
+
+-- what is driven has a driver
+body_driver : (n : PlainNetlist) (i : ℕ) (name : List ℕ) (body : Body) → slice_get (bodies_of n) i ≡ Some body → body_output body ≡ name → (driver : Driver) × IsDriver (library_of n) [] name driver
+body_driver n i name (Cover c) e o = (by_cover i, cover i c (record { model = model_of n; at = refl; is = body_is n i ∙ e }) (sym o) refl)
+body_driver n i name (Latch l) e o = (by_latch i, latch i l (record { model = model_of n; at = refl; is = body_is n i ∙ e }) (sym o) refl)
+body_driver n i name (Subckt s) e o = absurd (no_subckt_body n.latches n.covers i s e)
+
+has_driver : (n : PlainNetlist) (name : List ℕ) → In (all_inputs n ++ command_outputs n) name → (driver : Driver) × IsDriver (library_of n) [] name driver
+has_driver n name i = elim (In-append (all_inputs n) (command_outputs n) name i) [
+  | inl j ↦ (by_input, input (record { model = model_of n; at = refl }) (input_is n name j) refl)
+  | inr j ↦ let at : (k : ℕ) × (slice_get (command_outputs n) k ≡ Some name) = place_in (command_outputs n) name j in
+      let got : (body : Body) × (slice_get (bodies_of n) at.0 ≡ Some body) × (body_output body ≡ name) = mapped (bodies_of n) at.0 name at.1 in
+      body_driver n at.0 name got.0 got.1 got.2
+]
+
+-- no cover depends on itself
+abbrev is_cover_net : Net → Bool
+is_cover_net (input_net name) = false
+is_cover_net (latch_net path i) = false
+is_cover_net (cover_net path i) = true
+
+abbrev net_path : Path → Net → Path
+net_path d (input_net name) = d
+net_path d (latch_net path i) = path
+net_path d (cover_net path i) = path
+
+abbrev net_command : ℕ → Net → ℕ
+net_command d (input_net name) = d
+net_command d (latch_net path i) = i
+net_command d (cover_net path i) = i
+
+cover_drives : (n : PlainNetlist) (path : Path) (name : List ℕ) (q : Path) (i : ℕ) → Drives (library_of n) path name (cover_net q i) → (d : CoverValue) × CoverAt (library_of n) q i d × (name ≡ d.output)
+cover_drives n path name q i (main_input p m e) = absurd (let t : is_cover_net (cover_net q i) ≡ is_cover_net (input_net name) = ap is_cover_net e in let wrong : ⊥ = cc in wrong)
+cover_drives n path name q i (latch_output j l at o e) = absurd (let t : is_cover_net (cover_net q i) ≡ is_cover_net (latch_net path j) = ap is_cover_net e in let wrong : ⊥ = cc in wrong)
+cover_drives n path name q i (cover_output j c at o e) =
+    let p : q ≡ path = ap (net_path q) e in
+    let k : i ≡ j = ap (net_command i) e in
+    (c, subst (λ (r : Path). CoverAt (library_of n) r i c) (sym p) (subst (λ (m : ℕ). CoverAt (library_of n) path m c) (sym k) at), o)
+cover_drives n path name q i (from_inside k pair at t o d) = absurd (no_connection n path k pair at)
+cover_drives n path name q i (from_outside k outer pair at t p o d) = absurd (no_connection n outer k pair at)
+
+-- a cover and one that it depends on, of a lower rank
+record Falls (n : PlainNetlist) (h : IsOrderly n) (p q : Place) : Type 0 where
+  upper : CoverValue
+  lower : CoverValue
+  upper_at : CoverAt (library_of n) p.path p.command upper
+  lower_at : CoverAt (library_of n) q.path q.command lower
+  falls : h.rank lower.output < h.rank upper.output
+
+same_cover : (n : PlainNetlist) (path : Path) (i : ℕ) (c d : CoverValue) → CoverAt (library_of n) path i c → CoverAt (library_of n) path i d → c ≡ d
+same_cover n path i c d a b = ap (cover_or c) (same_Some (Cover c) (Cover d) (sym (cover_body n path i c a) ∙ cover_body n path i d b))
+
+read_falls : (n : PlainNetlist) (h : IsOrderly n) (p q : Place) → ReadsCover (library_of n) p q → Falls n h p q
+read_falls n h p q r =
+    let d : (d : CoverValue) × CoverAt (library_of n) q.path q.command d × (r.name ≡ d.output) = cover_drives n p.path r.name q.path q.command r.drives in
+    record {
+      upper = r.cover;
+      lower = d.0;
+      upper_at = r.is;
+      lower_at = d.1;
+      falls = h.falls r.cover d.0 (cover_there n p.path p.command r.cover r.is).1 (cover_there n q.path q.command d.0 d.1).1 (subst (In r.cover.inputs) d.2 r.input);
+    }
+
+depends_falls : (n : PlainNetlist) (h : IsOrderly n) (p q : Place) → Depends (library_of n) p q → Falls n h p q
+depends_falls n h p q (direct r) = read_falls n h p q r
+depends_falls n h p q (through between r d) =
+    let a : Falls n h p between = read_falls n h p between r in
+    let b : Falls n h between q = depends_falls n h between q d in
+    let same : a.lower ≡ b.upper = same_cover n between.path between.command a.lower b.upper a.lower_at b.upper_at in
+    let lower : h.rank a.lower.output ≡ h.rank b.upper.output = ap (λ (c : CoverValue). h.rank c.output) same in
+    record { upper = a.upper; lower = b.lower; upper_at = a.upper_at; lower_at = b.lower_at; falls = omega (arith, a.falls, b.falls, lower) }
+
+no_loop : (n : PlainNetlist) (h : IsOrderly n) (p : Place) → Depends (library_of n) p p → ⊥
+no_loop n h p d =
+    let f : Falls n h p p = depends_falls n h p p d in
+    let same : h.rank f.upper.output ≡ h.rank f.lower.output = ap (λ (c : CoverValue). h.rank c.output) (same_cover n p.path p.command f.upper f.lower f.upper_at f.lower_at) in
+    omega (arith, f.falls, same)
+
+-- well formed
+latch_formed : (ls : List LatchValue) (body : Body) → In (map (λ (l : LatchValue). Latch (read_latch l)) ls) body → IsWellFormedBody body
+latch_formed [] body i = elim i [ ]
+latch_formed (l ∷ ls) body (inl e) = subst IsWellFormedBody (sym e) tt
+latch_formed (l ∷ ls) body (inr i) = latch_formed ls body i
+
+cover_formed : (cs : List CoverValue) → ((c : CoverValue) → In cs c → IsWellFormedBody (Cover c)) → (body : Body) → In (map (λ (c : CoverValue). Cover c) cs) body → IsWellFormedBody body
+cover_formed [] h body i = elim i [ ]
+cover_formed (c ∷ cs) h body (inl e) = subst IsWellFormedBody (sym e) (h c (inl refl))
+cover_formed (c ∷ cs) h body (inr i) = cover_formed cs (λ d j. h d (inr j)) body i
+
+body_formed : (n : PlainNetlist) → IsPlain n → (body : Body) → In (bodies_of n) body → IsWellFormedBody body
+body_formed n h body i = elim (In-append (map (λ (l : LatchValue). Latch (read_latch l)) n.latches) (map (λ (c : CoverValue). Cover c) n.covers) body i) [
+  | inl j ↦ latch_formed n.latches body j
+  | inr j ↦ cover_formed n.covers h.cells body j
+]
+
+command_formed : (n : PlainNetlist) → IsPlain n → (command : Command) → In (model_of n).commands command → IsWellFormedBody command.body
+command_formed n h command i =
+    let at : (k : ℕ) × (slice_get (model_of n).commands k ≡ Some command) = place_in (model_of n).commands command i in
+    body_formed n h command.body (In-get (bodies_of n) at.0 command.body (sym (body_is n at.0) ∙ ap (option_map (λ (c : Command). c.body)) at.1))
+
+plain_formed : (n : PlainNetlist) → IsPlain n → IsWellFormed (library_of n)
+plain_formed n h = record {
+  some = omega arith;
+  once = (λ i. i, tt);
+  each = λ m i. elim i [ inl e ↦ subst IsWellFormedModel (sym e) (record { ports = ports_once n h; commands = command_formed n h }) | inr j ↦ elim j [ ] ];
+}
+
+-- drivers
+and_right : (a b : Bool) → (a && b) ≡ true → b ≡ true
+and_right true b h = h
+and_right false b h = absurd (let wrong : ⊥ = cc in wrong)
+
+no_child : (k : ℕ) (path : Path) → k ∷ path ≡ [] → ⊥
+no_child k path e = let l : length (k ∷ path) ≡ length {A = ℕ} [] = ap length e in omega (arith, l)
+
+read_there : (n : PlainNetlist) → IsOrderly n → (path : Path) (name : List ℕ) → IsRead (library_of n) path name → (path ≡ []) × In (all_inputs n ++ command_outputs n) name
+read_there n h path name (cover_input i c at j) = let t : (path ≡ []) × In n.covers c = cover_there n path i c at in (t.0, (h.cover_inputs c t.1 name j).0)
+read_there n h path name (latch_input i l at e) =
+    let t : (path ≡ []) × ((k : LatchValue) × (slice_get n.latches i ≡ Some k) × (l ≡ read_latch k)) = latch_there n path i l at in
+    (t.0, subst (In (all_inputs n ++ command_outputs n)) (sym (e ∙ ap (λ (m : LatchValue). m.input) t.1.2)) (h.latch_inputs t.1.0 (In-get n.latches i t.1.0 t.1.1)).0)
+read_there n h path name (latch_control i l at e) =
+    let t : (path ≡ []) × ((k : LatchValue) × (slice_get n.latches i ≡ Some k) × (l ≡ read_latch k)) = latch_there n path i l at in
+    let control : IsControlName n name = record { latch = t.1.0; in' = In-get n.latches i t.1.0 t.1.1; is = sym (ap (λ (m : LatchValue). m.control) t.1.2) ∙ e } in
+    (t.0, In-left (all_inputs n) (command_outputs n) name (h.controls name control))
+read_there n h path name (input_actual k pair at t e) = absurd (no_connection n path k pair at)
+read_there n h path name (model_output m at o) =
+    let top : (path ≡ []) × (m ≡ model_of n) = only_top n path m at in
+    (top.0, (h.outputs name (there_has n.outputs name (and_right (not (is_input (model_of n) name)) (has_name n.outputs name) (subst (λ (k : ModelValue). IsTrue (is_output k name)) top.1 o)))).0)
+
+plain_driven : (n : PlainNetlist) → IsOrderly n → IsDriven (library_of n)
+plain_driven n h = record {
+  known = λ path m k s at e. absurd (none-some s (sym (ap (λ (t : List SubcktValue). slice_get t k) (ap (λ (o : ModelValue). subckts_of o.commands) (only_top n path m at).1 ∙ no_subckts n)) ∙ e));
+  finite = λ path m at. subst (Ends (library_of n)) (sym (only_top n path m at).1) (ends (λ k child e. absurd (none-some child (sym (none_placed n k) ∙ e))));
+  formals = λ path k pair at. absurd (no_connection n path k pair at);
+  apart = λ path k pair other at. absurd (no_connection n path k pair at);
+  connected = λ path k m name at i. absurd (no_child k path (only_top n (k ∷ path) m at).0);
+  once = λ path name driver other a b. one_driver n h name driver other (driver_there n path name driver a) (driver_there n path name other b);
+  driven = λ path name r.
+      let t : (path ≡ []) × In (all_inputs n ++ command_outputs n) name = read_there n h path name r in
+      subst (λ (p : Path). (driver : Driver) × IsDriver (library_of n) p name driver) (sym t.0) (has_driver n name t.1);
+}
+
+data_free : (n : PlainNetlist) → IsOrderly n → (path : Path) (name : List ℕ) → IsData (library_of n) path name → IsControlName n name → ⊥
+data_free n h path name (cover_data i c at j) = (h.cover_inputs c (cover_there n path i c at).1 name j).1
+data_free n h path name (latch_data i l at e) =
+    let t : (path ≡ []) × ((k : LatchValue) × (slice_get n.latches i ≡ Some k) × (l ≡ read_latch k)) = latch_there n path i l at in
+    subst (λ (m : List ℕ). IsControlName n m → ⊥) (sym (e ∙ ap (λ (m : LatchValue). m.input) t.1.2)) (h.latch_inputs t.1.0 (In-get n.latches i t.1.0 t.1.1)).1
+
+control_there : (n : PlainNetlist) (path : Path) (i : ℕ) (l : LatchValue) (control : List ℕ) → LatchAt (library_of n) path i l → l.control ≡ Some control → (path ≡ []) × IsControlName n control
+control_there n path i l control at e =
+    let t : (path ≡ []) × ((k : LatchValue) × (slice_get n.latches i ≡ Some k) × (l ≡ read_latch k)) = latch_there n path i l at in
+    (t.0, record { latch = t.1.0; in' = In-get n.latches i t.1.0 t.1.1; is = sym (ap (λ (m : LatchValue). m.control) t.1.2) ∙ e })
+
+pub plain_sound : (n : PlainNetlist) → IsOrderly n → IsSound (library_of n)
+plain_sound n h = record {
+  formed = plain_formed n h.plain;
+  main = model_of n;
+  at = refl;
+  driven = plain_driven n h;
+  control_input = λ path i l control at e.
+      let t : (path ≡ []) × IsControlName n control = control_there n path i l control at e in
+      (control, main_input t.0 (main_there n control (h.controls control t.1)) refl);
+  one_control = λ path other i j l r control second name last at bt e f d g.
+      sym (driven_by_input n path control name d) ∙ h.one_control control second (control_there n path i l control at e).1 (control_there n other j r second bt f).1 ∙ driven_by_input n other second last g;
+  no_clock_data = λ path name net read d clock.
+      data_free n h path name read (subst (IsControlName n) (sym (driven_by_input n path name net d)) (clock_there n net clock));
+  no_clock_output = λ name net i d clock.
+      (h.outputs name i).1 (subst (IsControlName n) (sym (driven_by_input n [] name net d)) (clock_there n net clock));
+  no_loop = no_loop n h;
+}

@@ -1,0 +1,95 @@
+-- The flat circuit of a sound library has ports as they are written.
+use Rattle.std.proofs.Common.{◌≡◌, ◌⊎◌, ℕ, ◌≤◌, Bool, true, false, not, ◌||◌, List, [], ◌∷◌, ◌++◌, Option, Some, refl, sym, ap, subst, ◌∙◌, inl, inr, arith}
+use Rattle.std.proofs.lemmas.Option.{none-some, same_Some}
+use Rattle.list_laws.specs.Members.{In}
+use Rattle.list_laws.proofs.Members.{In-get, In-left, In-right, In-map}
+use Rattle.tl_text.specs.Clean.{IsClean}
+use Rattle.tl_text.specs.Once.{AreOnce}
+use Rattle.blif_read.specs.LibraryValue.{ModelValue, LibraryValue, input_ports, output_ports, clock_ports}
+use Rattle.blif_read.specs.HasCleanNames.{HasCleanNames}
+use Rattle.blif_flat.specs.declared.flat.OutPort.{OutPort}
+use Rattle.blif_flat.specs.FlatValue.{FlatValue}
+use Rattle.blif_flat.specs.Flat.{underscores, most_underscores, IsControl, some_latch, no_latch, IsFlat}
+use Rattle.blif_flat.specs.Models.{Path, has_name}
+use Rattle.blif_flat.specs.Instances.{IsMainInput}
+use Rattle.blif_flat.specs.Nets.{Net, input_net, Drives, main_input, latch_output, cover_output, from_inside, from_outside, IsClock, controls}
+use Rattle.blif_flat.specs.Sound.{IsSound}
+use Rattle.blif_write.specs.Meaning.{IsPortName, HasPorts}
+use Rattle.blif_write.proofs.PlainCycleLemmas.{net_name, is_input_net}
+use Rattle.blif_write.proofs.PlainSoundLemmas.{there_has}
+use Rattle.blif_write.proofs.RowValueLemmas.{of_filter}
+use Rattle.blif_write.proofs.DrivenLemmas.{once_filter}
+
+few_underscores : (names : List (List ℕ)) (name : List ℕ) → In names name → underscores name ≤ most_underscores names
+few_underscores [] name i = elim i [ ]
+few_underscores (other ∷ names) name (inl e) = let s : underscores name ≡ underscores other = ap underscores e in omega (arith, s)
+few_underscores (other ∷ names) name (inr i) = let l : underscores name ≤ most_underscores names = few_underscores names name i in omega (arith, l)
+
+-- a net that an input drives is named by a main input
+main_net : (library : LibraryValue) (path : Path) (own name : List ℕ) (net : Net) → net ≡ input_net name → Drives library path own net → IsMainInput library name
+main_net library path own name net e (main_input p m f) = subst (IsMainInput library) (ap (net_name own) (sym f ∙ e)) m
+main_net library path own name net e (latch_output i l at o f) = absurd (let t : false ≡ true = ap is_input_net (sym f ∙ e) in let wrong : ⊥ = cc in wrong)
+main_net library path own name net e (cover_output i c at o f) = absurd (let t : false ≡ true = ap is_input_net (sym f ∙ e) in let wrong : ⊥ = cc in wrong)
+main_net library path own name net e (from_inside k pair at t o d) = main_net library _ _ name net e d
+main_net library path own name net e (from_outside k outer pair at t p o d) = main_net library _ _ name net e d
+
+by_either : (a b : Bool) → (a || b) ≡ true → (a ≡ true) ⊎ (b ≡ true)
+by_either true b h = inl refl
+by_either false b h = inr h
+
+not_false : (b : Bool) → not b ≡ true → b ≡ false
+not_false true h = absurd (let wrong : ⊥ = cc in wrong)
+not_false false h = refl
+
+module _ (library : LibraryValue) (flat : FlatValue) (sound : IsSound library) (clean : HasCleanNames library) (fields : IsFlat library flat) where
+  abbrev main : ModelValue
+  main = fields.main
+
+  main_in : In library.models main
+  main_in = In-get library.models 0 main fields.is_main
+
+  port : (name : List ℕ) → In main.inputs name ⊎ (In main.clocks name ⊎ In main.outputs name) → IsPortName flat name
+  port name i = record {
+    clean = elim i [ inl j ↦ (clean.each main main_in).ports input_ports name j | inr k ↦ elim k [ inl j ↦ (clean.each main main_in).ports clock_ports name j | inr j ↦ (clean.each main main_in).ports output_ports name j ] ];
+    under = subst (λ (m : ℕ). underscores name ≤ m) (sym fields.under) (few_underscores (main.inputs ++ (main.clocks ++ main.outputs)) name
+        (elim i [ inl j ↦ In-left main.inputs (main.clocks ++ main.outputs) name j | inr k ↦ In-right main.inputs (main.clocks ++ main.outputs) name (elim k [ inl j ↦ In-left main.clocks main.outputs name j | inr j ↦ In-right main.clocks main.outputs name j ]) ]));
+  }
+
+  input_in : (name : List ℕ) → In flat.inputs name → In main.inputs name × (fields.test name ≡ false)
+  input_in name i =
+      let r : In main.inputs name × (not (fields.test name) ≡ true) = of_filter (λ (other : List ℕ). not (fields.test other)) main.inputs name (subst (λ (k : List (List ℕ)). In k name) fields.inputs i) in
+      (r.0, not_false (fields.test name) r.1)
+
+  output_in : (o : OutPort) → In flat.outputs o → In main.outputs o.name
+  output_in o i = subst (λ (k : List (List ℕ)). In k o.name) fields.output_names (In-map (λ (p : OutPort). p.name) flat.outputs o i)
+
+  -- the net of the controls is a clock, and a main input
+  control_by : (control : Option (List ℕ)) (name : List ℕ) → IsControl library control → control ≡ Some name → IsMainInput library name × IsClock library name
+  control_by control name (some_latch path i l own net at is d e) same =
+      let f : net ≡ name = same_Some net name (sym e ∙ same) in
+      (subst (IsMainInput library) f (main_net library path own net (input_net net) refl d), subst (IsClock library) f (controls path i l own at is d))
+  control_by control name (no_latch h e) same = absurd (none-some name (sym e ∙ same))
+
+  control_port : (name : List ℕ) → flat.control ≡ Some name → IsPortName flat name
+  control_port name e =
+      let m : IsMainInput library name = (control_by flat.control name fields.control e).0 in
+      let same : m.model ≡ main = same_Some m.model main (sym m.at ∙ fields.is_main) in
+      elim (by_either (has_name m.model.inputs name) (has_name m.model.clocks name) m.is) [
+        | inl h ↦ port name (inl (subst (λ (k : ModelValue). In k.inputs name) same (there_has m.model.inputs name h)))
+        | inr h ↦ port name (inr (inl (subst (λ (k : ModelValue). In k.clocks name) same (there_has m.model.clocks name h))))
+      ]
+
+  pub ports_there : HasPorts flat
+  ports_there = record {
+    model = subst IsClean (sym fields.model) (clean.each main main_in).name;
+    inputs = λ name i. port name (inl (input_in name i).0);
+    inputs_once = subst AreOnce (sym fields.inputs) (once_filter (λ (name : List ℕ). not (fields.test name)) main.inputs ((sound.formed.each main main_in).ports input_ports));
+    outputs = λ o i. port o.name (inr (inr (output_in o i)));
+    outputs_once = subst AreOnce (sym fields.output_names) ((sound.formed.each main main_in).ports output_ports);
+    control = control_port;
+    no_input = λ name e i. fields.tells.no name (input_in name i).1 (control_by flat.control name fields.control e).1;
+    no_output = λ name e o i same.
+        let c : IsMainInput library name × IsClock library name = control_by flat.control name fields.control e in
+        let top : main ≡ sound.main = same_Some main sound.main (sym fields.is_main ∙ sound.at) in
+        sound.no_clock_output name name (subst (λ (k : ModelValue). In k.outputs name) top (subst (In main.outputs) same (output_in o i))) (main_input refl c.0 refl) c.1;
+  }

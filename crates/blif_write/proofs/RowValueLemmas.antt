@@ -1,0 +1,231 @@
+-- The rows of a table have the value of the bit that its leaves' values ask for.
+use Rattle.std.proofs.Common.{◌≡◌, ◌⊎◌, ℕ, zero, suc, ◌+◌, ◌-◌, ◌*◌, ◌/◌, ◌%◌, ◌^◌, ◌<◌, ◌≤◌, Bool, true, false, cond, eqb, ◌&&◌, ◌||◌, List, [], ◌∷◌, ◌++◌, length, map, filter, replicate, get_or, slice_index_or, refl, sym, ap, subst, ◌∙◌, inl, inr, arith}
+use Rattle.std.specs.List.{range_with_len}
+use Rattle.std.proofs.Math.Nat.{pow-succ', div-div-eq-div-mul}
+use Rattle.std.proofs.lemmas.Bool.{eq-eqb, cases_Bool}
+use Rattle.std.proofs.lemmas.Bool.Decides.{Decides-eqb}
+use Rattle.std.proofs.lemmas.List.FromFn.{length-map-range_with_len}
+use Rattle.list_laws.specs.Members.{In}
+use Rattle.list_laws.specs.Digits.{bit_value, number, digit}
+use Rattle.list_laws.proofs.Digits.{number-small}
+use Rattle.list_laws.proofs.Members.{In-map}
+use Rattle.blif_read.specs.declared.cell.Cell.{Cell}
+use Rattle.blif_read.specs.declared.cell.Cell.TheVariants.{One, Any}
+use Rattle.blif_read.specs.CoverValue.{RowValue, allows, matches, some_row}
+use Rattle.blif_write.specs.Netlists.{digit_cell, digit_cells, fixed_rows, chosen_cells, tunable_rows}
+
+-- the cells of a number's digits, one by one
+abbrev cells_of : ℕ → ℕ → List Cell
+cells_of zero v = []
+cells_of (suc leaves) v = digit_cell (eqb (v % 2) 1) ∷ cells_of leaves (v / 2)
+
+cells_from : (leaves place v : ℕ) → map (λ p. digit_cell (digit v p)) (range_with_len place leaves) ≡ cells_of leaves (v / 2 ^ place)
+cells_from zero place v = refl
+cells_from (suc leaves) place v =
+    let e : place + 1 ≡ suc place = omega arith in
+    let p : 2 ^ suc place ≡ 2 * 2 ^ place = pow-succ' 2 place in
+    let c : 2 * 2 ^ place ≡ 2 ^ place * 2 = omega arith in
+    let q : v / 2 ^ place / 2 ≡ v / (2 ^ place * 2) = div-div-eq-div-mul v (2 ^ place) 2 in
+    ap (λ (t : List Cell). digit_cell (digit v place) ∷ t)
+    (cells_from leaves (place + 1) v ∙ ap (λ (k : ℕ). cells_of leaves (v / 2 ^ k)) e ∙ ap (λ (k : ℕ). cells_of leaves (v / k)) (p ∙ c) ∙ ap (cells_of leaves) (sym q))
+
+digits_are : (leaves v : ℕ) → digit_cells leaves v ≡ cells_of leaves v
+digits_are leaves v = let e : v / 1 ≡ v = omega arith in cells_from leaves 0 v ∙ ap (cells_of leaves) e
+
+-- booleans
+pub both_true : (a b : Bool) → (a && b) ≡ true → (a ≡ true) × (b ≡ true)
+both_true true b h = (refl, h)
+both_true false b h = absurd (let wrong : ⊥ = cc in wrong)
+
+true_both : (a b : Bool) → a ≡ true → b ≡ true → (a && b) ≡ true
+true_both true b h k = k
+true_both false b h k = absurd (let wrong : ⊥ = cc in wrong)
+
+pub not_true : (b : Bool) → (b ≡ true → ⊥) → b ≡ false
+not_true true h = absurd (h refl)
+not_true false h = refl
+
+-- a cell of a digit allows this digit alone
+allowed : (d b : Bool) → allows (digit_cell d) b ≡ true → b ≡ d
+allowed true b h = h
+allowed false true h = absurd (let wrong : ⊥ = cc in wrong)
+allowed false false h = refl
+
+allows_own : (b : Bool) → allows (digit_cell b) b ≡ true
+allows_own true = refl
+allows_own false = refl
+
+two_digits_by : (v : ℕ) (b : Bool) → eqb (v % 2) 0 ≡ b → (v % 2 ≡ 0) ⊎ (v % 2 ≡ 1)
+two_digits_by v true e = inl ((Decides-eqb (v % 2) 0).0 e)
+two_digits_by v false e = inr (let some : v % 2 ≡ 0 → ⊥ = λ z. let t : eqb (v % 2) 0 ≡ true = eq-eqb (v % 2) 0 z in let wrong : ⊥ = cc in wrong in omega (arith, some))
+
+two_digits : (v : ℕ) → (v % 2 ≡ 0) ⊎ (v % 2 ≡ 1)
+two_digits v = two_digits_by v (eqb (v % 2) 0) refl
+
+eqb_same : (m n : ℕ) → eqb m n ≡ true → m ≡ n
+eqb_same m n h = (Decides-eqb m n).0 h
+
+even_rest : (v : ℕ) → (v % 2 ≡ 1 → ⊥) → 0 ≡ v % 2
+even_rest v h = elim (two_digits v) [ inl e ↦ sym e | inr e ↦ absurd (h e) ]
+
+digit_value : (v : ℕ) (b : Bool) → b ≡ eqb (v % 2) 1 → bit_value b ≡ v % 2
+digit_value v true h = elim (cases_Bool (eqb (v % 2) 1)) [ inl t ↦ sym (eqb_same (v % 2) 1 t) | inr f ↦ absurd (let wrong : ⊥ = cc in wrong) ]
+digit_value v false h = elim (cases_Bool (eqb (v % 2) 1)) [ inl t ↦ absurd (let wrong : ⊥ = cc in wrong) | inr f ↦ even_rest v (λ e. let t : eqb (v % 2) 1 ≡ true = eq-eqb (v % 2) 1 e in let wrong : ⊥ = cc in wrong) ]
+
+pub matches_number : (v : ℕ) (ins : List Bool) → v < 2 ^ length ins → matches (cells_of (length ins) v) ins ≡ true → number ins ≡ v
+matches_number v [] small h = omega (arith, small)
+matches_number v (b ∷ bs) small h =
+    let p : 2 ^ length (b ∷ bs) ≡ 2 * 2 ^ length bs = pow-succ' 2 (length bs) in
+    let parts : (allows (digit_cell (eqb (v % 2) 1)) b ≡ true) × (matches (cells_of (length bs) (v / 2)) bs ≡ true) = both_true (allows (digit_cell (eqb (v % 2) 1)) b) (matches (cells_of (length bs) (v / 2)) bs) h in
+    let low : bit_value b ≡ v % 2 = digit_value v b (allowed (eqb (v % 2) 1) b parts.0) in
+    let high : number bs ≡ v / 2 = matches_number (v / 2) bs (omega (arith, small, p)) parts.1 in
+    omega (arith, low, high)
+
+lowest : (b : Bool) (n : ℕ) → eqb ((bit_value b + 2 * n) % 2) 1 ≡ b
+lowest true n = let e : (1 + 2 * n) % 2 ≡ 1 = omega arith in ap (λ (m : ℕ). eqb m 1) e
+lowest false n = let e : (0 + 2 * n) % 2 ≡ 0 = omega arith in ap (λ (m : ℕ). eqb m 1) e
+
+half : (b : Bool) (n : ℕ) → (bit_value b + 2 * n) / 2 ≡ n
+half true n = omega arith
+half false n = omega arith
+
+pub matches_own : (ins : List Bool) → matches (cells_of (length ins) (number ins)) ins ≡ true
+matches_own [] = refl
+matches_own (b ∷ bs) =
+    true_both (allows (digit_cell (eqb (number (b ∷ bs) % 2) 1)) b) (matches (cells_of (length bs) (number (b ∷ bs) / 2)) bs)
+    (ap (λ (d : Bool). allows (digit_cell d) b) (lowest b (number bs)) ∙ allows_own b)
+    (ap (λ (k : ℕ). matches (cells_of (length bs) k) bs) (half b (number bs)) ∙ matches_own bs)
+
+-- rows
+or_true : (b : Bool) → (b || true) ≡ true
+or_true true = refl
+or_true false = refl
+
+row_matches : (rows : List RowValue) (row : RowValue) (ins : List Bool) → In rows row → matches row.cells ins ≡ true → some_row rows ins ≡ true
+row_matches [] row ins i h = elim i [ ]
+row_matches (r ∷ rows) row ins (inl e) h = ap (λ (t : Bool). t || some_row rows ins) (ap (λ (q : RowValue). matches q.cells ins) (sym e) ∙ h)
+row_matches (r ∷ rows) row ins (inr i) h = ap (λ (t : Bool). matches r.cells ins || t) (row_matches rows row ins i h) ∙ or_true (matches r.cells ins)
+
+no_row_matches : (rows : List RowValue) (ins : List Bool) → ((row : RowValue) → In rows row → matches row.cells ins ≡ false) → some_row rows ins ≡ false
+no_row_matches [] ins h = refl
+no_row_matches (r ∷ rows) ins h = ap (λ (t : Bool). t || some_row rows ins) (h r (inl refl)) ∙ no_row_matches rows ins (λ q i. h q (inr i))
+
+-- numbers in a range
+in_range_by : (a n v : ℕ) → a ≤ v → (b : Bool) → eqb v a ≡ b → (a + 1 ≤ v → In (range_with_len (a + 1) n) v) → In (range_with_len a (suc n)) v
+in_range_by a n v low true e later = inl ((Decides-eqb v a).0 e)
+in_range_by a n v low false e later =
+    let other : v ≡ a → ⊥ = λ z. let t : eqb v a ≡ true = eq-eqb v a z in let wrong : ⊥ = cc in wrong in
+    inr (later (omega (arith, low, other)))
+
+pub in_range : (a n v : ℕ) → a ≤ v → v < a + n → In (range_with_len a n) v
+in_range a zero v low high = absurd (omega (arith, low, high))
+in_range a (suc n) v low high = in_range_by a n v low (eqb v a) refl (λ more. in_range (a + 1) n v more (omega (arith, high)))
+
+pub of_range : (a n v : ℕ) → In (range_with_len a n) v → (a ≤ v) × (v < a + n)
+of_range a zero v i = elim i [ ]
+of_range a (suc n) v (inl e) = (omega (arith, e), omega (arith, e))
+of_range a (suc n) v (inr i) = let r : (a + 1 ≤ v) × (v < a + 1 + n) = of_range (a + 1) n v i in (omega (arith, r.0), omega (arith, r.1))
+
+pub unmapped : {A B : Type 0} (f : A → B) (xs : List A) (y : B) → In (map f xs) y → (x : A) × In xs x × (y ≡ f x)
+unmapped f [] y i = elim i [ ]
+unmapped f (x ∷ xs) y (inl e) = (x, inl refl, e)
+unmapped f (x ∷ xs) y (inr i) = let r : (z : _) × In xs z × (y ≡ f z) = unmapped f xs y i in (r.0, inr r.1, r.2)
+
+in_either : (test : ℕ → Bool) (y : ℕ) (xs : List ℕ) (x : ℕ) (b : Bool) → In (filter test xs) x → In (cond b (y ∷ filter test xs) (filter test xs)) x
+in_either test y xs x true i = inr i
+in_either test y xs x false i = i
+
+of_either : {A : Type 0} (test : A → Bool) (y : A) (xs : List A) (x : A) (b : Bool) → test y ≡ b → (In (filter test xs) x → In xs x × (test x ≡ true)) → In (cond b (y ∷ filter test xs) (filter test xs)) x → In (y ∷ xs) x × (test x ≡ true)
+of_either test y xs x true e later (inl same) = (inl same, ap test same ∙ e)
+of_either test y xs x true e later (inr i) = let r : In xs x × (test x ≡ true) = later i in (inr r.0, r.1)
+of_either test y xs x false e later i = let r : In xs x × (test x ≡ true) = later i in (inr r.0, r.1)
+
+in_filter : (test : ℕ → Bool) (xs : List ℕ) (x : ℕ) → In xs x → test x ≡ true → In (filter test xs) x
+in_filter test [] x i h = elim i [ ]
+in_filter test (y ∷ xs) x (inl e) h = subst (λ (t : Bool). In (cond t (y ∷ filter test xs) (filter test xs)) x) (sym (ap test (sym e) ∙ h)) (inl e)
+in_filter test (y ∷ xs) x (inr i) h = in_either test y xs x (test y) (in_filter test xs x i h)
+
+pub of_filter : {A : Type 0} (test : A → Bool) (xs : List A) (x : A) → In (filter test xs) x → In xs x × (test x ≡ true)
+of_filter test [] x i = elim i [ ]
+of_filter test (y ∷ xs) x i = of_either test y xs x (test y) refl (of_filter test xs x) i
+
+-- the rows of a table with fixed bits
+digits_match : (v : ℕ) (ins : List Bool) → matches (digit_cells (length ins) v) ins ≡ matches (cells_of (length ins) v) ins
+digits_match v ins = ap (λ (cells : List Cell). matches cells ins) (digits_are (length ins) v)
+
+fixed_by : (config : List Bool) (base : ℕ) (ins : List Bool) (bit : Bool) → slice_index_or config (base + number ins) false ≡ bit → some_row (fixed_rows config base (length ins)) ins ≡ bit
+fixed_by config base ins true e =
+    let test : ℕ → Bool = λ v. slice_index_or config (base + v) false in
+    let there : In (filter test (range_with_len 0 (2 ^ length ins))) (number ins) =
+    in_filter test (range_with_len 0 (2 ^ length ins)) (number ins) (in_range 0 (2 ^ length ins) (number ins) (omega arith) (let s : number ins < 2 ^ length ins = number-small ins in omega (arith, s))) e in
+    row_matches (fixed_rows config base (length ins)) (record { cells = digit_cells (length ins) (number ins) }) ins (In-map (λ (v : ℕ). record { cells = digit_cells (length ins) v }) (filter test (range_with_len 0 (2 ^ length ins))) (number ins) there)
+    (digits_match (number ins) ins ∙ matches_own ins)
+fixed_by config base ins false e =
+    let test : ℕ → Bool = λ v. slice_index_or config (base + v) false in
+    no_row_matches (fixed_rows config base (length ins)) ins (λ row i.
+    let at : (v : ℕ) × In (filter test (range_with_len 0 (2 ^ length ins))) v × (row ≡ record { cells = digit_cells (length ins) v }) = unmapped (λ (v : ℕ). record { cells = digit_cells (length ins) v }) (filter test (range_with_len 0 (2 ^ length ins))) row i in
+    let kept : In (range_with_len 0 (2 ^ length ins)) at.0 × (test at.0 ≡ true) = of_filter test (range_with_len 0 (2 ^ length ins)) at.0 at.1 in
+    let small : (0 ≤ at.0) × (at.0 < 0 + 2 ^ length ins) = of_range 0 (2 ^ length ins) at.0 kept.0 in
+    not_true (matches row.cells ins) (λ h.
+    let same : number ins ≡ at.0 = matches_number at.0 ins (omega (arith, small.1)) (sym (digits_match at.0 ins) ∙ ap (λ (r : RowValue). matches r.cells ins) (sym at.2) ∙ h) in
+    let t : slice_index_or config (base + number ins) false ≡ true = ap (λ (k : ℕ). slice_index_or config (base + k) false) same ∙ kept.1 in
+    let wrong : ⊥ = cc in wrong))
+
+pub fixed_value : (config : List Bool) (base : ℕ) (ins : List Bool) → some_row (fixed_rows config base (length ins)) ins ≡ slice_index_or config (base + number ins) false
+fixed_value config base ins = fixed_by config base ins (slice_index_or config (base + number ins) false) refl
+
+-- the rows of a table whose bits are inputs
+and_moved : (a b c : Bool) → (a && (b && c)) ≡ ((a && b) && c)
+and_moved true b c = refl
+and_moved false b c = refl
+
+and_true : (b : Bool) → (b && true) ≡ b
+and_true true = refl
+and_true false = refl
+
+matches_both : (front back : List Cell) (xs ys : List Bool) → length front ≡ length xs → matches (front ++ back) (xs ++ ys) ≡ (matches front xs && matches back ys)
+matches_both [] back [] ys h = refl
+matches_both [] back (x ∷ xs) ys h = absurd (omega (arith, h))
+matches_both (c ∷ front) back [] ys h = absurd (omega (arith, h))
+matches_both (c ∷ front) back (x ∷ xs) ys h =
+    ap (λ (t : Bool). allows c x && t) (matches_both front back xs ys (omega (arith, h))) ∙ and_moved (allows c x) (matches front xs) (matches back ys)
+
+matches_any : (count : ℕ) (bits : List Bool) → length bits ≡ count → matches (replicate count Any) bits ≡ true
+matches_any zero [] h = refl
+matches_any zero (b ∷ bits) h = absurd (omega (arith, h))
+matches_any (suc count) [] h = absurd (omega (arith, h))
+matches_any (suc count) (b ∷ bits) h = matches_any count bits (omega (arith, h))
+
+matches_chosen : (v rest : ℕ) (bits : List Bool) → length bits ≡ v + suc rest → matches (replicate v Any ++ One ∷ replicate rest Any) bits ≡ get_or bits v false
+matches_chosen v rest [] h = absurd (omega (arith, h))
+matches_chosen zero rest (b ∷ bits) h = ap (λ (t : Bool). b && t) (matches_any rest bits (omega (arith, h))) ∙ and_true b
+matches_chosen (suc v) rest (b ∷ bits) h = matches_chosen v rest bits (omega (arith, h))
+
+row_value : (ins bits : List Bool) (v : ℕ) → length bits ≡ 2 ^ length ins → v < 2 ^ length ins
+    → matches (digit_cells (length ins) v ++ chosen_cells (2 ^ length ins) v) (ins ++ bits) ≡ (matches (cells_of (length ins) v) ins && get_or bits v false)
+row_value ins bits v count small =
+    matches_both (digit_cells (length ins) v) (chosen_cells (2 ^ length ins) v) ins bits (length-map-range_with_len (λ (place : ℕ). digit_cell (digit v place)) 0 (length ins))
+    ∙ ap (λ (t : Bool). t && matches (chosen_cells (2 ^ length ins) v) bits) (digits_match v ins)
+    ∙ ap (λ (t : Bool). matches (cells_of (length ins) v) ins && t) (matches_chosen v (2 ^ length ins - suc v) bits (omega (arith, count, small)))
+
+tunable_by : (ins bits : List Bool) (bit : Bool) → length bits ≡ 2 ^ length ins → get_or bits (number ins) false ≡ bit → some_row (tunable_rows (length ins)) (ins ++ bits) ≡ bit
+tunable_by ins bits true count e =
+    let small : number ins < 2 ^ length ins = number-small ins in
+    let make : ℕ → RowValue = λ v. record { cells = digit_cells (length ins) v ++ chosen_cells (2 ^ length ins) v } in
+    row_matches (tunable_rows (length ins)) (make (number ins)) (ins ++ bits) (In-map make (range_with_len 0 (2 ^ length ins)) (number ins) (in_range 0 (2 ^ length ins) (number ins) (omega arith) (omega (arith, small))))
+    (row_value ins bits (number ins) count small ∙ true_both (matches (cells_of (length ins) (number ins)) ins) (get_or bits (number ins) false) (matches_own ins) e)
+tunable_by ins bits false count e =
+    let make : ℕ → RowValue = λ v. record { cells = digit_cells (length ins) v ++ chosen_cells (2 ^ length ins) v } in
+    no_row_matches (tunable_rows (length ins)) (ins ++ bits) (λ row i.
+    let at : (v : ℕ) × In (range_with_len 0 (2 ^ length ins)) v × (row ≡ make v) = unmapped make (range_with_len 0 (2 ^ length ins)) row i in
+    let small : (0 ≤ at.0) × (at.0 < 0 + 2 ^ length ins) = of_range 0 (2 ^ length ins) at.0 at.1 in
+    let below : at.0 < 2 ^ length ins = omega (arith, small.1) in
+    not_true (matches row.cells (ins ++ bits)) (λ h.
+    let parts : (matches (cells_of (length ins) at.0) ins ≡ true) × (get_or bits at.0 false ≡ true) =
+    both_true (matches (cells_of (length ins) at.0) ins) (get_or bits at.0 false) (sym (row_value ins bits at.0 count below) ∙ ap (λ (r : RowValue). matches r.cells (ins ++ bits)) (sym at.2) ∙ h) in
+    let same : number ins ≡ at.0 = matches_number at.0 ins below parts.0 in
+    let t : get_or bits (number ins) false ≡ true = ap (λ (k : ℕ). get_or bits k false) same ∙ parts.1 in
+    let wrong : ⊥ = cc in wrong))
+
+pub tunable_value : (ins bits : List Bool) → length bits ≡ 2 ^ length ins → some_row (tunable_rows (length ins)) (ins ++ bits) ≡ get_or bits (number ins) false
+tunable_value ins bits count = tunable_by ins bits (get_or bits (number ins) false) count refl

@@ -1,0 +1,225 @@
+-- The cycles of a written netlist are those of its tables.
+use Rattle.std.proofs.Common.{◌≡◌, ◌⊎◌, ℕ, zero, suc, ◌+◌, ◌-◌, ◌*◌, ◌^◌, ◌<◌, ◌≤◌, Bool, true, false, cond, ◌&&◌, ◌||◌, nat_le, nat_lt, not, List, [], ◌∷◌, ◌++◌, length, map, get_or, slice_get, slice_index_or, bytes_eq, codes, Option, Some, None, refl, sym, ap, subst, ◌∙◌, inl, inr, arith}
+use Rattle.std.specs.List.{flat_map, range_with_len}
+use Rattle.std.proofs.lemmas.List.{map-append, length-map, get_or-map}
+use Rattle.std.proofs.lemmas.List.Sums.{sum_by-cons}
+use Rattle.std.proofs.lemmas.Bool.{leb-true, le-leb, ltb-true}
+use Rattle.std.proofs.lemmas.List.FromFn.{get_or-map-range_with_len, length-map-range_with_len}
+use Rattle.std.proofs.lemmas.Slice.Eq.{bytes_eq-Decides}
+use Rattle.std.proofs.lemmas.Option.{none-some}
+use Rattle.list_laws.specs.Members.{In}
+use Rattle.list_laws.specs.Digits.{number}
+use Rattle.list_laws.proofs.Digits.{number-small}
+use Rattle.list_laws.proofs.Members.{In-get_or, In-left, In-right}
+use Rattle.blif_read.specs.declared.latch.Latch.{Latch as LatchValue}
+use Rattle.blif_read.specs.CoverValue.{CoverValue, cover_value, some_row}
+use Rattle.blif_flat.specs.declared.flat.OutPort.{OutPort}
+use Rattle.blif_flat.specs.declared.flat.FlatLatch.{FlatLatch}
+use Rattle.blif_flat.specs.FlatValue.{FlatValue}
+use Rattle.run_text.specs.declared.params.Param.{Param}
+use Rattle.run_text.specs.Parameters.{regular_names, param_names}
+use Rattle.blif_flat.specs.Models.{has_name}
+use Rattle.aig_core.specs.declared.lit.Lit.{Lit}
+use Rattle.aig_core.specs.Roots.{lits_of}
+use Rattle.cover_pick.specs.declared.lut.Lut.{Lut}
+use Rattle.cover_pick.specs.Template.{TemplateValue}
+use Rattle.cover_pick.specs.Mapping.{HaveBases, bits_of}
+use Rattle.lut_sim.specs.declared.shape.Shape.{Shape}
+use Rattle.lut_sim.specs.Sources.{last_source, is_regular, source_value}
+use Rattle.lut_sim.specs.Cycle.{leaf_values, address, IsTableCycle}
+use Rattle.blif_write.specs.PlainNetlist.{read_control}
+use Rattle.blif_write.specs.OwnNames.{Naming, naming_of, table_name, latch_name, bit_name, source_name, literal_name}
+use Rattle.blif_write.specs.Netlists.{leaf_names, bit_names, fixed_rows, tunable_rows, fixed_table, tunable_table, wire_of, wire, wires, clock_of, written_latch, written_latches, control_names, with_tables}
+use Rattle.blif_write.specs.Meaning.{HasPorts, AreTablesOf, input_bits}
+use Rattle.blif_write.proofs.PlainCycleLemmas.{IsControlName, PlainFits}
+use Rattle.blif_write.proofs.RowValueLemmas.{both_true, not_true, of_filter, fixed_value, tunable_value}
+use Rattle.blif_write.proofs.OwnNameLemmas.{no_port_name, source_literal, table_literal}
+
+-- the latches of a written netlist
+pub latch_written : (g : Naming) (control : Option (List ℕ)) (ordinal : ℕ) (ls : List FlatLatch) (nexts : List Lit) (j : ℕ) → length nexts ≡ length ls → j < length ls
+    → (l : LatchValue) × (slice_get (written_latches g control ordinal ls nexts) j ≡ Some l) × (l.output ≡ latch_name g (ordinal + j))
+latch_written g control ordinal [] nexts j same small = absurd (omega (arith, small))
+latch_written g control ordinal (l ∷ ls) [] j same small = absurd (omega (arith, same))
+latch_written g control ordinal (l ∷ ls) (next ∷ nexts) zero same small = let e : ordinal ≡ ordinal + 0 = omega arith in (written_latch g control ordinal l next, refl, ap (latch_name g) e)
+latch_written g control ordinal (l ∷ ls) (next ∷ nexts) (suc j) same small =
+    let r : (k : LatchValue) × (slice_get (written_latches g control (suc ordinal) ls nexts) j ≡ Some k) × (k.output ≡ latch_name g (suc ordinal + j)) =
+    latch_written g control (suc ordinal) ls nexts j (omega (arith, same)) (omega (arith, small)) in
+    let e : suc ordinal + j ≡ ordinal + suc j = omega arith in
+    (r.0, r.1, r.2 ∙ ap (latch_name g) e)
+
+latch_inputs_are : (g : Naming) (value : List ℕ → Bool) (control : Option (List ℕ)) (ordinal : ℕ) (ls : List FlatLatch) (nexts : List Lit) → length nexts ≡ length ls
+    → map (λ (l : LatchValue). value l.input) (written_latches g control ordinal ls nexts) ≡ map (λ lit. value (literal_name g lit)) (lits_of nexts)
+latch_inputs_are g value control ordinal [] [] same = refl
+latch_inputs_are g value control ordinal [] (next ∷ nexts) same = absurd (omega (arith, same))
+latch_inputs_are g value control ordinal (l ∷ ls) [] same = absurd (omega (arith, same))
+latch_inputs_are g value control ordinal (l ∷ ls) (next ∷ nexts) same =
+    ap (λ (t : List Bool). value (literal_name g next.0) ∷ t) (latch_inputs_are g value control (suc ordinal) ls nexts (omega (arith, same)))
+
+-- the control of a written latch is the flat circuit's
+named_by : (own name : List ℕ) (nil : Bool) → cond nil None (Some own) ≡ Some name → Some own ≡ Some name
+named_by own name true e = absurd (none-some name e)
+named_by own name false e = e
+
+clock_named : (control : Option (List ℕ)) (clocked : Bool) (name : List ℕ) → read_control (clock_of control clocked) ≡ Some name → control ≡ Some name
+clock_named control false name e = absurd (none-some name e)
+clock_named None true name e = absurd (none-some name e)
+clock_named (Some own) true name e = named_by own name (bytes_eq own (codes "NIL")) e
+
+pub latch_named : (g : Naming) (control : Option (List ℕ)) (ordinal : ℕ) (ls : List FlatLatch) (nexts : List Lit) (l : LatchValue) (name : List ℕ) → In (written_latches g control ordinal ls nexts) l → read_control l.control ≡ Some name → control ≡ Some name
+latch_named g control ordinal [] nexts l name i e = elim i [ ]
+latch_named g control ordinal (k ∷ ls) [] l name i e = elim i [ ]
+latch_named g control ordinal (k ∷ ls) (next ∷ nexts) l name (inl same) e = clock_named control k.clocked name (sym (ap (λ (m : LatchValue). read_control m.control) same) ∙ e)
+latch_named g control ordinal (k ∷ ls) (next ∷ nexts) l name (inr i) e = latch_named g control (suc ordinal) ls nexts l name i e
+
+-- outputs
+or_none : (b : Bool) → ((b && true) || false) ≡ b
+or_none true = refl
+or_none false = refl
+
+wire_by : (root name : List ℕ) (value : List ℕ → Bool) (same : Bool) → bytes_eq name root ≡ same → ((c : CoverValue) → In (cond same [] (wire_of root name ∷ [])) c → value c.output ≡ cover_value c (map value c.inputs)) → value name ≡ value root
+wire_by root name value true e h = ap value ((bytes_eq-Decides name root).0 e)
+wire_by root name value false e h = h (wire_of root name) (inl refl) ∙ or_none (value root)
+
+wire_value : (root name : List ℕ) (value : List ℕ → Bool) → ((c : CoverValue) → In (wire root name) c → value c.output ≡ cover_value c (map value c.inputs)) → value name ≡ value root
+wire_value root name value h = wire_by root name value (bytes_eq name root) refl h
+
+outputs_are_roots : (g : Naming) (value : List ℕ → Bool) (os : List OutPort) (lits : List Lit) → length lits ≡ length os → ((c : CoverValue) → In (wires g os lits) c → value c.output ≡ cover_value c (map value c.inputs))
+    → map value (map (λ (o : OutPort). o.name) os) ≡ map (λ lit. value (literal_name g lit)) (lits_of lits)
+outputs_are_roots g value [] [] same h = refl
+outputs_are_roots g value [] (lit ∷ lits) same h = absurd (omega (arith, same))
+outputs_are_roots g value (o ∷ os) [] same h = absurd (omega (arith, same))
+outputs_are_roots g value (o ∷ os) (lit ∷ lits) same h =
+    ap (λ (b : Bool). b ∷ map value (map (λ (p : OutPort). p.name) os)) (wire_value (literal_name g lit.0) o.name value (λ c i. h c (In-left (wire (literal_name g lit.0) o.name) (wires g os lits) c i)))
+    ∙ ap (λ (t : List Bool). value (literal_name g lit.0) ∷ t) (outputs_are_roots g value os lits (omega (arith, same)) (λ c i. h c (In-right (wire (literal_name g lit.0) o.name) (wires g os lits) c i)))
+
+-- small facts on lists
+map_twice : {A B C : Type 0} (f : B → C) (g : A → B) (xs : List A) → map f (map g xs) ≡ map (λ x. f (g x)) xs
+map_twice f g [] = refl
+map_twice f g (x ∷ xs) = ap (λ (t : List _). f (g x) ∷ t) (map_twice f g xs)
+
+pub in_all : {A B : Type 0} (f : A → List B) (xs : List A) (x : A) (y : B) → In xs x → In (f x) y → In (flat_map (λ (t : List B). t) (map f xs)) y
+in_all f [] x y i j = elim i [ ]
+in_all f (z ∷ xs) x y (inl e) j = In-left (f z) (flat_map (λ t. t) (map f xs)) y (subst (λ k. In (f k) y) e j)
+in_all f (z ∷ xs) x y (inr i) j = In-right (f z) (flat_map (λ t. t) (map f xs)) y (in_all f xs x y i j)
+
+-- a table's bits are among the circuit's
+pub base_within : (b : ℕ) (luts : List Lut) (u : Lut) → HaveBases b luts → In luts u → u.base + 2 ^ length u.leaves ≤ b + bits_of luts
+base_within b [] u h i = elim i [ ]
+base_within b (t ∷ ts) u h (inl e) =
+    let base : u.base ≡ b = ap (λ (k : Lut). k.base) e ∙ h.0 in
+    let size : 2 ^ length u.leaves ≡ 2 ^ length t.leaves = ap (λ (k : Lut). 2 ^ length k.leaves) e in
+    let sum : bits_of (t ∷ ts) ≡ 2 ^ length t.leaves + bits_of ts = sum_by-cons (λ (k : Lut). 2 ^ length k.leaves) t ts in
+    omega (arith, base, size, sum)
+base_within b (t ∷ ts) u h (inr i) =
+    let later : u.base + 2 ^ length u.leaves ≤ b + 2 ^ length t.leaves + bits_of ts = base_within (b + 2 ^ length t.leaves) ts u h.1 i in
+    let sum : bits_of (t ∷ ts) ≡ 2 ^ length t.leaves + bits_of ts = sum_by-cons (λ (k : Lut). 2 ^ length k.leaves) t ts in
+    omega (arith, later, sum)
+
+-- the sources
+parts_by : (shape : Shape) (n : ℕ) (first : Bool) → (nat_le 1 n && nat_le n shape.regular) ≡ first → (first || (nat_lt (shape.regular + shape.params) n && nat_le n (last_source shape))) ≡ true
+    → ((1 ≤ n) × (n ≤ shape.regular)) ⊎ ((shape.regular + shape.params < n) × (n ≤ last_source shape))
+parts_by shape n true e h = let p : (nat_le 1 n ≡ true) × (nat_le n shape.regular ≡ true) = both_true (nat_le 1 n) (nat_le n shape.regular) e in inl (leb-true 1 n p.0, leb-true n shape.regular p.1)
+parts_by shape n false e h =
+    let p : (nat_lt (shape.regular + shape.params) n ≡ true) × (nat_le n (last_source shape) ≡ true) = both_true (nat_lt (shape.regular + shape.params) n) (nat_le n (last_source shape)) h in
+    inr (ltb-true (shape.regular + shape.params) n p.0, leb-true n (last_source shape) p.1)
+
+pub regular_parts : (shape : Shape) (n : ℕ) → is_regular shape n ≡ true → ((1 ≤ n) × (n ≤ shape.regular)) ⊎ ((shape.regular + shape.params < n) × (n ≤ last_source shape))
+regular_parts shape n h = parts_by shape n (nat_le 1 n && nat_le n shape.regular) refl h
+
+pub name_input : (flat : FlatValue) (params : List Param) (name : List ℕ) → In (regular_names flat params) name → In flat.inputs name
+name_input flat params name i = (of_filter (λ (other : List ℕ). not (has_name (param_names params) other)) flat.inputs name i).0
+
+past_regular : (n r : ℕ) → r < n → nat_le n r ≡ false
+past_regular n r h = not_true (nat_le n r) (λ t. let e : n ≤ r = leb-true n r t in omega (arith, e, h))
+
+module _ (flat : FlatValue) (params : List Param) (t : TemplateValue) (bits : List (List (List ℕ))) (tables : List CoverValue) (ports : HasPorts flat) (are : AreTablesOf flat params t)
+    (x : List ℕ → Bool) (s : List Bool) (value : List ℕ → Bool) (fits : PlainFits (with_tables flat params t bits tables) x s value) where
+  abbrev named : Naming
+  named = naming_of flat params
+
+  control_is : (name : List ℕ) → IsControlName (with_tables flat params t bits tables) name → flat.control ≡ Some name
+  control_is name c = latch_named named flat.control 0 flat.latches t.next c.latch name c.in' c.is
+
+  regular_fit : (i : ℕ) → i < length named.regular → value (get_or named.regular i []) ≡ x (get_or named.regular i [])
+  regular_fit i small =
+      let name : List ℕ = get_or named.regular i [] in
+      let there : In named.regular name = In-get_or named.regular i [] small in
+      fits.inputs name (In-left (named.regular ++ control_names flat.control) (flat_map (λ (l : List (List ℕ)). l) bits) name (In-left named.regular (control_names flat.control) name there))
+      (λ c. ports.no_input name (control_is name c) (name_input flat params name there))
+
+  bit_fit : (b : ℕ) → In (flat_map (λ (l : List (List ℕ)). l) bits) (bit_name named b) → value (bit_name named b) ≡ x (bit_name named b)
+  bit_fit b there =
+      fits.inputs (bit_name named b) (In-right (named.regular ++ control_names flat.control) (flat_map (λ (l : List (List ℕ)). l) bits) (bit_name named b) there)
+      (λ c. no_port_name named 99 b (bit_name named b) refl (ports.control (bit_name named b) (control_is (bit_name named b) c)).under refl)
+
+  latch_fit : (j : ℕ) → j < length flat.latches → value (latch_name named j) ≡ slice_index_or s j false
+  latch_fit j small =
+      let r : (l : LatchValue) × (slice_get (written_latches named flat.control 0 flat.latches t.next) j ≡ Some l) × (l.output ≡ latch_name named (0 + j)) = latch_written named flat.control 0 flat.latches t.next j are.roots.next small in
+      let e : 0 + j ≡ j = omega arith in
+      ap value (sym (r.2 ∙ ap (latch_name named) e)) ∙ fits.latches j r.0 r.1
+
+  source_fit : (n : ℕ) → is_regular named.shape n ≡ true → value (source_name named n) ≡ source_value named.shape (map x named.regular) s n
+  source_fit n h = elim (regular_parts named.shape n h) [
+    | inl p ↦ let small : n - 1 < length named.regular = omega (arith, p.0, p.1) in
+        let yes : nat_le n named.shape.regular ≡ true = le-leb n named.shape.regular p.1 in
+        ap (λ (b : Bool). value (cond b (get_or named.regular (n - 1) []) (latch_name named (n - 1 - (named.shape.regular + named.shape.params))))) yes
+        ∙ regular_fit (n - 1) small ∙ sym (get_or-map x named.regular (n - 1) [] false small)
+        ∙ sym (ap (λ (b : Bool). cond b (slice_index_or (map x named.regular) (n - 1) false) (slice_index_or s (n - 1 - (named.shape.regular + named.shape.params)) false)) yes)
+    | inr p ↦ let no : nat_le n named.shape.regular ≡ false = past_regular n named.shape.regular (omega (arith, p.0)) in
+        let j : ℕ = n - 1 - (named.shape.regular + named.shape.params) in
+        ap (λ (b : Bool). value (cond b (get_or named.regular (n - 1) []) (latch_name named j))) no
+        ∙ latch_fit j (omega (arith, p.0, p.1))
+        ∙ sym (ap (λ (b : Bool). cond b (slice_index_or (map x named.regular) (n - 1) false) (slice_index_or s j false)) no)
+  ]
+
+  -- the values of the literals
+  abbrev valued : ℕ → Bool
+  valued lit = value (literal_name named lit)
+
+  pub table_cycle : (config outputs next : List Bool) → outputs ≡ map value (map (λ (o : OutPort). o.name) flat.outputs) → next ≡ map (λ (l : LatchValue). value l.input) (written_latches named flat.control 0 flat.latches t.next)
+      → ((u : Lut) → In t.luts u → value (table_name named u.lit.0) ≡ slice_index_or config (address valued u) false)
+      → IsTableCycle t named.shape config (map x named.regular) s outputs next
+  table_cycle config outputs next o n tabled = record {
+    value = valued;
+    fits = record {
+      source = λ m h. ap value (source_literal named m h) ∙ source_fit m h;
+      table = λ u i h. ap value (table_literal named u.lit.0 h) ∙ tabled u i;
+    };
+    outputs_are = o ∙ outputs_are_roots named value flat.outputs t.outputs are.roots.outputs (λ c i. fits.covers c (In-right tables (wires named flat.outputs t.outputs) c i));
+    next_are = n ∙ latch_inputs_are named value flat.control 0 flat.latches t.next are.roots.next;
+  }
+
+  leaves_valued : (u : Lut) → map value (leaf_names named u) ≡ leaf_values valued u.leaves
+  leaves_valued u = map_twice value (λ (m : ℕ). literal_name named (2 * m)) u.leaves
+
+  pub fixed_valued : (config : List Bool) (u : Lut) → In tables (fixed_table named config u) → value (table_name named u.lit.0) ≡ slice_index_or config (address valued u) false
+  fixed_valued config u i =
+      let ins : List Bool = leaf_values valued u.leaves in
+      let count : length ins ≡ length u.leaves = length-map u.leaves (λ (m : ℕ). valued (2 * m)) in
+      fits.covers (fixed_table named config u) (In-left tables (wires named flat.outputs t.outputs) (fixed_table named config u) i)
+      ∙ ap (some_row (fixed_rows config u.base (length u.leaves))) (leaves_valued u)
+      ∙ ap (λ (k : ℕ). some_row (fixed_rows config u.base k) ins) (sym count)
+      ∙ fixed_value config u.base ins
+
+  pub tunable_valued : (u : Lut) → In t.luts u → In tables (tunable_table named u) → ((b : ℕ) → u.base ≤ b → b < u.base + 2 ^ length u.leaves → In (flat_map (λ (l : List (List ℕ)). l) bits) (bit_name named b))
+      → value (table_name named u.lit.0) ≡ slice_index_or (input_bits named t.bits x) (address valued u) false
+  tunable_valued u there i input =
+      let ins : List Bool = leaf_values valued u.leaves in
+      let count : length ins ≡ length u.leaves = length-map u.leaves (λ (m : ℕ). valued (2 * m)) in
+      let chosen : List Bool = map value (bit_names named u) in
+      let own : chosen ≡ map (λ b. value (bit_name named b)) (range_with_len u.base (2 ^ length u.leaves)) = map_twice value (bit_name named) (range_with_len u.base (2 ^ length u.leaves)) in
+      let size : length chosen ≡ 2 ^ length ins =
+      ap length own ∙ length-map-range_with_len (λ b. value (bit_name named b)) u.base (2 ^ length u.leaves) ∙ ap (λ (k : ℕ). 2 ^ k) (sym count) in
+      let small : number ins < 2 ^ length u.leaves = subst (λ (k : ℕ). number ins < 2 ^ k) count (number-small ins) in
+      let within : u.base + 2 ^ length u.leaves ≤ 0 + bits_of t.luts = base_within 0 t.luts u are.playable.bases there in
+      let b : ℕ = u.base + number ins in
+      let sum : t.bits ≡ bits_of t.luts = are.playable.sum in
+      fits.covers (tunable_table named u) (In-left tables (wires named flat.outputs t.outputs) (tunable_table named u) i)
+      ∙ ap (some_row (tunable_rows (length u.leaves))) (map-append value (leaf_names named u) (bit_names named u))
+      ∙ ap (λ (l : List Bool). some_row (tunable_rows (length u.leaves)) (l ++ chosen)) (leaves_valued u)
+      ∙ ap (λ (k : ℕ). some_row (tunable_rows k) (ins ++ chosen)) (sym count)
+      ∙ tunable_value ins chosen size
+      ∙ ap (λ (l : List Bool). get_or l (number ins) false) own
+      ∙ get_or-map-range_with_len (λ c. value (bit_name named c)) u.base (2 ^ length u.leaves) (number ins) b false small refl
+      ∙ bit_fit b (input b (omega arith) (omega (arith, small)))
+      ∙ sym (get_or-map-range_with_len (λ c. x (bit_name named c)) 0 t.bits b b false (omega (arith, small, within, sum)) (omega arith))

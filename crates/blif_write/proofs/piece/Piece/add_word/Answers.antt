@@ -1,0 +1,11 @@
+use Rattle.run_text.proofs.PieceLemmas.{stops_longer, adds_then}
+use Rattle.blif_write.proofs.AddLemmas.{stopped}
+use Rattle.blif_write.proofs.piece.Piece.add_word.Goals as goal
+
+pub returns-in_err-add_byte-clause-grown : goal.returns-in_err-add_byte-clause-grown
+returns-in_err-add_byte-clause-grown g c =
+    stopped _ _ c.from_residual.result c.from_residual.ensures.1 (stops_longer _ c.in_err-add_byte.ensures.grown)
+
+pub returns-clause-grown : goal.returns-clause-grown
+returns-clause-grown g c =
+    adds_then _ (g.O.Sink.bytes c.add_name.new.out) c.add_name.new.self c.add_name.result c.in_ok-add_byte.ensures.grown c.add_name.ensures.grown

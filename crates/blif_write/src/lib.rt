@@ -1,0 +1,30 @@
+//! Mapped netlists as text, in the Berkeley Logic Interchange Format (BLIF), as its manual of July 1992 has it.
+//!
+//! [`specialised`] writes the netlist whose tables have fixed bits, [`template`] the one in which each bit of a table is an
+//! input. Both have one model, with a cover for each table and for each output that has another name than its root.
+//!
+//! The written text is said in two steps: a netlist without hierarchy and its lines (`specs/PlainNetlist.antt`), and the
+//! two netlists of tables (`specs/Netlists.antt`) with the names in them (`specs/OwnNames.antt`). `proofs/WrittenExamples.antt`
+//! works out four.
+//!
+//! What the text means is said over the definition of BLIF, not over a reader (`specs/Meaning.antt`): it denotes one model,
+//! which is sound, and whose cycles are those of the tables. `proofs/LineTextLemmas.antt` reads the lines again,
+//! `DenoteLemmas.antt` the model; `PlainSoundLemmas.antt` and `PlainCycleLemmas.antt` have a library of one model without
+//! subcircuits; `OrderlyLemmas.antt` shows that the netlists of tables are in order, and `TableCycleLemmas.antt` that their
+//! cycles are the tables'.
+//!
+//! - `piece.rt` has the bytes that wait to be put, and `names.rt` the names.
+//! - `rows.rt` and `tables.rt` have the tables, `latches.rt` and `wires.rt` the other commands, `netlist.rt` the whole.
+#![tactic(auto)]
+
+mod latches;
+mod names;
+mod netlist;
+mod piece;
+mod rows;
+mod tables;
+#[cfg(test)]
+mod tests;
+mod wires;
+
+pub use netlist::{specialised, template};

@@ -1,0 +1,126 @@
+//! The names in a written netlist.
+ghost use Rattle.std.specs.Prelude.{◌≡◌, ◌-◌, ◌/◌, ◌≤◌, ◌&&◌, [], IsTrue, nat_le, bytes_eq, slice_index_or};
+ghost use Rattle.tl_io.specs.Causes.{HasCause};
+ghost use Rattle.run_text.specs.Pieces.{AddsOrStops};
+ghost use Rattle.blif_flat.specs.Flat.{underscores};
+ghost use Rattle.lut_sim.specs.Sources.{is_regular, is_plain};
+ghost use Rattle.blif_write.specs.OwnNames.{own_name, source_name, literal_name};
+
+use crate::piece::Piece;
+use aig_core::Lit;
+use lut_sim::Shape;
+use std::marker::Model;
+use tl_io::{Failed, Sink};
+use tl_text::Name;
+
+/// What names are made from: the most underscores that a port's name begins with, the inputs and the places of the regular
+/// ones among them, and the shape of the sources.
+#[derive(Drop)]
+pub(crate) struct Names<'a> {
+    pub under: u32,
+    pub inputs: &'a [Name],
+    pub regular: &'a [u32],
+    pub shape: Shape,
+}
+
+impl<'a> Model for Names<'a> {
+    ghost use Rattle.std.specs.Prelude.{◌≡◌, ◌<◌, ℕ, [], length, map, slice_index_or};
+    ghost use Rattle.list_laws.specs.Members.{In};
+    ghost use Rattle.blif_write.specs.OwnNames.{Naming};
+
+    ghost Value = { Naming };
+
+    ghost view = { λ n. record { under = n.under; regular = map (λ (i : ℕ). slice_index_or n.inputs.now i []) n.regular.now; shape = n.shape } };
+
+    ghost invariant = { λ n. ((i : ℕ) → In n.regular.now i → i < length n.inputs.now) × (n.shape.regular ≡ length n.regular.now) };
+}
+
+// Is this the positive literal of a regular source?
+fn is_plain_literal(shape: &Shape, lit: u64) -> bool
+    ensures { result ≡ is_plain shape.now lit }
+{
+    let n = lit / 2;
+    let regular = shape.regular as u64;
+    let before_latches = regular + shape.params as u64;
+    let last = before_latches + shape.latches as u64;
+    lit % 2 == 0 && ((1 <= n && n <= regular) || (before_latches < n && n <= last))
+}
+
+impl<'a> Names<'a> {
+    /// Adds an own name: one underscore more than any port's name begins with, a letter and a number.
+    pub(crate) fn add_own<O: Sink>(
+        &self,
+        letter: u8,
+        number: u64,
+        piece: &mut Piece,
+        out: &mut O,
+    ) -> Result<(), Failed>
+        ensures cause { HasCause (O.faults out.old) (O.faults out.new) result }
+        ensures grown { AddsOrStops (O.bytes out.old) piece.old (own_name self.now letter number) (O.bytes out.new) piece.new result }
+        ensures through { O.through out.new ≡ O.through out.old }
+        ensures others { O.others out.new ≡ O.others out.old }
+    {
+        piece.add_repeated(b'_', self.under as usize + 1, out)?;
+        piece.add_byte(letter, out)?;
+        piece.add_number(number, out)
+    }
+
+    // Is this the positive literal of a regular input?
+    fn is_input(&self, lit: u64) -> bool
+        ensures value { result ≡ (is_plain self.now.shape lit && nat_le (lit / 2) self.now.shape.regular) }
+        ensures some { IsTrue result → 1 ≤ lit / 2 }
+    {
+        is_plain_literal(&self.shape, lit) && lit / 2 <= self.shape.regular as u64
+    }
+
+    // The name of a regular input.
+    fn input(&self, n: u32) -> &[u8]
+        requires some { 1 ≤ n }
+        requires there { n ≤ self.now.shape.regular }
+        ensures { result.now ≡ slice_index_or self.now.regular (n - 1) [] }
+    {
+        let place = self.regular[n as usize - 1];
+        self.inputs[place as usize].bytes()
+    }
+
+    // Adds the name of a regular source.
+    fn add_source<O: Sink>(&self, n: u64, piece: &mut Piece, out: &mut O) -> Result<(), Failed>
+        requires { IsTrue (is_regular self.now.shape n) }
+        ensures cause { HasCause (O.faults out.old) (O.faults out.new) result }
+        ensures grown { AddsOrStops (O.bytes out.old) piece.old (source_name self.now n) (O.bytes out.new) piece.new result }
+        ensures through { O.through out.new ≡ O.through out.old }
+        ensures others { O.others out.new ≡ O.others out.old }
+    {
+        if n <= self.shape.regular as u64 {
+            return piece.add_text(self.input(n as u32), out);
+        }
+        let before_latches = self.shape.regular as u64 + self.shape.params as u64;
+        self.add_own(b'l', n - 1 - before_latches, piece, out)
+    }
+
+    /// Adds the name of a literal: its source's where it is the positive one of a regular source, else its table's.
+    pub(crate) fn add_literal<O: Sink>(
+        &self,
+        lit: u64,
+        piece: &mut Piece,
+        out: &mut O,
+    ) -> Result<(), Failed>
+        ensures cause { HasCause (O.faults out.old) (O.faults out.new) result }
+        ensures grown { AddsOrStops (O.bytes out.old) piece.old (literal_name self.now lit) (O.bytes out.new) piece.new result }
+        ensures through { O.through out.new ≡ O.through out.old }
+        ensures others { O.others out.new ≡ O.others out.old }
+    {
+        if is_plain_literal(&self.shape, lit) {
+            return self.add_source(lit / 2, piece, out);
+        }
+        self.add_own(b'n', lit, piece, out)
+    }
+
+    /// Has this root's literal this name, which is an output's?
+    pub(crate) fn is_own(&self, root: Lit, output: &Name) -> bool
+        requires { underscores output.now ≤ self.now.under }
+        ensures { result ≡ bytes_eq output.now (literal_name self.now root.0) }
+    {
+        self.is_input(root.0 as u64) && output.bytes() == self.input(root.0 / 2)
+    }
+}
