@@ -32,7 +32,8 @@ use Rattle.blif_write.proofs.RowValueLemmas.{unmapped, of_range, in_range}
 use Rattle.blif_write.proofs.OwnNameLemmas.{own_number}
 use Rattle.blif_write.proofs.TableCycleLemmas.{in_all, table_cycle, fixed_valued, tunable_valued}
 use Rattle.blif_write.proofs.DrivenLemmas.{once_both}
-use Rattle.blif_write.proofs.OrderlyLemmas.{AreCovers, orderly}
+use Rattle.blif_write.proofs.PartLemmas.{AreCovers}
+use Rattle.blif_write.proofs.OrderlyLemmas.{orderly}
 
 -- rows have a cell for each input
 digits_long : (leaves v : ℕ) → length (digit_cells leaves v) ≡ leaves

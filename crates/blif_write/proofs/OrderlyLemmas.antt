@@ -31,17 +31,8 @@ use Rattle.blif_write.proofs.PlainSoundLemmas.{body_output, command_outputs, IsO
 use Rattle.blif_write.proofs.RowValueLemmas.{both_true, not_true, unmapped}
 use Rattle.blif_write.proofs.OwnNameLemmas.{own_under, no_port_name, own_letter, own_number, plain_even, table_literal}
 use Rattle.blif_write.proofs.TableCycleLemmas.{regular_parts, name_input, latch_named, latch_written}
-use Rattle.blif_write.proofs.PartLemmas.{in_lits, outputs_clean, latch_next, later_wire, latch_outputs_are, cover_outputs_are, table_outputs_are, rank_in, rank_of, rank_there, in_control, control_once, regular_once, wire_formed, in_lines, control_named_in}
+use Rattle.blif_write.proofs.PartLemmas.{AreCovers, in_lits, outputs_clean, latch_next, later_wire, latch_outputs_are, cover_outputs_are, table_outputs_are, rank_in, rank_of, rank_there, in_control, control_once, regular_once, wire_formed, in_lines, control_named_in}
 use Rattle.blif_write.proofs.DrivenLemmas.{own_clean, once_both, latch_output, latches_once, table_names, tables_once, IsWire, wires_there, wires_once}
-
--- What is said of the covers of tables: each is by its on-set, under its own name, and reads its leaves and bits; and the names of the bits stand once.
-pub record AreCovers (g : Naming) (luts : List Lut) (bits : List (List (List ℕ))) (table : Lut → CoverValue) : Type 0 where
-  pub output : (u : Lut) → (table u).output ≡ table_name g u.lit.0
-  pub on : (u : Lut) → (table u).value ≡ true
-  pub inputs : (u : Lut) → In luts u → (name : List ℕ) → In (table u).inputs name → In (leaf_names g u) name ⊎ In (flat_map (λ (l : List (List ℕ)). l) bits) name
-  pub cells : (u : Lut) → IsWellFormedBody (Cover (table u))
-  pub bits_own : (name : List ℕ) → In (flat_map (λ (l : List (List ℕ)). l) bits) name → (b : ℕ) × (b < 2 ^ 64) × (name ≡ bit_name g b)
-  pub bits_once : AreOnce (flat_map (λ (l : List (List ℕ)). l) bits)
 
 module _ (flat : FlatValue) (params : List Param) (t : TemplateValue) (bits : List (List (List ℕ))) (table : Lut → CoverValue) (ports : HasPorts flat) (are : AreTablesOf flat params t)
     (covers : AreCovers (naming_of flat params) t.luts bits table) where

@@ -17,8 +17,8 @@ use Rattle.run_text.specs.Parameters.{regular_names, param_names}
 use Rattle.blif_flat.specs.Models.{has_name}
 use Rattle.cover_pick.specs.declared.lut.Lut.{Lut}
 use Rattle.blif_write.specs.PlainNetlist.{read_latch}
-use Rattle.blif_write.specs.OwnNames.{Naming, table_name, literal_name}
-use Rattle.blif_write.specs.Netlists.{wire_of, clock_of, control_names, wire, wires, written_latches}
+use Rattle.blif_write.specs.OwnNames.{Naming, table_name, literal_name, bit_name}
+use Rattle.blif_write.specs.Netlists.{wire_of, clock_of, control_names, wire, wires, written_latches, leaf_names}
 use Rattle.blif_write.proofs.PlainSoundLemmas.{body_output}
 use Rattle.blif_write.proofs.OwnNameLemmas.{own_number}
 use Rattle.blif_write.proofs.DrivenLemmas.{once_filter, table_names}
@@ -28,6 +28,15 @@ use Rattle.aig_core.specs.declared.lit.Lit.{Lit}
 use Rattle.aig_core.specs.Roots.{lits_of}
 use Rattle.blif_flat.specs.declared.flat.OutPort.{OutPort}
 use Rattle.blif_flat.specs.declared.flat.FlatLatch.{FlatLatch}
+
+-- What is said of the covers of tables: each is by its on-set, under its own name, and reads its leaves and bits; and the names of the bits stand once.
+pub record AreCovers (g : Naming) (luts : List Lut) (bits : List (List (List ℕ))) (table : Lut → CoverValue) : Type 0 where
+  pub output : (u : Lut) → (table u).output ≡ table_name g u.lit.0
+  pub on : (u : Lut) → (table u).value ≡ true
+  pub inputs : (u : Lut) → In luts u → (name : List ℕ) → In (table u).inputs name → In (leaf_names g u) name ⊎ In (flat_map (λ (l : List (List ℕ)). l) bits) name
+  pub cells : (u : Lut) → IsWellFormedBody (Cover (table u))
+  pub bits_own : (name : List ℕ) → In (flat_map (λ (l : List (List ℕ)). l) bits) name → (b : ℕ) × (b < 2 ^ 64) × (name ≡ bit_name g b)
+  pub bits_once : AreOnce (flat_map (λ (l : List (List ℕ)). l) bits)
 
 -- the outputs of the commands
 pub latch_outputs_are : (ls : List LatchValue) → map body_output (map (λ (l : LatchValue). Latch (read_latch l)) ls) ≡ map (λ (l : LatchValue). l.output) ls
