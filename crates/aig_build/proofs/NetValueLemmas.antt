@@ -20,7 +20,7 @@ use Rattle.blif_flat.specs.declared.flat.Net.TheVariants.{Input, Latch, Cover}
 use Rattle.blif_flat.specs.FlatCoverValue.{FlatCoverValue}
 use Rattle.blif_flat.specs.FlatValue.{FlatValue}
 use Rattle.blif_flat.specs.FlatCycle.{input_values}
-use Rattle.blif_flat.proofs.LoopOrderLemmas.{all_members}
+use Rattle.blif_flat.proofs.Fields.LoopOrderLemmas.{all_members}
 use Rattle.blif_flat.specs.Models.{body_at}
 use Rattle.blif_flat.specs.Places.{cover_in}
 use Rattle.blif_flat.specs.Bounds.{IsThere, IsWithinBounds}

@@ -15,7 +15,7 @@ use Rattle.blif_flat.specs.declared.flat.FlatLatch.{FlatLatch}
 use Rattle.blif_flat.specs.FlatValue.{FlatValue}
 use Rattle.blif_flat.specs.Flat.{cover_numbers, reads_at}
 use Rattle.blif_flat.specs.Flattened.{HasValues}
-use Rattle.blif_flat.specs.DepthFirst.{PostsAll}
+use Rattle.depth_first.specs.DepthFirst.{PostsAll}
 use Rattle.blif_flat.specs.Bounds.{IsThere, IsWithinBounds}
 use Rattle.blif_flat.specs.Evaluation.{net_value, flat_values}
 use Rattle.blif_flat.specs.Runs.{IsCycle}

@@ -13,9 +13,9 @@ use Rattle.blif_flat.specs.FlatCoverValue.{FlatCoverValue}
 use Rattle.blif_flat.specs.FlatValue.{FlatValue}
 use Rattle.blif_flat.specs.Evaluation.{cover_behind}
 use Rattle.blif_flat.specs.Flat.{cover_numbers, inputs_at, reads_at}
-use Rattle.blif_flat.specs.DepthFirst.{Posts, skips, posts, PostsAll, none, more}
+use Rattle.depth_first.specs.DepthFirst.{Posts, skips, posts, PostsAll, none, more}
 use Rattle.blif_flat.specs.Bounds.{IsThere, IsWithinBounds}
-use Rattle.blif_flat.proofs.PostLemmas.{nodes_done}
+use Rattle.depth_first.proofs.PostLemmas.{nodes_done}
 use Rattle.run_text.specs.declared.params.Param.{Param}
 use Rattle.aig_core.specs.declared.lit.Lit.{Lit}
 use Rattle.aig_core.specs.declared.lit.Pair.{Pair}

@@ -2,8 +2,7 @@
 use Rattle.std.specs.Prelude.{◌≡◌, ℕ, ◌<◌, ◌≤◌, List, length, Some, IsSome, slice_get}
 use Rattle.list_laws.specs.Members.{In}
 use Rattle.blif_read.specs.Once.{AreOnce}
-use Rattle.blif_read.specs.CoverValue.{CoverValue}
-use Rattle.blif_read.specs.LibraryValue.{LibraryValue}
+use Rattle.blif_flat.specs.Words.{CoverValue, LibraryValue}
 use Rattle.blif_flat.specs.declared.flat.Net.{Net}
 use Rattle.blif_flat.specs.declared.flat.Net.TheVariants.{Input, Latch, Cover}
 use Rattle.blif_flat.specs.declared.flat.OutPort.{OutPort}

@@ -1,10 +1,7 @@
 -- The cycle relation: the values of all nets, at every instance, that fit the values of the inputs and the latches (BLIF manual of 1992).
 -- Nothing is flattened, and nothing is evaluated in an order.
 use Rattle.std.specs.Prelude.{◌≡◌, ℕ, Bool, false, List, [], ◌∷◌, map}
-use Rattle.blif_read.specs.declared.latch.Latch.{Latch as LatchValue}
-use Rattle.blif_read.specs.declared.subckt.Pair.{Pair}
-use Rattle.blif_read.specs.CoverValue.{CoverValue, cover_value}
-use Rattle.blif_read.specs.LibraryValue.{LibraryValue}
+use Rattle.blif_flat.specs.Words.{LatchValue, Pair, CoverValue, cover_value, LibraryValue}
 use Rattle.blif_flat.specs.Models.{Path}
 use Rattle.blif_flat.specs.Instances.{CoverAt, LatchAt, ConnectionAt, IsMainInput}
 use Rattle.blif_flat.specs.Nets.{IsClock}

@@ -1,4 +1,4 @@
--- A depth-first walk without memory: the first node that is met again on the current path, and the postorder.
+-- A depth-first walk without memory: the first node that is met again on the current path.
 use Rattle.std.specs.Prelude.{◌≡◌, List, [], ◌∷◌, Option, Some, None}
 use Rattle.list_laws.specs.Members.{In}
 
@@ -17,13 +17,3 @@ mutual
     none : {path ns : List N} {result : Option (Repeat N)} → ns ≡ [] → result ≡ None → MeetsAll next path ns result
     first : {path ns : List N} {result : Option (Repeat N)} (n : N) (rest : List N) (repeat : Repeat N) → ns ≡ n ∷ rest → Meets next path n (Some repeat) → result ≡ Some repeat → MeetsAll next path ns result
     later : {path ns : List N} {result : Option (Repeat N)} (n : N) (rest : List N) → ns ≡ n ∷ rest → Meets next path n None → MeetsAll next path rest result → MeetsAll next path ns result
-
--- The postorder, the last first: what a visit of a node, or of several left to right, makes of the nodes that are done.
-mutual
-  pub data Posts {N : Type 0} (next : N → List N) : List N → N → List N → Type 0 where
-    skips : {done : List N} {n : N} {result : List N} → In done n → result ≡ done → Posts next done n result
-    posts : {done : List N} {n : N} {result : List N} (below : List N) → ¬ (In done n) → PostsAll next done (next n) below → result ≡ n ∷ below → Posts next done n result
-
-  pub data PostsAll {N : Type 0} (next : N → List N) : List N → List N → List N → Type 0 where
-    none : {done ns result : List N} → ns ≡ [] → result ≡ done → PostsAll next done ns result
-    more : {done ns result : List N} (n : N) (rest below : List N) → ns ≡ n ∷ rest → Posts next done n below → PostsAll next below rest result → PostsAll next done ns result

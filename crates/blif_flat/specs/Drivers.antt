@@ -1,11 +1,7 @@
 -- What drives and what reads a name within one instance.
 use Rattle.std.specs.Prelude.{◌≡◌, ◌⊎◌, ℕ, List, ◌∷◌, Some, slice_get, IsTrue}
 use Rattle.list_laws.specs.Members.{In}
-use Rattle.blif_read.specs.declared.latch.Latch.{Latch as LatchValue}
-use Rattle.blif_read.specs.declared.subckt.Pair.{Pair}
-use Rattle.blif_read.specs.CoverValue.{CoverValue}
-use Rattle.blif_read.specs.SubcktValue.{SubcktValue}
-use Rattle.blif_read.specs.LibraryValue.{ModelValue, LibraryValue}
+use Rattle.blif_flat.specs.Words.{LatchValue, Pair, CoverValue, SubcktValue, ModelValue, LibraryValue}
 use Rattle.blif_flat.specs.Models.{Path, subckts_of, model_named, placed, model_at, is_input, is_output}
 use Rattle.blif_flat.specs.Instances.{CoverAt, LatchAt, ConnectionAt}
 

@@ -2,8 +2,7 @@
 use Rattle.std.specs.Prelude.{◌≡◌, ℕ, Bool, false, List, [], ◌∷◌, length, map, replicate, Option, Some, None, slice_get, slice_set, unwrap_or}
 use Rattle.std.specs.Option.{option_and_then}
 use Rattle.list_laws.specs.Members.{In}
-use Rattle.blif_read.specs.CoverValue.{CoverValue, cover_value}
-use Rattle.blif_read.specs.LibraryValue.{ModelValue, LibraryValue}
+use Rattle.blif_flat.specs.Words.{CoverValue, cover_value, ModelValue, LibraryValue}
 use Rattle.blif_flat.specs.declared.flat.Net.{Net as FlatNet}
 use Rattle.blif_flat.specs.declared.flat.Net.TheVariants.{Input, Latch, Cover}
 use Rattle.blif_flat.specs.FlatCoverValue.{FlatCoverValue}

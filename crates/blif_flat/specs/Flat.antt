@@ -1,8 +1,6 @@
 -- What the fields of a flat circuit are, over the hierarchical names of its library.
 use Rattle.std.specs.Prelude.{◌≡◌, ℕ, ◌+◌, ◌==◌, Bool, true, false, not, if◌then◌else◌, List, [], ◌∷◌, ◌++◌, filter, map, max, length, reverse, Option, Some, None, is_some, slice_get}
-use Rattle.blif_read.specs.declared.latch.Latch.{Latch as LatchValue}
-use Rattle.blif_read.specs.CoverValue.{CoverValue}
-use Rattle.blif_read.specs.LibraryValue.{ModelValue, LibraryValue}
+use Rattle.blif_flat.specs.Words.{LatchValue, CoverValue, ModelValue, LibraryValue}
 use Rattle.blif_flat.specs.declared.flat.Net.{Net as FlatNet}
 use Rattle.blif_flat.specs.declared.flat.Net.TheVariants.{Input, Latch, Cover}
 use Rattle.blif_flat.specs.declared.flat.OutPort.{OutPort}
@@ -13,7 +11,7 @@ use Rattle.blif_flat.specs.Models.{Path, model_at, has_name}
 use Rattle.blif_flat.specs.Instances.{CoverAt, LatchAt}
 use Rattle.blif_flat.specs.Nets.{Net, input_net, latch_net, cover_net, Drives, IsClock}
 use Rattle.blif_flat.specs.Places.{Place, is_cover, is_latch, FlatOrder}
-use Rattle.blif_flat.specs.DepthFirst.{PostsAll}
+use Rattle.depth_first.specs.DepthFirst.{PostsAll}
 
 -- the drivers by whose places the nets are numbered
 pub record Places : Type 0 where

@@ -1,12 +1,7 @@
 -- The covers, latches and connections of the instances, and the main model's inputs.
 use Rattle.std.specs.Prelude.{◌≡◌, ℕ, List, [], Some, slice_get, IsTrue}
 use Rattle.list_laws.specs.Members.{In}
-use Rattle.blif_read.specs.declared.command.Body.TheVariants.{Cover, Latch}
-use Rattle.blif_read.specs.declared.latch.Latch.{Latch as LatchValue}
-use Rattle.blif_read.specs.declared.subckt.Pair.{Pair}
-use Rattle.blif_read.specs.CoverValue.{CoverValue}
-use Rattle.blif_read.specs.SubcktValue.{SubcktValue}
-use Rattle.blif_read.specs.LibraryValue.{ModelValue, LibraryValue}
+use Rattle.blif_flat.specs.Words.{Cover, Latch, LatchValue, Pair, CoverValue, SubcktValue, ModelValue, LibraryValue}
 use Rattle.blif_flat.specs.Models.{Path, body_at, subckts_of, model_named, model_at, is_input}
 
 -- an instance has this cover as its command i

@@ -1,6 +1,6 @@
 -- The law of the cycle relation: for all values of inputs and latches a fitting map exists, and any two agree on every driven name.
 use Rattle.std.specs.Prelude.{◌≡◌, ℕ, Bool, List}
-use Rattle.blif_read.specs.LibraryValue.{LibraryValue}
+use Rattle.blif_flat.specs.Words.{LibraryValue}
 use Rattle.blif_flat.specs.Models.{Path}
 use Rattle.blif_flat.specs.Nets.{Net, Drives}
 use Rattle.blif_flat.specs.Cycle.{Fits}

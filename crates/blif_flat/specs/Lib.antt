@@ -1,4 +1,5 @@
 -- What public clauses say.
+pub mod Words
 pub mod Refusals
 pub mod Models
 pub mod Instances
@@ -25,5 +26,6 @@ pub mod Evaluation
 pub mod Flattened
 pub mod FlatCycle
 pub mod Bounds
+pub mod Circuits
 -- What only bodies are compared with.
 pub mod Steps

@@ -1,8 +1,7 @@
 -- F10: a cover whose value depends on itself through covers. The covers are walked depth first and left to right from the outputs, the latch inputs, and then all covers
 -- in flat order; the first cover that is met again on the current path closes the loop, which is told from it on.
 use Rattle.std.specs.Prelude.{◌≡◌, ℕ, if◌then◌else◌, List, [], ◌∷◌, ◌++◌, Option, Some, None}
-use Rattle.blif_read.specs.declared.latch.Latch.{Latch as LatchValue}
-use Rattle.blif_read.specs.LibraryValue.{ModelValue, LibraryValue}
+use Rattle.blif_flat.specs.Words.{LatchValue, ModelValue, LibraryValue}
 use Rattle.blif_flat.specs.declared.flat_err.FlatErr.{FlatErr}
 use Rattle.blif_flat.specs.declared.flat_err.FlatErr.TheVariants.{Loop}
 use Rattle.blif_flat.specs.Models.{Path, model_at}

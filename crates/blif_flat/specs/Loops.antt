@@ -1,8 +1,7 @@
 -- Which cover reads which, and which depends on which.
 use Rattle.std.specs.Prelude.{◌≡◌, ℕ, List, [], ◌∷◌, Option, Some, None}
 use Rattle.list_laws.specs.Members.{In}
-use Rattle.blif_read.specs.CoverValue.{CoverValue}
-use Rattle.blif_read.specs.LibraryValue.{LibraryValue}
+use Rattle.blif_flat.specs.Words.{CoverValue, LibraryValue}
 use Rattle.blif_flat.specs.Models.{Path}
 use Rattle.blif_flat.specs.Instances.{CoverAt}
 use Rattle.blif_flat.specs.Nets.{Net, input_net, latch_net, cover_net, Drives}

@@ -2,11 +2,7 @@
 use Rattle.std.specs.Prelude.{ℕ, Bool, not, ◌&&◌, ◌||◌, if◌then◌else◌, List, [], ◌∷◌, ◌++◌, filter, Option, Some, None, slice_get, bytes_eq}
 use Rattle.std.specs.Option.{option_map, option_and_then}
 use Rattle.std.specs.List.{list_any}
-use Rattle.blif_read.specs.declared.command.Body.{Body}
-use Rattle.blif_read.specs.declared.command.Body.TheVariants.{Cover, Latch, Subckt}
-use Rattle.blif_read.specs.declared.command.Command.{Command}
-use Rattle.blif_read.specs.SubcktValue.{SubcktValue}
-use Rattle.blif_read.specs.LibraryValue.{ModelValue, LibraryValue}
+use Rattle.blif_flat.specs.Words.{Body, Cover, Latch, Subckt, Command, SubcktValue, ModelValue, LibraryValue}
 
 -- An instance: the ordinals of the `.subckt` lines that lead to it from the main model, each counted from 0 in its model, the innermost first.
 abbrev pub Path : Type 0

@@ -1,9 +1,6 @@
 -- Nets: a connected formal and its actual are one net, and a net is named by what drives it.
 use Rattle.std.specs.Prelude.{◌≡◌, ℕ, List, [], ◌∷◌, Some, IsTrue}
-use Rattle.blif_read.specs.declared.latch.Latch.{Latch as LatchValue}
-use Rattle.blif_read.specs.declared.subckt.Pair.{Pair}
-use Rattle.blif_read.specs.CoverValue.{CoverValue}
-use Rattle.blif_read.specs.LibraryValue.{ModelValue, LibraryValue}
+use Rattle.blif_flat.specs.Words.{LatchValue, Pair, CoverValue, ModelValue, LibraryValue}
 use Rattle.blif_flat.specs.Models.{Path, model_at, has_name, is_input, is_output}
 use Rattle.blif_flat.specs.Instances.{CoverAt, LatchAt, ConnectionAt, IsMainInput}
 

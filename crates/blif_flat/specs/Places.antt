@@ -1,13 +1,7 @@
 -- The places of covers and latches: the instance, and the place among its model's commands; and flat order.
 use Rattle.std.specs.Prelude.{◌≡◌, ℕ, suc, Bool, true, false, ◌&&◌, ◌==◌, if◌then◌else◌, List, [], ◌∷◌, ◌++◌, Option, Some, None, bytes_eq}
 use Rattle.std.specs.Option.{option_and_then}
-use Rattle.blif_read.specs.declared.command.Body.{Body}
-use Rattle.blif_read.specs.declared.command.Body.TheVariants.{Cover, Latch, Subckt}
-use Rattle.blif_read.specs.declared.command.Command.{Command}
-use Rattle.blif_read.specs.declared.latch.Latch.{Latch as LatchValue}
-use Rattle.blif_read.specs.CoverValue.{CoverValue}
-use Rattle.blif_read.specs.SubcktValue.{SubcktValue}
-use Rattle.blif_read.specs.LibraryValue.{ModelValue, LibraryValue}
+use Rattle.blif_flat.specs.Words.{Body, Cover, Latch, Subckt, Command, LatchValue, CoverValue, SubcktValue, ModelValue, LibraryValue}
 use Rattle.blif_flat.specs.Models.{Path, body_at, subckts_of, model_named, model_at}
 
 pub record Place : Type 0 where

@@ -1,7 +1,6 @@
 -- The clock cycle of the source circuit, and its run over several clock cycles.
 use Rattle.std.specs.Prelude.{◌≡◌, ℕ, Bool, false, if◌then◌else◌, List, [], ◌∷◌, length, map, Option, Some, None}
-use Rattle.blif_read.specs.declared.latch.Latch.{Latch as LatchValue}
-use Rattle.blif_read.specs.LibraryValue.{ModelValue, LibraryValue}
+use Rattle.blif_flat.specs.Words.{LatchValue, ModelValue, LibraryValue}
 use Rattle.blif_flat.specs.Models.{Path, model_at}
 use Rattle.blif_flat.specs.Cycle.{Fits}
 use Rattle.blif_flat.specs.Places.{Place, same_place, latch_at, is_latch, FlatOrder}

@@ -1,9 +1,7 @@
 -- Sound libraries: well formed, and none of F1 to F10 stands.
 use Rattle.std.specs.Prelude.{◌≡◌, ℕ, List, [], Some}
 use Rattle.list_laws.specs.Members.{In}
-use Rattle.blif_read.specs.declared.latch.Latch.{Latch as LatchValue}
-use Rattle.blif_read.specs.CoverValue.{CoverValue}
-use Rattle.blif_read.specs.LibraryValue.{ModelValue, LibraryValue}
+use Rattle.blif_flat.specs.Words.{LatchValue, CoverValue, ModelValue, LibraryValue}
 use Rattle.blif_read.specs.WellFormed.{IsWellFormed}
 use Rattle.blif_flat.specs.Models.{Path, model_at}
 use Rattle.blif_flat.specs.Instances.{CoverAt, LatchAt}

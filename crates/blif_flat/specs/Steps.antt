@@ -7,7 +7,7 @@ pub mod Weighing
 pub mod DriverSteps
 pub mod Line
 pub mod NumberedModels
-pub mod Stack
+pub mod ModelGraph
 pub mod CoverWalk
 pub mod InstanceRows
 pub mod RowPaths
@@ -21,7 +21,6 @@ pub mod RegularNets
 pub mod Checked
 pub mod Ordering
 pub mod Stages
-pub mod Ending
 pub mod GateRows
 pub mod NetStarts
 pub mod NetSteps

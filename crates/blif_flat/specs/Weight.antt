@@ -1,10 +1,6 @@
 -- The weight of a model: what it holds, and the weights of the models that it places.
 use Rattle.std.specs.Prelude.{◌≡◌, ℕ, ◌+◌, ◌≤◌, List, [], ◌∷◌, length, Option, Some, None}
-use Rattle.blif_read.specs.declared.command.Body.{Body}
-use Rattle.blif_read.specs.declared.command.Body.TheVariants.{Cover, Latch, Subckt}
-use Rattle.blif_read.specs.declared.command.Command.{Command}
-use Rattle.blif_read.specs.SubcktValue.{SubcktValue}
-use Rattle.blif_read.specs.LibraryValue.{ModelValue, LibraryValue}
+use Rattle.blif_flat.specs.Words.{Body, Cover, Latch, Subckt, Command, SubcktValue, ModelValue, LibraryValue}
 use Rattle.blif_flat.specs.Models.{subckts_of, model_named, model_at}
 
 abbrev pub control_weight : Option (List ℕ) → ℕ

@@ -61,7 +61,7 @@ fn main_ports(ports: &[Ports]) -> &Ports
 /// # Errors
 /// The first of the walk's F1 to F4, L2, the drivers' F5 and F6, the clocks' F8, F7 and F9, and F10; `Memory` where there is
 /// none. The order and the details are those of `specs/Faults.antt`.
-#[tactic(auto, using(crate::proofs::LawLemmas::sound_law, crate::proofs::FaultOnceLemmas::one_fault, crate::proofs::ExcludedLemmas::no_fault, crate::proofs::OneFlatLemmas::one_flat))]
+#[tactic(auto, using(crate::proofs::Values::LawLemmas::sound_law, crate::proofs::Faults::FaultOnceLemmas::one_fault, crate::proofs::Faults::FaultOnceLemmas::no_fault, crate::proofs::Fields::OneFlatLemmas::one_flat))]
 pub fn flatten(alloc: Global, library: &Library) -> Result<Flat, FlatErr>
     requires formed { IsWellFormed library.now }
     requires few { length library.now.models < 2 ^ 32 }

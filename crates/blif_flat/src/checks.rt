@@ -17,8 +17,8 @@ use blif_read::Library;
 use std::alloc::Global;
 
 /// Walks the models from the main one, weighs the main model, and looks at the drivers of the walked models. The index and
-/// the ports are those of the library. It takes time linear in the number of all models and in the bytes of the walked ones
-/// with the ports that they place, on average over the hashes.
+/// the ports are those of the library. It takes time linear in the bytes of all models and in those of the walked ones with
+/// the ports that they place, on average over the hashes.
 ///
 /// # Errors
 /// The first of F1 to F4 in the walk, then L2, then the first of F5 and F6 in the order in which the walk begins the models;
@@ -36,6 +36,6 @@ pub(crate) fn check_models(
     ensures err { IfErr result (OrMemory refusal_of (IsFault library.now)) }
 {
     let walked = walk_models(alloc, library, index, ports)?;
-    check_weight(alloc, library, index, &walked.ended)?;
-    check_drivers(alloc, library, index, ports, &walked.begun)
+    check_weight(alloc, library, index, walked.order())?;
+    check_drivers(alloc, library, index, ports, walked.begun())
 }

@@ -7,7 +7,7 @@ ghost use Rattle.blif_flat.specs.Refusals.{refusal_of};
 ghost use Rattle.blif_flat.specs.Models.{Path, model_at, inputs_of};
 ghost use Rattle.blif_flat.specs.Drivers.{IsDriven, IsRead};
 ghost use Rattle.blif_flat.specs.Instances.{LatchAt};
-ghost use Rattle.blif_flat.specs.Nets.{latch_net, cover_net};
+ghost use Rattle.blif_flat.specs.Nets.{latch_net};
 ghost use Rattle.blif_flat.specs.Places.{Place, is_cover, is_latch};
 ghost use Rattle.blif_flat.specs.Steps.InstanceRows.{AreInstances, paths_of};
 ghost use Rattle.blif_flat.specs.Steps.InstanceOrder.{places_at};
@@ -24,7 +24,7 @@ use crate::gate_body::{gate_at, gate_latch};
 use crate::gates::Gate;
 use crate::instances::Instance;
 use crate::nets::Nets;
-use crate::written::{write_cover, write_net};
+use crate::written::{write_net, written_cover};
 use blif_read::Library;
 use std::alloc::{AllocError, Global};
 use tl_text::Name;
@@ -47,23 +47,6 @@ fn write_latch(
         None => Name::make(alloc, b""),
         Some(latch) => write_net(alloc, rows, gate.row, &latch.output),
     }
-}
-
-// The net of a cover as it is written.
-fn write_gate_cover(
-    alloc: Global,
-    library: &Library,
-    rows: &[Instance],
-    covers: &[Gate],
-    k: u32,
-) -> Result<Name, AllocError>
-    requires rows { AreInstances library.now rows.now }
-    requires covers { AreGatesAt (paths_of rows.now) covers.now (places_at library.now is_cover (paths_of rows.now)) }
-    requires here { k < length covers.now }
-    ensures { IfOk result (λ text. (p : Place) → slice_get (places_at library.now is_cover (paths_of rows.now)) k ≡ Some p → IsWritten library.now (cover_net p.path p.command) text) }
-{
-    let gate = gate_at(covers, k);
-    write_cover(alloc, library, rows, gate.row, gate.command)
 }
 
 fn input_bytes(inputs: &[Name], i: u32) -> &[u8]
@@ -135,7 +118,7 @@ fn meet_control(
         Some(Net::Latch(k)) => Err(FlatErr::ClockNotInput(write_latch(
             alloc, library, rows, latches, k,
         )?)),
-        Some(Net::Cover(k)) => Err(FlatErr::ClockNotInput(write_gate_cover(
+        Some(Net::Cover(k)) => Err(FlatErr::ClockNotInput(written_cover(
             alloc, library, rows, covers, k,
         )?)),
     }

@@ -14,7 +14,7 @@
 //! `call.rt` has `flatten`, which is four steps, each with an exact contract. No walk recurses: each keeps its stack in memory.
 //!
 //! `checks.rt` tells the faults of models:
-//! - `walk.rt` walks the models depth first from the main one; `walk_state.rt` has its marks and its stack.
+//! - `model_graph.rt` has the models as a graph, and `walk.rt` walks it depth first from the main one.
 //! - `place_check.rt` checks a line that places a model, and `line_check.rt` its connections.
 //! - `weight.rt` weighs the main model.
 //! - `drivers.rt` finds names that are driven twice or not at all, and `driven.rt` has those that are.
@@ -59,6 +59,7 @@ mod gates;
 mod instances;
 mod line_check;
 mod loops;
+mod model_graph;
 mod model_index;
 mod name_set;
 mod net_links;
@@ -71,7 +72,6 @@ mod ports;
 mod regular_nets;
 mod subckt_lines;
 mod walk;
-mod walk_state;
 mod weight;
 mod written;
 

@@ -13,17 +13,17 @@ ghost use Rattle.blif_flat.specs.Steps.InstanceOrder.{places_at};
 ghost use Rattle.blif_flat.specs.Steps.Gates.{AreGatesAt};
 ghost use Rattle.blif_flat.specs.Flat.{cover_numbers};
 ghost use Rattle.blif_flat.specs.Steps.CoverWalk.{cover_reads};
-ghost use Rattle.blif_flat.specs.DepthFirst.{PostsAll};
+ghost use Rattle.depth_first.specs.DepthFirst.{PostsAll};
 ghost use Rattle.blif_flat.specs.LoopFault.{LoopWalk, IsLoop};
 ghost use Rattle.blif_flat.specs.Steps.Ordering.{AreCounted, latch_nets, root_numbers};
-ghost use Rattle.blif_flat.specs.Steps.LoopSteps.{IsWrittenAt, AreWrittenAt};
+ghost use Rattle.blif_flat.specs.Steps.LoopSteps.{AreWrittenAt};
 
 use crate::cover_walk::{Found, walk_covers};
 use crate::flat::{FlatCover, FlatLatch, Net, OutPort};
 use crate::flat_err::FlatErr;
 use crate::gates::Gate;
 use crate::instances::Instance;
-use crate::written::write_cover;
+use crate::written::written_cover;
 use blif_read::Library;
 use std::alloc::{AllocError, Global};
 use tl_fault::{Name, Names};
@@ -66,24 +66,6 @@ fn all_roots(
         add_cover(&mut roots, latch.input)?;
     }
     Ok(roots)
-}
-
-// The net of the cover of this number, as it is written.
-fn written_cover(
-    alloc: Global,
-    library: &Library,
-    rows: &[Instance],
-    gates: &[Gate],
-    number: u32,
-) -> Result<Name, AllocError>
-    requires rows { AreInstances library.now rows.now }
-    requires gates { AreGatesAt (paths_of rows.now) gates.now (places_at library.now is_cover (paths_of rows.now)) }
-    requires here { number < length gates.now }
-    ensures { IfOk result (λ text. IsWrittenAt library.now (places_at library.now is_cover (paths_of rows.now)) number text) }
-{
-    let gate = gates[number as usize];
-    let text = write_cover(alloc, library, rows, gate.row, gate.command)?;
-    Ok(text)
 }
 
 // The nets of several covers, as they are written.

@@ -1,88 +1,65 @@
 //! The first fault of a `.subckt` line in the walk.
-ghost use Rattle.std.specs.Prelude.{◌≡◌, ◌<◌, ◌∷◌, ◌++◌, [], length, map, reverse, slice_get, Some, None, IfOk, OnOk, IfErr};
+ghost use Rattle.std.specs.Prelude.{◌≡◌, ◌<◌, ◌∷◌, ◌++◌, [], length, map, slice_get, Some, None, IfOk, OnOk, IfErr};
+ghost use Rattle.depth_first.specs.Walk.{from_node};
+ghost use Rattle.blif_read.specs.Once.{AreOnce};
 ghost use Rattle.blif_read.specs.LibraryValue.{ModelValue};
 ghost use Rattle.blif_flat.specs.declared.flat_err.FlatErr.TheVariants.{RecursiveModel as recursive_model_of};
 ghost use Rattle.blif_flat.specs.Steps.Answers.{IsTold};
 ghost use Rattle.blif_flat.specs.Steps.NameSets.{ports_value, model_names};
-ghost use Rattle.blif_flat.specs.Steps.Line.{add_chain, ports_fault};
-ghost use Rattle.blif_flat.specs.Steps.Stack.{chain_of, chain_step, chain_names as chain_names_of, IsWalk, IsPlacing};
-ghost use Rattle.blif_flat.specs.Walk.{chain_from, line_fault};
+ghost use Rattle.blif_flat.specs.Steps.Line.{ports_fault};
+ghost use Rattle.blif_flat.specs.Steps.ModelGraph.{with_name_of, names_at, IsPlacing};
+ghost use Rattle.blif_flat.specs.Walk.{line_fault};
 
 use crate::flat_err::FlatErr;
 use crate::line_check::{check_ports, copied, unknown_model};
 use crate::model_index::ModelIndex;
 use crate::ports::Ports;
-use crate::walk_state::{Frame, WalkState};
 use blif_read::{BlifModel, Subckt};
+use depth_first::Walk;
 use std::alloc::{AllocError, Global};
 use tl_fault::{Name, Names};
 
-// A chain with one more model, or that model alone, where it has the name.
-fn with_link(
-    alloc: Global,
-    chain: Vec<Name>,
-    model: &Name,
-    name: &Name,
-) -> Result<Vec<Name>, AllocError>
-    ensures { IfOk result (λ longer. longer.items ≡ add_chain name.now chain.items model.now) }
-{
-    let link = copied(alloc, model)?;
-    if name.bytes() == model.bytes() {
-        let mut alone: Vec<Name> = Vec::new(alloc);
-        alone.push(link)?;
-        return Ok(alone);
-    }
-    let mut longer = chain;
-    longer.push(link)?;
-    Ok(longer)
-}
-
-// A chain with the model of one more frame.
-fn with_frame(
+// Adds the name of the model of a number.
+fn add_name(
     alloc: Global,
     models: &[BlifModel],
-    chain: Vec<Name>,
-    frame: Frame,
-    name: &Name,
-) -> Result<Vec<Name>, AllocError>
-    ensures { IfOk result (λ longer. longer.items ≡ chain_step name.now chain.items (slice_get models.now frame.model)) }
+    number: u32,
+    names: &mut Vec<Name>,
+) -> Result<(), AllocError>
+    ensures { OnOk result (names.new.items ≡ with_name_of names.old.items (slice_get models.now number)) }
 {
-    match models.get(frame.model as usize) {
-        None => Ok(chain),
+    match models.get(number as usize) {
+        None => Ok(()),
         Some(model) => {
-            let longer = with_link(alloc, chain, &model.name, name)?;
-            Ok(longer)
+            names.push(copied(alloc, &model.name)?)?;
+            Ok(())
         }
     }
 }
 
-// The chain from a name on.
-fn chain_names(
-    alloc: Global,
-    models: &[BlifModel],
-    frames: &[Frame],
-    name: &Name,
-) -> Result<Vec<Name>, AllocError>
-    ensures { IfOk result (λ chain. chain.items ≡ chain_names_of models.now name.now [] frames.now) }
+// The names of the models of several numbers.
+fn names_of(alloc: Global, models: &[BlifModel], numbers: &[u32]) -> Result<Vec<Name>, AllocError>
+    ensures { IfOk result (λ names. names.items ≡ names_at models.now numbers.now) }
 {
-    let mut chain: Vec<Name> = Vec::new(alloc);
-    for &frame in frames {
-        chain = with_frame(alloc, models, chain, frame, name)?;
+    let mut names: Vec<Name> = Vec::new(alloc);
+    for &number in numbers {
+        add_name(alloc, models, number, &mut names)?;
     }
-    Ok(chain)
+    Ok(names)
 }
 
-// F2 of a line.
+// F2 of a line that places the model of a number.
 fn recursive_model(
     alloc: Global,
     models: &[BlifModel],
-    walk: &WalkState,
+    walk: &Walk,
+    n: u32,
     name: &Name,
 ) -> Result<FlatErr, AllocError>
-    ensures { IfOk result (λ e. e ≡ recursive_model_of (chain_from name.now (chain_of models.now walk.now.frames) ++ name.now ∷ [])) }
+    ensures { IfOk result (λ e. e ≡ recursive_model_of (names_at models.now (from_node n walk.now.path) ++ name.now ∷ [])) }
 {
-    let frames = walk.frames();
-    let mut chain = chain_names(alloc, models, frames, name)?;
+    let nodes = walk.path_from(alloc, n)?;
+    let mut chain = names_of(alloc, models, &nodes)?;
     chain.push(copied(alloc, name)?)?;
     Ok(FlatErr::RecursiveModel(Names::make(chain)))
 }
@@ -107,28 +84,29 @@ fn check_child(
     check_ports(alloc, model, line, subckt, child, child_ports)
 }
 
-/// The number of the model that a line places, or the line's first fault of F1 to F4.
+/// The number of the model that a line places, or the line's first fault of F1 to F4, where the models of the walk's path
+/// are being walked.
 pub(crate) fn check_line(
     alloc: Global,
     models: &[BlifModel],
     index: &ModelIndex,
     ports: &[Ports],
-    walk: &WalkState,
+    walk: &Walk,
     model: &BlifModel,
     line: u32,
     subckt: &Subckt,
 ) -> Result<u32, FlatErr>
     requires index { index.now.names ≡ model_names models.now }
     requires ports { ports.now ≡ map ports_value models.now }
-    requires walk { IsWalk models.now walk.now }
-    ensures ok { IfOk result (λ n. IsPlacing models.now walk.now model.now (record { line = line; subckt = subckt.now }) n) }
-    ensures err { IfErr result (λ e. IsTold e (line_fault (record { models = models.now }) (chain_of models.now walk.now.frames) model.now (record { line = line; subckt = subckt.now }))) }
+    requires names { AreOnce (model_names models.now) }
+    ensures ok { IfOk result (λ n. IsPlacing models.now walk.now.path model.now (record { line = line; subckt = subckt.now }) n) }
+    ensures err { IfErr result (λ e. IsTold e (line_fault (record { models = models.now }) (names_at models.now walk.now.path) model.now (record { line = line; subckt = subckt.now }))) }
 {
     match index.find(subckt.model.bytes()) {
         None => Err(unknown_model(alloc, &model.name, line, &subckt.model)?),
         Some(n) => {
-            if walk.is_on_chain(n) {
-                return Err(recursive_model(alloc, models, walk, &subckt.model)?);
+            if walk.is_on_path(n) {
+                return Err(recursive_model(alloc, models, walk, n, &subckt.model)?);
             }
             check_child(alloc, models, ports, n, model, line, subckt)?;
             Ok(n)

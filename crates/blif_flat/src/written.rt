@@ -2,15 +2,19 @@
 //! the driver.
 ghost use Rattle.std.specs.Prelude.{◌≡◌, ◌<◌, ◌∷◌, ◌++◌, [], length, decimal, Some, slice_get, IfOk, OnOk};
 ghost use Rattle.blif_flat.specs.Models.{Path, body_at};
-ghost use Rattle.blif_flat.specs.Places.{cover_in};
+ghost use Rattle.blif_flat.specs.Places.{cover_in, is_cover};
 ghost use Rattle.blif_flat.specs.Instances.{CoverAt};
 ghost use Rattle.blif_flat.specs.Nets.{cover_net};
 ghost use Rattle.blif_read.specs.CoverValue.{CoverValue};
 ghost use Rattle.std.specs.Option.{option_and_then};
 ghost use Rattle.blif_flat.specs.Written.{path_text, IsWritten};
 ghost use Rattle.blif_flat.specs.Steps.InstanceRows.{paths_of, AreInstances};
+ghost use Rattle.blif_flat.specs.Steps.InstanceOrder.{places_at};
+ghost use Rattle.blif_flat.specs.Steps.Gates.{AreGatesAt};
+ghost use Rattle.blif_flat.specs.Steps.LoopSteps.{IsWrittenAt};
 ghost use Rattle.blif_flat.specs.Steps.RowPaths.{AreUnder, output_or, output_at as output_at_of};
 
+use crate::gates::Gate;
 use crate::instances::Instance;
 use blif_read::{BlifModel, Body, Library};
 use itoa::Buffer;
@@ -113,9 +117,8 @@ fn output_at(library: &Library, model: u32, command: u32) -> &[u8]
     }
 }
 
-/// The net of the cover that is this command of the instance of this row, as it is written. `Err` comes only for want of
-/// memory. It takes time linear in the bytes of the text.
-pub(crate) fn write_cover(
+// The net of the cover that is this command of the instance of this row, as it is written.
+fn write_cover(
     alloc: Global,
     library: &Library,
     rows: &[Instance],
@@ -129,5 +132,24 @@ pub(crate) fn write_cover(
 {
     let model = row_at(rows, i).model;
     let text = written_under(alloc, rows, i, output_at(library, model, command))?;
+    Ok(text)
+}
+
+/// The net of the cover of this number, as it is written. The gates are those of the covers. `Err` comes only for want of
+/// memory. It takes time linear in the bytes of the text.
+pub(crate) fn written_cover(
+    alloc: Global,
+    library: &Library,
+    rows: &[Instance],
+    gates: &[Gate],
+    number: u32,
+) -> Result<Name, AllocError>
+    requires rows { AreInstances library.now rows.now }
+    requires gates { AreGatesAt (paths_of rows.now) gates.now (places_at library.now is_cover (paths_of rows.now)) }
+    requires here { number < length gates.now }
+    ensures { IfOk result (λ text. IsWrittenAt library.now (places_at library.now is_cover (paths_of rows.now)) number text) }
+{
+    let gate = gates[number as usize];
+    let text = write_cover(alloc, library, rows, gate.row, gate.command)?;
     Ok(text)
 }

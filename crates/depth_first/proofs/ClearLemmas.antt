@@ -1,4 +1,4 @@
--- The marks once the nodes that are done and those on the path are forgotten.
+-- The marks once the nodes that were entered are forgotten.
 use Rattle.std.proofs.Common.{◌≡◌, ℕ, ◌<◌, List, [], ◌∷◌, length, Some, refl, sym, ap, ◌∙◌, subst, inl, inr, ◌⊎◌}
 use Rattle.std.specs.Prelude.{slice_get, slice_set}
 use Rattle.std.proofs.lemmas.Option.{none-some, same_Some, slice_get_within}
@@ -8,10 +8,10 @@ use Rattle.depth_first.specs.declared.frames.Mark.{Mark}
 use Rattle.depth_first.specs.declared.frames.Mark.TheVariants.{New, OnPath, Done}
 use Rattle.depth_first.specs.Walk.{WalkValue}
 use Rattle.depth_first.specs.Steps.{seen}
-use Rattle.depth_first.specs.Frames.{FramesValue, path_of, first_of, others_of, forgotten, AreForgettable, AreMarks}
+use Rattle.depth_first.specs.Frames.{FramesValue, path_of, first_of, others_of, without_begun, renewed, forgotten, AreForgettable, AreMarks}
 
 abbrev pub with_count : ℕ → WalkValue
-with_count n = record { count = n; order = []; path = [] }
+with_count n = record { count = n; begun = []; order = []; path = [] }
 
 pub forgotten-length : (marks : List Mark) (ns : List ℕ) → length (forgotten marks ns) ≡ length marks
 forgotten-length marks [] = refl
@@ -35,53 +35,48 @@ forgotten-get marks (n ∷ ns) k m g = elim (forgotten-get (slice_set marks n Ne
 ]
 
 -- marks that are all new
-all_new : (marks : List Mark) → ((k : ℕ) (m : Mark) → slice_get marks k ≡ Some m → m ≡ New) → AreMarks marks [] []
+all_new : (marks : List Mark) → ((k : ℕ) (m : Mark) → slice_get marks k ≡ Some m → m ≡ New) → AreMarks marks [] [] []
 all_new marks h = record {
   below = λ n i. absurd i;
   inside = λ n i. absurd i;
   once = tt;
+  entered = λ n i. absurd i;
+  walked = λ n i. elim i [ inl j ↦ j | inr j ↦ j ];
   apart = λ n i j. i;
   fresh = λ n e. (λ i. i, λ i. i);
   on = λ n e. absurd (let z : OnPath ≡ New = h n OnPath e in cc);
   off = λ n e. absurd (let z : Done ≡ New = h n Done e in cc);
 }
 
-old_new : (marks : List Mark) (order path : List ℕ) → AreMarks marks order path → (k : ℕ) (m : Mark) → slice_get marks k ≡ Some m → (In order k → ⊥) → (In path k → ⊥) → m ≡ New
-old_new marks order path fit k New g a b = refl
-old_new marks order path fit k OnPath g a b = absurd (b (fit.on k g))
-old_new marks order path fit k Done g a b = absurd (a (fit.off k g))
+old_new : (marks : List Mark) (begun order path : List ℕ) → AreMarks marks begun order path → (k : ℕ) (m : Mark) → slice_get marks k ≡ Some m → (In begun k → ⊥) → m ≡ New
+old_new marks begun order path fit k New g o = refl
+old_new marks begun order path fit k OnPath g o = absurd (o (fit.walked k (inl (fit.on k g))))
+old_new marks begun order path fit k Done g o = absurd (o (fit.walked k (inr (fit.off k g))))
 
-pub marks_cleared : (marks : List Mark) (order path : List ℕ) → AreMarks marks order path → AreMarks (forgotten (forgotten marks order) path) [] []
-marks_cleared marks order path fit = all_new (forgotten (forgotten marks order) path) (λ k m g. elim (forgotten-get (forgotten marks order) path k m g) [
-  | inl e ↦ e
-  | inr p ↦ (elim (forgotten-get marks order k m p.1) [ inl e ↦ e | inr q ↦ old_new marks order path fit k m q.1 q.0 p.0 ])
-])
+marks_cleared : (marks : List Mark) (begun order path : List ℕ) → AreMarks marks begun order path → AreMarks (forgotten marks begun) [] [] []
+marks_cleared marks begun order path fit = all_new (forgotten marks begun) (λ k m g. elim (forgotten-get marks begun k m g) [ inl e ↦ e | inr p ↦ old_new marks begun order path fit k m p.1 p.0 ])
 
 -- one more mark is forgotten
-pub clear_step : (marks : List Mark) (nodes : List ℕ) (later : List Mark) (left rest : List ℕ) (n : ℕ) → left ≡ n ∷ rest → AreForgettable marks nodes later left → AreForgettable marks nodes (slice_set later n New) rest
-clear_step marks nodes later left rest n e f = record {
-  same = subst (λ x. forgotten later x ≡ forgotten marks nodes) e f.same;
-  within = λ k i. subst (λ j. k < j) (sym (set_length later n New)) (f.within k (subst (λ x. In x k) (sym e) (inr i)));
-}
-
-pub first_within : (marks : List Mark) (nodes : List ℕ) (later : List Mark) (left rest : List ℕ) (n : ℕ) → left ≡ n ∷ rest → AreForgettable marks nodes later left → n < length later
-first_within marks nodes later left rest n e f = f.within n (subst (λ x. In x n) (sym e) (inl refl))
-
 pub first_others : {A : Type 0} (xs : List A) (x : A) → first_of xs ≡ Some x → xs ≡ x ∷ others_of xs
 first_others [] x e = absurd (none-some x e)
 first_others (y ∷ ys) x e = ap (λ z. z ∷ ys) (same_Some y x e)
 
-abbrev path_forgotten : FramesValue → FramesValue
-path_forgotten w = record { marks = forgotten w.marks (path_of w.stack); order = w.order; stack = [] }
+module _ (w v : FramesValue) (n : ℕ) (first : first_of v.begun ≡ Some n) (f : AreForgettable w v) where
+  pub first_within : n < length v.marks
+  first_within = f.within n (subst (λ x. In x n) (sym (first_others v.begun n first)) (inl refl))
 
-abbrev order_forgotten : FramesValue → FramesValue
-order_forgotten w = record { marks = forgotten w.marks w.order; order = []; stack = w.stack }
+  pub forget_step : (u : FramesValue) → u ≡ renewed (without_begun v) n → AreForgettable w u
+  forget_step u e = subst (AreForgettable w) (sym e) (record {
+    same = subst (λ x. forgotten v.marks x ≡ forgotten w.marks w.begun) (first_others v.begun n first) f.same;
+    within = λ k i. subst (λ j. k < j) (sym (set_length v.marks n New)) (f.within k (subst (λ x. In x k) (sym (first_others v.begun n first)) (inr i)));
+  })
 
-pub both_forgotten : (w v u : FramesValue) → v ≡ order_forgotten w → u ≡ path_forgotten v → u ≡ path_forgotten (order_forgotten w)
-both_forgotten w v u e d = d ∙ ap path_forgotten e
+-- all are
+abbrev all_forgotten : FramesValue → FramesValue
+all_forgotten w = record { marks = forgotten w.marks w.begun; begun = []; order = []; stack = [] }
 
-pub cleared_fits : (w u : FramesValue) → AreMarks w.marks w.order (path_of w.stack) → u ≡ path_forgotten (order_forgotten w) → AreMarks u.marks u.order (path_of u.stack)
-cleared_fits w u fit e = subst (λ (v : FramesValue). AreMarks v.marks v.order (path_of v.stack)) (sym e) (marks_cleared w.marks w.order (path_of w.stack) fit)
+pub cleared_fits : (w u : FramesValue) → AreMarks w.marks w.begun w.order (path_of w.stack) → u ≡ all_forgotten w → AreMarks u.marks u.begun u.order (path_of u.stack)
+cleared_fits w u fit e = subst (λ (v : FramesValue). AreMarks v.marks v.begun v.order (path_of v.stack)) (sym e) (marks_cleared w.marks w.begun w.order (path_of w.stack) fit)
 
-pub cleared_seen : (w u : FramesValue) → u ≡ path_forgotten (order_forgotten w) → seen u ≡ record { count = length w.marks; order = []; path = [] }
-cleared_seen w u e = ap seen e ∙ ap with_count (forgotten-length (forgotten w.marks w.order) (path_of w.stack) ∙ forgotten-length w.marks w.order)
+pub cleared_seen : (w u : FramesValue) → u ≡ all_forgotten w → seen u ≡ with_count (length w.marks)
+cleared_seen w u e = ap seen e ∙ ap with_count (forgotten-length w.marks w.begun)

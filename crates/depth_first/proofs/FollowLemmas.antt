@@ -14,7 +14,7 @@ use Rattle.depth_first.specs.Edges.{ways_of, successors, AreNodes}
 use Rattle.depth_first.specs.Frames.{FramesValue, path_of, first_of, others_of, advanced, finished, AreKept}
 use Rattle.depth_first.specs.Steps.{IsEdgeWithin, Followed, passes, stops_at, enters, hits, skips_over, IsGoing, Stepped}
 use Rattle.depth_first.proofs.MarkLemmas.{marks_entered, marks_finished}
-use Rattle.depth_first.proofs.StepLemmas.{with_top, top_is, left_stop, meets_stop, meets_hit, one_more, end_step, pass_step, done_step, new_step}
+use Rattle.depth_first.proofs.StepLemmas.{with_top, top_is, left_stop, meets_stop, enters_stop, meets_hit, enters_hit, one_more, end_step, pass_step, done_step, new_step}
 
 -- an edge to a node leads to a successor
 more_in : {S : Type 0} (e : Edge S) (es : List (Edge S)) (m : ℕ) → In (nodes_of (ways_of es)) m → In (nodes_of (ways_of (e ∷ es))) m
@@ -51,18 +51,20 @@ module _ {S : Type 0} (edges : ℕ → List (Edge S)) (IsNode : ℕ → Type 0) 
   left_step e = subst (λ x. Stepped edges IsNode x (finished w f.node) None) (top_is w f top) (end_step edges IsNode w f going_top e)
 
   pub left_kept : AreKept w (finished w f.node)
-  left_kept = record { long = set_length w.marks f.node Done; fit = marks_finished w.marks w.order (path_of (others_of w.stack)) f.node going_top.marks }
+  left_kept = record { long = set_length w.marks f.node Done; fit = marks_finished w.marks w.begun w.order (path_of (others_of w.stack)) f.node going_top.marks }
 
   -- an edge that is followed
   module _ (edge : Edge S) (at : slice_get (edges f.node) f.place ≡ Some edge) where
     followed_top : (v : FramesValue) (found : Option (End S)) → Followed (advanced w f) edge v found → Stepped edges IsNode (with_top w f) v found
     followed_top v found (passes is q r) = subst₂ (Stepped edges IsNode (with_top w f)) (sym q) (sym r) (pass_step edges IsNode w f going_top edge at is)
     followed_top v found (stops_at s is q r) = subst₂ (Stepped edges IsNode (with_top w f)) (sym q) (sym r)
-        (record { meets = meets_stop edges f (others_of w.stack) s (left_stop edges f s (subst (λ x. slice_get (edges f.node) f.place ≡ Some x) is at)) })
+        (let e = left_stop edges f s (subst (λ x. slice_get (edges f.node) f.place ≡ Some x) is at) in
+        record { meets = meets_stop edges f (others_of w.stack) s e; enters = enters_stop edges f (others_of w.stack) w.begun s e })
     followed_top v found (enters m is z q r) = subst₂ (Stepped edges IsNode (with_top w f)) (sym q) (sym r)
         (new_step edges IsNode w f going_top edge at m is (successor_node m (subst (λ x. slice_get (edges f.node) f.place ≡ Some x) is at)) z)
     followed_top v found (hits m is z q r) = subst₂ (Stepped edges IsNode (with_top w f)) (sym q) (sym r)
-        (record { meets = meets_hit edges f (others_of w.stack) m (one_more edges IsNode w f going_top edge at m is) (going_top.marks.on m z) })
+        (let e = one_more edges IsNode w f going_top edge at m is in
+        record { meets = meets_hit edges f (others_of w.stack) m e (going_top.marks.on m z); enters = enters_hit edges f (others_of w.stack) m e w.begun (going_top.marks.on m z) })
     followed_top v found (skips_over m is z q r) = subst₂ (Stepped edges IsNode (with_top w f)) (sym q) (sym r)
         (done_step edges IsNode w f going_top edge at m is (going_top.marks.off m z))
 
@@ -78,4 +80,4 @@ module _ {S : Type 0} (edges : ℕ → List (Edge S)) (IsNode : ℕ → Type 0) 
   followed_kept edge v found (hits m is z q r) = subst (AreKept w) (sym q) advanced_kept
   followed_kept edge v found (skips_over m is z q r) = subst (AreKept w) (sym q) advanced_kept
   followed_kept edge v found (enters m is z q r) = subst (AreKept w) (sym q)
-      (record { long = set_length w.marks m OnPath; fit = marks_entered w.marks w.order (f.node ∷ path_of (others_of w.stack)) m going_top.marks z })
+      (record { long = set_length w.marks m OnPath; fit = marks_entered w.marks w.begun w.order (f.node ∷ path_of (others_of w.stack)) m going_top.marks z })

@@ -1,9 +1,11 @@
 -- The nodes of a stack.
-use Rattle.std.proofs.Common.{◌≡◌, ℕ, ◌+◌, ◌<◌, ◌≤◌, List, [], ◌∷◌, ◌++◌, length, take, get_or, reverse, refl, sym, ap, ◌∙◌, arith}
+use Rattle.std.proofs.Common.{◌≡◌, ℕ, ◌+◌, ◌<◌, ◌≤◌, eqb, eqb-true, eq-eqb, List, [], ◌∷◌, ◌++◌, length, take, reverse, get_or, refl, sym, ap, ◌∙◌, arith}
+use Rattle.std.proofs.lemmas.Bool.{false_from_ne_true}
 use Rattle.std.proofs.lemmas.List.{reverse-append, take_more}
 use Rattle.std.proofs.Math.Seq.{take-length}
 use Rattle.depth_first.specs.declared.frames.Frame.{Frame}
 use Rattle.depth_first.specs.Frames.{path_of}
+use Rattle.depth_first.specs.Walk.{from_node}
 
 pub path_of-append : (fs gs : List Frame) → path_of (fs ++ gs) ≡ path_of fs ++ path_of gs
 path_of-append [] gs = refl
@@ -22,3 +24,16 @@ pub path_all : (fs stack : List Frame) (i : ℕ) (ns : List ℕ) → i ≤ lengt
 path_all fs stack i ns a b e r =
     let q : i ≡ length fs = omega arith in
     ap reverse (e ∙ ap (λ k. path_of (take k fs)) q ∙ ap path_of (take-length fs)) ∙ sym (path_of-reverse fs) ∙ ap path_of r
+
+-- the same of the path from a node on
+module _ (fs : List Frame) (i : ℕ) (d : Frame) (n : ℕ) (l : i < length fs) where
+  from_more : from_node n (reverse (path_of (take (i + 1) fs))) ≡ from_node n ((get_or fs i d).node ∷ reverse (path_of (take i fs)))
+  from_more = ap (λ ns. from_node n (reverse ns)) (sym (path_more fs i d (path_of (take i fs)) l refl)) ∙ ap (from_node n) (reverse-append (path_of (take i fs)) ((get_or fs i d).node ∷ []))
+
+  pub from_here : (ns : List ℕ) → n ≡ (get_or fs i d).node → ns ≡ [] → ns ++ (get_or fs i d).node ∷ [] ≡ from_node n (reverse (path_of (take (i + 1) fs)))
+  from_here ns q e = let t = eq-eqb n (get_or fs i d).node q in ap (λ x. x ++ (get_or fs i d).node ∷ []) e ∙ sym (from_more ∙ rw t refl)
+
+  pub from_before : (ns : List ℕ) → (n ≡ (get_or fs i d).node → ⊥) → ns ≡ from_node n (reverse (path_of (take i fs))) → ns ++ (get_or fs i d).node ∷ [] ≡ from_node n (reverse (path_of (take (i + 1) fs)))
+  from_before ns o e =
+      let t = false_from_ne_true (eqb n (get_or fs i d).node) (λ y. o (eqb-true n (get_or fs i d).node y)) in
+      ap (λ x. x ++ (get_or fs i d).node ∷ []) e ∙ sym (from_more ∙ rw t refl)

@@ -21,7 +21,7 @@ module _ {N : Type 0} (next : N → List N) where
   node_done {n = n} (skips j q) = subst (λ l. In l n) (sym q) j
   node_done {n = n} (posts below new d q) = subst (λ l. In l n) (sym q) (inl refl)
 
-  nodes_done : {done ns result : List N} → PostsAll next done ns result → (m : N) → In ns m → In result m
+  pub nodes_done : {done ns result : List N} → PostsAll next done ns result → (m : N) → In ns m → In result m
   nodes_done (none a q) m i = absurd (subst (λ l. In l m) a i)
   nodes_done (more n rest below a p ps) m i = elim (subst (λ l. In l m) a i) [
     | inl e ↦ nodes_keep ps m (subst (In below) (sym e) (node_done p))
@@ -40,7 +40,7 @@ module _ {N : Type 0} (next : N → List N) where
       | inr j ↦ (elim (nodes_from d m j) [ inl old ↦ inl old | inr l ↦ inr (through l.start l.member l.reaches) ])
     ]
 
-    nodes_from : {done ns result : List N} → PostsAll next done ns result → (m : N) → In result m → In done m ⊎ IsReached next ns m
+    pub nodes_from : {done ns result : List N} → PostsAll next done ns result → (m : N) → In result m → In done m ⊎ IsReached next ns m
     nodes_from (none a q) m i = inl (subst (λ l. In l m) q i)
     nodes_from {done} {ns} (more n rest below a p ps) m i = elim (nodes_from ps m i) as (λ _. In done m ⊎ IsReached next ns m) [
       | inl j ↦ (elim (node_from p m j) [
@@ -51,7 +51,7 @@ module _ {N : Type 0} (next : N → List N) where
     ]
 
   -- in an order what a node reaches stands with it
-  step_stands : (order : List N) (n m : N) → IsAfter next order → In order n → In (next n) m → In order m
+  pub step_stands : (order : List N) (n m : N) → IsAfter next order → In order n → In (next n) m → In order m
   step_stands [] n m after i j = absurd i
   step_stands (k ∷ ks) n m after (inl e) j = inr (after.0 m (subst (λ x. In (next x) m) e j))
   step_stands (k ∷ ks) n m after (inr i) j = inr (step_stands ks n m (after.1).1 i j)

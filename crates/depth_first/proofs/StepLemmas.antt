@@ -8,25 +8,25 @@ use Rattle.depth_first.specs.declared.edge.Edge.{Edge}
 use Rattle.depth_first.specs.declared.edge.Edge.TheVariants.{Node, Stop, Pass}
 use Rattle.depth_first.specs.declared.frames.Frame.{Frame}
 use Rattle.depth_first.specs.declared.frames.Mark.TheVariants.{New, OnPath, Done}
-use Rattle.depth_first.specs.DepthFirst.{Way, leads, stops, Ending, repeats, halts, nodes_of, Meets, met, goes, MeetsAll, stop, first, later, skips, posts, PostsAll, more}
+use Rattle.depth_first.specs.DepthFirst.{Way, leads, stops, Ending, repeats, halts, nodes_of, Meets, met, goes, MeetsAll, stop, first, later, skips, posts, PostsAll, more, Outcome, ends_at, goes_through, Enters, ended, stopped_at, back, again, inside, onward as onward_to}
 use Rattle.depth_first.specs.Order.{LeadsInto}
 use Rattle.depth_first.specs.Edges.{ways_of, ways_from, successors}
 use Rattle.depth_first.specs.Frames.{FramesValue, path_of, first_of, others_of, entered, onward, advanced, finished}
-use Rattle.depth_first.specs.Steps.{left_of, frames_work, new_work, walk_work, MeetsLeft, PostsLeft, ArePassed, IsGoing, IsLater, Stepped}
+use Rattle.depth_first.specs.Steps.{left_of, frames_work, new_work, walk_work, MeetsLeft, PostsLeft, EntersLeft, ArePassed, IsGoing, IsLater, Stepped}
 use Rattle.depth_first.proofs.DepthLemmas.{done_meets, leads_more}
 use Rattle.depth_first.proofs.MarkLemmas.{marks_entered, marks_finished}
 use Rattle.depth_first.proofs.WorkLemmas.{enter_less, finish_less}
 
 -- the state with its first frame apart
 abbrev pub with_top : FramesValue → Frame → FramesValue
-with_top w f = record { marks = w.marks; order = w.order; stack = f ∷ others_of w.stack }
+with_top w f = record { marks = w.marks; begun = w.begun; order = w.order; stack = f ∷ others_of w.stack }
 
 top_first : (fs : List Frame) (f : Frame) → first_of fs ≡ Some f → f ∷ others_of fs ≡ fs
 top_first [] f e = absurd (none-some f e)
 top_first (g ∷ fs) f e = ap (λ h. h ∷ fs) (sym (same_Some g f e))
 
 abbrev with_stack : FramesValue → List Frame → FramesValue
-with_stack w s = record { marks = w.marks; order = w.order; stack = s }
+with_stack w s = record { marks = w.marks; begun = w.begun; order = w.order; stack = s }
 
 pub top_is : (w : FramesValue) (f : Frame) → first_of w.stack ≡ Some f → with_top w f ≡ w
 top_is w f e = ap (with_stack w) (top_first w.stack f e)
@@ -83,11 +83,23 @@ module _ {S : Type 0} (edges : ℕ → List (Edge S)) where
     posts_same : (done : List ℕ) → ways_of (left_of edges f) ≡ rest → (r : List ℕ) → PostsLeft edges done (onward f ∷ fs) r → PostsLeft edges done (f ∷ fs) r
     posts_same done e r p = (p.0, (subst (λ y. PostsAll (successors edges) done (nodes_of y) p.0) (sym e) (p.1).0, (p.1).1))
 
+    enters_same : (before : List ℕ) → ways_of (left_of edges f) ≡ rest → (r : Outcome ℕ S) → EntersLeft edges before (onward f ∷ fs) r → EntersLeft edges before (f ∷ fs) r
+    enters_same before e r h = elim h [
+      | inl p ↦ inl (p.0, (subst (λ y. Enters ways path before y (ends_at p.0)) (sym e) (p.1).0, (p.1).1))
+      | inr p ↦ inr (p.0, (subst (λ y. Enters ways path before y (goes_through p.0)) (sym e) (p.1).0, (p.1).1))
+    ]
+
+    enters_end : (before : List ℕ) → ways_of (left_of edges f) ≡ [] → (r : Outcome ℕ S) → EntersLeft edges before fs r → EntersLeft edges before (f ∷ fs) r
+    enters_end before e r h = inr (before, (ended e refl, h))
+
     meets_end : ways_of (left_of edges f) ≡ [] → (r : Option (Ending ℕ S)) → MeetsLeft edges fs r → MeetsLeft edges (f ∷ fs) r
     meets_end e r h = inr (MeetsAll.none e refl, h)
 
     posts_end : (done : List ℕ) → ways_of (left_of edges f) ≡ [] → (r : List ℕ) → PostsLeft edges (f.node ∷ done) fs r → PostsLeft edges done (f ∷ fs) r
     posts_end done e r p = (done, (PostsAll.none (ap nodes_of e) refl, p))
+
+    pub enters_stop : (before : List ℕ) (s : S) → ways_of (left_of edges f) ≡ stops s ∷ rest → EntersLeft edges before (f ∷ fs) (ends_at (halts s path))
+    enters_stop before s e = inl (halts s path, (stopped_at s rest e refl, refl))
 
     pub meets_stop : (s : S) → ways_of (left_of edges f) ≡ stops s ∷ rest → MeetsLeft edges (f ∷ fs) (Some (halts s path))
     meets_stop s e = inl (halts s path, (stop s rest e refl, refl))
@@ -104,6 +116,24 @@ module _ {S : Type 0} (edges : ℕ → List (Edge S)) where
 
       posts_skip : (done : List ℕ) → In done m → (r : List ℕ) → PostsLeft edges done (onward f ∷ fs) r → PostsLeft edges done (f ∷ fs) r
       posts_skip done i r p = (p.0, (more m (nodes_of rest) done nodes_more (skips i refl) (p.1).0, (p.1).1))
+
+      enters_again : (before : List ℕ) → (In path m → ⊥) → In before m → (r : Outcome ℕ S) → EntersLeft edges before (onward f ∷ fs) r → EntersLeft edges before (f ∷ fs) r
+      enters_again before off i r h = elim h [
+        | inl p ↦ inl (p.0, (again m rest e off i (p.1).0, (p.1).1))
+        | inr p ↦ inr (p.0, (again m rest e off i (p.1).0, (p.1).1))
+      ]
+
+      enters_new : (before : List ℕ) → (In path m → ⊥) → (In before m → ⊥) → (r : Outcome ℕ S) → EntersLeft edges (m ∷ before) (begin m ∷ onward f ∷ fs) r → EntersLeft edges before (f ∷ fs) r
+      enters_new before off new r h = elim h [
+        | inl p ↦ inl (p.0, (inside m rest p.0 e off new (p.1).0 refl, (p.1).1))
+        | inr p ↦ (elim (p.1).1 [
+          | inl q ↦ inl (q.0, (onward_to m rest p.0 e off new (p.1).0 (q.1).0, (q.1).1))
+          | inr q ↦ inr (q.0, (onward_to m rest p.0 e off new (p.1).0 (q.1).0, (q.1).1))
+        ])
+      ]
+
+      pub enters_hit : (before : List ℕ) → In path m → EntersLeft edges before (f ∷ fs) (ends_at (repeats m path))
+      enters_hit before i = inl (repeats m path, (back m rest e i refl, refl))
 
       meets_enter : (In path m → ⊥) → (r : Option (Ending ℕ S)) → MeetsLeft edges (begin m ∷ onward f ∷ fs) r → MeetsLeft edges (f ∷ fs) r
       meets_enter off r h = elim h [
@@ -127,7 +157,7 @@ module _ {S : Type 0} (edges : ℕ → List (Edge S)) where
     end_later at = let e = left_end f at in record {
       long = set_length w.marks f.node Done;
       going = record {
-        marks = marks_finished w.marks w.order (path_of fs) f.node going.marks;
+        marks = marks_finished w.marks w.begun w.order (path_of fs) f.node going.marks;
         settled = (
           λ way i. elim (going.passed.0 way i) [ inl a ↦ a | inr b ↦ absurd (subst (λ y. In y way) e b) ],
           (going.marks.apart f.node (inl refl), going.settled),
@@ -137,6 +167,7 @@ module _ {S : Type 0} (edges : ℕ → List (Edge S)) where
       };
       meets = meets_end f fs e;
       posts = posts_end f fs w.order e;
+      enters = enters_end f fs w.begun e;
     }
 
     pub end_step : slice_get (edges f.node) f.place ≡ None → Stepped edges IsNode (with_top w f) (finished w f.node) None
@@ -165,6 +196,7 @@ module _ {S : Type 0} (edges : ℕ → List (Edge S)) where
           };
           meets = meets_same f fs e;
           posts = posts_same f fs w.order e;
+          enters = enters_same f fs w.begun e;
         };
         fewer = fewer_next;
       }
@@ -191,6 +223,7 @@ module _ {S : Type 0} (edges : ℕ → List (Edge S)) where
             };
             meets = meets_none f fs m one_more (done_meets ways w.order (f.node ∷ path_of fs) m going.settled going.marks.apart i);
             posts = posts_skip f fs m one_more w.order i;
+            enters = enters_again f fs m one_more w.begun (λ j. going.marks.apart m j i) (going.marks.walked m (inr i));
           };
           fewer = fewer_next;
         }
@@ -199,7 +232,7 @@ module _ {S : Type 0} (edges : ℕ → List (Edge S)) where
         new_later node z = record {
           long = set_length w.marks m OnPath;
           going = record {
-            marks = marks_entered w.marks w.order (f.node ∷ path_of fs) m going.marks z;
+            marks = marks_entered w.marks w.begun w.order (f.node ∷ path_of fs) m going.marks z;
             settled = going.settled;
             nodes = λ n i. elim i [ inl q ↦ subst IsNode (sym q) node | inr j ↦ going.nodes n j ];
             passed = (
@@ -215,6 +248,7 @@ module _ {S : Type 0} (edges : ℕ → List (Edge S)) where
           };
           meets = meets_enter f fs m one_more (going.marks.fresh m z).0;
           posts = posts_enter f fs m one_more w.order (going.marks.fresh m z).1;
+          enters = enters_new f fs m one_more w.begun (going.marks.fresh m z).0 (λ i. elim (going.marks.entered m i) [ inl j ↦ (going.marks.fresh m z).0 j | inr j ↦ (going.marks.fresh m z).1 j ]);
         }
 
         pub new_step : IsNode m → slice_get w.marks m ≡ Some New → Stepped edges IsNode (with_top w f) (entered (advanced w f) m) None

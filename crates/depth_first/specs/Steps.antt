@@ -8,7 +8,7 @@ use Rattle.depth_first.specs.declared.edge.End.TheVariants.{Loop, Stop as stoppe
 use Rattle.depth_first.specs.declared.frames.Frame.{Frame}
 use Rattle.depth_first.specs.declared.frames.Mark.{Mark}
 use Rattle.depth_first.specs.declared.frames.Mark.TheVariants.{New, OnPath, Done}
-use Rattle.depth_first.specs.DepthFirst.{Way, Ending, nodes_of, MeetsAll, PostsAll}
+use Rattle.depth_first.specs.DepthFirst.{Way, Ending, nodes_of, MeetsAll, PostsAll, Outcome, ends_at, goes_through, Enters}
 use Rattle.depth_first.specs.Order.{LeadsInto, IsSettled}
 use Rattle.depth_first.specs.Edges.{ways_of, ways_from, successors}
 use Rattle.depth_first.specs.Walk.{WalkValue, ending_of, leads_to}
@@ -62,6 +62,13 @@ PostsLeft edges done [] result = result ≡ done
 PostsLeft edges done (f ∷ fs) result =
     (below : List ℕ) × (PostsAll (successors edges) done (nodes_of (ways_of (left_of edges f))) below × PostsLeft edges (f.node ∷ below) fs result)
 
+-- what the rest of the walk does, where it passes over the nodes that were entered before
+abbrev pub EntersLeft : {S : Type 0} → (ℕ → List (Edge S)) → List ℕ → List Frame → Outcome ℕ S → Type 0
+EntersLeft edges before [] result = result ≡ goes_through before
+EntersLeft {S} edges before (f ∷ fs) result =
+    ((end : Ending ℕ S) × (Enters (ways_from edges) (f.node ∷ path_of fs) before (ways_of (left_of edges f)) (ends_at end) × (result ≡ ends_at end)))
+    ⊎ ((after : List ℕ) × (Enters (ways_from edges) (f.node ∷ path_of fs) before (ways_of (left_of edges f)) (goes_through after) × EntersLeft edges after fs result))
+
 -- each way on from a frame's node leads to a node that is done, or to the next one on the path, or is still to follow
 abbrev pub ArePassed : {S : Type 0} → (ℕ → List (Edge S)) → List ℕ → List ℕ → List Frame → Type 0
 ArePassed edges order above [] = Unit {0}
@@ -70,7 +77,7 @@ ArePassed {S} edges order above (f ∷ fs) =
 
 -- the state of a walk over these edges
 pub record IsGoing {S : Type 0} (edges : ℕ → List (Edge S)) (IsNode : ℕ → Type 0) (w : FramesValue) : Type 0 where
-  pub marks : AreMarks w.marks w.order (path_of w.stack)
+  pub marks : AreMarks w.marks w.begun w.order (path_of w.stack)
   pub settled : IsSettled (ways_from edges) w.order
   pub nodes : (n : ℕ) → In (path_of w.stack) n → IsNode n
   pub passed : ArePassed edges w.order w.order w.stack
@@ -81,10 +88,12 @@ pub record IsLater {S : Type 0} (edges : ℕ → List (Edge S)) (IsNode : ℕ �
   pub going : IsGoing edges IsNode v
   pub meets : (result : Option (Ending ℕ S)) → MeetsLeft edges v.stack result → MeetsLeft edges w.stack result
   pub posts : (result : List ℕ) → PostsLeft edges v.order v.stack result → PostsLeft edges w.order w.stack result
+  pub enters : (result : Outcome ℕ S) → EntersLeft edges v.begun v.stack result → EntersLeft edges w.begun w.stack result
 
 -- the walk came to an end
 pub record IsAtEnd {S : Type 0} (edges : ℕ → List (Edge S)) (w v : FramesValue) (end : End S) : Type 0 where
   pub meets : MeetsLeft edges w.stack (Some (ending_of (path_of v.stack) end))
+  pub enters : EntersLeft edges w.begun w.stack (ends_at (ending_of (path_of v.stack) end))
 
 -- one step of the walk
 pub record IsStep {S : Type 0} (edges : ℕ → List (Edge S)) (IsNode : ℕ → Type 0) (w v : FramesValue) : Type 0 where
@@ -106,7 +115,7 @@ Ran edges IsNode w v (Some end) = IsAtEnd edges w v end
 
 -- what the state of a walk is seen as
 abbrev pub seen : FramesValue → WalkValue
-seen w = record { count = length w.marks; order = w.order; path = path_of w.stack }
+seen w = record { count = length w.marks; begun = w.begun; order = w.order; path = path_of w.stack }
 
 -- between two of several starts: these are left
 pub record AreLeft {S : Type 0} (edges : ℕ → List (Edge S)) (w v : WalkValue) (starts left : List ℕ) : Type 0 where

@@ -2,7 +2,7 @@
 ghost use Rattle.std.specs.Prelude.{◌≡◌, ℕ, ◌+◌, ◌<◌, ◌^◌, [], ◌∷◌, length, replicate, reverse, slice_get, Some, IfOk, OnOk, OnErr};
 ghost use Rattle.list_laws.specs.Members.{In};
 ghost use Rattle.depth_first.specs.declared.frames.Mark.TheVariants.{New};
-ghost use Rattle.depth_first.specs.Frames.{entered, advanced, finished, first_of, without_done, without_frame, renewed, forgotten, path_of};
+ghost use Rattle.depth_first.specs.Frames.{entered, advanced, finished, has_path_mark, first_of, without_begun, renewed, forgotten};
 
 use std::alloc::{AllocError, Global};
 use std::marker::Model;
@@ -22,10 +22,12 @@ pub(crate) struct Frame {
     pub(crate) place: usize,
 }
 
-// A mark for each node, the nodes that are done in the order in which they were left, and the path.
+// A mark for each node, the nodes in the order in which they were entered, those that are done in the order in which they
+// were left, and the path.
 #[derive(Drop)]
 pub(crate) struct Frames {
     marks: Vec<Mark>,
+    begun: Vec<u32>,
     order: Vec<u32>,
     stack: Vec<Frame>,
 }
@@ -36,17 +38,18 @@ impl Model for Frames {
 
     ghost Value = { FramesValue };
 
-    ghost view = { λ w. record { marks = w.marks.items; order = reverse w.order.items; stack = reverse w.stack.items } };
+    ghost view = { λ w. record { marks = w.marks.items; begun = reverse w.begun.items; order = reverse w.order.items; stack = reverse w.stack.items } };
 }
 
 impl Frames {
     // The state before a walk of this many nodes.
     pub(crate) fn make(alloc: Global, count: usize) -> Result<Frames, AllocError>
-        ensures { IfOk result (λ w. w ≡ record { marks = replicate count New; order = []; stack = [] }) }
+        ensures { IfOk result (λ w. w ≡ record { marks = replicate count New; begun = []; order = []; stack = [] }) }
     {
         let marks = vec![in alloc; Mark::New; count]?;
         Ok(Frames {
             marks,
+            begun: Vec::new(alloc),
             order: Vec::new(alloc),
             stack: Vec::new(alloc),
         })
@@ -58,6 +61,25 @@ impl Frames {
         ensures { slice_get self.now.marks n ≡ Some result }
     {
         self.marks[n as usize]
+    }
+
+    // Does a node stand on the path, by its mark?
+    pub(crate) fn is_on_path(&self, n: u32) -> bool
+        ensures { result ≡ has_path_mark (slice_get self.now.marks n) }
+    {
+        match self.marks.get(n as usize) {
+            None => false,
+            Some(Mark::New) => false,
+            Some(Mark::OnPath) => true,
+            Some(Mark::Done) => false,
+        }
+    }
+
+    // The nodes that were entered, in this order.
+    pub(crate) fn begun(&self) -> &[u32]
+        ensures { reverse result.now ≡ self.now.begun }
+    {
+        &self.begun
     }
 
     // The nodes that are done, in the order in which they were left.
@@ -87,7 +109,9 @@ impl Frames {
         ensures ok { OnOk result (self.new ≡ entered self.old n) }
         ensures err { OnErr result (self.new ≡ self.old) }
     {
+        self.begun.reserve(1)?;
         self.stack.reserve(1)?;
+        let _begun = self.begun.push(n);
         let _done = self.stack.push(Frame { node: n, place: 0 });
         self.marks[n as usize] = Mark::OnPath;
         Ok(())
@@ -119,20 +143,12 @@ impl Frames {
         Ok(())
     }
 
-    // Takes the node away that was done last.
-    fn pop_done(&mut self) -> Option<u32>
-        ensures last { result ≡ first_of self.old.order }
-        ensures rest { self.new ≡ without_done self.old }
+    // Takes the node away that was entered last.
+    fn pop_begun(&mut self) -> Option<u32>
+        ensures last { result ≡ first_of self.old.begun }
+        ensures rest { self.new ≡ without_begun self.old }
     {
-        self.order.pop()
-    }
-
-    // Takes the last frame away.
-    fn pop_frame(&mut self) -> Option<Frame>
-        ensures last { result ≡ first_of self.old.stack }
-        ensures rest { self.new ≡ without_frame self.old }
-    {
-        self.stack.pop()
+        self.begun.pop()
     }
 
     // Forgets the mark of a node.
@@ -144,22 +160,14 @@ impl Frames {
     }
 }
 
-// Forgets the nodes that are done.
-pub(crate) fn forget_order(frames: &mut Frames)
-    requires { (n : ℕ) → In frames.old.order n → n < length frames.old.marks }
-    ensures { frames.new ≡ record { marks = forgotten frames.old.marks frames.old.order; order = []; stack = frames.old.stack } }
+// Forgets the nodes that were entered, and with them the order and the path.
+pub(crate) fn forget(frames: &mut Frames)
+    requires { (n : ℕ) → In frames.old.begun n → n < length frames.old.marks }
+    ensures { frames.new ≡ record { marks = forgotten frames.old.marks frames.old.begun; begun = []; order = []; stack = [] } }
 {
-    while let Some(n) = frames.pop_done() {
+    while let Some(n) = frames.pop_begun() {
         frames.renew(n);
     }
-}
-
-// Forgets the path.
-pub(crate) fn forget_path(frames: &mut Frames)
-    requires { (n : ℕ) → In (path_of frames.old.stack) n → n < length frames.old.marks }
-    ensures { frames.new ≡ record { marks = forgotten frames.old.marks (path_of frames.old.stack); order = frames.old.order; stack = [] } }
-{
-    while let Some(frame) = frames.pop_frame() {
-        frames.renew(frame.node);
-    }
+    frames.order.clear();
+    frames.stack.clear();
 }

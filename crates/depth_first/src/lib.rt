@@ -7,11 +7,12 @@
 //! of marks. The stack stands in memory, and no call recurses.
 //!
 //! `specs/DepthFirst.antt` has the walk as a recursion without memory, by relations: which end it comes to, and the
-//! postorder. `specs/Order.antt` has orders in which each node stands behind its successors, `specs/Reach.antt` what a node
-//! reaches, `specs/Edges.antt` edges and the nodes of a graph, and `specs/Walk.antt` what the calls say with them. Each list
-//! of nodes there stands last first, so that the node that was left last, or entered last, is its head.
-//! `proofs/Examples.antt` works out a diamond, a loop and a stop, and `proofs/FallLemmas.antt` shows that a walk along edges
-//! to lower nodes comes to no end.
+//! postorder; and as one that passes over the nodes that were entered before: to the same end, or the nodes in this order.
+//! `specs/Order.antt` has orders in which each node stands behind its successors, `specs/Reach.antt` what a node reaches,
+//! `specs/Edges.antt` edges and the nodes of a graph, and `specs/Walk.antt` what the calls say with them. Each list of nodes
+//! there stands last first, so that the node that was left last, or entered last, is its head. `proofs/Examples.antt` works
+//! out a diamond, a loop and a stop, and `proofs/FallLemmas.antt` shows that a walk along edges to lower nodes comes to no
+//! end.
 //!
 //! `edge.rt` has the edges and the trait, `frames.rt` the marks and the stack, `run.rt` the walk from one start, and
 //! `walk.rt` the public type.

@@ -79,7 +79,7 @@ pub(crate) fn visit_from<G: Successors>(
 ) -> Result<Option<End<G::Stop>>, AllocError>
     requires nodes { AreNodes (G.is_node graph.now) (successors (G.edges graph.now)) (length frames.old.marks) }
     requires here { G.is_node graph.now start }
-    requires marks { AreMarks frames.old.marks frames.old.order (path_of frames.old.stack) }
+    requires marks { AreMarks frames.old.marks frames.old.begun frames.old.order (path_of frames.old.stack) }
     requires settled { IsSettled (ways_from (G.edges graph.now)) frames.old.order }
     requires empty { frames.old.stack ≡ [] }
     ensures ok { IfOk result (λ found. Visited (G.edges graph.now) (seen frames.old) (seen frames.new) start found) }

@@ -58,6 +58,7 @@ fn orders_a_diamond(rt: HostRuntime) -> Result<(), Fail> {
     let mut walk = Walk::make(rt.alloc(), 4)?;
     let found = walk.visit(&graph, 0)?;
     assert!(rt; found.is_none());
+    assert_eq!(rt; walk.begun(), [0, 1, 3, 2].as_slice());
     assert_eq!(rt; walk.order(), [3, 1, 2, 0].as_slice());
     Ok(())
 }
@@ -73,6 +74,12 @@ fn finds_a_loop_and_its_path(rt: HostRuntime) -> Result<(), Fail> {
     assert!(rt; matches!(&found, Some(End::Loop(1))));
     let path = walk.path(rt.alloc())?;
     assert_eq!(rt; path.as_slice(), [0, 1, 2, 3].as_slice());
+    let closed = walk.path_from(rt.alloc(), 1)?;
+    assert_eq!(rt; closed.as_slice(), [1, 2, 3].as_slice());
+    assert_eq!(rt; walk.last(), Some(3));
+    assert!(rt; walk.is_on_path(3));
+    assert!(rt; !walk.is_on_path(4));
+    assert!(rt; !walk.is_on_path(5));
     assert_eq!(rt; walk.order(), [4].as_slice());
     Ok(())
 }

@@ -1,17 +1,19 @@
 //! Walks that share their marks.
-ghost use Rattle.std.specs.Prelude.{◌≡◌, ℕ, [], ◌<◌, All, reverse, IfOk};
+ghost use Rattle.std.specs.Prelude.{◌≡◌, ◌↔◌, [], All, IsTrue, reverse, IfOk};
+ghost use Rattle.list_laws.specs.Members.{In};
+ghost use Rattle.depth_first.specs.Frames.{first_of};
 ghost use Rattle.depth_first.specs.Edges.{AreNodes, successors, ways_from};
 ghost use Rattle.depth_first.specs.Order.{IsSettled};
-ghost use Rattle.depth_first.specs.Walk.{Visited, VisitedAll};
+ghost use Rattle.depth_first.specs.Walk.{Visited, VisitedAll, from_node};
 
 use crate::edge::{End, Successors};
-use crate::frames::{Frames, forget_order, forget_path};
+use crate::frames::{Frames, forget};
 use crate::run::visit_from;
 use std::alloc::{AllocError, Global};
 use std::marker::Model;
 
-/// A depth-first walk over numbered nodes: those that are done, in the order in which they were left, and the path on
-/// which an end was found.
+/// A depth-first walk over numbered nodes: those that were entered and those that are done, in the order in which they were
+/// entered and left, and the path on which an end was found.
 #[derive(Drop)]
 pub struct Walk {
     frames: Frames,
@@ -24,9 +26,9 @@ impl Model for Walk {
 
     ghost Value = { WalkValue };
 
-    ghost view = { λ w. record { count = length w.frames.marks; order = w.frames.order; path = path_of w.frames.stack } };
+    ghost view = { λ w. record { count = length w.frames.marks; begun = w.frames.begun; order = w.frames.order; path = path_of w.frames.stack } };
 
-    ghost invariant = { λ w. AreMarks w.frames.marks w.frames.order (path_of w.frames.stack) };
+    ghost invariant = { λ w. AreMarks w.frames.marks w.frames.begun w.frames.order (path_of w.frames.stack) };
 }
 
 impl Walk {
@@ -35,7 +37,7 @@ impl Walk {
     /// # Errors
     /// Only for want of memory.
     pub fn make(alloc: Global, count: usize) -> Result<Walk, AllocError>
-        ensures { IfOk result (λ w. w ≡ record { count = count; order = []; path = [] }) }
+        ensures { IfOk result (λ w. w ≡ record { count = count; begun = []; order = []; path = [] }) }
     {
         let frames = Frames::make(alloc, count)?;
         Ok(Walk { frames })
@@ -43,9 +45,9 @@ impl Walk {
 
     /// Walks depth first, left to right, from a start. Nodes that are done are passed.
     ///
-    /// `None`: all that the start reaches is done; `order` has it. `Some`: the first end that a walk from the start comes
-    /// to, a node that is met again on the path or a stop; `path` has the path. The stack stands in memory, and the time is
-    /// linear in the edges that are looked at.
+    /// `None`: all that the start reaches is done; `order` has it, and `begun`. `Some`: the first end that a walk from the
+    /// start comes to, a node that is met again on the path or a stop; `path` has the path. The stack stands in memory, and
+    /// the time is linear in the edges that are looked at.
     ///
     /// # Errors
     /// Only for want of memory. Then the walk may be cleared, and nothing else is known of it.
@@ -90,11 +92,35 @@ impl Walk {
         Ok(None)
     }
 
+    /// The nodes that were entered, in this order.
+    pub fn begun(&self) -> &[u32]
+        ensures { reverse result.now ≡ self.now.begun }
+    {
+        self.frames.begun()
+    }
+
     /// The nodes that are done, in the order in which they were left.
     pub fn order(&self) -> &[u32]
         ensures { reverse result.now ≡ self.now.order }
     {
         self.frames.order()
+    }
+
+    /// The last node of the path on which an end was found.
+    pub fn last(&self) -> Option<u32>
+        ensures { result ≡ first_of self.now.path }
+    {
+        match self.frames.top() {
+            None => None,
+            Some(frame) => Some(frame.node),
+        }
+    }
+
+    /// Does a node stand on the path on which an end was found? It takes constant time.
+    pub fn is_on_path(&self, node: u32) -> bool
+        ensures { IsTrue result ↔ In self.now.path node }
+    {
+        self.frames.is_on_path(node)
     }
 
     /// The path on which an end was found, from the start on.
@@ -111,11 +137,27 @@ impl Walk {
         Ok(path)
     }
 
+    /// The path on which an end was found, from a node on.
+    ///
+    /// # Errors
+    /// Only for want of memory.
+    pub fn path_from(&self, alloc: Global, node: u32) -> Result<Vec<u32>, AllocError>
+        ensures { IfOk result (λ nodes. nodes.items ≡ from_node node self.now.path) }
+    {
+        let mut nodes = Vec::new(alloc);
+        for frame in self.frames.stack() {
+            if node == frame.node {
+                nodes.clear();
+            }
+            nodes.push(frame.node)?;
+        }
+        Ok(nodes)
+    }
+
     /// Forgets which nodes are done, and the path. It takes time linear in their number.
     pub fn clear(&mut self)
-        ensures { self.new ≡ record { count = self.old.count; order = []; path = [] } }
+        ensures { self.new ≡ record { count = self.old.count; begun = []; order = []; path = [] } }
     {
-        forget_order(&mut self.frames);
-        forget_path(&mut self.frames);
+        forget(&mut self.frames);
     }
 }

@@ -11,8 +11,8 @@ use Rattle.tl_io.specs.declared.Assign.{Assign}
 use Rattle.tl_text.specs.LineValue.{WordsLine}
 use Rattle.tl_text.specs.NameIndex.{place_of}
 use Rattle.blif_flat.specs.Models.{has_name}
-use Rattle.blif_flat.proofs.ModelNameLemmas.{place_is}
-use Rattle.blif_flat.proofs.NameSetLemmas.{has_one_more}
+use Rattle.blif_flat.proofs.Models.ModelNameLemmas.{place_is}
+use Rattle.blif_flat.proofs.Models.NameSetLemmas.{has_one_more}
 use Rattle.run_text.specs.Each.{each_of}
 use Rattle.run_text.specs.EventValue.{EventValue, Set, Cycle, Upset, Scrub, Image}
 use Rattle.run_text.specs.Fits.{Fits}

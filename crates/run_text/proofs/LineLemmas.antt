@@ -9,7 +9,7 @@ use Rattle.tl_text.specs.Clean.{IsClean, AreCleanIn}
 use Rattle.tl_text.specs.Decimal.{bit_of}
 use Rattle.tl_text.specs.LineValue.{LineValue, token_bytes, words_line}
 use Rattle.tl_text.specs.NameIndex.{place_of}
-use Rattle.blif_flat.proofs.NameSetLemmas.{place_none}
+use Rattle.blif_flat.proofs.Models.NameSetLemmas.{place_none}
 use Rattle.run_text.specs.declared.params.Param.{Param}
 use Rattle.run_text.specs.Parameters.{param_names}
 use Rattle.run_text.specs.ParamsText.{Entry, entry_of, entry_with, entry_refusal, line_refusal, IsParamOf}

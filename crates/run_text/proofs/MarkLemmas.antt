@@ -9,7 +9,7 @@ use Rattle.list_laws.specs.Order.{IsAscending}
 use Rattle.list_laws.proofs.Members.{In-get, map_agree}
 use Rattle.tl_text.specs.Once.{AreOnce}
 use Rattle.blif_flat.specs.Models.{has_name}
-use Rattle.blif_flat.proofs.NameSetLemmas.{has_one_more, no_match}
+use Rattle.blif_flat.proofs.Models.NameSetLemmas.{has_one_more, no_match}
 use Rattle.run_text.specs.Marks.{marks_of, off_places}
 
 -- nothing is marked at first

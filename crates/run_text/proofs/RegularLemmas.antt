@@ -12,8 +12,8 @@ use Rattle.tl_text.specs.Once.{AreOnce}
 use Rattle.blif_flat.specs.FlatValue.{FlatValue}
 use Rattle.blif_flat.specs.Models.{has_name}
 use Rattle.list_laws.proofs.Apart.{AreApart, joined_apart, apart_short}
-use Rattle.blif_flat.proofs.NameLemmas.{has_in, in_has}
-use Rattle.blif_flat.proofs.RegularLemmas.{In-filter}
+use Rattle.blif_flat.proofs.Models.NameLemmas.{has_in, in_has}
+use Rattle.blif_flat.proofs.Fields.RegularLemmas.{In-filter}
 use Rattle.run_text.specs.declared.params.Param.{Param}
 use Rattle.run_text.specs.Parameters.{param_names, regular_names, AreParameters, IsSplit}
 use Rattle.run_text.specs.RegularPlaces.{IsFree, AreRegularPlaces}

@@ -1,4 +1,4 @@
-ghost use Rattle.std.specs.Prelude.{◌≡◌, ◌<◌, ◌≤◌, IfOk, OnOk, IsErrOf, length, take};
+ghost use Rattle.std.specs.Prelude.{◌≡◌, ◌<◌, ◌≤◌, false, IfOk, OnOk, IsErrOf, length, take};
 ghost use Rattle.tl_io.specs.Causes.{Rose};
 ghost use Rattle.tl_io.specs.Slurp.{IsFile, IsLonger};
 
@@ -40,6 +40,7 @@ pub fn slurp<S: Shelf>(
     ensures later { (S.seen shelf.old).read_faults ≤ (S.seen shelf.new).read_faults }
     ensures files { (S.seen shelf.new).files ≡ (S.seen shelf.old).files }
     ensures write_faults { (S.seen shelf.new).write_faults ≡ (S.seen shelf.old).write_faults }
+    ensures not_writing { (S.seen shelf.new).is_writing ≡ false }
 {
     if let Err(Failed) = shelf.begin_read(name) {
         return Err(Slurp::ReadFault);

@@ -6,7 +6,7 @@ use Rattle.blif_read.specs.LibraryValue.{LibraryValue, ModelValue}
 use Rattle.blif_flat.specs.Flat.{IsFlat}
 use Rattle.blif_flat.specs.Places.{Place, is_latch, latch_at, FlatOrder}
 use Rattle.blif_flat.specs.Runs.{init_state, IsCycle}
-use Rattle.blif_flat.proofs.LoopOnceLemmas.{order_once}
+use Rattle.blif_flat.proofs.Fields.LoopOnceLemmas.{order_once}
 use Rattle.run_text.specs.declared.params.Param.{Param}
 use Rattle.run_text.specs.EventValue.{EventValue, Set, Cycle, Upset, Scrub, Image}
 use Rattle.run_text.specs.Fits.{Fits}

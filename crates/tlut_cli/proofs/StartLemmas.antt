@@ -10,7 +10,7 @@ use Rattle.blif_flat.specs.Flat.{Places, IsFlatLatch}
 use Rattle.blif_flat.specs.FlatCycle.{flat_inits}
 use Rattle.blif_flat.specs.Places.{Place}
 use Rattle.blif_flat.specs.Runs.{init_state, inits_of}
-use Rattle.blif_flat.proofs.GateBodyLemmas.{latch_at-some}
+use Rattle.blif_flat.proofs.Hierarchy.GateLemmas.{latch_at-some}
 use Rattle.run_text.specs.declared.params.Param.{Param}
 use Rattle.run_text.specs.EventValue.{EventValue, Set, Cycle, Upset, Scrub, Image}
 use Rattle.run_text.specs.Fits.{Fits}

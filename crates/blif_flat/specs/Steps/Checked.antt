@@ -1,6 +1,5 @@
 -- The models of a library come past the walk, the weight and the drivers.
-use Rattle.blif_read.specs.LibraryValue.{LibraryValue}
-use Rattle.blif_flat.specs.Drivers.{IsDriven}
+use Rattle.blif_flat.specs.Circuits.{LibraryValue, IsDriven}
 use Rattle.blif_flat.specs.Faults.{IsConnected}
 use Rattle.blif_flat.specs.Steps.InstanceRows.{IsLight}
 

@@ -1,9 +1,7 @@
 -- The clock nets by the numbers of the main model's inputs.
 use Rattle.std.specs.Prelude.{◌≡◌, ℕ, ◌||◌, ◌<◌, Bool, false, List, length, map, Option, Some, None, slice_get, bytes_eq}
 use Rattle.std.specs.Option.{option_and_then}
-use Rattle.blif_read.specs.LibraryValue.{ModelValue, LibraryValue}
-use Rattle.blif_flat.specs.Models.{Path, has_name, inputs_of}
-use Rattle.blif_flat.specs.Places.{is_latch}
+use Rattle.blif_flat.specs.Circuits.{ModelValue, LibraryValue, Path, has_name, inputs_of, is_latch}
 use Rattle.blif_flat.specs.Steps.InstanceOrder.{places_at}
 use Rattle.blif_flat.specs.ClockFaults.{Clocks}
 use Rattle.blif_flat.specs.Flat.{IsControl, TellsClocks}

@@ -2,14 +2,9 @@
 use Rattle.std.specs.Prelude.{◌≡◌, ◌⊎◌, ℕ, List, Option, Some, None, slice_get}
 use Rattle.std.specs.Option.{option_and_then}
 use Rattle.list_laws.specs.Members.{In}
-use Rattle.blif_read.specs.declared.latch.Latch.{Latch as LatchValue}
-use Rattle.blif_read.specs.LibraryValue.{LibraryValue}
+use Rattle.blif_flat.specs.Circuits.{LatchValue, LibraryValue, Path, LatchAt, Net, input_net, Drives, Place}
 use Rattle.blif_flat.specs.declared.flat_err.FlatErr.{FlatErr}
 use Rattle.blif_flat.specs.declared.flat_err.FlatErr.TheVariants.{SecondClock, ClockNotInput}
-use Rattle.blif_flat.specs.Models.{Path}
-use Rattle.blif_flat.specs.Instances.{LatchAt}
-use Rattle.blif_flat.specs.Nets.{Net, input_net, Drives}
-use Rattle.blif_flat.specs.Places.{Place}
 use Rattle.blif_flat.specs.Written.{IsWritten}
 use Rattle.blif_flat.specs.ClockFaults.{Clocks}
 

@@ -1,9 +1,8 @@
 -- What the steps of a search for faults of drivers tell.
 use Rattle.std.specs.Prelude.{◌≡◌, ℕ, List, ◌++◌, Option, Some, None, Result, MatchResult, map}
-use Rattle.blif_read.specs.LibraryValue.{ModelValue, LibraryValue}
+use Rattle.blif_flat.specs.Circuits.{ModelValue, LibraryValue, model_named}
 use Rattle.blif_flat.specs.declared.flat_err.FlatErr.{FlatErr}
 use Rattle.blif_flat.specs.declared.ports.Ports.{Ports}
-use Rattle.blif_flat.specs.Models.{model_named}
 use Rattle.blif_flat.specs.Steps.NameSets.{ports_value, model_names}
 use Rattle.blif_flat.specs.DriverFaults.{model_fault}
 use Rattle.blif_flat.specs.Steps.Answers.{IsTold}

@@ -1,10 +1,7 @@
 -- The fields of a flat circuit, as they are computed from its gates, its nets and the ports of its main model.
 use Rattle.std.specs.Prelude.{ℕ, Bool, true, false, List, [], ◌∷◌, ◌++◌, map, Option, Some, None, is_some, slice_get}
 use Rattle.std.specs.Option.{option_and_then}
-use Rattle.blif_read.specs.declared.command.Body.{Body}
-use Rattle.blif_read.specs.declared.latch.Latch.{Latch as LatchValue}
-use Rattle.blif_read.specs.CoverValue.{CoverValue}
-use Rattle.blif_read.specs.LibraryValue.{ModelValue, LibraryValue}
+use Rattle.blif_flat.specs.Circuits.{Body, LatchValue, CoverValue, ModelValue, LibraryValue, cover_in, latch_in}
 use Rattle.blif_flat.specs.declared.flat.Net.{Net as FlatNet}
 use Rattle.blif_flat.specs.declared.flat.Net.TheVariants.{Input}
 use Rattle.blif_flat.specs.declared.flat.FlatLatch.{FlatLatch}
@@ -13,7 +10,6 @@ use Rattle.blif_flat.specs.declared.gates.Gate.{Gate}
 use Rattle.blif_flat.specs.declared.instances.Instance.{Instance}
 use Rattle.blif_flat.specs.FlatCoverValue.{FlatCoverValue}
 use Rattle.blif_flat.specs.Steps.GateBodies.{gate_body}
-use Rattle.blif_flat.specs.Places.{cover_in, latch_in}
 use Rattle.blif_flat.specs.Steps.NetSlots.{NetsValue, table_of}
 use Rattle.blif_flat.specs.Steps.RegularNets.{renumbered}
 

@@ -1,12 +1,9 @@
 -- The bodies of commands, by the number of the model, by the place, and by the gate.
 use Rattle.std.specs.Prelude.{ℕ, List, Option, slice_get}
 use Rattle.std.specs.Option.{option_and_then}
-use Rattle.blif_read.specs.declared.command.Body.{Body}
-use Rattle.blif_read.specs.LibraryValue.{ModelValue, LibraryValue}
+use Rattle.blif_flat.specs.Circuits.{Body, ModelValue, LibraryValue, body_at, model_at, Place}
 use Rattle.blif_flat.specs.declared.gates.Gate.{Gate}
 use Rattle.blif_flat.specs.declared.instances.Instance.{Instance}
-use Rattle.blif_flat.specs.Models.{body_at, model_at}
-use Rattle.blif_flat.specs.Places.{Place}
 
 -- the body of a command of an optional model
 abbrev pub body_in : ℕ → Option ModelValue → Option Body

@@ -1,11 +1,9 @@
 -- Gates: covers and latches of the instances, each by the row of its instance and its place among the model's commands.
 use Rattle.std.specs.Prelude.{◌≡◌, ℕ, Bool, List, length, Some, slice_get}
-use Rattle.blif_read.specs.declared.command.Body.{Body}
+use Rattle.blif_flat.specs.Circuits.{Body, Path, Place, is_cover, is_latch}
 use Rattle.blif_flat.specs.declared.gates.Gate.{Gate}
 use Rattle.blif_flat.specs.declared.gates.GateKind.{GateKind}
 use Rattle.blif_flat.specs.declared.gates.GateKind.TheVariants.{Cover, Latch, Either}
-use Rattle.blif_flat.specs.Models.{Path}
-use Rattle.blif_flat.specs.Places.{Place, is_cover, is_latch}
 use Rattle.blif_flat.specs.ClockFaults.{is_gate}
 
 -- the commands of a kind

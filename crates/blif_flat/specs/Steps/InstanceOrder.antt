@@ -1,10 +1,6 @@
 -- The instances in flat order: an instance, then the instances of its `.subckt` lines in line order.
 use Rattle.std.specs.Prelude.{◌≡◌, ℕ, suc, Bool, List, [], ◌∷◌, ◌++◌, Option, Some, None}
-use Rattle.blif_read.specs.declared.command.Body.{Body}
-use Rattle.blif_read.specs.SubcktValue.{SubcktValue}
-use Rattle.blif_read.specs.LibraryValue.{ModelValue, LibraryValue}
-use Rattle.blif_flat.specs.Models.{Path, subckts_of, model_named, model_at}
-use Rattle.blif_flat.specs.Places.{Place, own_places}
+use Rattle.blif_flat.specs.Circuits.{Body, SubcktValue, ModelValue, LibraryValue, Path, subckts_of, model_named, model_at, Place, own_places}
 
 mutual
   pub data InstanceOrder (library : LibraryValue) : Path → ModelValue → List Path → Type 0 where

@@ -2,13 +2,8 @@
 use Rattle.std.specs.Prelude.{◌≡◌, ℕ, suc, ◌<◌, ◌≤◌, List, [], ◌∷◌, ◌++◌, length, Option, Some, None, slice_get}
 use Rattle.std.specs.Option.{option_and_then}
 use Rattle.tl_text.specs.NameIndex.{place_of}
-use Rattle.blif_read.specs.declared.command.Body.{Body}
-use Rattle.blif_read.specs.declared.command.Body.TheVariants.{Cover, Latch, Subckt}
-use Rattle.blif_read.specs.declared.command.Command.{Command}
-use Rattle.blif_read.specs.SubcktValue.{SubcktValue}
-use Rattle.blif_read.specs.LibraryValue.{ModelValue, LibraryValue}
+use Rattle.blif_flat.specs.Circuits.{Body, Cover, Latch, Subckt, Command, SubcktValue, ModelValue, LibraryValue, Path, model_at}
 use Rattle.blif_flat.specs.declared.instances.Instance.{Instance}
-use Rattle.blif_flat.specs.Models.{Path, model_at}
 pub use Rattle.blif_flat.specs.Weight.{IsLight}
 use Rattle.blif_flat.specs.Steps.InstanceOrder.{InstanceOrder}
 use Rattle.blif_flat.specs.Weight.{most_weight}

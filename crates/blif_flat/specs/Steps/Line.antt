@@ -1,11 +1,8 @@
 -- What the check of one line computes, by the names that are found by their hashes.
-use Rattle.std.specs.Prelude.{◌++◌, bytes_eq, ℕ, ◌||◌, if◌then◌else◌, List, [], ◌∷◌, Option, Some, None}
-use Rattle.blif_read.specs.declared.subckt.Pair.{Pair}
-use Rattle.blif_read.specs.SubcktValue.{SubcktValue}
-use Rattle.blif_read.specs.LibraryValue.{ModelValue}
+use Rattle.std.specs.Prelude.{ℕ, ◌||◌, if◌then◌else◌, List, [], ◌∷◌, Option, Some, None}
+use Rattle.blif_flat.specs.Circuits.{Pair, SubcktValue, ModelValue, has_name}
 use Rattle.blif_flat.specs.declared.ports.Ports.{Ports}
 use Rattle.blif_flat.specs.declared.flat_err.FlatErr.{FlatErr}
-use Rattle.blif_flat.specs.Models.{has_name}
 use Rattle.blif_flat.specs.Walk.{formal_fault, unknown_formal}
 
 -- the first formal that is neither among the inputs nor among the outputs
@@ -21,7 +18,3 @@ open_among index (name ∷ names) = if has_name index name then open_among index
 -- F3 and F4 of a line of a model that places a child
 abbrev pub ports_fault : ModelValue → ℕ → SubcktValue → ModelValue → Option FlatErr
 ports_fault m line subckt child = formal_fault m (record { line = line; subckt = subckt }) child (unknown_formal child subckt.pairs)
-
--- the chain of models from a name's last place on, by one more model at the inner end
-abbrev pub add_chain : List ℕ → List (List ℕ) → List ℕ → List (List ℕ)
-add_chain name chain m = if bytes_eq name m then m ∷ [] else chain ++ m ∷ []

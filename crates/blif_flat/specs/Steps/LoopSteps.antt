@@ -1,8 +1,6 @@
 -- The covers of a loop by their numbers, and how they are written.
 use Rattle.std.specs.Prelude.{◌≡◌, ℕ, List, map, Some, slice_get}
-use Rattle.blif_read.specs.LibraryValue.{LibraryValue}
-use Rattle.blif_flat.specs.Nets.{cover_net}
-use Rattle.blif_flat.specs.Places.{Place}
+use Rattle.blif_flat.specs.Circuits.{LibraryValue, cover_net, Place}
 use Rattle.blif_flat.specs.Written.{IsWritten}
 use Rattle.blif_flat.specs.LoopFault.{AreWritten}
 

@@ -1,10 +1,6 @@
 -- The names that stand in a model: its ports, the names of its covers and latches, and the actuals of its connections.
 use Rattle.std.specs.Prelude.{List, [], ◌∷◌, ◌++◌, map, ℕ, Option, Some, None}
-use Rattle.blif_read.specs.declared.command.Body.{Body}
-use Rattle.blif_read.specs.declared.command.Body.TheVariants.{Cover, Latch, Subckt}
-use Rattle.blif_read.specs.declared.command.Command.{Command}
-use Rattle.blif_read.specs.declared.subckt.Pair.{Pair}
-use Rattle.blif_read.specs.LibraryValue.{ModelValue}
+use Rattle.blif_flat.specs.Words.{Body, Cover, Latch, Subckt, Command, Pair, ModelValue}
 
 abbrev pub control_names : Option (List ℕ) → List (List ℕ)
 control_names None = []

@@ -1,9 +1,8 @@
 -- The nets of the instances before any is known, and when all are.
 use Rattle.std.specs.Prelude.{◌≡◌, ℕ, List, [], None, Some, slice_get}
 use Rattle.list_laws.specs.Members.{In}
-use Rattle.blif_read.specs.LibraryValue.{ModelValue, LibraryValue}
+use Rattle.blif_flat.specs.Circuits.{ModelValue, LibraryValue, Path, model_at}
 use Rattle.blif_flat.specs.declared.instances.Instance.{Instance}
-use Rattle.blif_flat.specs.Models.{Path, model_at}
 use Rattle.blif_flat.specs.Flat.{Places}
 use Rattle.blif_flat.specs.Steps.InstanceRows.{paths_of}
 use Rattle.blif_flat.specs.Steps.ModelNames.{all_names}

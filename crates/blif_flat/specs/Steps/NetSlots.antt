@@ -2,7 +2,7 @@
 use Rattle.std.specs.Prelude.{◌≡◌, ℕ, ◌+◌, ◌<◌, ◌≤◌, Bool, if◌then◌else◌, List, [], ◌∷◌, length, Option, Some, None, slice_get, slice_set}
 use Rattle.std.specs.Option.{option_map, option_and_then}
 use Rattle.tl_text.specs.NameIndex.{place_of}
-use Rattle.blif_read.specs.declared.subckt.Pair.{Pair}
+use Rattle.blif_flat.specs.Words.{Pair}
 use Rattle.blif_flat.specs.declared.flat.Net.{Net as FlatNet}
 use Rattle.blif_flat.specs.declared.nets.Start.{Start}
 use Rattle.blif_flat.specs.Weight.{most_weight}

@@ -1,6 +1,6 @@
 -- Where the slots of each instance start: behind those of the instances before it.
 use Rattle.std.specs.Prelude.{ℕ, ◌+◌, List, [], ◌∷◌, length, Option, Some, None, slice_get}
-use Rattle.blif_read.specs.LibraryValue.{ModelValue}
+use Rattle.blif_flat.specs.Words.{ModelValue}
 use Rattle.blif_flat.specs.declared.instances.Instance.{Instance}
 use Rattle.blif_flat.specs.declared.nets.Start.{Start}
 use Rattle.blif_flat.specs.Steps.ModelNames.{all_names}

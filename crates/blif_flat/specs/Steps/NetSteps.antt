@@ -2,17 +2,12 @@
 use Rattle.std.specs.Prelude.{◌≡◌, ℕ, zero, suc, List, [], ◌∷◌, map, Option, Some, None, slice_get}
 use Rattle.std.specs.Option.{option_and_then}
 use Rattle.tl_text.specs.NameIndex.{place_of}
-use Rattle.blif_read.specs.declared.command.Body.{Body}
-use Rattle.blif_read.specs.declared.command.Body.TheVariants.{Cover, Latch, Subckt}
-use Rattle.blif_read.specs.declared.subckt.Pair.{Pair}
-use Rattle.blif_read.specs.SubcktValue.{SubcktValue}
-use Rattle.blif_read.specs.LibraryValue.{ModelValue, LibraryValue}
+use Rattle.blif_flat.specs.Circuits.{Body, Cover, Latch, Subckt, Pair, SubcktValue, ModelValue, LibraryValue, subckts_of, is_input, is_output}
 use Rattle.blif_flat.specs.declared.flat.Net.{Net as FlatNet}
 use Rattle.blif_flat.specs.declared.flat.Net.TheVariants.{Input as InputNumber, Latch as LatchNumber, Cover as CoverNumber}
 use Rattle.blif_flat.specs.declared.gates.Gate.{Gate}
 use Rattle.blif_flat.specs.declared.instances.Instance.{Instance}
 use Rattle.blif_flat.specs.declared.ports.Ports.{Ports}
-use Rattle.blif_flat.specs.Models.{subckts_of, is_input, is_output}
 use Rattle.blif_flat.specs.Steps.GateBodies.{gate_body}
 use Rattle.blif_flat.specs.Steps.NameSets.{ports_value}
 use Rattle.blif_flat.specs.Steps.NetSlots.{NetsValue, slot_number, with_found, pairs_out, pairs_in}

@@ -1,16 +1,7 @@
 -- A table of nets: for each instance by its place, and for each name, the number of the net that drives it.
 use Rattle.std.specs.Prelude.{◌≡◌, ℕ, ◌+◌, ◌<◌, ◌≤◌, ◌==◌, ◌&&◌, bytes_eq, Bool, List, [], ◌∷◌, length, take, if◌then◌else◌, Option, Some, None, slice_get, IsTrue}
-use Rattle.blif_read.specs.declared.command.Body.{Body}
-use Rattle.blif_read.specs.declared.command.Command.{Command}
-use Rattle.blif_read.specs.declared.latch.Latch.{Latch as LatchValue}
-use Rattle.blif_read.specs.declared.subckt.Pair.{Pair}
-use Rattle.blif_read.specs.CoverValue.{CoverValue}
-use Rattle.blif_read.specs.LibraryValue.{ModelValue, LibraryValue}
+use Rattle.blif_flat.specs.Circuits.{Body, Command, LatchValue, Pair, CoverValue, ModelValue, LibraryValue, Path, model_at, is_input, is_output, inputs_of, CoverAt, LatchAt, ConnectionAt, Net, Drives, is_cover, is_latch}
 use Rattle.blif_flat.specs.declared.flat.Net.{Net as FlatNet}
-use Rattle.blif_flat.specs.Models.{Path, model_at, is_input, is_output, inputs_of}
-use Rattle.blif_flat.specs.Instances.{CoverAt, LatchAt, ConnectionAt}
-use Rattle.blif_flat.specs.Nets.{Net, Drives}
-use Rattle.blif_flat.specs.Places.{is_cover, is_latch}
 use Rattle.blif_flat.specs.Steps.InstanceOrder.{places_at}
 use Rattle.blif_flat.specs.Flat.{Places, IsNetOf}
 

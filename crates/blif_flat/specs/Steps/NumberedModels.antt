@@ -1,6 +1,6 @@
 -- The models of several numbers.
 use Rattle.std.specs.Prelude.{ℕ, List, [], ◌∷◌, Option, Some, None, slice_get}
-use Rattle.blif_read.specs.LibraryValue.{ModelValue}
+use Rattle.blif_flat.specs.Words.{ModelValue}
 
 abbrev pub with_model : Option ModelValue → List ModelValue → List ModelValue
 with_model None ms = ms

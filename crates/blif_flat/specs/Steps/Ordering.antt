@@ -1,11 +1,9 @@
 -- The fields of a flat circuit by which its covers are walked.
 use Rattle.std.specs.Prelude.{◌≡◌, ℕ, List, [], ◌++◌, map, length, Some, slice_get}
-use Rattle.blif_read.specs.LibraryValue.{ModelValue, LibraryValue}
+use Rattle.blif_flat.specs.Circuits.{ModelValue, LibraryValue, Path, model_at, Place, is_cover, is_latch, FlatOrder}
 use Rattle.blif_flat.specs.declared.flat.Net.{Net as FlatNet}
 use Rattle.blif_flat.specs.declared.flat.FlatLatch.{FlatLatch}
 use Rattle.blif_flat.specs.FlatCoverValue.{FlatCoverValue}
-use Rattle.blif_flat.specs.Models.{Path, model_at}
-use Rattle.blif_flat.specs.Places.{Place, is_cover, is_latch, FlatOrder}
 use Rattle.blif_flat.specs.Steps.InstanceOrder.{places_at}
 use Rattle.blif_flat.specs.Flat.{Places, AreNetsOf, cover_numbers, IsFlatCover, IsFlatLatch}
 

@@ -1,14 +1,11 @@
 -- Nets are numbered anew by the main model's inputs without its clock nets.
 use Rattle.std.specs.Prelude.{◌≡◌, ℕ, ◌+◌, Bool, not, if◌then◌else◌, List, [], ◌∷◌, filter, length, map, Some, slice_get}
 use Rattle.list_laws.specs.Members.{In}
-use Rattle.blif_read.specs.LibraryValue.{ModelValue, LibraryValue}
+use Rattle.blif_flat.specs.Circuits.{ModelValue, LibraryValue, Path, model_at, inputs_of, Drives, input_net, IsClock, Place, is_cover, is_latch}
 use Rattle.blif_flat.specs.declared.flat.Net.{Net as FlatNet}
 use Rattle.blif_flat.specs.declared.flat.Net.TheVariants.{Input, Latch, Cover}
 use Rattle.blif_flat.specs.declared.flat.FlatLatch.{FlatLatch}
 use Rattle.blif_flat.specs.FlatCoverValue.{FlatCoverValue}
-use Rattle.blif_flat.specs.Models.{Path, model_at, inputs_of}
-use Rattle.blif_flat.specs.Nets.{Drives, input_net, IsClock}
-use Rattle.blif_flat.specs.Places.{Place, is_cover, is_latch}
 use Rattle.blif_flat.specs.Steps.InstanceOrder.{places_at}
 use Rattle.blif_flat.specs.Steps.InstanceRows.{number_or_zero}
 use Rattle.blif_flat.specs.Sound.{IsData}

@@ -1,11 +1,8 @@
 -- Rows that stand in earlier ones, each with its path; and the outputs of covers.
 use Rattle.std.specs.Prelude.{◌≡◌, ℕ, ◌<◌, List, [], Option, Some, None, slice_get}
 use Rattle.std.specs.Option.{option_and_then}
-use Rattle.blif_read.specs.CoverValue.{CoverValue}
-use Rattle.blif_read.specs.LibraryValue.{ModelValue, LibraryValue}
+use Rattle.blif_flat.specs.Circuits.{CoverValue, ModelValue, LibraryValue, body_at, cover_in}
 use Rattle.blif_flat.specs.declared.instances.Instance.{Instance}
-use Rattle.blif_flat.specs.Models.{body_at}
-use Rattle.blif_flat.specs.Places.{cover_in}
 use Rattle.blif_flat.specs.Steps.InstanceRows.{path_of, paths_of}
 
 pub record AreUnder (rows : List Instance) : Type 0 where

@@ -1,11 +1,9 @@
 -- What stands after each stage of flattening: the circuit's instances, gates and nets, and then its clock nets.
 use Rattle.std.specs.Prelude.{◌≡◌, ◌≤◌, List, length, map, None}
-use Rattle.blif_read.specs.LibraryValue.{ModelValue, LibraryValue}
+use Rattle.blif_flat.specs.Circuits.{ModelValue, LibraryValue, inputs_of, is_cover, is_latch}
 use Rattle.blif_flat.specs.declared.instances.Instance.{Instance}
 use Rattle.blif_flat.specs.declared.connect.Circuit.{Circuit}
 use Rattle.blif_flat.specs.declared.clock_check.ClockNets.{ClockNets}
-use Rattle.blif_flat.specs.Models.{inputs_of}
-use Rattle.blif_flat.specs.Places.{is_cover, is_latch}
 use Rattle.blif_flat.specs.Steps.InstanceRows.{AreInstances, paths_of}
 use Rattle.blif_flat.specs.Steps.InstanceOrder.{places_at}
 use Rattle.blif_flat.specs.ClockFaults.{is_gate, ClockData}

@@ -2,12 +2,7 @@
 use Rattle.std.specs.Prelude.{◌≡◌, ℕ, ◌+◌, min, List, [], ◌∷◌, take, Option, Some, None, slice_get, get_or}
 use Rattle.list_laws.specs.Members.{In}
 use Rattle.tl_text.specs.NameIndex.{place_of}
-use Rattle.blif_read.specs.declared.command.Body.{Body}
-use Rattle.blif_read.specs.declared.command.Body.TheVariants.{Cover, Latch, Subckt}
-use Rattle.blif_read.specs.declared.command.Command.{Command}
-use Rattle.blif_read.specs.SubcktValue.{SubcktValue}
-use Rattle.blif_read.specs.LibraryValue.{ModelValue, LibraryValue}
-use Rattle.blif_flat.specs.Models.{subckts_of}
+use Rattle.blif_flat.specs.Circuits.{Body, Cover, Latch, Subckt, Command, SubcktValue, ModelValue, LibraryValue, subckts_of}
 use Rattle.blif_flat.specs.Steps.NameSets.{model_names}
 use Rattle.blif_flat.specs.Weight.{most_weight, own_weight, Weighs}
 

@@ -1,15 +1,14 @@
-use Rattle.std.proofs.Common.{◌≡◌, ◌≤◌, List, [], ap, ◌∙◌, refl, subst, subst₂, arith, length, map}
-use Rattle.std.specs.Prelude.{reverse}
-use Rattle.blif_read.specs.LibraryValue.{ModelValue}
+use Rattle.std.proofs.Common.{◌≡◌, ◌≤◌, List, [], ap, ◌∙◌, refl, subst, subst₂, arith, length, map, reverse}
+use Rattle.blif_flat.specs.Words.{ModelValue}
 use Rattle.blif_flat.specs.declared.flat.OutPort.{OutPort}
 use Rattle.blif_flat.specs.declared.flat.FlatLatch.{FlatLatch}
 use Rattle.blif_flat.specs.Steps.ClockSteps.{clock_test, input_name}
 use Rattle.blif_flat.specs.Steps.CoverWalk.{cover_reads}
 use Rattle.blif_flat.specs.Weight.{most_weight}
 use Rattle.blif_flat.specs.Steps.Ordering.{root_numbers}
-use Rattle.blif_flat.specs.DepthFirst.{PostsAll}
+use Rattle.depth_first.specs.DepthFirst.{PostsAll}
 use Rattle.blif_flat.specs.Steps.RegularNets.{regular_numbers}
-use Rattle.blif_flat.proofs.AssembleLemmas.{few_marks, covers_known, latches_known, nets_known, names_known, few_covers, counted_as, fields}
+use Rattle.blif_flat.proofs.Fields.AssembleLemmas.{few_marks, covers_known, latches_known, nets_known, names_known, few_covers, counted_as, fields}
 use Rattle.blif_flat.proofs.assemble.assemble.Goals as goal
 
 pub regular_numbers-requires : goal.regular_numbers-requires

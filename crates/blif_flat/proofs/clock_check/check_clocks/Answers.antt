@@ -2,16 +2,14 @@ use Rattle.std.proofs.Common.{◌≡◌, [], map, None, Some, ap, sym, ◌∙◌
 use Rattle.std.proofs.lemmas.Option.{same_Some}
 use Rattle.tl_fault.specs.OrMemory.{OrMemory}
 use Rattle.tl_fault.proofs.PassedOn.{passed_on}
-use Rattle.blif_read.specs.LibraryValue.{ModelValue}
+use Rattle.blif_flat.specs.Circuits.{ModelValue, model_at, inputs_of, is_latch}
 use Rattle.blif_flat.specs.Refusals.{refusal_of}
-use Rattle.blif_flat.specs.Models.{model_at, inputs_of}
-use Rattle.blif_flat.specs.Places.{is_latch}
 use Rattle.blif_flat.specs.Steps.InstanceOrder.{places_at}
 use Rattle.blif_flat.specs.Steps.InstanceRows.{paths_of}
 use Rattle.blif_flat.specs.ClockFaults.{Clocks, is_gate, ClockData}
 use Rattle.blif_flat.specs.Steps.ClockSteps.{clock_test, input_name, IsControlled}
-use Rattle.blif_flat.proofs.StageLemmas.{control_refused, data_refused}
-use Rattle.blif_flat.proofs.MarkLemmas.{clocks_told}
+use Rattle.blif_flat.proofs.Faults.StageLemmas.{control_refused, data_refused}
+use Rattle.blif_flat.proofs.Clocking.MarkLemmas.{clocks_told}
 use Rattle.blif_flat.proofs.clock_check.check_clocks.Goals as goal
 
 pub returns-in_err-control-clause-err : goal.returns-in_err-control-clause-err

@@ -1,12 +1,11 @@
-use Rattle.std.proofs.Common.{◌≡◌, ◌∙◌, List, get_or, Option, Some, None, sym, ap}
-use Rattle.std.specs.Prelude.{slice_get}
+use Rattle.std.proofs.Common.{◌≡◌, ◌∙◌, List, get_or, Option, Some, None, sym, ap, slice_get}
 use Rattle.std.proofs.lemmas.Option.{slice_get-get_or, get_or_from_slice_get}
-use Rattle.blif_read.specs.LibraryValue.{ModelValue, LibraryValue}
+use Rattle.blif_flat.specs.Words.{ModelValue, LibraryValue}
 use Rattle.blif_flat.specs.declared.gates.Gate.{Gate}
 use Rattle.blif_flat.specs.declared.flat_err.FlatErr.{FlatErr}
 use Rattle.blif_flat.specs.Refusals.{refusal_of}
 use Rattle.blif_flat.specs.Steps.DataSteps.{names_fault}
-use Rattle.blif_flat.proofs.DataStepLemmas.{tells_ok, tells_err, gate_place, gate_passed, gate_refused, outputs_said}
+use Rattle.blif_flat.proofs.Clocking.DataStepLemmas.{tells_ok, tells_err, gate_place, gate_passed, gate_refused, outputs_said}
 use Rattle.blif_flat.proofs.clock_data.check_data.Goals as goal
 use Rattle.blif_flat.proofs.clock_data.check_data.Goals.{After-check_names}
 use Rattle.tl_fault.proofs.OrMemoryLemmas.{Unless-map}

@@ -1,7 +1,6 @@
 use Rattle.std.proofs.Common.{◌≡◌, [], drop, Option, Some}
-use Rattle.blif_read.specs.LibraryValue.{ModelValue}
+use Rattle.blif_flat.specs.Circuits.{ModelValue, model_at}
 use Rattle.blif_flat.specs.declared.flat_err.FlatErr.{FlatErr}
-use Rattle.blif_flat.specs.Models.{model_at}
 use Rattle.blif_flat.specs.Steps.InstanceRows.{paths_of}
 use Rattle.blif_flat.specs.Steps.InstanceOrder.{places_at}
 use Rattle.blif_flat.specs.ClockFaults.{is_gate, ClockData}

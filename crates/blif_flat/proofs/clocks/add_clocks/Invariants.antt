@@ -1,5 +1,4 @@
-use Rattle.std.proofs.Common.{◌≡◌, ◌++◌, not, drop}
-use Rattle.std.specs.Prelude.{filter}
+use Rattle.std.proofs.Common.{◌≡◌, ◌++◌, not, drop, filter}
 use Rattle.blif_flat.specs.Models.{has_name}
 use Rattle.blif_flat.proofs.clocks.add_clocks.Given as goal
 

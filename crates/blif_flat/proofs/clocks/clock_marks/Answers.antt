@@ -1,7 +1,6 @@
-use Rattle.std.proofs.Common.{◌≡◌, ◌∙◌, Bool, List, ap, subst}
-use Rattle.std.specs.Prelude.{IfOk}
-use Rattle.blif_read.specs.LibraryValue.{ModelValue}
-use Rattle.blif_flat.proofs.InputLemmas.{marked_inputs}
+use Rattle.std.proofs.Common.{◌≡◌, ◌∙◌, Bool, List, ap, subst, IfOk}
+use Rattle.blif_flat.specs.Words.{ModelValue}
+use Rattle.blif_flat.proofs.Clocking.MarkLemmas.{marked_inputs}
 use Rattle.blif_flat.proofs.clocks.clock_marks.Goals as goal
 
 pub returns : goal.returns

@@ -1,6 +1,4 @@
-use Rattle.std.proofs.Common.{◌≡◌, ◌++◌, ◌||◌, map, drop}
-use Rattle.std.specs.Prelude.{slice_get}
-use Rattle.std.specs.Option.{option_and_then}
+use Rattle.std.proofs.Common.{◌≡◌, ◌++◌, ◌||◌, map, drop, slice_get, option_and_then}
 use Rattle.blif_flat.specs.Models.{has_name}
 use Rattle.blif_flat.specs.Steps.ClockSteps.{is_control}
 use Rattle.blif_flat.proofs.clocks.marks_of.Given as goal

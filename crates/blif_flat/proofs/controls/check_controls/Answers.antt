@@ -6,8 +6,8 @@ use Rattle.blif_flat.specs.Places.{is_latch}
 use Rattle.blif_flat.specs.Steps.InstanceRows.{paths_of}
 use Rattle.blif_flat.specs.Steps.InstanceOrder.{places_at}
 use Rattle.blif_flat.specs.Steps.ControlSteps.{input_at}
-use Rattle.blif_flat.proofs.GateWalkLemmas.{gate_within}
-use Rattle.blif_flat.proofs.ControlStepLemmas.{gate_passed, gate_refused, all_passed, came_end}
+use Rattle.blif_flat.proofs.Hierarchy.GateLemmas.{gate_within}
+use Rattle.blif_flat.proofs.Clocking.ControlStepLemmas.{gate_passed, gate_refused, all_passed, came_end}
 use Rattle.tl_fault.proofs.OrMemoryLemmas.{Unless-map}
 use Rattle.tl_fault.proofs.PassedOn.{passed_on}
 use Rattle.blif_flat.proofs.controls.check_controls.Goals as goal

@@ -3,7 +3,7 @@ use Rattle.std.proofs.lemmas.Option.{same_Some}
 use Rattle.blif_flat.specs.declared.flat.Net.TheVariants.{Input, Latch, Cover}
 use Rattle.blif_flat.specs.Refusals.{refusal_of}
 use Rattle.blif_flat.specs.Steps.NetSlots.{table_of}
-use Rattle.blif_flat.proofs.ControlStepLemmas.{none_read, met_input, met_another, met_latch, met_cover, input_within, latch_within, cover_within, kept_within}
+use Rattle.blif_flat.proofs.Clocking.ControlStepLemmas.{none_read, met_input, met_another, met_latch, met_cover, input_within, latch_within, cover_within, kept_within}
 use Rattle.blif_flat.proofs.controls.meet_control.Goals as goal
 use Rattle.blif_flat.proofs.controls.meet_control.Goals.{In-Some-Input, In-Some-Latch, In-Some-Cover}
 use Rattle.tl_fault.proofs.OrMemoryLemmas.{Unless-map}
@@ -26,8 +26,8 @@ pub write_latch-requires-clause-here : goal.write_latch-requires-clause-here
 write_latch-requires-clause-here c =
     latch_within c.args.library.now c.args.rows.now c.requires.rows c.args.nets.now c.requires.nets c.args.row c.args.control.now c.requires.here c.args.latches.now c.requires.latches c.in-Some-Latch.k (at_latch c)
 
-pub write_gate_cover-requires-clause-here : goal.write_gate_cover-requires-clause-here
-write_gate_cover-requires-clause-here c =
+pub written_cover-requires-clause-here : goal.written_cover-requires-clause-here
+written_cover-requires-clause-here c =
     cover_within c.args.library.now c.args.rows.now c.requires.rows c.args.nets.now c.requires.nets c.args.row c.args.control.now c.requires.here c.args.covers.now c.requires.covers c.in-Some-Cover.k (at_cover c)
 
 pub returns-in-None-clause-ok : goal.returns-in-None-clause-ok
@@ -57,8 +57,8 @@ returns-in_ok-write_latch-in-Some-Latch-clause-err c = λ path at.
     met_latch c.args.library.now c.args.rows.now c.requires.rows c.args.nets.now c.requires.nets c.args.row c.args.control.now c.args.inputs.now c.requires.inputs path at c.args.first c.in-Some-Latch.k
     c.in_ok-write_latch-in-Some-Latch.field-0 (at_latch (goal.at.returns-in_ok-write_latch-in-Some-Latch-clause-err c).In-Some-Latch) c.in_ok-write_latch-in-Some-Latch.ensures
 
-pub returns-in_ok-write_gate_cover-in-Some-Cover-clause-err :
-    goal.returns-in_ok-write_gate_cover-in-Some-Cover-clause-err
-returns-in_ok-write_gate_cover-in-Some-Cover-clause-err c = λ path at.
+pub returns-in_ok-written_cover-in-Some-Cover-clause-err :
+    goal.returns-in_ok-written_cover-in-Some-Cover-clause-err
+returns-in_ok-written_cover-in-Some-Cover-clause-err c = λ path at.
     met_cover c.args.library.now c.args.rows.now c.requires.rows c.args.nets.now c.requires.nets c.args.row c.args.control.now c.args.inputs.now c.requires.inputs path at c.args.first c.in-Some-Cover.k
-    c.in_ok-write_gate_cover-in-Some-Cover.field-0 (at_cover (goal.at.returns-in_ok-write_gate_cover-in-Some-Cover-clause-err c).In-Some-Cover) c.in_ok-write_gate_cover-in-Some-Cover.ensures
+    c.in_ok-written_cover-in-Some-Cover.field-0 (at_cover (goal.at.returns-in_ok-written_cover-in-Some-Cover-clause-err c).In-Some-Cover) c.in_ok-written_cover-in-Some-Cover.ensures

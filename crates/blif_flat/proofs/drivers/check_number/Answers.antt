@@ -1,7 +1,6 @@
-use Rattle.std.proofs.Common.{length, ap, sym, subst, refl, ◌∙◌}
-use Rattle.std.specs.List.{slice_get}
+use Rattle.std.proofs.Common.{length, ap, sym, subst, refl, ◌∙◌, slice_get}
 use Rattle.std.proofs.lemmas.Option.{slice_get_read, slice_get_past}
-use Rattle.blif_read.specs.LibraryValue.{LibraryValue}
+use Rattle.blif_flat.specs.Words.{LibraryValue}
 use Rattle.blif_flat.specs.Steps.DriverSteps.{Tells, fault_of}
 use Rattle.blif_flat.proofs.drivers.check_number.Goals as goal
 

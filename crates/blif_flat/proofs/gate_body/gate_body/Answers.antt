@@ -1,7 +1,7 @@
 use Rattle.std.proofs.Common.{◌<◌, ◌∙◌, length, refl, arith}
 use Rattle.std.proofs.lemmas.Option.{slice_get_read}
 use Rattle.blif_flat.specs.Steps.GateBodies.{place_body}
-use Rattle.blif_flat.proofs.GateBodyLemmas.{row_within, row_body, found_by}
+use Rattle.blif_flat.proofs.Hierarchy.GateLemmas.{row_within, row_body, found_by}
 use Rattle.blif_flat.proofs.gate_body.gate_body.Goals as goal
 
 pub returns-in-None-clause-place : goal.returns-in-None-clause-place

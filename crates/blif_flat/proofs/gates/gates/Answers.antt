@@ -5,7 +5,7 @@ use Rattle.blif_flat.specs.Steps.InstanceRows.{paths_of}
 use Rattle.blif_flat.specs.Steps.InstanceOrder.{places_at}
 use Rattle.blif_flat.specs.Steps.Gates.{kind_test, AreGatesAt}
 use Rattle.blif_flat.specs.Steps.GateRows.{with_rows}
-use Rattle.blif_flat.proofs.GateRowLemmas.{all_listed, all_gates, few_gates, row_commands}
+use Rattle.blif_flat.proofs.Hierarchy.GateLemmas.{all_listed, all_gates, few_gates, row_commands}
 use Rattle.blif_flat.proofs.gates.gates.Goals as goal
 
 pub add_model-requires : goal.add_model-requires

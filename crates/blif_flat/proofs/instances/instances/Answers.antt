@@ -1,14 +1,11 @@
-use Rattle.std.proofs.Common.{◌≡◌, ◌+◌, ◌<◌, List, [], ◌∷◌, ◌++◌, length, reverse, Some, ap, sym, subst, ◌∙◌, arith}
+use Rattle.std.proofs.Common.{◌≡◌, ◌+◌, ◌<◌, List, [], ◌∷◌, ◌++◌, length, reverse, Some, ap, sym, subst, ◌∙◌, arith, slice_get}
 use Rattle.std.specs.Vec.{vec_len}
-use Rattle.std.specs.List.{slice_get}
-use Rattle.std.proofs.lemmas.List.{length-append}
-use Rattle.std.proofs.lemmas.Option.{same_Some, slice_get_within}
-use Rattle.blif_read.specs.LibraryValue.{ModelValue}
+use Rattle.blif_flat.proofs.Common.{length-append, same_Some, slice_get_within}
+use Rattle.blif_flat.specs.Circuits.{ModelValue, subckts_of}
 use Rattle.blif_flat.specs.declared.instances.Instance.{Instance}
-use Rattle.blif_flat.specs.Models.{subckts_of}
 use Rattle.blif_flat.specs.Steps.InstanceRows.{Listed, entries_from}
 use Rattle.blif_flat.specs.Weight.{most_weight}
-use Rattle.blif_flat.proofs.InstanceRowLemmas.{listed_begin, listed_pushed, listed_empty, next_popped}
+use Rattle.blif_flat.proofs.Hierarchy.InstanceRowLemmas.{listed_begin, listed_pushed, listed_empty, next_popped}
 use Rattle.blif_flat.proofs.instances.instances.Goals as goal
 
 pub loop-entry-init : goal.loop-entry-init

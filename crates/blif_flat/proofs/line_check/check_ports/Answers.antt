@@ -1,9 +1,8 @@
 use Rattle.std.proofs.Common.{◌∙◌, ap}
 use Rattle.std.proofs.lemmas.Result.{on_ok_weaker, IfErr-weaker}
 use Rattle.tl_fault.proofs.PassedOn.{passed_on}
-use Rattle.blif_read.specs.SubcktValue.{SubcktValue}
-use Rattle.blif_read.specs.LibraryValue.{ModelValue}
-use Rattle.blif_flat.proofs.LineLemmas.{IsRead, formals_err, inputs_err, clocks_err, line_ok}
+use Rattle.blif_flat.specs.Words.{SubcktValue, ModelValue}
+use Rattle.blif_flat.proofs.Models.LineLemmas.{IsRead, formals_err, inputs_err, clocks_err, line_ok}
 use Rattle.blif_flat.proofs.line_check.check_ports.Goals as goal
 
 pub returns-in_err-check_formals-clause-err : goal.returns-in_err-check_formals-clause-err

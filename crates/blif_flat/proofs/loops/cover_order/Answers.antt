@@ -3,9 +3,9 @@ use Rattle.blif_flat.specs.declared.flat.OutPort.{OutPort}
 use Rattle.blif_flat.specs.Steps.InstanceRows.{paths_of}
 use Rattle.blif_flat.specs.Places.{is_cover}
 use Rattle.blif_flat.specs.Steps.InstanceOrder.{places_at}
-use Rattle.blif_flat.specs.Steps.CoverWalk.{IsFound, IsNumberLoop}
+use Rattle.blif_flat.specs.Steps.CoverWalk.{IsFound, IsNumberLoop, all_starts}
 use Rattle.blif_flat.specs.Steps.LoopSteps.{AreWrittenAt}
-use Rattle.blif_flat.proofs.LoopOrderLemmas.{walked_range, walked_roots, walked_clean, loop_inside, loop_told}
+use Rattle.blif_flat.proofs.Fields.LoopOrderLemmas.{walked_range, walked_roots, walked_clean, loop_inside, loop_told}
 use Rattle.blif_flat.proofs.loops.cover_order.Goals as goal
 
 pub walk_covers-requires-clause-range : goal.walk_covers-requires-clause-range
@@ -26,11 +26,11 @@ pub written_covers-requires-clause-here : goal.written_covers-requires-clause-he
 written_covers-requires-clause-here c =
     loop_inside c.args.library.now c.requires.driven (paths_of c.args.rows.now) (map (λ (o : OutPort). o.net) c.args.outputs.now) c.args.covers.now c.args.latches.now c.requires.walked c.args.gates.now c.requires.gates
     c.deref.result.now c.deref-in-Loop.result.now (c.deref.ensures.value ∙ c.in_ok-roots.ensures)
-    (subst (IsNumberLoop c.args.covers.now c.deref.result.now) (sym c.deref-in-Loop.ensures.value) (subst (IsFound c.args.covers.now c.deref.result.now) c.in-Loop.is c.in_ok-order.ensures))
+    (subst (IsNumberLoop c.args.covers.now (all_starts c.args.covers.now c.deref.result.now)) (sym c.deref-in-Loop.ensures.value) (subst (IsFound c.args.covers.now c.deref.result.now) c.in-Loop.is c.in_ok-order.ensures))
 
 pub returns-clause-err : goal.returns-clause-err
 returns-clause-err c =
     loop_told c.args.library.now c.requires.driven (paths_of c.args.rows.now) (map (λ (o : OutPort). o.net) c.args.outputs.now) c.args.covers.now c.args.latches.now c.requires.walked
     c.deref.result.now c.deref-in-Loop.result.now c.make.result (c.deref.ensures.value ∙ c.in_ok-roots.ensures)
-    (subst (IsNumberLoop c.args.covers.now c.deref.result.now) (sym c.deref-in-Loop.ensures.value) (subst (IsFound c.args.covers.now c.deref.result.now) c.in-Loop.is c.in_ok-order.ensures))
+    (subst (IsNumberLoop c.args.covers.now (all_starts c.args.covers.now c.deref.result.now)) (sym c.deref-in-Loop.ensures.value) (subst (IsFound c.args.covers.now c.deref.result.now) c.in-Loop.is c.in_ok-order.ensures))
     (subst (AreWrittenAt c.args.library.now (places_at c.args.library.now is_cover (paths_of c.args.rows.now)) c.deref-in-Loop.result.now) (sym c.make.ensures) c.in_ok-texts-in-Loop.ensures)

@@ -1,10 +1,9 @@
 use Rattle.std.proofs.Common.{get_or}
-use Rattle.std.proofs.lemmas.Option.{slice_get-get_or}
-use Rattle.list_laws.proofs.Members.{In-get}
+use Rattle.blif_flat.proofs.Common.{slice_get-get_or, In-get}
 use Rattle.blif_flat.specs.Places.{is_cover}
 use Rattle.blif_flat.specs.Steps.InstanceOrder.{places_at}
 use Rattle.blif_flat.specs.Steps.InstanceRows.{paths_of}
-use Rattle.blif_flat.proofs.LoopOrderLemmas.{written_start, written_next}
+use Rattle.blif_flat.proofs.Fields.LoopOrderLemmas.{written_start, written_next}
 use Rattle.blif_flat.proofs.loops.written_covers.Goals as goal
 
 pub loop-number-init : goal.loop-number-init

@@ -1,5 +1,5 @@
 use Rattle.std.proofs.Common.{◌∙◌, sym}
-use Rattle.blif_flat.proofs.NameSetLemmas.{place_none}
+use Rattle.blif_flat.proofs.Models.NameSetLemmas.{place_none}
 use Rattle.blif_flat.proofs.name_set.add_once.Goals as goal
 
 pub add-requires : goal.add-requires

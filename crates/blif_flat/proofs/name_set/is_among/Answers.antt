@@ -1,5 +1,5 @@
 use Rattle.std.proofs.Common.{◌∙◌, ap, is_some}
-use Rattle.blif_flat.proofs.NameSetLemmas.{place_some}
+use Rattle.blif_flat.proofs.Models.NameSetLemmas.{place_some}
 use Rattle.blif_flat.proofs.name_set.is_among.Goals as goal
 
 pub returns : goal.returns

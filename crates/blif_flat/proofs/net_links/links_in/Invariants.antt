@@ -1,5 +1,5 @@
 use Rattle.std.proofs.Common.{◌≡◌}
-use Rattle.blif_read.specs.LibraryValue.{LibraryValue}
+use Rattle.blif_flat.specs.Words.{LibraryValue}
 use Rattle.blif_flat.specs.Steps.NetSlots.{IsNets}
 use Rattle.blif_flat.specs.Steps.NetSteps.{links_in, AreLinesOf}
 use Rattle.blif_flat.proofs.net_links.links_in.Given as goal

@@ -1,5 +1,5 @@
 use Rattle.std.proofs.Common.{◌≡◌, length}
-use Rattle.blif_read.specs.LibraryValue.{LibraryValue}
+use Rattle.blif_flat.specs.Words.{LibraryValue}
 use Rattle.blif_flat.specs.Steps.NetSlots.{IsNets}
 use Rattle.blif_flat.specs.Steps.NetSteps.{links_out, AreLinesOf}
 use Rattle.blif_flat.proofs.net_links.links_out.Given as goal

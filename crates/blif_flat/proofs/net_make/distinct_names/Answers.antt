@@ -1,9 +1,9 @@
 use Rattle.std.proofs.Common.{◌≡◌, [], IfOk, subst, ap, ◌∙◌}
-use Rattle.blif_read.specs.LibraryValue.{ModelValue}
+use Rattle.blif_flat.specs.Words.{ModelValue}
 use Rattle.blif_flat.specs.Steps.ModelNames.{commands_names}
 use Rattle.blif_flat.specs.Steps.NameSets.{with_names}
 use Rattle.blif_flat.specs.Steps.NetStarts.{distinct_names}
-use Rattle.blif_flat.proofs.ModelNameLemmas.{model_split}
+use Rattle.blif_flat.proofs.Models.ModelNameLemmas.{model_split}
 use Rattle.blif_flat.proofs.net_make.distinct_names.Goals as goal
 
 pub returns : goal.returns

@@ -1,10 +1,10 @@
 use Rattle.std.proofs.Common.{◌≡◌, ◌≤◌, map, sym, ap, ◌∙◌, subst}
-use Rattle.blif_read.specs.LibraryValue.{LibraryValue}
+use Rattle.blif_flat.specs.Words.{LibraryValue}
 use Rattle.blif_flat.specs.Steps.InstanceRows.{paths_of}
 use Rattle.blif_flat.specs.Steps.NetMade.{AreEmptyNets}
 use Rattle.blif_flat.specs.Steps.NetStarts.{distinct_names, starts_from, slot_count}
 use Rattle.blif_flat.specs.Weight.{most_weight}
-use Rattle.blif_flat.proofs.NetStartLemmas.{few_slots, nets_made}
+use Rattle.blif_flat.proofs.Connections.NetStartLemmas.{few_slots, nets_made}
 use Rattle.blif_flat.proofs.net_make.make_nets.Goals as goal
 
 pub row_starts-requires : goal.row_starts-requires

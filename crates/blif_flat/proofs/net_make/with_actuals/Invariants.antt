@@ -1,5 +1,5 @@
 use Rattle.std.proofs.Common.{◌≡◌, map, drop}
-use Rattle.blif_read.specs.declared.subckt.Pair.{Pair}
+use Rattle.blif_flat.specs.Words.{Pair}
 use Rattle.blif_flat.specs.Steps.NameSets.{with_names}
 use Rattle.blif_flat.proofs.net_make.with_actuals.Given as goal
 

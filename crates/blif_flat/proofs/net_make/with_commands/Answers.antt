@@ -1,7 +1,7 @@
 use Rattle.std.proofs.Common.{◌+◌, drop, ap, sym, ◌∙◌}
 use Rattle.blif_flat.specs.Steps.ModelNames.{commands_names}
 use Rattle.blif_flat.specs.Steps.NameSets.{with_names}
-use Rattle.blif_flat.proofs.ModelNameLemmas.{commands_split}
+use Rattle.blif_flat.proofs.Models.ModelNameLemmas.{commands_split}
 use Rattle.blif_flat.proofs.net_make.with_commands.Goals as goal
 
 pub loop-command-preserved : goal.loop-command-preserved

@@ -1,7 +1,7 @@
 use Rattle.std.proofs.Common.{◌≡◌, [], ◌∷◌, ap, sym, ◌∙◌}
-use Rattle.blif_read.specs.CoverValue.{CoverValue}
+use Rattle.blif_flat.specs.Words.{CoverValue}
 use Rattle.blif_flat.specs.Steps.NameSets.{with_name, with_names}
-use Rattle.blif_flat.proofs.ModelNameLemmas.{with_names-append}
+use Rattle.blif_flat.proofs.Models.ModelNameLemmas.{with_names-append}
 use Rattle.blif_flat.proofs.net_make.with_cover.Goals as goal
 
 pub returns : goal.returns

@@ -1,7 +1,6 @@
 use Rattle.std.proofs.Common.{map, ap, ◌∙◌}
-use Rattle.blif_read.specs.LibraryValue.{ModelValue, LibraryValue}
-use Rattle.blif_flat.specs.Models.{subckts_of}
-use Rattle.blif_flat.proofs.NetFilledLemmas.{inputs_fit, filled}
+use Rattle.blif_flat.specs.Circuits.{ModelValue, LibraryValue, subckts_of}
+use Rattle.blif_flat.proofs.Connections.NetAllLemmas.{inputs_fit, filled}
 use Rattle.blif_flat.proofs.net_table.fill_nets.Goals as goal
 
 pub set_inputs-requires-clause-few : goal.set_inputs-requires-clause-few

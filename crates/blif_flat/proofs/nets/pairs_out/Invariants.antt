@@ -1,6 +1,5 @@
 use Rattle.std.proofs.Common.{◌≡◌, drop}
-use Rattle.blif_read.specs.LibraryValue.{ModelValue}
-use Rattle.blif_flat.specs.Models.{is_output}
+use Rattle.blif_flat.specs.Circuits.{ModelValue, is_output}
 use Rattle.blif_flat.specs.Steps.NameSets.{ports_value}
 use Rattle.blif_flat.specs.Steps.NetSlots.{pairs_out, IsNets}
 use Rattle.blif_flat.proofs.nets.pairs_out.Given as goal

@@ -1,36 +1,31 @@
-use Rattle.std.proofs.Common.{length, refl, sym, subst}
-use Rattle.list_laws.specs.Members.{In}
+use Rattle.std.proofs.Common.{◌∙◌, ap, length, subst}
 use Rattle.list_laws.proofs.Places.{at_within}
-use Rattle.tl_fault.proofs.PassedOn.{passed_on}
-use Rattle.blif_flat.specs.Steps.NumberedModels.{models_at}
-use Rattle.blif_flat.specs.Walk.{walked, WalksMain}
-use Rattle.blif_flat.specs.Steps.Weighing.{AreChildrenFirst}
-use Rattle.blif_flat.proofs.WalkStepLemmas.{main_walk, main_ok, main_children, main_ended, main_err}
+use Rattle.depth_first.specs.Walk.{WalkValue, Visited}
+use Rattle.blif_flat.specs.Steps.ModelGraph.{edges_at}
+use Rattle.blif_flat.proofs.Models.ModelWalkLemmas.{graph_nodes, children_first, order_within, visit_walks, visit_faulty, visit_refuses}
 use Rattle.blif_flat.proofs.walk.walk_slice.Goals as goal
 
-pub run-requires-clause-walk : goal.run-requires-clause-walk
-run-requires-clause-walk c =
-    let first = at_within c.args.models.now 0 c.requires.some in
-    main_walk c.args.models.now c.requires.names (length c.args.models.now) first.0 c.in_ok-begun.begun refl first.1 c.in_ok-begun.ensures
+pub visit-requires-clause-nodes : goal.visit-requires-clause-nodes
+visit-requires-clause-nodes c = graph_nodes c.args.models.now c.requires.names c.in_ok-graph.graph.rows.items c.in_ok-graph.ensures c.in_ok-walk.walk.count (ap (λ (w : WalkValue). w.count) c.in_ok-walk.ensures)
 
-pub returns-clause-ok : goal.returns-clause-ok
-returns-clause-ok c main at =
-    subst (λ ns. WalksMain (record { models = c.args.models.now }) main (walked (models_at c.args.models.now ns))) (sym c.into_orders.ensures.begun)
-    (main_ok c.args.models.now (length c.args.models.now) main c.in_ok-begun.begun c.in_ok-end.end at c.in_ok-begun.ensures c.in_ok-end.ensures.ok c.in_ok-end.ensures.ended)
+pub unreachable-requires : goal.unreachable-requires
+unreachable-requires c =
+    let main = at_within c.args.models.now 0 c.requires.some in
+    visit_faulty c.args.models.now c.requires.names (length c.args.models.now) c.in_ok-walk.walk c.visit.new.self c.in_ok-walk.ensures main.0 main.1 c.in-Some.field-0
+    (subst (Visited _ c.in_ok-walk.walk c.visit.new.self 0) c.in-Some.is (subst (λ rows. Visited (edges_at rows) c.in_ok-walk.walk c.visit.new.self 0 c.in_ok-visit.field-0) c.in_ok-graph.ensures c.in_ok-visit.ensures.ok)) c.in-Ok.ensures.ok
 
-pub returns-in_err-end-clause-err : goal.returns-in_err-end-clause-err
-returns-in_err-end-clause-err c =
-    passed_on c.from_residual-in_err-end.result c.in_err-end.field-0.0 _ _ c.from_residual-in_err-end.ensures.1
-    (λ main at. main_err c.args.models.now (length c.args.models.now) main c.in_ok-begun.begun c.in_err-end.field-0.0 at c.in_ok-begun.ensures c.in_err-end.ensures.err)
+pub returns-in-None-clause-ok : goal.returns-in-None-clause-ok
+returns-in-None-clause-ok c main at =
+    visit_walks c.args.models.now c.requires.names (length c.args.models.now) c.in_ok-walk.walk c.visit.new.self c.in_ok-walk.ensures main at
+    (subst (Visited _ c.in_ok-walk.walk c.visit.new.self 0) c.in-None.is (subst (λ rows. Visited (edges_at rows) c.in_ok-walk.walk c.visit.new.self 0 c.in_ok-visit.field-0) c.in_ok-graph.ensures c.in_ok-visit.ensures.ok))
 
-pub returns-clause-children : goal.returns-clause-children
-returns-clause-children c =
-    let first = at_within c.args.models.now 0 c.requires.some in
-    subst (AreChildrenFirst (record { models = c.args.models.now })) (sym c.into_orders.ensures.ended)
-    (main_children c.args.models.now (length c.args.models.now) first.0 c.in_ok-begun.begun c.in_ok-end.end refl first.1 c.in_ok-begun.ensures c.in_ok-end.ensures.ok)
+pub returns-in-None-clause-children : goal.returns-in-None-clause-children
+returns-in-None-clause-children c =
+    let d = subst (Visited _ c.in_ok-walk.walk c.visit.new.self 0) c.in-None.is (subst (λ rows. Visited (edges_at rows) c.in_ok-walk.walk c.visit.new.self 0 c.in_ok-visit.field-0) c.in_ok-graph.ensures c.in_ok-visit.ensures.ok) in
+    children_first c.args.models.now c.requires.names c.visit.new.self.order d.settled
+    (order_within c.args.models.now c.requires.names (length c.args.models.now) c.in_ok-walk.walk c.visit.new.self c.in_ok-walk.ensures d c.requires.some)
 
-pub returns-clause-main : goal.returns-clause-main
-returns-clause-main c =
-    let first = at_within c.args.models.now 0 c.requires.some in
-    subst (λ ns. In ns 0) (sym c.into_orders.ensures.ended)
-    (main_ended c.args.models.now (length c.args.models.now) first.0 c.in_ok-begun.begun c.in_ok-end.end refl first.1 c.in_ok-begun.ensures c.in_ok-end.ensures.ok c.in_ok-end.ensures.ended)
+pub returns-in-Err-clause-err : goal.returns-in-Err-clause-err
+returns-in-Err-clause-err c main at =
+    visit_refuses c.args.models.now c.requires.names (length c.args.models.now) c.in_ok-walk.walk c.visit.new.self c.in_ok-walk.ensures main at c.in-Some.field-0 c.in-Err.error
+    (subst (Visited _ c.in_ok-walk.walk c.visit.new.self 0) c.in-Some.is (subst (λ rows. Visited (edges_at rows) c.in_ok-walk.walk c.visit.new.self 0 c.in_ok-visit.field-0) c.in_ok-graph.ensures c.in_ok-visit.ensures.ok)) c.in-Err.ensures.err

@@ -1,6 +1,5 @@
-use Rattle.std.proofs.Common.{ap, sym, ◌∙◌}
-use Rattle.std.specs.List.{slice_get}
-use Rattle.blif_flat.proofs.WeightLemmas.{weight_told}
+use Rattle.std.proofs.Common.{ap, sym, ◌∙◌, slice_get}
+use Rattle.blif_flat.proofs.Models.WeightLemmas.{weight_told}
 use Rattle.blif_flat.proofs.weight.check_weight.Goals as goal
 
 pub returns : goal.returns

@@ -1,5 +1,5 @@
 use Rattle.std.proofs.Common.{◌≡◌, ◌<◌, length, slice_index_or, arith}
-use Rattle.blif_flat.proofs.WeightLemmas.{order_inside, kept_next}
+use Rattle.blif_flat.proofs.Models.WeightLemmas.{order_inside, kept_next}
 use Rattle.blif_flat.proofs.weight.weigh.Goals as goal
 
 pub keep_weight-requires-clause-model : goal.keep_weight-requires-clause-model

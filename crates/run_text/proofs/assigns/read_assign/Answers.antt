@@ -1,7 +1,7 @@
 use Rattle.std.proofs.Common.{◌≡◌, ℕ, true, false, List, Some, is_some, sym, ap, ◌∙◌}
 use Rattle.std.specs.Option.{option_map}
 use Rattle.blif_flat.specs.Models.{has_name}
-use Rattle.blif_flat.proofs.NameSetLemmas.{place_some, place_none}
+use Rattle.blif_flat.proofs.Models.NameSetLemmas.{place_some, place_none}
 use Rattle.tl_text.specs.NameIndex.{place_of}
 use Rattle.run_text.specs.ScriptText.{assigned}
 use Rattle.run_text.specs.declared.script_err.ScriptErr.TheVariants.{NotParameter, RepeatedInSet}

@@ -1,5 +1,5 @@
 use Rattle.std.proofs.Common.{◌∙◌, sym}
-use Rattle.blif_flat.proofs.NameSetLemmas.{place_none}
+use Rattle.blif_flat.proofs.Models.NameSetLemmas.{place_none}
 use Rattle.run_text.proofs.name_index.add_once.Goals as goal
 
 pub add-requires : goal.add-requires

@@ -1,7 +1,7 @@
 use Rattle.std.proofs.Common.{◌≡◌, ℕ, ◌<◌, ◌≤◌, true, false, List, length, is_some, refl, sym, ap, ◌∙◌, arith}
 use Rattle.blif_flat.specs.Models.{has_name}
-use Rattle.blif_flat.proofs.ModelNameLemmas.{place_is}
-use Rattle.blif_flat.proofs.NameSetLemmas.{place_some}
+use Rattle.blif_flat.proofs.Models.ModelNameLemmas.{place_is}
+use Rattle.blif_flat.proofs.Models.NameSetLemmas.{place_some}
 use Rattle.tl_text.specs.NameIndex.{place_of}
 use Rattle.run_text.proofs.RefusalLemmas.{within_limits, no_input, stood_earlier, no_refusal}
 use Rattle.run_text.proofs.param_line.param_of.Goals as goal

@@ -5,7 +5,7 @@ use Rattle.tl_text.specs.LineValue.{WordsLine, words_line}
 use Rattle.blif_flat.specs.FlatValue.{FlatValue}
 use Rattle.blif_flat.specs.Models.{has_name}
 use Rattle.blif_flat.specs.Steps.NameSets.{with_names}
-use Rattle.blif_flat.proofs.NameSetLemmas.{new_names, has_with_names}
+use Rattle.blif_flat.proofs.Models.NameSetLemmas.{new_names, has_with_names}
 use Rattle.run_text.specs.Refusals.{refusal_of}
 use Rattle.run_text.specs.ParamsText.{IsFirstRefusal, AreParamsOf}
 use Rattle.run_text.proofs.LineLemmas.{passed_err}

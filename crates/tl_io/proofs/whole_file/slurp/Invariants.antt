@@ -1,4 +1,4 @@
-use Rattle.std.proofs.Common.{◌≡◌, ◌≤◌, ◌-◌, ◌^◌, IsTrue, take, vec_len}
+use Rattle.std.proofs.Common.{◌≡◌, ◌≤◌, ◌-◌, ◌^◌, false, IsTrue, take, vec_len}
 use Rattle.tl_io.proofs.Reading.{IsSoFar}
 use Rattle.tl_io.proofs.whole_file.slurp.Given as goal
 
@@ -13,6 +13,7 @@ invariant-loop-text g l =
       later : then.read_faults ≤ now.read_faults;
       files : now.files ≡ then.files;
       write_faults : now.write_faults ≡ then.write_faults;
+      not_writing : now.is_writing ≡ false;
       given : now.given ≡ vec_len l.text;
       within : vec_len l.text ≤ l.limit;
       so_far : IsSoFar now.files l.name l.text.items now.left;

@@ -1,7 +1,7 @@
 use Rattle.std.proofs.Common.{◌∙◌, sym, subst, ap}
 use Rattle.tl_text.specs.NameIndex.{place_of}
 use Rattle.blif_flat.specs.Steps.NameSets.{Finds}
-use Rattle.blif_flat.proofs.NameSetLemmas.{finds}
+use Rattle.blif_flat.proofs.Models.NameSetLemmas.{finds}
 use Rattle.blif_flat.proofs.model_index.ModelIndex.find.Goals as goal
 
 pub returns-in-None-clause-model : goal.returns-in-None-clause-model

@@ -1,6 +1,6 @@
 use Rattle.std.proofs.Common.{◌≡◌, []}
 use Rattle.blif_flat.specs.Steps.NameSets.{with_names, model_names}
-use Rattle.blif_flat.proofs.NameSetLemmas.{same_model_names, few_model_names, all_names}
+use Rattle.blif_flat.proofs.Models.NameSetLemmas.{same_model_names, few_model_names, all_names}
 use Rattle.blif_flat.proofs.model_index.ModelIndex.make.Goals as goal
 
 pub invariant_of-result : goal.invariant_of-result

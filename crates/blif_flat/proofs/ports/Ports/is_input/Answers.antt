@@ -1,7 +1,7 @@
 use Rattle.std.proofs.Common.{◌∙◌, ap}
 use Rattle.blif_flat.specs.declared.ports.Ports.{Ports}
 use Rattle.blif_flat.specs.Models.{has_name}
-use Rattle.blif_flat.proofs.NameSetLemmas.{has_inputs}
+use Rattle.blif_flat.proofs.Models.NameSetLemmas.{has_inputs}
 use Rattle.blif_flat.proofs.ports.Ports.is_input.Goals as goal
 
 pub returns-clause-model : goal.returns-clause-model

@@ -1,6 +1,6 @@
 use Rattle.std.proofs.Common.{◌∙◌, ap}
-use Rattle.blif_read.specs.LibraryValue.{ModelValue}
-use Rattle.blif_flat.proofs.NameSetLemmas.{ports_of_parts}
+use Rattle.blif_flat.specs.Words.{ModelValue}
+use Rattle.blif_flat.proofs.Models.NameSetLemmas.{ports_of_parts}
 use Rattle.blif_flat.proofs.ports.Ports.make.Goals as goal
 
 pub returns : goal.returns

@@ -1,6 +1,5 @@
 use Rattle.std.proofs.Common.{◌≡◌, ◌++◌, map, drop}
-use Rattle.blif_read.specs.LibraryValue.{ModelValue}
-use Rattle.blif_flat.specs.Models.{subckts_of}
+use Rattle.blif_flat.specs.Circuits.{ModelValue, subckts_of}
 use Rattle.blif_flat.proofs.subckt_lines.SubcktLines.make.Given as goal
 
 abbrev pub invariant-loop-model : goal.invariant-loop-model

@@ -1,0 +1,283 @@
+-- The nets of all instances become known, step by step: outputs from the inside out, and then inputs from the outside in.
+use Rattle.std.proofs.Common.{◌≡◌, ℕ, zero, suc, ◌≤◌, List, [], ◌∷◌, length, Some, None, refl, sym, ap, ◌∙◌, subst, inl, inr, arith, ◌<◌, map, get_or, option_and_then, slice_get, IsTrue}
+use Rattle.blif_flat.proofs.Common.{or_cases, same_Some, none-some, slice_get_read, at_within, In-get}
+use Rattle.list_laws.proofs.TwoLists.{item_there}
+use Rattle.blif_flat.specs.Circuits.{Cover, Latch, Pair, ModelValue, LibraryValue, SubcktValue, Path, has_name, is_input, is_output, inputs_of, model_at, subckts_of, ConnectionAt, IsDriven, is_cover, is_latch}
+use Rattle.blif_flat.specs.declared.flat.Net.TheVariants.{Latch as LatchNumber, Cover as CoverNumber}
+use Rattle.blif_flat.specs.declared.gates.Gate.{Gate}
+use Rattle.blif_flat.specs.declared.instances.Instance.{Instance}
+use Rattle.blif_flat.specs.Steps.InstanceOrder.{places_at}
+use Rattle.blif_flat.specs.Steps.InstanceRows.{paths_of, AreInstances}
+use Rattle.blif_flat.specs.Flat.{Places}
+use Rattle.blif_flat.specs.Steps.Gates.{AreGatesAt}
+use Rattle.blif_flat.specs.Steps.NetTable.{IsSoundTable, HasOwn, HasOutputs, HasInputs, AreNetsAt, net_places}
+use Rattle.blif_flat.specs.Steps.NetMade.{HasSlots, AreEmptyNets, IsNext, AreAllNets}
+use Rattle.blif_flat.specs.Steps.NetSlots.{NetsValue, table_of, IsNets}
+use Rattle.blif_flat.specs.Steps.NetSteps.{cover_output, latch_output, with_covers, with_latches, with_inputs, link_at, linked_out, linked_in, links_out, links_in, AreLinesOf}
+use Rattle.blif_flat.proofs.Models.NameLemmas.{has_in}
+use Rattle.blif_flat.proofs.Hierarchy.PlaceLemmas.{child_at}
+use Rattle.blif_flat.proofs.Hierarchy.InstanceRowLemmas.{paths_of-length}
+use Rattle.blif_flat.proofs.Hierarchy.InstanceOnceLemmas.{order_apart}
+use Rattle.blif_flat.proofs.Connections.NetTableLemmas.{one_place, formal_known, actual_known, table_found}
+use Rattle.blif_flat.proofs.Connections.NetFillLemmas.{sound_empty, own_kept, outputs_kept, inputs_start, outputs_start, inputs_step, outputs_step}
+use Rattle.blif_flat.proofs.Connections.NetCopyLemmas.{next_same, next_on, pairs_next, pairs_known, inputs_next, inputs_known}
+use Rattle.blif_flat.proofs.Connections.NetOwnLemmas.{slots_on, gates_next, gates_known, covers_own, latches_own, gate_of}
+use Rattle.blif_flat.proofs.Connections.NetMainLemmas.{first_path, input_named, main_next, main_known, few_inputs}
+use Rattle.blif_flat.proofs.Connections.NetLinkLemmas.{IsLinked, linked, connection_named, first_alone}
+use Rattle.blif_read.specs.WellFormed.{IsWellFormed}
+use Rattle.blif_flat.specs.declared.ports.Ports.{Ports}
+use Rattle.blif_flat.specs.Steps.NameSets.{ports_value}
+use Rattle.blif_flat.specs.Weight.{most_weight}
+
+module _ (library : LibraryValue) (main : ModelValue) (rows : List Instance) (are : AreInstances library rows) (driven : IsDriven library) (first : model_at library [] ≡ Some main) where
+  abbrev at : Places
+  at = net_places library main (paths_of rows)
+
+  -- nets so far: each name has its slot, and what is known is right
+  record AreRight (n : NetsValue) : Type 0 where
+    nets : IsNets n
+    sound : IsSoundTable library at (paths_of rows) (table_of n)
+    slots : HasSlots library (paths_of rows) n
+
+  right_on : (n next : NetsValue) → AreRight n → IsNext library at (paths_of rows) n next → AreRight next
+  right_on n next right step = record { nets = step.nets; sound = step.sound; slots = slots_on library at (paths_of rows) n next right.slots step }
+
+  -- the outputs of an instance go out
+  out_next : (n : NetsValue) → AreRight n → (t : ℕ) (path : Path) → slice_get (paths_of rows) t ≡ Some path → IsNext library at (paths_of rows) n (linked_out n t (link_at library rows t))
+  out_next n right t [] e = subst (λ o. IsNext library at (paths_of rows) n (linked_out n t o)) (sym (first_alone library rows are t e)) (next_same library at (paths_of rows) n right.nets right.sound)
+  out_next n right t (k ∷ path) e =
+      let l : IsLinked library rows are t k path = linked library rows are t k path e in
+      subst (λ o. IsNext library at (paths_of rows) n (linked_out n t o)) (sym l.is)
+      (pairs_next library at (paths_of rows) (l.link).child t (l.link).outer path k e l.outside (l.link).pairs n right.nets right.sound l.connects)
+
+  out_known : (n : NetsValue) → AreRight n → HasOwn library (paths_of rows) (table_of n) → (t : ℕ) → HasOutputs library (paths_of rows) (table_of n) (suc t)
+      → (i : ℕ) (path : Path) (k : ℕ) (pair : Pair) (a : ConnectionAt library path k pair) → IsTrue (is_output a.child pair.formal) → slice_get (paths_of rows) i ≡ Some path → slice_get (paths_of rows) t ≡ Some (k ∷ path)
+      → table_of (linked_out n t (link_at library rows t)) i pair.actual ≡ None → ⊥
+  out_known n right own t outputs i path k pair a out e f =
+      let l : IsLinked library rows are t k path = linked library rows are t k path f in
+      let place : (l.link).outer ≡ i = one_place (paths_of rows) path (l.link).outer i (order_apart library are.order) l.outside e in
+      let child : a.child ≡ (l.link).child = same_Some a.child (l.link).child (sym (child_at library path k pair a) ∙ l.there) in
+      let known : table_of (linked_out n t (Some l.link)) (l.link).outer pair.actual ≡ None → ⊥ =
+      pairs_known library at (paths_of rows) (l.link).child t (l.link).outer path k f l.outside (l.link).pairs n right.nets right.sound l.connects pair (l.all pair a)
+      (subst (λ m. IsTrue (is_output m pair.formal)) child out)
+      (formal_known library rows are driven (table_of n) own (suc t) outputs t path k pair a out f (omega arith))
+      ((right.slots).each (l.link).outer path a.model pair.actual l.outside a.at (connection_named library rows are path k pair a)) in
+      subst (λ o. table_of (linked_out n t o) i pair.actual ≡ None → ⊥) (sym l.is) (subst (λ j. table_of (linked_out n t (Some l.link)) j pair.actual ≡ None → ⊥) place known)
+
+  outs : (t : ℕ) → t ≤ length (paths_of rows) → (n : NetsValue) → AreRight n → HasOwn library (paths_of rows) (table_of n) → HasOutputs library (paths_of rows) (table_of n) t
+      → IsNext library at (paths_of rows) n (links_out library rows n t) × HasOutputs library (paths_of rows) (table_of (links_out library rows n t)) 0
+  outs zero h n right own outputs = (next_same library at (paths_of rows) n right.nets right.sound, outputs)
+  outs (suc t) h n right own outputs =
+      let next : NetsValue = linked_out n t (link_at library rows t) in
+      let here = at_within (paths_of rows) t (omega arith) in
+      let one : IsNext library at (paths_of rows) n next = out_next n right t here.0 here.1 in
+      let r = outs t (omega arith) next (right_on n next right one) (own_kept library (paths_of rows) (table_of n) (table_of next) own one.kept)
+      (outputs_step library (paths_of rows) (table_of n) (table_of next) t outputs one.kept (out_known n right own t outputs)) in
+      (next_on library at (paths_of rows) n next (links_out library rows next t) one r.0, r.1)
+
+  -- the inputs of an instance go in
+  in_next : (n : NetsValue) → AreRight n → (t : ℕ) (path : Path) → slice_get (paths_of rows) t ≡ Some path → IsNext library at (paths_of rows) n (linked_in n t (link_at library rows t))
+  in_next n right t [] e = subst (λ o. IsNext library at (paths_of rows) n (linked_in n t o)) (sym (first_alone library rows are t e)) (next_same library at (paths_of rows) n right.nets right.sound)
+  in_next n right t (k ∷ path) e =
+      let l : IsLinked library rows are t k path = linked library rows are t k path e in
+      subst (λ o. IsNext library at (paths_of rows) n (linked_in n t o)) (sym l.is)
+      (inputs_next library at (paths_of rows) (l.link).child t (l.link).outer path k e l.outside (l.link).pairs n right.nets right.sound l.connects)
+
+  -- the nets of all covers and latches are known, those of all outputs, and those of the main model's inputs
+  record AreReady (n : NetsValue) : Type 0 where
+    right : AreRight n
+    own : HasOwn library (paths_of rows) (table_of n)
+    outputs : HasOutputs library (paths_of rows) (table_of n) 0
+    mains : (name : List ℕ) → IsTrue (is_input main name) → table_of n 0 name ≡ None → ⊥
+
+  ready_on : (n next : NetsValue) → AreReady n → IsNext library at (paths_of rows) n next → AreReady next
+  ready_on n next ready step = record {
+    right = right_on n next ready.right step;
+    own = own_kept library (paths_of rows) (table_of n) (table_of next) ready.own step.kept;
+    outputs = outputs_kept library (paths_of rows) (table_of n) (table_of next) 0 ready.outputs step.kept;
+    mains = λ name is. (step.kept).each 0 name (ready.mains name is);
+  }
+
+  in_known : (n : NetsValue) → AreReady n → (t : ℕ) → HasInputs library (paths_of rows) (table_of n) t → (path : Path) (m : ModelValue) → slice_get (paths_of rows) t ≡ Some path → model_at library path ≡ Some m
+      → (name : List ℕ) → IsTrue (is_input m name) → table_of (linked_in n t (link_at library rows t)) t name ≡ None → ⊥
+  in_known n ready t inputs [] m e there name is =
+      let place : 0 ≡ t = one_place (paths_of rows) [] 0 t (order_apart library are.order) (first_path library rows are) e in
+      let model : m ≡ main = same_Some m main (sym there ∙ first) in
+      let step : IsNext library at (paths_of rows) n (linked_in n t (link_at library rows t)) = in_next n ready.right t [] e in
+      (step.kept).each t name (subst (λ j. table_of n j name ≡ None → ⊥) place (ready.mains name (subst (λ x. IsTrue (is_input x name)) model is)))
+  in_known n ready t inputs (k ∷ path) m e there name is =
+      let right : AreRight n = ready.right in
+      let l : IsLinked library rows are t k path = linked library rows are t k path e in
+      let c = driven.connected path k m name there is in
+      let model : m ≡ (l.link).child = same_Some m (l.link).child (sym there ∙ l.there) in
+      let child : m ≡ (c.1).child = same_Some m (c.1).child (sym there ∙ child_at library path k c.0 c.1) in
+      let formal : IsTrue (is_input m (c.0).formal) = subst (λ x. IsTrue (is_input m x)) (sym c.2) is in
+      let known : table_of (linked_in n t (Some l.link)) t (c.0).formal ≡ None → ⊥ =
+      inputs_known library at (paths_of rows) (l.link).child t (l.link).outer path k e l.outside (l.link).pairs n right.nets right.sound l.connects c.0 (l.all c.0 c.1)
+      (subst (λ x. IsTrue (is_input x (c.0).formal)) model formal)
+      (actual_known library rows are driven (table_of n) ready.own ready.outputs t inputs (l.link).outer path k c.0 c.1 (subst (λ x. IsTrue (is_input x (c.0).formal)) child formal) l.outside l.earlier)
+      ((right.slots).each t (k ∷ path) m (c.0).formal e there (input_named m (c.0).formal formal)) in
+      subst (λ o. table_of (linked_in n t o) t name ≡ None → ⊥) (sym l.is) (subst (λ x. table_of (linked_in n t (Some l.link)) t x ≡ None → ⊥) c.2 known)
+
+  ins : (t : ℕ) → t ≤ length (paths_of rows) → (n : NetsValue) → AreReady n → IsNext library at (paths_of rows) n (links_in library rows n t) × HasInputs library (paths_of rows) (table_of (links_in library rows n t)) t
+  ins zero h n ready =
+      let right : AreRight n = ready.right in
+      (next_same library at (paths_of rows) n right.nets right.sound, inputs_start library (paths_of rows) (table_of n))
+  ins (suc t) h n ready =
+      let r = ins t (omega arith) n ready in
+      let middle : NetsValue = links_in library rows n t in
+      let so_far : AreReady middle = ready_on n middle ready r.0 in
+      let here = at_within (paths_of rows) t (omega arith) in
+      let row = item_there (paths_of rows) rows t here.0 (paths_of-length rows) here.1 in
+      let is = are.each t row.0 row.1 in
+      let there : model_at library here.0 ≡ Some is.model = ap (model_at library) (same_Some here.0 is.path (sym here.1 ∙ is.at)) ∙ is.there in
+      let next : NetsValue = linked_in middle t (link_at library rows t) in
+      let one : IsNext library at (paths_of rows) middle next = in_next middle so_far.right t here.0 here.1 in (
+        next_on library at (paths_of rows) n middle next r.0 one,
+        inputs_step library (paths_of rows) (table_of middle) (table_of next) t here.0 is.model r.1 one.kept here.1 there (in_known middle so_far t r.1 here.0 is.model here.1 there),
+      )
+
+  -- the nets at their drivers
+  module _ (covers latches : List Gate) (empty : NetsValue) (covers_at : AreGatesAt (paths_of rows) covers (places_at library is_cover (paths_of rows)))
+      (latches_at : AreGatesAt (paths_of rows) latches (places_at library is_latch (paths_of rows))) (start : AreEmptyNets library (paths_of rows) empty) where
+    abbrev covered : NetsValue
+    covered = with_covers library rows empty 0 covers
+
+    abbrev latched : NetsValue
+    latched = with_latches library rows covered 0 latches
+
+    abbrev listed : NetsValue
+    listed = with_inputs (inputs_of main) latched main.inputs
+
+    abbrev clocked : NetsValue
+    clocked = with_inputs (inputs_of main) listed main.clocks
+
+    empty_right : AreRight empty
+    empty_right = record { nets = start.nets; sound = sound_empty library at (paths_of rows) (table_of empty) start.empty; slots = start.slots }
+
+    covered_next : IsNext library at (paths_of rows) empty covered
+    covered_next = let r : AreRight empty = empty_right in gates_next library at (paths_of rows) rows cover_output (λ j. CoverNumber j) covers 0 empty r.nets r.sound (covers_own library main rows are covers covers_at)
+
+    latched_next : IsNext library at (paths_of rows) covered latched
+    latched_next =
+        let r : AreRight covered = right_on empty covered empty_right covered_next in
+        gates_next library at (paths_of rows) rows latch_output (λ j. LatchNumber j) latches 0 covered r.nets r.sound (latches_own library main rows are latches latches_at)
+
+    latched_right : AreRight latched
+    latched_right = right_on covered latched (right_on empty covered empty_right covered_next) latched_next
+
+    latched_own : HasOwn library (paths_of rows) (table_of latched)
+    latched_own =
+        let r : AreRight empty = empty_right in
+        let s : AreRight covered = right_on empty covered r covered_next in
+        let step : IsNext library at (paths_of rows) covered latched = latched_next in
+        record {
+          latch = λ i path c l e a n.
+              (let g = gate_of library main rows are is_latch latches latches_at i path a.model c (Latch l) e a.at a.is refl in
+              gates_known library at (paths_of rows) rows latch_output (λ j. LatchNumber j) latches 0 covered s.nets s.sound s.slots (latches_own library main rows are latches latches_at) g.number g.gate l.output g.at
+              (ap (option_and_then latch_output) g.is) (subst (λ j. table_of latched j l.output ≡ None) (sym g.row) n));
+          cover = λ i path c x e a n.
+              (let g = gate_of library main rows are is_cover covers covers_at i path a.model c (Cover x) e a.at a.is refl in
+              let known : table_of covered (g.gate).row x.output ≡ None → ⊥ =
+              gates_known library at (paths_of rows) rows cover_output (λ j. CoverNumber j) covers 0 empty r.nets r.sound r.slots (covers_own library main rows are covers covers_at) g.number g.gate x.output g.at
+              (ap (option_and_then cover_output) g.is) in
+              (step.kept).each i x.output (subst (λ j. table_of covered j x.output ≡ None → ⊥) g.row known) n);
+        }
+
+    listed_next : IsNext library at (paths_of rows) latched listed
+    listed_next = let r : AreRight latched = latched_right in main_next library main rows are first main.inputs latched r.nets r.sound
+
+    clocked_next : IsNext library at (paths_of rows) listed clocked
+    clocked_next = let r : AreRight listed = right_on latched listed latched_right listed_next in main_next library main rows are first main.clocks listed r.nets r.sound
+
+    mains_known : (name : List ℕ) → IsTrue (is_input main name) → table_of clocked 0 name ≡ None → ⊥
+    mains_known name is n =
+        let r : AreRight latched = latched_right in
+        let s : AreRight listed = right_on latched listed r listed_next in
+        let step : IsNext library at (paths_of rows) listed clocked = clocked_next in
+        elim (or_cases (has_name main.inputs name) (has_name main.clocks name) is) [
+          | inl y ↦ (step.kept).each 0 name (main_known library main rows are first main.inputs latched r.nets r.sound r.slots name (has_in main.inputs name y) is) n
+          | inr y ↦ main_known library main rows are first main.clocks listed s.nets s.sound s.slots name (has_in main.clocks name y) is n
+        ]
+
+    clocked_right : AreRight clocked
+    clocked_right = right_on listed clocked (right_on latched listed latched_right listed_next) clocked_next
+
+    clocked_own : HasOwn library (paths_of rows) (table_of clocked)
+    clocked_own =
+        let a : IsNext library at (paths_of rows) latched listed = listed_next in
+        let b : IsNext library at (paths_of rows) listed clocked = clocked_next in
+        own_kept library (paths_of rows) (table_of listed) (table_of clocked) (own_kept library (paths_of rows) (table_of latched) (table_of listed) latched_own a.kept) b.kept
+
+    abbrev pulled : NetsValue
+    pulled = links_out library rows clocked (length rows)
+
+    pulled_ready : AreReady pulled
+    pulled_ready =
+        let same : length (paths_of rows) ≡ length rows = paths_of-length rows in
+        let start : HasOutputs library (paths_of rows) (table_of clocked) (length rows) = subst (HasOutputs library (paths_of rows) (table_of clocked)) same (outputs_start library (paths_of rows) (table_of clocked)) in
+        let r = outs (length rows) (omega arith) clocked clocked_right clocked_own start in
+        let step : IsNext library at (paths_of rows) clocked pulled = r.0 in
+        record {
+          right = right_on clocked pulled clocked_right step;
+          own = own_kept library (paths_of rows) (table_of clocked) (table_of pulled) clocked_own step.kept;
+          outputs = r.1;
+          mains = λ name is. (step.kept).each 0 name (mains_known name is);
+        }
+
+    abbrev pushed : NetsValue
+    pushed = links_in library rows pulled (length rows)
+
+    pushed_found : IsNets pushed × AreNetsAt library at (paths_of rows) (table_of pushed)
+    pushed_found =
+        let same : length (paths_of rows) ≡ length rows = paths_of-length rows in
+        let r = ins (length rows) (omega arith) pulled pulled_ready in
+        let step : IsNext library at (paths_of rows) pulled pushed = r.0 in
+        let ready : AreReady pushed = ready_on pulled pushed pulled_ready step in (
+          step.nets,
+          table_found library rows are driven (table_of pushed) ready.own ready.outputs at step.sound (subst (HasInputs library (paths_of rows) (table_of pushed)) (sym same) r.1),
+        )
+
+    pub all_nets : AreAllNets library rows pushed
+    all_nets = record {
+      nets = pushed_found.0;
+      table = λ m e. subst (λ x. AreNetsAt library (net_places library x (paths_of rows)) (paths_of rows) (table_of pushed)) (same_Some main m (sym first ∙ e)) pushed_found.1;
+    }
+
+-- the main model is the first one, and its ports are the first ones
+main_first : (library : LibraryValue) (models : List ModelValue) (main : ModelValue) → models ≡ library.models → 0 < length library.models → main ≡ get_or models 0 main → model_at library [] ≡ Some main
+main_first library models main e h f =
+    let long : length models ≡ length library.models = ap length e in
+    subst (λ ms. slice_get ms 0 ≡ Some main) e (slice_get_read models (length models) 0 main refl (omega arith) f)
+
+ports_first : (models : List ModelValue) (main : ModelValue) (p : Ports) → slice_get models 0 ≡ Some main → p ≡ get_or (map ports_value models) 0 p → p ≡ ports_value main
+ports_first [] main p e f = absurd (none-some main e)
+ports_first (m ∷ models) main p e f = f ∙ ap ports_value (same_Some m main e)
+
+module _ (library : LibraryValue) (rows : List Instance) (models : List ModelValue) (main : ModelValue) (ports : List Ports) (p : Ports) (empty : NetsValue) (formed : IsWellFormed library) (are : AreInstances library rows)
+    (ports_are : ports ≡ map ports_value library.models) (start : AreEmptyNets library (paths_of rows) empty) (models_are : models ≡ library.models) (main_is : main ≡ get_or models 0 main) (p_is : p ≡ get_or ports 0 p) where
+  main_at : model_at library [] ≡ Some main
+  main_at = main_first library models main models_are formed.some main_is
+
+  inputs_are : p.inputs ≡ inputs_of main
+  inputs_are = ap (λ (x : Ports). x.inputs) (ports_first library.models main p main_at (p_is ∙ ap (λ ps. get_or ps 0 p) ports_are))
+
+  -- the main model's inputs are few
+  pub inputs_fit : length p.inputs < 4294967296
+  inputs_fit =
+      let few : length (inputs_of main) ≤ most_weight = few_inputs library main rows are main_at empty (formed.each main (In-get library.models 0 main main_at)) start.nets start.slots in
+      let same : length p.inputs ≡ length (inputs_of main) = ap length inputs_are in
+      omega arith
+
+  -- and after the steps all nets are known
+  pub filled : IsDriven library → (covers latches : List Gate) → AreGatesAt (paths_of rows) covers (places_at library is_cover (paths_of rows)) → AreGatesAt (paths_of rows) latches (places_at library is_latch (paths_of rows))
+      → (lines : List (List SubcktValue)) → lines ≡ map (λ (m : ModelValue). subckts_of m.commands) models → (filled_covers latched entered linked_out pushed : NetsValue) → filled_covers ≡ with_covers library rows empty 0 covers
+      → latched ≡ with_latches library rows filled_covers 0 latches → entered ≡ with_inputs p.inputs (with_inputs p.inputs latched main.inputs) main.clocks
+      → ((l : LibraryValue) → AreLinesOf l lines ports → linked_out ≡ links_out l rows entered (length rows)) → ((l : LibraryValue) → AreLinesOf l lines ports → pushed ≡ links_in l rows linked_out (length rows)) → AreAllNets library rows pushed
+  filled driven covers latches covers_at latches_at lines lines_are filled_covers latched entered linked_out pushed a b d e f =
+      let given : AreLinesOf library lines ports = record { lines_are = lines_are ∙ ap (map (λ (m : ModelValue). subckts_of m.commands)) models_are; ports_are = ports_are } in
+      let inputs : entered ≡ with_inputs (inputs_of main) (with_inputs (inputs_of main) latched main.inputs) main.clocks = d ∙ ap (λ ns. with_inputs ns (with_inputs ns latched main.inputs) main.clocks) inputs_are in
+      let same : latched ≡ with_latches library rows (with_covers library rows empty 0 covers) 0 latches = b ∙ ap (λ n. with_latches library rows n 0 latches) a in
+      let ends : pushed ≡ links_in library rows (links_out library rows (with_inputs (inputs_of main) (with_inputs (inputs_of main) (with_latches library rows (with_covers library rows empty 0 covers) 0 latches) main.inputs) main.clocks) (length rows)) (length rows) =
+      f library given ∙ ap (λ n. links_in library rows n (length rows)) (e library given ∙ ap (λ n. links_out library rows n (length rows)) (inputs ∙ ap (λ n. with_inputs (inputs_of main) (with_inputs (inputs_of main) n main.inputs) main.clocks) same)) in
+      subst (AreAllNets library rows) (sym ends) (all_nets library main rows are driven main_at covers latches empty covers_at latches_at start)

@@ -1,0 +1,213 @@
+-- The covers and latches of all instances are put in at their outputs: the table stays right, and their outputs stand in it.
+use Rattle.std.proofs.Common.{◌≡◌, ℕ, zero, suc, ◌+◌, Bool, List, [], ◌∷◌, ◌++◌, Option, Some, None, refl, sym, ap, ◌∙◌, subst, inl, inr, arith, slice_get, IsTrue, option_and_then}
+use Rattle.blif_flat.proofs.Common.{none-some, same_Some, option_and_then_some, In, In-left, In-right}
+use Rattle.list_laws.proofs.TwoLists.{item_there}
+use Rattle.blif_flat.specs.Circuits.{Body, Cover, Latch, Subckt, Command, LatchValue, CoverValue, ModelValue, LibraryValue, Path, body_at, model_at, latch_net, cover_net, is_cover, is_latch}
+use Rattle.blif_flat.specs.declared.flat.Net.{Net as FlatNet}
+use Rattle.blif_flat.specs.declared.flat.Net.TheVariants.{Latch as LatchNumber, Cover as CoverNumber}
+use Rattle.blif_flat.specs.declared.gates.Gate.{Gate}
+use Rattle.blif_flat.specs.declared.instances.Instance.{Instance}
+use Rattle.blif_flat.specs.Nets.{latch_output as drives_latch, cover_output as drives_cover}
+use Rattle.blif_flat.specs.Steps.InstanceOrder.{places_at}
+use Rattle.blif_flat.specs.Steps.InstanceRows.{paths_of, AreInstances}
+use Rattle.blif_flat.specs.Flat.{Places, IsNumbered, a_latch, a_cover, IsNetOf}
+use Rattle.blif_flat.specs.Steps.Gates.{IsGateAt, AreGatesAt}
+use Rattle.blif_flat.specs.Steps.ModelNames.{body_names, commands_names, all_names}
+use Rattle.blif_flat.specs.Steps.NetTable.{IsSoundTable, net_places, own_number}
+use Rattle.blif_flat.specs.Steps.NetMade.{HasSlots, IsNext}
+use Rattle.blif_flat.specs.Steps.NetSlots.{NetsValue, table_of, IsNets}
+use Rattle.blif_flat.specs.Steps.GateBodies.{body_in, gate_body}
+use Rattle.blif_flat.specs.Steps.NetSteps.{cover_output, latch_output, with_named, with_gates}
+use Rattle.blif_flat.proofs.Hierarchy.PlaceLemmas.{place_of, command_of}
+use Rattle.blif_flat.proofs.Hierarchy.GateLemmas.{gate_place}
+use Rattle.blif_flat.proofs.Hierarchy.InstanceOnceLemmas.{order_apart}
+use Rattle.blif_flat.proofs.Connections.NetTableLemmas.{one_place, place_at}
+use Rattle.blif_flat.proofs.Connections.NetSlotLemmas.{copied-nets}
+use Rattle.blif_flat.proofs.Connections.NetCopyLemmas.{copied-kept, copied-known, copied-slots, copied-sound, next_same, next_on}
+
+-- slots stay
+pub slots_on : (library : LibraryValue) (at : Places) (paths : List Path) (n next : NetsValue) → HasSlots library paths n → IsNext library at paths n next → HasSlots library paths next
+slots_on library at paths n next slots step = record { each = λ i path m name e f h g. slots.each i path m name e f h (sym (step.slots i name) ∙ g) }
+
+-- the names of a command are among those of its model
+pub command_named : (cs : List Command) (i : ℕ) (c : Command) (name : List ℕ) → slice_get cs i ≡ Some c → In (body_names c.body) name → In (commands_names cs) name
+command_named [] i c name e h = absurd (none-some c e)
+command_named (d ∷ cs) zero c name e h = In-left (body_names d.body) (commands_names cs) name (subst (λ (x : Command). In (body_names x.body) name) (sym (same_Some d c e)) h)
+command_named (d ∷ cs) (suc i) c name e h = In-right (body_names d.body) (commands_names cs) name (command_named cs i c name e h)
+
+pub commands_within : (m : ModelValue) (name : List ℕ) → In (commands_names m.commands) name → In (all_names m) name
+commands_within m name i =
+    In-right m.inputs (m.outputs ++ (m.clocks ++ commands_names m.commands)) name (In-right m.outputs (m.clocks ++ commands_names m.commands) name (In-right m.clocks (commands_names m.commands) name i))
+
+pub body_named : (m : ModelValue) (i : ℕ) (b : Body) (name : List ℕ) → body_at m i ≡ Some b → In (body_names b) name → In (all_names m) name
+body_named m i b name e h =
+    let c = command_of (slice_get m.commands i) b e in
+    commands_within m name (command_named m.commands i c.0 name c.1 (subst (λ x. In (body_names x) name) (sym c.2) h))
+
+-- a name of an instance that has a net
+pub record IsOwn (library : LibraryValue) (at : Places) (paths : List Path) (row : ℕ) (name : List ℕ) (net : FlatNet) : Type 0 where
+  pub path : Path
+  pub here : slice_get paths row ≡ Some path
+  pub model : ModelValue
+  pub there : model_at library path ≡ Some model
+  pub named : In (all_names model) name
+  pub right : IsNetOf library at path name net
+
+module _ (library : LibraryValue) (at : Places) (paths : List Path) where
+  -- a name that is put in
+  pub named_next : (n : NetsValue) → IsNets n → IsSoundTable library at paths (table_of n) → (row : ℕ) (o : Option (List ℕ)) (net : FlatNet) → ((name : List ℕ) → o ≡ Some name → IsOwn library at paths row name net)
+      → IsNext library at paths n (with_named n row o net)
+  named_next n is sound row None net own = next_same library at paths n is sound
+  named_next n is sound row (Some name) net own =
+      let w = own name refl in
+      record {
+        nets = copied-nets n row name (Some net) is;
+        sound = copied-sound library at paths n is row w.path name (Some net) sound w.here (λ number e. subst (IsNetOf library at w.path name) (same_Some net number e) w.right);
+        kept = copied-kept n is row name (Some net);
+        slots = λ j other. copied-slots n row name (Some net) j other;
+      }
+
+  pub named_known : (n : NetsValue) → IsNets n → HasSlots library paths n → (row : ℕ) (o : Option (List ℕ)) (name : List ℕ) (net : FlatNet) → o ≡ Some name → IsOwn library at paths row name net
+      → table_of (with_named n row o net) row name ≡ None → ⊥
+  named_known n is slots row None name net e own g = absurd (none-some name e)
+  named_known n is slots row (Some other) name net e own g =
+      let same : other ≡ name = same_Some other name e in
+      copied-known n is row name (Some net) (λ f. none-some net (sym f)) (slots.each row own.path own.model name own.here own.there own.named)
+      (subst (λ x. table_of (with_named n row (Some x) net) row name ≡ None) same g)
+
+  module _ (rows : List Instance) (output : Body → Option (List ℕ)) (number : ℕ → FlatNet) where
+    -- the outputs of gates from a number on have their nets
+    abbrev pub AreOwn : ℕ → List Gate → Type 0
+    AreOwn k gs = (i : ℕ) (g : Gate) (name : List ℕ) → slice_get gs i ≡ Some g → option_and_then output (gate_body library rows g) ≡ Some name → IsOwn library at paths g.row name (number (k + i))
+
+    own_first : (k : ℕ) (g : Gate) (gs : List Gate) → AreOwn k (g ∷ gs) → (name : List ℕ) → option_and_then output (gate_body library rows g) ≡ Some name → IsOwn library at paths g.row name (number k)
+    own_first k g gs own name e = let z : k + 0 ≡ k = omega arith in subst (λ j. IsOwn library at paths g.row name (number j)) z (own 0 g name refl e)
+
+    own_rest : (k : ℕ) (g : Gate) (gs : List Gate) → AreOwn k (g ∷ gs) → AreOwn (suc k) gs
+    own_rest k g gs own i h name e f = let z : k + suc i ≡ suc k + i = omega arith in subst (λ j. IsOwn library at paths h.row name (number j)) z (own (suc i) h name e f)
+
+    first_next : (k : ℕ) (g : Gate) (gs : List Gate) (n : NetsValue) → IsNets n → IsSoundTable library at paths (table_of n) → AreOwn k (g ∷ gs)
+        → IsNext library at paths n (with_named n g.row (option_and_then output (gate_body library rows g)) (number k))
+    first_next k g gs n is sound own = named_next n is sound g.row (option_and_then output (gate_body library rows g)) (number k) (own_first k g gs own)
+
+    pub gates_next : (gs : List Gate) (k : ℕ) (n : NetsValue) → IsNets n → IsSoundTable library at paths (table_of n) → AreOwn k gs → IsNext library at paths n (with_gates output number library rows n k gs)
+    gates_next [] k n is sound own = next_same library at paths n is sound
+    gates_next (g ∷ gs) k n is sound own =
+        let middle : NetsValue = with_named n g.row (option_and_then output (gate_body library rows g)) (number k) in
+        let one : IsNext library at paths n middle = first_next k g gs n is sound own in
+        next_on library at paths n middle (with_gates output number library rows middle (suc k) gs) one (gates_next gs (suc k) middle one.nets one.sound (own_rest k g gs own))
+
+    pub gates_known : (gs : List Gate) (k : ℕ) (n : NetsValue) → IsNets n → IsSoundTable library at paths (table_of n) → HasSlots library paths n → AreOwn k gs
+        → (i : ℕ) (g : Gate) (name : List ℕ) → slice_get gs i ≡ Some g → option_and_then output (gate_body library rows g) ≡ Some name → table_of (with_gates output number library rows n k gs) g.row name ≡ None → ⊥
+    gates_known [] k n is sound slots own i g name e f = absurd (none-some g e)
+    gates_known (h ∷ gs) k n is sound slots own zero g name e f =
+        let middle : NetsValue = with_named n h.row (option_and_then output (gate_body library rows h)) (number k) in
+        let one : IsNext library at paths n middle = first_next k h gs n is sound own in
+        let rest : IsNext library at paths middle (with_gates output number library rows middle (suc k) gs) = gates_next gs (suc k) middle one.nets one.sound (own_rest k h gs own) in
+        let same : g ≡ h = sym (same_Some h g e) in
+        let out : option_and_then output (gate_body library rows h) ≡ Some name = subst (λ (x : Gate). option_and_then output (gate_body library rows x) ≡ Some name) same f in
+        let known : table_of middle h.row name ≡ None → ⊥ = named_known n is slots h.row (option_and_then output (gate_body library rows h)) name (number k) out (own_first k h gs own name out) in
+        subst (λ (x : Gate). table_of (with_gates output number library rows middle (suc k) gs) x.row name ≡ None → ⊥) (sym same) (rest.kept.each h.row name known)
+    gates_known (h ∷ gs) k n is sound slots own (suc i) g name e f =
+        let middle : NetsValue = with_named n h.row (option_and_then output (gate_body library rows h)) (number k) in
+        let one : IsNext library at paths n middle = first_next k h gs n is sound own in
+        gates_known gs (suc k) middle one.nets one.sound (slots_on library at paths n middle slots one) (own_rest k h gs own) i g name e f
+
+module _ (library : LibraryValue) (main : ModelValue) (rows : List Instance) (are : AreInstances library rows) where
+  -- the command of a gate
+  pub record IsCommandOf (g : Gate) (path : Path) (b : Body) : Type 0 where
+    pub model : ModelValue
+    pub there : model_at library path ≡ Some model
+    pub is : body_at model g.command ≡ Some b
+
+  gate_command : (g : Gate) (path : Path) (b : Body) → slice_get (paths_of rows) g.row ≡ Some path → gate_body library rows g ≡ Some b → IsCommandOf g path b
+  gate_command g path b here e =
+      let place : gate_body library rows g ≡ body_in g.command (model_at library path) = gate_place library rows are g (record { path = path; command = g.command }) (record { row = here; command = refl }) in
+      option_and_then_some (λ (m : ModelValue). body_at m g.command) (model_at library path) b (sym place ∙ e) (λ m f h. record { model = m; there = f; is = h })
+
+  -- and the body that a gate's row has at its command
+  command_body : (g : Gate) (path : Path) (m : ModelValue) (b : Body) → slice_get (paths_of rows) g.row ≡ Some path → model_at library path ≡ Some m → body_at m g.command ≡ Some b → gate_body library rows g ≡ Some b
+  command_body g path m b here there is =
+      gate_place library rows are g (record { path = path; command = g.command }) (record { row = here; command = refl }) ∙ ap (body_in g.command) there ∙ is
+
+  cover_body : (b : Body) (name : List ℕ) → cover_output b ≡ Some name → (c : CoverValue) × (b ≡ Cover c) × (c.output ≡ name)
+  cover_body (Cover c) name e = (c, refl, same_Some c.output name e)
+  cover_body (Latch l) name e = absurd (none-some name e)
+  cover_body (Subckt s) name e = absurd (none-some name e)
+
+  latch_body : (b : Body) (name : List ℕ) → latch_output b ≡ Some name → (l : LatchValue) × (b ≡ Latch l) × (l.output ≡ name)
+  latch_body (Cover c) name e = absurd (none-some name e)
+  latch_body (Latch l) name e = (l, refl, same_Some l.output name e)
+  latch_body (Subckt s) name e = absurd (none-some name e)
+
+  -- the outputs of the covers have the covers' numbers
+  pub covers_own : (covers : List Gate) → AreGatesAt (paths_of rows) covers (places_at library is_cover (paths_of rows))
+      → AreOwn library (net_places library main (paths_of rows)) (paths_of rows) rows cover_output (λ j. CoverNumber j) 0 covers
+  covers_own covers gates i g name e f =
+      let p = item_there covers (places_at library is_cover (paths_of rows)) i g gates.count e in
+      let stands : IsGateAt (paths_of rows) g p.0 = gates.each i g p.0 e p.1 in
+      option_and_then_some cover_output (gate_body library rows g) name f (λ b h t.
+      let c = cover_body b name t in
+      let k : IsCommandOf g (p.0).path b = gate_command g (p.0).path b stands.row h in
+      let cover : body_at k.model (p.0).command ≡ Some (Cover c.0) = ap (body_at k.model) (sym stands.command) ∙ k.is ∙ ap Some c.1 in
+      let z : i ≡ 0 + i = omega arith in
+      record {
+        path = (p.0).path;
+        here = stands.row;
+        model = k.model;
+        there = k.there;
+        named = body_named k.model (p.0).command (Cover c.0) name cover (In-right (c.0).inputs ((c.0).output ∷ []) name (inl (sym c.2)));
+        right = record {
+          net = cover_net (p.0).path (p.0).command;
+          drives = drives_cover (p.0).command c.0 (record { model = k.model; at = k.there; is = cover }) (sym c.2) refl;
+          numbered = subst (λ j. IsNumbered (net_places library main (paths_of rows)) (cover_net (p.0).path (p.0).command) (CoverNumber j)) z (a_cover p.0 i refl p.1 refl);
+        };
+      })
+
+  pub latches_own : (latches : List Gate) → AreGatesAt (paths_of rows) latches (places_at library is_latch (paths_of rows))
+      → AreOwn library (net_places library main (paths_of rows)) (paths_of rows) rows latch_output (λ j. LatchNumber j) 0 latches
+  latches_own latches gates i g name e f =
+      let p = item_there latches (places_at library is_latch (paths_of rows)) i g gates.count e in
+      let stands : IsGateAt (paths_of rows) g p.0 = gates.each i g p.0 e p.1 in
+      option_and_then_some latch_output (gate_body library rows g) name f (λ b h t.
+      let l = latch_body b name t in
+      let k : IsCommandOf g (p.0).path b = gate_command g (p.0).path b stands.row h in
+      let latch : body_at k.model (p.0).command ≡ Some (Latch l.0) = ap (body_at k.model) (sym stands.command) ∙ k.is ∙ ap Some l.1 in
+      let z : i ≡ 0 + i = omega arith in
+      record {
+        path = (p.0).path;
+        here = stands.row;
+        model = k.model;
+        there = k.there;
+        named = body_named k.model (p.0).command (Latch l.0) name latch (inr (inl (sym l.2)));
+        right = record {
+          net = latch_net (p.0).path (p.0).command;
+          drives = drives_latch (p.0).command l.0 (record { model = k.model; at = k.there; is = latch }) (sym l.2) refl;
+          numbered = subst (λ j. IsNumbered (net_places library main (paths_of rows)) (latch_net (p.0).path (p.0).command) (LatchNumber j)) z (a_latch p.0 i refl p.1 refl);
+        };
+      })
+
+  -- each command of a kind is that of a gate
+  pub record IsGateOf (gates : List Gate) (i c : ℕ) (b : Body) : Type 0 where
+    pub number : ℕ
+    pub gate : Gate
+    pub at : slice_get gates number ≡ Some gate
+    pub row : gate.row ≡ i
+    pub is : gate_body library rows gate ≡ Some b
+
+  pub gate_of : (kind : Body → Bool) (gates : List Gate) → AreGatesAt (paths_of rows) gates (places_at library kind (paths_of rows)) → (i : ℕ) (path : Path) (m : ModelValue) (c : ℕ) (b : Body)
+      → slice_get (paths_of rows) i ≡ Some path → model_at library path ≡ Some m → body_at m c ≡ Some b → IsTrue (kind b) → IsGateOf gates i c b
+  gate_of kind gates stand i path m c b here there is t =
+      let command = command_of (slice_get m.commands c) b is in
+      let number : ℕ = own_number library kind (paths_of rows) i m c in
+      let place : slice_get (places_at library kind (paths_of rows)) number ≡ Some (place_of path c) =
+      place_at library kind (paths_of rows) i path m c command.0 here there command.1 (ap kind command.2 ∙ t) in
+      let g = item_there (places_at library kind (paths_of rows)) gates number (place_of path c) (sym stand.count) place in
+      let stands : IsGateAt (paths_of rows) g.0 (place_of path c) = stand.each number g.0 (place_of path c) g.1 place in
+      record {
+        number = number;
+        gate = g.0;
+        at = g.1;
+        row = one_place (paths_of rows) path (g.0).row i (order_apart library are.order) stands.row here;
+        is = command_body g.0 path m b stands.row there (ap (body_at m) stands.command ∙ is);
+      }

@@ -1,0 +1,3 @@
+-- The faults of a library, from stage to stage.
+pub mod StageLemmas
+pub mod FaultOnceLemmas

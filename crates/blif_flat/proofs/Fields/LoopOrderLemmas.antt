@@ -1,0 +1,121 @@
+-- A loop of covers by their numbers is written by their gates, and the order of the numbers is one of the covers.
+use Rattle.std.proofs.Common.{◌≡◌, ℕ, ◌+◌, ◌<◌, List, [], ◌∷◌, ◌++◌, map, length, take, get_or, Some, None, refl, sym, ap, ap₂, ◌∙◌, subst, arith, slice_get, All}
+use Rattle.blif_flat.proofs.Common.{map-append, take_more, slice_get_within, slice_get-get_or, In, In-get, at_within}
+use Rattle.blif_flat.specs.Circuits.{CoverValue, LibraryValue, Path, CoverAt, cover_net, IsDriven, Place, is_cover}
+use Rattle.blif_flat.specs.declared.flat.FlatLatch.{FlatLatch}
+use Rattle.blif_flat.specs.declared.flat.Net.{Net as FlatNet}
+use Rattle.blif_flat.specs.declared.flat_err.FlatErr.TheVariants.{Loop}
+use Rattle.blif_flat.specs.declared.gates.Gate.{Gate}
+use Rattle.blif_flat.specs.declared.instances.Instance.{Instance}
+use Rattle.blif_flat.specs.FlatCoverValue.{FlatCoverValue}
+use Rattle.blif_flat.specs.Steps.InstanceOrder.{places_at}
+use Rattle.blif_flat.specs.Steps.InstanceRows.{paths_of, AreInstances}
+use Rattle.blif_flat.specs.Steps.Gates.{IsGateAt, AreGatesAt}
+use Rattle.blif_flat.specs.Steps.CoverWalk.{InRange, IsNumberLoop, all_starts, IsOrder}
+use Rattle.blif_flat.specs.Written.{IsWritten}
+use Rattle.blif_flat.specs.LoopFault.{AreWritten, none, LoopWalk, IsLoop}
+use Rattle.blif_flat.specs.Steps.Ordering.{AreCounted, root_numbers}
+use Rattle.blif_flat.specs.Steps.LoopSteps.{IsWrittenAt, AreWrittenAt}
+use Rattle.blif_flat.proofs.Fields.FlatGateLemmas.{cover_there}
+use Rattle.blif_flat.proofs.Hierarchy.GateLemmas.{row_within}
+use Rattle.blif_flat.proofs.Connections.NetLemmas.{nets, are_nets}
+use Rattle.blif_flat.proofs.Fields.NumberWalkLemmas.{place_or, place_at, in_range, root_below, order_mapped, loop_mapped, loop_fault}
+use Rattle.blif_flat.proofs.Fields.WrittenLemmas.{written_more}
+
+-- what holds of the members holds of all elements
+pub all_members : {A : Type 0} (P : A → Type 0) (xs : List A) → ((x : A) → In xs x → P x) → All P xs
+all_members P xs h k d b = h (get_or xs k d) (In-get xs k (get_or xs k d) (slice_get-get_or xs k d b))
+
+module _ (library : LibraryValue) where
+  module _ (rows : List Instance) (are : AreInstances library rows) (gates : List Gate) (w : AreGatesAt (paths_of rows) gates (places_at library is_cover (paths_of rows))) where
+    abbrev gate_places : List Place
+    gate_places = places_at library is_cover (paths_of rows)
+
+    -- the place of a cover's gate
+    record IsHere (k : ℕ) (g : Gate) : Type 0 where
+      place : Place
+      at : slice_get gate_places k ≡ Some place
+      gate : IsGateAt (paths_of rows) g place
+
+    here : (k : ℕ) (g : Gate) → slice_get gates k ≡ Some g → IsHere k g
+    here k g e =
+        let inside : k < length gates = slice_get_within gates k g e in
+        let same : length gates ≡ length gate_places = w.count in
+        let p = at_within gate_places k (omega arith) in
+        record { place = p.0; at = p.1; gate = w.each k g p.0 e p.1 }
+
+    pub number_row : (k : ℕ) (d : Gate) → k < length gates → (get_or gates k d).row < length rows
+    number_row k d b =
+        let h = here k (get_or gates k d) (slice_get-get_or gates k d b) in
+        row_within rows (get_or gates k d).row h.place.path h.gate.row
+
+    -- the text of a gate's cover is that of its number
+    pub written_here : (k : ℕ) (d : Gate) (text : List ℕ) → k < length gates
+        → ((path : Path) (c : CoverValue) → slice_get (paths_of rows) (get_or gates k d).row ≡ Some path → CoverAt library path (get_or gates k d).command c
+        → IsWritten library (cover_net path (get_or gates k d).command) text)
+        → IsWrittenAt library (places_at library is_cover (paths_of rows)) k text
+    written_here k d text b is =
+        let g : Gate = get_or gates k d in
+        let h : IsHere k g = here k g (slice_get-get_or gates k d b) in
+        let p : Place = h.place in
+        let c = cover_there library rows are p (In-get gate_places k p h.at) in
+        let command : g.command ≡ p.command = h.gate.command in
+        record {
+          place = p;
+          at = h.at;
+          written = subst (λ i. IsWritten library (cover_net p.path i) text) command (is p.path c.0 h.gate.row (subst (λ i. CoverAt library p.path i c.0) (sym command) c.1));
+        }
+
+  -- the texts of several numbers, one by one
+  pub written_start : (covers : List Place) (texts : List (List ℕ)) → texts ≡ [] → AreWrittenAt library covers [] texts
+  written_start covers texts e = record { places = []; at = refl; written = subst (AreWritten library []) (sym e) none }
+
+  pub written_next : (covers : List Place) (numbers : List ℕ) (i d : ℕ) (texts news : List (List ℕ)) (text : List ℕ) → i < length numbers → AreWrittenAt library covers (take i numbers) texts
+      → IsWrittenAt library covers (get_or numbers i d) text → news ≡ texts ++ text ∷ [] → AreWrittenAt library covers (take (i + 1) numbers) news
+  written_next covers numbers i d texts news text h a t e =
+      let p : Place = t.place in
+      let ps : List Place = a.places in
+      record {
+        places = ps ++ p ∷ [];
+        at = ap (map (slice_get covers)) (take_more numbers i d h) ∙ map-append (slice_get covers) (take i numbers) (get_or numbers i d ∷ [])
+            ∙ ap₂ (λ xs x. xs ++ x ∷ []) a.at t.at ∙ sym (map-append Some ps (p ∷ []));
+        written = subst (AreWritten library (ps ++ p ∷ [])) (sym e) (written_more library a.written p text t.written);
+      }
+
+  -- the places of numbers
+  places_of : (covers : List Place) (numbers : List ℕ) (places : List Place) → map (slice_get covers) numbers ≡ map Some places → places ≡ map (λ k. place_or (slice_get covers k)) numbers
+  places_of covers [] [] e = refl
+  places_of covers [] (p ∷ places) e = absurd (cc)
+  places_of covers (n ∷ numbers) [] e = absurd (cc)
+  places_of covers (n ∷ numbers) (p ∷ places) e =
+      let first : slice_get covers n ≡ Some p = cc in
+      let rest : map (slice_get covers) numbers ≡ map Some places = cc in
+      ap₂ (λ (x : Place) (xs : List Place). x ∷ xs) (sym (ap place_or first)) (places_of covers numbers places rest)
+
+  module _ (driven : IsDriven library) (paths : List Path) (outputs : List FlatNet) (covers : List FlatCoverValue) (latches : List FlatLatch) (w : AreCounted library paths outputs covers latches) where
+    pub walked_range : InRange covers
+    walked_range = in_range library w.main w.at outputs covers latches w.walked
+
+    pub walked_roots : (roots : List ℕ) → roots ≡ root_numbers outputs latches → All (λ root. root < length covers) roots
+    walked_roots roots e = all_members (λ root. root < length covers) roots (λ m i. root_below library w.main w.at outputs covers latches w.walked m (subst (λ l. In l m) e i))
+
+    pub walked_clean : (roots order : List ℕ) → roots ≡ root_numbers outputs latches → IsOrder covers roots order → LoopWalk library None
+    walked_clean roots order e o = order_mapped library w.main w.at outputs covers latches w.walked (nets library driven) (are_nets library driven) order (subst (λ l. IsOrder covers l order) e o)
+
+    -- the covers of a loop have gates, whose texts tell the loop
+    pub loop_inside : (gates : List Gate) → AreGatesAt paths gates (places_at library is_cover paths) → (roots nodes : List ℕ) → roots ≡ root_numbers outputs latches → IsNumberLoop covers (all_starts covers roots) nodes
+        → (m : ℕ) → In nodes m → m < length gates
+    loop_inside gates g roots nodes e c m i =
+        let p = loop_mapped library w.main w.at outputs covers latches w.walked (nets library driven) (are_nets library driven) nodes (subst (λ l. IsNumberLoop covers (all_starts covers l) nodes) e c) in
+        let below : m < length w.at.covers = p.below m i in
+        let same : length w.at.covers ≡ length (places_at library is_cover paths) = ap length w.covers_at in
+        let count : length gates ≡ length (places_at library is_cover paths) = g.count in
+        omega arith
+
+    pub loop_told : (roots nodes : List ℕ) (texts : List (List ℕ)) → roots ≡ root_numbers outputs latches → IsNumberLoop covers (all_starts covers roots) nodes → AreWrittenAt library (places_at library is_cover paths) nodes texts
+        → IsLoop library (Loop texts)
+    loop_told roots nodes texts e c a =
+        let same : a.places ≡ map (place_at w.at) nodes = places_of w.at.covers nodes a.places (ap (λ l. map (slice_get l) nodes) w.covers_at ∙ a.at) in
+        loop_fault library w.main w.at outputs covers latches w.walked (nets library driven) (are_nets library driven) nodes
+        (loop_mapped library w.main w.at outputs covers latches w.walked (nets library driven) (are_nets library driven) nodes (subst (λ l. IsNumberLoop covers (all_starts covers l) nodes) e c))
+        texts (subst (λ l. AreWritten library l texts) same a.written)

@@ -1,0 +1,282 @@
+-- The walk of the covers by their numbers is the walk of their places.
+use Rattle.std.proofs.Common.{◌≡◌, ℕ, zero, suc, ◌+◌, ◌<◌, Bool, true, false, List, [], ◌∷◌, ◌++◌, map, length, Option, Some, None, refl, sym, ap, ap₂, ◌∙◌, subst, inl, inr, eqb, eqb-true, eq-eqb, arith, slice_get, if◌then◌else◌}
+use Rattle.std.specs.List.{range_with_len}
+use Rattle.blif_flat.proofs.Common.{both_ways, cases_Bool, map-append, slice_get_within, In, In-append, at_within, apart_once}
+use Rattle.blif_flat.specs.Circuits.{ModelValue, LibraryValue, Path, Net, Place, same_place, latch_at, is_cover}
+use Rattle.blif_flat.specs.declared.flat_err.FlatErr.TheVariants.{Loop}
+use Rattle.blif_flat.specs.declared.flat.Net.{Net as FlatNet}
+use Rattle.blif_flat.specs.declared.flat.Net.TheVariants.{Input, Latch, Cover}
+use Rattle.blif_flat.specs.declared.flat.OutPort.{OutPort}
+use Rattle.blif_flat.specs.declared.flat.FlatLatch.{FlatLatch}
+use Rattle.blif_flat.specs.FlatCoverValue.{FlatCoverValue}
+use Rattle.blif_flat.specs.FlatValue.{FlatValue}
+use Rattle.blif_flat.specs.Loops.{AreNets, with_cover, covers_among, reads_in, reads_of}
+use Rattle.blif_flat.specs.LoopFault.{latch_covers, all_latch_covers, roots_of, from_node, AreWritten, LoopWalk, IsLoop}
+use Rattle.blif_flat.specs.Flat.{Places, IsNumbered, an_input, a_latch, a_cover, IsNetOf, AreNetsOf, none, more, cover_numbers, inputs_at, IsFlatCover, IsFlatLatch, IsFlat}
+use Rattle.blif_flat.specs.Steps.Ordering.{AreWalked, latch_nets, root_numbers}
+use Rattle.blif_flat.specs.DepthFirst.{Repeat, MeetsAll}
+use Rattle.depth_first.specs.Walk.{from_node as from_number}
+use Rattle.blif_flat.specs.Steps.CoverWalk.{cover_reads, InRange, IsNumberLoop, IsOrder}
+use Rattle.blif_flat.proofs.Hierarchy.PlaceLemmas.{same_place-is, same_place-refl, cover_at-is}
+use Rattle.blif_flat.proofs.Hierarchy.PlaceOnceLemmas.{order_apart}
+use Rattle.blif_flat.proofs.Walks.MeetLemmas.{result_mapped, repeat_mapped, IsInside, nodes_inside, nodes_mapped}
+use Rattle.blif_flat.proofs.Hierarchy.GateLemmas.{latch_at-some}
+
+pub flat_walked : (library : LibraryValue) (flat : FlatValue) (f : IsFlat library flat) → AreWalked library f.main f.at (map (λ (o : OutPort). o.net) flat.outputs) flat.covers flat.latches
+flat_walked library flat f = record {
+  is_main = f.is_main;
+  covers_order = f.covers_order;
+  latches_order = f.latches_order;
+  cover_count = f.cover_count;
+  covers_are = f.covers;
+  latch_count = f.latch_count;
+  latches_are = f.latches;
+  outputs_are = f.outputs;
+}
+
+-- the place of a cover's number
+abbrev pub place_or : Option Place → Place
+place_or None = record { path = []; command = 0 }
+place_or (Some p) = p
+
+abbrev pub place_at : Places → ℕ → Place
+place_at at k = place_or (slice_get at.covers k)
+
+pub place_at-is : (at : Places) (k : ℕ) (p : Place) → slice_get at.covers k ≡ Some p → place_at at k ≡ p
+place_at-is at k p e = ap place_or e
+
+-- all numbers give all places
+mapped_numbers : (at : Places) (k : ℕ) (ps : List Place) → ((i : ℕ) → slice_get at.covers (k + i) ≡ slice_get ps i) → map (place_at at) (range_with_len k (length ps)) ≡ ps
+mapped_numbers at k [] h = refl
+mapped_numbers at k (p ∷ ps) h =
+    let here : slice_get at.covers k ≡ Some p = (let e : k + 0 ≡ k = omega arith in subst (λ n. slice_get at.covers n ≡ Some p) e (h 0)) in
+    ap₂ (λ (x : Place) (xs : List Place). x ∷ xs) (place_at-is at k p here)
+    (mapped_numbers at (k + 1) ps (λ i. (let e : k + suc i ≡ k + 1 + i = omega arith in subst (λ n. slice_get at.covers n ≡ slice_get ps i) e (h (suc i)))))
+
+all_places : (at : Places) (n : ℕ) → n ≡ length at.covers → map (place_at at) (range_with_len 0 n) ≡ at.covers
+all_places at n e =
+    ap (λ m. map (place_at at) (range_with_len 0 m)) e ∙ mapped_numbers at 0 at.covers (λ i. (let z : 0 + i ≡ i = omega arith in ap (slice_get at.covers) z))
+
+numbers_below : (k n m : ℕ) → In (range_with_len k n) m → m < k + n
+numbers_below k zero m i = absurd i
+numbers_below k (suc n) m (inl e) = omega arith
+numbers_below k (suc n) m (inr i) = (let b : m < k + 1 + n = numbers_below (k + 1) n m i in omega arith)
+
+-- a net before others
+first_numbers : (net : FlatNet) (nets : List FlatNet) → cover_numbers (net ∷ nets) ≡ cover_numbers (net ∷ []) ++ cover_numbers nets
+first_numbers (Input j) nets = refl
+first_numbers (Latch j) nets = refl
+first_numbers (Cover j) nets = refl
+
+first_mapped : (at : Places) (net : FlatNet) (nets : List FlatNet) → map (place_at at) (cover_numbers (net ∷ nets)) ≡ map (place_at at) (cover_numbers (net ∷ [])) ++ map (place_at at) (cover_numbers nets)
+first_mapped at net nets = ap (map (place_at at)) (first_numbers net nets) ∙ map-append (place_at at) (cover_numbers (net ∷ [])) (cover_numbers nets)
+
+module _ (library : LibraryValue) (at : Places) where
+  -- the covers among numbered nets are numbered
+  with_below : (number : FlatNet) (e : Net) → IsNumbered at e number → (numbers : List FlatNet) (m : ℕ) → (In (cover_numbers numbers) m → m < length at.covers)
+      → In (cover_numbers (number ∷ numbers)) m → m < length at.covers
+  with_below number e (an_input name j q g n) numbers m h i = h (subst (λ y. In (cover_numbers (y ∷ numbers)) m) n i)
+  with_below number e (a_latch p j q g n) numbers m h i = h (subst (λ y. In (cover_numbers (y ∷ numbers)) m) n i)
+  with_below number e (a_cover p j q g n) numbers m h i = elim (subst (λ y. In (cover_numbers (y ∷ numbers)) m) n i) as (λ _. m < length at.covers) [
+    | inl s ↦ subst (λ k. k < length at.covers) (sym s) (slice_get_within at.covers j p g)
+    | inr k ↦ h k
+  ]
+
+  pub among_below : (path : Path) {names : List (List ℕ)} {numbers : List FlatNet} → AreNetsOf library at path names numbers → (m : ℕ) → In (cover_numbers numbers) m → m < length at.covers
+  among_below path none m i = absurd i
+  among_below path (more name names number numbers o os) m i = with_below number o.net o.numbered numbers m (among_below path os m) i
+
+  module _ (net : Path → List ℕ → Option Net) (nets : AreNets library net) where
+    with_mapped : (number : FlatNet) (e : Net) → IsNumbered at e number → (places : List Place) (numbers : List FlatNet) → places ≡ map (place_at at) (cover_numbers numbers)
+        → with_cover (Some e) places ≡ map (place_at at) (cover_numbers (number ∷ numbers))
+    with_mapped number e (an_input name j q g n) places numbers h = ap (λ y. with_cover (Some y) places) q ∙ h ∙ sym (ap (λ y. map (place_at at) (cover_numbers (y ∷ numbers))) n)
+    with_mapped number e (a_latch p j q g n) places numbers h = ap (λ y. with_cover (Some y) places) q ∙ h ∙ sym (ap (λ y. map (place_at at) (cover_numbers (y ∷ numbers))) n)
+    with_mapped number e (a_cover p j q g n) places numbers h =
+        ap (λ y. with_cover (Some y) places) q ∙ ap₂ (λ (x : Place) (xs : List Place). x ∷ xs) (sym (place_at-is at j p g)) h ∙ sym (ap (λ y. map (place_at at) (cover_numbers (y ∷ numbers))) n)
+
+    one_mapped : (path : Path) (name : List ℕ) (number : FlatNet) → IsNetOf library at path name number → (places : List Place) (numbers : List FlatNet) → places ≡ map (place_at at) (cover_numbers numbers)
+        → with_cover (net path name) places ≡ map (place_at at) (cover_numbers (number ∷ numbers))
+    one_mapped path name number o places numbers h = ap (λ y. with_cover y places) (nets.finds path name o.net o.drives) ∙ with_mapped number o.net o.numbered places numbers h
+
+    -- the covers among names are those of their numbers
+    pub among_mapped : (path : Path) {names : List (List ℕ)} {numbers : List FlatNet} → AreNetsOf library at path names numbers → covers_among (net path) names ≡ map (place_at at) (cover_numbers numbers)
+    among_mapped path none = refl
+    among_mapped path (more name names number numbers o os) = one_mapped path name number o (covers_among (net path) names) numbers (among_mapped path os)
+
+    latch_mapped : (p : Place) (l : FlatLatch) → IsFlatLatch library at p l → latch_covers (net p.path) (latch_at library p) ≡ map (place_at at) (cover_numbers (l.input ∷ []))
+    latch_mapped p l o = ap (latch_covers (net p.path)) (latch_at-some library p o.latch o.is) ∙ one_mapped p.path (o.latch).input l.input o.input [] [] refl
+
+    latches_mapped : (ps : List Place) (ls : List FlatLatch) → length ls ≡ length ps → ((k : ℕ) (p : Place) (l : FlatLatch) → slice_get ps k ≡ Some p → slice_get ls k ≡ Some l → IsFlatLatch library at p l)
+        → all_latch_covers library net ps ≡ map (place_at at) (cover_numbers (latch_nets ls))
+    latches_mapped [] [] n h = refl
+    latches_mapped [] (l ∷ ls) n h = absurd (omega arith)
+    latches_mapped (p ∷ ps) [] n h = absurd (omega arith)
+    latches_mapped (p ∷ ps) (l ∷ ls) n h =
+        let m : suc (length ls) ≡ suc (length ps) = n in
+        ap₂ (λ (x y : List Place). x ++ y) (latch_mapped p l (h 0 p l refl refl)) (latches_mapped ps ls (omega arith) (λ k q o e f. h (suc k) q o e f))
+        ∙ sym (first_mapped at l.input (latch_nets ls))
+
+  latches_below : (ps : List Place) (ls : List FlatLatch) → length ls ≡ length ps → ((k : ℕ) (p : Place) (l : FlatLatch) → slice_get ps k ≡ Some p → slice_get ls k ≡ Some l → IsFlatLatch library at p l)
+      → (m : ℕ) → In (cover_numbers (latch_nets ls)) m → m < length at.covers
+  latches_below ps [] n h m i = absurd i
+  latches_below [] (l ∷ ls) n h m i = absurd (omega arith)
+  latches_below (p ∷ ps) (l ∷ ls) n h m i =
+      let o = h 0 p l refl refl in
+      let e : suc (length ls) ≡ suc (length ps) = n in
+      with_below l.input (o.input).net (o.input).numbered (latch_nets ls) m (latches_below ps ls (omega arith) (λ k q r a b. h (suc k) q r a b) m) i
+
+module _ (library : LibraryValue) (main : ModelValue) (at : Places) (outputs : List FlatNet) (covers : List FlatCoverValue) (latches : List FlatLatch) (w : AreWalked library main at outputs covers latches) where
+  -- the place and the cover of a number
+  record IsHere (k : ℕ) (c : FlatCoverValue) : Type 0 where
+    place : Place
+    at_place : slice_get at.covers k ≡ Some place
+    is : IsFlatCover library at place c
+
+  here : (k : ℕ) (c : FlatCoverValue) → slice_get covers k ≡ Some c → IsHere k c
+  here k c e =
+      let a : k < length covers = slice_get_within covers k c e in
+      let n : length covers ≡ length at.covers = w.cover_count in
+      let p = at_within at.covers k (omega arith) in
+      record { place = p.0; at_place = p.1; is = w.covers_are k p.0 c p.1 e }
+
+  read_below : (k : ℕ) (o : Option FlatCoverValue) → slice_get covers k ≡ o → (m : ℕ) → In (cover_numbers (inputs_at o)) m → m < length at.covers
+  read_below k None e m i = absurd i
+  read_below k (Some c) e m i = let h = here k c e in among_below library at (h.place).path (h.is).inputs m i
+
+  below : (n m : ℕ) → In (cover_reads covers n) m → m < length at.covers
+  below n m i = read_below n (slice_get covers n) refl m i
+
+  pub in_range : InRange covers
+  in_range = record { each = λ n m i. (let b : m < length at.covers = below n m i in let e : length covers ≡ length at.covers = w.cover_count in omega arith) }
+
+  -- different numbers have different places
+  one_number_at : (n m : ℕ) (p q : Place) → slice_get at.covers n ≡ Some p → slice_get at.covers m ≡ Some q → place_at at n ≡ place_at at m → n ≡ m
+  one_number_at n m p q a b e =
+      apart_once at.covers n m p (order_apart library is_cover w.covers_order) a (b ∙ ap Some (sym (place_at-is at m q b) ∙ sym e ∙ place_at-is at n p a))
+
+  pub one_number : (n m : ℕ) → n < length at.covers → m < length at.covers → place_at at n ≡ place_at at m → n ≡ m
+  one_number n m a b e =
+      let p = at_within at.covers n a in
+      let q = at_within at.covers m b in
+      one_number_at n m p.0 q.0 p.1 q.1 e
+
+  roots_below : (m : ℕ) → In (root_numbers outputs latches) m → m < length at.covers
+  roots_below m i = elim (In-append (cover_numbers outputs) (cover_numbers (latch_nets latches)) m i) as (λ _. m < length at.covers) [
+    | inl j ↦ among_below library at [] w.outputs_are m j
+    | inr j ↦ latches_below library at at.latches latches w.latch_count w.latches_are m j
+  ]
+
+  pub root_below : (m : ℕ) → In (root_numbers outputs latches) m → m < length covers
+  root_below m i = (let b : m < length at.covers = roots_below m i in let e : length covers ≡ length at.covers = w.cover_count in omega arith)
+
+  abbrev starts : List ℕ
+  starts = root_numbers outputs latches ++ range_with_len 0 (length covers)
+
+  starts_below : (m : ℕ) → In starts m → m < length at.covers
+  starts_below m i = elim (In-append (root_numbers outputs latches) (range_with_len 0 (length covers)) m i) as (λ _. m < length at.covers) [
+    | inl j ↦ roots_below m j
+    | inr j ↦ (let b : m < 0 + length covers = numbers_below 0 (length covers) m j in let e : length covers ≡ length at.covers = w.cover_count in omega arith)
+  ]
+
+  -- the loop of numbers is one of places
+  same_number : (n m : ℕ) → n < length at.covers → m < length at.covers → (b : Bool) → eqb n m ≡ b → same_place (place_at at n) (place_at at m) ≡ b
+  same_number n m p q true e = subst (λ k. same_place (place_at at n) (place_at at k) ≡ true) (eqb-true n m e) (same_place-refl (place_at at n))
+  same_number n m p q false e = elim (cases_Bool (same_place (place_at at n) (place_at at m))) [
+    | inl t ↦ absurd (both_ways (eqb n m) e (eq-eqb n m (one_number n m p q (same_place-is (place_at at n) (place_at at m) t))))
+    | inr u ↦ u
+  ]
+
+  from_case : (b : Bool) (m : ℕ) (xs : List ℕ) (ys : List Place) → ys ≡ map (place_at at) xs
+      → (if b then place_at at m ∷ [] else ys ++ place_at at m ∷ []) ≡ map (place_at at) (if b then m ∷ [] else xs ++ m ∷ [])
+  from_case true m xs ys e = refl
+  from_case false m xs ys e = ap (λ l. l ++ place_at at m ∷ []) e ∙ sym (map-append (place_at at) xs (m ∷ []))
+
+  pub from_mapped : (n : ℕ) (path : List ℕ) → n < length at.covers → ((m : ℕ) → In path m → m < length at.covers) → from_node (place_at at n) (map (place_at at) path) ≡ map (place_at at) (from_number n path)
+  from_mapped n [] p h = refl
+  from_mapped n (m ∷ path) p h =
+      ap (λ b. if b then place_at at m ∷ [] else from_node (place_at at n) (map (place_at at) path) ++ place_at at m ∷ []) (same_number n m p (h m (inl refl)) (eqb n m) refl)
+      ∙ from_case (eqb n m) m (from_number n path) (from_node (place_at at n) (map (place_at at) path)) (from_mapped n path p (λ k i. h k (inr i)))
+
+  within_case : (b : Bool) (k : ℕ) (xs : List ℕ) (m : ℕ) → k < length at.covers → (In xs m → m < length at.covers) → In (if b then k ∷ [] else xs ++ k ∷ []) m → m < length at.covers
+  within_case true k xs m l h (inl e) = subst (λ x. x < length at.covers) (sym e) l
+  within_case true k xs m l h (inr i) = absurd i
+  within_case false k xs m l h i = elim (In-append xs (k ∷ []) m i) as (λ _. m < length at.covers) [
+    | inl j ↦ h j
+    | inr j ↦ elim j as (λ _. m < length at.covers) [ inl e ↦ subst (λ x. x < length at.covers) (sym e) l | inr o ↦ absurd o ]
+  ]
+
+  from_within : (n : ℕ) (path : List ℕ) → ((m : ℕ) → In path m → m < length at.covers) → (m : ℕ) → In (from_number n path) m → m < length at.covers
+  from_within n [] h m i = absurd i
+  from_within n (k ∷ path) h m i = within_case (eqb n k) k (from_number n path) m (h k (inl refl)) (from_within n path (λ l j. h l (inr j)) m) i
+
+  module _ (net : Path → List ℕ → Option Net) (nets : AreNets library net) where
+    reads_here : (k : ℕ) (c : FlatCoverValue) → slice_get covers k ≡ Some c → (h : IsHere k c) → reads_of library net (place_at at k) ≡ map (place_at at) (cover_reads covers k)
+    reads_here k c e h =
+        let p : Place = h.place in
+        ap (reads_of library net) (place_at-is at k p h.at_place) ∙ ap (reads_in (net p.path)) (cover_at-is library p.path p.command (h.is).cover (h.is).is)
+        ∙ among_mapped library at net nets p.path (h.is).inputs ∙ sym (ap (λ y. map (place_at at) (cover_numbers (inputs_at y))) e)
+
+    -- the numbers that a cover reads are those of the places that its place reads
+    pub same_reads : (k : ℕ) → k < length at.covers → reads_of library net (place_at at k) ≡ map (place_at at) (cover_reads covers k)
+    same_reads k b =
+        let n : length covers ≡ length at.covers = w.cover_count in
+        let c = at_within covers k (omega arith) in
+        reads_here k c.0 c.1 (here k c.0 c.1)
+
+    same_roots : roots_of library net main at.latches ≡ map (place_at at) (root_numbers outputs latches)
+    same_roots =
+        ap₂ (λ (x y : List Place). x ++ y) (among_mapped library at net nets [] w.outputs_are) (latches_mapped library at net nets at.latches latches w.latch_count w.latches_are)
+        ∙ sym (map-append (place_at at) (cover_numbers outputs) (cover_numbers (latch_nets latches)))
+
+    same_starts : map (place_at at) starts ≡ roots_of library net main at.latches ++ at.covers
+    same_starts =
+        map-append (place_at at) (root_numbers outputs latches) (range_with_len 0 (length covers))
+        ∙ ap₂ (λ (x y : List Place). x ++ y) (sym same_roots) (all_places at (length covers) w.cover_count)
+
+    -- what the walk of the numbers finds, the walk of the places does
+    pub walk_mapped : (result : Option (Repeat ℕ)) → MeetsAll (cover_reads covers) [] starts result → LoopWalk library (result_mapped (place_at at) result)
+    walk_mapped result m = record {
+      main = main;
+      at = w.is_main;
+      covers = at.covers;
+      covers_are = w.covers_order;
+      latches = at.latches;
+      latches_are = w.latches_order;
+      net = net;
+      nets = nets;
+      meets = subst (λ l. MeetsAll (reads_of library net) [] l (result_mapped (place_at at) result)) same_starts
+          (nodes_mapped (cover_reads covers) (λ k. k < length at.covers) (λ n k p i. below n k i) (reads_of library net) (place_at at) one_number same_reads m starts_below (λ k i. absurd i));
+    }
+
+    -- an order of the numbers: the places have no loop
+    pub order_mapped : (order : List ℕ) → IsOrder covers (root_numbers outputs latches) order → LoopWalk library None
+    order_mapped order o = walk_mapped None o.meets
+
+    -- a loop of the numbers: the places have a loop, of the places of these numbers
+    pub record IsPlaceLoop (nodes : List ℕ) : Type 0 where
+      pub repeat : Repeat Place
+      pub walk : LoopWalk library (Some repeat)
+      pub nodes_are : from_node repeat.node repeat.path ≡ map (place_at at) nodes
+      pub below : (m : ℕ) → In nodes m → m < length at.covers
+
+    pub loop_mapped : (nodes : List ℕ) → IsNumberLoop covers starts nodes → IsPlaceLoop nodes
+    loop_mapped nodes c =
+        let own : Repeat ℕ = c.repeat in
+        let i : IsInside (cover_reads covers) (λ k. k < length at.covers) (λ n k p j. below n k j) own =
+        nodes_inside (cover_reads covers) (λ k. k < length at.covers) (λ n k p j. below n k j) c.meets own refl starts_below (λ k j. absurd j) in
+        record {
+          repeat = repeat_mapped (place_at at) own;
+          walk = walk_mapped (Some own) c.meets;
+          nodes_are = from_mapped own.node own.path i.node i.path ∙ sym (ap (map (place_at at)) c.nodes_are);
+          below = λ m j. from_within own.node own.path i.path m (subst (λ l. In l m) c.nodes_are j);
+        }
+
+    -- F10 of a loop of numbers, by the names of its places
+    pub loop_fault : (nodes : List ℕ) → IsPlaceLoop nodes → (names : List (List ℕ)) → AreWritten library (map (place_at at) nodes) names → IsLoop library (Loop names)
+    loop_fault nodes p names written = record {
+      repeat = p.repeat;
+      walk = p.walk;
+      names = names;
+      written = subst (λ l. AreWritten library l names) (sym p.nodes_are) written;
+      is = refl;
+    }

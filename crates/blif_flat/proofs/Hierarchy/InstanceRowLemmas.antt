@@ -1,0 +1,308 @@
+-- The rows of instances: those that wait are put behind the others one by one, and in the end they are all instances in flat order.
+use Rattle.std.proofs.Common.{◌≡◌, ℕ, suc, List, ◌∷◌, length, Some, sym, ap, ◌∙◌, arith, ◌+◌, ◌<◌, ◌≤◌, [], ◌++◌, Option, None, refl, subst, inl, inr, append_assoc, reverse, slice_get, option_and_then}
+use Rattle.blif_flat.proofs.Common.{same_Some, none-some, slice_get_within, length-append, append-nil, reverse-append, reverse-reverse, get_before, get_end, get_pushed}
+use Rattle.blif_flat.specs.Circuits.{LibraryValue, ModelValue, Body, Cover, Latch, Subckt, Command, SubcktValue, Path, model_at, subckts_of, with_subckt, model_named}
+use Rattle.blif_flat.specs.declared.instances.Instance.{Instance}
+use Rattle.blif_flat.specs.Steps.InstanceRows.{AreInstances, IsRow, paths_of, path_under, path_of, paths_from, IsLight, number_or_zero, entry_of, with_entry, entries_from, entries_at, IsWaiting, Waits, none, more, Listed}
+use Rattle.tl_text.specs.NameIndex.{place_of}
+use Rattle.blif_flat.specs.Steps.NameSets.{model_names, Finds}
+use Rattle.blif_flat.specs.Weight.{most_weight, own_weight, Weighs, weighs, WeighAll, none as weigh_none, more as weigh_more}
+use Rattle.blif_flat.specs.Steps.InstanceOrder.{InstanceOrder, instance, InstancesUnder, none as under_none, more as under_more}
+use Rattle.blif_flat.proofs.Models.NameSetLemmas.{finds}
+use Rattle.blif_flat.proofs.Hierarchy.InstanceOrderLemmas.{AreFrom, from_start, from_first, from_rest, placed_at}
+use Rattle.blif_flat.proofs.Models.NameLemmas.{cons_first, cons_rest}
+
+-- the rows of the subcircuits of some commands
+body_entries : (names : List (List ℕ)) (parent k : ℕ) (entries : List Instance) (body : Body) (ss : List SubcktValue) → k ≡ length entries
+    → with_entry names parent entries body ++ entries_at names parent (length (with_entry names parent entries body)) ss ≡ entries ++ entries_at names parent k (with_subckt body ss)
+body_entries names parent k entries (Cover c) ss e = ap (λ n. entries ++ entries_at names parent n ss) (sym e)
+body_entries names parent k entries (Latch l) ss e = ap (λ n. entries ++ entries_at names parent n ss) (sym e)
+body_entries names parent k entries (Subckt s) ss e =
+    let more : List Instance = entries ++ entry_of names parent (length entries) s ∷ [] in
+    let n : length more ≡ suc k = length-append entries (entry_of names parent (length entries) s ∷ []) ∙ (let z : length entries + 1 ≡ suc k = omega arith in z) in
+    ap (λ j. more ++ entries_at names parent j ss) n ∙ append_assoc entries (entry_of names parent (length entries) s ∷ []) (entries_at names parent (suc k) ss)
+    ∙ ap (λ j. entries ++ entry_of names parent j s ∷ entries_at names parent (suc k) ss) (sym e)
+
+entries_are : (names : List (List ℕ)) (parent : ℕ) (entries : List Instance) (cs : List Command) → entries_from names parent entries cs ≡ entries ++ entries_at names parent (length entries) (subckts_of cs)
+entries_are names parent entries [] = sym (append-nil entries)
+entries_are names parent entries (c ∷ cs) = entries_are names parent (with_entry names parent entries c.body) cs ∙ body_entries names parent (length entries) entries c.body (subckts_of cs) refl
+
+pub entries_start : (names : List (List ℕ)) (parent : ℕ) (cs : List Command) → entries_from names parent [] cs ≡ entries_at names parent 0 (subckts_of cs)
+entries_start names parent cs = entries_are names parent [] cs
+
+-- the paths of one more row
+paths_from-push : (paths : List Path) (rows : List Instance) (row : Instance) → paths_from paths (rows ++ row ∷ []) ≡ paths_from paths rows ++ path_of (paths_from paths rows) row ∷ []
+paths_from-push paths [] row = refl
+paths_from-push paths (r ∷ rows) row = paths_from-push (paths ++ path_of paths r ∷ []) rows row
+
+paths_from-length : (paths : List Path) (rows : List Instance) → length (paths_from paths rows) ≡ length paths + length rows
+paths_from-length paths [] = omega arith
+paths_from-length paths (r ∷ rows) =
+    let a : length (paths_from (paths ++ path_of paths r ∷ []) rows) ≡ length (paths ++ path_of paths r ∷ []) + length rows = paths_from-length (paths ++ path_of paths r ∷ []) rows in
+    let b : length (paths ++ path_of paths r ∷ []) ≡ length paths + 1 = length-append paths (path_of paths r ∷ []) in
+    omega arith
+
+pub paths_of-length : (rows : List Instance) → length (paths_of rows) ≡ length rows
+paths_of-length rows = let a : length (paths_from [] rows) ≡ 0 + length rows = paths_from-length [] rows in omega arith
+
+outer_stays : (made extra : List Path) (o : Option ℕ) → ((p : ℕ) → o ≡ Some p → p < length made) → option_and_then (slice_get (made ++ extra)) o ≡ option_and_then (slice_get made) o
+outer_stays made extra None h = refl
+outer_stays made extra (Some p) h = get_before made extra p (h p refl)
+
+path_stays : (made extra : List Path) (row : Instance) → ((p : ℕ) → row.parent ≡ Some p → p < length made) → path_of (made ++ extra) row ≡ path_of made row
+path_stays made extra row h = ap (path_under row.ordinal) (outer_stays made extra row.parent h)
+
+-- a model's weight bounds the number of the instances in it
+module _ (library : LibraryValue) where
+  record HasFew (path : Path) (m : ModelValue) (w : ℕ) : Type 0 where
+    paths : List Path
+    order : InstanceOrder library path m paths
+    few : length paths ≤ w
+
+  record HasFewUnder (path : Path) (k : ℕ) (subckts : List SubcktValue) (w : ℕ) : Type 0 where
+    paths : List Path
+    order : InstancesUnder library path k subckts paths
+    few : length paths ≤ w
+
+  mutual
+    order_weighed : {m : ModelValue} {w : ℕ} → Weighs library m w → (path : Path) → HasFew path m w
+    order_weighed {m} {w} (weighs inner all is) path =
+        let r : HasFewUnder path 0 (subckts_of m.commands) inner = under_weighed all path 0 in
+        let few : length r.paths ≤ inner = r.few in
+        let own : 1 ≤ own_weight m = omega arith in
+        record { paths = path ∷ r.paths; order = instance r.paths r.order refl; few = omega arith }
+
+    under_weighed : {subckts : List SubcktValue} {w : ℕ} → WeighAll library subckts w → (path : Path) (k : ℕ) → HasFewUnder path k subckts w
+    under_weighed (weigh_none a b) path k = record { paths = []; order = under_none a refl; few = omega arith }
+    under_weighed {subckts} {w} (weigh_more s rest child first others a named one all is) path k =
+        let r : HasFew (k ∷ path) child first = order_weighed one (k ∷ path) in
+        let q : HasFewUnder path (suc k) rest others = under_weighed all path (suc k) in
+        let few : length r.paths ≤ first = r.few in
+        let more_few : length q.paths ≤ others = q.few in
+        let sum : length (r.paths ++ q.paths) ≡ length r.paths + length q.paths = length-append r.paths q.paths in
+        record { paths = r.paths ++ q.paths; order = under_more s rest child r.paths q.paths a named r.order q.order refl; few = omega arith }
+
+  -- each subcircuit places an instance at least
+  order_positive : {path : Path} {m : ModelValue} {paths : List Path} → InstanceOrder library path m paths → 1 ≤ length paths
+  order_positive {path} (instance inner under z) = let e : length (path ∷ inner) ≡ length (path ∷ inner) = refl in subst (λ l. 1 ≤ length l) (sym z) (let q : 1 ≤ suc (length inner) = omega arith in q)
+
+  under_length : {path : Path} {k : ℕ} {subckts : List SubcktValue} {paths : List Path} → InstancesUnder library path k subckts paths → length subckts ≤ length paths
+  under_length (under_none a b) = let e = ap length a in omega arith
+  under_length {path} {k} {subckts} {paths} (under_more s rest child these others e named order under z) =
+      let a : length subckts ≡ suc (length rest) = ap length e in
+      let b : length paths ≡ length these + length others = ap length z ∙ length-append these others in
+      let c : 1 ≤ length these = order_positive order in
+      let d : length rest ≤ length others = under_length under in
+      omega arith
+
+  -- the rows that wait stay so when paths are added
+  waiting_stays : (made extra : List Path) (row : Instance) (m : ModelValue) → IsWaiting library made row m → IsWaiting library (made ++ extra) row m
+  waiting_stays made extra row m w = record {
+    earlier = λ p e. (let a : p < length made = w.earlier p e in let b : length (made ++ extra) ≡ length made + length extra = length-append made extra in omega arith);
+    number = w.number;
+    there = subst (λ l. model_at library l ≡ Some m) (sym (path_stays made extra row w.earlier)) w.there;
+  }
+
+  waits_stay : (made extra : List Path) {pending : List Instance} {paths : List Path} → Waits library made pending paths → Waits library (made ++ extra) pending paths
+  waits_stay made extra (none a b) = none a b
+  waits_stay made extra (more row rest m these others e w order waits z) =
+      more row rest m these others e (waiting_stays made extra row m w) (subst (λ l. InstanceOrder library l m these) (sym (path_stays made extra row w.earlier)) order) (waits_stay made extra waits) z
+
+  -- the rows of a model's subcircuits
+  number_is : (names : List (List ℕ)) (name : List ℕ) (m : ModelValue) → names ≡ model_names library.models → model_named library.models name ≡ Some m → (o : Option ℕ) → Finds library.models name o → slice_get library.models (number_or_zero o) ≡ Some m
+  number_is names name m same named None f = absurd (none-some m (sym f ∙ named))
+  number_is names name m same named (Some n) f = f.at ∙ sym f.named ∙ named
+
+  named_number : (names : List (List ℕ)) (name : List ℕ) (m : ModelValue) → names ≡ model_names library.models → model_named library.models name ≡ Some m → slice_get library.models (number_or_zero (place_of names name)) ≡ Some m
+  named_number names name m same named =
+      number_is names name m same named (place_of names name) (subst (λ l. Finds library.models name (place_of l name)) (sym same) (finds library.models name))
+
+  entries_wait : (names : List (List ℕ)) (made : List Path) (place : ℕ) (m : ModelValue) → names ≡ model_names library.models → {path : Path} {k : ℕ} {subckts : List SubcktValue} {inner : List Path} → InstancesUnder library path k subckts inner
+      → slice_get made place ≡ Some path → model_at library path ≡ Some m → AreFrom m k subckts → (pending : List Instance) (others : List Path) → Waits library made pending others
+      → Waits library made (entries_at names place k subckts ++ pending) (inner ++ others)
+  entries_wait names made place m same {path} {k} {subckts} {inner} (under_none a b) at there from pending others waits =
+      subst (λ l. Waits library made (entries_at names place k l ++ pending) (inner ++ others)) (sym a) (subst (λ l. Waits library made pending (l ++ others)) (sym b) waits)
+  entries_wait names made place m same {path} {k} {subckts} {inner} (under_more s rest child these further e named order under z) at there from pending others waits =
+      let here : path_of made (entry_of names place k s) ≡ k ∷ path = ap (path_under k) at in
+      let inside : place < length made = slice_get_within made place path at in
+      let up : model_at library (k ∷ path) ≡ Some child = placed_at library path m k s child there (from_first m k subckts s rest from e) named in
+      let w : IsWaiting library made (entry_of names place k s) child = record {
+        earlier = λ p q. (let r : place ≡ p = same_Some place p q in omega arith);
+        number = named_number names s.model child same named;
+        there = subst (λ l. model_at library l ≡ Some child) (sym here) up;
+      } in
+      more (entry_of names place k s) (entries_at names place (suc k) rest ++ pending) child these (further ++ others) (ap (λ l. entries_at names place k l ++ pending) e) w
+      (subst (λ l. InstanceOrder library l child these) (sym here) order)
+      (entries_wait names made place m same under at there (from_rest m k subckts s rest from e) pending others waits)
+      (ap (λ l. l ++ others) z ∙ append_assoc these further others)
+
+  -- the next row that waits
+  record Next (made : List Path) (row : Instance) (rest : List Instance) (paths : List Path) : Type 0 where
+    model : ModelValue
+    waiting : IsWaiting library made row model
+    inner : List Path
+    under : InstancesUnder library (path_of made row) 0 (subckts_of model.commands) inner
+    others : List Path
+    waits : Waits library made rest others
+    split : paths ≡ path_of made row ∷ inner ++ others
+
+  order_parts : {path : Path} {m : ModelValue} {paths : List Path} → InstanceOrder library path m paths → (inner : List Path) × InstancesUnder library path 0 (subckts_of m.commands) inner × (paths ≡ path ∷ inner)
+  order_parts (instance inner under z) = (inner, under, z)
+
+  next : (made : List Path) (row : Instance) (rest : List Instance) {pending : List Instance} {paths : List Path} → pending ≡ row ∷ rest → Waits library made pending paths → Next made row rest paths
+  next made row rest p (none a b) = let x : row ∷ rest ≡ [] = sym p ∙ a in cc
+  next made row rest p (more row' rest' m these others e w order waits z) =
+      let x : row' ∷ rest' ≡ row ∷ rest = sym e ∙ p in
+      let same : row' ≡ row = cons_first row' row rest' rest x in
+      let parts = order_parts order in
+      record {
+        model = m;
+        waiting = subst (λ r. IsWaiting library made r m) same w;
+        inner = parts.0;
+        under = subst (λ r. InstancesUnder library (path_of made r) 0 (subckts_of m.commands) parts.0) same parts.1;
+        others = others;
+        waits = subst (λ l. Waits library made l others) (cons_rest row' row rest' rest x) waits;
+        split = z ∙ ap (λ l. l ++ others) (parts.2 ∙ ap (λ r. path_of made r ∷ parts.0) same);
+      }
+
+  -- what is known of the next row before it is put behind the others
+  pub record IsNext (rows : List Instance) (row : Instance) : Type 0 where
+    pub model : ModelValue
+    pub number : slice_get library.models row.model ≡ Some model
+    pub room : length rows < most_weight
+    pub few : length (subckts_of model.commands) ≤ most_weight
+
+  pub next_known : (rows : List Instance) (row : Instance) (rest : List Instance) → Listed library rows (row ∷ rest) → IsNext rows row
+  next_known rows row rest l =
+      let made : List Path = paths_of rows in
+      let n : Next made row rest l.rest = next made row rest refl l.waits in
+      let a : length (made ++ l.rest) ≤ most_weight = l.few in
+      let b : length (made ++ l.rest) ≡ length made + length l.rest = length-append made l.rest in
+      let c : length l.rest ≡ suc (length (n.inner ++ n.others)) = ap length n.split in
+      let d : length (n.inner ++ n.others) ≡ length n.inner + length n.others = length-append n.inner n.others in
+      let e : length made ≡ length rows = paths_of-length rows in
+      let f : length (subckts_of n.model.commands) ≤ length n.inner = under_length n.under in
+      record { model = n.model; number = n.waiting.number; room = omega arith; few = omega arith }
+
+  -- a row stays one when paths are added
+  row_stays : (made extra : List Path) (i : ℕ) (row : Instance) → IsRow library made i row → IsRow library (made ++ extra) i row
+  row_stays made extra i row r =
+      let inside : i < length made = slice_get_within made i r.path r.at in
+      let before : (p : ℕ) → row.parent ≡ Some p → p < length made = λ p e. (let a : p < i = r.earlier p e in omega arith) in
+      record { path = r.path; at = get_before made extra i inside ∙ r.at; is = r.is ∙ sym (path_stays made extra row before); earlier = r.earlier; model = r.model; number = r.number; there = r.there }
+
+  row_new : (made : List Path) (row : Instance) (m : ModelValue) → IsWaiting library made row m → IsRow library (made ++ path_of made row ∷ []) (length made) row
+  row_new made row m w = record {
+    path = path_of made row;
+    at = get_end made (path_of made row) [];
+    is = sym (path_stays made (path_of made row ∷ []) row w.earlier);
+    earlier = w.earlier;
+    model = m;
+    number = w.number;
+    there = w.there;
+  }
+
+  -- the next row is put behind the others, and the rows of its subcircuits wait
+  pub listed_step : (names : List (List ℕ)) → names ≡ model_names library.models → (rows : List Instance) (row : Instance) (rest : List Instance) → Listed library rows (row ∷ rest)
+      → (m : ModelValue) → slice_get library.models row.model ≡ Some m → Listed library (rows ++ row ∷ []) (entries_at names (length rows) 0 (subckts_of m.commands) ++ rest)
+  listed_step names same rows row rest l m number =
+      let made : List Path = paths_of rows in
+      let n : Next made row rest l.rest = next made row rest refl l.waits in
+      let path : Path = path_of made row in
+      let twin : n.model ≡ m = same_Some n.model m (sym n.waiting.number ∙ number) in
+      let count : length made ≡ length rows = paths_of-length rows in
+      let grown : made ++ path ∷ [] ≡ paths_of (rows ++ row ∷ []) = sym (paths_from-push [] rows row) in
+      let at : slice_get (made ++ path ∷ []) (length rows) ≡ Some path = subst (λ i. slice_get (made ++ path ∷ []) i ≡ Some path) count (get_end made path []) in
+      let full : made ++ l.rest ≡ (made ++ path ∷ []) ++ (n.inner ++ n.others) = ap (λ x. made ++ x) n.split ∙ sym (append_assoc made (path ∷ []) (n.inner ++ n.others)) in
+      let full_now : made ++ l.rest ≡ paths_of (rows ++ row ∷ []) ++ (n.inner ++ n.others) = full ∙ ap (λ x. x ++ (n.inner ++ n.others)) grown in
+      let waits : Waits library (made ++ path ∷ []) (entries_at names (length rows) 0 (subckts_of n.model.commands) ++ rest) (n.inner ++ n.others) =
+      entries_wait names (made ++ path ∷ []) (length rows) n.model same n.under at n.waiting.there (from_start n.model) rest n.others (waits_stay made (path ∷ []) n.waits) in
+      let waits_now : Waits library (made ++ path ∷ []) (entries_at names (length rows) 0 (subckts_of m.commands) ++ rest) (n.inner ++ n.others) =
+      subst (λ (x : ModelValue). Waits library (made ++ path ∷ []) (entries_at names (length rows) 0 (subckts_of x.commands) ++ rest) (n.inner ++ n.others)) twin waits in
+      record {
+        main = l.main;
+        first = l.first;
+        rest = n.inner ++ n.others;
+        order = subst (λ x. InstanceOrder library [] l.main x) full_now l.order;
+        few = subst (λ x. length x ≤ most_weight) full_now l.few;
+        waits = subst (λ x. Waits library x (entries_at names (length rows) 0 (subckts_of m.commands) ++ rest) (n.inner ++ n.others)) grown waits_now;
+        each = λ i r e. subst (λ x. IsRow library x i r) grown (elim (get_pushed rows row i r e) [
+          | inl a ↦ row_stays made (path ∷ []) i r (l.each i r a)
+          | inr a ↦ subst (λ j. IsRow library (made ++ path ∷ []) j r) (count ∙ sym a.0) (subst (λ x. IsRow library (made ++ path ∷ []) (length made) x) a.1 (row_new made row n.model n.waiting))
+        ]);
+      }
+
+  -- at the start the main model's own instance waits
+  pub listed_start : IsLight library → Listed library [] (record { model = 0; parent = None; ordinal = 0 } ∷ [])
+  listed_start h =
+      let r : HasFew [] h.main h.weight = order_weighed h.weighs [] in
+      let few : length r.paths ≤ h.weight = r.few in
+      let light : h.weight ≤ most_weight = h.light in
+      record {
+        main = h.main;
+        first = h.first;
+        rest = r.paths;
+        order = r.order;
+        few = omega arith;
+        waits = more (record { model = 0; parent = None; ordinal = 0 }) [] h.main r.paths [] refl (record { earlier = λ p e. absurd (none-some p e); number = h.first; there = h.first }) r.order (none refl refl) (sym (append-nil r.paths));
+        each = λ i row e. absurd (none-some row e);
+      }
+
+  nothing_waits : {made : List Path} {pending : List Instance} {paths : List Path} → pending ≡ [] → Waits library made pending paths → paths ≡ []
+  nothing_waits p (none a b) = b
+  nothing_waits p (more row rest m these others e w order waits z) = let x : row ∷ rest ≡ [] = sym e ∙ p in cc
+
+  -- in the end none waits
+  pub listed_all : (rows : List Instance) → Listed library rows [] → AreInstances library rows
+  listed_all rows l =
+      let full : paths_of rows ++ l.rest ≡ paths_of rows = ap (λ x. paths_of rows ++ x) (nothing_waits refl l.waits) ∙ append-nil (paths_of rows) in
+      let few : length (paths_of rows) ≤ most_weight = subst (λ x. length x ≤ most_weight) full l.few in
+      let e : length (paths_of rows) ≡ length rows = paths_of-length rows in
+      record { main = l.main; first = l.first; order = subst (λ x. InstanceOrder library [] l.main x) full l.order; each = l.each; few = omega arith }
+
+  -- the rows that wait as a stack, whose top is the last one
+  popped : (stack left : List Instance) (row : Instance) → stack ≡ left ++ row ∷ [] → reverse stack ≡ row ∷ reverse left
+  popped stack left row e = ap reverse e ∙ reverse-append left (row ∷ [])
+
+  pub next_popped : (rows stack left : List Instance) (row : Instance) → stack ≡ left ++ row ∷ [] → Listed library rows (reverse stack) → IsNext rows row
+  next_popped rows stack left row e l = next_known rows row (reverse left) (subst (λ x. Listed library rows x) (popped stack left row e) l)
+
+  pub listed_pushed : (names : List (List ℕ)) → names ≡ model_names library.models → (rows stack left news : List Instance) (row : Instance) → stack ≡ left ++ row ∷ []
+      → ((m : ModelValue) → slice_get library.models row.model ≡ Some m → news ≡ left ++ reverse (entries_from names (length rows) [] m.commands))
+      → Listed library rows (reverse stack) → Listed library (rows ++ row ∷ []) (reverse news)
+  listed_pushed names same rows stack left news row e h l =
+      let k : IsNext rows row = next_popped rows stack left row e l in
+      let m : ModelValue = k.model in
+      let entries : List Instance = entries_from names (length rows) [] m.commands in
+      let now : reverse news ≡ entries ++ reverse left = ap reverse (h m k.number) ∙ reverse-append left (reverse entries) ∙ ap (λ x. x ++ reverse left) (reverse-reverse entries) in
+      let step : Listed library (rows ++ row ∷ []) (entries_at names (length rows) 0 (subckts_of m.commands) ++ reverse left) =
+      listed_step names same rows row (reverse left) (subst (λ x. Listed library rows x) (popped stack left row e) l) m k.number in
+      subst (λ x. Listed library (rows ++ row ∷ []) x) (ap (λ x. x ++ reverse left) (sym (entries_start names (length rows) m.commands)) ∙ sym now) step
+
+  pub listed_empty : (rows stack : List Instance) → length stack ≡ 0 → Listed library rows (reverse stack) → AreInstances library rows
+  listed_empty rows [] e l = listed_all rows l
+  listed_empty rows (row ∷ stack) e l = absurd (omega arith)
+
+  pub listed_begin : (rows empty stack : List Instance) → rows ≡ [] → empty ≡ [] → stack ≡ empty ++ record { model = 0; parent = None; ordinal = 0 } ∷ [] → IsLight library → Listed library rows (reverse stack)
+  listed_begin rows empty stack r e s h =
+      let now : reverse stack ≡ record { model = 0; parent = None; ordinal = 0 } ∷ [] = ap reverse (s ∙ ap (λ x. x ++ record { model = 0; parent = None; ordinal = 0 } ∷ []) e) in
+      subst (λ x. Listed library x (reverse stack)) (sym r) (subst (λ x. Listed library [] x) (sym now) (listed_start h))
+
+pub record AreModelsOf (library : LibraryValue) (rows : List Instance) (paths : List Path) : Type 0 where
+  pub count : length rows ≡ length paths
+  pub each : (i : ℕ) (row : Instance) (path : Path) → slice_get rows i ≡ Some row → slice_get paths i ≡ Some path → slice_get library.models row.model ≡ model_at library path
+
+pub models_rest : (library : LibraryValue) (row : Instance) (rows : List Instance) (path : Path) (paths : List Path) → AreModelsOf library (row ∷ rows) (path ∷ paths) → AreModelsOf library rows paths
+models_rest library row rows path paths are = record {
+  count = let n : suc (length rows) ≡ suc (length paths) = are.count in omega arith;
+  each = λ i r p e f. are.each (suc i) r p e f;
+}
+
+pub models_of : (library : LibraryValue) (rows : List Instance) → AreInstances library rows → AreModelsOf library rows (paths_of rows)
+models_of library rows are = record {
+  count = sym (paths_of-length rows);
+  each = λ i row path e f.
+      let r : IsRow library (paths_of rows) i row = are.each i row e in
+      let same : r.path ≡ path = same_Some r.path path (sym r.at ∙ f) in
+      r.number ∙ sym r.there ∙ ap (model_at library) same;
+}

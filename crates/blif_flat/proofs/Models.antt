@@ -1,0 +1,15 @@
+-- The models of a library: their names, their walk, their drivers and their weight.
+pub mod NameLemmas
+pub mod NameSetLemmas
+pub mod ModelNameLemmas
+pub mod LineFaultLemmas
+pub mod LineLemmas
+pub mod WalkedLemmas
+pub mod RefusedLemmas
+pub mod ModelPathLemmas
+pub mod ModelWalkLemmas
+pub mod TagLemmas
+pub mod RepeatLemmas
+pub mod DrivenLemmas
+pub mod DriverStepLemmas
+pub mod WeightLemmas

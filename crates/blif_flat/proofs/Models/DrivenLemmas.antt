@@ -1,0 +1,241 @@
+-- None of F1 to F6 stands where the walk refuses nothing and the walked models have no refusal of drivers; and the drivers of their commands are told apart.
+use Rattle.std.proofs.Common.{◌≡◌, ℕ, List, [], ◌∷◌, Some, None, refl, sym, ap, ◌∙◌, subst, inl, inr, suc, ◌++◌, Option, arith, ◌⊎◌, IsTrue, slice_get}
+use Rattle.blif_flat.proofs.Common.{none-some, same_Some, In, cases_Bool, cond-true, cond-false, In-append, In-get}
+use Rattle.blif_flat.specs.Circuits.{Command, ModelValue, LibraryValue, Body, Cover, Latch, Subckt, Pair, SubcktValue, Path, model_at, inputs_of, subckts_of, model_named, is_output, is_input, by_input, IsDriver, input, IsDriven, Driver, by_latch, by_cover, by_subckt, InstanceAt, latch, cover, output, IsRead, cover_input, latch_input, latch_control, input_actual, model_output, ConnectionAt}
+use Rattle.blif_read.specs.WellFormed.{IsWellFormed, IsWellFormedBody}
+use Rattle.blif_flat.specs.declared.flat_err.FlatErr.{FlatErr}
+use Rattle.blif_flat.specs.DriverFaults.{models_fault}
+use Rattle.blif_flat.specs.Walk.{walked, WalksMain, unknown_formal, open_input}
+use Rattle.blif_flat.proofs.Models.NameLemmas.{in_input, input_in}
+use Rattle.blif_flat.proofs.Models.TagLemmas.{Tag, tag_names, Source, from_cover, from_latch, from_subckt, tag_source, tag, pair_tags, subckt_tags, body_tags, behind, tags, of_pair}
+use Rattle.blif_flat.proofs.Models.RepeatLemmas.{AreNew, AreApart, apart_new, IsClean, no_models_fault, models_clean}
+use Rattle.blif_flat.proofs.Hierarchy.InstanceLemmas.{own_tags, tag_driver, driver_name, command_reads, output_driven, subckt_in, subckt_more, subckt_command, clean_once, clean_driven}
+use Rattle.blif_flat.proofs.Models.RefusedLemmas.{walked_at}
+use Rattle.blif_read.specs.Once.{AreOnce}
+use Rattle.blif_read.specs.Connections.{formals}
+use Rattle.blif_flat.proofs.Hierarchy.PlaceLemmas.{inside}
+use Rattle.blif_flat.proofs.Models.LineFaultLemmas.{formal_is, input_connected}
+use Rattle.blif_flat.proofs.Models.WalkedLemmas.{line_of, named_in, Fine, main_fine, fine_ends, fine_holds, fine_placed, fine_at}
+
+pub formal_in : (pairs : List Pair) (pair : Pair) → In pairs pair → In (formals pairs) pair.formal
+formal_in [] pair i = i
+formal_in (p ∷ pairs) pair (inl e) = inl (ap (λ (y : Pair). y.formal) e)
+formal_in (p ∷ pairs) pair (inr i) = inr (formal_in pairs pair i)
+
+-- formals that stand once each tell connections apart
+pairs_apart : (pairs : List Pair) (pair other : Pair) → AreOnce (formals pairs) → In pairs pair → In pairs other → pair.formal ≡ other.formal → pair ≡ other
+pairs_apart [] pair other once i j e = absurd i
+pairs_apart (p ∷ pairs) pair other once (inl a) (inl b) e = a ∙ sym b
+pairs_apart (p ∷ pairs) pair other once (inl a) (inr j) e =
+    absurd (once.0 (subst (In (formals pairs)) (sym e ∙ ap (λ (y : Pair). y.formal) a) (formal_in pairs other j)))
+pairs_apart (p ∷ pairs) pair other once (inr i) (inl b) e =
+    absurd (once.0 (subst (In (formals pairs)) (e ∙ ap (λ (y : Pair). y.formal) b) (formal_in pairs pair i)))
+pairs_apart (p ∷ pairs) pair other once (inr i) (inr j) e = pairs_apart pairs pair other once.1 i j e
+
+-- the instance of a driver, and that of a read
+instance_of : {library : LibraryValue} {path : Path} {name : List ℕ} {driver : Driver} → IsDriver library path name driver → InstanceAt library path
+instance_of (input a i q) = a
+instance_of (latch i l a p q) = record { model = a.model; at = a.at }
+instance_of (cover i c a p q) = record { model = a.model; at = a.at }
+instance_of (output k pair a out p q) = record { model = a.model; at = a.at }
+
+instance_read : {library : LibraryValue} {path : Path} {name : List ℕ} → IsRead library path name → InstanceAt library path
+instance_read (cover_input i c a j) = record { model = a.model; at = a.at }
+instance_read (latch_input i l a p) = record { model = a.model; at = a.at }
+instance_read (latch_control i l a p) = record { model = a.model; at = a.at }
+instance_read (input_actual k pair a t p) = record { model = a.model; at = a.at }
+instance_read (model_output m e t) = record { model = m; at = e }
+
+module _ (library : LibraryValue) (formed : IsWellFormed library) where
+  pub model_in : (path : Path) (m : ModelValue) → model_at library path ≡ Some m → In library.models m
+  model_in [] m e = In-get library.models 0 m e
+  model_in (k ∷ outer) m e = let r = inside library outer k m e in named_in library.models (r.subckt).model m r.places
+
+  -- no subcircuit of an instance has a formal twice
+  pub formals_once : (path : Path) (m : ModelValue) (s : SubcktValue) → model_at library path ≡ Some m → In (subckts_of m.commands) s → AreOnce (formals s.pairs)
+  formals_once path m s at i =
+      let c = subckt_command m.commands s i in
+      subst IsWellFormedBody c.is ((formed.each m (model_in path m at)).commands c.command c.member)
+
+  subckt_apart : (path : Path) (k : ℕ) (pair other : Pair) → ConnectionAt library path k pair → ConnectionAt library path k other → pair.formal ≡ other.formal → pair ≡ other
+  subckt_apart path k pair other a b e =
+      let m : b.model ≡ a.model = same_Some b.model a.model (sym b.at ∙ a.at) in
+      let g : slice_get (subckts_of (a.model).commands) k ≡ Some b.subckt = subst (λ x. slice_get (subckts_of x.commands) k ≡ Some b.subckt) m b.is in
+      let s : b.subckt ≡ a.subckt = same_Some b.subckt a.subckt (sym g ∙ a.is) in
+      pairs_apart (a.subckt).pairs pair other (formals_once path a.model a.subckt a.at (In-get (subckts_of (a.model).commands) k a.subckt a.is)) a.member
+      (subst (λ x. In x.pairs other) s b.member) e
+
+  -- what the walk found of a subcircuit
+  record IsPlacing (s : SubcktValue) : Type 0 where
+    child : ModelValue
+    named : model_named library.models s.model ≡ Some child
+    formals : unknown_formal child s.pairs ≡ None
+    inputs : open_input s.pairs (inputs_of child) ≡ None
+
+  placing : {m : ModelValue} → Fine library (IsClean library) m → (k : ℕ) (s : SubcktValue) → slice_get (subckts_of m.commands) k ≡ Some s → IsPlacing s
+  placing {m} f k s e =
+      let r = line_of m.commands s (In-get (subckts_of m.commands) k s e) in
+      let p = fine_placed library (IsClean library) f r.line r.member in
+      let all : IsPlacing (r.line).subckt = record { child = p.child; named = p.named; formals = p.formals; inputs = p.inputs } in
+      subst IsPlacing r.is all
+
+  module _ (main : ModelValue) (at : model_at library [] ≡ Some main) (good : Fine library (IsClean library) main) where
+    here : (path : Path) (m : ModelValue) → model_at library path ≡ Some m → Fine library (IsClean library) m
+    here path m e = fine_at library (IsClean library) main at good path m e
+
+    known : (path : Path) (m : ModelValue) (k : ℕ) (s : SubcktValue) → model_at library path ≡ Some m → slice_get (subckts_of m.commands) k ≡ Some s → (child : ModelValue) × (model_named library.models s.model ≡ Some child)
+    known path m k s e g = let p = placing (here path m e) k s g in (p.child, p.named)
+
+    formals_are : (path : Path) (k : ℕ) (pair : Pair) (a : ConnectionAt library path k pair) → IsTrue (is_input a.child pair.formal) ⊎ IsTrue (is_output a.child pair.formal)
+    formals_are path k pair a =
+        let p = placing (here path a.model a.at) k a.subckt a.is in
+        let same : p.child ≡ a.child = same_Some p.child a.child (sym p.named ∙ a.places) in
+        formal_is a.child (a.subckt).pairs (subst (λ c. unknown_formal c (a.subckt).pairs ≡ None) same p.formals) pair a.member
+
+    connected : (path : Path) (k : ℕ) (m : ModelValue) (name : List ℕ) → model_at library (k ∷ path) ≡ Some m → IsTrue (is_input m name) → (pair : Pair) × (ConnectionAt library path k pair) × (pair.formal ≡ name)
+    connected path k m name e t =
+        let r = inside library path k m e in
+        let p = placing (here path r.model r.at) k r.subckt r.is in
+        let same : p.child ≡ m = same_Some p.child m (sym p.named ∙ r.places) in
+        let c = input_connected (r.subckt).pairs (inputs_of m) (subst (λ x. open_input (r.subckt).pairs (inputs_of x) ≡ None) same p.inputs) name (input_in m name t) in
+        (c.pair, record { model = r.model; subckt = r.subckt; child = m; at = r.at; is = r.is; member = c.member; places = r.places }, sym c.formal)
+
+    once : (path : Path) (name : List ℕ) (driver other : Driver) → IsDriver library path name driver → IsDriver library path name other → driver ≡ other
+    once path name driver other d o =
+        let i = instance_of d in
+        clean_once library path i.model i.at (fine_holds library (IsClean library) (here path i.model i.at)) name driver other d o
+
+    driven : (path : Path) (name : List ℕ) → IsRead library path name → (driver : Driver) × IsDriver library path name driver
+    driven path name r =
+        let i = instance_read r in
+        clean_driven library path i.model i.at (fine_holds library (IsClean library) (here path i.model i.at)) name r
+
+    fine_driven : IsDriven library
+    fine_driven = record {
+      known = known;
+      finite = λ path m e. fine_ends library (IsClean library) (here path m e);
+      formals = formals_are;
+      apart = subckt_apart;
+      connected = connected;
+      once = once;
+      driven = driven;
+    }
+
+pub walked_driven : (library : LibraryValue) (main : ModelValue) (ms : List ModelValue) → IsWellFormed library → model_at library [] ≡ Some main → WalksMain library main (walked ms) → models_fault library ms ≡ None → IsDriven library
+walked_driven library main ms formed at w e = fine_driven library formed main at (main_fine library (IsClean library) main ms at w (models_clean library ms e))
+
+abbrev pub AreDistinct : List Tag → Type 0
+AreDistinct [] = Unit {0}
+AreDistinct (t ∷ ts) = ((u : Tag) → In ts u → t.driver ≡ u.driver → ⊥) × AreDistinct ts
+
+distinct_joined : (xs ys : List Tag) → AreDistinct xs → AreDistinct ys → ((t u : Tag) → In xs t → In ys u → t.driver ≡ u.driver → ⊥) → AreDistinct (xs ++ ys)
+distinct_joined [] ys a b h = b
+distinct_joined (x ∷ xs) ys a b h = (
+  λ u i e. elim (In-append xs ys u i) [ inl j ↦ a.0 u j e | inr j ↦ h x u (inl refl) j e ],
+  distinct_joined xs ys a.1 b (λ t u i j. h t u (inr i) j),
+)
+
+abbrev pub IsInjective : (ℕ → ℕ) → Type 0
+IsInjective f = (i j : ℕ) → f i ≡ f j → i ≡ j
+
+module _ (library : LibraryValue) where
+  pairs_distinct : (k : ℕ) (child : ModelValue) (pairs : List Pair) → AreOnce (formals pairs) → AreDistinct (pair_tags k child pairs)
+  pairs_distinct k child [] once = tt
+  pairs_distinct k child (p ∷ pairs) once = elim (cases_Bool (is_output child p.formal)) [
+    | inl y ↦ subst AreDistinct (sym (cond-true (is_output child p.formal) (tag (by_subckt k p.formal) p.actual ∷ pair_tags k child pairs) (pair_tags k child pairs) y)) (
+      λ u i e. (let r = of_pair library k child pairs u i in
+          let d : ◌≡◌ {A = Driver} (by_subckt k p.formal) (by_subckt k (r.pair).formal) = e ∙ ap (λ (x : Tag). x.driver) r.is in
+          let f : p.formal ≡ (r.pair).formal = cc in
+          once.0 (subst (In (formals pairs)) (sym f) (formal_in pairs r.pair r.member))),
+      pairs_distinct k child pairs once.1,
+    )
+    | inr f ↦ subst AreDistinct (sym (cond-false (is_output child p.formal) (tag (by_subckt k p.formal) p.actual ∷ pair_tags k child pairs) (pair_tags k child pairs) f)) (pairs_distinct k child pairs once.1)
+  ]
+
+  subckt_distinct : (k : ℕ) (o : Option ModelValue) (pairs : List Pair) → AreOnce (formals pairs) → AreDistinct (subckt_tags k o pairs)
+  subckt_distinct k None pairs once = tt
+  subckt_distinct k (Some child) pairs once = pairs_distinct k child pairs once
+
+  body_distinct : (i k : ℕ) (b : Body) → ((s : SubcktValue) → b ≡ Subckt s → AreOnce (formals s.pairs)) → AreDistinct (body_tags library i k b)
+  body_distinct i k (Cover c) once = (λ u j e. absurd j, tt)
+  body_distinct i k (Latch l) once = (λ u j e. absurd j, tt)
+  body_distinct i k (Subckt s) once = subckt_distinct k (model_named library.models s.model) s.pairs (once s refl)
+
+  -- a command's driver isn't one of the commands behind it
+  module _ (place ordinal : ℕ → ℕ) (one : IsInjective place) (cs : List Command) where
+    apart_cover : (after : ℕ → ℕ) (t u : Tag) → t.driver ≡ by_cover (place 0) → Source library (λ i. place (suc i)) after cs u → t.driver ≡ u.driver → ⊥
+    apart_cover after t u d (from_cover i c e q) f = let n : place 0 ≡ place (suc i) = cc in let z = one 0 (suc i) n in absurd (omega arith)
+    apart_cover after t u d (from_latch i l e q) f = cc
+    apart_cover after t u d (from_subckt k s child pair e n i out q) f = cc
+
+    apart_latch : (after : ℕ → ℕ) (t u : Tag) → t.driver ≡ by_latch (place 0) → Source library (λ i. place (suc i)) after cs u → t.driver ≡ u.driver → ⊥
+    apart_latch after t u d (from_cover i c e q) f = cc
+    apart_latch after t u d (from_latch i l e q) f = let n : place 0 ≡ place (suc i) = cc in let z = one 0 (suc i) n in absurd (omega arith)
+    apart_latch after t u d (from_subckt k s child pair e n i out q) f = cc
+
+    apart_subckt : IsInjective ordinal → (formal : List ℕ) (t u : Tag) → t.driver ≡ by_subckt (ordinal 0) formal → Source library (λ i. place (suc i)) (λ k. ordinal (suc k)) cs u → t.driver ≡ u.driver → ⊥
+    apart_subckt single formal t u d (from_cover i c e q) f = cc
+    apart_subckt single formal t u d (from_latch i l e q) f = cc
+    apart_subckt single formal t u d (from_subckt k s child pair e m i out q) f = let n : ordinal 0 ≡ ordinal (suc k) = cc in let z = single 0 (suc k) n in absurd (omega arith)
+
+    apart_pairs : IsInjective ordinal → (o : Option ModelValue) (pairs : List Pair) (t u : Tag) → In (subckt_tags (ordinal 0) o pairs) t → Source library (λ i. place (suc i)) (λ k. ordinal (suc k)) cs u → t.driver ≡ u.driver → ⊥
+    apart_pairs single None pairs t u i s e = i
+    apart_pairs single (Some child) pairs t u i s e =
+        let r = of_pair library (ordinal 0) child pairs t i in
+        apart_subckt single (r.pair).formal t u (ap (λ (x : Tag). x.driver) r.is) s e
+
+    apart_body : IsInjective ordinal → (b : Body) (t u : Tag) → In (body_tags library (place 0) (ordinal 0) b) t → Source library (λ i. place (suc i)) (behind b ordinal) cs u → t.driver ≡ u.driver → ⊥
+    apart_body single (Cover c) t u i s e = elim i [ inl q ↦ apart_cover ordinal t u (ap (λ (x : Tag). x.driver) q) s e | inr o ↦ o ]
+    apart_body single (Latch l) t u i s e = elim i [ inl q ↦ apart_latch ordinal t u (ap (λ (x : Tag). x.driver) q) s e | inr o ↦ o ]
+    apart_body single (Subckt r) t u i s e = apart_pairs single (model_named library.models r.model) r.pairs t u i s e
+
+  place_behind : (place : ℕ → ℕ) → IsInjective place → IsInjective (λ i. place (suc i))
+  place_behind place one i j e = let z = one (suc i) (suc j) e in omega arith
+
+  ordinal_behind : (b : Body) (ordinal : ℕ → ℕ) → IsInjective ordinal → IsInjective (behind b ordinal)
+  ordinal_behind (Cover c) ordinal one = one
+  ordinal_behind (Latch l) ordinal one = one
+  ordinal_behind (Subckt s) ordinal one = place_behind ordinal one
+
+  pub tags_distinct : (place ordinal : ℕ → ℕ) → IsInjective place → IsInjective ordinal → (cs : List Command) → ((s : SubcktValue) → In (subckts_of cs) s → AreOnce (formals s.pairs)) → AreDistinct (tags library place ordinal cs)
+  tags_distinct place ordinal one single [] once = tt
+  tags_distinct place ordinal one single (d ∷ cs) once = distinct_joined (body_tags library (place 0) (ordinal 0) d.body) (tags library (λ i. place (suc i)) (behind d.body ordinal) cs)
+      (body_distinct (place 0) (ordinal 0) d.body (λ s e. once s (subckt_in (d ∷ cs) d s (inl refl) e)))
+      (tags_distinct (λ i. place (suc i)) (behind d.body ordinal) (place_behind place one) (ordinal_behind d.body ordinal single) cs (λ s i. once s (subckt_more d.body (subckts_of cs) s i)))
+      (λ t u i j e. apart_body place ordinal one cs single d.body t u i (tag_source library (λ x. place (suc x)) (behind d.body ordinal) cs u j) e)
+
+-- a command is no input
+source_inner : {library : LibraryValue} (place ordinal : ℕ → ℕ) (cs : List Command) (t : Tag) → Source library place ordinal cs t → t.driver ≡ by_input → ⊥
+source_inner place ordinal cs t (from_cover i c e q) d = cc
+source_inner place ordinal cs t (from_latch i l e q) d = cc
+source_inner place ordinal cs t (from_subckt k s child pair e n i out q) d = cc
+
+module _ (library : LibraryValue) (formed : IsWellFormed library) (driven : IsDriven library) where
+  module _ (path : Path) (m : ModelValue) (at : model_at library path ≡ Some m) where
+    no_input : (t : Tag) → In (own_tags library path m at) t → In (inputs_of m) t.name → ⊥
+    no_input t i j = source_inner (λ k. k) (λ k. k) m.commands t (tag_source library (λ k. k) (λ k. k) m.commands t i)
+        (driven.once path t.name t.driver by_input (tag_driver library path m at t i) (input (record { model = m; at = at }) (in_input m t.name j) refl))
+
+    tags_apart : (ts : List Tag) → ((t : Tag) → In ts t → In (own_tags library path m at) t) → AreDistinct ts → AreApart ts
+    tags_apart [] h d = tt
+    tags_apart (t ∷ ts) h d = (
+      λ u i e. d.0 u i (driven.once path t.name t.driver u.driver (tag_driver library path m at t (h t (inl refl)))
+          (subst (λ n. IsDriver library path n u.driver) (sym e) (tag_driver library path m at u (h u (inr i))))),
+      tags_apart ts (λ u i. h u (inr i)) d.1,
+    )
+
+    instance_clean : IsClean library m
+    instance_clean = record {
+      new = subst (AreNew (inputs_of m)) (tag_names library (λ k. k) (λ k. k) m.commands) (apart_new (inputs_of m) (own_tags library path m at) no_input
+          (tags_apart (own_tags library path m at) (λ t i. i) (tags_distinct library (λ k. k) (λ k. k) (λ i j e. e) (λ i j e. e) m.commands (λ s i. formals_once library formed path m s at i))));
+      commands = λ c i name j. let d = driven.driven path name (command_reads library path m at c name i j) in driver_name library path m at name d.0 d.1;
+      outputs = output_driven library path m at (driven.driven path);
+    }
+
+  pub driven_models : (main : ModelValue) (ms : List ModelValue) → model_at library [] ≡ Some main → WalksMain library main (walked ms) → models_fault library ms ≡ None
+  driven_models main ms at w = no_models_fault library ms (λ m i.
+      (let r = walked_at library driven w.walks ms refl [] at (λ k j. j) (λ x j. elim j [ inl q ↦ ([], at ∙ ap Some (sym q)) | inr o ↦ absurd o ]) m i in
+      instance_clean r.0 m r.1))
+
+  pub driven_clean : (main : ModelValue) (ms : List ModelValue) (fault : FlatErr) → model_at library [] ≡ Some main → WalksMain library main (walked ms) → models_fault library ms ≡ Some fault → ⊥
+  driven_clean main ms fault at w e = none-some fault (sym (driven_models main ms at w) ∙ e)

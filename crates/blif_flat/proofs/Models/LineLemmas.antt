@@ -1,0 +1,153 @@
+-- The faults of a line, found in the order of the definition.
+use Rattle.std.proofs.Common.{◌≡◌, ℕ, Bool, true, false, not, ◌||◌, cond, List, [], ◌∷◌, ◌++◌, filter, bytes_eq, Option, Some, None, refl, sym, ap, ◌∙◌, subst, inl, inr, option_map}
+use Rattle.blif_flat.proofs.Common.{cases_Bool, false≢true, none-some, bytes_decides}
+use Rattle.blif_flat.specs.Circuits.{Pair, SubcktValue, ModelValue, has_name, is_input, inputs_of}
+use Rattle.blif_read.specs.Connections.{formals}
+use Rattle.blif_flat.specs.declared.ports.Ports.{Ports}
+use Rattle.blif_flat.specs.declared.flat_err.FlatErr.{FlatErr}
+use Rattle.blif_flat.specs.declared.flat_err.FlatErr.TheVariants.{UnknownModel, RecursiveModel, UnknownFormal, Unconnected, TooLarge, DoublyDriven, Undriven, SecondClock, ClockNotInput, ClockAsData, Loop, Memory}
+use Rattle.blif_flat.specs.Steps.Answers.{IsTold}
+use Rattle.blif_flat.specs.Steps.NameSets.{with_names, ports_value}
+use Rattle.blif_flat.specs.Walk.{unknown_formal, is_connected, open_input, input_fault, formal_fault}
+use Rattle.blif_flat.specs.Steps.Line.{foreign_formal, open_among, ports_fault}
+use Rattle.blif_flat.proofs.Models.NameSetLemmas.{has_inputs, has_with_names}
+
+pub foreign_is : (child : ModelValue) (pairs : List Pair) → foreign_formal (ports_value child) pairs ≡ unknown_formal child pairs
+foreign_is child [] = refl
+foreign_is child (pair ∷ pairs) =
+    ap (λ b. cond (b || has_name child.outputs pair.formal) (foreign_formal (ports_value child) pairs) (Some pair.formal)) (has_inputs child pair.formal)
+    ∙ ap (λ o. cond (is_input child pair.formal || has_name child.outputs pair.formal) o (Some pair.formal)) (foreign_is child pairs)
+
+connected_is : (pairs : List Pair) (name : List ℕ) → has_name (formals pairs) name ≡ is_connected pairs name
+connected_is [] name = refl
+connected_is (pair ∷ pairs) name = ap (λ b. bytes_eq name pair.formal || b) (connected_is pairs name)
+
+among_is : (pairs : List Pair) (name : List ℕ) → has_name (with_names [] (formals pairs)) name ≡ is_connected pairs name
+among_is pairs name = has_with_names [] (formals pairs) name ∙ connected_is pairs name
+
+open_is : (pairs : List Pair) (names : List (List ℕ)) → open_among (with_names [] (formals pairs)) names ≡ open_input pairs names
+open_is pairs [] = refl
+open_is pairs (name ∷ names) =
+    ap (λ b. cond b (open_among (with_names [] (formals pairs)) names) (Some name)) (among_is pairs name)
+    ∙ ap (λ o. cond (is_connected pairs name) o (Some name)) (open_is pairs names)
+
+-- the first of two lists in which something is found
+abbrev or_later : Option (List ℕ) → Option (List ℕ) → Option (List ℕ)
+or_later None o = o
+or_later (Some name) o = Some name
+
+or_cond : (b : Bool) (x y : Option (List ℕ)) (name : List ℕ) → cond b (or_later x y) (Some name) ≡ or_later (cond b x (Some name)) y
+or_cond true x y name = refl
+or_cond false x y name = refl
+
+open_both : (pairs : List Pair) (xs ys : List (List ℕ)) → open_input pairs (xs ++ ys) ≡ or_later (open_input pairs xs) (open_input pairs ys)
+open_both pairs [] ys = refl
+open_both pairs (x ∷ xs) ys = ap (λ o. cond (is_connected pairs x) o (Some x)) (open_both pairs xs ys) ∙ or_cond (is_connected pairs x) (open_input pairs xs) (open_input pairs ys) x
+
+-- a name of a list in which nothing is open is connected
+cond_open : (b : Bool) (o : Option (List ℕ)) (x : List ℕ) → cond b o (Some x) ≡ None → (b ≡ true) × (o ≡ None)
+cond_open true o x h = (refl, h)
+cond_open false o x h = absurd (none-some x (sym h))
+
+none_open : (pairs : List Pair) (xs : List (List ℕ)) (name : List ℕ) → open_input pairs xs ≡ None → has_name xs name ≡ true → is_connected pairs name ≡ true
+none_open pairs [] name h a = absurd (false≢true a)
+none_open pairs (x ∷ xs) name h a =
+    let p = cond_open (is_connected pairs x) (open_input pairs xs) x h in
+    elim (cases_Bool (bytes_eq name x)) [
+      | inl t ↦ ap (is_connected pairs) ((bytes_decides name x).0 t) ∙ p.0
+      | inr f ↦ none_open pairs xs name p.1 (ap (λ b. b || has_name xs name) (sym f) ∙ a)
+    ]
+
+-- the clocks that aren't among the inputs
+open_filtered : (pairs : List Pair) (xs ys : List (List ℕ)) → open_input pairs xs ≡ None → open_input pairs (filter (λ y. not (has_name xs y)) ys) ≡ open_input pairs ys
+open_filtered pairs xs [] h = refl
+open_filtered pairs xs (y ∷ ys) h = elim (cases_Bool (has_name xs y)) [
+  | inl t ↦ rw (t, none_open pairs xs y h t) (open_filtered pairs xs ys h)
+  | inr f ↦ rw f (ap (λ o. cond (is_connected pairs y) o (Some y)) (open_filtered pairs xs ys h))
+]
+
+-- the first open input of a child: of its `.inputs`, else of its `.clock`
+pub open_first : (child : ModelValue) (pairs : List Pair) (name : List ℕ) → open_input pairs child.inputs ≡ Some name → open_input pairs (inputs_of child) ≡ Some name
+open_first child pairs name h = open_both pairs child.inputs (filter (λ y. not (has_name child.inputs y)) child.clocks) ∙ ap (λ o. or_later o (open_input pairs (filter (λ y. not (has_name child.inputs y)) child.clocks))) h
+
+pub open_second : (child : ModelValue) (pairs : List Pair) → open_input pairs child.inputs ≡ None → open_input pairs (inputs_of child) ≡ open_input pairs child.clocks
+open_second child pairs h =
+    open_both pairs child.inputs (filter (λ y. not (has_name child.inputs y)) child.clocks) ∙ ap (λ o. or_later o (open_input pairs (filter (λ y. not (has_name child.inputs y)) child.clocks))) h
+    ∙ open_filtered pairs child.inputs child.clocks h
+
+-- the answered fault
+none_fault : (e : FlatErr) (fault : Option FlatErr) → IsTold e None → IsTold e fault
+none_fault Memory fault h = tt
+none_fault (UnknownModel m n name) fault h = absurd (none-some (UnknownModel m n name) h)
+none_fault (RecursiveModel chain) fault h = absurd (none-some (RecursiveModel chain) h)
+none_fault (UnknownFormal m n name) fault h = absurd (none-some (UnknownFormal m n name) h)
+none_fault (Unconnected m n name) fault h = absurd (none-some (Unconnected m n name) h)
+none_fault TooLarge fault h = absurd (none-some TooLarge h)
+none_fault (DoublyDriven m n name) fault h = absurd (none-some (DoublyDriven m n name) h)
+none_fault (Undriven m n name) fault h = absurd (none-some (Undriven m n name) h)
+none_fault (SecondClock first second) fault h = absurd (none-some (SecondClock first second) h)
+none_fault (ClockNotInput net) fault h = absurd (none-some (ClockNotInput net) h)
+none_fault (ClockAsData net) fault h = absurd (none-some (ClockAsData net) h)
+none_fault (Loop nets) fault h = absurd (none-some (Loop nets) h)
+
+formal_faults : (m : ModelValue) (line : ℕ) (s : SubcktValue) (child : ModelValue) (e : FlatErr) (o : Option (List ℕ)) → IsTold e (option_map (λ n. UnknownFormal m.name line n) o)
+    → IsTold e (formal_fault m (record { line = line; subckt = s }) child o)
+formal_faults m line s child e (Some name) h = h
+formal_faults m line s child e None h = none_fault e (formal_fault m (record { line = line; subckt = s }) child None) h
+
+input_faults : (m : ModelValue) (line : ℕ) (e : FlatErr) (o : Option (List ℕ)) → IsTold e (option_map (λ n. Unconnected m.name line n) o) → IsTold e (input_fault m line o)
+input_faults m line e (Some name) h = h
+input_faults m line e None h = h
+
+-- what the check of a line has read
+pub record IsRead (m : ModelValue) (s : SubcktValue) (child : ModelValue) (ports : Ports) (name : List ℕ) (pairs : List Pair) : Type 0 where
+  pub ports_are : ports ≡ ports_value child
+  pub name_is : name ≡ m.name
+  pub pairs_are : pairs ≡ s.pairs
+
+foreign_read : (m : ModelValue) (s : SubcktValue) (child : ModelValue) (ports : Ports) (name : List ℕ) (pairs : List Pair) → IsRead m s child ports name pairs → foreign_formal ports pairs ≡ unknown_formal child s.pairs
+foreign_read m s child ports name pairs r = ap (λ p. foreign_formal p pairs) r.ports_are ∙ ap (foreign_formal (ports_value child)) r.pairs_are ∙ foreign_is child s.pairs
+
+pub formals_err : (m : ModelValue) (line : ℕ) (s : SubcktValue) (child : ModelValue) (ports : Ports) (name : List ℕ) (pairs : List Pair) (e : FlatErr) → IsRead m s child ports name pairs
+    → IsTold e (option_map (λ n. UnknownFormal name line n) (foreign_formal ports pairs)) → IsTold e (ports_fault m line s child)
+formals_err m line s child ports name pairs e r h =
+    formal_faults m line s child e (unknown_formal child s.pairs)
+    (subst (λ o. IsTold e (option_map (λ n. UnknownFormal m.name line n) o)) (foreign_read m s child ports name pairs r)
+    (subst (λ k. IsTold e (option_map (λ n. UnknownFormal k line n) (foreign_formal ports pairs))) r.name_is h))
+
+formals_ok : (m : ModelValue) (line : ℕ) (s : SubcktValue) (child : ModelValue) (ports : Ports) (name : List ℕ) (pairs : List Pair) → IsRead m s child ports name pairs → foreign_formal ports pairs ≡ None
+    → ports_fault m line s child ≡ input_fault m line (open_input s.pairs (inputs_of child))
+formals_ok m line s child ports name pairs r h = ap (formal_fault m (record { line = line; subckt = s }) child) (sym (foreign_read m s child ports name pairs r) ∙ h)
+
+open_read : (s : SubcktValue) (pairs : List Pair) (index names mine : List (List ℕ)) → pairs ≡ s.pairs → index ≡ with_names [] (formals pairs) → names ≡ mine → open_among index names ≡ open_input s.pairs mine
+open_read s pairs index names mine p i n =
+    ap (λ x. open_among x names) i ∙ ap (λ x. open_among (with_names [] (formals x)) names) p ∙ ap (open_among (with_names [] (formals s.pairs))) n ∙ open_is s.pairs mine
+
+first_fault : (m : ModelValue) (line : ℕ) (s : SubcktValue) (child : ModelValue) (e : FlatErr) (o : Option (List ℕ)) → open_input s.pairs child.inputs ≡ o → IsTold e (option_map (λ n. Unconnected m.name line n) o)
+    → IsTold e (input_fault m line (open_input s.pairs (inputs_of child)))
+first_fault m line s child e (Some name) q h = subst (λ x. IsTold e (input_fault m line x)) (sym (open_first child s.pairs name q)) h
+first_fault m line s child e None q h = none_fault e (input_fault m line (open_input s.pairs (inputs_of child))) h
+
+unconnected_read : (line : ℕ) (e : FlatErr) (a b : List ℕ) (x y : Option (List ℕ)) → a ≡ b → x ≡ y → IsTold e (option_map (λ n. Unconnected a line n) x) → IsTold e (option_map (λ n. Unconnected b line n) y)
+unconnected_read line e a b x y p q h = subst (λ o. IsTold e (option_map (λ n. Unconnected b line n) o)) q (subst (λ k. IsTold e (option_map (λ n. Unconnected k line n) x)) p h)
+
+pub inputs_err : (m : ModelValue) (line : ℕ) (s : SubcktValue) (child : ModelValue) (ports : Ports) (name : List ℕ) (pairs pairs' : List Pair) (index names : List (List ℕ)) (e : FlatErr) → IsRead m s child ports name pairs
+    → foreign_formal ports pairs ≡ None → pairs' ≡ s.pairs → index ≡ with_names [] (formals pairs') → names ≡ child.inputs
+    → IsTold e (option_map (λ n. Unconnected name line n) (open_among index names)) → IsTold e (ports_fault m line s child)
+inputs_err m line s child ports name pairs pairs' index names e r absent p i n h =
+    subst (IsTold e) (sym (formals_ok m line s child ports name pairs r absent))
+    (first_fault m line s child e (open_input s.pairs child.inputs) refl (unconnected_read line e name m.name (open_among index names) (open_input s.pairs child.inputs) r.name_is (open_read s pairs' index names child.inputs p i n) h))
+
+pub clocks_err : (m : ModelValue) (line : ℕ) (s : SubcktValue) (child : ModelValue) (ports : Ports) (name : List ℕ) (pairs pairs' : List Pair) (index names clocks : List (List ℕ)) (e : FlatErr) → IsRead m s child ports name pairs
+    → foreign_formal ports pairs ≡ None → pairs' ≡ s.pairs → index ≡ with_names [] (formals pairs') → names ≡ child.inputs → open_among index names ≡ None → clocks ≡ child.clocks
+    → IsTold e (option_map (λ n. Unconnected name line n) (open_among index clocks)) → IsTold e (ports_fault m line s child)
+clocks_err m line s child ports name pairs pairs' index names clocks e r absent p i n none k h =
+    subst (IsTold e) (sym (formals_ok m line s child ports name pairs r absent ∙ ap (input_fault m line) (open_second child s.pairs (sym (open_read s pairs' index names child.inputs p i n) ∙ none))))
+    (input_faults m line e (open_input s.pairs child.clocks) (unconnected_read line e name m.name (open_among index clocks) (open_input s.pairs child.clocks) r.name_is (open_read s pairs' index clocks child.clocks p i k) h))
+
+pub line_ok : (m : ModelValue) (line : ℕ) (s : SubcktValue) (child : ModelValue) (ports : Ports) (name : List ℕ) (pairs pairs' : List Pair) (index names clocks : List (List ℕ)) → IsRead m s child ports name pairs
+    → foreign_formal ports pairs ≡ None → pairs' ≡ s.pairs → index ≡ with_names [] (formals pairs') → names ≡ child.inputs → open_among index names ≡ None → clocks ≡ child.clocks → open_among index clocks ≡ None
+    → ports_fault m line s child ≡ None
+line_ok m line s child ports name pairs pairs' index names clocks r absent p i n none k none' =
+    formals_ok m line s child ports name pairs r absent
+    ∙ ap (input_fault m line) (open_second child s.pairs (sym (open_read s pairs' index names child.inputs p i n) ∙ none) ∙ sym (open_read s pairs' index clocks child.clocks p i k) ∙ none')

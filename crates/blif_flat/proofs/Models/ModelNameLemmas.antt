@@ -1,0 +1,95 @@
+-- The names of a model, each once: they are all there, no more than the model holds, and each has a place of its own.
+use Rattle.std.proofs.Common.{◌≡◌, ℕ, ◌+◌, ◌<◌, ◌≤◌, true, ltb, List, [], ◌∷◌, ◌++◌, length, get_or, drop, bytes_eq, Option, Some, None, refl, sym, ap, ◌∙◌, subst, inl, inr, arith, slice_get, find}
+use Rattle.std.specs.List.{position_or_len}
+use Rattle.blif_flat.proofs.Common.{cases_Bool, cond-true, cond-false, ltb-true, length-append, length-map, none-some, same_Some, cond_some, bytes_decides, In, at_within}
+use Rattle.std.proofs.lemmas.List.Folds.{find_at}
+use Rattle.tl_text.specs.NameIndex.{place_of}
+use Rattle.blif_flat.specs.Circuits.{Body, Cover, Latch, Subckt, Command, Pair, ModelValue, has_name}
+use Rattle.blif_flat.specs.Steps.ModelNames.{control_names, body_names, commands_names, all_names}
+use Rattle.blif_flat.specs.Steps.NameSets.{with_name, with_names}
+use Rattle.blif_flat.specs.Steps.NetStarts.{distinct_names}
+use Rattle.blif_flat.specs.Weight.{control_weight, body_weight, commands_weight, own_weight}
+use Rattle.list_laws.proofs.Items.{drop_at}
+use Rattle.blif_flat.proofs.Models.NameSetLemmas.{has_with_names}
+use Rattle.blif_flat.proofs.Models.NameLemmas.{in_has}
+
+-- names are added in turn
+pub with_names-append : (names some more : List (List ℕ)) → with_names names (some ++ more) ≡ with_names (with_names names some) more
+with_names-append names [] more = refl
+with_names-append names (name ∷ some) more = with_names-append (with_name names name) some more
+
+-- those of the commands from a place on, and those of a model's ports and commands
+pub commands_split : (names : List (List ℕ)) (cs : List Command) (i : ℕ) (c : Command) → i < length cs → c ≡ get_or cs i c
+    → with_names names (commands_names (drop i cs)) ≡ with_names (with_names names (body_names c.body)) (commands_names (drop (i + 1) cs))
+commands_split names cs i c h e = ap (λ ds. with_names names (commands_names ds)) (drop_at cs i c h e) ∙ with_names-append names (body_names c.body) (commands_names (drop (i + 1) cs))
+
+pub model_split : (m : ModelValue) → with_names (with_names (with_names (with_names [] m.inputs) m.outputs) m.clocks) (commands_names m.commands) ≡ distinct_names m
+model_split m =
+    sym (with_names-append [] m.inputs (m.outputs ++ (m.clocks ++ commands_names m.commands)) ∙ with_names-append (with_names [] m.inputs) m.outputs (m.clocks ++ commands_names m.commands)
+    ∙ with_names-append (with_names (with_names [] m.inputs) m.outputs) m.clocks (commands_names m.commands))
+
+-- names are no more than those that were added
+with_name-length : (names : List (List ℕ)) (name : List ℕ) → length (with_name names name) ≤ length names + 1
+with_name-length names name = elim (cases_Bool (has_name names name)) [
+  | inl t ↦ rw t (let z : length names ≤ length names + 1 = omega arith in z)
+  | inr f ↦ rw f (let e : length (names ++ name ∷ []) ≡ length names + 1 = length-append names (name ∷ []) in let z : length (names ++ name ∷ []) ≤ length names + 1 = omega arith in z)
+]
+
+with_names-length : (names more : List (List ℕ)) → length (with_names names more) ≤ length names + length more
+with_names-length names [] = omega arith
+with_names-length names (name ∷ more) =
+    let a : length (with_name names name) ≤ length names + 1 = with_name-length names name in
+    let b : length (with_names (with_name names name) more) ≤ length (with_name names name) + length more = with_names-length (with_name names name) more in
+    omega arith
+
+-- a model holds all its names
+control_names-length : (control : Option (List ℕ)) → length (control_names control) ≡ control_weight control
+control_names-length None = refl
+control_names-length (Some name) = refl
+
+body_names-length : (body : Body) → length (body_names body) ≡ body_weight body
+body_names-length (Cover c) = length-append c.inputs (c.output ∷ [])
+body_names-length (Latch l) = let e : length (control_names l.control) ≡ control_weight l.control = control_names-length l.control in omega arith
+body_names-length (Subckt s) = length-map s.pairs (λ (pair : Pair). pair.actual)
+
+commands_names-length : (cs : List Command) → length (commands_names cs) ≡ commands_weight cs
+commands_names-length [] = refl
+commands_names-length (c ∷ cs) =
+    let a : length (commands_names (c ∷ cs)) ≡ length (body_names c.body) + length (commands_names cs) = length-append (body_names c.body) (commands_names cs) in
+    let b : length (body_names c.body) ≡ body_weight c.body = body_names-length c.body in
+    let d : length (commands_names cs) ≡ commands_weight cs = commands_names-length cs in
+    omega arith
+
+pub distinct_few : (m : ModelValue) → length (distinct_names m) ≤ own_weight m
+distinct_few m =
+    let a : length (distinct_names m) ≤ length {A = List ℕ} [] + length (all_names m) = with_names-length [] (all_names m) in
+    let b : length (all_names m) ≡ length m.inputs + length (m.outputs ++ (m.clocks ++ commands_names m.commands)) = length-append m.inputs (m.outputs ++ (m.clocks ++ commands_names m.commands)) in
+    let c : length (m.outputs ++ (m.clocks ++ commands_names m.commands)) ≡ length m.outputs + length (m.clocks ++ commands_names m.commands) = length-append m.outputs (m.clocks ++ commands_names m.commands) in
+    let d : length (m.clocks ++ commands_names m.commands) ≡ length m.clocks + length (commands_names m.commands) = length-append m.clocks (commands_names m.commands) in
+    let e : length (commands_names m.commands) ≡ commands_weight m.commands = commands_names-length m.commands in
+    omega arith
+
+-- and all its names are among them
+pub distinct_has : (m : ModelValue) (name : List ℕ) → In (all_names m) name → has_name (distinct_names m) name ≡ true
+distinct_has m name i = has_with_names [] (all_names m) name ∙ in_has (all_names m) name i
+
+-- at the place of a name stands the name
+found_is : (name : List ℕ) (names : List (List ℕ)) (x : List ℕ) → find (bytes_eq name) names ≡ Some x → name ≡ x
+found_is name [] x e = absurd (none-some x e)
+found_is name (n ∷ ns) x e = elim (cases_Bool (bytes_eq name n)) [
+  | inl t ↦ (bytes_decides name n).0 t ∙ same_Some n x (sym (cond-true (bytes_eq name n) (Some n) (find (bytes_eq name) ns) t) ∙ e)
+  | inr f ↦ found_is name ns x (sym (cond-false (bytes_eq name n) (Some n) (find (bytes_eq name) ns) f) ∙ e)
+]
+
+pub place_within : (names : List (List ℕ)) (name : List ℕ) (p : ℕ) → place_of names name ≡ Some p → p < length names
+place_within names name p e =
+    let at = cond_some (ltb (position_or_len (bytes_eq name) names) (length names)) (position_or_len (bytes_eq name) names) p e in
+    let h : position_or_len (bytes_eq name) names < length names = ltb-true (position_or_len (bytes_eq name) names) (length names) at.0 in
+    subst (λ q. q < length names) at.1 h
+
+pub place_is : (names : List (List ℕ)) (name : List ℕ) (p : ℕ) → place_of names name ≡ Some p → slice_get names p ≡ Some name
+place_is names name p e =
+    let at = cond_some (ltb (position_or_len (bytes_eq name) names) (length names)) (position_or_len (bytes_eq name) names) p e in
+    let x = at_within names p (place_within names name p e) in
+    let found : find (bytes_eq name) names ≡ Some x.0 = find_at (bytes_eq name) names ∙ ap (slice_get names) at.1 ∙ x.1 in
+    x.1 ∙ ap Some (sym (found_is name names x.0 found))

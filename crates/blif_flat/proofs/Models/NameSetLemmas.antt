@@ -1,0 +1,142 @@
+-- Names of which none stands twice, added one by one, and found.
+use Rattle.std.proofs.Common.{◌≡◌, ℕ, suc, ◌+◌, ◌<◌, ◌≤◌, Bool, true, false, not, ◌||◌, ltb, List, [], ◌∷◌, ◌++◌, length, drop, filter, bytes_eq, Option, Some, None, is_some, refl, sym, ap, ◌∙◌, subst, inl, inr, arith, append_assoc}
+use Rattle.std.specs.List.{position_or_len, slice_get}
+use Rattle.blif_flat.proofs.Common.{ltb-true, cases_Bool, cond-true, cond-false, both_ways, ltb-false, length-map, append-nil, none-some, slice_get_past, bytes_decides, In, drop_past, at_within}
+use Rattle.std.proofs.lemmas.List.Folds.{list_any-append}
+use Rattle.list_laws.proofs.FirstPlace.{position_none, list_any-position_none}
+use Rattle.tl_text.specs.NameIndex.{place_of}
+use Rattle.blif_flat.specs.Circuits.{ModelValue, input_ports, output_ports, clock_ports, has_name, is_input, inputs_of, model_named}
+use Rattle.blif_read.specs.WellFormed.{IsWellFormedModel}
+use Rattle.blif_read.specs.Once.{AreOnce}
+use Rattle.blif_flat.specs.Steps.NameSets.{with_name, with_names, ports_value, model_names, Finds}
+
+-- a name has a place exactly where it is among the names
+some_when : {A : Type 0} (o : Option A) (b : Bool) → (b ≡ false → o ≡ None) → (o ≡ None → b ≡ false) → is_some o ≡ b
+some_when None b f g = sym (g refl)
+some_when (Some x) true f g = refl
+some_when (Some x) false f g = absurd (none-some x (sym (f refl)))
+
+pub place_some : (names : List (List ℕ)) (name : List ℕ) → is_some (place_of names name) ≡ has_name names name
+place_some names name = some_when (place_of names name) (has_name names name) (position_none (bytes_eq name) names) (list_any-position_none (bytes_eq name) names)
+
+pub place_none : (names : List (List ℕ)) (name : List ℕ) → has_name names name ≡ false → place_of names name ≡ None
+place_none names name h = position_none (bytes_eq name) names h
+
+-- two names that differ
+pub no_match : (a b : List ℕ) → (a ≡ b → ⊥) → bytes_eq a b ≡ false
+no_match a b differ = elim (cases_Bool (bytes_eq a b)) [ inl t ↦ absurd (differ ((bytes_decides a b).0 t)) | inr f ↦ f ]
+
+or_nothing : (b c : Bool) → c ≡ false → b || (c || false) ≡ b
+or_nothing true c h = refl
+or_nothing false c h = ap (λ d. d || false) h
+
+or_false : (b : Bool) → b || false ≡ b
+or_false true = refl
+or_false false = refl
+
+-- one more name
+pub has_one_more : (names : List (List ℕ)) (n x : List ℕ) → has_name (names ++ n ∷ []) x ≡ (has_name names x || (bytes_eq x n || false))
+has_one_more names n x = list_any-append (bytes_eq x) names (n ∷ [])
+
+-- names of which none stands twice, behind others
+once_names : (old index names : List (List ℕ)) → AreOnce names → ((x : List ℕ) → In names x → has_name index x ≡ has_name old x) → with_names index names ≡ index ++ filter (λ x. not (has_name old x)) names
+once_names old index [] once same = sym (append-nil index)
+once_names old index (n ∷ ns) once same = elim (cases_Bool (has_name old n)) [
+  | inl t ↦ ap (λ i. with_names i ns) (cond-true (has_name index n) index (index ++ n ∷ []) (same n (inl refl) ∙ t)) ∙ rw t (once_names old index ns once.1 (λ x i. same x (inr i)))
+  | inr f ↦ ap (λ i. with_names i ns) (cond-false (has_name index n) index (index ++ n ∷ []) (same n (inl refl) ∙ f))
+      ∙ once_names old (index ++ n ∷ []) ns once.1 (λ x i. has_one_more index n x ∙ or_nothing (has_name index x) (bytes_eq x n) (no_match x n (λ e. once.0 (subst (In ns) e i))) ∙ same x (inr i))
+      ∙ append_assoc index (n ∷ []) (filter (λ x. not (has_name old x)) ns) ∙ rw f refl
+]
+
+keeps_all : (names : List (List ℕ)) → filter (λ x. not (has_name [] x)) names ≡ names
+keeps_all [] = refl
+keeps_all (n ∷ ns) = ap (λ ms. n ∷ ms) (keeps_all ns)
+
+pub new_names : (names : List (List ℕ)) → AreOnce names → with_names [] names ≡ names
+new_names names once = once_names [] [] names once (λ x i. refl) ∙ keeps_all names
+
+pub more_names : (index names : List (List ℕ)) → AreOnce names → with_names index names ≡ index ++ filter (λ x. not (has_name index x)) names
+more_names index names once = once_names index index names once (λ x i. refl)
+
+-- what is among names and more of them
+or_same : (a b : Bool) → (b ≡ true → a ≡ true) → a ≡ (a || b)
+or_same true b h = refl
+or_same false true h = h refl
+or_same false false h = refl
+
+has_with_name : (names : List (List ℕ)) (n x : List ℕ) → has_name (with_name names n) x ≡ (has_name names x || bytes_eq x n)
+has_with_name names n x = elim (cases_Bool (has_name names n)) [
+  | inl t ↦ ap (λ ms. has_name ms x) (cond-true (has_name names n) names (names ++ n ∷ []) t) ∙ or_same (has_name names x) (bytes_eq x n) (λ e. ap (has_name names) ((bytes_decides x n).0 e) ∙ t)
+  | inr f ↦ ap (λ ms. has_name ms x) (cond-false (has_name names n) names (names ++ n ∷ []) f) ∙ has_one_more names n x ∙ ap (λ b. has_name names x || b) (or_false (bytes_eq x n))
+]
+
+or_or : (a b c : Bool) → ((a || b) || c) ≡ (a || (b || c))
+or_or true b c = refl
+or_or false b c = refl
+
+pub has_with_names : (names more : List (List ℕ)) (x : List ℕ) → has_name (with_names names more) x ≡ (has_name names x || has_name more x)
+has_with_names names [] x = sym (or_false (has_name names x))
+has_with_names names (n ∷ more) x = has_with_names (with_name names n) more x ∙ ap (λ b. b || has_name more x) (has_with_name names n x) ∙ or_or (has_name names x) (bytes_eq x n) (has_name more x)
+
+-- the inputs of a model
+filtered : (a cs : List (List ℕ)) (x : List ℕ) → has_name a x ≡ false → has_name (filter (λ y. not (has_name a y)) cs) x ≡ has_name cs x
+filtered a [] x h = refl
+filtered a (c ∷ cs) x h = elim (cases_Bool (has_name a c)) [
+  | inl t ↦ rw (t, no_match x c (λ e. both_ways (has_name a x) h (ap (has_name a) e ∙ t))) (filtered a cs x h)
+  | inr f ↦ rw f (ap (λ b. bytes_eq x c || b) (filtered a cs x h))
+]
+
+or_either : (a b c : Bool) → (a ≡ false → b ≡ c) → (a || b) ≡ (a || c)
+or_either true b c h = refl
+or_either false b c h = h refl
+
+pub has_inputs : (m : ModelValue) (x : List ℕ) → has_name (inputs_of m) x ≡ is_input m x
+has_inputs m x = list_any-append (bytes_eq x) m.inputs (filter (λ y. not (has_name m.inputs y)) m.clocks)
+    ∙ or_either (has_name m.inputs x) (has_name (filter (λ y. not (has_name m.inputs y)) m.clocks) x) (has_name m.clocks x) (filtered m.inputs m.clocks x)
+
+pub made_ports : (m : ModelValue) → IsWellFormedModel m → record { inputs = with_names (with_names [] m.inputs) m.clocks; outputs = with_names [] m.outputs } ≡ ports_value m
+made_ports m form =
+    let i : with_names (with_names [] m.inputs) m.clocks ≡ inputs_of m = ap (λ i. with_names i m.clocks) (new_names m.inputs (form.ports input_ports)) ∙ more_names m.inputs m.clocks (form.ports clock_ports) in
+    let o : with_names [] m.outputs ≡ m.outputs = new_names m.outputs (form.ports output_ports) in cc
+
+-- the model of a name
+next_at : {A : Type 0} (x : A) (xs : List A) (i : ℕ) → slice_get xs i ≡ slice_get (x ∷ xs) (1 + i)
+next_at x xs i = let e : suc i ≡ 1 + i = omega arith in subst (λ j. slice_get xs i ≡ slice_get (x ∷ xs) j) e refl
+
+named_at : (ms : List ModelValue) (name : List ℕ) → model_named ms name ≡ slice_get ms (position_or_len (bytes_eq name) (model_names ms))
+named_at [] name = refl
+named_at (m ∷ ms) name = elim (cases_Bool (bytes_eq name m.name)) [
+  | inl t ↦ rw t refl
+  | inr f ↦ rw f (named_at ms name ∙ next_at m ms (position_or_len (bytes_eq name) (model_names ms)))
+]
+
+pub finds : (ms : List ModelValue) (name : List ℕ) → Finds ms name (place_of (model_names ms) name)
+finds ms name =
+    let p : ℕ = position_or_len (bytes_eq name) (model_names ms) in
+    let e : length (model_names ms) ≡ length ms = length-map ms (λ m. m.name) in
+    elim (cases_Bool (ltb p (length (model_names ms)))) [
+      | inl t ↦ (let h : p < length (model_names ms) = ltb-true p (length (model_names ms)) t in
+          let w = at_within ms p (omega arith) in
+          subst (Finds ms name) (sym (cond-true (ltb p (length (model_names ms))) (Some p) None t)) (record { model = w.0; at = w.1; named = named_at ms name ∙ w.1 }))
+      | inr f ↦ (let h : length (model_names ms) ≤ p = ltb-false p (length (model_names ms)) f in
+          subst (Finds ms name) (sym (cond-false (ltb p (length (model_names ms))) (Some p) None f)) (named_at ms name ∙ slice_get_past ms p (omega arith)))
+    ]
+
+pub same_model_names : (names : List (List ℕ)) (models : List ModelValue) → names ≡ with_names [] (model_names models) → AreOnce (model_names models) → names ≡ model_names models
+same_model_names names models e once = e ∙ new_names (model_names models) once
+
+pub few_model_names : (names : List (List ℕ)) (models : List ModelValue) (n : ℕ) → names ≡ with_names [] (model_names models) → AreOnce (model_names models) → length models < n → length names < n
+few_model_names names models n e once few =
+    let a : length names ≡ length (model_names models) = ap length (same_model_names names models e once) in
+    let b : length (model_names models) ≡ length models = length-map models (λ (m : ModelValue). m.name) in omega arith
+
+pub ports_of_parts : (m : ModelValue) → IsWellFormedModel m → (none inputs both none' outputs given clocks given' : List (List ℕ))
+    → none ≡ [] → inputs ≡ with_names none given → both ≡ with_names inputs clocks → none' ≡ [] → outputs ≡ with_names none' given' → given ≡ m.inputs → clocks ≡ m.clocks → given' ≡ m.outputs
+    → record { inputs = both; outputs = outputs } ≡ ports_value m
+ports_of_parts m form none inputs both none' outputs given clocks given' a b d e f g h i =
+    let x : both ≡ with_names (with_names [] m.inputs) m.clocks = cc in
+    let y : outputs ≡ with_names [] m.outputs = cc in
+    ap (λ ns. record { inputs = ns; outputs = outputs }) x ∙ ap (λ ns. record { inputs = with_names (with_names [] m.inputs) m.clocks; outputs = ns }) y ∙ made_ports m form
+
+pub all_names : (names all : List (List ℕ)) (models : List ModelValue) (i : ℕ) → with_names names (model_names (drop i models)) ≡ all → length models ≤ i → names ≡ all
+all_names names all models i e h = ap (λ ms. with_names names (model_names ms)) (sym (drop_past models i h)) ∙ e

@@ -1,0 +1,189 @@
+-- The drivers of a model's commands with the names that they drive, in line order.
+use Rattle.std.proofs.Common.{◌≡◌, ℕ, zero, suc, true, if◌then◌else◌, List, [], ◌∷◌, ◌++◌, Option, Some, None, refl, sym, ap, ap₂, ◌∙◌, subst, inl, inr, slice_get, option_map}
+use Rattle.blif_flat.proofs.Common.{cases_Bool, cond-true, cond-false, none-some, same_Some, In, In-left, In-right, In-append}
+use Rattle.blif_flat.specs.Circuits.{Body, Cover, Latch, Subckt, Command, LatchValue, Pair, CoverValue, SubcktValue, ModelValue, LibraryValue, with_subckt, subckts_of, model_named, is_output, Driver, by_latch, by_cover, by_subckt}
+use Rattle.blif_flat.specs.DriverFaults.{output_actuals, driven_pairs, drives, all_drives}
+
+pub record Tag : Type 0 where
+  pub driver : Driver
+  pub name : List ℕ
+
+abbrev pub tag : Driver → List ℕ → Tag
+tag driver name = record { driver = driver; name = name }
+
+abbrev pub pair_tags : ℕ → ModelValue → List Pair → List Tag
+pair_tags k child [] = []
+pair_tags k child (pair ∷ pairs) = if is_output child pair.formal then tag (by_subckt k pair.formal) pair.actual ∷ pair_tags k child pairs else pair_tags k child pairs
+
+abbrev pub subckt_tags : ℕ → Option ModelValue → List Pair → List Tag
+subckt_tags k None pairs = []
+subckt_tags k (Some child) pairs = pair_tags k child pairs
+
+abbrev pub body_tags : LibraryValue → ℕ → ℕ → Body → List Tag
+body_tags library i k (Cover c) = tag (by_cover i) c.output ∷ []
+body_tags library i k (Latch l) = tag (by_latch i) l.output ∷ []
+body_tags library i k (Subckt s) = subckt_tags k (model_named library.models s.model) s.pairs
+
+-- the ordinals behind a command
+abbrev pub behind : Body → (ℕ → ℕ) → ℕ → ℕ
+behind (Cover c) ordinal = ordinal
+behind (Latch l) ordinal = ordinal
+behind (Subckt s) ordinal = λ k. ordinal (suc k)
+
+-- of commands that stand at these places, and whose subcircuits have these ordinals
+abbrev pub tags : LibraryValue → (ℕ → ℕ) → (ℕ → ℕ) → List Command → List Tag
+tags library place ordinal [] = []
+tags library place ordinal (c ∷ cs) = body_tags library (place 0) (ordinal 0) c.body ++ tags library (λ i. place (suc i)) (behind c.body ordinal) cs
+
+-- their names are the driven names
+abbrev pub names : List Tag → List (List ℕ)
+names [] = []
+names (t ∷ ts) = t.name ∷ names ts
+
+names_joined : (xs ys : List Tag) → names (xs ++ ys) ≡ names xs ++ names ys
+names_joined [] ys = refl
+names_joined (x ∷ xs) ys = ap (λ ns. x.name ∷ ns) (names_joined xs ys)
+
+pair_names : (k : ℕ) (child : ModelValue) (pairs : List Pair) → names (pair_tags k child pairs) ≡ output_actuals child pairs
+pair_names k child [] = refl
+pair_names k child (pair ∷ pairs) = elim (cases_Bool (is_output child pair.formal)) [
+  | inl t ↦ (rw t (ap (λ ns. pair.actual ∷ ns) (pair_names k child pairs)))
+  | inr f ↦ (rw f (pair_names k child pairs))
+]
+
+subckt_names : (k : ℕ) (o : Option ModelValue) (pairs : List Pair) → names (subckt_tags k o pairs) ≡ driven_pairs o pairs
+subckt_names k None pairs = refl
+subckt_names k (Some child) pairs = pair_names k child pairs
+
+body_names : (library : LibraryValue) (i k : ℕ) (b : Body) → names (body_tags library i k b) ≡ drives library b
+body_names library i k (Cover c) = refl
+body_names library i k (Latch l) = refl
+body_names library i k (Subckt s) = subckt_names k (model_named library.models s.model) s.pairs
+
+pub tag_names : (library : LibraryValue) (place ordinal : ℕ → ℕ) (cs : List Command) → names (tags library place ordinal cs) ≡ all_drives library cs
+tag_names library place ordinal [] = refl
+tag_names library place ordinal (c ∷ cs) = names_joined (body_tags library (place 0) (ordinal 0) c.body) (tags library (λ i. place (suc i)) (behind c.body ordinal) cs)
+    ∙ ap₂ (λ (xs ys : List (List ℕ)). xs ++ ys) (body_names library (place 0) (ordinal 0) c.body) (tag_names library (λ i. place (suc i)) (behind c.body ordinal) cs)
+
+pub In-names : (ts : List Tag) (t : Tag) → In ts t → In (names ts) t.name
+In-names [] t i = i
+In-names (x ∷ ts) t (inl e) = inl (ap (λ (y : Tag). y.name) e)
+In-names (x ∷ ts) t (inr i) = inr (In-names ts t i)
+
+pub record Named (ts : List Tag) (name : List ℕ) : Type 0 where
+  pub tag : Tag
+  pub member : In ts tag
+  pub is : tag.name ≡ name
+
+pub names_in : (ts : List Tag) (name : List ℕ) → In (names ts) name → Named ts name
+names_in [] name i = absurd i
+names_in (x ∷ ts) name (inl e) = record { tag = x; member = inl refl; is = sym e }
+names_in (x ∷ ts) name (inr i) = let r = names_in ts name i in record { tag = r.tag; member = inr r.member; is = r.is }
+
+-- what a tag comes from
+pub data Source (library : LibraryValue) (place ordinal : ℕ → ℕ) (cs : List Command) (t : Tag) : Type 0 where
+  from_cover : (i : ℕ) (c : CoverValue) → option_map (λ (d : Command). d.body) (slice_get cs i) ≡ Some (Cover c) → t ≡ tag (by_cover (place i)) c.output → Source library place ordinal cs t
+  from_latch : (i : ℕ) (l : LatchValue) → option_map (λ (d : Command). d.body) (slice_get cs i) ≡ Some (Latch l) → t ≡ tag (by_latch (place i)) l.output → Source library place ordinal cs t
+  from_subckt : (k : ℕ) (s : SubcktValue) (child : ModelValue) (pair : Pair) → slice_get (subckts_of cs) k ≡ Some s → model_named library.models s.model ≡ Some child → In s.pairs pair
+      → is_output child pair.formal ≡ true → t ≡ tag (by_subckt (ordinal k) pair.formal) pair.actual → Source library place ordinal cs t
+
+pair_in : (k : ℕ) (child : ModelValue) (pairs : List Pair) (pair : Pair) → In pairs pair → is_output child pair.formal ≡ true → In (pair_tags k child pairs) (tag (by_subckt k pair.formal) pair.actual)
+pair_in k child [] pair i out = absurd i
+pair_in k child (p ∷ pairs) pair (inl e) out =
+    let t : is_output child p.formal ≡ true = subst (λ (y : Pair). is_output child y.formal ≡ true) e out in
+    subst (λ ts. In ts (tag (by_subckt k pair.formal) pair.actual)) (sym (cond-true (is_output child p.formal) (tag (by_subckt k p.formal) p.actual ∷ pair_tags k child pairs) (pair_tags k child pairs) t))
+    (inl (ap (λ (y : Pair). tag (by_subckt k y.formal) y.actual) e))
+pair_in k child (p ∷ pairs) pair (inr i) out = elim (cases_Bool (is_output child p.formal)) [
+  | inl t ↦ subst (λ ts. In ts (tag (by_subckt k pair.formal) pair.actual)) (sym (cond-true (is_output child p.formal) (tag (by_subckt k p.formal) p.actual ∷ pair_tags k child pairs) (pair_tags k child pairs) t))
+      (inr (pair_in k child pairs pair i out))
+  | inr f ↦ subst (λ ts. In ts (tag (by_subckt k pair.formal) pair.actual)) (sym (cond-false (is_output child p.formal) (tag (by_subckt k p.formal) p.actual ∷ pair_tags k child pairs) (pair_tags k child pairs) f))
+      (pair_in k child pairs pair i out)
+]
+
+-- a subcircuit is the command's own, or one behind it
+pub subckt_case : (b : Body) (subckts : List SubcktValue) (ordinal : ℕ → ℕ) (k : ℕ) (s : SubcktValue) (P : Type 0) → slice_get (with_subckt b subckts) k ≡ Some s
+    → (b ≡ Subckt s → k ≡ 0 → P) → ((j : ℕ) → slice_get subckts j ≡ Some s → behind b ordinal j ≡ ordinal k → P) → P
+subckt_case (Cover c) subckts ordinal k s P e here there = there k e refl
+subckt_case (Latch l) subckts ordinal k s P e here there = there k e refl
+subckt_case (Subckt t) subckts ordinal zero s P e here there = here (ap Subckt (same_Some t s e)) refl
+subckt_case (Subckt t) subckts ordinal (suc k) s P e here there = there k e refl
+
+pub subckt_behind : (b : Body) (subckts : List SubcktValue) (ordinal : ℕ → ℕ) (j : ℕ) (s : SubcktValue) → slice_get subckts j ≡ Some s
+    → (k : ℕ) × (slice_get (with_subckt b subckts) k ≡ Some s) × (behind b ordinal j ≡ ordinal k)
+subckt_behind (Cover c) subckts ordinal j s e = (j, e, refl)
+subckt_behind (Latch l) subckts ordinal j s e = (j, e, refl)
+subckt_behind (Subckt t) subckts ordinal j s e = (suc j, e, refl)
+
+module _ (library : LibraryValue) where
+  in_body : (i k : ℕ) (b c : Body) (t : Tag) → b ≡ c → In (body_tags library i k c) t → In (body_tags library i k b) t
+  in_body i k b c t e h = subst (λ d. In (body_tags library i k d) t) (sym e) h
+
+  tag_of_pair : (k : ℕ) (s : SubcktValue) (child : ModelValue) (pair : Pair) → model_named library.models s.model ≡ Some child → In s.pairs pair → is_output child pair.formal ≡ true
+      → In (subckt_tags k (model_named library.models s.model) s.pairs) (tag (by_subckt k pair.formal) pair.actual)
+  tag_of_pair k s child pair n i out = rw n (pair_in k child s.pairs pair i out)
+
+  pub tag_in : (place ordinal : ℕ → ℕ) (cs : List Command) (t : Tag) → Source library place ordinal cs t → In (tags library place ordinal cs) t
+  tag_in place ordinal [] t (from_cover i c e q) = absurd (none-some (Cover c) e)
+  tag_in place ordinal [] t (from_latch i l e q) = absurd (none-some (Latch l) e)
+  tag_in place ordinal [] t (from_subckt k s child pair e n i out q) = absurd (none-some s e)
+  tag_in place ordinal (d ∷ cs) t (from_cover zero c e q) = In-left (body_tags library (place 0) (ordinal 0) d.body) (tags library (λ i. place (suc i)) (behind d.body ordinal) cs) t
+      (in_body (place 0) (ordinal 0) d.body (Cover c) t (same_Some d.body (Cover c) e) (inl q))
+  tag_in place ordinal (d ∷ cs) t (from_cover (suc i) c e q) = In-right (body_tags library (place 0) (ordinal 0) d.body) (tags library (λ j. place (suc j)) (behind d.body ordinal) cs) t
+      (tag_in (λ j. place (suc j)) (behind d.body ordinal) cs t (from_cover i c e q))
+  tag_in place ordinal (d ∷ cs) t (from_latch zero l e q) = In-left (body_tags library (place 0) (ordinal 0) d.body) (tags library (λ i. place (suc i)) (behind d.body ordinal) cs) t
+      (in_body (place 0) (ordinal 0) d.body (Latch l) t (same_Some d.body (Latch l) e) (inl q))
+  tag_in place ordinal (d ∷ cs) t (from_latch (suc i) l e q) = In-right (body_tags library (place 0) (ordinal 0) d.body) (tags library (λ j. place (suc j)) (behind d.body ordinal) cs) t
+      (tag_in (λ j. place (suc j)) (behind d.body ordinal) cs t (from_latch i l e q))
+  tag_in place ordinal (d ∷ cs) t (from_subckt k s child pair e n i out q) =
+      subckt_case d.body (subckts_of cs) ordinal k s (In (tags library place ordinal (d ∷ cs)) t) e
+      (λ b z. In-left (body_tags library (place 0) (ordinal 0) d.body) (tags library (λ j. place (suc j)) (behind d.body ordinal) cs) t
+      (in_body (place 0) (ordinal 0) d.body (Subckt s) t b (subst (λ u. In (subckt_tags (ordinal 0) (model_named library.models s.model) s.pairs) u)
+      (ap (λ j. tag (by_subckt (ordinal j) pair.formal) pair.actual) (sym z) ∙ sym q) (tag_of_pair (ordinal 0) s child pair n i out))))
+      (λ j f o. In-right (body_tags library (place 0) (ordinal 0) d.body) (tags library (λ x. place (suc x)) (behind d.body ordinal) cs) t
+      (tag_in (λ x. place (suc x)) (behind d.body ordinal) cs t (from_subckt j s child pair f n i out (q ∙ ap (λ x. tag (by_subckt x pair.formal) pair.actual) (sym o)))))
+
+  -- and the other way
+  pub record OfPair (k : ℕ) (child : ModelValue) (pairs : List Pair) (t : Tag) : Type 0 where
+    pub pair : Pair
+    pub member : In pairs pair
+    pub out : is_output child pair.formal ≡ true
+    pub is : t ≡ tag (by_subckt k pair.formal) pair.actual
+
+  more_pairs : (k : ℕ) (child : ModelValue) (p : Pair) (pairs : List Pair) (t : Tag) → OfPair k child pairs t → OfPair k child (p ∷ pairs) t
+  more_pairs k child p pairs t r = record { pair = r.pair; member = inr r.member; out = r.out; is = r.is }
+
+  pub of_pair : (k : ℕ) (child : ModelValue) (pairs : List Pair) (t : Tag) → In (pair_tags k child pairs) t → OfPair k child pairs t
+  of_pair k child [] t i = absurd i
+  of_pair k child (p ∷ pairs) t i = elim (cases_Bool (is_output child p.formal)) [
+    | inl y ↦ (elim (subst (λ ts. In ts t) (cond-true (is_output child p.formal) (tag (by_subckt k p.formal) p.actual ∷ pair_tags k child pairs) (pair_tags k child pairs) y) i) [
+      | inl e ↦ record { pair = p; member = inl refl; out = y; is = e }
+      | inr j ↦ more_pairs k child p pairs t (of_pair k child pairs t j)
+    ])
+    | inr f ↦ more_pairs k child p pairs t (of_pair k child pairs t (subst (λ ts. In ts t) (cond-false (is_output child p.formal) (tag (by_subckt k p.formal) p.actual ∷ pair_tags k child pairs) (pair_tags k child pairs) f) i))
+  ]
+
+  subckt_source : (place ordinal : ℕ → ℕ) (d : Command) (cs : List Command) (t : Tag) (s : SubcktValue) (o : Option ModelValue) → d.body ≡ Subckt s → model_named library.models s.model ≡ o
+      → In (subckt_tags (ordinal 0) o s.pairs) t → Source library place ordinal (d ∷ cs) t
+  subckt_source place ordinal d cs t s None e n i = absurd i
+  subckt_source place ordinal d cs t s (Some child) e n i =
+      let r = of_pair (ordinal 0) child s.pairs t i in
+      from_subckt 0 s child r.pair (ap (λ b. slice_get (with_subckt b (subckts_of cs)) 0) e) n r.member r.out r.is
+
+  body_source : (place ordinal : ℕ → ℕ) (d : Command) (cs : List Command) (t : Tag) (b : Body) → d.body ≡ b → In (body_tags library (place 0) (ordinal 0) b) t → Source library place ordinal (d ∷ cs) t
+  body_source place ordinal d cs t (Cover c) e i = elim i [ inl q ↦ from_cover 0 c (ap Some e) q | inr o ↦ absurd o ]
+  body_source place ordinal d cs t (Latch l) e i = elim i [ inl q ↦ from_latch 0 l (ap Some e) q | inr o ↦ absurd o ]
+  body_source place ordinal d cs t (Subckt s) e i = subckt_source place ordinal d cs t s (model_named library.models s.model) e refl i
+
+  later_source : (place ordinal : ℕ → ℕ) (d : Command) (cs : List Command) (t : Tag) → Source library (λ i. place (suc i)) (behind d.body ordinal) cs t → Source library place ordinal (d ∷ cs) t
+  later_source place ordinal d cs t (from_cover i c e q) = from_cover (suc i) c e q
+  later_source place ordinal d cs t (from_latch i l e q) = from_latch (suc i) l e q
+  later_source place ordinal d cs t (from_subckt j s child pair e n i out q) =
+      let r = subckt_behind d.body (subckts_of cs) ordinal j s e in
+      from_subckt r.0 s child pair r.1 n i out (q ∙ ap (λ k. tag (by_subckt k pair.formal) pair.actual) r.2)
+
+  pub tag_source : (place ordinal : ℕ → ℕ) (cs : List Command) (t : Tag) → In (tags library place ordinal cs) t → Source library place ordinal cs t
+  tag_source place ordinal [] t i = absurd i
+  tag_source place ordinal (d ∷ cs) t i = elim (In-append (body_tags library (place 0) (ordinal 0) d.body) (tags library (λ j. place (suc j)) (behind d.body ordinal) cs) t i) [
+    | inl j ↦ body_source place ordinal d cs t d.body refl j
+    | inr j ↦ later_source place ordinal d cs t (tag_source (λ j. place (suc j)) (behind d.body ordinal) cs t j)
+  ]

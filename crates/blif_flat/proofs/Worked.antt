@@ -1,0 +1,5 @@
+-- Worked examples.
+mod Examples
+mod FlatExamples
+mod LoopExamples
+mod RunExamples

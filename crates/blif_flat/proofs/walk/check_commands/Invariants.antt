@@ -1,0 +1,7 @@
+use Rattle.std.proofs.Common.{◌≡◌, drop}
+use Rattle.blif_flat.specs.Walk.{subckt_lines}
+use Rattle.blif_flat.specs.Steps.ModelGraph.{names_at, lines_fault}
+use Rattle.blif_flat.proofs.walk.check_commands.Given as goal
+
+abbrev pub invariant-loop-command : goal.invariant-loop-command
+invariant-loop-command l = lines_fault l.models (names_at l.models l.walk.path) l.model (subckt_lines (drop l.command-index l.model.commands)) ≡ lines_fault l.models (names_at l.models l.walk.path) l.model (subckt_lines l.model.commands)

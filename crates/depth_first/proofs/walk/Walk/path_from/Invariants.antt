@@ -1,0 +1,7 @@
+use Rattle.std.proofs.Common.{◌≡◌, take, reverse}
+use Rattle.depth_first.specs.Frames.{path_of}
+use Rattle.depth_first.specs.Walk.{from_node}
+use Rattle.depth_first.proofs.walk.Walk.path_from.Given as goal
+
+abbrev pub invariant-loop-frame : goal.invariant-loop-frame
+invariant-loop-frame l = l.nodes.items ≡ from_node l.node (reverse (path_of (take l.frame-index l.frame-items)))
