@@ -87,10 +87,10 @@ work_is pick_err.Memory r is = absurd (none-some r is)
 
 -- the graph of a source circuit is the only one
 module _ (source : Source) (one : HasOneGraph source.netlist.library source.netlist.flat source.params.list) where
-  abbrev IsGraph : Aig → RootsValue → Type 0
+  abbrev pub IsGraph : Aig → RootsValue → Type 0
   IsGraph g roots = IsGraphOf source.netlist.library source.netlist.flat source.params.list g roots
 
-  same_graph : (g h : Aig) (roots others : RootsValue) → IsGraph g roots → IsGraph h others → g ≡ h
+  pub same_graph : (g h : Aig) (roots others : RootsValue) → IsGraph g roots → IsGraph h others → g ≡ h
   same_graph g h roots others a b =
       let made : a.made ≡ b.made = one.only a.made b.made a.are_made b.are_made in
       let kinds : g.kinds ≡ h.kinds = a.kinds ∙ sym b.kinds in

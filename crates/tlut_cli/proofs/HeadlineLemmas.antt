@@ -7,9 +7,6 @@ use Rattle.list_laws.specs.Members.{In}
 use Rattle.tl_io.specs.Content.{extended}
 use Rattle.tl_io.specs.Shelf.{Files}
 use Rattle.aig_core.specs.Aig.{Aig}
-use Rattle.aig_core.specs.Roots.{RootsValue}
-use Rattle.aig_build.specs.CoverGraph.{Literals}
-use Rattle.aig_build.specs.NetlistGraph.{IsGraphOf, HasOneGraph}
 use Rattle.cover_pick.specs.Template.{TemplateValue}
 use Rattle.ppc_pack.specs.Pack.{IsConf}
 use Rattle.port_bank.specs.Bank.{BankSeen}
@@ -20,7 +17,12 @@ use Rattle.run_core.specs.Events.{MachineValue}
 use Rattle.run_core.specs.Fits.{FitsShape}
 use Rattle.tlut_cli.specs.declared.stations.source.Source.{Source}
 use Rattle.tlut_cli.specs.Outside.{Outside}
-use Rattle.tlut_cli.specs.Commands.{Command, Run, command_of, walk_of}
+use Rattle.tlut_cli.specs.Commands.{Command, Run, Spec, Map, Bits, Gen, Repack, or_else, other_commands, command_of, walk_of}
+use Rattle.tlut_cli.specs.Spec.Words.{spec_of}
+use Rattle.tlut_cli.specs.Map.Words.{map_of}
+use Rattle.tlut_cli.specs.Bits.Words.{bits_of}
+use Rattle.tlut_cli.specs.Gen.Words.{gen_of}
+use Rattle.tlut_cli.specs.Repack.Words.{repack_of}
 use Rattle.tlut_cli.specs.Call.{HasDone}
 use Rattle.tlut_cli.specs.Stations.Script.{names_of, HasScript}
 use Rattle.tlut_cli.specs.Stations.SourceCircuit.{shape_of}
@@ -29,19 +31,10 @@ use Rattle.tlut_cli.specs.Run.Job.{Job, IsJob}
 use Rattle.tlut_cli.specs.Run.Machine.{IsStart, bank_of, Stage, HasCome}
 use Rattle.tlut_cli.specs.Run.Ends.{HasRun}
 use Rattle.tlut_cli.specs.Run.Headline.{IsNoUpset, ShowsSource, HasHeadline}
+use Rattle.tlut_cli.proofs.GraphLemmas.{same_graph}
 use Rattle.tlut_cli.proofs.LeastLemmas.{run_size, least_mapping}
 use Rattle.tlut_cli.proofs.KeptLemmas.{IsKept, init_count, init_params, shape_fits}
 use Rattle.tlut_cli.proofs.ShownLemmas.{shown_of, all_shown}
-
--- the graph of a source circuit, where there is one
-one_graph : (source : Source) (g h : Aig) (roots others : RootsValue) → HasOneGraph source.netlist.library source.netlist.flat source.params.list
-    → IsGraphOf source.netlist.library source.netlist.flat source.params.list g roots → IsGraphOf source.netlist.library source.netlist.flat source.params.list h others → g ≡ h
-one_graph source g h roots others one a b =
-    let made : a.made ≡ b.made = one.only a.made b.made a.are_made b.are_made in
-    let pairs : g.pairs ≡ h.pairs = a.pairs ∙ ap (λ (m : Literals). m.pairs) made ∙ sym b.pairs in
-    ap (λ ks. let r : Aig = record { kinds = ks; pairs = g.pairs; max = g.max } in r) (a.kinds ∙ sym b.kinds)
-    ∙ ap (λ ps. let r : Aig = record { kinds = h.kinds; pairs = ps; max = g.max } in r) pairs
-    ∙ ap (λ n. let r : Aig = record { kinds = h.kinds; pairs = h.pairs; max = n } in r) (a.max ∙ sym b.max)
 
 -- the events of a script fit the circuit's tables
 script_fits : (files : Files) (name : List ℕ) (source : Source) (bits : ℕ) (events : List EventValue) → HasScript files name (names_of source bits) events → (event : EventValue) → In events event → FitsShape (shape_of source) event
@@ -77,17 +70,54 @@ shows_source files run job m ports lines stage is s come calm =
       bank = refl;
     }
 
+-- the other commands aren't `run`
+abbrev IsNotRun : Command → Type 0
+IsNotRun (Run words) = ⊥
+IsNotRun (Spec words) = Unit {0}
+IsNotRun (Map words) = Unit {0}
+IsNotRun (Bits words) = Unit {0}
+IsNotRun (Gen words) = Unit {0}
+IsNotRun (Repack words) = Unit {0}
+
+abbrev IsOther : Option Command → Type 0
+IsOther None = Unit {0}
+IsOther (Some command) = IsNotRun command
+
+other_by : {W : Type 0} (make : W → Command) (words : Option W) → ((w : W) → IsNotRun (make w)) → IsOther (option_map make words)
+other_by make None h = tt
+other_by make (Some w) h = h w
+
+other_or : (a b : Option Command) → IsOther a → IsOther b → IsOther (or_else a b)
+other_or None b x y = y
+other_or (Some command) b x y = x
+
+others_are : (words : List (List ℕ)) → IsOther (other_commands words)
+others_are words =
+    let repack = option_map Repack (repack_of words) in
+    let gen = option_map Gen (gen_of words) in
+    let bits = option_map Bits (bits_of words) in
+    let map = option_map Map (map_of words) in
+    let spec = option_map Spec (spec_of words) in
+    other_or spec (or_else map (or_else bits (or_else gen repack))) (other_by Spec (spec_of words) (λ w. tt))
+    (other_or map (or_else bits (or_else gen repack)) (other_by Map (map_of words) (λ w. tt))
+    (other_or bits (or_else gen repack) (other_by Bits (bits_of words) (λ w. tt))
+    (other_or gen repack (other_by Gen (gen_of words) (λ w. tt)) (other_by Repack (repack_of words) (λ w. tt)))))
+
+-- words of `run` are of its form
+run_of_it : (made : Option RunWords) (others : Option Command) (run : RunWords) → IsOther others → or_else (option_map Run made) others ≡ Some (Run run) → made ≡ Some run
+run_of_it (Some made) others run other e = let same : Run made ≡ Run run = same_Some (Run made) (Run run) e in let inside : made ≡ run = cc in ap (λ (w : RunWords). Some w) inside
+run_of_it None (Some c) run other e = absurd (subst IsNotRun (same_Some c (Run run) e) other)
+run_of_it None None run other e = absurd (none-some (Run run) e)
+
 -- a job of `run` that is done
-run_headline : (files : Files) (words : List (List ℕ)) (old new : Outside) (run : RunWords) → command_of (length old.ports) words ≡ Some (Run run) → HasRun files run old new (Ok tt) → HasHeadline files words old new
+run_headline : (files : Files) (words : List (List ℕ)) (old new : Outside) (run : RunWords) → command_of (length old.ports) words ≡ Some (Run run) → HasRun files run old new (Ok tt) → HasHeadline files run old new
 run_headline files words old new run is done =
     let job = done.job in
     let mapped = done.is_job.mapped.mapped in
     let start = done.start in
     let end = done.ends in
-    let graph : start.pack.graph ≡ mapped.graph = one_graph job.source start.pack.graph mapped.graph start.pack.roots mapped.roots start.pack.one_graph start.pack.is_graph mapped.is_graph in
+    let graph : start.pack.graph ≡ mapped.graph = same_graph job.source start.pack.one_graph start.pack.graph mapped.graph start.pack.roots mapped.roots start.pack.is_graph mapped.is_graph in
     record {
-      run = run;
-      is = is;
       source = job.source;
       has = done.is_job.mapped.has;
       graph = mapped.graph;
@@ -96,7 +126,7 @@ run_headline files words old new run is done =
       tables = job.template.luts;
       bits = job.template.bits;
       depth = job.template.depth;
-      mapping = least_mapping job.source run.source.k job.template (run_size (length old.ports) words run (run_is (run_of (length old.ports) words) run is)) mapped;
+      mapping = least_mapping job.source run.source.k job.template (run_size (length old.ports) words run (run_of_it (run_of (length old.ports) words) (other_commands words) run (others_are words) is)) mapped;
       events = job.events;
       script = done.is_job.script;
       lines = end.lines;
@@ -106,13 +136,7 @@ run_headline files words old new run is done =
       shows = λ calm. subst (λ (g : Aig). ShowsSource job.source g job.template.luts job.events end.lines (bank_of run.ports old.ports) end.stage.bank) graph
           (shows_source files run job done.machine (bank_of run.ports old.ports) end.lines end.stage done.is_job start end.come calm);
     }
-  where
-    run_is : (made : Option RunWords) (words : RunWords) → option_map Run made ≡ Some (Run words) → made ≡ Some words
-    run_is None words e = absurd (none-some (Run words) e)
-    run_is (Some made) words e = let same : Run made ≡ Run words = same_Some (Run made) (Run words) e in let inside : made ≡ words = cc in ap (λ (w : RunWords). Some w) inside
 
-command_headline : (files : Files) (words : List (List ℕ)) (old new : Outside) (command : Command) → command_of (length old.ports) words ≡ Some command → (walk_of command).IsDone files old new → HasHeadline files words old new
-command_headline files words old new (Run run) is done = run_headline files words old new run is done
-
-pub headline_of : (files : Files) (words : List (List ℕ)) (old new : Outside) → HasDone files words old new → HasHeadline files words old new
-headline_of files words old new done = command_headline files words old new done.command done.is done.holds
+pub headline_of : (files : Files) (words : List (List ℕ)) (old new : Outside) → HasDone files words old new → (run : RunWords) → command_of (length old.ports) words ≡ Some (Run run) → HasHeadline files run old new
+headline_of files words old new done run is =
+    run_headline files words old new run is (subst (λ c. (walk_of c).IsDone files old new) (same_Some done.command (Run run) (sym done.is ∙ is)) done.holds)

@@ -2,6 +2,7 @@ mod PutLemmas
 mod SpacedLemmas
 mod StopLemmas
 mod FileLemmas
+pub mod Written
 mod TextLemmas
 mod OnceLemmas
 mod GraphLemmas
@@ -21,5 +22,9 @@ mod HeadlineLemmas
 mod ClashLemmas
 mod RefusedLemmas
 mod WalkLemmas
+pub mod Packs
+pub mod Gen
+mod CommandLaws
 mod CallLemmas
 mod RunLemmas
+mod CommandLemmas

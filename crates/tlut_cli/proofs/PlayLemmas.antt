@@ -7,6 +7,7 @@ use Rattle.std.proofs.Math.Seq.{take-add}
 use Rattle.list_laws.proofs.Items.{drop_at}
 use Rattle.tl_io.specs.Content.{extended}
 use Rattle.tl_io.specs.Port.{PortSeen}
+use Rattle.tl_io.specs.Shelf.{Files}
 use Rattle.tl_io.proofs.ContentLemmas.{extended_none, extended_twice}
 use Rattle.run_text.specs.declared.event.Event.{Event}
 use Rattle.run_text.specs.EventValue.{EventValue, event_value, event_values}
@@ -46,10 +47,10 @@ pub come_none : (old : Stage) (before : Option (List ℕ)) → HaveCome old [] b
 come_none old before = record { lines = []; steps = none; bytes = sym (extended_none before) }
 
 -- bytes behind bytes
-put_then : (first mid last : Option (List ℕ)) (front text : List ℕ) → mid ≡ extended first front → last ≡ extended mid text → last ≡ extended first (front ++ text)
+pub put_then : (first mid last : Option (List ℕ)) (front text : List ℕ) → mid ≡ extended first front → last ≡ extended mid text → last ≡ extended first (front ++ text)
 put_then first mid last front text a b = b ∙ (ap (λ o. extended o text) a ∙ extended_twice first front text)
 
-one_line : (lines : List (List ℕ)) (line : List ℕ) → concat lines ++ line ≡ concat (lines ++ line ∷ [])
+pub one_line : (lines : List (List ℕ)) (line : List ℕ) → concat lines ++ line ≡ concat (lines ++ line ∷ [])
 one_line lines line = ap (λ l. concat lines ++ l) (sym (append-nil line)) ∙ sym (concat-append lines (line ∷ []))
 
 pub come_more : (old mid new : Stage) (events : List EventValue) (event : EventValue) (first before after : Option (List ℕ)) → HaveCome old events first mid before → IsStep event mid new →
@@ -131,21 +132,21 @@ all_handed_in counts ports =
 
 -- a job's end, seen from the ports that were handed in
 pub play_end : (counts : PortCounts) (m : MachineValue) (events : List EventValue) (before after : Option (List ℕ)) (old new : List PortSeen) (bank : BankSeen) (result : Result Unit StepErr) → new ≡ all_ports bank →
-    RunEnd m events (bank_of counts old) before after bank result → IsPlayEnd counts m events (outside before old) (outside after new) result
-play_end counts m events before after old new bank (Ok done) are end = record {
+    RunEnd m events (bank_of counts old) before after bank result → (files : Option Files) → IsPlayEnd counts m events (outside files before old) (outside files after new) result
+play_end counts m events before after old new bank (Ok done) are end files = record {
   lines = end.rest.lines;
   stage = end.rest.stage;
   come = record { loaded = end.loaded; load = end.load; steps = end.rest.steps };
   bytes = put_then before end.headed after (machine_header m) (concat end.rest.lines) end.header end.rest.bytes;
   ports = are ∙ ap all_ports end.rest.bank;
 }
-play_end counts m events before after old new bank (Err WriteFault) are (inl cut) = inl (record {
+play_end counts m events before after old new bank (Err WriteFault) are (inl cut) files = inl (record {
   part = cut.part;
   within = cut.within;
   bytes = cut.bytes;
   ports = are ∙ (ap all_ports cut.bank ∙ all_handed_in counts old);
 })
-play_end counts m events before after old new bank (Err WriteFault) are (inr end) =
+play_end counts m events before after old new bank (Err WriteFault) are (inr end) files =
     let cut = end.rest in
     let part = take cut.part (event_line cut.event cut.stage.machine) in
     inr (record {
@@ -163,8 +164,8 @@ play_end counts m events before after old new bank (Err WriteFault) are (inr end
           ∙ ap (λ l. extended before l) (sym (append_assoc (machine_header m) (concat cut.lines) part));
       ports = are ∙ ap all_ports cut.bank;
     })
-play_end counts m events before after old new bank (Err PortFault) are (inl lost) = inl (record { bank = bank; load = lost.load; place = lost.place; bytes = lost.bytes; ports = are })
-play_end counts m events before after old new bank (Err PortFault) are (inr end) =
+play_end counts m events before after old new bank (Err PortFault) are (inl lost) files = inl (record { bank = bank; load = lost.load; place = lost.place; bytes = lost.bytes; ports = are })
+play_end counts m events before after old new bank (Err PortFault) are (inr end) files =
     let lost = end.rest in
     inr (record {
       before = lost.first;

@@ -8,7 +8,7 @@ use Rattle.tlut_cli.specs.declared.ends.outcome.File.{File}
 use Rattle.tlut_cli.specs.declared.stations.netlist.Netlist.{Netlist as NetlistValue}
 use Rattle.tlut_cli.specs.declared.stations.source.Source.{Source}
 use Rattle.tlut_cli.specs.Stations.Words.{SourceWords}
-use Rattle.tlut_cli.specs.Stations.Texts.{HasText, IsOverlong, NetlistRefusal, IsParamsRefusal, IsScriptRefusal}
+use Rattle.tlut_cli.specs.Stations.Texts.{HasText, IsLongText, NetlistRefusal, IsParamsRefusal, IsScriptRefusal}
 use Rattle.tlut_cli.specs.Stations.Mapped.{IsUnmapped}
 use Rattle.tlut_cli.specs.Stations.Source.{HasNetlist, HasSource, IsSourceRefused, long_netlist, netlist, long_params, params, mapping}
 use Rattle.tlut_cli.specs.Stations.Script.{IsScriptRefused, IsScriptSettled}
@@ -20,11 +20,11 @@ use Rattle.tlut_cli.proofs.OnceLemmas.{netlist_once, settled_once}
 use Rattle.tlut_cli.proofs.ClashLemmas.{read_or_not, list_or_not}
 
 module _ (files : Files) (words : SourceWords) (settled : IsSourceSettled files words) where
-  netlist_short : {A : Type 0} (n : NetlistValue) → HasNetlist files words n → IsOverlong files words.netlist → A
+  netlist_short : {A : Type 0} (n : NetlistValue) → HasNetlist files words n → IsLongText files words.netlist → A
   netlist_short n has long = absurd (short_or_long files words.netlist has.text has.there long)
 
   -- a netlist that is too long is refused for that
-  netlist_long : (f : File) (r : RefusalValue) → IsOverlong files words.netlist → IsSourceRefused files words f r → r ≡ too_long
+  netlist_long : (f : File) (r : RefusalValue) → IsLongText files words.netlist → IsSourceRefused files words f r → r ≡ too_long
   netlist_long f r long (long_netlist at again is) = is
   netlist_long f r long (netlist at text there refused) = absurd (short_or_long files words.netlist text there long)
   netlist_long f r long (long_params at n has other is) = netlist_short n has long
@@ -41,7 +41,7 @@ module _ (files : Files) (words : SourceWords) (settled : IsSourceSettled files 
   netlist_refused f text r s there refused (mapping at source has u) = absurd (read_or_not files words settled source.netlist text s has.netlist there refused)
 
   -- a list that is too long, behind a netlist that is read
-  params_long : (f : File) (n : NetlistValue) (r : RefusalValue) → HasNetlist files words n → IsOverlong files words.params → IsSourceRefused files words f r → r ≡ too_long
+  params_long : (f : File) (n : NetlistValue) (r : RefusalValue) → HasNetlist files words n → IsLongText files words.params → IsSourceRefused files words f r → r ≡ too_long
   params_long f n r has long (long_netlist at other is) = is
   params_long f n r has long (netlist at text there refused) = absurd (read_or_not files words settled n text r has there refused)
   params_long f n r has long (long_params at m own other is) = is

@@ -49,7 +49,7 @@ inits_at library at (p ∷ ps) (l ∷ ls) e are =
     ap₂ (λ (b : Bool) (bs : List Bool). b ∷ bs) (i.init ∙ sym (ap init_state (latch_at-some library p i.latch i.is))) (inits_at library at ps ls (omega arith) (λ k q r a b. are (suc k) q r a b))
 
 -- so states that are the flat circuit's inits are the latches'
-inits_are : (source : Source) (states : List Bool) → IsReadNetlist source.netlist → states ≡ flat_inits source.netlist.flat → AreInits source states
+pub inits_are : (source : Source) (states : List Bool) → IsReadNetlist source.netlist → states ≡ flat_inits source.netlist.flat → AreInits source states
 inits_are source states read is =
     let fields = read.values.fields in
     record {

@@ -15,7 +15,7 @@ use Rattle.tlut_cli.specs.declared.ends.stop.Stop.TheVariants.{Refused, Memory}
 use Rattle.tlut_cli.specs.declared.stations.netlist.Netlist.{Netlist as NetlistValue}
 use Rattle.tlut_cli.specs.declared.stations.source.Source.{Source}
 use Rattle.tlut_cli.specs.Stations.Words.{SourceWords}
-use Rattle.tlut_cli.specs.Stations.Texts.{HasText, IsOverlong, IsNetlistText, NetlistRefusal, IsParamsRefusal, IsScriptRefusal}
+use Rattle.tlut_cli.specs.Stations.Texts.{HasText, IsLongText, IsNetlistText, NetlistRefusal, IsParamsRefusal, IsScriptRefusal}
 use Rattle.tlut_cli.specs.Stations.Mapped.{IsUnmapped}
 use Rattle.tlut_cli.specs.Stations.Source.{HasNetlist, HasParams, HasSource, long_netlist, netlist, long_params, params, mapping}
 use Rattle.tlut_cli.specs.Stations.Script.{IsScriptSettled, script_reading}
@@ -40,7 +40,7 @@ module _ (files : Files) (words : SourceWords) where
   unread_settles : IsNetlistSettled files words → ((n : NetlistValue) → HasNetlist files words n → ⊥) → IsSourceSettled files words
   unread_settles settled none = record { netlist = settled; params = λ n has. absurd (none n has); mapping = λ source has. absurd (none source.netlist has.netlist) }
 
-  long_netlist_settles : IsOverlong files words.netlist → IsSourceSettled files words
+  long_netlist_settles : IsLongText files words.netlist → IsSourceSettled files words
   long_netlist_settles long = unread_settles (λ text there. absurd (short_or_long files words.netlist text there long)) (λ n has. short_or_long files words.netlist has.text has.there long)
 
   netlist_settles : (text : List ℕ) (r : RefusalValue) → HasText files words.netlist text → IsTextSettled text → NetlistRefusal text r → IsSourceSettled files words
@@ -55,7 +55,7 @@ module _ (files : Files) (words : SourceWords) where
     mapping = λ source has. absurd (none source has);
   }
 
-  long_params_settles : (n : NetlistValue) → ComesFrom files words n → IsOverlong files words.params → IsSourceSettled files words
+  long_params_settles : (n : NetlistValue) → ComesFrom files words n → IsLongText files words.params → IsSourceSettled files words
   long_params_settles n comes long =
       unlisted_settles n comes (λ text there. absurd (short_or_long files words.params text there long)) (λ source has. short_or_long files words.params has.params.text has.params.there long)
 
@@ -80,6 +80,7 @@ module _ (words : SourceWords) (old new : ShelfSeen) where
   pub netlist_unread : (o : Outcome) → IsUnread words.netlist file.Netlist old new o → Explains (source_reading words) old new o
   netlist_unread o (unread.IsUnread.too_long at given long) = subst (λ x. Explains (source_reading words) old new x) (sym at) (record {
     given = given;
+    is_read = tt;
     is = λ files told. long_netlist refl (long files told) refl;
     settled = λ files told. long_netlist_settles files words (long files told);
   })
@@ -100,6 +101,7 @@ module _ (words : SourceWords) (old new : ShelfSeen) where
     pub params_unread : (o : Outcome) → IsUnread words.params file.Params old new o → Explains (source_reading words) old new o
     params_unread o (unread.IsUnread.too_long at given long) = subst (λ x. Explains (source_reading words) old new x) (sym at) (record {
       given = given;
+      is_read = tt;
       is = λ files told. long_params refl n (comes files told).netlist (long files told) refl;
       settled = λ files told. long_params_settles files words n (comes files told) (long files told);
     })
@@ -133,6 +135,7 @@ module _ (name : List ℕ) (names : NamesValue) (old new : ShelfSeen) where
   pub script_unread : (o : Outcome) → IsUnread name file.Script old new o → Explains (script_reading name names) old new o
   script_unread o (unread.IsUnread.too_long at given long) = subst (λ x. Explains (script_reading name names) old new x) (sym at) (record {
     given = given;
+    is_read = tt;
     is = λ files told. script.IsScriptRefused.long refl (long files told) refl;
     settled = λ files told text there. absurd (short_or_long files name text there (long files told));
   })

@@ -4,7 +4,6 @@ use Rattle.tl_fault.specs.RefusalValue.{RefusalValue}
 use Rattle.tl_io.specs.Shelf.{Files}
 use Rattle.cover_pick.specs.Template.{TemplateValue}
 use Rattle.tlut_cli.specs.Walk.{Walk}
-use Rattle.tlut_cli.specs.Commands.{Command, Run, walk_of}
 use Rattle.tlut_cli.specs.declared.ends.outcome.File.{File}
 use Rattle.tlut_cli.specs.declared.stations.source.Source.{Source}
 use Rattle.tlut_cli.specs.Stations.Source.{HasMapped}
@@ -30,25 +29,21 @@ module _ (files : Files) (words : RunWords) (settled : IsSettled files words) wh
       subst (λ (v : TemplateValue). IsScriptRefused files words.script (names_of b v.bits) f r) (template_once files words.source a b t u settled.source x y)
       (subst (λ s. IsScriptRefused files words.script (names_of s t.bits) f r) (settled_once files words.source a b settled.source x.has y.has) refused)
 
-  job_or_not : HasJob files words → (f : File) (r : RefusalValue) → IsRefused files words f r → ⊥
+  pub job_or_not : HasJob files words → (f : File) (r : RefusalValue) → IsRefused files words f r → ⊥
   job_or_not has f r (job.IsRefused.source refused) = source_or_not files words.source settled.source has.job.source has.job.template f r has.is.mapped refused
   job_or_not has f r (job.IsRefused.script source template past refused) =
       events_or_not files words.script (names_of has.job.source has.job.template.bits) has.job.events f r (settled.script has.job.source has.job.template has.is.mapped) has.is.script
       (refused_there source has.job.source template has.job.template f r past has.is.mapped refused)
 
-  job_refused_once : (f e : File) (r s : RefusalValue) → IsRefused files words f r → IsRefused files words e s → r ≡ s
+  pub job_refused_once : (f e : File) (r s : RefusalValue) → IsRefused files words f r → IsRefused files words e s → r ≡ s
   job_refused_once f e r s (job.IsRefused.source one) (job.IsRefused.source other) = source_refused_once files words.source settled.source f e r s one other
   job_refused_once f e r s (job.IsRefused.source one) (job.IsRefused.script source template past other) = absurd (source_or_not files words.source settled.source source template f r past one)
   job_refused_once f e r s (job.IsRefused.script source template past one) (job.IsRefused.source other) = absurd (source_or_not files words.source settled.source source template e s past other)
   job_refused_once f e r s (job.IsRefused.script source template past one) (job.IsRefused.script again other_template has other) =
       events_refused_once files words.script (names_of again other_template.bits) f e r s (settled.script again other_template has) (refused_there source again template other_template f r past has one) other
 
-run_laws : (words : RunWords) → HasLaws (run_walk words)
+pub run_laws : (words : RunWords) → HasLaws (run_walk words)
 run_laws words = record {
   not_both = λ files settled has f r refused. job_or_not files words settled has f r refused;
   one_refusal = λ files settled f e r s one other. job_refused_once files words settled f e r s one other;
 }
-
--- every command's
-pub walk_laws : (command : Command) → HasLaws (walk_of command)
-walk_laws (Run words) = run_laws words

@@ -1,12 +1,12 @@
 -- What a call says of itself: its outcome with its cause, and what each status means.
-use Rattle.std.specs.Prelude.{◌≡◌, ℕ, ◌⊎◌, List, [], Option, Some, None, length}
+use Rattle.std.specs.Prelude.{◌≡◌, ℕ, ◌⊎◌, true, List, [], Option, Some, None, length}
 use Rattle.tl_fault.specs.RefusalValue.{RefusalValue}
 use Rattle.tl_io.specs.Causes.{Rose}
 use Rattle.tl_io.specs.Shelf.{Files, ShelfSeen}
 use Rattle.tlut_cli.specs.Outside.{Outside}
 use Rattle.tlut_cli.specs.Walk.{Walk}
 use Rattle.tlut_cli.specs.Commands.{Command, command_of, walk_of}
-use Rattle.tlut_cli.specs.Ends.{Told, Ends, IsReadFault}
+use Rattle.tlut_cli.specs.Ends.{Told, Ends, IsReadFault, HasWriteFault}
 use Rattle.tlut_cli.specs.Statuses.{refusal_status}
 use Rattle.tlut_cli.specs.declared.ends.outcome.File.{File}
 use Rattle.tlut_cli.specs.declared.ends.outcome.Outcome.{Outcome}
@@ -42,13 +42,13 @@ fault_file outcome.PortFault = None
 fault_file outcome.Memory = None
 
 -- the word that names it
-abbrev pub word_at : Option Command → Option File → List ℕ
-word_at (Some command) (Some file) = (walk_of command).reading.word file
-word_at (Some command) None = []
-word_at None file = []
+abbrev pub word_at : Option File → Option Command → List ℕ
+word_at None command = []
+word_at (Some file) None = []
+word_at (Some file) (Some command) = (walk_of command).reading.word file
 
 abbrev pub fault_word : ℕ → List (List ℕ) → Outcome → List ℕ
-fault_word ports words o = word_at (command_of ports words) (fault_file o)
+fault_word ports words o = word_at (fault_file o) (command_of ports words)
 
 -- the words are a command with this in its walk
 pub record HasCommand (ports : ℕ) (words : List (List ℕ)) (P : Walk → Type 0) : Type 0 where
@@ -89,19 +89,31 @@ HasFault ports words old new = HasCommand ports words (λ walk. IsFault walk old
 abbrev pub HasPortFault : List (List ℕ) → Outside → Outside → Type 0
 HasPortFault words before after = HasCommand (length before.ports) words (λ walk. walk.HasPortFault before after)
 
+-- the cause of a fault of writing
+abbrev pub HasWriteCause : List (List ℕ) → ShelfSeen → ShelfSeen → ℕ → ℕ → ℕ → Type 0
+HasWriteCause words old new ports faults_before faults_after = HasCommand ports words (λ walk. HasWriteFault walk old new faults_before faults_after)
+
+-- the order of work of the words' command writes files
+abbrev pub WritesFiles : ℕ → List (List ℕ) → Type 0
+WritesFiles ports words = HasCommand ports words (λ walk. walk.WritesFiles)
+
 -- the files hold an accepted job for the words
 abbrev pub HasJob : Files → ℕ → List (List ℕ) → Type 0
 HasJob files ports words = HasCommand ports words (λ walk. walk.IsAccepted files)
 
--- Where the shelf tells its files and they hold an accepted job, and no read and no write of the output failed, nor more ports than stand by, the job is done: want of memory alone can stop it.
+-- Where the shelf tells its files and they hold an accepted job, and no read and no write failed, nor more ports than stand by, the job is done: want of memory alone can stop it.
 abbrev pub IsComplete : List (List ℕ) → ShelfSeen → ShelfSeen → Outside → Outside → ℕ → ℕ → Status → Type 0
 IsComplete words old new before after faults_before faults_after s =
-    Told old.files (λ files. HasJob files (length before.ports) words → ¬ (Rose old.read_faults new.read_faults) → ¬ (Rose faults_before faults_after) → ¬ (HasPortFault words before after) → (s ≡ status.Done) ⊎ (s ≡ status.Memory))
+    Told old.files (λ files. HasJob files (length before.ports) words → ¬ (Rose old.read_faults new.read_faults) → ¬ (HasWriteCause words old new (length before.ports) faults_before faults_after) → ¬ (HasPortFault words before after) → (s ≡ status.Done) ⊎ (s ≡ status.Memory))
 
--- where moreover the output grew by a byte, an accepted job is done
+-- the output grew by a byte, or a file was begun for writing
+abbrev pub HasBegun : List (List ℕ) → ShelfSeen → Outside → Outside → Type 0
+HasBegun words new before after = ¬ (after.bytes ≡ before.bytes) ⊎ (WritesFiles (length before.ports) words × (new.is_writing ≡ true))
+
+-- where moreover something was begun outside, an accepted job is done
 abbrev pub IsFinished : List (List ℕ) → ShelfSeen → ShelfSeen → Outside → Outside → ℕ → ℕ → Status → Type 0
 IsFinished words old new before after faults_before faults_after s =
-    Told old.files (λ files. HasJob files (length before.ports) words → ¬ (Rose old.read_faults new.read_faults) → ¬ (Rose faults_before faults_after) → ¬ (HasPortFault words before after) → ¬ (after.bytes ≡ before.bytes) → s ≡ status.Done)
+    Told old.files (λ files. HasJob files (length before.ports) words → ¬ (Rose old.read_faults new.read_faults) → ¬ (HasWriteCause words old new (length before.ports) faults_before faults_after) → ¬ (HasPortFault words before after) → HasBegun words new before after → s ≡ status.Done)
 
 -- nothing was put or sent
 abbrev pub IsQuiet : Status → Type 0

@@ -1,27 +1,68 @@
 -- The commands, by the words of the command line, and the walk of each.
-use Rattle.std.specs.Prelude.{ℕ, List, Option}
+use Rattle.std.specs.Prelude.{ℕ, List, Option, Some, None}
 use Rattle.std.specs.Option.{option_map}
 use Rattle.tlut_cli.specs.Walk.{Walk}
 use Rattle.tlut_cli.specs.declared.command.Command.{Command as CommandRead}
 use Rattle.tlut_cli.specs.declared.command.Command.TheVariants as read
+use Rattle.tlut_cli.specs.declared.generated.words.GenWords.{GenWords}
+use Rattle.tlut_cli.specs.Stations.Words.{IsTableSize}
 use Rattle.tlut_cli.specs.Run.Words.{RunWords, run_of, run_seen, IsInRange}
 use Rattle.tlut_cli.specs.Run.Verdict.{run_walk}
+use Rattle.tlut_cli.specs.Spec.Words.{SpecWords, spec_of, spec_seen}
+use Rattle.tlut_cli.specs.Spec.Verdict.{spec_walk}
+use Rattle.tlut_cli.specs.Map.Words.{MapWords, map_of, map_seen}
+use Rattle.tlut_cli.specs.Map.Verdict.{map_walk}
+use Rattle.tlut_cli.specs.Bits.Words.{BitsWords, bits_of, bits_seen}
+use Rattle.tlut_cli.specs.Bits.Verdict.{bits_walk}
+use Rattle.tlut_cli.specs.Gen.Words.{gen_of, HasDigits}
+use Rattle.tlut_cli.specs.Gen.Verdict.{gen_walk}
+use Rattle.tlut_cli.specs.Repack.Words.{RepackWords, repack_of, repack_seen}
+use Rattle.tlut_cli.specs.Repack.Verdict.{repack_walk}
 
 -- a command with its words
 pub data Command : Type 0 where
   Run : RunWords → Command
+  Spec : SpecWords → Command
+  Map : MapWords → Command
+  Bits : BitsWords → Command
+  Gen : GenWords → Command
+  Repack : RepackWords → Command
+
+-- one command, or else another
+abbrev pub or_else : Option Command → Option Command → Option Command
+or_else (Some command) other = Some command
+or_else None other = other
 
 -- the command of some words, where so many ports are handed in; none where they are of no command's form
+abbrev pub other_commands : List (List ℕ) → Option Command
+other_commands words =
+    or_else (option_map Spec (spec_of words)) (or_else (option_map Map (map_of words)) (or_else (option_map Bits (bits_of words)) (or_else (option_map Gen (gen_of words)) (option_map Repack (repack_of words)))))
+
 abbrev pub command_of : ℕ → List (List ℕ) → Option Command
-command_of ports words = option_map Run (run_of ports words)
+command_of ports words = or_else (option_map Run (run_of ports words)) (other_commands words)
 
 abbrev pub walk_of : Command → Walk
 walk_of (Run words) = run_walk words
+walk_of (Spec words) = spec_walk words
+walk_of (Map words) = map_walk words
+walk_of (Bits words) = bits_walk words
+walk_of (Gen words) = gen_walk words
+walk_of (Repack words) = repack_walk words
 
 -- a command as it is read
 abbrev pub command_seen : CommandRead → Command
 command_seen (read.Run words) = Run (run_seen words)
+command_seen (read.Spec words) = Spec (spec_seen words)
+command_seen (read.Map words) = Map (map_seen words)
+command_seen (read.Bits words) = Bits (bits_seen words)
+command_seen (read.Gen words) = Gen words
+command_seen (read.Repack words) = Repack (repack_seen words)
 
 -- its numbers are in range
 abbrev pub HasRange : ℕ → CommandRead → Type 0
 HasRange ports (read.Run words) = IsInRange ports words
+HasRange ports (read.Spec words) = IsTableSize words.source.k
+HasRange ports (read.Map words) = IsTableSize words.source.k
+HasRange ports (read.Bits words) = Unit {0}
+HasRange ports (read.Gen words) = HasDigits words
+HasRange ports (read.Repack words) = Unit {0}

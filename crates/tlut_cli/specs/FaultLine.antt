@@ -24,7 +24,7 @@ refusal_line name refusal = head_line name refusal.code refusal.word ++ (spaced 
 -- the line of an outcome; none where the job is done
 abbrev pub line_of : List ℕ → Outcome → List ℕ
 line_of name outcome.Done = []
-line_of name outcome.Usage = concat (codes "tlut: usage: run K NETLIST PARAMS SCRIPT PORTS SPARES, spec K NETLIST PARAMS OUT, map K NETLIST PARAMS TEMPLATE PACK, bits PACK SCRIPT, gen N SEED\n" ∷ [])
+line_of name outcome.Usage = concat (codes "tlut: usage: run K NETLIST PARAMS SCRIPT PORTS SPARES, spec K NETLIST PARAMS OUT, map K NETLIST PARAMS TEMPLATE PACK, bits PACK SCRIPT, gen N SEED, repack OLD NEW\n" ∷ [])
 line_of name (outcome.TooLong file) = refusal_line name too_long
 line_of name (outcome.Refused file refusal) = refusal_line name refusal
 line_of name (outcome.ReadFault file) = plain_line name (codes ": read failed")

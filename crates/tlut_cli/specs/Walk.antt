@@ -10,6 +10,9 @@ pub record Reading : Type 1 where
   -- a file is one of those that are read, and the word that names it
   pub IsRead : File → Type 0
   pub word : File → List ℕ
+  -- the one that is read last, and how many bytes of a file that isn't too long may have been given
+  pub last : File
+  pub HasGiven : File → ℕ → Type 0
   -- the walk comes to a file
   pub Reaches : Files → File → Type 0
   -- a file is refused, for the first reason in the order of work
@@ -26,5 +29,7 @@ pub record Walk : Type 1 where
   pub IsDone : Files → Outside → Outside → Type 0
   pub IsCutOff : Files → Outside → Outside → Type 0
   pub IsLost : Files → Outside → Outside → Type 0
+  -- its order of work writes files
+  pub WritesFiles : Type 0
   -- the cause of a fault of the ports
   pub HasPortFault : Outside → Outside → Type 0

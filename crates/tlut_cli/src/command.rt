@@ -1,16 +1,52 @@
 //! The words of the command line.
-ghost use Rattle.std.specs.Prelude.{◌≡◌, map, string_bytes, IfSome};
+ghost use Rattle.std.specs.Prelude.{◌≡◌, ℕ, map, string_bytes, IfSome};
 ghost use Rattle.std.specs.Option.{option_map};
-ghost use Rattle.tlut_cli.specs.Commands.{command_of, walk_of, command_seen, HasRange};
+ghost use Rattle.tlut_cli.specs.Commands.{command_of, other_commands, walk_of, command_seen, HasRange};
 
+use crate::bits::words as bits_words;
+use crate::bits::words::{BitsWords, read_bits};
 use crate::ends::outcome::File;
+use crate::generated::words::{GenWords, read_gen};
+use crate::map::words::{MapWords, read_map};
+use crate::repack::words as repack_words;
+use crate::repack::words::{RepackWords, read_repack};
 use crate::run::words as run_words;
 use crate::run::words::{RunWords, read_run};
+use crate::spec::words::{SpecWords, read_spec};
+use crate::stations::words::source_name;
 
 /// A command with its words.
 #[derive(Clone, Copy)]
 pub enum Command<'a> {
     Run(RunWords<'a>),
+    Spec(SpecWords<'a>),
+    Map(MapWords<'a>),
+    Bits(BitsWords<'a>),
+    Gen(GenWords),
+    Repack(RepackWords<'a>),
+}
+
+// The command of words that aren't those of `run`.
+fn read_other(words: &[String]) -> Option<Command<'_>>
+    ensures value { option_map (λ c. command_seen c) result ≡ other_commands (map string_bytes words.now) }
+    ensures range { (ports : ℕ) → IfSome result (HasRange ports) }
+{
+    if let Some(words) = read_spec(words) {
+        return Some(Command::Spec(words));
+    }
+    if let Some(words) = read_map(words) {
+        return Some(Command::Map(words));
+    }
+    if let Some(words) = read_bits(words) {
+        return Some(Command::Bits(words));
+    }
+    if let Some(words) = read_gen(words) {
+        return Some(Command::Gen(words));
+    }
+    match read_repack(words) {
+        Some(words) => Some(Command::Repack(words)),
+        None => None,
+    }
 }
 
 /// The command of some words, where so many ports are handed in; `None` exactly where they are of no command's form.
@@ -20,15 +56,20 @@ pub fn read_command(ports: usize, words: &[String]) -> Option<Command<'_>>
 {
     match read_run(ports, words) {
         Some(words) => Some(Command::Run(words)),
-        None => None,
+        None => read_other(words),
     }
 }
 
-/// The word that names a file of a command.
+/// The word that names a file of a command; `gen` for the generated case.
 pub fn file_name<'a>(command: &Command<'a>, file: File) -> &'a str
     ensures { result.now ≡ (walk_of (command_seen command.now)).reading.word file }
 {
     match command {
         Command::Run(words) => run_words::file_name(words, file),
+        Command::Spec(words) => source_name(&words.source, file),
+        Command::Map(words) => source_name(&words.source, file),
+        Command::Bits(words) => bits_words::file_name(words, file),
+        Command::Gen(_) => "gen",
+        Command::Repack(words) => repack_words::file_name(words, file),
     }
 }

@@ -7,17 +7,23 @@
 //!
 //! - `call.rt` has `tlut`, and `command.rt` the words of all commands.
 //! - `ends/` has what all commands share at their ends: outcomes, statuses, refusals, and the fault line.
-//! - `stations/` has the stations: files, the netlist, its parameters, the mapping, a script.
-//! - `run/` is the command `run`: its words, its job made ready, and its playing. A new command is a folder beside it, a form of
-//!   `command.rt`, and an arm of `call.rt`.
+//! - `stations/` has the stations: files, the netlist, its parameters, the mapping, a script, a pack, and the files that are
+//!   written.
+//! - `run/`, `spec/`, `map/`, `bits/`, `generated/` and `repack/` are the commands: the words of each, its job made ready, and its
+//!   playing or its writing. A new command is a folder beside them, a form of `command.rt`, and an arm of `call.rt`.
 //!
 //! The definitions of `specs/` lie in the same rooms.
 #![tactic(auto)]
 
+mod bits;
 mod call;
 mod command;
 mod ends;
+mod generated;
+mod map;
+mod repack;
 mod run;
+mod spec;
 mod stations;
 
 pub use call::tlut;

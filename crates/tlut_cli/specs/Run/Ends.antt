@@ -92,6 +92,7 @@ pub record HasRun (files : Files) (words : RunWords) (old new : Outside) (result
   pub is_job : IsJob files words job
   pub machine : MachineValue
   pub start : IsStart job machine
+  pub kept : new.files ≡ old.files
   pub ends : IsPlayEnd words.ports machine job.events old new result
 
 -- all the spares failed and one port more: they stand at the end of the list, each with a count of faults that rose since it was handed in

@@ -1,5 +1,5 @@
 -- The headline, in the field's words: a mapping of the source circuit's graph of the least depth, and, for scripts without upsets, its cycles, and at each change exactly the bits in which the configurations specialised from scratch before and after differ.
-use Rattle.std.specs.Prelude.{◌≡◌, ℕ, ◌≤◌, Bool, List, [], ◌∷◌, ◌++◌, length, Ok, Some}
+use Rattle.std.specs.Prelude.{◌≡◌, ℕ, ◌≤◌, Bool, List, [], ◌∷◌, ◌++◌, length, Ok}
 use Rattle.std.specs.List.{concat}
 use Rattle.list_laws.specs.Members.{In}
 use Rattle.tl_io.specs.Assigns.{assigned}
@@ -20,7 +20,6 @@ use Rattle.run_text.specs.Lines.{header_line, set_line, scrub_line, cycle_line, 
 use Rattle.run_text.specs.Parameters.{param_inits}
 use Rattle.spec_core.specs.Differences.{differences}
 use Rattle.tlut_cli.specs.Outside.{Outside}
-use Rattle.tlut_cli.specs.Commands.{Run, command_of}
 use Rattle.tlut_cli.specs.declared.stations.source.Source.{Source}
 use Rattle.tlut_cli.specs.Stations.Source.{HasSource}
 use Rattle.tlut_cli.specs.Stations.Script.{names_of, HasScript}
@@ -115,9 +114,7 @@ pub record ShowsSource (source : Source) (g : Aig) (tables : List Lut) (events :
   pub bank : last ≡ end.bank
 
 -- a job that is done shows its source circuit, mapped with the least depth
-pub record HasHeadline (files : Files) (words : List (List ℕ)) (old new : Outside) : Type 0 where
-  pub run : RunWords
-  pub is : command_of (length old.ports) words ≡ Some (Run run)
+pub record HasHeadline (files : Files) (run : RunWords) (old new : Outside) : Type 0 where
   pub source : Source
   pub has : HasSource files run.source source
   pub graph : Aig

@@ -1,12 +1,13 @@
 -- The job of `run`: a source circuit, the template that it is mapped to, and the events of a script.
-use Rattle.std.specs.Prelude.{ℕ, List}
+use Rattle.std.specs.Prelude.{ℕ, ◌≤◌, List, []}
 use Rattle.tl_fault.specs.RefusalValue.{RefusalValue}
 use Rattle.tl_io.specs.Shelf.{Files}
 use Rattle.cover_pick.specs.Template.{TemplateValue}
 use Rattle.run_text.specs.EventValue.{EventValue}
 use Rattle.tlut_cli.specs.Walk.{Reading}
+use Rattle.tlut_cli.specs.Refusals.{most_bytes}
 use Rattle.tlut_cli.specs.declared.ends.outcome.File.{File}
-use Rattle.tlut_cli.specs.declared.ends.outcome.File.TheVariants.{Netlist, Params, Script}
+use Rattle.tlut_cli.specs.declared.ends.outcome.File.TheVariants.{Netlist, Params, Script, Pack}
 use Rattle.tlut_cli.specs.declared.stations.source.Source.{Source}
 use Rattle.tlut_cli.specs.Stations.Source.{HasMapped, ReachesSource, IsSourceRefused}
 use Rattle.tlut_cli.specs.Stations.Script.{names_of, HasScript, IsScriptRefused, IsScriptSettled}
@@ -33,17 +34,26 @@ pub record IsSettled (files : Files) (words : RunWords) : Type 0 where
   pub source : IsSourceSettled files words.source
   pub script : (source : Source) (template : TemplateValue) → HasMapped files words.source source template → IsScriptSettled files words.script (names_of source template.bits)
 
--- the word that names a file of it
+-- its files, and the word that names each; it has no pack
+abbrev pub IsOfRun : File → Type 0
+IsOfRun Netlist = Unit {0}
+IsOfRun Params = Unit {0}
+IsOfRun Script = Unit {0}
+IsOfRun Pack = ⊥
+
 abbrev pub run_word : RunWords → File → List ℕ
 run_word words Netlist = words.source.netlist
 run_word words Params = words.source.params
 run_word words Script = words.script
+run_word words Pack = []
 
 -- how its files are read
 abbrev pub run_reading : RunWords → Reading
 run_reading words = record {
-  IsRead = λ file. Unit {0};
+  IsRead = IsOfRun;
   word = run_word words;
+  last = Script;
+  HasGiven = λ file given. given ≤ most_bytes file;
   Reaches = λ files file. ReachesSource files words.source file;
   IsRefused = λ files file refusal. IsRefused files words file refusal;
   IsSettled = λ files. IsSettled files words;

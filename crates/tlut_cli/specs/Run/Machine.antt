@@ -4,7 +4,6 @@ use Rattle.tl_io.specs.Port.{PortSeen}
 use Rattle.tl_io.specs.Writes.{writes_from}
 use Rattle.ppc_pack.specs.Pack.{IsConf, HasOneConf}
 use Rattle.run_text.specs.EventValue.{EventValue}
-use Rattle.run_text.specs.Lines.{header_line}
 use Rattle.run_text.specs.Parameters.{param_inits}
 use Rattle.port_bank.specs.Bank.{BankSeen}
 use Rattle.port_bank.specs.Image.{Holds}
@@ -13,6 +12,7 @@ use Rattle.port_bank.specs.Send.{Plays}
 use Rattle.run_core.specs.Events.{MachineValue, IsPlayed, IsSteady}
 use Rattle.run_core.specs.EventLines.{event_line}
 use Rattle.run_core.specs.Sends.{HasSent}
+use Rattle.tlut_cli.specs.Stations.Mapped.{template_header}
 use Rattle.tlut_cli.specs.Stations.SourceCircuit.{shape_of}
 use Rattle.tlut_cli.specs.Stations.Tunable.{IsTunable}
 use Rattle.tlut_cli.specs.Stations.SourceCycle.{AreInits}
@@ -40,7 +40,7 @@ bank_of counts ports = record {
 
 -- the header line: the numbers of the template
 abbrev pub machine_header : MachineValue → List ℕ
-machine_header m = header_line (length m.sim.template.luts) m.sim.template.bits m.sim.template.depth
+machine_header m = template_header m.sim.template
 
 -- a machine with its ports
 pub record Stage : Type 0 where

@@ -19,5 +19,6 @@ run_walk words = record {
   IsDone = λ files old new. HasRun files words old new (Ok tt);
   IsCutOff = λ files old new. HasRun files words old new (Err WriteFault);
   IsLost = λ files old new. HasRun files words old new (Err PortFault);
+  WritesFiles = ⊥;
   HasPortFault = λ old new. HaveFailed words.ports old.ports new.ports;
 }

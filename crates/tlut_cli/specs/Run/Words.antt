@@ -3,8 +3,7 @@ use Rattle.std.specs.Prelude.{ℕ, ◌+◌, ◌≤◌, nat_le, if◌then◌else�
 use Rattle.tl_text.specs.Decimal.{decimal_of}
 use Rattle.tlut_cli.specs.declared.run.words.PortCounts.{PortCounts}
 use Rattle.tlut_cli.specs.declared.run.words.RunWords.{RunWords as RunWordsRead}
-use Rattle.tlut_cli.specs.declared.stations.words.SourceWords.{SourceWords as SourceWordsRead}
-use Rattle.tlut_cli.specs.Stations.Words.{SourceWords, k_of}
+use Rattle.tlut_cli.specs.Stations.Words.{SourceWords, k_of, source_seen}
 
 -- the source circuit, the word that names the script, and the ports
 pub record RunWords : Type 0 where
@@ -30,9 +29,6 @@ run_of ports (command ∷ k ∷ netlist ∷ params ∷ script ∷ serving ∷ sp
 run_of ports words = None
 
 -- words as they are read
-abbrev pub source_seen : SourceWordsRead → SourceWords
-source_seen words = record { k = words.k; netlist = words.netlist.now; params = words.params.now }
-
 abbrev pub run_seen : RunWordsRead → RunWords
 run_seen words = record { source = source_seen words.source; script = words.script.now; ports = words.ports }
 

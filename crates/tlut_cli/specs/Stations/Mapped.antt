@@ -16,6 +16,7 @@ use Rattle.cover_pick.specs.Mapping.{IsMapping, IsLeast}
 use Rattle.cover_pick.specs.Work.{IsLight}
 use Rattle.cover_pick.specs.Refusals.{refusal_of as pick_refusal}
 use Rattle.cover_pick.specs.declared.lut.PickErr.TheVariants.{Work}
+use Rattle.run_text.specs.Lines.{header_line}
 use Rattle.tl_fault.specs.RefusalValue.{RefusalValue}
 use Rattle.tlut_cli.specs.declared.stations.source.Source.{Source}
 
@@ -33,6 +34,10 @@ pub record IsChosen (g : Aig) (k : ℕ) (roots : RootsValue) (t : TemplateValue)
   pub mapping : IsMapping g k (roots_of roots) t.luts t.bits
   pub least : IsLeast g k (roots_of roots) t.luts t.depth
   pub light : IsLight g t.luts
+
+-- its header line: how many tables there are, how many bits they have, and how deep they stand
+abbrev pub template_header : TemplateValue → List ℕ
+template_header t = header_line (length t.luts) t.bits t.depth
 
 -- the work of the chosen tables is too much
 pub record IsOverworked (g : Aig) (k : ℕ) (roots : RootsValue) : Type 0 where

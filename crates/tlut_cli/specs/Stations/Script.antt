@@ -1,5 +1,5 @@
 -- The script that a file holds.
-use Rattle.std.specs.Prelude.{◌≡◌, ℕ, List, Some}
+use Rattle.std.specs.Prelude.{◌≡◌, ℕ, ◌≤◌, List, Some}
 use Rattle.tl_fault.specs.RefusalValue.{RefusalValue}
 use Rattle.tl_io.specs.Shelf.{Files}
 use Rattle.run_text.specs.EventValue.{EventValue}
@@ -7,12 +7,12 @@ use Rattle.run_text.specs.NamesValue.{NamesValue}
 use Rattle.run_text.specs.Parameters.{param_names}
 use Rattle.run_text.specs.ScriptText.{IsScript, HasOneReading}
 use Rattle.tlut_cli.specs.Walk.{Reading}
-use Rattle.tlut_cli.specs.Refusals.{too_long}
+use Rattle.tlut_cli.specs.Refusals.{most_bytes, too_long}
 use Rattle.tlut_cli.specs.declared.ends.outcome.File.{File}
-use Rattle.tlut_cli.specs.declared.ends.outcome.File.TheVariants.{Netlist, Params, Script}
+use Rattle.tlut_cli.specs.declared.ends.outcome.File.TheVariants.{Netlist, Params, Script, Pack}
 use Rattle.tlut_cli.specs.declared.stations.source.Source.{Source}
 use Rattle.tlut_cli.specs.Stations.SourceCircuit.{width_of}
-use Rattle.tlut_cli.specs.Stations.Texts.{HasText, IsOverlong, IsScriptRefusal}
+use Rattle.tlut_cli.specs.Stations.Texts.{HasText, IsLongText, IsScriptRefusal}
 
 -- what a script may name, where a source circuit is mapped to so many configuration bits
 abbrev pub names_of : Source → ℕ → NamesValue
@@ -26,7 +26,7 @@ pub record HasScript (files : Files) (name : List ℕ) (names : NamesValue) (eve
 
 -- it is too long, or its text is refused
 pub data IsScriptRefused (files : Files) (name : List ℕ) (names : NamesValue) (file : File) (refusal : RefusalValue) : Type 0 where
-  long : file ≡ Script → IsOverlong files name → refusal ≡ too_long → IsScriptRefused files name names file refusal
+  long : file ≡ Script → IsLongText files name → refusal ≡ too_long → IsScriptRefused files name names file refusal
   text : file ≡ Script → (text : List ℕ) → HasText files name text → IsScriptRefusal names text refusal → IsScriptRefused files name names file refusal
 
 -- it says one thing, or is refused for one reason
@@ -37,12 +37,15 @@ abbrev pub IsScriptFile : File → Type 0
 IsScriptFile Netlist = ⊥
 IsScriptFile Params = ⊥
 IsScriptFile Script = Unit {0}
+IsScriptFile Pack = ⊥
 
 -- how it is read
 abbrev pub script_reading : List ℕ → NamesValue → Reading
 script_reading name names = record {
   IsRead = IsScriptFile;
   word = λ file. name;
+  last = Script;
+  HasGiven = λ file given. given ≤ most_bytes file;
   Reaches = λ files file. Unit {0};
   IsRefused = λ files file refusal. IsScriptRefused files name names file refusal;
   IsSettled = λ files. IsScriptSettled files name names;

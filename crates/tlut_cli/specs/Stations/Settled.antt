@@ -1,5 +1,5 @@
 -- What the calls below say of a job: each of its files says one thing, or is refused for one reason.
-use Rattle.std.specs.Prelude.{◌≡◌, ℕ, List, []}
+use Rattle.std.specs.Prelude.{◌≡◌, ℕ, ◌≤◌, List, []}
 use Rattle.tl_fault.specs.RefusalValue.{RefusalValue}
 use Rattle.tl_io.specs.Shelf.{Files}
 use Rattle.aig_core.specs.Aig.{Aig}
@@ -7,8 +7,9 @@ use Rattle.aig_core.specs.Roots.{RootsValue}
 use Rattle.cover_pick.specs.Template.{TemplateValue}
 use Rattle.run_text.specs.ParamsText.{HasOneReading}
 use Rattle.tlut_cli.specs.Walk.{Reading}
+use Rattle.tlut_cli.specs.Refusals.{most_bytes}
 use Rattle.tlut_cli.specs.declared.ends.outcome.File.{File}
-use Rattle.tlut_cli.specs.declared.ends.outcome.File.TheVariants.{Netlist, Params, Script}
+use Rattle.tlut_cli.specs.declared.ends.outcome.File.TheVariants.{Netlist, Params, Script, Pack}
 use Rattle.tlut_cli.specs.declared.stations.netlist.Netlist.{Netlist as NetlistValue}
 use Rattle.tlut_cli.specs.declared.stations.source.Source.{Source}
 use Rattle.tlut_cli.specs.Stations.Words.{SourceWords}
@@ -48,22 +49,26 @@ pub record IsSourceSettled (files : Files) (words : SourceWords) : Type 0 where
   pub params : (n : NetlistValue) → HasNetlist files words n → AreParamsSettled files words n
   pub mapping : (source : Source) → HasSource files words source → IsMappingSettled source words.k
 
--- its files, and the word that names each; it has no script
+-- its files, and the word that names each; it has no script and no pack
 abbrev pub IsOfSource : File → Type 0
 IsOfSource Netlist = Unit {0}
 IsOfSource Params = Unit {0}
 IsOfSource Script = ⊥
+IsOfSource Pack = ⊥
 
 abbrev pub source_word : SourceWords → File → List ℕ
 source_word words Netlist = words.netlist
 source_word words Params = words.params
 source_word words Script = []
+source_word words Pack = []
 
 -- how its files are read
 abbrev pub source_reading : SourceWords → Reading
 source_reading words = record {
   IsRead = IsOfSource;
   word = source_word words;
+  last = Params;
+  HasGiven = λ file given. given ≤ most_bytes file;
   Reaches = λ files file. ReachesSource files words file;
   IsRefused = λ files file refusal. IsSourceRefused files words file refusal;
   IsSettled = λ files. IsSourceSettled files words;

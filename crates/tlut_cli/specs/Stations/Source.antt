@@ -8,11 +8,11 @@ use Rattle.run_text.specs.ParamsText.{IsParamsText}
 use Rattle.cover_pick.specs.Template.{TemplateValue}
 use Rattle.tlut_cli.specs.Refusals.{too_long}
 use Rattle.tlut_cli.specs.declared.ends.outcome.File.{File}
-use Rattle.tlut_cli.specs.declared.ends.outcome.File.TheVariants.{Netlist, Params, Script}
+use Rattle.tlut_cli.specs.declared.ends.outcome.File.TheVariants.{Netlist, Params, Script, Pack}
 use Rattle.tlut_cli.specs.declared.stations.netlist.Netlist.{Netlist as NetlistValue}
 use Rattle.tlut_cli.specs.declared.stations.source.Source.{Source}
 use Rattle.tlut_cli.specs.Stations.Words.{SourceWords}
-use Rattle.tlut_cli.specs.Stations.Texts.{HasText, IsOverlong, IsNetlistText, NetlistRefusal, IsParamsRefusal}
+use Rattle.tlut_cli.specs.Stations.Texts.{HasText, IsLongText, IsNetlistText, NetlistRefusal, IsParamsRefusal}
 use Rattle.tlut_cli.specs.Stations.Mapped.{IsMapped, IsUnmapped}
 
 -- the netlist that is read
@@ -37,16 +37,23 @@ pub record HasMapped (files : Files) (words : SourceWords) (source : Source) (te
   pub has : HasSource files words source
   pub mapped : IsMapped source words.k template
 
+-- the files hold a source circuit that is mapped
+pub record IsMappedFrom (files : Files) (words : SourceWords) : Type 0 where
+  pub source : Source
+  pub template : TemplateValue
+  pub has : HasMapped files words source template
+
 -- the walk comes to a file; a script is read behind the mapping
 abbrev pub ReachesSource : Files → SourceWords → File → Type 0
 ReachesSource files words Netlist = Unit {0}
 ReachesSource files words Params = (n : NetlistValue) × HasNetlist files words n
 ReachesSource files words Script = (source : Source) × (template : TemplateValue) × HasMapped files words source template
+ReachesSource files words Pack = ⊥
 
 -- the first refusal up to the mapping, at a file
 pub data IsSourceRefused (files : Files) (words : SourceWords) (file : File) (refusal : RefusalValue) : Type 0 where
-  long_netlist : file ≡ Netlist → IsOverlong files words.netlist → refusal ≡ too_long → IsSourceRefused files words file refusal
+  long_netlist : file ≡ Netlist → IsLongText files words.netlist → refusal ≡ too_long → IsSourceRefused files words file refusal
   netlist : file ≡ Netlist → (text : List ℕ) → HasText files words.netlist text → NetlistRefusal text refusal → IsSourceRefused files words file refusal
-  long_params : file ≡ Params → (n : NetlistValue) → HasNetlist files words n → IsOverlong files words.params → refusal ≡ too_long → IsSourceRefused files words file refusal
+  long_params : file ≡ Params → (n : NetlistValue) → HasNetlist files words n → IsLongText files words.params → refusal ≡ too_long → IsSourceRefused files words file refusal
   params : file ≡ Params → (n : NetlistValue) (text : List ℕ) → HasNetlist files words n → HasText files words.params text → IsParamsRefusal n.flat text refusal → IsSourceRefused files words file refusal
   mapping : file ≡ Netlist → (source : Source) → HasSource files words source → IsUnmapped source words.k refusal → IsSourceRefused files words file refusal

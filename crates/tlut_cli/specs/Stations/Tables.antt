@@ -12,6 +12,7 @@ use Rattle.tlut_cli.specs.declared.stations.mapped.MappedSource.{MappedSource}
 use Rattle.ppc_pack.specs.Pack.{inits_of}
 use Rattle.run_text.specs.Parameters.{AreParameters, param_inits}
 use Rattle.lut_sim.specs.Playable.{IsPlayable}
+use Rattle.blif_write.specs.Meaning.{AreTablesOf}
 use Rattle.tlut_cli.specs.Stations.Words.{SourceWords}
 use Rattle.tlut_cli.specs.Stations.SourceCircuit.{shape_of}
 use Rattle.tlut_cli.specs.Stations.Mapped.{IsChosen, IsMapped}
@@ -30,7 +31,7 @@ pub record HasTables (source : Source) (g : Aig) (t : TemplateValue) : Type 0 wh
   pub cycles : HasSourceCycles source.netlist.library source.netlist.flat source.params.list g roots
   pub chosen : IsChosen g k roots t
 
--- the tables of a source circuit by a template of its graph: the pack of their bits, and their shape, which can be played
+-- the tables of a source circuit by a template of its graph: the pack of their bits, and their shape, which can be played and written
 pub record AreMade (source : Source) (t : Tables) : Type 0 where
   pub tunable : IsTunable source t.template t.pack
   pub inits : inits_of t.pack.params ≡ param_inits source.params.list
@@ -38,6 +39,7 @@ pub record AreMade (source : Source) (t : Tables) : Type 0 where
   pub params : length t.pack.params ≡ t.shape.params
   pub shape : t.shape ≡ shape_of source
   pub playable : IsPlayable t.template t.shape
+  pub written : AreTablesOf source.netlist.flat source.params.list t.template
 
 -- its tables by the chosen template
 pub record AreTables (source : Source) (k : ℕ) (t : Tables) : Type 0 where

@@ -24,16 +24,23 @@ use Rattle.run_text.specs.ScriptText.{IsScriptFault}
 use Rattle.run_text.specs.NamesValue.{NamesValue}
 use Rattle.tlut_cli.specs.declared.stations.netlist.Netlist.{Netlist}
 
--- a file of this name is there and short enough, with this text
-pub record HasText (files : Files) (name text : List ℕ) : Type 0 where
-  pub is : get files name ≡ Some text
-  pub short : length text ≤ MOST_BYTES
+-- a file of this name is there and short enough, with these bytes
+pub record HasBytes (most : ℕ) (files : Files) (name bytes : List ℕ) : Type 0 where
+  pub is : get files name ≡ Some bytes
+  pub short : length bytes ≤ most
 
 -- a file of this name is there and too long
-pub record IsOverlong (files : Files) (name : List ℕ) : Type 0 where
+pub record IsOverlong (most : ℕ) (files : Files) (name : List ℕ) : Type 0 where
   pub text : List ℕ
   pub is : get files name ≡ Some text
-  pub long : MOST_BYTES < length text
+  pub long : most < length text
+
+-- a text
+abbrev pub HasText : Files → List ℕ → List ℕ → Type 0
+HasText files name text = HasBytes MOST_BYTES files name text
+
+abbrev pub IsLongText : Files → List ℕ → Type 0
+IsLongText files name = IsOverlong MOST_BYTES files name
 
 -- a library that flattens: it is sound, and no fault stands, its weight's neither
 pub record IsFlattened (library : LibraryValue) : Type 0 where

@@ -141,7 +141,7 @@ fn put_outcome<E: Sink>(err: &mut E, name: &[u8], outcome: &Outcome) -> Result<(
         Outcome::Usage => put_all(
             err,
             &[
-                b"tlut: usage: run K NETLIST PARAMS SCRIPT PORTS SPARES, spec K NETLIST PARAMS OUT, map K NETLIST PARAMS TEMPLATE PACK, bits PACK SCRIPT, gen N SEED\n",
+                b"tlut: usage: run K NETLIST PARAMS SCRIPT PORTS SPARES, spec K NETLIST PARAMS OUT, map K NETLIST PARAMS TEMPLATE PACK, bits PACK SCRIPT, gen N SEED, repack OLD NEW\n",
             ],
         ),
         Outcome::TooLong(_) => put_refusal(err, name, &too_long()),

@@ -11,6 +11,7 @@ pub enum File {
     Netlist,
     Params,
     Script,
+    Pack,
 }
 
 /// How a call ends.

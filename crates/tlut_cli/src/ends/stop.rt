@@ -5,6 +5,7 @@ use blif_flat::FlatErr;
 use blif_read::BlifErr;
 use cover_pick::PickErr;
 use cut_enum::CutErr;
+use ppc_file::PackErr;
 use run_text::{ParErr, ScriptErr};
 use std::alloc::{AllocError, AllocFailed};
 use tl_fault::Refusal;
@@ -158,6 +159,18 @@ impl From<ScriptErr> for Stop {
     ghost from_gives = { λ error stop. refusal_of stop ≡ refusal_there error };
 
     fn from(error: ScriptErr) -> Stop {
+        Stop::of(error.refusal())
+    }
+}
+
+impl From<PackErr> for Stop {
+    ghost use Rattle.std.specs.Prelude.{◌≡◌};
+    ghost use Rattle.ppc_file.specs.Refusals.{refusal_of as refusal_there};
+    ghost use Rattle.tlut_cli.specs.Stops.{refusal_of};
+
+    ghost from_gives = { λ error stop. refusal_of stop ≡ refusal_there error };
+
+    fn from(error: PackErr) -> Stop {
         Stop::of(error.refusal())
     }
 }

@@ -1,6 +1,7 @@
 //! The playing of a job.
-ghost use Rattle.std.specs.Prelude.{◌≡◌, ◌≤◌, ◌<◌, ◌+◌, length, map, Err};
+ghost use Rattle.std.specs.Prelude.{◌≡◌, ◌≤◌, ◌<◌, ◌+◌, length, map, Option, Err};
 ghost use Rattle.tl_io.specs.Causes.{Rose};
+ghost use Rattle.tl_io.specs.Shelf.{Files};
 ghost use Rattle.run_text.specs.EventValue.{event_values};
 ghost use Rattle.port_bank.specs.Image.{Holds};
 ghost use Rattle.port_bank.specs.Seen.{bank_seen};
@@ -89,7 +90,7 @@ pub fn play<O: Sink, P: ConfigPort>(
 ) -> Result<(), StepErr>
     requires can_play { CanPlay (event_values ready.old.events.items) ready.old.machine }
     requires within { counts.serving + counts.spares ≤ length ports.old.items }
-    ensures ends { IsPlayEnd counts ready.old.machine (event_values ready.old.events.items) (outside (O.bytes out.old) (map P.port_seen ports.old.items)) (outside (O.bytes out.new) (map P.port_seen ports.new.items)) result }
+    ensures ends { (files : Option Files) → IsPlayEnd counts ready.old.machine (event_values ready.old.events.items) (outside files (O.bytes out.old) (map P.port_seen ports.old.items)) (outside files (O.bytes out.new) (map P.port_seen ports.new.items)) result }
     ensures cause { result ≡ Err StepErr.WriteFault → Rose (O.faults out.old) (O.faults out.new) }
     ensures failed { result ≡ Err StepErr.PortFault → HaveFailed counts (map P.port_seen ports.old.items) (map P.port_seen ports.new.items) }
 {

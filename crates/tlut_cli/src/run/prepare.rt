@@ -30,8 +30,8 @@ pub struct Ready {
     pub events: Vec<Event>,
 }
 
-// What the script of a mapped source circuit may name.
-fn script_names(alloc: Global, mapped: &MappedSource) -> Result<Names, AllocError>
+/// What the script of a mapped source circuit may name.
+pub fn script_names(alloc: Global, mapped: &MappedSource) -> Result<Names, AllocError>
     requires { AreMade mapped.now.source mapped.now.tables }
     ensures { IfOk result (λ names. names ≡ names_of mapped.now.source mapped.now.tables.template.bits) }
 {
@@ -53,8 +53,8 @@ fn start_states(alloc: Global, latches: &[FlatLatch]) -> Result<Vec<bool>, Alloc
     Ok(states)
 }
 
-// The machine of a mapped source circuit at the start.
-fn start_machine(alloc: Global, mapped: MappedSource) -> Result<Machine, AllocError>
+/// The machine of a mapped source circuit at the start.
+pub fn start_machine(alloc: Global, mapped: MappedSource) -> Result<Machine, AllocError>
     requires read { IsReadSource mapped.source }
     requires tables { AreMade mapped.source mapped.tables }
     ensures { IfOk result (StartsOn mapped.source mapped.tables.template) }

@@ -94,5 +94,6 @@ pub fn file_name<'a>(words: &RunWords<'a>, file: File) -> &'a str
         File::Netlist => words.source.netlist,
         File::Params => words.source.params,
         File::Script => words.script,
+        File::Pack => "",
     }
 }

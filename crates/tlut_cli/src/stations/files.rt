@@ -1,8 +1,9 @@
 //! The files of a command.
-ghost use Rattle.std.specs.Prelude.{◌≡◌, ◌≤◌, length, IfOk, IfErr, OnOk};
+ghost use Rattle.std.specs.Prelude.{◌≡◌, ◌≤◌, false, length, IfOk, IfErr, OnOk};
 ghost use Rattle.tl_io.specs.Shelf.{Files};
 ghost use Rattle.tlut_cli.specs.Ends.{Told};
-ghost use Rattle.tlut_cli.specs.Stations.Texts.{HasText};
+ghost use Rattle.tlut_cli.specs.Refusals.{most_bytes};
+ghost use Rattle.tlut_cli.specs.Stations.Texts.{HasBytes};
 ghost use Rattle.tlut_cli.specs.Stations.Unread.{IsUnread};
 
 use crate::ends::outcome::{File, Outcome};
@@ -10,8 +11,22 @@ use std::alloc::Global;
 use tl_io::{Shelf, Slurp, slurp};
 use tl_text::MOST_BYTES;
 
+// The most bytes that a text may have, and a pack.
+const MOST_TEXT: u64 = MOST_BYTES as u64;
+
+const MOST_PACK: u64 = 536_870_912;
+
 // The most bytes that a file may have.
-const LIMIT: u64 = MOST_BYTES as u64;
+fn limit(file: File) -> u64
+    ensures { result ≡ most_bytes file }
+{
+    match file {
+        File::Netlist => MOST_TEXT,
+        File::Params => MOST_TEXT,
+        File::Script => MOST_TEXT,
+        File::Pack => MOST_PACK,
+    }
+}
 
 /// Reads a file of this name.
 ///
@@ -23,14 +38,16 @@ pub fn read_file<S: Shelf>(
     file: File,
     shelf: &mut S,
 ) -> Result<Vec<u8>, Outcome>
-    ensures text { IfOk result (λ text. Told (S.seen shelf.old).files (λ files. HasText files name.now text.items)) }
-    ensures short { IfOk result (λ text. length text.items ≤ MOST_BYTES) }
-    ensures given { OnOk result ((S.seen shelf.new).given ≤ MOST_BYTES) }
+    ensures text { IfOk result (λ text. Told (S.seen shelf.old).files (λ files. HasBytes (most_bytes file) files name.now text.items)) }
+    ensures short { IfOk result (λ text. length text.items ≤ most_bytes file) }
+    ensures given { OnOk result ((S.seen shelf.new).given ≤ most_bytes file) }
     ensures err { IfErr result (IsUnread name.now file (S.seen shelf.old) (S.seen shelf.new)) }
     ensures later { (S.seen shelf.old).read_faults ≤ (S.seen shelf.new).read_faults }
     ensures files { (S.seen shelf.new).files ≡ (S.seen shelf.old).files }
+    ensures write_faults { (S.seen shelf.new).write_faults ≡ (S.seen shelf.old).write_faults }
+    ensures not_writing { (S.seen shelf.new).is_writing ≡ false }
 {
-    match slurp(alloc, shelf, name, LIMIT) {
+    match slurp(alloc, shelf, name, limit(file)) {
         Ok(text) => Ok(text),
         Err(Slurp::ReadFault) => Err(Outcome::ReadFault(file)),
         Err(Slurp::TooLong) => Err(Outcome::TooLong(file)),

@@ -1,9 +1,9 @@
 //! The source circuit that files hold, mapped to tables.
-ghost use Rattle.std.specs.Prelude.{◌≡◌, ◌≤◌, IfOk, IfErr, OnOk};
+ghost use Rattle.std.specs.Prelude.{◌≡◌, ◌≤◌, false, IfOk, IfErr, OnOk};
 ghost use Rattle.tl_text.specs.declared.logical_lines.TheConstants.{MOST_BYTES};
 ghost use Rattle.tl_io.specs.Shelf.{Files};
 ghost use Rattle.tlut_cli.specs.Ends.{Told, Explains};
-ghost use Rattle.tlut_cli.specs.Run.Words.{source_seen};
+ghost use Rattle.tlut_cli.specs.Stations.Words.{source_seen};
 ghost use Rattle.tlut_cli.specs.Stations.Settled.{source_reading};
 ghost use Rattle.tlut_cli.specs.Stations.Tables.{IsReadSource, AreTables, ComesPast};
 
@@ -41,6 +41,8 @@ pub fn read_mapped<S: Shelf>(
     ensures err { IfErr result (Explains (source_reading (source_seen words.now)) (S.seen shelf.old) (S.seen shelf.new)) }
     ensures later { (S.seen shelf.old).read_faults ≤ (S.seen shelf.new).read_faults }
     ensures files { (S.seen shelf.new).files ≡ (S.seen shelf.old).files }
+    ensures write_faults { (S.seen shelf.new).write_faults ≡ (S.seen shelf.old).write_faults }
+    ensures not_writing { (S.seen shelf.new).is_writing ≡ false }
 {
     let source = match read_source(alloc, words, shelf) {
         Ok(source) => source,

@@ -66,6 +66,7 @@ fn tabulate(
     requires read { IsReadSource source.now }
     requires normal { AreNormal (first_and graph.now) graph.now.pairs }
     requires tables { HasTables source.now graph.now template }
+    requires nodes { length graph.now.pairs ≤ MOST_NODES }
     ensures template { IfOk result (λ t. t.template ≡ template) }
     ensures made { IfOk result (AreMade source.now) }
 {

@@ -1,12 +1,12 @@
 //! The netlist and the parameters that files hold: the source circuit.
-ghost use Rattle.std.specs.Prelude.{◌≡◌, ◌≤◌, length, IfOk, IfErr, OnOk};
+ghost use Rattle.std.specs.Prelude.{◌≡◌, ◌≤◌, false, length, IfOk, IfErr, OnOk};
 ghost use Rattle.tl_text.specs.declared.logical_lines.TheConstants.{MOST_BYTES};
 ghost use Rattle.tl_io.specs.Shelf.{Files};
 ghost use Rattle.run_text.specs.Parameters.{AreParameters};
 ghost use Rattle.run_text.specs.ParamsText.{IsParamsText, HasOneReading};
 ghost use Rattle.tlut_cli.specs.Ends.{Told, Explains};
 ghost use Rattle.tlut_cli.specs.Stops.{Stops};
-ghost use Rattle.tlut_cli.specs.Run.Words.{source_seen};
+ghost use Rattle.tlut_cli.specs.Stations.Words.{source_seen};
 ghost use Rattle.tlut_cli.specs.Stations.Texts.{IsParamsRefusal};
 ghost use Rattle.tlut_cli.specs.Stations.ReadNetlist.{IsReadNetlist};
 ghost use Rattle.tlut_cli.specs.Stations.Source.{HasNetlist, HasParams};
@@ -36,6 +36,8 @@ fn read_netlist_file<S: Shelf>(
     ensures err { IfErr result (Explains (source_reading (source_seen words.now)) (S.seen shelf.old) (S.seen shelf.new)) }
     ensures later { (S.seen shelf.old).read_faults ≤ (S.seen shelf.new).read_faults }
     ensures files { (S.seen shelf.new).files ≡ (S.seen shelf.old).files }
+    ensures write_faults { (S.seen shelf.new).write_faults ≡ (S.seen shelf.old).write_faults }
+    ensures not_writing { (S.seen shelf.new).is_writing ≡ false }
 {
     let text = match read_file(alloc, words.netlist, File::Netlist, shelf) {
         Ok(text) => text,
@@ -47,8 +49,11 @@ fn read_netlist_file<S: Shelf>(
     }
 }
 
-// The parameters that a text lists.
-fn list_params(alloc: Global, text: &[u8], netlist: &Netlist) -> Result<Params, Stop>
+/// The parameters that a text lists, for a netlist.
+///
+/// # Errors
+/// `Refused` with the refusal of the text; `Memory` where there is none.
+pub fn list_params(alloc: Global, text: &[u8], netlist: &Netlist) -> Result<Params, Stop>
     requires short { length text.now ≤ MOST_BYTES }
     requires read { IsReadNetlist netlist.now }
     ensures params { IfOk result (λ params. IsParamsText netlist.now.flat text.now params.list) }
@@ -76,6 +81,8 @@ fn read_params_file<S: Shelf>(
     ensures err { IfErr result (Explains (source_reading (source_seen words.now)) (S.seen shelf.old) (S.seen shelf.new)) }
     ensures later { (S.seen shelf.old).read_faults ≤ (S.seen shelf.new).read_faults }
     ensures files { (S.seen shelf.new).files ≡ (S.seen shelf.old).files }
+    ensures write_faults { (S.seen shelf.new).write_faults ≡ (S.seen shelf.old).write_faults }
+    ensures not_writing { (S.seen shelf.new).is_writing ≡ false }
 {
     let text = match read_file(alloc, words.params, File::Params, shelf) {
         Ok(text) => text,
@@ -102,6 +109,8 @@ pub fn read_source<S: Shelf>(
     ensures err { IfErr result (Explains (source_reading (source_seen words.now)) (S.seen shelf.old) (S.seen shelf.new)) }
     ensures later { (S.seen shelf.old).read_faults ≤ (S.seen shelf.new).read_faults }
     ensures files { (S.seen shelf.new).files ≡ (S.seen shelf.old).files }
+    ensures write_faults { (S.seen shelf.new).write_faults ≡ (S.seen shelf.old).write_faults }
+    ensures not_writing { (S.seen shelf.new).is_writing ≡ false }
 {
     let netlist = match read_netlist_file(alloc, words, shelf) {
         Ok(netlist) => netlist,

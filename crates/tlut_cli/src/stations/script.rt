@@ -33,8 +33,11 @@ pub fn parameter_names(alloc: Global, params: &[Param]) -> Result<Vec<Name>, All
     Ok(names)
 }
 
-// The events of a text.
-fn list_events(alloc: Global, text: &[u8], names: &Names) -> Result<Vec<Event>, Stop>
+/// The events of a text, which may name these.
+///
+/// # Errors
+/// `Refused` with the refusal of the text; `Memory` where there is none.
+pub fn list_events(alloc: Global, text: &[u8], names: &Names) -> Result<Vec<Event>, Stop>
     requires short { length text.now ≤ MOST_BYTES }
     requires few { length names.now.params ≤ MOST_PARAMETERS }
     requires once { AreOnce names.now.params }

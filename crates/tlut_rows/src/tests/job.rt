@@ -10,7 +10,7 @@ pub const WORDS: [&str; 7] = ["run", "2", "n.blif", "n.par", "n.scr", "0", "0"];
 
 /// The fault line of words of no form.
 pub const USAGE: &str =
-    "tlut: usage: run K NETLIST PARAMS SCRIPT PORTS SPARES, spec K NETLIST PARAMS OUT, map K NETLIST PARAMS TEMPLATE PACK, bits PACK SCRIPT, gen N SEED\n";
+    "tlut: usage: run K NETLIST PARAMS SCRIPT PORTS SPARES, spec K NETLIST PARAMS OUT, map K NETLIST PARAMS TEMPLATE PACK, bits PACK SCRIPT, gen N SEED, repack OLD NEW\n";
 
 /// The AND of two inputs.
 pub const AND2: &str = ".model and2\n.inputs a b\n.outputs y\n.names a b y\n11 1\n.end\n";

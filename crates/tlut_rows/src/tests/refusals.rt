@@ -192,6 +192,33 @@ fn words_of_no_form(rt: HostRuntime) -> Result<(), Fail> {
 }
 
 #[test]
+fn words_of_no_other_form(rt: HostRuntime) -> Result<(), Fail> {
+    let alloc = rt.alloc();
+    assert_usage(&rt, alloc, &["spec", "2", "n.blif", "n.par"])?;
+    assert_usage(&rt, alloc, &["spec", "1", "n.blif", "n.par", "o.blif"])?;
+    assert_usage(&rt, alloc, &["map", "7", "n.blif", "n.par", "t", "p"])?;
+    assert_usage(&rt, alloc, &["map", "2", "n.blif", "n.par", "t", "t"])?;
+    assert_usage(&rt, alloc, &["bits", "n.blif"])?;
+    assert_usage(&rt, alloc, &["repack", "n.blif", "n.blif"])?;
+    assert_usage(&rt, alloc, &["repack", "n.blif"])
+}
+
+#[test]
+fn numbers_of_generated_cases(rt: HostRuntime) -> Result<(), Fail> {
+    for (digits, seed) in [
+        ("0", "0"),
+        ("33", "0"),
+        ("1", "4294967296"),
+        ("01", "0"),
+        ("1", "-1"),
+        ("", "0"),
+    ] {
+        assert_usage(&rt, rt.alloc(), &["gen", digits, seed])?;
+    }
+    Ok(())
+}
+
+#[test]
 fn no_port_is_handed_in(rt: HostRuntime) -> Result<(), Fail> {
     let alloc = rt.alloc();
     let words = ["run", "2", "n.blif", "n.par", "n.scr", "1", "0"];

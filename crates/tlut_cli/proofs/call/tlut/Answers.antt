@@ -1,8 +1,9 @@
-use Rattle.std.proofs.Common.{map, string_bytes, subst}
+use Rattle.std.proofs.Common.{◌≡◌, map, string_bytes, subst, sym, ◌∙◌, Some}
 use Rattle.std.proofs.lemmas.List.{length-map}
-use Rattle.tlut_cli.specs.Call.{HasRefusal, HasFault, IsAnswered}
+use Rattle.tlut_cli.specs.Commands.{Run, command_of}
+use Rattle.tlut_cli.specs.Call.{HasRefusal, HasFault, IsAnswered, HasWriteCause}
 use Rattle.tlut_cli.specs.declared.ends.status.Status.TheVariants as status
-use Rattle.tlut_cli.proofs.CallLemmas.{tells, refusal_is, refused_answered, accepted_done}
+use Rattle.tlut_cli.proofs.CallLemmas.{tells, refusal_is, refused_answered, accepted_done, begun_done, write_outcome, fault_of_ports}
 use Rattle.tlut_cli.proofs.HeadlineLemmas.{headline_of}
 use Rattle.tlut_cli.proofs.call.tlut.Goals as goal
 
@@ -28,14 +29,38 @@ pub returns-clause-lost : goal.returns-clause-lost
 returns-clause-lost g c = tells _ _ _ _ _ c.run_words-outcome.result c.status.result status.PortFault c.status.ensures c.run_words-outcome.ensures.end
 
 pub returns-clause-headline : goal.returns-clause-headline
-returns-clause-headline g c done files told =
-    headline_of files _ _ _ (tells _ _ _ _ _ c.run_words-outcome.result c.status.result status.Done c.status.ensures c.run_words-outcome.ensures.end done files told)
+returns-clause-headline g c done files told run is =
+    let words = map string_bytes c.args.words.now in
+    headline_of files words _ _ (tells _ _ _ _ _ c.run_words-outcome.result c.status.result status.Done c.status.ensures c.run_words-outcome.ensures.end done files told) run
+    (subst (λ n. command_of n words ≡ Some (Run run)) (sym (length-map c.args.ports.now.items _)) is)
 
 pub returns-clause-complete : goal.returns-clause-complete
 returns-clause-complete g c =
-    accepted_done _ _ _ _ _ _ _ c.run_words-outcome.result c.status.result c.status.ensures c.run_words-outcome.ensures.end c.run_words-outcome.ensures.write_fault
+    let words = map string_bytes c.args.words.now in
+    let old = g.S.Shelf.seen c.args.shelf.now in
+    let new = g.S.Shelf.seen c.run_words-outcome.new.shelf in
+    let first = g.O.Sink.faults c.args.out.now in
+    let last = g.O.Sink.faults c.run_words-outcome.new.out in
+    accepted_done words old new _ _ first last c.run_words-outcome.result c.status.result c.status.ensures c.run_words-outcome.ensures.end
+    (λ e. subst (λ n. HasWriteCause words old new n first last) (sym (length-map c.args.ports.now.items _)) (c.run_words-outcome.ensures.write_fault e))
+
+pub returns-clause-finished : goal.returns-clause-finished
+returns-clause-finished g c =
+    let words = map string_bytes c.args.words.now in
+    let old = g.S.Shelf.seen c.args.shelf.now in
+    let new = g.S.Shelf.seen c.run_words-outcome.new.shelf in
+    let first = g.O.Sink.faults c.args.out.now in
+    let last = g.O.Sink.faults c.run_words-outcome.new.out in
+    begun_done words old new _ _ first last c.run_words-outcome.result c.status.result c.status.ensures c.run_words-outcome.ensures.end
+    (λ e. subst (λ n. HasWriteCause words old new n first last) (sym (length-map c.args.ports.now.items _)) (c.run_words-outcome.ensures.write_fault e))
 
 pub returns-clause-read_fault : goal.returns-clause-read_fault
 returns-clause-read_fault g c fault =
     subst (λ n. HasFault n (map string_bytes c.args.words.now) (g.S.Shelf.seen c.args.shelf.now) (g.S.Shelf.seen c.run_words-outcome.new.shelf)) (length-map c.args.ports.now.items _)
     (tells _ _ _ _ _ c.run_words-outcome.result c.status.result status.ReadFault c.status.ensures c.run_words-outcome.ensures.end fault)
+
+pub returns-clause-write_fault : goal.returns-clause-write_fault
+returns-clause-write_fault g c fault = c.run_words-outcome.ensures.write_fault (write_outcome c.run_words-outcome.result (sym fault ∙ c.status.ensures))
+
+pub returns-clause-port_fault : goal.returns-clause-port_fault
+returns-clause-port_fault g c = fault_of_ports _ _ _ _ _ c.run_words-outcome.result c.status.result c.status.ensures c.run_words-outcome.ensures.end

@@ -1,7 +1,9 @@
-use Rattle.std.proofs.Common.{◌∙◌, ap, sym}
+use Rattle.std.proofs.Common.{◌∙◌, ap, sym, subst}
 use Rattle.lut_sim.specs.declared.shape.Shape.{Shape}
+use Rattle.lut_sim.specs.Playable.{IsPlayable}
 use Rattle.tlut_cli.proofs.SourceLemmas.{source_params}
 use Rattle.tlut_cli.proofs.ShowLemmas.{pack_inits, pack_params, pack_bits, tables_play}
+use Rattle.tlut_cli.proofs.Written.WrittenTableLemmas.{tables_written}
 use Rattle.tlut_cli.proofs.stations.mapping.tabulate.Goals as goal
 
 pub functions-requires-clause-count : goal.functions-requires-clause-count
@@ -28,4 +30,7 @@ returns-clause-made c =
       params = pack_params graph c.args.template.luts source.params.list pack c.in_ok-pack.ensures.pack ∙ ap (λ (s : Shape). s.params) (sym c.source_shape-shape.ensures.value);
       shape = c.source_shape-shape.ensures.value;
       playable = c.source_shape-shape.ensures.playable c.args.template tables;
+      written =
+          tables_written source c.requires.read graph c.args.template tables c.requires.nodes
+          (subst (λ (s : Shape). IsPlayable c.args.template s) c.source_shape-shape.ensures.value (c.source_shape-shape.ensures.playable c.args.template tables));
     }

@@ -1,5 +1,5 @@
 use Rattle.std.proofs.Common.{sym, subst}
-use Rattle.tlut_cli.specs.Run.Words.{source_seen}
+use Rattle.tlut_cli.specs.Stations.Words.{source_seen}
 use Rattle.tlut_cli.specs.Ends.{Explains}
 use Rattle.tlut_cli.specs.Stations.Texts.{HasText}
 use Rattle.tlut_cli.specs.Stations.Settled.{source_reading}

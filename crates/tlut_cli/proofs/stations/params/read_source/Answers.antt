@@ -1,4 +1,4 @@
-use Rattle.tlut_cli.specs.Run.Words.{source_seen}
+use Rattle.tlut_cli.specs.Stations.Words.{source_seen}
 use Rattle.tlut_cli.specs.Stations.Settled.{source_reading}
 use Rattle.tlut_cli.proofs.EndLemmas.{Explains_from}
 use Rattle.tlut_cli.proofs.stations.params.read_source.Goals as goal

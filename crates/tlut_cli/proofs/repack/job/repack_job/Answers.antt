@@ -1,0 +1,30 @@
+use Rattle.std.proofs.Common.{◌≡◌}
+use Rattle.tlut_cli.specs.Outside.{Outside, outside}
+use Rattle.tlut_cli.specs.Writing.{AreWritten, IsCut}
+use Rattle.tlut_cli.specs.Repack.Words.{repack_seen}
+use Rattle.tlut_cli.proofs.Packs.RepackLemmas.{begun_from, repacked_from}
+use Rattle.tlut_cli.proofs.repack.job.repack_job.Goals as goal
+
+pub returns-in-Ok-write_all-clause-ends : goal.returns-in-Ok-write_all-clause-ends
+returns-in-Ok-write_all-clause-ends g c ports =
+    let words = repack_seen c.args.words.now in
+    let old = g.S.Shelf.seen c.args.shelf.now in
+    let mid = g.S.Shelf.seen c.read_pack.new.shelf in
+    let new = g.S.Shelf.seen c.write_all.new.shelf in
+    let after : Outside = outside new.files (g.O.Sink.bytes c.write_all.new.out) ports in
+    let same : mid.files ≡ old.files = c.read_pack.ensures.files in (
+      begun_from words c.in-Ok.pack old mid new same c.in-Ok.ensures.pack c.in-Ok.ensures.settled c.in-Ok.ensures.given c.write_all.ensures.given,
+      repacked_from words c.in-Ok.pack old mid new same c.in-Ok.ensures.pack c.in-Ok.ensures.settled (λ before texts line. AreWritten texts line before after) (g.O.Sink.bytes c.args.out.now) ports (c.in-Ok-write_all.ensures.ends ports),
+    )
+
+pub returns-clause-ends : goal.returns-clause-ends
+returns-clause-ends g c ports =
+    let words = repack_seen c.args.words.now in
+    let old = g.S.Shelf.seen c.args.shelf.now in
+    let mid = g.S.Shelf.seen c.read_pack.new.shelf in
+    let new = g.S.Shelf.seen c.write_all.new.shelf in
+    let after : Outside = outside new.files (g.O.Sink.bytes c.write_all.new.out) ports in
+    let same : mid.files ≡ old.files = c.read_pack.ensures.files in (
+      begun_from words c.in-Ok.pack old mid new same c.in-Ok.ensures.pack c.in-Ok.ensures.settled c.in-Ok.ensures.given c.write_all.ensures.given,
+      repacked_from words c.in-Ok.pack old mid new same c.in-Ok.ensures.pack c.in-Ok.ensures.settled (λ before texts line. IsCut texts line before after) (g.O.Sink.bytes c.args.out.now) ports (c.in-Err-write_all.ensures.ends ports),
+    )

@@ -1,0 +1,27 @@
+-- The host of a pack: at the start, and behind events.
+use Rattle.std.specs.Prelude.{◌≡◌, Bool, List, [], ◌∷◌, ◌++◌, ℕ, length}
+use Rattle.ppc_pack.specs.Pack.{PackValue, IsConf, HasOneConf, inits_of}
+use Rattle.run_text.specs.EventValue.{EventValue}
+use Rattle.run_core.specs.Events.{IsHostPlayed, IsSteady}
+use Rattle.run_core.specs.EventLines.{host_line}
+use Rattle.run_core.specs.Fits.{IsOfHost}
+use Rattle.spec_core.specs.Specialiser.{SpecialiserValue}
+
+-- the host at the start: under any values of the parameters there is one configuration; they have the pack's values, with their configuration
+pub record IsHostStart (own : PackValue) (h : SpecialiserValue) : Type 0 where
+  pub pack : h.pack ≡ own
+  pub one_config : (given : List Bool) → length given ≡ length own.params → HasOneConf own given
+  pub params : h.state.params ≡ inits_of own.params
+  pub config : IsConf own (inits_of own.params) h.state.config
+
+-- an event of the host was played
+pub record IsHostStep (event : EventValue) (old new : SpecialiserValue) : Type 0 where
+  pub of_host : IsOfHost event
+  pub played : IsHostPlayed event old new
+  pub steady : IsSteady event old new
+
+-- some events one after the other, with their lines
+pub data AreHostSteps (old : SpecialiserValue) : List EventValue → List (List ℕ) → SpecialiserValue → Type 0 where
+  none : AreHostSteps old [] [] old
+  more : {events : List EventValue} {lines : List (List ℕ)} {mid new : SpecialiserValue} (event : EventValue) → AreHostSteps old events lines mid → IsHostStep event mid new
+      → AreHostSteps old (events ++ event ∷ []) (lines ++ host_line event new ∷ []) new

@@ -1,0 +1,3 @@
+//! The command `map`: a source circuit is mapped, and its template and the pack of its bits are written.
+pub mod job;
+pub mod words;
