@@ -1,7 +1,7 @@
 #!/usr/bin/env python3
 """Reads the written netlists of the examples with Yosys and ABC, and shows with ABC that they are the source circuits.
 
-Outside the gate: `python3 tools/interop.py [PROGRAM]`, after a first call of ./tlut has built crates/tlut/out/tlut, where `yosys`
+Outside the gate: `python3 examples/interop.py [PROGRAM]`, after a first call of ./tlut has built crates/tlut/out/tlut, where `yosys`
 and `yosys-abc` (or `berkeley-abc`) are installed; where they are not, it says so and tries nothing.
 
 For each netlist of examples/ that lists parameters, at tables of 4 and of 6 inputs:
@@ -18,7 +18,8 @@ import subprocess
 import sys
 import tempfile
 
-TOP = os.path.dirname(os.path.dirname(os.path.abspath(__file__)))
+HERE = os.path.dirname(os.path.realpath(__file__))
+TOP = os.path.dirname(os.path.dirname(os.path.dirname(HERE)))
 PROGRAM = os.path.abspath(sys.argv[1]) if len(sys.argv) > 1 else f"{TOP}/crates/tlut/out/tlut"
 YOSYS = shutil.which("yosys")
 ABC = shutil.which("yosys-abc") or shutil.which("berkeley-abc")
@@ -59,7 +60,7 @@ class Case:
 
     def __init__(self, folder, name, params, size):
         self.folder, self.title = folder, f"{name} {size}"
-        data = f"{TOP}/examples/{name}"
+        data = f"{HERE}/{name}"
         self.source = open(f"{data}/{name}.blif").read()
         self.listed = {line.split()[0]: int(line.split()[1]) for line in logical_lines(open(f"{data}/{params}").read())}
         self.has_latches = ".latch" in self.source

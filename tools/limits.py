@@ -1,0 +1,182 @@
+#!/usr/bin/env python3
+"""Runs the built program at both sides of its limits and on long inputs, on a stack of 256 KB, with the time and the memory of each.
+
+Outside the gate: `python3 tools/limits.py [PROGRAM]`, after a first call of ./tlut has built crates/tlut/out/tlut. Each line has
+the time by the clock and the greatest resident memory of a call, and whether status, outputs and fault line are those wanted. The
+last line is `N passed, M failed`, and the exit status is 1 where M isn't 0.
+"""
+import os
+import resource
+import subprocess
+import sys
+import tempfile
+import time
+
+TOP = os.path.dirname(os.path.dirname(os.path.abspath(__file__)))
+PROGRAM = os.path.abspath(sys.argv[1]) if len(sys.argv) == 2 else f"{TOP}/crates/tlut/out/tlut"
+
+WIRE = ".model m\n.inputs a\n.outputs a\n.end\n"
+NOTHING = "luts 0 bits 0 depth 0\n"
+
+
+def names(letter, count, first=0):
+    """Names of a letter and a number, each behind a blank."""
+    return "".join(f" {letter}{i}" for i in range(first, first + count))
+
+
+def listed(letter, count, first=0):
+    """A list of such parameters."""
+    return "".join(f"{letter}{i} 0\n" for i in range(first, first + count))
+
+
+def instances(more):
+    """64 instances of a model of the weight 65,535, and some covers: a weight of 4,194,241 and one more for each."""
+    covers = "".join(f".names w{i}\n" for i in range(more))
+    return ".model a\n" + ".subckt b\n" * 64 + covers + ".model b\n.names" + " y" * 65532 + " x\n.names y\n"
+
+
+def products(count):
+    """The ANDs of pairs of 600 inputs, each an output."""
+    pairs = [(i, j) for i in range(600) for j in range(i)][:count]
+    covers = "".join(f".names i{i} i{j} g{k}\n11 1\n" for k, (i, j) in enumerate(pairs))
+    return f".model m\n.inputs{names('i', 600)}\n.outputs{names('g', count)}\n{covers}.end\n"
+
+
+def chain(count):
+    """A chain of ANDs of parameters, each an output."""
+    covers = "".join(f".names {f'c{i - 1}' if i > 1 else 'p0'} p{i} c{i}\n11 1\n" for i in range(1, count + 1))
+    return f".model chain\n.inputs{names('p', count + 1)}\n.outputs{names('c', count, 1)}\n{covers}.end\n"
+
+
+def ladder(left, right, more=0):
+    """Two chains over x and y with parameters, the AND n of their ends, and further ANDs of n with a parameter each."""
+    lines = [".model ladder", f".inputs x y{names('p', max(left, right), 1)}{names('q', more)}", f".outputs n{names('g', more)}"]
+    for letter, before, count in (("c", "x", left), ("d", "y", right)):
+        for i in range(1, count + 1):
+            lines += [f".names {before} p{i} {letter}{i}", "11 1"]
+            before = f"{letter}{i}"
+    lines += [f".names c{left} d{right} n", "11 1"]
+    for i in range(more):
+        lines += [f".names n q{i} g{i}", "11 1"]
+    return "\n".join([*lines, ".end", ""])
+
+
+def fullest():
+    """The first AND of that ladder at which there are more than 2^23 cuts: the chains' have 1 to 62 and 1 to 64, n has 4,095, and each further one has 4,096."""
+    node = 1 + 2 + 64 + 2100 + 62 + 64
+    return node - (-(2**23 + 1 - (62 * 63 // 2 + 64 * 65 // 2 + 4095)) // 4096)
+
+
+def row(count):
+    """Buffers in a row."""
+    covers = "".join(f".names b{i} b{i + 1}\n1 1\n" for i in range(count))
+    return f".model row\n.inputs b0\n.outputs b{count}\n{covers}.end\n"
+
+
+def nest(count):
+    """Models inside one another."""
+    head = ".inputs i\n.outputs o\n"
+    inner = "".join(f".model m{i}\n{head}.subckt m{i + 1} i=i o=o\n.end\n" for i in range(count))
+    return f"{inner}.model m{count}\n{head}.names i o\n1 1\n.end\n"
+
+
+def refused(word, line):
+    """What a limit leaves."""
+    return 4, "", f"tlut: {word}: {line}\n"
+
+
+def refused_pack(line):
+    """What a pack leaves that is refused."""
+    return 3, "", f"tlut: k: {line}\n"
+
+
+def seven_bits(number):
+    """A number of a pack of version 2."""
+    return bytes([number]) if number < 128 else bytes([128 + number % 128]) + seven_bits(number // 128)
+
+
+def done(out):
+    """What a job leaves that is done."""
+    return 0, out, ""
+
+
+def rows():
+    """The title, the netlist, the list, the script and what is wanted."""
+    full = "\n" * 2**26
+    yield "L1 of a netlist", full + "\n", "", "", refused("n", "L1 FileTooLong")
+    yield "L1 of a list", WIRE, full + "\n", "", refused("p", "L1 FileTooLong")
+    yield "L1 of a script", WIRE, "", full + "\n", refused("s", "L1 FileTooLong")
+    yield "a script of 2^26 bytes", WIRE, "", full, done(NOTHING)
+    yield "a weight of 2^22", instances(63), "", "", done(NOTHING)
+    yield "L2: one more", instances(64), "", "", refused("n", "L2 TooLarge")
+    yield "131,072 AND nodes", products(131072), "", "", done("luts 131072 bits 524288 depth 1\n")
+    yield "L3: one more", products(131073), "", "", refused("n", "L3 TooManyNodes")
+    yield "4,096 cuts of a node", ladder(63, 63), listed("p", 63, 1), "", done("luts 1 bits 4 depth 1\n")
+    yield "L4: more", ladder(63, 64), listed("p", 64, 1), "", refused("n", "L4 NodeCuts node 194")
+    yield "L5: 2^23 cuts and more", ladder(62, 64, 2100), listed("p", 64, 1) + listed("q", 2100), "", refused("n", f"L5 TotalCuts node {fullest()}")
+    yield "a chain of 8,190 parameters", chain(8190), listed("p", 8191), "", done("luts 8190 bits 8190 depth 0\n")
+    yield "L6: one more", chain(8191), listed("p", 8192), "", refused("n", "L6 Work")
+    deep = chain(60000).replace(names("c", 60000, 1), " c60000")
+    yield "a chain of 60,000 parameters, one output", deep, listed("p", 60001), "set p0=1\n", done("luts 1 bits 1 depth 0\nset 0\n")
+    yield "2^20 events", WIRE, "", "cycle 1\n" * 2**20, done(NOTHING + "cycle 1 -\n" * 2**20)
+    yield "L7: one more", WIRE, "", "image\n" * (2**20 + 1), refused("s", "L7 Events line 1048577")
+    wide = f".model m\n.inputs{names('v', 65537)}\n.end\n"
+    yield "65,535 parameters", wide, listed("v", 65535), "cycle 10\nset v65534=1\n", done(NOTHING + "cycle - -\nset 0\n")
+    yield "L8: one more", wide, listed("v", 65536), "", refused("p", "L8 Parameters line 65536")
+    yield "200,000 buffers in a row", row(200000), "", "cycle 1\n", done(NOTHING + "cycle 1 -\n")
+    yield "100,000 models in one another", nest(100000), "", "cycle 1\n", done(NOTHING + "cycle 1 -\n")
+    cover = ".model m\n.inputs a b\n.outputs y\n.names a b y\n" + "11 1\n" * 1000000 + ".end\n"
+    yield "a cover of a million rows", cover, "", "cycle 11\n", done("luts 1 bits 4 depth 1\ncycle 1 -\n")
+    long = "n" * 1000000
+    yield "names of a million bytes", f".model {long}\n.inputs {long}\n.outputs {long}\n.end\n", "", "cycle 1\n", done(NOTHING + "cycle 1 -\n")
+
+
+def child(program, folder, *words):
+    """Runs the program and prints its status, its time and its memory in MB: in a process that has little memory of its own."""
+    begun = time.monotonic()
+    process = os.fork()
+    if process == 0:
+        resource.setrlimit(resource.RLIMIT_STACK, (256 * 1024, 256 * 1024))
+        os.chdir(folder)
+        os.dup2(os.open("out", os.O_WRONLY | os.O_CREAT), 1)
+        os.dup2(os.open("err", os.O_WRONLY | os.O_CREAT), 2)
+        os.execv(program, ["tlut", *words])
+    _, status, used = os.wait4(process, 0)
+    print(os.waitstatus_to_exitcode(status), time.monotonic() - begun, used.ru_maxrss // 1024)
+
+
+def call(folder, words):
+    """What a call leaves, its time and its memory in MB."""
+    inner = [sys.executable, os.path.abspath(__file__), "--child", PROGRAM, folder, *words]
+    status, seconds, megabytes = subprocess.run(inner, stdout=subprocess.PIPE, text=True, check=True).stdout.split()
+    return (int(status), open(f"{folder}/out").read(), open(f"{folder}/err").read()), float(seconds), int(megabytes)
+
+
+def calls():
+    """The title, the words, the files and what is wanted of each call."""
+    for title, netlist, params, script, wanted in rows():
+        yield title, ["run", "2", "n", "p", "s", "0", "0"], {"n": netlist.encode(), "p": params.encode(), "s": script.encode()}, wanted
+    # Each node of this pack has the two before it as its fan-ins, the first ones the two parameters.
+    count = 2**25
+    pack = b"TPPC\x00\x02\x02\x01p\x00\x01q\x01" + seven_bits(count) + b"\x02\x02" * count + seven_bits(1) + seven_bits(2 * (2 + count))
+    yield "a pack of 2^25 nodes", ["bits", "k", "s"], {"k": pack, "s": b"set p=1\nset q=0\n"}, done("bits 1\nset 1 0=1\nset 1 0=0\n")
+    yield "K5: one more", ["bits", "k", "s"], {"k": pack[:13] + seven_bits(count + 1) + b"\x02\x02", "s": b""}, refused_pack("K5 BadNode byte 13")
+
+
+def main():
+    passed = failed = 0
+    for title, words, files, wanted in calls():
+        with tempfile.TemporaryDirectory() as folder:
+            for name, content in files.items():
+                with open(f"{folder}/{name}", "wb") as file:
+                    file.write(content)
+            left, seconds, megabytes = call(folder, words)
+        outcome = left == wanted
+        print(f"{title}: {seconds:.1f} s, {megabytes} MB{'' if outcome else f', NO: {left[0]} {left[1][:80]!r} {left[2][:80]!r}'}", flush=True)
+        passed, failed = passed + outcome, failed + (not outcome)
+    print(f"{passed} passed, {failed} failed")
+    return 1 if failed else 0
+
+
+if __name__ == "__main__":
+    sys.exit(child(*sys.argv[2:]) if sys.argv[1:2] == ["--child"] else main())

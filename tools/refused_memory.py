@@ -1,0 +1,120 @@
+#!/usr/bin/env python3
+"""Runs the built program with each of its allocations refused in turn, and looks at what is left.
+
+Outside the gate: `python3 tools/refused_memory.py [PROGRAM]`, after a first call of ./tlut has built crates/tlut/out/tlut; it needs
+a C compiler, for a library that is loaded before the program and refuses the Nth allocation. For each command N rises until the
+call ends as it does with all memory. Each call before that must end with status 8 with nothing printed on standard output and no
+file written, or be complete. The last line is `N passed, M failed`, and the exit status is 1 where M isn't 0.
+"""
+import os
+import subprocess
+import sys
+import tempfile
+
+TOP = os.path.dirname(os.path.dirname(os.path.abspath(__file__)))
+PROGRAM = os.path.abspath(sys.argv[1]) if len(sys.argv) > 1 else f"{TOP}/crates/tlut/out/tlut"
+
+# Refuses the allocation whose number stands in REFUSED, counted from 1, and tells at the end how many there were.
+SHIM = r"""
+#define _GNU_SOURCE
+#include <dlfcn.h>
+#include <errno.h>
+#include <stdio.h>
+#include <stdlib.h>
+static long count, refused = -1;
+static int is_refused(void) {
+    if (refused < 0) { const char *word = getenv("REFUSED"); refused = word ? atol(word) : 0; }
+    count += 1;
+    if (count != refused) return 0;
+    errno = ENOMEM;
+    return 1;
+}
+void *malloc(size_t n) {
+    static void *(*next)(size_t);
+    if (!next) next = dlsym(RTLD_NEXT, "malloc");
+    return is_refused() ? NULL : next(n);
+}
+void *realloc(void *p, size_t n) {
+    static void *(*next)(void *, size_t);
+    if (!next) next = dlsym(RTLD_NEXT, "realloc");
+    return is_refused() ? NULL : next(p, n);
+}
+void *aligned_alloc(size_t a, size_t n) {
+    static void *(*next)(size_t, size_t);
+    if (!next) next = dlsym(RTLD_NEXT, "aligned_alloc");
+    return is_refused() ? NULL : next(a, n);
+}
+int posix_memalign(void **p, size_t a, size_t n) {
+    static int (*next)(void **, size_t, size_t);
+    if (!next) next = dlsym(RTLD_NEXT, "posix_memalign");
+    return is_refused() ? ENOMEM : next(p, a, n);
+}
+__attribute__((destructor)) static void tell(void) {
+    const char *path = getenv("COUNTED");
+    FILE *file = path ? fopen(path, "w") : NULL;
+    if (file) { fprintf(file, "%ld", count); fclose(file); }
+}
+"""
+
+FILES = {
+    "mux.blif": b".model mux\n.inputs a b p\n.outputs y\n.names p a b y\n11- 1\n0-1 1\n.end\n",
+    "mux.par": b"p 0\n",
+    "mux.scr": b"set p=1\ncycle 10\nupset 3\nscrub\nimage\n",
+    "host.scr": b"set p=1\nimage\n",
+    "one.ppc": bytes.fromhex("545050430001000100017000000000000000000400000000000000020000000300000001"),
+}
+
+CALLS = [
+    "run 2 mux.blif mux.par mux.scr 2 1",
+    "spec 2 mux.blif mux.par out.blif",
+    "map 2 mux.blif mux.par t.blif m.ppc",
+    "bits one.ppc host.scr",
+    "repack one.ppc two.ppc",
+    "gen 1 0",
+    "gen 2 1",
+]
+
+
+def call(shim, words, refused):
+    """What a call leaves: status, outputs and files; and how many allocations it made."""
+    with tempfile.TemporaryDirectory() as folder:
+        for name, content in FILES.items():
+            with open(f"{folder}/{name}", "wb") as file:
+                file.write(content)
+        counted = f"{folder}.counted"
+        environment = {**os.environ, "LD_PRELOAD": shim, "REFUSED": str(refused), "COUNTED": counted}
+        done = subprocess.run([PROGRAM, *words.split()], cwd=folder, env=environment, capture_output=True, timeout=60)
+        files = {name: open(f"{folder}/{name}", "rb").read() for name in os.listdir(folder)}
+        count = int(open(counted).read()) if os.path.exists(counted) else 0
+        if os.path.exists(counted):
+            os.remove(counted)
+        return (done.returncode, done.stdout, done.stderr, files), count
+
+
+def main():
+    passed = failed = 0
+    with tempfile.TemporaryDirectory() as folder:
+        source, shim = f"{folder}/shim.c", f"{folder}/shim.so"
+        with open(source, "w") as file:
+            file.write(SHIM)
+        subprocess.run(["cc", "-O1", "-shared", "-fPIC", "-o", shim, source, "-ldl"], check=True)
+        for words in CALLS:
+            whole, count = call(shim, words, 0)
+            refusals = 0
+            for refused in range(1, count + 1):
+                left, _ = call(shim, words, refused)
+                # A call that can't get its words ends without a line; each other tells that there is no memory.
+                is_silent = left[0] == 8 and left[1] == b"" and left[2] in (b"", b"tlut: out of memory\n") and left[3] == FILES
+                refusals += left[0] == 8
+                if left == whole or is_silent:
+                    passed += 1
+                else:
+                    failed += 1
+                    print(f"{words}: allocation {refused}: {left[:3]}")
+            print(f"{words}: {count} allocations, {refusals} of which end it")
+    print(f"{passed} passed, {failed} failed")
+    return 1 if failed else 0
+
+
+if __name__ == "__main__":
+    sys.exit(main())
