@@ -21,6 +21,8 @@
 //! - `tests/corners.rt` has corners of texts, models and nets.
 //! - `tests/long.rt` has 200,000 buffers in a row, 100,000 models inside one another, and a cycle through a thousand models.
 //! - `tests/chains.rt` has chains and ladders of parameters, at both sides of the limits of the work and of a node's cuts.
+//! - `tests/files.rt` has what a test of files is made of; `tests/written.rt` has written netlists, `tests/names.rt` the names in
+//!   them, `tests/packs.rt` packs of both versions, and `tests/generated.rt` generated multipliers.
 //! - `tests/multiplier.rt` has a multiplier of 16 by 16, whose products are compared with those of integers.
 //!
 //! Definitions have worked examples too, as lemmas in `proofs/`: `TextExamples.antt` has a text with the library that it

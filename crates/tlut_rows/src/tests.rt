@@ -13,6 +13,7 @@ mod long;
 mod mapping;
 mod multiplexer;
 mod multiplier;
+mod names;
 mod packs;
 mod port_faults;
 mod ports;

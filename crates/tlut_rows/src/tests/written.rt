@@ -4,8 +4,8 @@ use crate::tests::multiplexer::{HEADER, MUX};
 use crate::tests::packs::MUX_PACK;
 use std::test::Fail;
 
-// The multiplexer's tables where its parameter is 0, and where each bit is an input.
-const MUX_SPEC: &[u8] =
+/// The multiplexer's tables where its parameter is 0.
+pub const MUX_SPEC: &[u8] =
     b".model mux\n.inputs a b\n.outputs y\n.names a b _n13\n01 1\n11 1\n.names _n13 y\n1 1\n.end\n";
 
 /// The multiplexer's template.
