@@ -1,3 +1,2 @@
 -- The faults of a library, from stage to stage.
-pub mod StageLemmas
 pub mod FaultOnceLemmas

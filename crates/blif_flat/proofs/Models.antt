@@ -2,14 +2,10 @@
 pub mod NameLemmas
 pub mod NameSetLemmas
 pub mod ModelNameLemmas
-pub mod LineFaultLemmas
 pub mod LineLemmas
 pub mod WalkedLemmas
-pub mod RefusedLemmas
 pub mod ModelPathLemmas
 pub mod ModelWalkLemmas
 pub mod TagLemmas
-pub mod RepeatLemmas
 pub mod DrivenLemmas
-pub mod DriverStepLemmas
 pub mod WeightLemmas

@@ -1,5 +1,5 @@
 -- Worked examples.
-mod Examples
-mod FlatExamples
-mod LoopExamples
-mod RunExamples
+pub mod Examples
+pub mod FlatExamples
+pub mod LoopExamples
+pub mod RunExamples

@@ -1,17 +1,11 @@
 -- Bounds of a flat circuit: how long its lists are, that its nets and its order are in range, and what its order keeps.
 use Rattle.std.specs.Prelude.{◌≡◌, ℕ, ◌<◌, ◌≤◌, List, length, Some, IsSome, slice_get}
-use Rattle.list_laws.specs.Members.{In}
 use Rattle.blif_read.specs.Once.{AreOnce}
-use Rattle.blif_flat.specs.Words.{CoverValue, LibraryValue}
-use Rattle.blif_flat.specs.declared.flat.Net.{Net}
-use Rattle.blif_flat.specs.declared.flat.Net.TheVariants.{Input, Latch, Cover}
-use Rattle.blif_flat.specs.declared.flat.OutPort.{OutPort}
-use Rattle.blif_flat.specs.declared.flat.FlatLatch.{FlatLatch}
-use Rattle.blif_flat.specs.FlatCoverValue.{FlatCoverValue}
-use Rattle.blif_flat.specs.FlatValue.{FlatValue}
-use Rattle.blif_flat.specs.Weight.{most_weight}
-use Rattle.blif_flat.specs.Flat.{reads_at, flat_roots}
+use Rattle.blif_flat.specs.Circuits.{In, FlatCoverValue, FlatValue, CoverValue, LibraryValue, FlatLatch, FlatNet as Net, OutPort}
 use Rattle.blif_flat.specs.Evaluation.{cover_behind}
+use Rattle.blif_flat.specs.Flat.{reads_at, flat_roots}
+use Rattle.blif_flat.specs.Weight.{most_weight}
+use Rattle.blif_flat.specs.declared.flat.Net.TheVariants.{Input, Latch, Cover}
 
 -- what drives a net is there
 abbrev pub IsThere : FlatValue → Net → Type 0

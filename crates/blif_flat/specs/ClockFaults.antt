@@ -1,13 +1,6 @@
 -- The refusals of clocks: the controls of the latches in flat order, then clock nets that are data.
 use Rattle.std.specs.Prelude.{◌≡◌, ◌⊎◌, ℕ, Bool, true, false, List, [], ◌∷◌, ◌++◌, Option, Some, None}
-use Rattle.list_laws.specs.Members.{In}
-use Rattle.blif_flat.specs.Words.{Body, Cover, Latch, Subckt, LatchValue, CoverValue, ModelValue, LibraryValue}
-use Rattle.blif_flat.specs.declared.flat_err.FlatErr.{FlatErr}
-use Rattle.blif_flat.specs.declared.flat_err.FlatErr.TheVariants.{SecondClock, ClockNotInput, ClockAsData}
-use Rattle.blif_flat.specs.Models.{Path}
-use Rattle.blif_flat.specs.Instances.{LatchAt}
-use Rattle.blif_flat.specs.Nets.{Net, input_net, Drives, IsClock}
-use Rattle.blif_flat.specs.Places.{Place, cover_at, latch_at}
+use Rattle.blif_flat.specs.Circuits.{In, LatchAt, Path, Net, input_net, Drives, IsClock, Place, cover_at, latch_at, Body, Cover, Latch, Subckt, LatchValue, CoverValue, ModelValue, LibraryValue, FlatErr, SecondClock, ClockNotInput, ClockAsData}
 use Rattle.blif_flat.specs.Written.{IsWritten}
 
 -- F8 and F7, latch by latch in flat order, F8 first; `first` is the control net that was met

@@ -1,10 +1,7 @@
 -- The cycle relation: the values of all nets, at every instance, that fit the values of the inputs and the latches (BLIF manual of 1992).
 -- Nothing is flattened, and nothing is evaluated in an order.
 use Rattle.std.specs.Prelude.{◌≡◌, ℕ, Bool, false, List, [], ◌∷◌, map}
-use Rattle.blif_flat.specs.Words.{LatchValue, Pair, CoverValue, cover_value, LibraryValue}
-use Rattle.blif_flat.specs.Models.{Path}
-use Rattle.blif_flat.specs.Instances.{CoverAt, LatchAt, ConnectionAt, IsMainInput}
-use Rattle.blif_flat.specs.Nets.{IsClock}
+use Rattle.blif_flat.specs.Circuits.{CoverAt, LatchAt, ConnectionAt, IsMainInput, Path, IsClock, LatchValue, Pair, CoverValue, cover_value, LibraryValue}
 
 -- a value for each name of each instance fits the values x of the main inputs and s of the latches, by their places
 pub record Fits (library : LibraryValue) (x : List ℕ → Bool) (s : Path → ℕ → Bool) (value : Path → List ℕ → Bool) : Type 0 where

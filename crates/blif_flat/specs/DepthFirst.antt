@@ -1,6 +1,6 @@
 -- A depth-first walk without memory: the first node that is met again on the current path.
 use Rattle.std.specs.Prelude.{◌≡◌, List, [], ◌∷◌, Option, Some, None}
-use Rattle.list_laws.specs.Members.{In}
+use Rattle.blif_flat.specs.Circuits.{In}
 
 -- a node that is met again, and the path on which it stands, the last first
 pub record Repeat (N : Type 0) : Type 0 where

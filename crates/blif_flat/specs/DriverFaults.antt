@@ -1,9 +1,6 @@
 -- The refusals of drivers: within each walked model the names that are driven twice, then those that are read and aren't driven.
 use Rattle.std.specs.Prelude.{ℕ, if◌then◌else◌, List, [], ◌∷◌, ◌++◌, Option, Some, None}
-use Rattle.blif_flat.specs.Words.{Body, Cover, Latch, Subckt, Command, Pair, ModelValue, LibraryValue}
-use Rattle.blif_flat.specs.declared.flat_err.FlatErr.{FlatErr}
-use Rattle.blif_flat.specs.declared.flat_err.FlatErr.TheVariants.{DoublyDriven, Undriven}
-use Rattle.blif_flat.specs.Models.{model_named, has_name, is_input, is_output, inputs_of}
+use Rattle.blif_flat.specs.Circuits.{model_named, has_name, is_input, is_output, inputs_of, Body, Cover, Latch, Subckt, Command, Pair, ModelValue, LibraryValue, FlatErr, DoublyDriven, Undriven}
 
 -- the first of two refusals
 abbrev pub or_later : Option FlatErr → Option FlatErr → Option FlatErr

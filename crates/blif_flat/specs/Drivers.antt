@@ -1,9 +1,9 @@
 -- What drives and what reads a name within one instance.
 use Rattle.std.specs.Prelude.{◌≡◌, ◌⊎◌, ℕ, List, ◌∷◌, Some, slice_get, IsTrue}
 use Rattle.list_laws.specs.Members.{In}
-use Rattle.blif_flat.specs.Words.{LatchValue, Pair, CoverValue, SubcktValue, ModelValue, LibraryValue}
-use Rattle.blif_flat.specs.Models.{Path, subckts_of, model_named, placed, model_at, is_input, is_output}
 use Rattle.blif_flat.specs.Instances.{CoverAt, LatchAt, ConnectionAt}
+use Rattle.blif_flat.specs.Models.{Path, subckts_of, model_named, placed, model_at, is_input, is_output}
+use Rattle.blif_flat.specs.Words.{LatchValue, Pair, CoverValue, SubcktValue, ModelValue, LibraryValue}
 
 -- a driver within a model: an input of the model, a latch or a cover by its place, or an output of the subcircuit of an ordinal
 pub data Driver : Type 0 where

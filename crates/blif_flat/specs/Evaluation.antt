@@ -1,18 +1,10 @@
 -- A flat circuit evaluated: each cover of the order in turn, from the values of the nets that it reads.
 use Rattle.std.specs.Prelude.{◌≡◌, ℕ, Bool, false, List, [], ◌∷◌, length, map, replicate, Option, Some, None, slice_get, slice_set, unwrap_or}
 use Rattle.std.specs.Option.{option_and_then}
-use Rattle.list_laws.specs.Members.{In}
-use Rattle.blif_flat.specs.Words.{CoverValue, cover_value, ModelValue, LibraryValue}
-use Rattle.blif_flat.specs.declared.flat.Net.{Net as FlatNet}
-use Rattle.blif_flat.specs.declared.flat.Net.TheVariants.{Input, Latch, Cover}
-use Rattle.blif_flat.specs.FlatCoverValue.{FlatCoverValue}
-use Rattle.blif_flat.specs.FlatValue.{FlatValue}
-use Rattle.blif_flat.specs.Models.{Path, body_at}
-use Rattle.blif_flat.specs.Instances.{CoverAt}
+use Rattle.blif_flat.specs.Circuits.{In, FlatCoverValue, FlatValue, CoverAt, Path, body_at, Net, Drives, Place, cover_in, CoverValue, cover_value, ModelValue, LibraryValue, FlatNet}
 use Rattle.blif_flat.specs.Cycle.{Fits}
-use Rattle.blif_flat.specs.Places.{Place, cover_in}
-use Rattle.blif_flat.specs.Nets.{Net, Drives}
 use Rattle.blif_flat.specs.Flat.{Places, IsNumbered}
+use Rattle.blif_flat.specs.declared.flat.Net.TheVariants.{Input, Latch, Cover}
 
 -- the cover behind a flat one
 abbrev pub cover_behind : LibraryValue → FlatCoverValue → Option CoverValue

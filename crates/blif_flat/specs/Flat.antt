@@ -1,17 +1,8 @@
 -- What the fields of a flat circuit are, over the hierarchical names of its library.
 use Rattle.std.specs.Prelude.{◌≡◌, ℕ, ◌+◌, ◌==◌, Bool, true, false, not, if◌then◌else◌, List, [], ◌∷◌, ◌++◌, filter, map, max, length, reverse, Option, Some, None, is_some, slice_get}
-use Rattle.blif_flat.specs.Words.{LatchValue, CoverValue, ModelValue, LibraryValue}
-use Rattle.blif_flat.specs.declared.flat.Net.{Net as FlatNet}
-use Rattle.blif_flat.specs.declared.flat.Net.TheVariants.{Input, Latch, Cover}
-use Rattle.blif_flat.specs.declared.flat.OutPort.{OutPort}
-use Rattle.blif_flat.specs.declared.flat.FlatLatch.{FlatLatch}
-use Rattle.blif_flat.specs.FlatCoverValue.{FlatCoverValue}
-use Rattle.blif_flat.specs.FlatValue.{FlatValue}
-use Rattle.blif_flat.specs.Models.{Path, model_at, has_name}
-use Rattle.blif_flat.specs.Instances.{CoverAt, LatchAt}
-use Rattle.blif_flat.specs.Nets.{Net, input_net, latch_net, cover_net, Drives, IsClock}
-use Rattle.blif_flat.specs.Places.{Place, is_cover, is_latch, FlatOrder}
 use Rattle.depth_first.specs.DepthFirst.{PostsAll}
+use Rattle.blif_flat.specs.Circuits.{FlatCoverValue, FlatValue, CoverAt, LatchAt, Path, model_at, has_name, Net, input_net, latch_net, cover_net, Drives, IsClock, Place, is_cover, is_latch, FlatOrder, LatchValue, CoverValue, ModelValue, LibraryValue, FlatLatch, FlatNet, OutPort}
+use Rattle.blif_flat.specs.declared.flat.Net.TheVariants.{Input, Latch, Cover}
 
 -- the drivers by whose places the nets are numbered
 pub record Places : Type 0 where

@@ -1,9 +1,6 @@
 -- A clock cycle of a flat circuit: its outputs and next states, by evaluating its covers in its order. It is the cycle of the library's hierarchy, and so are runs.
 use Rattle.std.specs.Prelude.{◌≡◌, ℕ, Bool, List, [], ◌∷◌, length, map}
-use Rattle.blif_flat.specs.Words.{LibraryValue}
-use Rattle.blif_flat.specs.declared.flat.OutPort.{OutPort}
-use Rattle.blif_flat.specs.declared.flat.FlatLatch.{FlatLatch}
-use Rattle.blif_flat.specs.FlatValue.{FlatValue}
+use Rattle.blif_flat.specs.Circuits.{FlatValue, LibraryValue, FlatLatch, OutPort}
 use Rattle.blif_flat.specs.Evaluation.{net_value, flat_values}
 use Rattle.blif_flat.specs.Runs.{IsCycle, IsRun}
 

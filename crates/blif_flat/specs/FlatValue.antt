@@ -1,8 +1,8 @@
 -- A flat circuit as plain lists.
 use Rattle.std.specs.Prelude.{ℕ, List, Option}
-use Rattle.blif_flat.specs.declared.flat.OutPort.{OutPort}
-use Rattle.blif_flat.specs.declared.flat.FlatLatch.{FlatLatch}
 use Rattle.blif_flat.specs.FlatCoverValue.{FlatCoverValue}
+use Rattle.blif_flat.specs.declared.flat.FlatLatch.{FlatLatch}
+use Rattle.blif_flat.specs.declared.flat.OutPort.{OutPort}
 
 pub record FlatValue : Type 0 where
   pub model : List ℕ

@@ -1,9 +1,8 @@
 -- What a flattened library keeps: the fields of its flat circuit are those of its hierarchical names, and evaluating them gives the values of the fitting maps.
 use Rattle.std.specs.Prelude.{◌≡◌}
-use Rattle.blif_flat.specs.Words.{LibraryValue}
-use Rattle.blif_flat.specs.FlatValue.{FlatValue}
-use Rattle.blif_flat.specs.Flat.{IsFlat}
+use Rattle.blif_flat.specs.Circuits.{FlatValue, LibraryValue}
 use Rattle.blif_flat.specs.Evaluation.{Evaluates}
+use Rattle.blif_flat.specs.Flat.{IsFlat}
 
 pub record HasValues (library : LibraryValue) (flat : FlatValue) : Type 0 where
   pub fields : IsFlat library flat

@@ -1,8 +1,8 @@
 -- The covers, latches and connections of the instances, and the main model's inputs.
 use Rattle.std.specs.Prelude.{◌≡◌, ℕ, List, [], Some, slice_get, IsTrue}
 use Rattle.list_laws.specs.Members.{In}
-use Rattle.blif_flat.specs.Words.{Cover, Latch, LatchValue, Pair, CoverValue, SubcktValue, ModelValue, LibraryValue}
 use Rattle.blif_flat.specs.Models.{Path, body_at, subckts_of, model_named, model_at, is_input}
+use Rattle.blif_flat.specs.Words.{Cover, Latch, LatchValue, Pair, CoverValue, SubcktValue, ModelValue, LibraryValue}
 
 -- an instance has this cover as its command i
 pub record CoverAt (library : LibraryValue) (path : Path) (i : ℕ) (cover : CoverValue) : Type 0 where

@@ -1,8 +1,6 @@
 -- The law of the cycle relation: for all values of inputs and latches a fitting map exists, and any two agree on every driven name.
 use Rattle.std.specs.Prelude.{◌≡◌, ℕ, Bool, List}
-use Rattle.blif_flat.specs.Words.{LibraryValue}
-use Rattle.blif_flat.specs.Models.{Path}
-use Rattle.blif_flat.specs.Nets.{Net, Drives}
+use Rattle.blif_flat.specs.Circuits.{Path, Net, Drives, LibraryValue}
 use Rattle.blif_flat.specs.Cycle.{Fits}
 
 pub record HasFit (library : LibraryValue) (x : List ℕ → Bool) (s : Path → ℕ → Bool) : Type 0 where

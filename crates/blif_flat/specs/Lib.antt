@@ -1,4 +1,4 @@
--- What public clauses say.
+-- What public clauses say, then what only bodies are compared with; other files name all of it from here.
 pub mod Words
 pub mod Refusals
 pub mod Models
@@ -27,5 +27,58 @@ pub mod Flattened
 pub mod FlatCycle
 pub mod Bounds
 pub mod Circuits
--- What only bodies are compared with.
 pub mod Steps
+pub use Words.*
+pub use Refusals.*
+pub use Models.*
+pub use Instances.*
+pub use Nets.*
+pub use Cycle.*
+pub use Drivers.*
+pub use Places.*
+pub use Loops.*
+pub use Sound.*
+pub use Runs.*
+pub use Law.*
+pub use Walk.*
+pub use Weight.*
+pub use DriverFaults.*
+pub use DepthFirst.*
+pub use Written.*
+pub use ClockFaults.*
+pub use LoopFault.*
+pub use Faults.*
+pub use FlatCoverValue.*
+pub use FlatValue.*
+pub use Flat.*
+pub use Evaluation.*
+pub use Flattened.*
+pub use FlatCycle.*
+pub use Bounds.*
+pub use Steps.ClockSteps.*
+pub use Steps.FieldSteps.*
+pub use Steps.InstanceRows.*
+pub use Steps.ModelSteps.*
+pub use Steps.NameSets.*
+pub use Steps.NetTable.*
+pub use Rattle.blif_flat.specs.declared.instances.Instance.{Instance}
+pub use Rattle.blif_flat.specs.declared.instances.Gate.{Gate}
+pub use Rattle.blif_flat.specs.declared.instances.GateKind.{GateKind}
+pub use Rattle.blif_flat.specs.declared.ports.Ports.{Ports}
+pub use Rattle.blif_flat.specs.declared.nets.Start.{Start}
+pub use Rattle.blif_flat.specs.declared.connect.Circuit.{Circuit}
+pub use Rattle.blif_flat.specs.declared.clock_check.ClockNets.{ClockNets}
+pub use Rattle.blif_flat.specs.declared.flat.OutPort.{OutPort}
+pub use Rattle.blif_flat.specs.declared.flat.FlatLatch.{FlatLatch}
+pub use Rattle.blif_flat.specs.declared.flat.Net.{Net as FlatNet}
+pub use Rattle.blif_flat.specs.declared.flat_err.FlatErr.{FlatErr}
+pub use Rattle.blif_flat.specs.declared.flat_err.FlatErr.TheVariants.{UnknownModel, RecursiveModel, UnknownFormal, Unconnected, TooLarge, DoublyDriven, Undriven, SecondClock, ClockNotInput, ClockAsData, Memory}
+pub use Rattle.blif_read.specs.Connections.{formals}
+pub use Rattle.blif_read.specs.Once.{AreOnce}
+pub use Rattle.blif_read.specs.WellFormed.{IsWellFormed, IsWellFormedModel}
+pub use Rattle.blif_read.specs.declared.cell.Cell.TheVariants.{Zero}
+pub use Rattle.depth_first.specs.DepthFirst.{PostsAll, leads}
+pub use Rattle.depth_first.specs.Walk.{WalkValue}
+pub use Rattle.list_laws.specs.Members.{In}
+pub use Rattle.tl_fault.specs.OrMemory.{OrMemory}
+pub use Rattle.tl_text.specs.NameIndex.{place_of}

@@ -1,15 +1,11 @@
 -- F10: a cover whose value depends on itself through covers. The covers are walked depth first and left to right from the outputs, the latch inputs, and then all covers
 -- in flat order; the first cover that is met again on the current path closes the loop, which is told from it on.
 use Rattle.std.specs.Prelude.{◌≡◌, ℕ, if◌then◌else◌, List, [], ◌∷◌, ◌++◌, Option, Some, None}
-use Rattle.blif_flat.specs.Words.{LatchValue, ModelValue, LibraryValue}
-use Rattle.blif_flat.specs.declared.flat_err.FlatErr.{FlatErr}
-use Rattle.blif_flat.specs.declared.flat_err.FlatErr.TheVariants.{Loop}
-use Rattle.blif_flat.specs.Models.{Path, model_at}
-use Rattle.blif_flat.specs.Nets.{Net, cover_net}
-use Rattle.blif_flat.specs.Places.{Place, same_place, latch_at, is_cover, is_latch, FlatOrder}
-use Rattle.blif_flat.specs.Loops.{AreNets, covers_among, reads_of}
+use Rattle.blif_flat.specs.Circuits.{Path, model_at, Net, cover_net, Place, same_place, latch_at, is_cover, is_latch, FlatOrder, LatchValue, ModelValue, LibraryValue, FlatErr}
 use Rattle.blif_flat.specs.DepthFirst.{Repeat, MeetsAll}
+use Rattle.blif_flat.specs.Loops.{AreNets, covers_among, reads_of}
 use Rattle.blif_flat.specs.Written.{IsWritten}
+use Rattle.blif_flat.specs.declared.flat_err.FlatErr.TheVariants.{Loop}
 
 -- the covers at the latches' inputs
 abbrev pub latch_covers : (List ℕ → Option Net) → Option LatchValue → List Place

@@ -1,12 +1,6 @@
 -- Which cover reads which, and which depends on which.
 use Rattle.std.specs.Prelude.{◌≡◌, ℕ, List, [], ◌∷◌, Option, Some, None}
-use Rattle.list_laws.specs.Members.{In}
-use Rattle.blif_flat.specs.Words.{CoverValue, LibraryValue}
-use Rattle.blif_flat.specs.Models.{Path}
-use Rattle.blif_flat.specs.Instances.{CoverAt}
-use Rattle.blif_flat.specs.Nets.{Net, input_net, latch_net, cover_net, Drives}
-use Rattle.blif_flat.specs.Drivers.{IsRead}
-use Rattle.blif_flat.specs.Places.{Place, cover_at}
+use Rattle.blif_flat.specs.Circuits.{In, IsRead, CoverAt, Path, Net, input_net, latch_net, cover_net, Drives, Place, cover_at, CoverValue, LibraryValue}
 
 -- a function that gives each name's net, where each name that is read has one
 pub record AreNets (library : LibraryValue) (net : Path → List ℕ → Option Net) : Type 0 where

@@ -1,7 +1,7 @@
 -- Models by their names, and what they place: instances are named by the ordinals of their `.subckt` lines.
-use Rattle.std.specs.Prelude.{ℕ, Bool, not, ◌&&◌, ◌||◌, if◌then◌else◌, List, [], ◌∷◌, ◌++◌, filter, Option, Some, None, slice_get, bytes_eq}
-use Rattle.std.specs.Option.{option_map, option_and_then}
 use Rattle.std.specs.List.{list_any}
+use Rattle.std.specs.Option.{option_map, option_and_then}
+use Rattle.std.specs.Prelude.{ℕ, Bool, not, ◌&&◌, ◌||◌, if◌then◌else◌, List, [], ◌∷◌, ◌++◌, filter, Option, Some, None, slice_get, bytes_eq}
 use Rattle.blif_flat.specs.Words.{Body, Cover, Latch, Subckt, Command, SubcktValue, ModelValue, LibraryValue}
 
 -- An instance: the ordinals of the `.subckt` lines that lead to it from the main model, each counted from 0 in its model, the innermost first.

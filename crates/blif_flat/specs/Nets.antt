@@ -1,8 +1,8 @@
 -- Nets: a connected formal and its actual are one net, and a net is named by what drives it.
 use Rattle.std.specs.Prelude.{◌≡◌, ℕ, List, [], ◌∷◌, Some, IsTrue}
-use Rattle.blif_flat.specs.Words.{LatchValue, Pair, CoverValue, ModelValue, LibraryValue}
-use Rattle.blif_flat.specs.Models.{Path, model_at, has_name, is_input, is_output}
 use Rattle.blif_flat.specs.Instances.{CoverAt, LatchAt, ConnectionAt, IsMainInput}
+use Rattle.blif_flat.specs.Models.{Path, model_at, has_name, is_input, is_output}
+use Rattle.blif_flat.specs.Words.{LatchValue, Pair, CoverValue, ModelValue, LibraryValue}
 
 -- the driver of a net: an input of the main model, or a latch or cover of an instance by its place among the commands
 pub data Net : Type 0 where

@@ -1,8 +1,8 @@
 -- The places of covers and latches: the instance, and the place among its model's commands; and flat order.
-use Rattle.std.specs.Prelude.{◌≡◌, ℕ, suc, Bool, true, false, ◌&&◌, ◌==◌, if◌then◌else◌, List, [], ◌∷◌, ◌++◌, Option, Some, None, bytes_eq}
 use Rattle.std.specs.Option.{option_and_then}
-use Rattle.blif_flat.specs.Words.{Body, Cover, Latch, Subckt, Command, LatchValue, CoverValue, SubcktValue, ModelValue, LibraryValue}
+use Rattle.std.specs.Prelude.{◌≡◌, ℕ, suc, Bool, true, false, ◌&&◌, ◌==◌, if◌then◌else◌, List, [], ◌∷◌, ◌++◌, Option, Some, None, bytes_eq}
 use Rattle.blif_flat.specs.Models.{Path, body_at, subckts_of, model_named, model_at}
+use Rattle.blif_flat.specs.Words.{Body, Cover, Latch, Subckt, Command, LatchValue, CoverValue, SubcktValue, ModelValue, LibraryValue}
 
 pub record Place : Type 0 where
   pub path : Path
@@ -38,19 +38,28 @@ is_latch (Cover c) = false
 is_latch (Latch l) = true
 is_latch (Subckt s) = false
 
--- the places of an instance's own commands of a kind, in line order
+-- the places of the commands of a kind, from the place i on
 abbrev pub own_places : (Body → Bool) → Path → ℕ → List Command → List Place
 own_places kind path i [] = []
 own_places kind path i (c ∷ cs) = if kind c.body then record { path = path; command = i } ∷ own_places kind path (suc i) cs else own_places kind path (suc i) cs
 
--- Flat order takes an instance's own commands of a kind in line order, then the instances of its `.subckt` lines in line order.
+-- Flat order takes what an instance has of its own, then the instances of its `.subckt` lines in line order.
 mutual
-  pub data FlatOrder (library : LibraryValue) (kind : Body → Bool) : Path → ModelValue → List Place → Type 0 where
-    flat : {path : Path} {m : ModelValue} {places : List Place} (inner : List Place) → FlatUnder library kind path 0 (subckts_of m.commands) inner
-        → places ≡ own_places kind path 0 m.commands ++ inner → FlatOrder library kind path m places
+  pub data InFlatOrder {A : Type 0} (library : LibraryValue) (own : Path → ModelValue → List A) : Path → ModelValue → List A → Type 0 where
+    flat : {path : Path} {m : ModelValue} {items : List A} (inner : List A) → InFlatOrderUnder library own path 0 (subckts_of m.commands) inner → items ≡ own path m ++ inner → InFlatOrder library own path m items
 
-  pub data FlatUnder (library : LibraryValue) (kind : Body → Bool) : Path → ℕ → List SubcktValue → List Place → Type 0 where
-    none : {path : Path} {k : ℕ} {subckts : List SubcktValue} {places : List Place} → subckts ≡ [] → places ≡ [] → FlatUnder library kind path k subckts places
-    more : {path : Path} {k : ℕ} {subckts : List SubcktValue} {places : List Place} (s : SubcktValue) (rest : List SubcktValue) (child : ModelValue) (these others : List Place)
-        → subckts ≡ s ∷ rest → model_named library.models s.model ≡ Some child → FlatOrder library kind (k ∷ path) child these
-        → FlatUnder library kind path (suc k) rest others → places ≡ these ++ others → FlatUnder library kind path k subckts places
+  pub data InFlatOrderUnder {A : Type 0} (library : LibraryValue) (own : Path → ModelValue → List A) : Path → ℕ → List SubcktValue → List A → Type 0 where
+    none : {path : Path} {k : ℕ} {subckts : List SubcktValue} {items : List A} → subckts ≡ [] → items ≡ [] → InFlatOrderUnder library own path k subckts items
+    more : {path : Path} {k : ℕ} {subckts : List SubcktValue} {items : List A} (s : SubcktValue) (rest : List SubcktValue) (child : ModelValue) (these others : List A)
+        → subckts ≡ s ∷ rest → model_named library.models s.model ≡ Some child → InFlatOrder library own (k ∷ path) child these
+        → InFlatOrderUnder library own path (suc k) rest others → items ≡ these ++ others → InFlatOrderUnder library own path k subckts items
+
+-- the places of an instance's own commands of a kind, in line order, and those of all instances
+abbrev pub own_of : (Body → Bool) → Path → ModelValue → List Place
+own_of kind path m = own_places kind path 0 m.commands
+
+abbrev pub FlatOrder : LibraryValue → (Body → Bool) → Path → ModelValue → List Place → Type 0
+FlatOrder library kind = InFlatOrder library (own_of kind)
+
+abbrev pub FlatUnder : LibraryValue → (Body → Bool) → Path → ℕ → List SubcktValue → List Place → Type 0
+FlatUnder library kind = InFlatOrderUnder library (own_of kind)

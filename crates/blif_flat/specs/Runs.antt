@@ -1,9 +1,7 @@
 -- The clock cycle of the source circuit, and its run over several clock cycles.
 use Rattle.std.specs.Prelude.{◌≡◌, ℕ, Bool, false, if◌then◌else◌, List, [], ◌∷◌, length, map, Option, Some, None}
-use Rattle.blif_flat.specs.Words.{LatchValue, ModelValue, LibraryValue}
-use Rattle.blif_flat.specs.Models.{Path, model_at}
+use Rattle.blif_flat.specs.Circuits.{Path, model_at, Place, same_place, latch_at, is_latch, FlatOrder, LatchValue, ModelValue, LibraryValue}
 use Rattle.blif_flat.specs.Cycle.{Fits}
-use Rattle.blif_flat.specs.Places.{Place, same_place, latch_at, is_latch, FlatOrder}
 
 -- the latches of a library in flat order
 pub record AreLatches (library : LibraryValue) (main : ModelValue) (latches : List Place) : Type 0 where

@@ -1,13 +1,7 @@
 -- Sound libraries: well formed, and none of F1 to F10 stands.
 use Rattle.std.specs.Prelude.{◌≡◌, ℕ, List, [], Some}
-use Rattle.list_laws.specs.Members.{In}
-use Rattle.blif_flat.specs.Words.{LatchValue, CoverValue, ModelValue, LibraryValue}
 use Rattle.blif_read.specs.WellFormed.{IsWellFormed}
-use Rattle.blif_flat.specs.Models.{Path, model_at}
-use Rattle.blif_flat.specs.Instances.{CoverAt, LatchAt}
-use Rattle.blif_flat.specs.Nets.{input_net, Drives, IsClock}
-use Rattle.blif_flat.specs.Drivers.{IsDriven}
-use Rattle.blif_flat.specs.Places.{Place}
+use Rattle.blif_flat.specs.Circuits.{In, IsDriven, CoverAt, LatchAt, Path, model_at, input_net, Drives, IsClock, Place, LatchValue, CoverValue, ModelValue, LibraryValue}
 use Rattle.blif_flat.specs.Loops.{Depends}
 
 -- a name of an instance is an input of a cover or a latch

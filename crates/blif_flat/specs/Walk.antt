@@ -1,10 +1,7 @@
 -- The walk of the models: depth first from the main model, in each model the `.subckt` lines in order, and each placed model unless it was walked before.
 use Rattle.std.specs.Prelude.{◌≡◌, ℕ, Bool, true, false, ◌||◌, if◌then◌else◌, List, [], ◌∷◌, ◌++◌, Option, Some, None, bytes_eq}
 use Rattle.std.specs.List.{list_any}
-use Rattle.blif_flat.specs.Words.{Body, Cover, Latch, Subckt, Command, Pair, SubcktValue, ModelValue, LibraryValue}
-use Rattle.blif_flat.specs.declared.flat_err.FlatErr.{FlatErr}
-use Rattle.blif_flat.specs.declared.flat_err.FlatErr.TheVariants.{UnknownModel, RecursiveModel, UnknownFormal, Unconnected}
-use Rattle.blif_flat.specs.Models.{model_named, has_name, is_input, inputs_of}
+use Rattle.blif_flat.specs.Circuits.{model_named, has_name, is_input, inputs_of, Body, Cover, Latch, Subckt, Command, Pair, SubcktValue, ModelValue, LibraryValue, FlatErr, UnknownModel, RecursiveModel, UnknownFormal, Unconnected}
 
 -- the `.subckt` lines of a model
 pub record SubcktLine : Type 0 where

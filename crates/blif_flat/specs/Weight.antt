@@ -1,7 +1,6 @@
 -- The weight of a model: what it holds, and the weights of the models that it places.
 use Rattle.std.specs.Prelude.{◌≡◌, ℕ, ◌+◌, ◌≤◌, List, [], ◌∷◌, length, Option, Some, None}
-use Rattle.blif_flat.specs.Words.{Body, Cover, Latch, Subckt, Command, SubcktValue, ModelValue, LibraryValue}
-use Rattle.blif_flat.specs.Models.{subckts_of, model_named, model_at}
+use Rattle.blif_flat.specs.Circuits.{subckts_of, model_named, model_at, Body, Cover, Latch, Subckt, Command, SubcktValue, ModelValue, LibraryValue}
 
 abbrev pub control_weight : Option (List ℕ) → ℕ
 control_weight None = 0

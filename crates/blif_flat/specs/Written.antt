@@ -1,9 +1,6 @@
 -- Nets as they are written: each ordinal of the instance followed by `/` (47), from the outside in, and then the name at the driver.
 use Rattle.std.specs.Prelude.{◌≡◌, ℕ, List, [], ◌∷◌, ◌++◌, decimal}
-use Rattle.blif_flat.specs.Words.{LatchValue, CoverValue, LibraryValue}
-use Rattle.blif_flat.specs.Models.{Path}
-use Rattle.blif_flat.specs.Instances.{CoverAt, LatchAt}
-use Rattle.blif_flat.specs.Nets.{Net, input_net, latch_net, cover_net}
+use Rattle.blif_flat.specs.Circuits.{CoverAt, LatchAt, Path, Net, input_net, latch_net, cover_net, LatchValue, CoverValue, LibraryValue}
 
 -- the path stands innermost first
 abbrev pub path_text : Path → List ℕ

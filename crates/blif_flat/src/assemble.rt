@@ -1,25 +1,14 @@
 //! The flat circuit of a library, from its circuit and its clock nets.
 ghost use Rattle.std.specs.Prelude.{◌≡◌, ◌<◌, ◌^◌, ℕ, List, ◌++◌, Some, None, IfOk, IfErr, length, slice_get};
-ghost use Rattle.list_laws.specs.Members.{In};
-ghost use Rattle.tl_fault.specs.OrMemory.{OrMemory};
-ghost use Rattle.blif_read.specs.LibraryValue.{ModelValue};
-ghost use Rattle.blif_flat.specs.Refusals.{refusal_of};
-ghost use Rattle.blif_flat.specs.Steps.ClockSteps.{input_name};
-ghost use Rattle.blif_flat.specs.Drivers.{IsDriven};
-ghost use Rattle.blif_flat.specs.Flat.{IsFlat};
-ghost use Rattle.blif_flat.specs.Steps.InstanceRows.{IsLight};
-ghost use Rattle.blif_flat.specs.LoopFault.{LoopWalk, IsLoop};
-ghost use Rattle.blif_flat.specs.Models.{inputs_of};
-ghost use Rattle.blif_flat.specs.Steps.Stages.{IsCircuit, AreClockNets};
+ghost use Rattle.blif_flat.specs.{In, OrMemory, ModelValue, refusal_of, input_name, IsDriven, IsFlat, IsLight, LoopWalk, IsLoop, inputs_of, IsCircuit, AreClockNets};
 
 use crate::clock_check::ClockNets;
 use crate::connect::Circuit;
 use crate::flat::Flat;
 use crate::flat_err::FlatErr;
-use crate::flat_gates::{flat_covers, flat_latches};
+use crate::flat_gates::{flat_covers, flat_latches, regular_numbers};
 use crate::flat_ports::{clock_names, flat_outputs, most_underscores, regular_inputs};
 use crate::loops::cover_order;
-use crate::regular_nets::regular_numbers;
 use blif_read::{BlifModel, Library};
 use std::alloc::{AllocError, Global};
 use tl_text::Name;

@@ -1,16 +1,7 @@
 //! Flattening.
 ghost use Rattle.std.specs.Prelude.{◌≡◌, ◌<◌, ◌^◌, Some, IfOk, IfErr, length, slice_get};
-ghost use Rattle.tl_fault.specs.OrMemory.{OrMemory};
 ghost use Rattle.blif_read.specs.ShortPorts.{HasShortPorts};
-ghost use Rattle.blif_read.specs.WellFormed.{IsWellFormed};
-ghost use Rattle.blif_flat.specs.Refusals.{refusal_of};
-ghost use Rattle.blif_flat.specs.Faults.{IsFault, HasOneFault, HasNoFault};
-ghost use Rattle.blif_flat.specs.Bounds.{IsWithinBounds};
-ghost use Rattle.blif_flat.specs.Weight.{IsLight};
-ghost use Rattle.blif_flat.specs.Flattened.{HasValues, HasOneFlat};
-ghost use Rattle.blif_flat.specs.FlatCycle.{HasCycles};
-ghost use Rattle.blif_flat.specs.Law.{HasOneCycle};
-ghost use Rattle.blif_flat.specs.Sound.{IsSound};
+ghost use Rattle.blif_flat.specs.{OrMemory, IsWellFormed, refusal_of, IsFault, HasOneFault, HasNoFault, IsWithinBounds, IsLight, HasValues, HasOneFlat, HasCycles, HasOneCycle, IsSound};
 
 use crate::assemble::assemble;
 use crate::checks::check_models;
@@ -19,8 +10,7 @@ use crate::clocks::all_inputs;
 use crate::connect::connect;
 use crate::flat::Flat;
 use crate::flat_err::FlatErr;
-use crate::model_index::ModelIndex;
-use crate::ports::{Ports, all_ports};
+use crate::ports::{ModelIndex, Ports, all_ports};
 use blif_read::{BlifModel, Library};
 use std::alloc::Global;
 

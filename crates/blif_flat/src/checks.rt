@@ -1,16 +1,10 @@
 //! The refusals of models: the walk, the weight, the drivers.
 ghost use Rattle.std.specs.Prelude.{◌≡◌, ◌<◌, ◌^◌, length, map, IfOk, IfErr};
-ghost use Rattle.tl_fault.specs.OrMemory.{OrMemory};
-ghost use Rattle.blif_read.specs.WellFormed.{IsWellFormed};
-ghost use Rattle.blif_flat.specs.Refusals.{refusal_of};
-ghost use Rattle.blif_flat.specs.Steps.NameSets.{ports_value, model_names};
-ghost use Rattle.blif_flat.specs.Steps.Checked.{IsChecked};
-ghost use Rattle.blif_flat.specs.Faults.{IsFault};
+ghost use Rattle.blif_flat.specs.{OrMemory, IsWellFormed, refusal_of, ports_value, model_names, IsChecked, IsFault};
 
 use crate::drivers::check_drivers;
 use crate::flat_err::FlatErr;
-use crate::model_index::ModelIndex;
-use crate::ports::Ports;
+use crate::ports::{ModelIndex, Ports};
 use crate::walk::walk_models;
 use crate::weight::check_weight;
 use blif_read::Library;

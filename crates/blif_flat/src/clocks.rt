@@ -1,12 +1,9 @@
 //! The inputs of a model, and which of them are clock nets.
 ghost use Rattle.std.specs.Prelude.{◌≡◌, ◌<◌, ℕ, ◌++◌, ◌||◌, not, filter, length, map, slice_get, Some, IfOk, OnOk};
 ghost use Rattle.std.specs.Option.{option_and_then};
-ghost use Rattle.blif_flat.specs.Models.{has_name, inputs_of};
-ghost use Rattle.blif_flat.specs.Steps.NameSets.{ports_value};
-ghost use Rattle.blif_flat.specs.Steps.ClockSteps.{input_name, is_control as is_control_of, clock_test};
+ghost use Rattle.blif_flat.specs.{has_name, inputs_of, ports_value, input_name, is_control as is_control_of, clock_test};
 
-use crate::name_set::{is_among, with_names};
-use crate::ports::Ports;
+use crate::ports::{Ports, is_among, with_names};
 use blif_read::BlifModel;
 use std::alloc::{AllocError, Global};
 use tl_text::{Name, NameIndex};

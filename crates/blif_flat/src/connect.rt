@@ -1,18 +1,11 @@
 //! The circuit of a library: its instances, their covers and latches, and the nets of all their names.
 ghost use Rattle.std.specs.Prelude.{◌≡◌, map, IfOk};
-ghost use Rattle.blif_read.specs.WellFormed.{IsWellFormed};
-ghost use Rattle.blif_flat.specs.Steps.NameSets.{ports_value, model_names};
-ghost use Rattle.blif_flat.specs.Drivers.{IsDriven};
-ghost use Rattle.blif_flat.specs.Steps.InstanceRows.{IsLight};
-ghost use Rattle.blif_flat.specs.Steps.Stages.{IsCircuit};
+ghost use Rattle.blif_flat.specs.{IsWellFormed, ports_value, model_names, IsDriven, IsLight, IsCircuit};
 
-use crate::gates::{Gate, GateKind, gates};
-use crate::instances::{Instance, instances};
-use crate::model_index::ModelIndex;
-use crate::net_make::make_nets;
+use crate::instances::{Gate, GateKind, Instance, gates, instances};
 use crate::net_table::fill_nets;
-use crate::nets::Nets;
-use crate::ports::Ports;
+use crate::nets::{Nets, make_nets};
+use crate::ports::{ModelIndex, Ports};
 use blif_read::Library;
 use std::alloc::{AllocError, Global};
 

@@ -1,28 +1,10 @@
 //! The controls of the latches: their net is one input of the main model.
 ghost use Rattle.std.specs.Prelude.{◌≡◌, ◌<◌, ℕ, true, false, [], length, slice_get, Some, None, IfOk, IfErr};
-ghost use Rattle.tl_fault.specs.OrMemory.{OrMemory};
-ghost use Rattle.blif_read.specs.LibraryValue.{ModelValue};
-ghost use Rattle.blif_read.specs.declared.latch.Latch.{Latch as LatchValue};
-ghost use Rattle.blif_flat.specs.Refusals.{refusal_of};
-ghost use Rattle.blif_flat.specs.Models.{Path, model_at, inputs_of};
-ghost use Rattle.blif_flat.specs.Drivers.{IsDriven, IsRead};
-ghost use Rattle.blif_flat.specs.Instances.{LatchAt};
-ghost use Rattle.blif_flat.specs.Nets.{latch_net};
-ghost use Rattle.blif_flat.specs.Places.{Place, is_cover, is_latch};
-ghost use Rattle.blif_flat.specs.Steps.InstanceRows.{AreInstances, paths_of};
-ghost use Rattle.blif_flat.specs.Steps.InstanceOrder.{places_at};
-ghost use Rattle.blif_flat.specs.Written.{IsWritten};
-ghost use Rattle.blif_flat.specs.ClockFaults.{Clocks};
-ghost use Rattle.blif_flat.specs.Steps.Gates.{IsGateAt, AreGatesAt};
-ghost use Rattle.blif_flat.specs.Steps.NetMade.{AreAllNets};
-ghost use Rattle.blif_flat.specs.Steps.ClockSteps.{IsControlled};
-ghost use Rattle.blif_flat.specs.Steps.ControlSteps.{input_at, IsKeptInput, IsSecond, IsMetInput, IsRefused, ControlNext, ControlFault};
+ghost use Rattle.blif_flat.specs.{OrMemory, ModelValue, LatchValue, refusal_of, Path, model_at, inputs_of, IsDriven, IsRead, LatchAt, latch_net, Place, is_cover, is_latch, AreInstances, paths_of, places_at, IsWritten, Clocks, IsGateAt, AreGatesAt, AreAllNets, IsControlled, input_at, IsKeptInput, IsSecond, IsMetInput, IsRefused, ControlNext, ControlFault};
 
 use crate::flat::Net;
 use crate::flat_err::FlatErr;
-use crate::gate_body::{gate_at, gate_latch};
-use crate::gates::Gate;
-use crate::instances::Instance;
+use crate::instances::{Gate, Instance, gate_at, gate_latch};
 use crate::nets::Nets;
 use crate::written::{write_net, written_cover};
 use blif_read::Library;

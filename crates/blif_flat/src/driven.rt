@@ -1,9 +1,8 @@
 //! The names that are driven in a model.
 ghost use Rattle.std.specs.Prelude.{◌≡◌, false, [], ◌∷◌, ◌++◌, OnOk, OnErr};
-ghost use Rattle.blif_flat.specs.Models.{has_name};
+ghost use Rattle.blif_flat.specs.{has_name};
 
-use crate::name_set::is_among;
-use crate::ports::Ports;
+use crate::ports::{Ports, is_among};
 use std::alloc::{AllocError, Global};
 use std::marker::Model;
 use tl_text::NameIndex;

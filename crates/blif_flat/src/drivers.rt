@@ -1,17 +1,10 @@
 //! The names that are driven twice, and those that are read and aren't driven.
 ghost use Rattle.std.specs.Prelude.{◌≡◌, ℕ, List, [], ◌∷◌, ◌++◌, map, None, slice_get, MatchOption, MatchResult};
-ghost use Rattle.blif_read.specs.LibraryValue.{ModelValue, LibraryValue};
-ghost use Rattle.blif_flat.specs.declared.flat_err.FlatErr.TheVariants.{Memory};
-ghost use Rattle.blif_flat.specs.Models.{model_named, has_name};
-ghost use Rattle.blif_flat.specs.Steps.NameSets.{ports_value, model_names};
-ghost use Rattle.blif_flat.specs.DriverFaults.{output_actuals, input_actuals, driven_pairs, read_pairs, with_control, drives, reads, all_drives, twice_in, twice_fault, undriven_in, undriven_fault, model_fault, models_fault};
-ghost use Rattle.blif_flat.specs.Steps.DriverSteps.{Tells, Adds, ArePortsOf, AreOf, fault_of};
-ghost use Rattle.blif_flat.specs.Steps.NumberedModels.{models_at};
+ghost use Rattle.blif_flat.specs.{ModelValue, LibraryValue, Memory, model_named, has_name, ports_value, model_names, output_actuals, input_actuals, driven_pairs, read_pairs, with_control, drives, reads, all_drives, twice_in, twice_fault, undriven_in, undriven_fault, model_fault, models_fault, Tells, Adds, ArePortsOf, AreOf, fault_of, models_at};
 
 use crate::driven::Driven;
 use crate::flat_err::FlatErr;
-use crate::model_index::ModelIndex;
-use crate::ports::Ports;
+use crate::ports::{ModelIndex, Ports};
 use blif_read::{BlifModel, Body, Latch, Library, Pair, Subckt};
 use std::alloc::Global;
 use tl_text::Name;

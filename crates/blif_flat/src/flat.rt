@@ -1,6 +1,6 @@
 //! The flat circuit of a library.
 ghost use Rattle.std.specs.Prelude.{◌≡◌, Some, IsSome};
-ghost use Rattle.blif_flat.specs.Evaluation.{cover_behind};
+ghost use Rattle.blif_flat.specs.{cover_behind};
 
 use blif_read::{Body, Cover, Library};
 use std::marker::Model;

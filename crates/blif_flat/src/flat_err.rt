@@ -1,4 +1,5 @@
 //! Why a library has no flat circuit.
+
 use std::alloc::{AllocError, AllocFailed};
 use tl_fault::{Details, Name, Names, Refusal};
 

@@ -1,21 +1,12 @@
 //! The ports of a flat circuit: its outputs, its regular inputs and its clock nets.
 ghost use Rattle.std.specs.Prelude.{◌≡◌, ◌<◌, ◌^◌, ℕ, Bool, List, [], ◌∷◌, ◌++◌, length, map, filter, max, not, IfOk, OnOk, slice_get};
-ghost use Rattle.list_laws.specs.Members.{In};
-ghost use Rattle.blif_flat.specs.declared.flat.OutPort.{OutPort as OutPortValue};
-ghost use Rattle.blif_flat.specs.Models.{inputs_of, has_name};
-ghost use Rattle.blif_flat.specs.Drivers.{IsDriven};
-ghost use Rattle.blif_flat.specs.Steps.InstanceRows.{AreInstances, paths_of};
-ghost use Rattle.blif_flat.specs.Steps.NetSlots.{IsNets};
-ghost use Rattle.blif_flat.specs.Steps.NetMade.{AreAllNets};
-ghost use Rattle.blif_flat.specs.Flat.{AreNetsOf, with_control_net, underscores as underscores_of, most_underscores};
-ghost use Rattle.blif_flat.specs.Steps.RegularNets.{IsRegular, regular_places};
-ghost use Rattle.blif_flat.specs.Steps.FieldSteps.{out_port as port_of, outputs_or, with_unmarked, unmarked_after};
+ghost use Rattle.blif_flat.specs.{In, OutPort as OutPortValue, inputs_of, has_name, IsDriven, AreInstances, paths_of, IsNets, AreAllNets, AreNetsOf, with_control_net, underscores as underscores_of, most_underscores, IsRegular, regular_places, out_port as port_of, outputs_or, with_unmarked, unmarked_after};
 
 use crate::clocks::copies;
 use crate::flat::OutPort;
+use crate::flat_gates::net_at;
 use crate::instances::Instance;
 use crate::nets::Nets;
-use crate::regular_nets::net_at;
 use blif_read::{BlifModel, Library};
 use std::alloc::{AllocError, Global};
 use tl_text::Name;

@@ -1,13 +1,10 @@
-//! The instances of a library in flat order.
-ghost use Rattle.std.specs.Prelude.{◌≡◌, ℕ, ◌+◌, ◌<◌, ◌^◌, List, [], ◌∷◌, ◌++◌, length, reverse, Some, slice_get, IfOk, OnOk};
-ghost use Rattle.blif_read.specs.LibraryValue.{ModelValue};
-ghost use Rattle.blif_flat.specs.Models.{subckts_of, with_subckt};
-ghost use Rattle.blif_flat.specs.Steps.NameSets.{model_names};
-ghost use Rattle.tl_text.specs.NameIndex.{place_of};
-ghost use Rattle.blif_flat.specs.Steps.InstanceRows.{AreInstances, IsLight, number_or_zero, with_entry, entries_from};
+//! The instances of a library in flat order, their covers and latches, and what stands at these.
+ghost use Rattle.std.specs.Prelude.{◌≡◌, ℕ, ◌+◌, ◌<◌, ◌^◌, List, [], ◌∷◌, ◌++◌, length, reverse, Some, slice_get, IfOk, OnOk, ◌≤◌, None, MatchOption};
+ghost use Rattle.std.specs.Option.{option_map};
+ghost use Rattle.blif_flat.specs.{ModelValue, subckts_of, with_subckt, model_names, place_of, AreInstances, IsLight, number_or_zero, with_entry, entries_from, paths_of, places_at, kind_test, AreGatesAt, with_commands, with_model, most_weight, body_at, Place, latch_at, IsGateAt, numbered_body, place_body, gate_body as body_of};
 
-use crate::model_index::ModelIndex;
-use blif_read::{BlifModel, Body, Command, Library};
+use crate::ports::ModelIndex;
+use blif_read::{BlifModel, Body, Command, Latch, Library};
 use std::alloc::{AllocError, Global};
 
 /// An instance of a model. The first instance is the main model's own.
@@ -142,4 +139,146 @@ pub(crate) fn instances(
         push_entries(alloc, library, index, &mut stack, entry.model, place)?;
     }
     Ok(rows)
+}
+
+/// A cover or a latch of an instance.
+#[derive(Clone, Copy, Debug, PartialEq, Eq)]
+pub(crate) struct Gate {
+    /// The row of its instance.
+    pub row: u32,
+    /// Its place among the commands of its model.
+    pub command: u32,
+}
+
+/// Which commands are taken.
+#[derive(Clone, Copy, Drop)]
+pub(crate) enum GateKind {
+    Cover,
+    Latch,
+    /// Covers and latches alike.
+    Either,
+}
+
+// Is the command of the kind?
+fn is_of_kind(kind: GateKind, body: &Body) -> bool
+    ensures { result ≡ kind_test kind body.now }
+{
+    match body {
+        Body::Cover(_) => !matches!(kind, GateKind::Latch),
+        Body::Latch(_) => !matches!(kind, GateKind::Cover),
+        Body::Subckt(_) => false,
+    }
+}
+
+// Adds the commands of the kind as gates of a row.
+fn add_commands(
+    gates: &mut Vec<Gate>,
+    kind: GateKind,
+    row: u32,
+    commands: &[Command],
+) -> Result<(), AllocError>
+    requires { length commands.now < 2 ^ 32 }
+    ensures { OnOk result (gates.new.items ≡ with_commands (kind_test kind) row 0 gates.old.items commands.now) }
+{
+    for (place, command) in commands.iter().enumerate() {
+        if is_of_kind(kind, &command.body) {
+            let command = place as u32;
+            gates.push(Gate { row, command })?;
+        }
+    }
+    Ok(())
+}
+
+// Adds the gates of the model of a number as those of a row.
+fn add_model(
+    library: &Library,
+    gates: &mut Vec<Gate>,
+    kind: GateKind,
+    row: u32,
+    model: u32,
+) -> Result<(), AllocError>
+    requires { (m : ModelValue) → slice_get library.now.models model ≡ Some m → length m.commands < 2 ^ 32 }
+    ensures { OnOk result (gates.new.items ≡ with_model (kind_test kind) row gates.old.items (slice_get library.now.models model)) }
+{
+    match library.models.get(model as usize) {
+        None => Ok(()),
+        Some(model) => add_commands(gates, kind, row, &model.commands),
+    }
+}
+
+/// The gates of a kind in flat order: those of each instance in line order. The rows are those of the library. They are at
+/// most 2^22. `Err` comes only for want of memory. It takes time linear in the commands of the instances' models.
+pub(crate) fn gates(
+    alloc: Global,
+    library: &Library,
+    rows: &[Instance],
+    kind: GateKind,
+) -> Result<Vec<Gate>, AllocError>
+    requires light { IsLight library.now }
+    requires rows { AreInstances library.now rows.now }
+    ensures gates { IfOk result (λ gates. AreGatesAt (paths_of rows.now) gates.items (places_at library.now (kind_test kind) (paths_of rows.now))) }
+    ensures few { IfOk result (λ gates. length gates.items ≤ most_weight) }
+{
+    let mut gates = Vec::new(alloc);
+    for (row, instance) in rows.iter().enumerate() {
+        add_model(library, &mut gates, kind, row as u32, instance.model)?;
+    }
+    Ok(gates)
+}
+
+/// The gate of a number.
+pub(crate) fn gate_at(gates: &[Gate], k: u32) -> Gate
+    requires { k < length gates.now }
+    ensures { slice_get gates.now k ≡ Some result }
+{
+    gates[k as usize]
+}
+
+fn command_body(model: &BlifModel, command: u32) -> Option<&Body>
+    ensures { option_map (λ body. body.now) result ≡ body_at model.now command }
+{
+    match model.commands.get(command as usize) {
+        None => None,
+        Some(found) => Some(&found.body),
+    }
+}
+
+fn model_body(library: &Library, model: u32, command: u32) -> Option<&Body>
+    ensures { option_map (λ body. body.now) result ≡ numbered_body library.now model command }
+{
+    match library.models.get(model as usize) {
+        None => None,
+        Some(found) => command_body(found, command),
+    }
+}
+
+/// The body of a gate's command. Where the rows are those of the library, it is the body of the gate's place.
+pub(crate) fn gate_body<'a>(library: &'a Library, rows: &[Instance], gate: Gate) -> Option<&'a Body>
+    ensures body { option_map (λ body. body.now) result ≡ body_of library.now rows.now gate }
+    ensures place { AreInstances library.now rows.now → (p : Place) → IsGateAt (paths_of rows.now) gate p
+        → MatchOption result (place_body library.now p ≡ None) (λ b. place_body library.now p ≡ Some b.now) }
+{
+    match rows.get(gate.row as usize) {
+        None => None,
+        Some(row) => model_body(library, row.model, gate.command),
+    }
+}
+
+/// The latch of a gate, and `None` where it is another command. The rows are those of the library.
+pub(crate) fn gate_latch<'a>(
+    library: &'a Library,
+    rows: &[Instance],
+    gate: Gate,
+) -> Option<&'a Latch>
+    requires rows { AreInstances library.now rows.now }
+    ensures { (p : Place) → IsGateAt (paths_of rows.now) gate p → MatchOption result (latch_at library.now p ≡ None) (λ l. latch_at library.now p ≡ Some l.now) }
+{
+    match gate_body(library, rows, gate) {
+        None => None,
+        Some(body) => match body {
+            Body::Cover(_) => None,
+            Body::Latch(latch) => Some(latch),
+            Body::Subckt(_) => None,
+        },
+    }
 }

@@ -1,16 +1,53 @@
-//! The ports of the models, each found by its hash.
-ghost use Rattle.std.specs.Prelude.{◌≡◌, ◌++◌, ◌∷◌, [], map, IfOk, OnOk};
-ghost use Rattle.list_laws.specs.Members.{In};
-ghost use Rattle.tl_text.specs.NameIndex.{place_of};
-ghost use Rattle.blif_read.specs.LibraryValue.{ModelValue};
-ghost use Rattle.blif_read.specs.WellFormed.{IsWellFormedModel};
-ghost use Rattle.blif_flat.specs.Models.{has_name, is_input as input_of, is_output as output_of};
-ghost use Rattle.blif_flat.specs.Steps.NameSets.{ports_value};
+//! Names without repeats, the ports of the models and the models themselves, each found by its hash.
+ghost use Rattle.std.specs.Prelude.{◌≡◌, [], IfOk, OnOk, ◌++◌, ◌∷◌, map, ℕ, ◌<◌, ◌^◌, List, length, IfSome};
+ghost use Rattle.blif_flat.specs.{formals, has_name, with_name, with_names as with_all_names, In, place_of, ModelValue, IsWellFormedModel, is_input as input_of, is_output as output_of, ports_value, AreOnce, model_names, Finds};
 
-use crate::name_set::{is_among, with_names};
-use blif_read::BlifModel;
+use blif_read::{BlifModel, Pair};
 use std::alloc::{AllocError, Global};
-use tl_text::NameIndex;
+use tl_text::{Name, NameIndex};
+
+/// Is the name among them?
+pub(crate) fn is_among(index: &NameIndex, name: &[u8]) -> bool
+    ensures { result ≡ has_name index.now name.now }
+{
+    index.place(name).is_some()
+}
+
+/// Adds a name, unless it is among them.
+pub(crate) fn add_once(alloc: Global, index: &mut NameIndex, name: &[u8]) -> Result<(), AllocError>
+    ensures { OnOk result (index.new ≡ with_name index.old name.now) }
+{
+    if is_among(index, name) {
+        return Ok(());
+    }
+    index.add(alloc, name)
+}
+
+/// The names and those of a list, each unless it is among those before.
+pub(crate) fn with_names(
+    alloc: Global,
+    index: NameIndex,
+    names: &[Name],
+) -> Result<NameIndex, AllocError>
+    ensures { IfOk result (λ all. all ≡ with_all_names index names.now) }
+{
+    let mut all = index;
+    for name in names {
+        add_once(alloc, &mut all, name.bytes())?;
+    }
+    Ok(all)
+}
+
+/// The formals of connections.
+pub(crate) fn formal_index(alloc: Global, pairs: &[Pair]) -> Result<NameIndex, AllocError>
+    ensures { IfOk result (λ all. all ≡ with_all_names [] (formals pairs.now)) }
+{
+    let mut all = NameIndex::new(alloc);
+    for pair in pairs {
+        add_once(alloc, &mut all, pair.formal.bytes())?;
+    }
+    Ok(all)
+}
 
 /// The ports of a model.
 #[derive(Drop)]
@@ -74,4 +111,37 @@ pub(crate) fn all_ports(alloc: Global, models: &[BlifModel]) -> Result<Vec<Ports
         all.push(ports)?;
     }
     Ok(all)
+}
+
+/// The names of the models in order.
+#[derive(Drop)]
+pub(crate) struct ModelIndex {
+    names: NameIndex,
+    ghost few: { length names < 2 ^ 32 },
+}
+
+impl ModelIndex {
+    /// The names of these models. It takes time linear in their bytes, on average over the hashes.
+    pub(crate) fn make(alloc: Global, models: &[BlifModel]) -> Result<ModelIndex, AllocError>
+        requires once { AreOnce (model_names models.now) }
+        requires few { length models.now < 2 ^ 32 }
+        ensures { IfOk result (λ index. index.names ≡ model_names models.now) }
+    {
+        let mut names = NameIndex::new(alloc);
+        for model in models {
+            add_once(alloc, &mut names, model.name.bytes())?;
+        }
+        Ok(ModelIndex { names })
+    }
+
+    /// The number of the model of this name, counted from 0.
+    pub(crate) fn find(&self, name: &[u8]) -> Option<u32>
+        ensures place { result ≡ place_of self.now.names name.now }
+        ensures model { (models : List ModelValue) → self.now.names ≡ model_names models → Finds models name.now result }
+    {
+        match self.names.place(name) {
+            None => None,
+            Some(place) => Some(place as u32),
+        }
+    }
 }

@@ -1,16 +1,9 @@
 //! The weights of models, each kept up to 2^22 + 1.
 ghost use Rattle.std.specs.Prelude.{◌≡◌, ℕ, ◌+◌, ◌<◌, ◌≤◌, length, Some, slice_get, set, IfOk, MatchResult};
-ghost use Rattle.list_laws.specs.Members.{In};
-ghost use Rattle.tl_fault.specs.OrMemory.{OrMemory};
-ghost use Rattle.blif_read.specs.LibraryValue.{ModelValue};
-ghost use Rattle.blif_flat.specs.Weight.{most_weight, body_weight, commands_weight, own_weight};
-ghost use Rattle.blif_flat.specs.declared.flat_err.FlatErr.TheVariants.{TooLarge};
-ghost use Rattle.blif_flat.specs.Refusals.{refusal_of};
-ghost use Rattle.blif_flat.specs.Steps.NameSets.{model_names};
-ghost use Rattle.blif_flat.specs.Steps.Weighing.{HasWeight, capped, body_kept, commands_kept, model_kept, AreChildrenFirst, IsKeptWeight};
+ghost use Rattle.blif_flat.specs.{In, OrMemory, ModelValue, most_weight, body_weight, commands_weight, own_weight, TooLarge, refusal_of, model_names, HasWeight, capped, body_kept, commands_kept, model_kept, AreChildrenFirst, IsKeptWeight};
 
 use crate::flat_err::FlatErr;
-use crate::model_index::ModelIndex;
+use crate::ports::ModelIndex;
 use blif_read::{BlifModel, Body, Command, Library};
 use std::alloc::{AllocError, Global};
 

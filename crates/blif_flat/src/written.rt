@@ -1,21 +1,10 @@
 //! The names of nets as they are written: each ordinal of the instance and `/`, from the outside in, and then the name at
 //! the driver.
 ghost use Rattle.std.specs.Prelude.{◌≡◌, ◌<◌, ◌∷◌, ◌++◌, [], length, decimal, Some, slice_get, IfOk, OnOk};
-ghost use Rattle.blif_flat.specs.Models.{Path, body_at};
-ghost use Rattle.blif_flat.specs.Places.{cover_in, is_cover};
-ghost use Rattle.blif_flat.specs.Instances.{CoverAt};
-ghost use Rattle.blif_flat.specs.Nets.{cover_net};
-ghost use Rattle.blif_read.specs.CoverValue.{CoverValue};
 ghost use Rattle.std.specs.Option.{option_and_then};
-ghost use Rattle.blif_flat.specs.Written.{path_text, IsWritten};
-ghost use Rattle.blif_flat.specs.Steps.InstanceRows.{paths_of, AreInstances};
-ghost use Rattle.blif_flat.specs.Steps.InstanceOrder.{places_at};
-ghost use Rattle.blif_flat.specs.Steps.Gates.{AreGatesAt};
-ghost use Rattle.blif_flat.specs.Steps.LoopSteps.{IsWrittenAt};
-ghost use Rattle.blif_flat.specs.Steps.RowPaths.{AreUnder, output_or, output_at as output_at_of};
+ghost use Rattle.blif_flat.specs.{Path, body_at, cover_in, is_cover, CoverAt, cover_net, CoverValue, path_text, IsWritten, paths_of, AreInstances, places_at, AreGatesAt, IsWrittenAt, AreUnder, output_or, output_at as output_at_of};
 
-use crate::gates::Gate;
-use crate::instances::Instance;
+use crate::instances::{Gate, Instance};
 use blif_read::{BlifModel, Body, Library};
 use itoa::Buffer;
 use std::alloc::{AllocError, Global};

@@ -1,34 +1,99 @@
--- The nets of all instances become known, step by step: outputs from the inside out, and then inputs from the outside in.
-use Rattle.std.proofs.Common.{◌≡◌, ℕ, zero, suc, ◌≤◌, List, [], ◌∷◌, length, Some, None, refl, sym, ap, ◌∙◌, subst, inl, inr, arith, ◌<◌, map, get_or, option_and_then, slice_get, IsTrue}
-use Rattle.blif_flat.proofs.Common.{or_cases, same_Some, none-some, slice_get_read, at_within, In-get}
-use Rattle.list_laws.proofs.TwoLists.{item_there}
-use Rattle.blif_flat.specs.Circuits.{Cover, Latch, Pair, ModelValue, LibraryValue, SubcktValue, Path, has_name, is_input, is_output, inputs_of, model_at, subckts_of, ConnectionAt, IsDriven, is_cover, is_latch}
-use Rattle.blif_flat.specs.declared.flat.Net.TheVariants.{Latch as LatchNumber, Cover as CoverNumber}
-use Rattle.blif_flat.specs.declared.gates.Gate.{Gate}
-use Rattle.blif_flat.specs.declared.instances.Instance.{Instance}
-use Rattle.blif_flat.specs.Steps.InstanceOrder.{places_at}
-use Rattle.blif_flat.specs.Steps.InstanceRows.{paths_of, AreInstances}
+-- How the instances of rows are connected: an inner one by the line that places it, and the main model's own by none.
+use Rattle.blif_flat.proofs.Common.{◌≡◌, ℕ, zero, suc, ◌<◌, List, [], ◌∷◌, ◌++◌, length, map, Option, Some, None, refl, sym, ap, ◌∙◌, subst, inl, inr, arith, slice_get, option_and_then, none-some, same_Some, slice_get_within, In, In-left, In-right, at_within, item_there, ◌≤◌, get_or, IsTrue, or_cases, slice_get_read, apart_once}
+use Rattle.blif_flat.specs.{Body, Cover, Latch, Subckt, Command, Pair, SubcktValue, ModelValue, LibraryValue, Path, with_subckt, subckts_of, model_at, ConnectionAt, Instance, path_of, paths_of, IsRow, AreInstances, body_names, commands_names, all_names, Link, line_of, link_of, link_under, link_at, has_name, is_input, is_output, inputs_of, IsDriven, is_cover, is_latch, Gate, places_at, AreGatesAt, IsSoundTable, HasOwn, HasOutputs, HasInputs, AreNetsAt, net_places, HasSlots, AreEmptyNets, IsNext, AreAllNets, NetsValue, table_of, IsNets, output_of_cover, output_of_latch, with_covers, with_latches, with_inputs, linked_out, linked_in, links_out, links_in, AreLinesOf, IsWellFormed, Ports, ports_value, most_weight, IsLight}
 use Rattle.blif_flat.specs.Flat.{Places}
-use Rattle.blif_flat.specs.Steps.Gates.{AreGatesAt}
-use Rattle.blif_flat.specs.Steps.NetTable.{IsSoundTable, HasOwn, HasOutputs, HasInputs, AreNetsAt, net_places}
-use Rattle.blif_flat.specs.Steps.NetMade.{HasSlots, AreEmptyNets, IsNext, AreAllNets}
-use Rattle.blif_flat.specs.Steps.NetSlots.{NetsValue, table_of, IsNets}
-use Rattle.blif_flat.specs.Steps.NetSteps.{cover_output, latch_output, with_covers, with_latches, with_inputs, link_at, linked_out, linked_in, links_out, links_in, AreLinesOf}
-use Rattle.blif_flat.proofs.Models.NameLemmas.{has_in}
-use Rattle.blif_flat.proofs.Hierarchy.PlaceLemmas.{child_at}
+use Rattle.blif_flat.specs.declared.flat.Net.TheVariants.{Latch as LatchNumber, Cover as CoverNumber}
+use Rattle.blif_flat.proofs.Connections.NetCopyLemmas.{sound_empty, own_kept, outputs_kept, inputs_start, outputs_start, inputs_step, outputs_step, next_same, next_on, pairs_next, pairs_known, inputs_next, inputs_known}
+use Rattle.blif_flat.proofs.Connections.NetLemmas.{HasParent, has_parent, formal_known, actual_known, table_found}
+use Rattle.blif_flat.proofs.Connections.NetOwnLemmas.{commands_within, slots_on, gates_next, gates_known, covers_own, latches_own, gate_of, first_path, input_named, main_next, main_known}
 use Rattle.blif_flat.proofs.Hierarchy.InstanceRowLemmas.{paths_of-length}
-use Rattle.blif_flat.proofs.Hierarchy.InstanceOnceLemmas.{order_apart}
-use Rattle.blif_flat.proofs.Connections.NetTableLemmas.{one_place, formal_known, actual_known, table_found}
-use Rattle.blif_flat.proofs.Connections.NetFillLemmas.{sound_empty, own_kept, outputs_kept, inputs_start, outputs_start, inputs_step, outputs_step}
-use Rattle.blif_flat.proofs.Connections.NetCopyLemmas.{next_same, next_on, pairs_next, pairs_known, inputs_next, inputs_known}
-use Rattle.blif_flat.proofs.Connections.NetOwnLemmas.{slots_on, gates_next, gates_known, covers_own, latches_own, gate_of}
-use Rattle.blif_flat.proofs.Connections.NetMainLemmas.{first_path, input_named, main_next, main_known, few_inputs}
-use Rattle.blif_flat.proofs.Connections.NetLinkLemmas.{IsLinked, linked, connection_named, first_alone}
-use Rattle.blif_read.specs.WellFormed.{IsWellFormed}
-use Rattle.blif_flat.specs.declared.ports.Ports.{Ports}
-use Rattle.blif_flat.specs.Steps.NameSets.{ports_value}
-use Rattle.blif_flat.specs.Weight.{most_weight}
+use Rattle.blif_flat.proofs.Hierarchy.InstanceWeightLemmas.{few_inputs}
+use Rattle.blif_flat.proofs.Hierarchy.OrderLemmas.{instances_apart}
+use Rattle.blif_flat.proofs.Hierarchy.PlaceLemmas.{Inside, inside, child_at}
+use Rattle.blif_flat.proofs.Models.NameLemmas.{has_in}
 
+-- the actuals of a subcircuit are among the names of its model
+actual_in : (pairs : List Pair) (pair : Pair) → In pairs pair → In (map (λ (p : Pair). p.actual) pairs) pair.actual
+actual_in [] pair i = absurd i
+actual_in (p ∷ pairs) pair (inl e) = inl (ap (λ (q : Pair). q.actual) e)
+actual_in (p ∷ pairs) pair (inr i) = inr (actual_in pairs pair i)
+
+body_actual : (b : Body) (cs : List Command) (k : ℕ) (s : SubcktValue) (pair : Pair) → ((j : ℕ) → slice_get (subckts_of cs) j ≡ Some s → In (commands_names cs) pair.actual)
+    → slice_get (with_subckt b (subckts_of cs)) k ≡ Some s → In s.pairs pair → In (body_names b ++ commands_names cs) pair.actual
+body_actual (Cover c) cs k s pair rest e i = In-right (body_names (Cover c)) (commands_names cs) pair.actual (rest k e)
+body_actual (Latch l) cs k s pair rest e i = In-right (body_names (Latch l)) (commands_names cs) pair.actual (rest k e)
+body_actual (Subckt t) cs zero s pair rest e i =
+    In-left (body_names (Subckt t)) (commands_names cs) pair.actual (actual_in t.pairs pair (subst (λ (x : SubcktValue). In x.pairs pair) (sym (same_Some t s e)) i))
+body_actual (Subckt t) cs (suc k) s pair rest e i = In-right (body_names (Subckt t)) (commands_names cs) pair.actual (rest k e)
+
+actual_named : (cs : List Command) (k : ℕ) (s : SubcktValue) (pair : Pair) → slice_get (subckts_of cs) k ≡ Some s → In s.pairs pair → In (commands_names cs) pair.actual
+actual_named [] k s pair e i = absurd (none-some s e)
+actual_named (c ∷ cs) k s pair e i = body_actual c.body cs k s pair (λ j f. actual_named cs j s pair f i) e i
+
+module _ (library : LibraryValue) (rows : List Instance) (are : AreInstances library rows) where
+  -- an inner instance, and what connects it
+  pub record IsLinked (j k : ℕ) (path : Path) : Type 0 where
+    pub link : Link
+    pub is : link_at library rows j ≡ Some link
+    pub outside : slice_get (paths_of rows) link.outer ≡ Some path
+    pub there : model_at library (k ∷ path) ≡ Some link.child
+    pub earlier : link.outer < j
+    pub connects : (pair : Pair) → In link.pairs pair → (a : ConnectionAt library path k pair) × (a.child ≡ link.child)
+    pub all : (pair : Pair) → ConnectionAt library path k pair → In link.pairs pair
+
+  pub linked : (j k : ℕ) (path : Path) → slice_get (paths_of rows) j ≡ Some (k ∷ path) → IsLinked j k path
+  linked j k path e =
+      let row = item_there (paths_of rows) rows j (k ∷ path) (paths_of-length rows) e in
+      let r : IsRow library (paths_of rows) j row.0 = are.each j row.0 row.1 in
+      let same : r.path ≡ k ∷ path = same_Some r.path (k ∷ path) (sym r.at ∙ e) in
+      let h : HasParent (paths_of rows) row.0 k path = has_parent (paths_of rows) row.0 k path (sym r.is ∙ same) in
+      let outer = item_there (paths_of rows) rows h.place path (paths_of-length rows) h.at in
+      let q : IsRow library (paths_of rows) h.place outer.0 = are.each h.place outer.0 outer.1 in
+      let child : model_at library (k ∷ path) ≡ Some r.model = ap (model_at library) (sym same) ∙ r.there in
+      let w : Inside library path k r.model = inside library path k r.model child in
+      let model : q.model ≡ w.model = same_Some q.model w.model (sym q.there ∙ ap (model_at library) (same_Some q.path path (sym q.at ∙ h.at)) ∙ w.at) in
+      let line : line_of library rows h.place (row.0).ordinal ≡ Some w.subckt =
+      ap (option_and_then (λ (x : Instance). option_and_then (λ (m : ModelValue). slice_get (subckts_of m.commands) (row.0).ordinal) (slice_get library.models x.model))) outer.1
+      ∙ ap (option_and_then (λ (m : ModelValue). slice_get (subckts_of m.commands) (row.0).ordinal)) q.number
+      ∙ ap (λ (m : ModelValue). slice_get (subckts_of m.commands) (row.0).ordinal) model ∙ ap (slice_get (subckts_of (w.model).commands)) h.ordinal ∙ w.is in
+      record {
+        link = record { outer = h.place; child = r.model; pairs = (w.subckt).pairs };
+        is = ap (option_and_then (λ (x : Instance). link_under library rows x x.parent)) row.1 ∙ ap (link_under library rows row.0) h.parent
+            ∙ ap (λ o. link_of h.place o (slice_get library.models (row.0).model)) line ∙ ap (link_of h.place (Some w.subckt)) r.number;
+        outside = h.at;
+        there = child;
+        earlier = r.earlier h.place h.parent;
+        connects = λ pair i. (record { model = w.model; subckt = w.subckt; child = r.model; at = w.at; is = w.is; member = i; places = w.places }, refl);
+        all = λ pair a.
+            (let m : a.model ≡ w.model = same_Some a.model w.model (sym a.at ∙ w.at) in
+            let s : a.subckt ≡ w.subckt = same_Some a.subckt w.subckt (sym a.is ∙ ap (λ (x : ModelValue). slice_get (subckts_of x.commands) k) m ∙ w.is) in
+            subst (λ (x : SubcktValue). In x.pairs pair) s a.member);
+      }
+
+  -- the actual of a connection is among the names of its model
+  pub connection_named : (path : Path) (k : ℕ) (pair : Pair) (a : ConnectionAt library path k pair) → In (all_names a.model) pair.actual
+  connection_named path k pair a = commands_within a.model pair.actual (actual_named (a.model).commands k a.subckt pair a.is a.member)
+
+  -- the main model's own instance stands in no other one
+  inner_path : (row : Instance) (p : ℕ) (path : Path) → row.parent ≡ Some p → slice_get (paths_of rows) p ≡ Some path → path_of (paths_of rows) row ≡ row.ordinal ∷ path
+  inner_path row p path e f = rw (e, f) refl
+
+  no_link : (j : ℕ) (row : Instance) → slice_get (paths_of rows) j ≡ Some [] → IsRow library (paths_of rows) j row → (parent : Option ℕ) → row.parent ≡ parent → link_under library rows row parent ≡ None
+  no_link j row e r None f = refl
+  no_link j row e r (Some p) f =
+      let there : j < length (paths_of rows) = slice_get_within (paths_of rows) j [] e in
+      let before : p < j = r.earlier p f in
+      let outer = at_within (paths_of rows) p (omega arith) in
+      let same : [] ≡ r.path = same_Some [] r.path (sym e ∙ r.at) in
+      let inner : ◌≡◌ {A = Path} [] (row.ordinal ∷ outer.0) = same ∙ r.is ∙ inner_path row p outer.0 f outer.1 in
+      absurd (cc)
+
+  pub first_alone : (j : ℕ) → slice_get (paths_of rows) j ≡ Some [] → link_at library rows j ≡ None
+  first_alone j e =
+      let row = item_there (paths_of rows) rows j [] (paths_of-length rows) e in
+      ap (option_and_then (λ (x : Instance). link_under library rows x x.parent)) row.1 ∙ no_link j row.0 e (are.each j row.0 row.1) (row.0).parent refl
+
+-- The nets of all instances become known, step by step: outputs from the inside out, and then inputs from the outside in.
 module _ (library : LibraryValue) (main : ModelValue) (rows : List Instance) (are : AreInstances library rows) (driven : IsDriven library) (first : model_at library [] ≡ Some main) where
   abbrev at : Places
   at = net_places library main (paths_of rows)
@@ -55,7 +120,7 @@ module _ (library : LibraryValue) (main : ModelValue) (rows : List Instance) (ar
       → table_of (linked_out n t (link_at library rows t)) i pair.actual ≡ None → ⊥
   out_known n right own t outputs i path k pair a out e f =
       let l : IsLinked library rows are t k path = linked library rows are t k path f in
-      let place : (l.link).outer ≡ i = one_place (paths_of rows) path (l.link).outer i (order_apart library are.order) l.outside e in
+      let place : (l.link).outer ≡ i = apart_once (paths_of rows) (l.link).outer i path (instances_apart library are.order) l.outside e in
       let child : a.child ≡ (l.link).child = same_Some a.child (l.link).child (sym (child_at library path k pair a) ∙ l.there) in
       let known : table_of (linked_out n t (Some l.link)) (l.link).outer pair.actual ≡ None → ⊥ =
       pairs_known library at (paths_of rows) (l.link).child t (l.link).outer path k f l.outside (l.link).pairs n right.nets right.sound l.connects pair (l.all pair a)
@@ -101,7 +166,7 @@ module _ (library : LibraryValue) (main : ModelValue) (rows : List Instance) (ar
   in_known : (n : NetsValue) → AreReady n → (t : ℕ) → HasInputs library (paths_of rows) (table_of n) t → (path : Path) (m : ModelValue) → slice_get (paths_of rows) t ≡ Some path → model_at library path ≡ Some m
       → (name : List ℕ) → IsTrue (is_input m name) → table_of (linked_in n t (link_at library rows t)) t name ≡ None → ⊥
   in_known n ready t inputs [] m e there name is =
-      let place : 0 ≡ t = one_place (paths_of rows) [] 0 t (order_apart library are.order) (first_path library rows are) e in
+      let place : 0 ≡ t = apart_once (paths_of rows) 0 t [] (instances_apart library are.order) (first_path library rows are) e in
       let model : m ≡ main = same_Some m main (sym there ∙ first) in
       let step : IsNext library at (paths_of rows) n (linked_in n t (link_at library rows t)) = in_next n ready.right t [] e in
       (step.kept).each t name (subst (λ j. table_of n j name ≡ None → ⊥) place (ready.mains name (subst (λ x. IsTrue (is_input x name)) model is)))
@@ -156,12 +221,12 @@ module _ (library : LibraryValue) (main : ModelValue) (rows : List Instance) (ar
     empty_right = record { nets = start.nets; sound = sound_empty library at (paths_of rows) (table_of empty) start.empty; slots = start.slots }
 
     covered_next : IsNext library at (paths_of rows) empty covered
-    covered_next = let r : AreRight empty = empty_right in gates_next library at (paths_of rows) rows cover_output (λ j. CoverNumber j) covers 0 empty r.nets r.sound (covers_own library main rows are covers covers_at)
+    covered_next = let r : AreRight empty = empty_right in gates_next library at (paths_of rows) rows output_of_cover (λ j. CoverNumber j) covers 0 empty r.nets r.sound (covers_own library main rows are covers covers_at)
 
     latched_next : IsNext library at (paths_of rows) covered latched
     latched_next =
         let r : AreRight covered = right_on empty covered empty_right covered_next in
-        gates_next library at (paths_of rows) rows latch_output (λ j. LatchNumber j) latches 0 covered r.nets r.sound (latches_own library main rows are latches latches_at)
+        gates_next library at (paths_of rows) rows output_of_latch (λ j. LatchNumber j) latches 0 covered r.nets r.sound (latches_own library main rows are latches latches_at)
 
     latched_right : AreRight latched
     latched_right = right_on covered latched (right_on empty covered empty_right covered_next) latched_next
@@ -174,13 +239,13 @@ module _ (library : LibraryValue) (main : ModelValue) (rows : List Instance) (ar
         record {
           latch = λ i path c l e a n.
               (let g = gate_of library main rows are is_latch latches latches_at i path a.model c (Latch l) e a.at a.is refl in
-              gates_known library at (paths_of rows) rows latch_output (λ j. LatchNumber j) latches 0 covered s.nets s.sound s.slots (latches_own library main rows are latches latches_at) g.number g.gate l.output g.at
-              (ap (option_and_then latch_output) g.is) (subst (λ j. table_of latched j l.output ≡ None) (sym g.row) n));
+              gates_known library at (paths_of rows) rows output_of_latch (λ j. LatchNumber j) latches 0 covered s.nets s.sound s.slots (latches_own library main rows are latches latches_at) g.number g.gate l.output g.at
+              (ap (option_and_then output_of_latch) g.is) (subst (λ j. table_of latched j l.output ≡ None) (sym g.row) n));
           cover = λ i path c x e a n.
               (let g = gate_of library main rows are is_cover covers covers_at i path a.model c (Cover x) e a.at a.is refl in
               let known : table_of covered (g.gate).row x.output ≡ None → ⊥ =
-              gates_known library at (paths_of rows) rows cover_output (λ j. CoverNumber j) covers 0 empty r.nets r.sound r.slots (covers_own library main rows are covers covers_at) g.number g.gate x.output g.at
-              (ap (option_and_then cover_output) g.is) in
+              gates_known library at (paths_of rows) rows output_of_cover (λ j. CoverNumber j) covers 0 empty r.nets r.sound r.slots (covers_own library main rows are covers covers_at) g.number g.gate x.output g.at
+              (ap (option_and_then output_of_cover) g.is) in
               (step.kept).each i x.output (subst (λ j. table_of covered j x.output ≡ None → ⊥) g.row known) n);
         }
 
@@ -247,8 +312,7 @@ module _ (library : LibraryValue) (main : ModelValue) (rows : List Instance) (ar
 -- the main model is the first one, and its ports are the first ones
 main_first : (library : LibraryValue) (models : List ModelValue) (main : ModelValue) → models ≡ library.models → 0 < length library.models → main ≡ get_or models 0 main → model_at library [] ≡ Some main
 main_first library models main e h f =
-    let long : length models ≡ length library.models = ap length e in
-    subst (λ ms. slice_get ms 0 ≡ Some main) e (slice_get_read models (length models) 0 main refl (omega arith) f)
+    subst (λ ms. slice_get ms 0 ≡ Some main) e (slice_get_read models (length models) 0 main refl (omega (arith, ap length e)) f)
 
 ports_first : (models : List ModelValue) (main : ModelValue) (p : Ports) → slice_get models 0 ≡ Some main → p ≡ get_or (map ports_value models) 0 p → p ≡ ports_value main
 ports_first [] main p e f = absurd (none-some main e)
@@ -263,11 +327,9 @@ module _ (library : LibraryValue) (rows : List Instance) (models : List ModelVal
   inputs_are = ap (λ (x : Ports). x.inputs) (ports_first library.models main p main_at (p_is ∙ ap (λ ps. get_or ps 0 p) ports_are))
 
   -- the main model's inputs are few
-  pub inputs_fit : length p.inputs < 4294967296
-  inputs_fit =
-      let few : length (inputs_of main) ≤ most_weight = few_inputs library main rows are main_at empty (formed.each main (In-get library.models 0 main main_at)) start.nets start.slots in
-      let same : length p.inputs ≡ length (inputs_of main) = ap length inputs_are in
-      omega arith
+  pub inputs_fit : IsLight library → length p.inputs < 4294967296
+  inputs_fit light =
+      omega (arith, few_inputs library light main main_at, ap length inputs_are)
 
   -- and after the steps all nets are known
   pub filled : IsDriven library → (covers latches : List Gate) → AreGatesAt (paths_of rows) covers (places_at library is_cover (paths_of rows)) → AreGatesAt (paths_of rows) latches (places_at library is_latch (paths_of rows))

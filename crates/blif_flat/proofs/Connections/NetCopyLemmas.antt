@@ -1,16 +1,235 @@
--- Nets are copied through the connections of a subcircuit, outputs to their actuals and actuals to the inputs: the table stays right and loses nothing, and the copies stand in it.
-use Rattle.std.proofs.Common.{◌≡◌, ℕ, List, Option, Some, None, refl, sym, ◌∙◌, subst, [], ◌∷◌, inl, inr, slice_get, IsTrue}
-use Rattle.blif_flat.specs.Circuits.{LibraryValue, ModelValue, Pair, Path, is_output, is_input, ConnectionAt}
-use Rattle.blif_flat.specs.declared.flat.Net.{Net as FlatNet}
-use Rattle.blif_flat.specs.Flat.{Places, IsNetOf}
-use Rattle.blif_flat.specs.Steps.NetTable.{IsSoundTable, IsKeptIn, with_net}
-use Rattle.blif_flat.specs.Steps.NetSlots.{NetsValue, slot_number, table_of, with_slot, with_found, copied, IsNets, pair_out, pairs_out, pair_in, pairs_in}
-use Rattle.blif_flat.proofs.Connections.NetFillLemmas.{with_net-known, with_net-kept, kept_same, sound_with, kept_on}
-use Rattle.blif_flat.proofs.Connections.NetSlotLemmas.{with_slot-table, copied-nets}
-use Rattle.blif_flat.proofs.Common.{cases_Bool, cond-true, cond-false, In}
-use Rattle.blif_flat.specs.Steps.NetMade.{IsNext}
-use Rattle.blif_flat.proofs.Connections.NetTableLemmas.{outer_number, inner_number}
+-- Slots of nets: the slot of a name, and the table when one more slot is filled.
+use Rattle.blif_flat.proofs.Common.{◌≡◌, get_or, drop, ℕ, ◌+◌, ◌<◌, ◌≤◌, Bool, eqb, List, length, Option, Some, None, refl, sym, ap, ◌∙◌, inl, inr, bytes_eq, arith, slice_get, slice_set, ◌&&◌, option_map, option_and_then, cases_Bool, both_ways, cond-true, cond-false, and_parts, and_from, bytes_decides, set_here, set_other, set_length, drop_at, [], subst, zero, suc, ◌∷◌, ◌⊎◌, IsTrue, none-some, same_Some, slice_get_within, In}
+use Rattle.blif_flat.specs.{place_of, Pair, FlatNet, Start, with_net, NetsValue, name_place, slot_number, slot_at, table_of, with_slot, with_found, copied, pair_out, pairs_out, pair_in, pairs_in, IsNets, most_weight, ModelValue, LibraryValue, Path, model_at, inputs_of, Net, input_net, latch_net, cover_net, Drives, Place, is_cover, is_latch, Instance, places_at, AreInstances, paths_of, IsNumbered, an_input, a_latch, a_cover, net_places, IsNetFound, AreAllNets, is_input, is_output, ConnectionAt, IsNetOf, IsSoundTable, HasOwn, HasOutputs, HasInputs, IsKeptIn, IsNext}
+use Rattle.std.proofs.Common.{eqb-true, eq-eqb}
+use Rattle.blif_flat.specs.Flat.{Places}
+use Rattle.blif_flat.specs.declared.flat.Net.TheVariants.{Input, Latch, Cover}
+use Rattle.blif_flat.proofs.Connections.NetLemmas.{outer_number, inner_number}
 
+-- the slot of a name, and why there is none
+pub no_start : (n : NetsValue) (i : ℕ) (name : List ℕ) → slice_get n.starts i ≡ None → slot_number n i name ≡ None
+no_start n i name e = ap (option_and_then (λ (s : Start). name_place n.names s name)) e
+
+pub no_names : (n : NetsValue) (i : ℕ) (name : List ℕ) (s : Start) → slice_get n.starts i ≡ Some s → slice_get n.names s.model ≡ None → slot_number n i name ≡ None
+no_names n i name s e f = ap (option_and_then (λ (s : Start). name_place n.names s name)) e ∙ ap (λ o. option_map (λ (p : ℕ). s.first + p) (option_and_then (λ (ns : List (List ℕ)). place_of ns name) o)) f
+
+pub slot_by_place : (n : NetsValue) (i : ℕ) (name : List ℕ) (s : Start) (ns : List (List ℕ)) (o : Option ℕ) → slice_get n.starts i ≡ Some s → slice_get n.names s.model ≡ Some ns → o ≡ place_of ns name
+    → slot_number n i name ≡ option_map (λ (p : ℕ). s.first + p) o
+slot_by_place n i name s ns o e f g = ap (option_and_then (λ (s : Start). name_place n.names s name)) e ∙ ap (λ o. option_map (λ (p : ℕ). s.first + p) (option_and_then (λ (ns : List (List ℕ)). place_of ns name) o)) f
+    ∙ ap (option_map (λ (p : ℕ). s.first + p)) (sym g)
+
+-- a slot has a small number
+pub slot_fits : (n : NetsValue) (is : IsNets n) (i : ℕ) (name : List ℕ) (k : ℕ) → Some k ≡ slot_number n i name → k < most_weight
+slot_fits n is i name k e = let h : k < length n.slots = is.within i name k (sym e) in let f : length n.slots ≤ most_weight = is.few in omega arith
+
+-- a filled slot changes the table at its name only
+option_apart : (slots : List (Option FlatNet)) (k : ℕ) (number : FlatNet) (o : Option ℕ) → (o ≡ Some k → ⊥) → slot_at (slice_set slots k (Some number)) o ≡ slot_at slots o
+option_apart slots k number None h = refl
+option_apart slots k number (Some j) h = ap (option_and_then (λ (o : Option FlatNet). o)) (set_other slots k j (Some number) (λ e. h (ap Some e)))
+
+pub with_slot-table : (n : NetsValue) (is : IsNets n) (i : ℕ) (name : List ℕ) (k : ℕ) (number : FlatNet) → slot_number n i name ≡ Some k → (j : ℕ) (other : List ℕ)
+    → table_of (with_slot n k number) j other ≡ with_net (table_of n) i name number j other
+with_slot-table n is i name k number e j other = elim (cases_Bool (eqb j i && bytes_eq other name)) [
+  | inl t ↦
+      (let b = and_parts (eqb j i) (bytes_eq other name) t in
+      let place : j ≡ i = eqb-true j i b.0 in
+      let same : other ≡ name = (bytes_decides other name).0 b.1 in
+      let here : slot_number n j other ≡ Some k = ap (λ x. slot_number n x other) place ∙ ap (slot_number n i) same ∙ e in
+      ap (slot_at (slice_set n.slots k (Some number))) here ∙ ap (option_and_then (λ (o : Option FlatNet). o)) (set_here n.slots k (Some number) (is.within i name k e))
+      ∙ sym (cond-true (eqb j i && bytes_eq other name) (Some number) (table_of n j other) t))
+  | inr f ↦
+      option_apart n.slots k number (slot_number n j other) (λ g.
+      let q = is.apart i j name other k e g in
+      both_ways (eqb j i && bytes_eq other name) f (and_from (eqb j i) (bytes_eq other name) (eq-eqb j i (sym q.0)) ((bytes_decides other name).1 (sym q.1))))
+      ∙ sym (cond-false (eqb j i && bytes_eq other name) (Some number) (table_of n j other) f)
+]
+
+-- and names keep their own slots
+pub with_slot-nets : (n : NetsValue) (k : ℕ) (number : FlatNet) → IsNets n → IsNets (with_slot n k number)
+with_slot-nets n k number is = record {
+  few = let long : length (slice_set n.slots k (Some number)) ≡ length n.slots = set_length n.slots k (Some number) in let h : length n.slots ≤ most_weight = is.few in omega arith;
+  within = λ i name j e. let long : length (slice_set n.slots k (Some number)) ≡ length n.slots = set_length n.slots k (Some number) in let h : j < length n.slots = is.within i name j e in omega arith;
+  apart = λ i j name other s e f. is.apart i j name other s e f;
+}
+
+pub with_found-nets : (n : NetsValue) (o : Option ℕ) (number : FlatNet) → IsNets n → IsNets (with_found n o number)
+with_found-nets n None number is = is
+with_found-nets n (Some k) number is = with_slot-nets n k number is
+
+pub copied-nets : (n : NetsValue) (i : ℕ) (name : List ℕ) (o : Option FlatNet) → IsNets n → IsNets (copied n i name o)
+copied-nets n i name None is = is
+copied-nets n i name (Some number) is = with_found-nets n (slot_number n i name) number is
+
+-- the connections from a place on are copied one by one
+pub pairs_out-split : (test : List ℕ → Bool) (inner outer : ℕ) (n : NetsValue) (pairs : List Pair) (i : ℕ) (pair : Pair) → i < length pairs → pair ≡ get_or pairs i pair
+    → pairs_out test inner outer n (drop i pairs) ≡ pairs_out test inner outer (pair_out test inner outer n pair) (drop (i + 1) pairs)
+pairs_out-split test inner outer n pairs i pair h e = ap (pairs_out test inner outer n) (drop_at pairs i pair h e)
+
+pub pairs_in-split : (test : List ℕ → Bool) (inner outer : ℕ) (n : NetsValue) (pairs : List Pair) (i : ℕ) (pair : Pair) → i < length pairs → pair ≡ get_or pairs i pair
+    → pairs_in test inner outer n (drop i pairs) ≡ pairs_in test inner outer (pair_in test inner outer n pair) (drop (i + 1) pairs)
+pairs_in-split test inner outer n pairs i pair h e = ap (pairs_in test inner outer n) (drop_at pairs i pair h e)
+
+-- What the nets of all instances say of a name: its driver, by the number of an input, a latch or a cover.
+
+-- the input of a number drives a name
+pub record ByInput (library : LibraryValue) (inputs : List (List ℕ)) (path : Path) (name : List ℕ) (j : ℕ) : Type 0 where
+  pub input : List ℕ
+  pub at : slice_get inputs j ≡ Some input
+  pub drives : Drives library path name (input_net input)
+
+-- or the latch or the cover of a number, whose net is that of its place
+pub record ByPlace (library : LibraryValue) (net : Place → Net) (places : List Place) (path : Path) (name : List ℕ) (k : ℕ) : Type 0 where
+  pub place : Place
+  pub at : slice_get places k ≡ Some place
+  pub drives : Drives library path name (net place)
+
+abbrev pub latch_of : Place → Net
+latch_of p = latch_net p.path p.command
+
+abbrev pub cover_of : Place → Net
+cover_of p = cover_net p.path p.command
+
+module _ (library : LibraryValue) (at : Places) (path : Path) (name : List ℕ) where
+  by_input : (j : ℕ) (net : Net) → Drives library path name net → IsNumbered at net (Input j) → ByInput library at.inputs path name j
+  by_input j net t (an_input input i q g n) =
+      let same : i ≡ j = cc in
+      record { input = input; at = subst (λ k. slice_get at.inputs k ≡ Some input) same g; drives = subst (Drives library path name) q t }
+  by_input j net t (a_latch p i q g n) = absurd (cc)
+  by_input j net t (a_cover p i q g n) = absurd (cc)
+
+  by_latch : (j : ℕ) (net : Net) → Drives library path name net → IsNumbered at net (Latch j) → ByPlace library latch_of at.latches path name j
+  by_latch j net t (an_input input i q g n) = absurd (cc)
+  by_latch j net t (a_latch p i q g n) =
+      let same : i ≡ j = cc in
+      record { place = p; at = subst (λ k. slice_get at.latches k ≡ Some p) same g; drives = subst (Drives library path name) q t }
+  by_latch j net t (a_cover p i q g n) = absurd (cc)
+
+  by_cover : (j : ℕ) (net : Net) → Drives library path name net → IsNumbered at net (Cover j) → ByPlace library cover_of at.covers path name j
+  by_cover j net t (an_input input i q g n) = absurd (cc)
+  by_cover j net t (a_latch p i q g n) = absurd (cc)
+  by_cover j net t (a_cover p i q g n) =
+      let same : i ≡ j = cc in
+      record { place = p; at = subst (λ k. slice_get at.covers k ≡ Some p) same g; drives = subst (Drives library path name) q t }
+
+module _ (library : LibraryValue) (rows : List Instance) (are : AreInstances library rows) (nets : NetsValue) (all : AreAllNets library rows nets)
+    (row : ℕ) (path : Path) (at : slice_get (paths_of rows) row ≡ Some path) (name : List ℕ) where
+  found : (o : Option FlatNet) → table_of nets row name ≡ o → IsNetFound library (net_places library are.main (paths_of rows)) path name o
+  found o e = subst (IsNetFound library (net_places library are.main (paths_of rows)) path name) e ((all.table are.main are.first).each row path name at)
+
+  pub none_found : table_of nets row name ≡ None → (net : Net) → Drives library path name net → ⊥
+  none_found e = found None e
+
+  pub input_found : (inputs : List (List ℕ)) → ((main : ModelValue) → model_at library [] ≡ Some main → inputs ≡ inputs_of main) → (j : ℕ) → table_of nets row name ≡ Some (Input j) → ByInput library inputs path name j
+  input_found inputs inputs_are j e =
+      let r = found (Some (Input j)) e in
+      subst (λ l. ByInput library l path name j) (sym (inputs_are are.main are.first)) (by_input library (net_places library are.main (paths_of rows)) path name j r.net r.drives r.numbered)
+
+  pub latch_found : (k : ℕ) → table_of nets row name ≡ Some (Latch k) → ByPlace library latch_of (places_at library is_latch (paths_of rows)) path name k
+  latch_found k e = let r = found (Some (Latch k)) e in by_latch library (net_places library are.main (paths_of rows)) path name k r.net r.drives r.numbered
+
+  pub cover_found : (k : ℕ) → table_of nets row name ≡ Some (Cover k) → ByPlace library cover_of (places_at library is_cover (paths_of rows)) path name k
+  cover_found k e = let r = found (Some (Cover k)) e in by_cover library (net_places library are.main (paths_of rows)) path name k r.net r.drives r.numbered
+
+-- Tables of nets are filled step by step: a number is put in, and an instance is done.
+
+-- a number before the next one is before this one or is it
+before_or_at : (i t : ℕ) → i < suc t → (i < t) ⊎ (i ≡ t)
+before_or_at zero zero h = inr refl
+before_or_at zero (suc t) h = inl (omega arith)
+before_or_at (suc i) zero h = absurd (omega arith)
+before_or_at (suc i) (suc t) h = elim (before_or_at i t (omega arith)) [ inl a ↦ inl (omega arith) | inr e ↦ inr (ap suc e) ]
+
+abbrev Table : Type 0
+Table = ℕ → List ℕ → Option FlatNet
+
+-- a number that is put in stands there, and nothing is lost
+pub with_net-here : (table : Table) (i : ℕ) (name : List ℕ) (number : FlatNet) → with_net table i name number i name ≡ Some number
+with_net-here table i name number = cond-true (eqb i i && bytes_eq name name) (Some number) (table i name) (and_from (eqb i i) (bytes_eq name name) (eq-eqb i i refl) ((bytes_decides name name).1 refl))
+
+some-not_none : (o : Option FlatNet) (number : FlatNet) → o ≡ Some number → o ≡ None → ⊥
+some-not_none o number a b = none-some number (sym b ∙ a)
+
+pub with_net-known : (table : Table) (i : ℕ) (name : List ℕ) (number : FlatNet) → with_net table i name number i name ≡ None → ⊥
+with_net-known table i name number = some-not_none (with_net table i name number i name) number (with_net-here table i name number)
+
+pub with_net-kept : (table : Table) (i : ℕ) (name : List ℕ) (number : FlatNet) → IsKeptIn table (with_net table i name number)
+with_net-kept table i name number = record {
+  each = λ j other known. elim (cases_Bool (eqb j i && bytes_eq other name)) [
+    | inl t ↦ some-not_none (with_net table i name number j other) number (cond-true (eqb j i && bytes_eq other name) (Some number) (table j other) t)
+    | inr f ↦ (λ n. known (sym (cond-false (eqb j i && bytes_eq other name) (Some number) (table j other) f) ∙ n))
+  ];
+}
+
+pub kept_same : (table : Table) → IsKeptIn table table
+kept_same table = record { each = λ i name known. known }
+
+pub kept_on : (table middle next : Table) → IsKeptIn table middle → IsKeptIn middle next → IsKeptIn table next
+kept_on table middle next a b = record { each = λ i name known. b.each i name (a.each i name known) }
+
+module _ (library : LibraryValue) (at : Places) (paths : List Path) where
+  -- a right number may be put in
+  pub sound_with : (table : Table) (i : ℕ) (path : Path) (name : List ℕ) (number : FlatNet) → IsSoundTable library at paths table → slice_get paths i ≡ Some path → IsNetOf library at path name number
+      → IsSoundTable library at paths (with_net table i name number)
+  sound_with table i path name number sound e o = record {
+    each = λ j p other n f g. elim (cases_Bool (eqb j i && bytes_eq other name)) [
+      | inl t ↦
+          (let b = and_parts (eqb j i) (bytes_eq other name) t in
+          let place : j ≡ i = eqb-true j i b.0 in
+          let same : name ≡ other = sym ((bytes_decides other name).0 b.1) in
+          let there : path ≡ p = same_Some path p (sym e ∙ subst (λ x. slice_get paths x ≡ Some p) place f) in
+          let it : number ≡ n = same_Some number n (sym (cond-true (eqb j i && bytes_eq other name) (Some number) (table j other) t) ∙ g) in
+          subst (λ x. IsNetOf library at p other x) it (subst (λ x. IsNetOf library at p x number) same (subst (λ x. IsNetOf library at x name number) there o)))
+      | inr t ↦ sound.each j p other n f (sym (cond-false (eqb j i && bytes_eq other name) (Some number) (table j other) t) ∙ g)
+    ];
+  }
+
+-- a table without numbers
+pub sound_empty : (library : LibraryValue) (at : Places) (paths : List Path) (table : Table) → ((i : ℕ) (name : List ℕ) → table i name ≡ None) → IsSoundTable library at paths table
+sound_empty library at paths table empty = record { each = λ i path name number e f. absurd (none-some number (sym (empty i name) ∙ f)) }
+
+module _ (library : LibraryValue) (paths : List Path) where
+  -- nothing is lost of the stages
+  pub own_kept : (table next : Table) → HasOwn library paths table → IsKeptIn table next → HasOwn library paths next
+  own_kept table next own kept = record {
+    latch = λ i path c l e a. kept.each i l.output (own.latch i path c l e a);
+    cover = λ i path c r e a. kept.each i r.output (own.cover i path c r e a);
+  }
+
+  pub outputs_kept : (table next : Table) (t : ℕ) → HasOutputs library paths table t → IsKeptIn table next → HasOutputs library paths next t
+  outputs_kept table next t outputs kept = record { each = λ i j path k pair a out e f h. kept.each i pair.actual (outputs.each i j path k pair a out e f h) }
+
+  -- the stages at their starts
+  pub inputs_start : (table : Table) → HasInputs library paths table 0
+  inputs_start table = record { each = λ i path m name h e g is n. absurd (omega arith) }
+
+  pub outputs_start : (table : Table) → HasOutputs library paths table (length paths)
+  outputs_start table = record { each = λ i j path k pair a out e f h n. absurd (let g : j < length paths = slice_get_within paths j (k ∷ path) f in omega arith) }
+
+  -- one more instance is done
+  pub inputs_step : (table next : Table) (t : ℕ) (path : Path) (m : ModelValue) → HasInputs library paths table t → IsKeptIn table next → slice_get paths t ≡ Some path → model_at library path ≡ Some m
+      → ((name : List ℕ) → IsTrue (is_input m name) → next t name ≡ None → ⊥) → HasInputs library paths next (suc t)
+  inputs_step table next t path m inputs kept here there all = record {
+    each = λ i p x name h e g is n. elim (before_or_at i t h) [
+      | inl b ↦ kept.each i name (inputs.each i p x name b e g is) n
+      | inr q ↦
+          (let f : slice_get paths t ≡ Some p = subst (λ y. slice_get paths y ≡ Some p) q e in
+          let same : p ≡ path = same_Some p path (sym f ∙ here) in
+          let model : x ≡ m = same_Some x m (sym g ∙ ap (model_at library) same ∙ there) in
+          all name (subst (λ y. IsTrue (is_input y name)) model is) (subst (λ y. next y name ≡ None) q n))
+    ];
+  }
+
+  pub outputs_step : (table next : Table) (t : ℕ) → HasOutputs library paths table (suc t) → IsKeptIn table next
+      → ((i : ℕ) (path : Path) (k : ℕ) (pair : Pair) (a : ConnectionAt library path k pair) → IsTrue (is_output a.child pair.formal) → slice_get paths i ≡ Some path → slice_get paths t ≡ Some (k ∷ path) → next i pair.actual ≡ None → ⊥)
+      → HasOutputs library paths next t
+  outputs_step table next t outputs kept all = record {
+    each = λ i j path k pair a out e f h n. elim (before_or_at t j (let g : t < suc j = omega arith in g)) [
+      | inl b ↦ kept.each i pair.actual (outputs.each i j path k pair a out e f (omega arith)) n
+      | inr q ↦ all i path k pair a out e (subst (λ x. slice_get paths x ≡ Some (k ∷ path)) (sym q) f) n
+    ];
+  }
+
+-- Nets are copied through the connections of a subcircuit, outputs to their actuals and actuals to the inputs: the table stays right and loses nothing, and the copies stand in it.
 pub tables_same : (n : NetsValue) (is : IsNets n) (i : ℕ) (name : List ℕ) (k : ℕ) (number : FlatNet) → slot_number n i name ≡ Some k → table_of (with_slot n k number) ≡ with_net (table_of n) i name number
 tables_same n is i name k number e x j other = with_slot-table n is i name k number e j other x
 

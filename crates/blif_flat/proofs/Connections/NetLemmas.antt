@@ -1,11 +1,14 @@
 -- Each driven name has one net, where no name is driven twice and each connection has a driver.
-use Rattle.std.proofs.Common.{◌≡◌, ℕ, not, List, [], ◌∷◌, Option, Some, None, refl, sym, ap, ap₂, ◌∙◌, subst, subst₂, inl, inr, IsTrue}
-use Rattle.blif_flat.proofs.Common.{both_ways, and_parts, not-true, none-some, same_Some}
-use Rattle.blif_flat.specs.Circuits.{Pair, ModelValue, LibraryValue, Path, placed, model_at, has_name, is_input, is_output, ConnectionAt, IsMainInput, Net, input_net, latch_net, cover_net, Drives, main_input, latch_output, cover_output, from_inside, from_outside, Driver, by_input, by_latch, by_cover, by_subckt, IsDriver, input, latch, cover, output, input_actual, model_output, Ends, ends, IsDriven}
-use Rattle.blif_flat.specs.Loops.{AreNets}
+use Rattle.blif_flat.proofs.Common.{◌≡◌, ℕ, not, List, [], ◌∷◌, Option, Some, None, refl, sym, ap, ap₂, ◌∙◌, subst, subst₂, inl, inr, IsTrue, both_ways, and_parts, not-true, none-some, same_Some, zero, suc, ◌+◌, ◌<◌, ◌≤◌, Bool, true, ◌++◌, length, take, arith, slice_get, option_and_then, cases_Bool, cond-true, length-append, slice_get_within, apart_once, place_in, get_left, item_there}
+use Rattle.blif_flat.specs.{Pair, ModelValue, LibraryValue, Path, placed, model_at, has_name, is_input, is_output, ConnectionAt, IsMainInput, Net, input_net, latch_net, cover_net, Drives, main_input, latch_output, cover_output, from_inside, from_outside, Driver, by_input, by_latch, by_cover, by_subckt, IsDriver, input, latch, cover, output, input_actual, model_output, Ends, ends, IsDriven, AreNets, Body, Command, inputs_of, Place, own_places, Instance, FlatNet, itself, model_places, places_at, path_under, path_of, paths_of, IsRow, AreInstances, an_input, IsNetOf, net_places, IsNetFound, AreNetsAt, IsSoundTable, HasOwn, HasOutputs, HasInputs, kind_count, base_of, own_number}
+use Rattle.list_laws.proofs.TwoLists.{get_right}
+use Rattle.blif_flat.specs.Flat.{Places}
+use Rattle.blif_flat.specs.declared.flat.Net.TheVariants.{Input as InputNumber}
+use Rattle.blif_flat.proofs.Hierarchy.InstanceLemmas.{has_driver}
+use Rattle.blif_flat.proofs.Hierarchy.InstanceRowLemmas.{paths_of-length}
+use Rattle.blif_flat.proofs.Hierarchy.OrderLemmas.{order_all, instances_apart}
+use Rattle.blif_flat.proofs.Hierarchy.PlaceLemmas.{child_at, child_placed, place_of}
 use Rattle.blif_flat.proofs.Models.NameLemmas.{Decided}
-use Rattle.blif_flat.proofs.Hierarchy.PlaceLemmas.{child_at, child_placed}
-use Rattle.blif_flat.proofs.Connections.DriverLemmas.{has_driver}
 
 abbrev IsInner : Path → Type 0
 IsInner [] = ⊥
@@ -159,3 +162,158 @@ module _ (library : LibraryValue) (net other : Path → List ℕ → Option Net)
 
   pub same_nets : net ≡ other
   same_nets i path name = nets_agree path name i
+
+-- Tables of nets: what stands where, how one is filled, and that the filled one has every net.
+
+-- a command of a kind stands among its model's own ones behind those of the kind before it
+own_at : (kind : Body → Bool) (path : Path) (i : ℕ) (cs : List Command) (j : ℕ) (c : Command) → slice_get cs j ≡ Some c → IsTrue (kind c.body)
+    → slice_get (own_places kind path i cs) (kind_count kind (take j cs)) ≡ Some (place_of path (i + j))
+own_at kind path i [] j c e t = absurd (none-some c e)
+own_at kind path i (d ∷ cs) zero c e t =
+    let n : i ≡ i + 0 = omega arith in
+    let y : kind d.body ≡ true = ap (λ (b : Command). kind b.body) (same_Some d c e) ∙ t in
+    subst (λ l. slice_get l 0 ≡ Some (place_of path (i + 0))) (sym (cond-true (kind d.body) (place_of path i ∷ own_places kind path (suc i) cs) (own_places kind path (suc i) cs) y)) (ap (λ x. Some (place_of path x)) n)
+own_at kind path i (d ∷ cs) (suc j) c e t =
+    let n : suc i + j ≡ i + suc j = omega arith in
+    let count : ℕ = kind_count kind (take j cs) in
+    let r : slice_get (own_places kind path (suc i) cs) count ≡ Some (place_of path (i + suc j)) = own_at kind path (suc i) cs j c e t ∙ ap (λ x. Some (place_of path x)) n in
+    elim (cases_Bool (kind d.body)) [
+      | inl y ↦
+          (let one : suc count ≡ 1 + count = omega arith in
+          rw y (subst (λ x. slice_get (place_of path i ∷ own_places kind path (suc i) cs) x ≡ Some (place_of path (i + suc j))) one r))
+      | inr y ↦
+          (let none : count ≡ 0 + count = omega arith in
+          rw y (subst (λ x. slice_get (own_places kind path (suc i) cs) x ≡ Some (place_of path (i + suc j))) none r))
+    ]
+
+-- a test that holds at None leaves a number
+pub is_some_of : {A : Type 0} (o : Option A) → (o ≡ None → ⊥) → (x : A) × (o ≡ Some x)
+is_some_of None h = absurd (h refl)
+is_some_of (Some x) h = (x, refl)
+
+module _ (library : LibraryValue) where
+  -- the instances before one have its base as the number of their places, and its own ones stand behind them
+  places_own : (kind : Body → Bool) (paths : List Path) (i : ℕ) (path : Path) (m : ModelValue) → slice_get paths i ≡ Some path → model_at library path ≡ Some m
+      → (n : ℕ) (p : Place) → slice_get (own_places kind path 0 m.commands) n ≡ Some p → slice_get (places_at library kind paths) (base_of library kind paths i + n) ≡ Some p
+  places_own kind [] i path m e at n p q = absurd (none-some path e)
+  places_own kind (x ∷ paths) zero path m e at n p q =
+      let same : path ≡ x = sym (same_Some x path e) in
+      let there : model_at library x ≡ Some m = subst (λ y. model_at library y ≡ Some m) same at in
+      let own : slice_get (own_places kind x 0 m.commands) n ≡ Some p = subst (λ y. slice_get (own_places kind y 0 m.commands) n ≡ Some p) same q in
+      let r : slice_get (model_places kind x (model_at library x)) n ≡ Some p = ap (λ o. slice_get (model_places kind x o) n) there ∙ own in
+      let zero_first : n ≡ 0 + n = omega arith in
+      subst (λ k. slice_get (places_at library kind (x ∷ paths)) k ≡ Some p) zero_first (get_left (model_places kind x (model_at library x)) (places_at library kind paths) n p r)
+  places_own kind (x ∷ paths) (suc i) path m e at n p q =
+      let these : List Place = model_places kind x (model_at library x) in
+      let r : slice_get (places_at library kind paths) (base_of library kind paths i + n) ≡ Some p = places_own kind paths i path m e at n p q in
+      let s : slice_get (these ++ places_at library kind paths) (length these + (base_of library kind paths i + n)) ≡ Some p = get_right these (places_at library kind paths) (base_of library kind paths i + n) p r in
+      let k : length these + (base_of library kind paths i + n) ≡ length (these ++ places_at library kind (take i paths)) + n = omega (arith, length-append these (places_at library kind (take i paths))) in
+      subst (λ j. slice_get (these ++ places_at library kind paths) j ≡ Some p) k s
+
+  pub gate_place_at : (kind : Body → Bool) (paths : List Path) (i : ℕ) (path : Path) (m : ModelValue) (c : ℕ) (command : Command) → slice_get paths i ≡ Some path → model_at library path ≡ Some m
+      → slice_get m.commands c ≡ Some command → IsTrue (kind command.body) → slice_get (places_at library kind paths) (own_number library kind paths i m c) ≡ Some (place_of path c)
+  gate_place_at kind paths i path m c command e at d t =
+      let n : 0 + c ≡ c = omega arith in
+      places_own kind paths i path m e at (kind_count kind (take c m.commands)) (place_of path c)
+      (subst (λ j. slice_get (own_places kind path 0 m.commands) (kind_count kind (take c m.commands)) ≡ Some (place_of path j)) n (own_at kind path 0 m.commands c command d t))
+
+  -- the net of a main input, by its place among the inputs
+  pub input_number : (main : ModelValue) (paths : List Path) (j : ℕ) (name : List ℕ) → model_at library [] ≡ Some main → IsTrue (is_input main name) → slice_get (inputs_of main) j ≡ Some name
+      → IsNetOf library (net_places library main paths) [] name (InputNumber j)
+  input_number main paths j name at t e = record { net = input_net name; drives = main_input refl (record { model = main; at = at; is = t }) refl; numbered = an_input name j refl e refl }
+
+  -- an output's actual has the number of the formal inside, and an input's formal that of the actual outside
+  pub outer_number : {at : Places} (path : Path) (k : ℕ) (pair : Pair) (a : ConnectionAt library path k pair) (number : FlatNet) → IsTrue (is_output a.child pair.formal)
+      → IsNetOf library at (k ∷ path) pair.formal number → IsNetOf library at path pair.actual number
+  outer_number path k pair a number t o = record { net = o.net; drives = from_inside k pair a t refl o.drives; numbered = o.numbered }
+
+  pub inner_number : {at : Places} (path : Path) (k : ℕ) (pair : Pair) (a : ConnectionAt library path k pair) (number : FlatNet) → IsTrue (is_input a.child pair.formal)
+      → IsNetOf library at path pair.actual number → IsNetOf library at (k ∷ path) pair.formal number
+  inner_number path k pair a number t o = record { net = o.net; drives = from_outside k path pair a t refl refl o.drives; numbered = o.numbered }
+
+-- the row of an inner instance, and the place of the instance that it stands in
+pub record HasParent (paths : List Path) (row : Instance) (k : ℕ) (outer : Path) : Type 0 where
+  pub place : ℕ
+  pub parent : row.parent ≡ Some place
+  pub ordinal : row.ordinal ≡ k
+  pub at : slice_get paths place ≡ Some outer
+
+parent_path : (paths : List Path) (row : Instance) (k : ℕ) (outer : Path) (p : ℕ) (o : Option Path) → row.parent ≡ Some p → slice_get paths p ≡ o → path_under row.ordinal o ≡ k ∷ outer → HasParent paths row k outer
+parent_path paths row k outer p None is at e = absurd (cc)
+parent_path paths row k outer p (Some q) is at e =
+    let f : row.ordinal ∷ q ≡ k ∷ outer = e in
+    let same : q ≡ outer = cc in
+    let number : row.ordinal ≡ k = cc in
+    record { place = p; parent = is; ordinal = number; at = at ∙ ap Some same }
+
+parent_from : (paths : List Path) (row : Instance) (k : ℕ) (outer : Path) (parent : Option ℕ) → row.parent ≡ parent → path_under row.ordinal (option_and_then (slice_get paths) parent) ≡ k ∷ outer → HasParent paths row k outer
+parent_from paths row k outer None is e = absurd (let f : ◌≡◌ {A = Path} [] (k ∷ outer) = e in cc)
+parent_from paths row k outer (Some p) is e = parent_path paths row k outer p (slice_get paths p) is refl e
+
+pub has_parent : (paths : List Path) (row : Instance) (k : ℕ) (outer : Path) → path_of paths row ≡ k ∷ outer → HasParent paths row k outer
+has_parent paths row k outer e = parent_from paths row k outer row.parent refl e
+
+module _ (library : LibraryValue) (rows : List Instance) (are : AreInstances library rows) where
+  -- an instance stands later than the one that it stands in
+  pub parent_earlier : (i j k : ℕ) (outer : Path) → slice_get (paths_of rows) i ≡ Some outer → slice_get (paths_of rows) j ≡ Some (k ∷ outer) → i < j
+  parent_earlier i j k outer e f =
+      let row = item_there (paths_of rows) rows j (k ∷ outer) (paths_of-length rows) f in
+      let r : IsRow library (paths_of rows) j row.0 = are.each j row.0 row.1 in
+      let same : k ∷ outer ≡ r.path = same_Some (k ∷ outer) r.path (sym f ∙ r.at) in
+      let h : HasParent (paths_of rows) row.0 k outer = has_parent (paths_of rows) row.0 k outer (sym r.is ∙ sym same) in
+      omega (arith, apart_once (paths_of rows) h.place i outer (instances_apart library are.order) h.at e, r.earlier h.place h.parent)
+
+  -- every instance has a place
+  pub instance_place : (path : Path) (m : ModelValue) → model_at library path ≡ Some m → (i : ℕ) × (slice_get (paths_of rows) i ≡ Some path)
+  instance_place path m e =
+      place_in (paths_of rows) path (order_all library itself are.main (paths_of rows) are.first are.order path m e path (inl refl))
+
+  module _ (driven : IsDriven library) (table : ℕ → List ℕ → Option FlatNet) (own : HasOwn library (paths_of rows) table) where
+    -- a driver that is no input has its number in the table, if its subcircuit stands from place t on
+    driver_known : (t : ℕ) → HasOutputs library (paths_of rows) table t → (i : ℕ) (path : Path) (name : List ℕ) (driver : Driver) → slice_get (paths_of rows) i ≡ Some path → t ≤ suc i → IsDriver library path name driver
+        → (driver ≡ by_input → ⊥) → table i name ≡ None → ⊥
+    driver_known t outputs i path name driver e from (input a j q) off n = off q
+    driver_known t outputs i path name driver e from (latch c l a p q) off n = own.latch i path c l e a (ap (table i) (sym p) ∙ n)
+    driver_known t outputs i path name driver e from (cover c r a p q) off n = own.cover i path c r e a (ap (table i) (sym p) ∙ n)
+    driver_known t outputs i path name driver e from (output k pair a out p q) off n =
+        let child = instance_place (k ∷ path) a.child (child_at library path k pair a) in
+        outputs.each i child.0 path k pair a out e child.1 (omega (arith, parent_earlier i child.0 k path e child.1)) (ap (table i) (sym p) ∙ n)
+
+    -- backwards: the formal of an output stands in the table of the child, where the instances behind it have theirs
+    pub formal_known : (t : ℕ) → HasOutputs library (paths_of rows) table t → (j : ℕ) (path : Path) (k : ℕ) (pair : Pair) (a : ConnectionAt library path k pair) → IsTrue (is_output a.child pair.formal)
+        → slice_get (paths_of rows) j ≡ Some (k ∷ path) → t ≤ suc j → table j pair.formal ≡ None → ⊥
+    formal_known t outputs j path k pair a out e from =
+        let d = driven.driven (k ∷ path) pair.formal (model_output a.child (child_at library path k pair a) out) in
+        driver_known t outputs j (k ∷ path) pair.formal d.0 e from d.1 (no_input library driven path k pair a out d.0 d.1)
+
+    module _ (outputs : HasOutputs library (paths_of rows) table 0) where
+      -- any driver of an instance whose inputs are known
+      any_known : (t : ℕ) → HasInputs library (paths_of rows) table t → (i : ℕ) (path : Path) (name : List ℕ) (driver : Driver) → i < t → slice_get (paths_of rows) i ≡ Some path → IsDriver library path name driver → table i name ≡ None → ⊥
+      any_known t inputs i path name driver h e (input a j q) n = inputs.each i path a.model name h e a.at j n
+      any_known t inputs i path name driver h e (latch c l a p q) n = own.latch i path c l e a (ap (table i) (sym p) ∙ n)
+      any_known t inputs i path name driver h e (cover c r a p q) n = own.cover i path c r e a (ap (table i) (sym p) ∙ n)
+      any_known t inputs i path name driver h e (output k pair a out p q) n =
+          let child = instance_place (k ∷ path) a.child (child_at library path k pair a) in
+          outputs.each i child.0 path k pair a out e child.1 (omega arith) (ap (table i) (sym p) ∙ n)
+
+      -- forwards: the actual of an input stands in the table of the parent, whose inputs are known
+      pub actual_known : (t : ℕ) → HasInputs library (paths_of rows) table t → (i : ℕ) (path : Path) (k : ℕ) (pair : Pair) (a : ConnectionAt library path k pair) → IsTrue (is_input a.child pair.formal)
+          → slice_get (paths_of rows) i ≡ Some path → i < t → table i pair.actual ≡ None → ⊥
+      actual_known t inputs i path k pair a is e h =
+          let d = driven.driven path pair.actual (input_actual k pair a is refl) in
+          any_known t inputs i path pair.actual d.0 h e d.1
+
+      -- complete: a name without a number is driven by nothing
+      pub none_drives : HasInputs library (paths_of rows) table (length (paths_of rows)) → (i : ℕ) (path : Path) (name : List ℕ) → slice_get (paths_of rows) i ≡ Some path → table i name ≡ None
+          → (net : Net) → Drives library path name net → ⊥
+      none_drives inputs i path name e n net t =
+          let d = has_its_driver library driven t in
+          any_known (length (paths_of rows)) inputs i path name d.0 (slice_get_within (paths_of rows) i path e) e d.1 n
+
+      found : (at : Places) → IsSoundTable library at (paths_of rows) table → HasInputs library (paths_of rows) table (length (paths_of rows)) → (i : ℕ) (path : Path) (name : List ℕ) → slice_get (paths_of rows) i ≡ Some path
+          → (o : Option FlatNet) → table i name ≡ o → IsNetFound library at path name o
+      found at sound inputs i path name e None n = none_drives inputs i path name e n
+      found at sound inputs i path name e (Some number) n = sound.each i path name number e n
+
+      pub table_found : (at : Places) → IsSoundTable library at (paths_of rows) table → HasInputs library (paths_of rows) table (length (paths_of rows)) → AreNetsAt library at (paths_of rows) table
+      table_found at sound inputs = record { each = λ i path name e. found at sound inputs i path name e (table i name) refl }

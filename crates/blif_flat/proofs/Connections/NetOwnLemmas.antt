@@ -1,29 +1,16 @@
 -- The covers and latches of all instances are put in at their outputs: the table stays right, and their outputs stand in it.
-use Rattle.std.proofs.Common.{◌≡◌, ℕ, zero, suc, ◌+◌, Bool, List, [], ◌∷◌, ◌++◌, Option, Some, None, refl, sym, ap, ◌∙◌, subst, inl, inr, arith, slice_get, IsTrue, option_and_then}
-use Rattle.blif_flat.proofs.Common.{none-some, same_Some, option_and_then_some, In, In-left, In-right}
-use Rattle.list_laws.proofs.TwoLists.{item_there}
-use Rattle.blif_flat.specs.Circuits.{Body, Cover, Latch, Subckt, Command, LatchValue, CoverValue, ModelValue, LibraryValue, Path, body_at, model_at, latch_net, cover_net, is_cover, is_latch}
-use Rattle.blif_flat.specs.declared.flat.Net.{Net as FlatNet}
-use Rattle.blif_flat.specs.declared.flat.Net.TheVariants.{Latch as LatchNumber, Cover as CoverNumber}
-use Rattle.blif_flat.specs.declared.gates.Gate.{Gate}
-use Rattle.blif_flat.specs.declared.instances.Instance.{Instance}
-use Rattle.blif_flat.specs.Nets.{latch_output as drives_latch, cover_output as drives_cover}
-use Rattle.blif_flat.specs.Steps.InstanceOrder.{places_at}
-use Rattle.blif_flat.specs.Steps.InstanceRows.{paths_of, AreInstances}
-use Rattle.blif_flat.specs.Flat.{Places, IsNumbered, a_latch, a_cover, IsNetOf}
-use Rattle.blif_flat.specs.Steps.Gates.{IsGateAt, AreGatesAt}
-use Rattle.blif_flat.specs.Steps.ModelNames.{body_names, commands_names, all_names}
-use Rattle.blif_flat.specs.Steps.NetTable.{IsSoundTable, net_places, own_number}
-use Rattle.blif_flat.specs.Steps.NetMade.{HasSlots, IsNext}
-use Rattle.blif_flat.specs.Steps.NetSlots.{NetsValue, table_of, IsNets}
-use Rattle.blif_flat.specs.Steps.GateBodies.{body_in, gate_body}
-use Rattle.blif_flat.specs.Steps.NetSteps.{cover_output, latch_output, with_named, with_gates}
-use Rattle.blif_flat.proofs.Hierarchy.PlaceLemmas.{place_of, command_of}
+use Rattle.blif_flat.proofs.Common.{◌≡◌, ℕ, zero, suc, ◌+◌, Bool, List, [], ◌∷◌, ◌++◌, Option, Some, None, refl, sym, ap, ◌∙◌, subst, inl, inr, arith, slice_get, IsTrue, option_and_then, apart_once, none-some, same_Some, option_and_then_some, In, In-left, In-right, item_there, true, is_some, or_cases, false≢true, In-get}
+use Rattle.blif_flat.specs.{Body, Cover, Latch, Subckt, Command, LatchValue, CoverValue, ModelValue, LibraryValue, Path, body_at, model_at, latch_net, cover_net, is_cover, is_latch, FlatNet, Gate, Instance, latch_output as drives_latch, cover_output as drives_cover, places_at, paths_of, AreInstances, IsNumbered, a_latch, a_cover, IsNetOf, IsGateAt, AreGatesAt, body_names, commands_names, all_names, IsSoundTable, net_places, own_number, HasSlots, IsNext, NetsValue, table_of, IsNets, body_in, gate_body, output_of_cover, output_of_latch, with_named, with_gates, place_of as index_place, has_name, is_input, inputs_of, with_place, with_inputs}
+use Rattle.blif_flat.specs.Flat.{Places}
+use Rattle.blif_flat.specs.declared.flat.Net.TheVariants.{Latch as LatchNumber, Cover as CoverNumber, Input as InputNumber}
+use Rattle.blif_flat.proofs.Connections.NetCopyLemmas.{copied-nets, copied-kept, copied-known, copied-slots, copied-sound, next_same, next_on}
+use Rattle.blif_flat.proofs.Connections.NetLemmas.{gate_place_at, input_number}
 use Rattle.blif_flat.proofs.Hierarchy.GateLemmas.{gate_place}
-use Rattle.blif_flat.proofs.Hierarchy.InstanceOnceLemmas.{order_apart}
-use Rattle.blif_flat.proofs.Connections.NetTableLemmas.{one_place, place_at}
-use Rattle.blif_flat.proofs.Connections.NetSlotLemmas.{copied-nets}
-use Rattle.blif_flat.proofs.Connections.NetCopyLemmas.{copied-kept, copied-known, copied-slots, copied-sound, next_same, next_on}
+use Rattle.blif_flat.proofs.Hierarchy.OrderLemmas.{instances_apart, order_first}
+use Rattle.blif_flat.proofs.Hierarchy.PlaceLemmas.{place_of, command_of}
+use Rattle.blif_flat.proofs.Models.ModelNameLemmas.{place_is}
+use Rattle.blif_flat.proofs.Models.NameLemmas.{has_in, in_has, in_input, input_in}
+use Rattle.blif_flat.proofs.Models.NameSetLemmas.{place_some}
 
 -- slots stay
 pub slots_on : (library : LibraryValue) (at : Places) (paths : List Path) (n next : NetsValue) → HasSlots library paths n → IsNext library at paths n next → HasSlots library paths next
@@ -130,23 +117,23 @@ module _ (library : LibraryValue) (main : ModelValue) (rows : List Instance) (ar
   command_body g path m b here there is =
       gate_place library rows are g (record { path = path; command = g.command }) (record { row = here; command = refl }) ∙ ap (body_in g.command) there ∙ is
 
-  cover_body : (b : Body) (name : List ℕ) → cover_output b ≡ Some name → (c : CoverValue) × (b ≡ Cover c) × (c.output ≡ name)
+  cover_body : (b : Body) (name : List ℕ) → output_of_cover b ≡ Some name → (c : CoverValue) × (b ≡ Cover c) × (c.output ≡ name)
   cover_body (Cover c) name e = (c, refl, same_Some c.output name e)
   cover_body (Latch l) name e = absurd (none-some name e)
   cover_body (Subckt s) name e = absurd (none-some name e)
 
-  latch_body : (b : Body) (name : List ℕ) → latch_output b ≡ Some name → (l : LatchValue) × (b ≡ Latch l) × (l.output ≡ name)
+  latch_body : (b : Body) (name : List ℕ) → output_of_latch b ≡ Some name → (l : LatchValue) × (b ≡ Latch l) × (l.output ≡ name)
   latch_body (Cover c) name e = absurd (none-some name e)
   latch_body (Latch l) name e = (l, refl, same_Some l.output name e)
   latch_body (Subckt s) name e = absurd (none-some name e)
 
   -- the outputs of the covers have the covers' numbers
   pub covers_own : (covers : List Gate) → AreGatesAt (paths_of rows) covers (places_at library is_cover (paths_of rows))
-      → AreOwn library (net_places library main (paths_of rows)) (paths_of rows) rows cover_output (λ j. CoverNumber j) 0 covers
+      → AreOwn library (net_places library main (paths_of rows)) (paths_of rows) rows output_of_cover (λ j. CoverNumber j) 0 covers
   covers_own covers gates i g name e f =
       let p = item_there covers (places_at library is_cover (paths_of rows)) i g gates.count e in
       let stands : IsGateAt (paths_of rows) g p.0 = gates.each i g p.0 e p.1 in
-      option_and_then_some cover_output (gate_body library rows g) name f (λ b h t.
+      option_and_then_some output_of_cover (gate_body library rows g) name f (λ b h t.
       let c = cover_body b name t in
       let k : IsCommandOf g (p.0).path b = gate_command g (p.0).path b stands.row h in
       let cover : body_at k.model (p.0).command ≡ Some (Cover c.0) = ap (body_at k.model) (sym stands.command) ∙ k.is ∙ ap Some c.1 in
@@ -165,11 +152,11 @@ module _ (library : LibraryValue) (main : ModelValue) (rows : List Instance) (ar
       })
 
   pub latches_own : (latches : List Gate) → AreGatesAt (paths_of rows) latches (places_at library is_latch (paths_of rows))
-      → AreOwn library (net_places library main (paths_of rows)) (paths_of rows) rows latch_output (λ j. LatchNumber j) 0 latches
+      → AreOwn library (net_places library main (paths_of rows)) (paths_of rows) rows output_of_latch (λ j. LatchNumber j) 0 latches
   latches_own latches gates i g name e f =
       let p = item_there latches (places_at library is_latch (paths_of rows)) i g gates.count e in
       let stands : IsGateAt (paths_of rows) g p.0 = gates.each i g p.0 e p.1 in
-      option_and_then_some latch_output (gate_body library rows g) name f (λ b h t.
+      option_and_then_some output_of_latch (gate_body library rows g) name f (λ b h t.
       let l = latch_body b name t in
       let k : IsCommandOf g (p.0).path b = gate_command g (p.0).path b stands.row h in
       let latch : body_at k.model (p.0).command ≡ Some (Latch l.0) = ap (body_at k.model) (sym stands.command) ∙ k.is ∙ ap Some l.1 in
@@ -201,13 +188,69 @@ module _ (library : LibraryValue) (main : ModelValue) (rows : List Instance) (ar
       let command = command_of (slice_get m.commands c) b is in
       let number : ℕ = own_number library kind (paths_of rows) i m c in
       let place : slice_get (places_at library kind (paths_of rows)) number ≡ Some (place_of path c) =
-      place_at library kind (paths_of rows) i path m c command.0 here there command.1 (ap kind command.2 ∙ t) in
+      gate_place_at library kind (paths_of rows) i path m c command.0 here there command.1 (ap kind command.2 ∙ t) in
       let g = item_there (places_at library kind (paths_of rows)) gates number (place_of path c) (sym stand.count) place in
       let stands : IsGateAt (paths_of rows) g.0 (place_of path c) = stand.each number g.0 (place_of path c) g.1 place in
       record {
         number = number;
         gate = g.0;
         at = g.1;
-        row = one_place (paths_of rows) path (g.0).row i (order_apart library are.order) stands.row here;
+        row = apart_once (paths_of rows) (g.0).row i path (instances_apart library are.order) stands.row here;
         is = command_body g.0 path m b stands.row there (ap (body_at m) stands.command ∙ is);
       }
+
+-- The inputs of the main model are put in by their places: they are few, the table stays right, and they stand in it.
+pub first_path : (library : LibraryValue) (rows : List Instance) → AreInstances library rows → slice_get (paths_of rows) 0 ≡ Some []
+first_path library rows are = order_first library are.order
+
+-- the inputs of a model are among its names
+pub input_named : (m : ModelValue) (name : List ℕ) → IsTrue (is_input m name) → In (all_names m) name
+input_named m name t = elim (or_cases (has_name m.inputs name) (has_name m.clocks name) t) [
+  | inl y ↦ In-left m.inputs (m.outputs ++ (m.clocks ++ commands_names m.commands)) name (has_in m.inputs name y)
+  | inr y ↦
+      In-right m.inputs (m.outputs ++ (m.clocks ++ commands_names m.commands)) name (In-right m.outputs (m.clocks ++ commands_names m.commands) name
+      (In-left m.clocks (commands_names m.commands) name (has_in m.clocks name y)))
+]
+
+module _ (library : LibraryValue) (main : ModelValue) (rows : List Instance) (are : AreInstances library rows) (first : model_at library [] ≡ Some main) where
+  abbrev at : Places
+  at = net_places library main (paths_of rows)
+
+  -- an input has its number
+  input_own : (name : List ℕ) (j : ℕ) → index_place (inputs_of main) name ≡ Some j → IsOwn library at (paths_of rows) 0 name (InputNumber j)
+  input_own name j e =
+      let place : slice_get (inputs_of main) j ≡ Some name = place_is (inputs_of main) name j e in
+      let is : IsTrue (is_input main name) = in_input main name (In-get (inputs_of main) j name place) in
+      record { path = []; here = first_path library rows are; model = main; there = first; named = input_named main name is; right = input_number library main (paths_of rows) j name first is place }
+
+  place_next : (n : NetsValue) → IsNets n → IsSoundTable library at (paths_of rows) (table_of n) → (name : List ℕ) (o : Option ℕ) → index_place (inputs_of main) name ≡ o → IsNext library at (paths_of rows) n (with_place n name o)
+  place_next n is sound name None e = next_same library at (paths_of rows) n is sound
+  place_next n is sound name (Some j) e =
+      named_next library at (paths_of rows) n is sound 0 (Some name) (InputNumber j) (λ other f. subst (λ x. IsOwn library at (paths_of rows) 0 x (InputNumber j)) (same_Some name other f) (input_own name j e))
+
+  place_known : (n : NetsValue) → IsNets n → HasSlots library (paths_of rows) n → (name : List ℕ) (o : Option ℕ) → index_place (inputs_of main) name ≡ o → IsTrue (is_input main name) → table_of (with_place n name o) 0 name ≡ None → ⊥
+  place_known n is slots name None e t g =
+      let has : is_some (index_place (inputs_of main) name) ≡ true = place_some (inputs_of main) name ∙ in_has (inputs_of main) name (input_in main name t) in
+      false≢true (sym (ap is_some e) ∙ has)
+  place_known n is slots name (Some j) e t g = named_known library at (paths_of rows) n is slots 0 (Some name) name (InputNumber j) refl (input_own name j e) g
+
+  pub main_next : (names : List (List ℕ)) (n : NetsValue) → IsNets n → IsSoundTable library at (paths_of rows) (table_of n) → IsNext library at (paths_of rows) n (with_inputs (inputs_of main) n names)
+  main_next [] n is sound = next_same library at (paths_of rows) n is sound
+  main_next (name ∷ names) n is sound =
+      let middle : NetsValue = with_place n name (index_place (inputs_of main) name) in
+      let one : IsNext library at (paths_of rows) n middle = place_next n is sound name (index_place (inputs_of main) name) refl in
+      next_on library at (paths_of rows) n middle (with_inputs (inputs_of main) middle names) one (main_next names middle one.nets one.sound)
+
+  pub main_known : (names : List (List ℕ)) (n : NetsValue) → IsNets n → IsSoundTable library at (paths_of rows) (table_of n) → HasSlots library (paths_of rows) n
+      → (name : List ℕ) → In names name → IsTrue (is_input main name) → table_of (with_inputs (inputs_of main) n names) 0 name ≡ None → ⊥
+  main_known [] n is sound slots name i t g = absurd i
+  main_known (x ∷ names) n is sound slots name (inl e) t g =
+      let middle : NetsValue = with_place n x (index_place (inputs_of main) x) in
+      let one : IsNext library at (paths_of rows) n middle = place_next n is sound x (index_place (inputs_of main) x) refl in
+      let rest : IsNext library at (paths_of rows) middle (with_inputs (inputs_of main) middle names) = main_next names middle one.nets one.sound in
+      let known : table_of middle 0 x ≡ None → ⊥ = place_known n is slots x (index_place (inputs_of main) x) refl (subst (λ y. IsTrue (is_input main y)) e t) in
+      rest.kept.each 0 name (subst (λ y. table_of middle 0 y ≡ None → ⊥) (sym e) known) g
+  main_known (x ∷ names) n is sound slots name (inr i) t g =
+      let middle : NetsValue = with_place n x (index_place (inputs_of main) x) in
+      let one : IsNext library at (paths_of rows) n middle = place_next n is sound x (index_place (inputs_of main) x) refl in
+      main_known names middle one.nets one.sound (slots_on library at (paths_of rows) n middle slots one) name i t g

@@ -1,20 +1,10 @@
 -- The slots of the instances one behind the other: each name of each instance has its own, and they are as many as the instances' names.
-use Rattle.std.proofs.Common.{◌≡◌, ℕ, zero, suc, ◌+◌, ◌<◌, ◌≤◌, true, false, List, [], ◌∷◌, map, replicate, length, Option, Some, None, is_some, refl, sym, ap, ◌∙◌, subst, arith, slice_get, option_map, option_and_then}
-use Rattle.blif_flat.proofs.Common.{both_ways, length-replicate, none-some, same_Some, slice_get-map, slice_get_within, at_within}
-use Rattle.tl_text.specs.NameIndex.{place_of}
-use Rattle.blif_flat.specs.Circuits.{ModelValue, LibraryValue, Path, model_at, has_name}
-use Rattle.blif_flat.specs.declared.flat.Net.{Net as FlatNet}
-use Rattle.blif_flat.specs.declared.instances.Instance.{Instance}
-use Rattle.blif_flat.specs.declared.nets.Start.{Start}
-use Rattle.blif_flat.specs.Steps.InstanceRows.{AreInstances, IsLight, paths_of}
-use Rattle.blif_flat.specs.Steps.NetSlots.{NetsValue, name_place, slot_number, slot_at, IsNets}
-use Rattle.blif_flat.specs.Steps.NetMade.{HasSlots, AreEmptyNets}
-use Rattle.blif_flat.specs.Steps.NetStarts.{distinct_names, count_in, name_count, starts_from, slot_count}
-use Rattle.blif_flat.specs.Weight.{most_weight}
-use Rattle.blif_flat.proofs.Models.NameSetLemmas.{place_some}
-use Rattle.blif_flat.proofs.Models.ModelNameLemmas.{distinct_few, distinct_has, place_within, place_is}
-use Rattle.blif_flat.proofs.Hierarchy.InstanceWeightLemmas.{held, held_by, light_held}
+use Rattle.blif_flat.proofs.Common.{◌≡◌, ℕ, zero, suc, ◌+◌, ◌<◌, ◌≤◌, true, false, List, [], ◌∷◌, map, replicate, length, Option, Some, None, is_some, refl, sym, ap, ◌∙◌, subst, arith, slice_get, option_map, option_and_then, both_ways, length-replicate, none-some, same_Some, slice_get-map, slice_get_within, at_within}
+use Rattle.blif_flat.specs.{place_of, ModelValue, LibraryValue, Path, model_at, has_name, FlatNet, Instance, Start, AreInstances, IsLight, paths_of, NetsValue, name_place, slot_number, slot_at, IsNets, HasSlots, AreEmptyNets, distinct_names, count_in, name_count, starts_from, slot_count, most_weight}
 use Rattle.blif_flat.proofs.Hierarchy.InstanceRowLemmas.{AreModelsOf, models_rest, models_of}
+use Rattle.blif_flat.proofs.Hierarchy.InstanceWeightLemmas.{held, held_by, light_held}
+use Rattle.blif_flat.proofs.Models.ModelNameLemmas.{distinct_few, distinct_has, name_place_within, place_is}
+use Rattle.blif_flat.proofs.Models.NameSetLemmas.{place_some}
 
 -- a slot by the names of its model and the place of its name among them
 record IsSlotOf (names : List (List (List ℕ))) (s : Start) (name : List ℕ) (k : ℕ) : Type 0 where
@@ -42,17 +32,12 @@ slot_from names s name k h = let e : s.first + h.place ≡ k = h.is in omega ari
 
 slot_below : (names : List (List (List ℕ))) (s : Start) (name : List ℕ) (k : ℕ) → IsSlotOf names s name k → k < s.first + name_count names s.model
 slot_below names s name k h =
-    let e : s.first + h.place ≡ k = h.is in
-    let n : name_count names s.model ≡ length h.own = ap count_in h.there in
-    let b : h.place < length h.own = place_within h.own name h.place h.at in
-    omega arith
+    omega (arith, ap count_in h.there, name_place_within h.own name h.place h.at)
 
 -- and there it has one name
 slot_name : (names : List (List (List ℕ))) (s : Start) (name other : List ℕ) (k : ℕ) → IsSlotOf names s name k → IsSlotOf names s other k → name ≡ other
 slot_name names s name other k h g =
     let twin : h.own ≡ g.own = same_Some h.own g.own (sym h.there ∙ g.there) in
-    let a : s.first + h.place ≡ k = h.is in
-    let b : s.first + g.place ≡ k = g.is in
     let place : h.place ≡ g.place = omega arith in
     same_Some name other (sym (place_is h.own name h.place h.at) ∙ ap (λ l. slice_get l h.place) twin ∙ ap (slice_get g.own) place ∙ place_is g.own other g.place g.at)
 
@@ -73,8 +58,7 @@ module _ (names : List (List (List ℕ))) where
   slots_below : (rows : List Instance) (first i : ℕ) (name : List ℕ) (k : ℕ) → slot_in (starts_from names first rows) i name ≡ Some k → k < first + slot_count names rows
   slots_below [] first i name k e = absurd (none-some k e)
   slots_below (row ∷ rows) first zero name k e =
-      let h : k < first + name_count names row.model = slot_below names (record { model = row.model; first = first }) name k (slot_parts names (record { model = row.model; first = first }) name k e) in
-      omega arith
+      omega (arith, slot_below names (record { model = row.model; first = first }) name k (slot_parts names (record { model = row.model; first = first }) name k e))
   slots_below (row ∷ rows) first (suc i) name k e = let h : k < (first + name_count names row.model) + slot_count names rows = slots_below rows (first + name_count names row.model) i name k e in omega arith
 
   -- each name of each row has its own slot
@@ -85,14 +69,10 @@ module _ (names : List (List (List ℕ))) where
       (refl, slot_name names s name other k (slot_parts names s name k e) (slot_parts names s other k f))
   slots_apart (row ∷ rows) first zero (suc j) name other k e f =
       let s : Start = record { model = row.model; first = first } in
-      let a : k < first + name_count names row.model = slot_below names s name k (slot_parts names s name k e) in
-      let b : first + name_count names row.model ≤ k = slots_from rows (first + name_count names row.model) j other k f in
-      absurd (omega arith)
+      absurd (omega (arith, slot_below names s name k (slot_parts names s name k e), slots_from rows (first + name_count names row.model) j other k f))
   slots_apart (row ∷ rows) first (suc i) zero name other k e f =
       let s : Start = record { model = row.model; first = first } in
-      let a : k < first + name_count names row.model = slot_below names s other k (slot_parts names s other k f) in
-      let b : first + name_count names row.model ≤ k = slots_from rows (first + name_count names row.model) i name k e in
-      absurd (omega arith)
+      absurd (omega (arith, slot_below names s other k (slot_parts names s other k f), slots_from rows (first + name_count names row.model) i name k e))
   slots_apart (row ∷ rows) first (suc i) (suc j) name other k e f =
       let r = slots_apart rows (first + name_count names row.model) i j name other k e f in
       (ap suc r.0, r.1)
@@ -131,16 +111,12 @@ module _ (library : LibraryValue) where
   held_slots (row ∷ rows) (path ∷ paths) are =
       let a : name_count all_distinct row.model ≡ count_in (option_map distinct_names (model_at library path)) =
       ap count_in (slice_get-map distinct_names library.models row.model) ∙ ap (λ o. count_in (option_map distinct_names o)) (are.each 0 row path refl refl) in
-      let b : count_in (option_map distinct_names (model_at library path)) ≤ held (model_at library path) = held_names (model_at library path) in
-      let c : slot_count all_distinct rows ≤ held_by library paths = held_slots rows paths (models_rest library row rows path paths are) in
-      omega arith
+      omega (arith, held_names (model_at library path), held_slots rows paths (models_rest library row rows path paths are))
 
   module _ (light : IsLight library) (rows : List Instance) (are : AreInstances library rows) where
     pub few_slots : slot_count all_distinct rows ≤ most_weight
     few_slots =
-        let a : slot_count all_distinct rows ≤ held_by library (paths_of rows) = held_slots rows (paths_of rows) (models_of library rows are) in
-        let b : held_by library (paths_of rows) ≤ most_weight = light_held library light are.main (paths_of rows) are.first are.order in
-        omega arith
+        omega (arith, held_slots rows (paths_of rows) (models_of library rows are), light_held library light are.main (paths_of rows) are.first are.order)
 
     abbrev made_nets : NetsValue
     made_nets = record { names = all_distinct; starts = starts_from all_distinct 0 rows; slots = replicate (slot_count all_distinct rows) None }
@@ -152,9 +128,7 @@ module _ (library : LibraryValue) where
     are_nets = record {
       few = let a : length made_nets.slots ≡ slot_count all_distinct rows = slots_long in let b : slot_count all_distinct rows ≤ most_weight = few_slots in omega arith;
       within = λ i name k e.
-          let a : length made_nets.slots ≡ slot_count all_distinct rows = slots_long in
-          let b : k < 0 + slot_count all_distinct rows = slots_below all_distinct rows 0 i name k e in
-          omega arith;
+          omega (arith, slots_long, slots_below all_distinct rows 0 i name k e);
       apart = λ i j name other k e f. slots_apart all_distinct rows 0 i j name other k e f;
     }
 

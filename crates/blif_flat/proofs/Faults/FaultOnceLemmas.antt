@@ -1,35 +1,22 @@
 -- A library has at most one fault, and none where it is sound and not too large.
-use Rattle.std.proofs.Common.{◌≡◌, ℕ, ◌<◌, List, [], ◌∷◌, Option, Some, None, refl, sym, ap, ap₂, ◌∙◌, subst, ◌≤◌, arith}
-use Rattle.std.proofs.lemmas.Option.{none-some, same_Some}
-use Rattle.blif_flat.specs.Circuits.{ModelValue, LibraryValue, model_at, cover_net, IsDriven, Place, is_latch, FlatOrder}
-use Rattle.blif_read.specs.WellFormed.{IsWellFormed}
-use Rattle.blif_flat.specs.declared.flat_err.FlatErr.{FlatErr}
-use Rattle.blif_flat.specs.declared.flat_err.FlatErr.TheVariants.{TooLarge, Loop}
-use Rattle.blif_flat.specs.Walk.{Walked, refused, walked, WalksMain}
-use Rattle.blif_flat.specs.Weight.{most_weight, Weighs, IsLight}
-use Rattle.blif_flat.specs.DriverFaults.{models_fault}
-use Rattle.blif_flat.specs.ClockFaults.{Clocks, is_gate, ClockData}
-use Rattle.blif_flat.specs.DepthFirst.{Repeat}
-use Rattle.blif_flat.specs.LoopFault.{from_node, AreWritten, none, more, IsLoop, LoopWalk}
-use Rattle.blif_flat.specs.Faults.{IsWalked, IsConnected, IsClocked, IsFault, HasOneFault, in_walk, too_large, in_drivers, in_controls, in_data, in_loops, HasNoFault}
-use Rattle.blif_flat.proofs.Models.WalkedLemmas.{walk_main_once}
+use Rattle.blif_flat.proofs.Common.{◌≡◌, ℕ, ◌<◌, List, [], ◌∷◌, Option, Some, None, refl, sym, ap, ap₂, ◌∙◌, subst, ◌≤◌, arith, none-some, same_Some, Result, Ok, Err, IfOk, IfErr, Bool, OrMemory-map}
+use Rattle.blif_flat.specs.{ModelValue, LibraryValue, model_at, cover_net, IsDriven, Place, is_latch, FlatOrder, IsWellFormed, FlatErr, TooLarge, Walked, refused, walked, WalksMain, most_weight, Weighs, IsLight, models_fault, Clocks, is_gate, ClockData, Repeat, from_node, AreWritten, IsLoop, LoopWalk, IsWalked, IsConnected, IsClocked, IsFault, HasOneFault, in_walk, too_large, in_drivers, in_controls, in_data, in_loops, HasNoFault, IsSound, OrMemory, Body, refusal_of, IsChecked, Tells, models_at, HasWeight, Instance, ClockNets, AreInstances, paths_of, places_at, AreClockNets}
+use Rattle.blif_flat.specs.LoopFault.{none, more}
+use Rattle.blif_flat.specs.declared.flat_err.FlatErr.TheVariants.{Loop}
+use Rattle.blif_flat.proofs.Clocking.ControlLemmas.{clocks_once, data_once, sound-clocks, sound-data}
+use Rattle.blif_flat.proofs.Fields.LoopOnceLemmas.{order_once, loop_once, sound-loops}
+use Rattle.blif_flat.proofs.Hierarchy.OrderLemmas.{order_places}
+use Rattle.blif_flat.proofs.Hierarchy.PlaceLemmas.{written_once}
 use Rattle.blif_flat.proofs.Models.DrivenLemmas.{walked_driven, driven_clean}
-use Rattle.blif_flat.proofs.Clocking.ClockOnceLemmas.{clocks_once, data_once}
-use Rattle.blif_flat.proofs.Fields.LoopOnceLemmas.{order_once, loop_once}
-use Rattle.blif_flat.proofs.Fields.WrittenLemmas.{written_once}
-use Rattle.blif_flat.specs.Sound.{IsSound}
-use Rattle.blif_flat.proofs.Models.RefusedLemmas.{driven_walks}
-use Rattle.blif_flat.proofs.Clocking.ControlLemmas.{sound-clocks, sound-data}
-use Rattle.blif_flat.proofs.Walks.CycleLemmas.{sound-loops}
-use Rattle.blif_flat.proofs.Values.SoundLemmas.{past_sound}
+use Rattle.blif_flat.proofs.Models.WalkedLemmas.{walk_main_once, driven_walks}
 use Rattle.blif_flat.proofs.Models.WeightLemmas.{weighs_once}
+use Rattle.blif_flat.proofs.Values.LoopLemmas.{past_sound}
 
 -- a main model that isn't too large in one weighing isn't in another
 pub not_heavy : (library : LibraryValue) (main other : ModelValue) (weight own : ℕ) → model_at library [] ≡ Some main → Weighs library main weight → weight ≤ most_weight
     → model_at library [] ≡ Some other → Weighs library other own → most_weight < own → ⊥
 not_heavy library main other weight own at w light at_other v heavy =
-    let e : weight ≡ own = weighs_once library main other weight own (same_Some main other (sym at ∙ at_other)) w v in
-    omega arith
+    omega (arith, weighs_once library main other weight own (same_Some main other (sym at ∙ at_other)) w v)
 
 pub fault_excluded : (library : LibraryValue) → IsSound library → (main : ModelValue) (weight : ℕ) → model_at library [] ≡ Some main → Weighs library main weight → weight ≤ most_weight
     → (fault : FlatErr) → IsFault library fault → ⊥
@@ -178,3 +165,76 @@ fault_once library formed f g (in_loops a ps o c l) b = loops_only library forme
 
 pub one_fault : (library : LibraryValue) → IsWellFormed library → HasOneFault library
 one_fault library formed = record { once = fault_once library formed }
+
+-- From stage to stage: each stage's refusal is the library's, and past all of them the library is sound.
+module _ (library : LibraryValue) (main : ModelValue) (at : model_at library [] ≡ Some main) where
+  pub walk_fault : (e : FlatErr) → OrMemory refusal_of (λ r. WalksMain library main (refused r)) e → OrMemory refusal_of (IsFault library) e
+  walk_fault e h = OrMemory-map refusal_of (λ r. WalksMain library main (refused r)) (IsFault library) e (λ r w. in_walk main at w) h
+
+  module _ (numbers : List ℕ) (walks : WalksMain library main (walked (models_at library.models numbers))) where
+    pub heavy_fault : (e : FlatErr) → OrMemory refusal_of (λ r. (r ≡ TooLarge) × HasWeight library main (λ w. most_weight < w)) e → OrMemory refusal_of (IsFault library) e
+    heavy_fault e h = OrMemory-map refusal_of (λ r. (r ≡ TooLarge) × HasWeight library main (λ w. most_weight < w)) (IsFault library) e
+        (λ r k. too_large main (models_at library.models numbers) k.1.weight at walks k.1.weighs k.1.is k.0) h
+
+    walked_light : HasWeight library main (λ w. w ≤ most_weight) → IsWalked library (models_at library.models numbers)
+    walked_light light = record {
+      main = main;
+      at = at;
+      walks = walks;
+      weight = light.weight;
+      weighs = light.weighs;
+      light = light.is;
+    }
+
+    pub driver_fault : (result : Result (Unit {0}) FlatErr) → HasWeight library main (λ w. w ≤ most_weight) → Tells result (models_fault library (models_at library.models numbers)) → IfErr result (λ e. OrMemory refusal_of (IsFault library) e)
+    driver_fault (Ok u) light h = tt
+    driver_fault (Err e) light h = OrMemory-map refusal_of (λ r. models_fault library (models_at library.models numbers) ≡ Some r) (IsFault library) e (λ r k. in_drivers (models_at library.models numbers) (walked_light light) k) h
+
+    pub comes_past : (result : Result (Unit {0}) FlatErr) → IsWellFormed library → HasWeight library main (λ w. w ≤ most_weight) → Tells result (models_fault library (models_at library.models numbers)) → IfOk result (λ _. IsChecked library)
+    comes_past (Ok u) formed light clean =
+        let past : IsWalked library (models_at library.models numbers) = walked_light light in
+        record {
+          connected = record { models = models_at library.models numbers; past = past; none = clean };
+          driven = walked_driven library past.main (models_at library.models numbers) formed past.at past.walks clean;
+          light = record { main = past.main; first = past.at; weight = past.weight; weighs = past.weighs; light = past.light };
+        }
+    comes_past (Err e) formed light h = tt
+
+module _ (library : LibraryValue) (rows : List Instance) (are : AreInstances library rows) where
+  -- the covers and latches of all instances are in flat order
+  pub rows_order : (kind : Body → Bool) (main : ModelValue) → model_at library [] ≡ Some main → FlatOrder library kind [] main (places_at library kind (paths_of rows))
+  rows_order kind main at =
+      subst (λ m. FlatOrder library kind [] m (places_at library kind (paths_of rows))) (same_Some are.main main (sym are.first ∙ at)) (order_places library kind are.order are.first)
+
+  pub controls_refused : IsConnected library → (e : FlatErr) → OrMemory refusal_of (λ r. Clocks library None (places_at library is_latch (paths_of rows)) (Some r)) e → OrMemory refusal_of (IsFault library) e
+  controls_refused past e h =
+      OrMemory-map refusal_of (λ r. Clocks library None (places_at library is_latch (paths_of rows)) (Some r)) (IsFault library) e
+      (λ r c. in_controls past (places_at library is_latch (paths_of rows)) (rows_order is_latch past.past.main past.past.at) c) h
+
+  module _ (past : IsConnected library) where
+    abbrev pub clocked : Clocks library None (places_at library is_latch (paths_of rows)) None → IsClocked library
+    clocked clean = record { past = past; latches = places_at library is_latch (paths_of rows); latches_are = rows_order is_latch past.past.main past.past.at; none = clean }
+
+    gates_order : FlatOrder library is_gate [] past.past.main (places_at library is_gate (paths_of rows))
+    gates_order = rows_order is_gate past.past.main past.past.at
+
+    pub data_refused : Clocks library None (places_at library is_latch (paths_of rows)) None → (e : FlatErr)
+        → OrMemory refusal_of (λ r. (main : ModelValue) → model_at library [] ≡ Some main → ClockData library main (places_at library is_gate (paths_of rows)) (Some r)) e → OrMemory refusal_of (IsFault library) e
+    data_refused clean e h =
+        OrMemory-map refusal_of (λ r. (main : ModelValue) → model_at library [] ≡ Some main → ClockData library main (places_at library is_gate (paths_of rows)) (Some r)) (IsFault library) e
+        (λ r d. in_data (clocked clean) (places_at library is_gate (paths_of rows)) gates_order (d past.past.main past.past.at)) h
+
+    module _ (main : ModelValue) (at : model_at library [] ≡ Some main) (clocks : ClockNets) (are_clocks : AreClockNets library main rows clocks) where
+      clear : ClockData library past.past.main (places_at library is_gate (paths_of rows)) None
+      clear = subst (λ m. ClockData library m (places_at library is_gate (paths_of rows)) None) (same_Some main past.past.main (sym at ∙ past.past.at)) are_clocks.clear
+
+      pub loop_refused : (e : FlatErr) → OrMemory refusal_of (IsLoop library) e → OrMemory refusal_of (IsFault library) e
+      loop_refused e h =
+          OrMemory-map refusal_of (IsLoop library) (IsFault library) e
+          (λ r l. in_loops (clocked are_clocks.controlled.clean) (places_at library is_gate (paths_of rows)) gates_order clear l) h
+
+      pub all_sound : IsWellFormed library → LoopWalk library None → IsSound library
+      all_sound formed walk = past_sound library formed (clocked are_clocks.controlled.clean) (places_at library is_gate (paths_of rows)) gates_order clear walk
+
+      pub none_stands : IsWellFormed library → LoopWalk library None → HasNoFault library
+      none_stands formed walk = record { none = past_excluded library formed (clocked are_clocks.controlled.clean) (places_at library is_gate (paths_of rows)) gates_order clear walk }

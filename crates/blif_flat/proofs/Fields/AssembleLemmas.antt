@@ -1,51 +1,17 @@
 -- The parts of a flat circuit make its fields.
-use Rattle.std.proofs.Common.{◌≡◌, ℕ, ◌+◌, ◌≤◌, List, [], ◌++◌, map, length, reverse, filter, Some, refl, sym, ap, ◌∙◌, subst, subst₂, arith, Bool, true, false, not, suc, if◌then◌else◌, ◌∷◌, slice_get}
-use Rattle.blif_flat.proofs.Common.{same_Some, length-append, length-map}
-use Rattle.blif_flat.specs.Circuits.{ModelValue, LibraryValue, Path, model_at, has_name, inputs_of, is_cover, is_latch}
-use Rattle.blif_flat.specs.declared.connect.Circuit.{Circuit}
-use Rattle.blif_flat.specs.declared.clock_check.ClockNets.{ClockNets}
-use Rattle.blif_flat.specs.declared.instances.Instance.{Instance}
-use Rattle.blif_flat.specs.declared.flat.Net.{Net as FlatNet}
-use Rattle.blif_flat.specs.declared.flat.OutPort.{OutPort}
-use Rattle.blif_flat.specs.declared.flat.FlatLatch.{FlatLatch}
+use Rattle.blif_flat.proofs.Common.{◌≡◌, ℕ, ◌≤◌, List, [], ◌++◌, map, length, reverse, filter, Some, refl, sym, ap, ◌∙◌, subst, subst₂, arith, Bool, not, ◌∷◌, slice_get, same_Some, length-map, ◌<◌, inl, inr, is_some, option_map, slice_get_within, slice_get-map, In, choose, In-get, at_within, apart_once, reversed_in, in_reversed, nodes_done}
+use Rattle.blif_flat.specs.{ModelValue, LibraryValue, Path, model_at, inputs_of, is_cover, is_latch, Circuit, ClockNets, Instance, FlatNet, OutPort, FlatLatch, paths_of, IsLight, places_at, is_gate, input_name, clock_test, cover_reads, PostsAll, most_weight, own_weight, AreNetsOf, IsControl, with_control_net, most_underscores, IsFlat, regular_numbers, IsRegular, regular_places, AreFlatCovers, AreFlatLatches, AreCounted, root_numbers, IsCircuit, AreClockNets, CoverValue, input_ports, Place, AreOnce, IsWellFormed, FlatNet as Net, IsNumbered, an_input, a_latch, a_cover, reads_at, IsFlatCover, IsFlatLatch, cover_behind, IsThere, StandsBefore, IsWithinBounds}
+use Rattle.blif_flat.specs.Flat.{Places, none, more}
 use Rattle.blif_flat.specs.FlatCoverValue.{FlatCoverValue}
 use Rattle.blif_flat.specs.FlatValue.{FlatValue}
-use Rattle.blif_flat.specs.Steps.InstanceRows.{paths_of, IsLight}
-use Rattle.blif_flat.specs.Steps.InstanceOrder.{places_at}
-use Rattle.blif_flat.specs.ClockFaults.{is_gate}
-use Rattle.blif_flat.specs.Steps.ClockSteps.{input_name, clock_test}
-use Rattle.blif_flat.specs.Steps.CoverWalk.{cover_reads}
-use Rattle.depth_first.specs.DepthFirst.{PostsAll}
-use Rattle.blif_flat.specs.Weight.{most_weight, own_weight, Weighs, weighs}
-use Rattle.blif_flat.specs.Flat.{Places, AreNetsOf, IsControl, with_control_net, most_underscores, IsFlat}
-use Rattle.blif_flat.specs.Steps.RegularNets.{regular_numbers, IsRegular, regular_places, AreFlatCovers, AreFlatLatches}
-use Rattle.blif_flat.specs.Steps.Ordering.{AreCounted, root_numbers}
-use Rattle.blif_flat.specs.Steps.Stages.{IsCircuit, AreClockNets}
 use Rattle.blif_flat.proofs.Clocking.ControlLemmas.{data-output, data-clock}
-use Rattle.blif_flat.proofs.Faults.StageLemmas.{rows_order}
-
-filtered_more : {A : Type 0} (b : Bool) (x : A) (ys : List A) (n : ℕ) → length ys ≤ n → length (if b then x ∷ ys else ys) ≤ suc n
-filtered_more true x ys n h = omega arith
-filtered_more false x ys n h = omega arith
-
--- a filtered list is no longer
-pub filtered_below : {A : Type 0} (test : A → Bool) (xs : List A) → length (filter test xs) ≤ length xs
-filtered_below test [] = omega arith
-filtered_below test (x ∷ xs) = filtered_more (test x) x (filter test xs) (length xs) (filtered_below test xs)
-
--- a main model that isn't too heavy has few inputs
-pub own_below : (library : LibraryValue) (main : ModelValue) (w : ℕ) → Weighs library main w → own_weight main ≤ w
-own_below library main w (weighs inner all e) = omega arith
-
-pub few_inputs : (library : LibraryValue) → IsLight library → (main : ModelValue) → model_at library [] ≡ Some main → length (inputs_of main) ≤ most_weight
-few_inputs library light main at =
-    let same : light.main ≡ main = same_Some light.main main (sym light.first ∙ at) in
-    let below : own_weight main ≤ light.weight = subst (λ m. own_weight m ≤ light.weight) same (own_below library light.main light.weight light.weighs) in
-    let bound : light.weight ≤ most_weight = light.light in
-    let others : List (List ℕ) = filter (λ name. not (has_name main.inputs name)) main.clocks in
-    let sum : length (main.inputs ++ others) ≡ length main.inputs + length others = length-append main.inputs others in
-    let less : length others ≤ length main.clocks = filtered_below (λ name. not (has_name main.inputs name)) main.clocks in
-    omega arith
+use Rattle.blif_flat.proofs.Faults.FaultOnceLemmas.{rows_order}
+use Rattle.blif_flat.proofs.Fields.NumberWalkLemmas.{flat_walked, in_range, root_below}
+use Rattle.blif_flat.proofs.Fields.RegularLemmas.{In-filter}
+use Rattle.blif_flat.proofs.Hierarchy.InstanceWeightLemmas.{few_inputs, filtered_below, places_few, inputs_few, ports_few}
+use Rattle.blif_flat.proofs.Values.EvaluateLemmas.{behind_is}
+use Rattle.blif_flat.proofs.Walks.PostLemmas.{nodes_only, nodes_after, reversed_forward, reversed_apart, reads_earlier}
+use Rattle.blif_flat.specs.declared.instances.GateKind.TheVariants as kinds
 
 module _ (library : LibraryValue) (main : ModelValue) (at : model_at library [] ≡ Some main) (circuit : Circuit) (is : IsCircuit library circuit) (clocks : ClockNets)
     (known : AreClockNets library main circuit.rows.items clocks) where
@@ -60,12 +26,10 @@ module _ (library : LibraryValue) (main : ModelValue) (at : model_at library [] 
 
   pub few_marks : IsLight library → length clocks.marks.items ≤ most_weight
   few_marks light =
-      let all : length (inputs_of main) ≤ most_weight = few_inputs library light main at in
-      let same : length clocks.marks.items ≡ length (inputs_of main) = ap length known.marks ∙ length-map (inputs_of main) test in
-      omega arith
+      omega (arith, few_inputs library light main at, ap length known.marks ∙ length-map (inputs_of main) test)
 
-  abbrev pub regular : (numbers : List ℕ) → numbers ≡ regular_numbers 0 clocks.marks.items → IsRegular library numbers
-  regular numbers e = record {
+  abbrev pub regular_clocks : (numbers : List ℕ) → numbers ≡ regular_numbers 0 clocks.marks.items → IsRegular library numbers
+  regular_clocks numbers e = record {
     main = main;
     is_main = at;
     test = test;
@@ -78,23 +42,20 @@ module _ (library : LibraryValue) (main : ModelValue) (at : model_at library [] 
   -- what the parts are by the new numbers
   module _ (numbers : List ℕ) (rows : List Instance) (numbers_are : numbers ≡ regular_numbers 0 clocks.marks.items) (rows_are : rows ≡ circuit.rows.items) where
     pub covers_known : (flat : List FlatCoverValue) → ((r : IsRegular library numbers) → AreFlatCovers library (regular_places library r.main r.test (paths_of rows)) flat) → AreFlatCovers library places flat
-    covers_known flat h = subst (λ rs. AreFlatCovers library (regular_places library main test (paths_of rs)) flat) rows_are (h (regular numbers numbers_are))
+    covers_known flat h = subst (λ rs. AreFlatCovers library (regular_places library main test (paths_of rs)) flat) rows_are (h (regular_clocks numbers numbers_are))
 
     pub latches_known : (flat : List FlatLatch) → ((r : IsRegular library numbers) → AreFlatLatches library (regular_places library r.main r.test (paths_of rows)) flat) → AreFlatLatches library places flat
-    latches_known flat h = subst (λ rs. AreFlatLatches library (regular_places library main test (paths_of rs)) flat) rows_are (h (regular numbers numbers_are))
+    latches_known flat h = subst (λ rs. AreFlatLatches library (regular_places library main test (paths_of rs)) flat) rows_are (h (regular_clocks numbers numbers_are))
 
     pub nets_known : (nets : List FlatNet) → ((r : IsRegular library numbers) → AreNetsOf library (regular_places library r.main r.test (paths_of rows)) [] r.main.outputs nets) → AreNetsOf library places [] main.outputs nets
-    nets_known nets h = subst (λ rs. AreNetsOf library (regular_places library main test (paths_of rs)) [] main.outputs nets) rows_are (h (regular numbers numbers_are))
+    nets_known nets h = subst (λ rs. AreNetsOf library (regular_places library main test (paths_of rs)) [] main.outputs nets) rows_are (h (regular_clocks numbers numbers_are))
 
     pub names_known : (names : List (List ℕ)) → ((r : IsRegular library numbers) → names ≡ r.main.outputs) → names ≡ main.outputs
-    names_known names h = h (regular numbers numbers_are)
+    names_known names h = h (regular_clocks numbers numbers_are)
 
   module _ (covers : List FlatCoverValue) (covers_are : AreFlatCovers library places covers) where
     pub few_covers : length covers ≤ most_weight
     few_covers =
-        let same : length covers ≡ length (places_at library is_cover paths) = covers_are.count in
-        let gates : length circuit.covers.items ≡ length (places_at library is_cover paths) = is.covers.count in
-        let few : length circuit.covers.items ≤ most_weight = is.few in
         omega arith
 
     module _ (latches : List FlatLatch) (latches_are : AreFlatLatches library places latches) (outputs : List OutPort)
@@ -153,4 +114,93 @@ module _ (library : LibraryValue) (main : ModelValue) (at : model_at library [] 
         outputs = subst (λ y. AreNetsOf library places [] main.outputs (map (λ (x : OutPort). x.net) y)) (sym o) nets;
         order = walked (sym c) (sym l) (sym o) order;
         under = under;
+      }
+
+-- The bounds of the flat circuit of a light library.
+
+-- a filtered list has no name twice where the list has none
+pub filtered_once : (test : List ℕ → Bool) (names : List (List ℕ)) → AreOnce names → AreOnce (filter test names)
+filtered_once test [] once = tt
+filtered_once test (name ∷ names) once =
+    let rest : AreOnce (filter test names) = filtered_once test names once.1 in
+    choose (λ l. AreOnce l) (test name) (name ∷ filter test names) (filter test names) (λ t. (λ (i : In (filter test names) name). once.0 (In-filter test names name i).0, rest)) (λ u. rest)
+
+module _ (library : LibraryValue) (flat : FlatValue) (f : IsFlat library flat) where
+  numbered_there : {e : _} (number : Net) → IsNumbered f.at e number → IsThere flat number
+  numbered_there number (an_input name j q g n) = subst (IsThere flat) (sym n) (slice_get_within flat.inputs j name (subst (λ l. slice_get l j ≡ Some name) f.places g))
+  numbered_there number (a_latch p j q g n) =
+      subst (IsThere flat) (sym n) (omega (arith, slice_get_within (f.at).latches j p g))
+  numbered_there number (a_cover p j q g n) =
+      subst (IsThere flat) (sym n) (omega (arith, slice_get_within (f.at).covers j p g))
+
+  nets_there : {path : Path} {names : List (List ℕ)} {numbers : List Net} → AreNetsOf library f.at path names numbers → (net : Net) → In numbers net → IsThere flat net
+  nets_there none net i = absurd i
+  nets_there (more name names number numbers o os) net (inl e) = subst (IsThere flat) (sym e) (numbered_there number o.numbered)
+  nets_there (more name names number numbers o os) net (inr i) = nets_there os net i
+
+  nets_long : {path : Path} {names : List (List ℕ)} {numbers : List Net} → AreNetsOf library f.at path names numbers → length names ≡ length numbers
+  nets_long none = refl
+  nets_long (more name names number numbers o os) = let e : length names ≡ length numbers = nets_long os in omega arith
+
+  -- the place and the cover of each flat cover, and the latch of each flat latch
+  record IsAt (k : ℕ) (c : FlatCoverValue) : Type 0 where
+    place : Place
+    is : IsFlatCover library f.at place c
+
+  at_cover : (k : ℕ) (c : FlatCoverValue) → slice_get flat.covers k ≡ Some c → IsAt k c
+  at_cover k c e =
+      let p = at_within (f.at).covers k (omega (arith, slice_get_within flat.covers k c e)) in
+      record { place = p.0; is = f.covers k p.0 c p.1 e }
+
+  latch_there : (k : ℕ) (l : FlatLatch) → slice_get flat.latches k ≡ Some l → IsThere flat l.input
+  latch_there k l e =
+      let p = at_within (f.at).latches k (omega (arith, slice_get_within flat.latches k l e)) in
+      let i : IsFlatLatch library f.at p.0 l = f.latches k p.0 l p.1 e in
+      numbered_there l.input (i.input).numbered
+
+  output_there : (k : ℕ) (o : OutPort) → slice_get flat.outputs k ≡ Some o → IsThere flat o.net
+  output_there k o e =
+      let nets : List Net = map (λ (x : OutPort). x.net) flat.outputs in
+      nets_there f.outputs o.net (In-get nets k o.net (slice_get-map (λ (x : OutPort). x.net) flat.outputs k ∙ ap (option_map (λ (x : OutPort). x.net)) e))
+
+  reads_long : (k : ℕ) (c : FlatCoverValue) (cover : CoverValue) → slice_get flat.covers k ≡ Some c → cover_behind library c ≡ Some cover → length cover.inputs ≡ length c.inputs
+  reads_long k c cover e b =
+      let h : IsAt k c = at_cover k c e in
+      let same : cover ≡ (h.is).cover = same_Some cover (h.is).cover (sym b ∙ behind_is library f.at h.place c h.is) in
+      ap (λ (x : CoverValue). length x.inputs) same ∙ nets_long (h.is).inputs
+
+  order_within : (k : ℕ) → In flat.order k → k < length flat.covers
+  order_within k i =
+      nodes_only (reads_at flat) (λ n. n < length flat.covers) (λ n m h j. (in_range library f.main f.at (map (λ (o : OutPort). o.net) flat.outputs) flat.covers flat.latches (flat_walked library flat f)).each n m j)
+      f.order (λ n j. root_below library f.main f.at (map (λ (o : OutPort). o.net) flat.outputs) flat.covers flat.latches (flat_walked library flat f) n j) (λ n j. absurd j) k (in_reversed flat.order k i)
+
+  behind_order : (j k read : ℕ) → slice_get flat.order j ≡ Some k → In (reads_at flat k) read → StandsBefore flat.order j read
+  behind_order j k read e i =
+      let r = reads_earlier (reads_at flat) flat.order (reversed_forward (reads_at flat) flat.order (nodes_after (reads_at flat) f.order tt)) j k read e i in
+      record { place = r.0; earlier = r.1; at = r.2 }
+
+  pub flat_bounds : IsWellFormed library → IsLight library → IsWithinBounds library flat
+  flat_bounds formed light =
+      let ports : own_weight f.main ≤ most_weight = ports_few library light f.main f.is_main in
+      let inputs : length flat.inputs ≤ length (f.main).inputs = subst (λ l. length l ≤ length (f.main).inputs) (sym f.inputs) (filtered_below (λ name. not (f.test name)) (f.main).inputs) in
+      let outputs : length flat.outputs ≡ length (f.main).outputs = sym (length-map flat.outputs (λ (o : OutPort). o.name)) ∙ ap length f.output_names in
+      let latches : length (f.at).latches ≤ most_weight = places_few library light kinds.Latch f.main (f.at).latches f.is_main f.latches_order in
+      let covers : length (f.at).covers ≤ most_weight = places_few library light kinds.Cover f.main (f.at).covers f.is_main f.covers_order in
+      record {
+        few_inputs = omega arith;
+        few_latches = omega arith;
+        few_covers = omega arith;
+        few_outputs = omega arith;
+        few_reads = λ k c e. (let h : IsAt k c = at_cover k c e in
+            omega (arith, nets_long (h.is).inputs, inputs_few library light (h.place).path (h.place).command (h.is).cover (h.is).is));
+        inputs_once = subst AreOnce (sym f.inputs) (filtered_once (λ name. not (f.test name)) (f.main).inputs ((formed.each f.main (In-get library.models 0 f.main f.is_main)).ports input_ports));
+        cover_nets = λ k c net e i. nets_there ((at_cover k c e).is).inputs net i;
+        latch_nets = latch_there;
+        output_nets = output_there;
+        behind = λ k c e. (let h : IsAt k c = at_cover k c e in ap is_some (behind_is library f.at h.place c h.is));
+        reads = reads_long;
+        order_there = order_within;
+        order_once = λ i j k a b. apart_once flat.order i j k (reversed_apart (reads_at flat) flat.order (nodes_after (reads_at flat) f.order tt)) a b;
+        order_behind = behind_order;
+        order_roots = λ k i. reversed_in flat.order k (nodes_done (reads_at flat) f.order k i);
       }

@@ -1,28 +1,74 @@
--- Flat order is one, and so the walk of the covers has one result.
-use Rattle.std.proofs.Common.{◌≡◌, ℕ, suc, Bool, List, [], ◌∷◌, ◌++◌, Option, sym, ap, ap₂, ◌∙◌, subst}
-use Rattle.std.proofs.lemmas.Option.{same_Some}
-use Rattle.blif_flat.specs.Circuits.{Body, SubcktValue, ModelValue, LibraryValue, Path, model_named, Net, Place, is_cover, is_latch, own_places, FlatOrder, flat, FlatUnder, none, more}
-use Rattle.blif_flat.specs.Loops.{reads_of}
-use Rattle.blif_flat.specs.LoopFault.{roots_of, LoopWalk}
-use Rattle.blif_flat.specs.DepthFirst.{Repeat, MeetsAll}
-use Rattle.blif_flat.proofs.Models.NameLemmas.{not_empty, same_first, same_rest}
+-- What a walk meets again leads to itself, so a sound library has no loop; and a walk has one result.
+use Rattle.blif_flat.proofs.Common.{◌≡◌, List, [], ◌∷◌, ◌++◌, Option, Some, refl, sym, ◌∙◌, subst, inl, inr, none-some, In, ℕ, Bool, ap, ap₂, same_Some}
+use Rattle.blif_flat.specs.{LibraryValue, Place, reads_of, roots_of, LoopWalk, IsSound, Repeat, Meets, met, goes, MeetsAll, Body, ModelValue, Path, Net, is_cover, is_latch, own_of, FlatOrder}
+use Rattle.blif_flat.specs.DepthFirst.{none, first, later}
 use Rattle.blif_flat.proofs.Connections.NetLemmas.{same_nets}
-use Rattle.blif_flat.proofs.Walks.CycleLemmas.{meets_once}
+use Rattle.blif_flat.proofs.Hierarchy.OrderLemmas.{one_order}
+use Rattle.blif_flat.proofs.Models.NameLemmas.{not_empty, same_first, same_rest}
+use Rattle.blif_flat.proofs.Values.LoopLemmas.{reaches_depends, HasCover, read_cover, start_cover}
+use Rattle.blif_flat.proofs.Walks.PostLemmas.{Reaches, at_once, one_more}
 
+module _ {N : Type 0} (next : N → List N) where
+  module _ (P : N → Type 0) (closed : (n m : N) → P n → In (next n) m → P m) where
+    -- a node that leads to itself
+    pub record IsCyclic : Type 0 where
+      pub node : N
+      pub is : P node
+      pub cyclic : Reaches next node node
+
+    mutual
+      node_cyclic : {path : List N} {n : N} {result : Option (Repeat N)} → Meets next path n result → (repeat : Repeat N) → result ≡ Some repeat → P n → ((m : N) → In path m → Reaches next m n) → IsCyclic
+      node_cyclic {path} {n} (met i q) repeat e p h = record { node = n; is = p; cyclic = h n i }
+      node_cyclic {path} {n} (goes off w) repeat e p h = nodes_cyclic w repeat e (λ k j. closed n k p j) (λ k j m i. elim i as (λ _. Reaches next m k) [
+        | inl s ↦ subst (λ x. Reaches next x k) (sym s) (at_once j)
+        | inr o ↦ one_more next (h m o) k j
+      ])
+
+      nodes_cyclic : {path ns : List N} {result : Option (Repeat N)} → MeetsAll next path ns result → (repeat : Repeat N) → result ≡ Some repeat → ((n : N) → In ns n → P n)
+          → ((n : N) → In ns n → (m : N) → In path m → Reaches next m n) → IsCyclic
+      nodes_cyclic (none a q) repeat e p h = absurd (none-some repeat (sym q ∙ e))
+      nodes_cyclic (first n rest own a w q) repeat e p h = let i = subst (λ l. In l n) (sym a) (inl refl) in node_cyclic w own refl (p n i) (h n i)
+      nodes_cyclic (later n rest a w ws) repeat e p h = nodes_cyclic ws repeat e (λ m i. p m (subst (λ l. In l m) (sym a) (inr i))) (λ m i. h m (subst (λ l. In l m) (sym a) (inr i)))
+
+    pub meets_cyclic : (ns : List N) (repeat : Repeat N) → MeetsAll next [] ns (Some repeat) → ((n : N) → In ns n → P n) → IsCyclic
+    meets_cyclic ns repeat w p = nodes_cyclic w repeat refl p (λ n i m j. absurd j)
+
+  -- another walk from the same list, at the same node
+  node_again : {path ns : List N} {result : Option (Repeat N)} (n m : N) (rest others : List N) → ns ≡ n ∷ rest → ns ≡ m ∷ others → Meets next path m result → Meets next path n result
+  node_again {path} {ns} {result} n m rest others a b w = subst (λ x. Meets next path x result) (same_first m n others rest b a) w
+
+  rest_again : {path ns : List N} {result : Option (Repeat N)} (n m : N) (rest others : List N) → ns ≡ n ∷ rest → ns ≡ m ∷ others → MeetsAll next path others result → MeetsAll next path rest result
+  rest_again {path} {ns} {result} n m rest others a b w = subst (λ x. MeetsAll next path x result) (same_rest m n others rest b a) w
+
+  mutual
+    node_once : {path : List N} {n : N} {result other : Option (Repeat N)} → Meets next path n result → Meets next path n other → result ≡ other
+    node_once (met i q) (met j r) = q ∙ sym r
+    node_once (met i q) (goes off v) = absurd (off i)
+    node_once (goes off w) (met j r) = absurd (off j)
+    node_once (goes off w) (goes on v) = meets_once w v
+
+    pub meets_once : {path ns : List N} {result other : Option (Repeat N)} → MeetsAll next path ns result → MeetsAll next path ns other → result ≡ other
+    meets_once (none a q) (none b r) = q ∙ sym r
+    meets_once (none a q) (first m others c b v r) = absurd (not_empty m others a b)
+    meets_once (none a q) (later m others b v vs) = absurd (not_empty m others a b)
+    meets_once (first n rest c a w q) (none b r) = absurd (not_empty n rest b a)
+    meets_once (later n rest a w ws) (none b r) = absurd (not_empty n rest b a)
+    meets_once (first n rest c a w q) (first m others d b v r) = q ∙ node_once w (node_again n m rest others a b v) ∙ sym r
+    meets_once (first n rest c a w q) (later m others b v vs) = absurd (none-some c (sym (node_once w (node_again n m rest others a b v))))
+    meets_once (later n rest a w ws) (first m others d b v r) = absurd (none-some d (node_once w (node_again n m rest others a b v)))
+    meets_once (later n rest a w ws) (later m others b v vs) = meets_once ws (rest_again n m rest others a b vs)
+
+-- no F10
+pub sound-loops : (library : LibraryValue) → IsSound library → (repeat : Repeat Place) → LoopWalk library (Some repeat) → ⊥
+sound-loops library sound repeat w =
+    let r = meets_cyclic (reads_of library w.net) (HasCover library) (read_cover library w.net w.nets) (roots_of library w.net w.main w.latches ++ w.covers) repeat w.meets (start_cover library w) in
+    sound.no_loop r.node (reaches_depends library w.net w.nets (read_cover library w.net w.nets) r.is r.cyclic)
+
+-- Flat order is one, and so the walk of the covers has one result.
 module _ (library : LibraryValue) where
   module _ (kind : Body → Bool) where
-    mutual
-      pub order_once : {path : Path} {m : ModelValue} {places others : List Place} → FlatOrder library kind path m places → FlatOrder library kind path m others → places ≡ others
-      order_once {path} {m} (flat inner u q) (flat inside v r) = q ∙ ap (λ l. own_places kind path 0 m.commands ++ l) (under_once u v) ∙ sym r
-
-      under_once : {path : Path} {k : ℕ} {subckts : List SubcktValue} {places others : List Place} → FlatUnder library kind path k subckts places → FlatUnder library kind path k subckts others → places ≡ others
-      under_once (none a q) (none b r) = q ∙ sym r
-      under_once (none a q) (more t rest c these others b n w u r) = absurd (not_empty t rest a b)
-      under_once (more t rest c these others b n w u r) (none a q) = absurd (not_empty t rest a b)
-      under_once {path} {k} (more s rest c these after a m w u q) (more t end d those last b n v x r) =
-          let child : d ≡ c = same_Some d c (sym n ∙ ap (λ (y : SubcktValue). model_named library.models y.model) (same_first t s end rest b a) ∙ m) in
-          q ∙ ap₂ (λ (y z : List Place). y ++ z) (order_once w (subst (λ y. FlatOrder library kind (k ∷ path) y those) child v))
-          (under_once u (subst (λ y. FlatUnder library kind path (suc k) y last) (same_rest t s end rest b a) x)) ∙ sym r
+    pub order_once : {path : Path} {m : ModelValue} {places others : List Place} → FlatOrder library kind path m places → FlatOrder library kind path m others → places ≡ others
+    order_once w v = one_order library (own_of kind) w v
 
   abbrev start_of : (Path → List ℕ → Option Net) → ModelValue → List Place → List Place → List Place
   start_of net main latches covers = roots_of library net main latches ++ covers

@@ -1,26 +1,14 @@
 -- A loop of covers by their numbers is written by their gates, and the order of the numbers is one of the covers.
-use Rattle.std.proofs.Common.{◌≡◌, ℕ, ◌+◌, ◌<◌, List, [], ◌∷◌, ◌++◌, map, length, take, get_or, Some, None, refl, sym, ap, ap₂, ◌∙◌, subst, arith, slice_get, All}
-use Rattle.blif_flat.proofs.Common.{map-append, take_more, slice_get_within, slice_get-get_or, In, In-get, at_within}
-use Rattle.blif_flat.specs.Circuits.{CoverValue, LibraryValue, Path, CoverAt, cover_net, IsDriven, Place, is_cover}
-use Rattle.blif_flat.specs.declared.flat.FlatLatch.{FlatLatch}
-use Rattle.blif_flat.specs.declared.flat.Net.{Net as FlatNet}
-use Rattle.blif_flat.specs.declared.flat_err.FlatErr.TheVariants.{Loop}
-use Rattle.blif_flat.specs.declared.gates.Gate.{Gate}
-use Rattle.blif_flat.specs.declared.instances.Instance.{Instance}
+use Rattle.blif_flat.proofs.Common.{◌≡◌, ℕ, ◌+◌, ◌<◌, List, [], ◌∷◌, ◌++◌, map, length, take, get_or, Some, None, refl, sym, ap, ap₂, ◌∙◌, subst, arith, slice_get, All, map-append, take_more, slice_get_within, slice_get-get_or, In, In-get, at_within}
+use Rattle.blif_flat.specs.{CoverValue, LibraryValue, Path, CoverAt, cover_net, IsDriven, Place, is_cover, FlatLatch, FlatNet, Gate, Instance, places_at, paths_of, AreInstances, IsGateAt, AreGatesAt, InRange, IsNumberLoop, all_starts, IsOrder, IsWritten, AreWritten, LoopWalk, IsLoop, AreCounted, root_numbers, IsWrittenAt, AreWrittenAt}
 use Rattle.blif_flat.specs.FlatCoverValue.{FlatCoverValue}
-use Rattle.blif_flat.specs.Steps.InstanceOrder.{places_at}
-use Rattle.blif_flat.specs.Steps.InstanceRows.{paths_of, AreInstances}
-use Rattle.blif_flat.specs.Steps.Gates.{IsGateAt, AreGatesAt}
-use Rattle.blif_flat.specs.Steps.CoverWalk.{InRange, IsNumberLoop, all_starts, IsOrder}
-use Rattle.blif_flat.specs.Written.{IsWritten}
-use Rattle.blif_flat.specs.LoopFault.{AreWritten, none, LoopWalk, IsLoop}
-use Rattle.blif_flat.specs.Steps.Ordering.{AreCounted, root_numbers}
-use Rattle.blif_flat.specs.Steps.LoopSteps.{IsWrittenAt, AreWrittenAt}
-use Rattle.blif_flat.proofs.Fields.FlatGateLemmas.{cover_there}
-use Rattle.blif_flat.proofs.Hierarchy.GateLemmas.{row_within}
+use Rattle.blif_flat.specs.LoopFault.{none}
+use Rattle.blif_flat.specs.declared.flat_err.FlatErr.TheVariants.{Loop}
 use Rattle.blif_flat.proofs.Connections.NetLemmas.{nets, are_nets}
 use Rattle.blif_flat.proofs.Fields.NumberWalkLemmas.{place_or, place_at, in_range, root_below, order_mapped, loop_mapped, loop_fault}
-use Rattle.blif_flat.proofs.Fields.WrittenLemmas.{written_more}
+use Rattle.blif_flat.proofs.Fields.RegularNetLemmas.{cover_there}
+use Rattle.blif_flat.proofs.Hierarchy.GateLemmas.{row_within}
+use Rattle.blif_flat.proofs.Hierarchy.PlaceLemmas.{written_more}
 
 -- what holds of the members holds of all elements
 pub all_members : {A : Type 0} (P : A → Type 0) (xs : List A) → ((x : A) → In xs x → P x) → All P xs
@@ -39,9 +27,7 @@ module _ (library : LibraryValue) where
 
     here : (k : ℕ) (g : Gate) → slice_get gates k ≡ Some g → IsHere k g
     here k g e =
-        let inside : k < length gates = slice_get_within gates k g e in
-        let same : length gates ≡ length gate_places = w.count in
-        let p = at_within gate_places k (omega arith) in
+        let p = at_within gate_places k (omega (arith, slice_get_within gates k g e)) in
         record { place = p.0; at = p.1; gate = w.each k g p.0 e p.1 }
 
     pub number_row : (k : ℕ) (d : Gate) → k < length gates → (get_or gates k d).row < length rows
@@ -107,10 +93,7 @@ module _ (library : LibraryValue) where
         → (m : ℕ) → In nodes m → m < length gates
     loop_inside gates g roots nodes e c m i =
         let p = loop_mapped library w.main w.at outputs covers latches w.walked (nets library driven) (are_nets library driven) nodes (subst (λ l. IsNumberLoop covers (all_starts covers l) nodes) e c) in
-        let below : m < length w.at.covers = p.below m i in
-        let same : length w.at.covers ≡ length (places_at library is_cover paths) = ap length w.covers_at in
-        let count : length gates ≡ length (places_at library is_cover paths) = g.count in
-        omega arith
+        omega (arith, p.below m i, ap length w.covers_at)
 
     pub loop_told : (roots nodes : List ℕ) (texts : List (List ℕ)) → roots ≡ root_numbers outputs latches → IsNumberLoop covers (all_starts covers roots) nodes → AreWrittenAt library (places_at library is_cover paths) nodes texts
         → IsLoop library (Loop texts)

@@ -1,27 +1,89 @@
--- The walk of the covers by their numbers is the walk of their places.
-use Rattle.std.proofs.Common.{◌≡◌, ℕ, zero, suc, ◌+◌, ◌<◌, Bool, true, false, List, [], ◌∷◌, ◌++◌, map, length, Option, Some, None, refl, sym, ap, ap₂, ◌∙◌, subst, inl, inr, eqb, eqb-true, eq-eqb, arith, slice_get, if◌then◌else◌}
+-- The covers as a graph: a walk along its edges is one of the covers that are read, and what the walks of the roots and of all covers find.
+use Rattle.blif_flat.proofs.Common.{◌≡◌, ℕ, ◌+◌, ◌<◌, List, [], ◌∷◌, ◌++◌, map, length, get_or, reverse, Some, None, refl, sym, ap, ◌∙◌, subst, subst₂, arith, slice_get, zero, suc, Bool, true, false, Option, ap₂, inl, inr, eqb, if◌then◌else◌, both_ways, cases_Bool, map-append, slice_get_within, In, In-append, at_within, apart_once}
+use Rattle.blif_flat.specs.{leads, PostsAll, WalkValue, FlatNet, cover_numbers, inputs_at, cover_reads, edge_of, cover_edges, InRange, IsReady, IsClear, IsNumberLoop, all_starts, IsOrder, MeetsAll, ModelValue, LibraryValue, Path, Net, Place, same_place, latch_at, is_cover, OutPort, FlatLatch, AreNets, with_cover, covers_among, reads_in, reads_of, latch_covers, all_latch_covers, roots_of, from_node, AreWritten, LoopWalk, IsLoop, IsNumbered, an_input, a_latch, a_cover, IsNetOf, AreNetsOf, IsFlatCover, IsFlatLatch, IsFlat, AreWalked, latch_nets, root_numbers, Repeat}
+use Rattle.std.proofs.Common.{eqb-true, eq-eqb}
+use Rattle.std.proofs.Math.Path.{fun_ext}
+use Rattle.std.proofs.lemmas.List.FromFn.{length-range_with_len, get_or-range_with_len}
 use Rattle.std.specs.List.{range_with_len}
-use Rattle.blif_flat.proofs.Common.{both_ways, cases_Bool, map-append, slice_get_within, In, In-append, at_within, apart_once}
-use Rattle.blif_flat.specs.Circuits.{ModelValue, LibraryValue, Path, Net, Place, same_place, latch_at, is_cover}
-use Rattle.blif_flat.specs.declared.flat_err.FlatErr.TheVariants.{Loop}
-use Rattle.blif_flat.specs.declared.flat.Net.{Net as FlatNet}
-use Rattle.blif_flat.specs.declared.flat.Net.TheVariants.{Input, Latch, Cover}
-use Rattle.blif_flat.specs.declared.flat.OutPort.{OutPort}
-use Rattle.blif_flat.specs.declared.flat.FlatLatch.{FlatLatch}
+use Rattle.depth_first.specs.DepthFirst.{nodes_of}
+use Rattle.depth_first.specs.Edges.{ways_of, ways_from, successors, AreNodes}
+use Rattle.depth_first.specs.Walk.{leads_to, from_node as from_number, VisitedAll}
+use Rattle.depth_first.specs.declared.edge.End.TheVariants.{Loop, Stop}
+use Rattle.blif_flat.specs.Flat.{Places, none, more}
 use Rattle.blif_flat.specs.FlatCoverValue.{FlatCoverValue}
 use Rattle.blif_flat.specs.FlatValue.{FlatValue}
-use Rattle.blif_flat.specs.Loops.{AreNets, with_cover, covers_among, reads_in, reads_of}
-use Rattle.blif_flat.specs.LoopFault.{latch_covers, all_latch_covers, roots_of, from_node, AreWritten, LoopWalk, IsLoop}
-use Rattle.blif_flat.specs.Flat.{Places, IsNumbered, an_input, a_latch, a_cover, IsNetOf, AreNetsOf, none, more, cover_numbers, inputs_at, IsFlatCover, IsFlatLatch, IsFlat}
-use Rattle.blif_flat.specs.Steps.Ordering.{AreWalked, latch_nets, root_numbers}
-use Rattle.blif_flat.specs.DepthFirst.{Repeat, MeetsAll}
-use Rattle.depth_first.specs.Walk.{from_node as from_number}
-use Rattle.blif_flat.specs.Steps.CoverWalk.{cover_reads, InRange, IsNumberLoop, IsOrder}
-use Rattle.blif_flat.proofs.Hierarchy.PlaceLemmas.{same_place-is, same_place-refl, cover_at-is}
-use Rattle.blif_flat.proofs.Hierarchy.PlaceOnceLemmas.{order_apart}
-use Rattle.blif_flat.proofs.Walks.MeetLemmas.{result_mapped, repeat_mapped, IsInside, nodes_inside, nodes_mapped}
+use Rattle.blif_flat.specs.declared.flat.Net.TheVariants.{Input, Latch, Cover}
+use Rattle.blif_flat.specs.declared.flat_err.FlatErr.TheVariants.{Loop}
 use Rattle.blif_flat.proofs.Hierarchy.GateLemmas.{latch_at-some}
+use Rattle.blif_flat.proofs.Hierarchy.OrderLemmas.{places_apart}
+use Rattle.blif_flat.proofs.Hierarchy.PlaceLemmas.{same_place-is, same_place-refl, cover_at-is}
+use Rattle.blif_flat.proofs.Walks.MeetLemmas.{meets_append, found_append, nodes_met, result_mapped, repeat_mapped, IsInside, nodes_inside, nodes_mapped}
 
+pub range_below : (ns : List ℕ) (count : ℕ) → ns ≡ range_with_len 0 count → (k d : ℕ) → k < length ns → get_or ns k d < count
+range_below ns count e k d l =
+    let a : length ns ≡ count = ap length e ∙ length-range_with_len 0 count in
+    let b : get_or ns k d ≡ 0 + k = ap (λ ms. get_or ms k d) e ∙ get_or-range_with_len 0 count k d (omega arith) in omega arith
+
+ways_are : (nets : List FlatNet) → ways_of (map (edge_of {S = Unit {0}}) nets) ≡ leads_to (cover_numbers nets)
+ways_are [] = refl
+ways_are (Input j ∷ nets) = ways_are nets
+ways_are (Latch j ∷ nets) = ways_are nets
+ways_are (Cover j ∷ nets) = ap (λ ws. leads j ∷ ws) (ways_are nets)
+
+nodes_are : (ns : List ℕ) → nodes_of (leads_to {S = Unit {0}} ns) ≡ ns
+nodes_are [] = refl
+nodes_are (n ∷ ns) = ap (λ ms. n ∷ ms) (nodes_are ns)
+
+module _ (covers : List FlatCoverValue) where
+  cover_ways : (n : ℕ) → ways_from (cover_edges {S = Unit {0}} covers) n ≡ leads_to (cover_reads covers n)
+  cover_ways n = ways_are (inputs_at (slice_get covers n))
+
+  same_next : successors (cover_edges {S = Unit {0}} covers) ≡ cover_reads covers
+  same_next = fun_ext (λ n. ap nodes_of (cover_ways n) ∙ nodes_are (cover_reads covers n))
+
+  pub cover_nodes : InRange covers → (count : ℕ) → count ≡ length covers → AreNodes (λ n. n < length covers) (successors (cover_edges {S = Unit {0}} covers)) count
+  cover_nodes range count e = subst₂ (AreNodes (λ n. n < length covers)) (sym same_next) (sym e) (record { below = λ n l. l; closed = λ n m l i. range.each n m i })
+
+  -- a visit of several covers, by what they read
+  pub clear : (w v : WalkValue) (starts : List ℕ) → v.count ≡ length covers → VisitedAll (cover_edges {S = Unit {0}} covers) w v starts None → IsClear covers w v starts
+  clear w v starts count d = record {
+    ready = record { count = count; settled = d.settled; path = d.path };
+    meets = nodes_met (ways_from (cover_edges covers)) (cover_reads covers) cover_ways d.meets starts refl;
+    posts = subst (λ next. PostsAll next w.order starts v.order) same_next d.posts;
+  }
+
+  pub not_stopped : (w v : WalkValue) (starts : List ℕ) (s : Unit {0}) → VisitedAll (cover_edges covers) w v starts (Some (Stop s)) → ⊥
+  not_stopped w v starts s d = nodes_met (ways_from (cover_edges covers)) (cover_reads covers) cover_ways d.meets starts refl
+
+  pub closed : (w v : WalkValue) (starts : List ℕ) (c : ℕ) (nodes : List ℕ) → VisitedAll (cover_edges {S = Unit {0}} covers) w v starts (Some (Loop c)) → nodes ≡ from_number c v.path → IsNumberLoop covers starts nodes
+  closed w v starts c nodes d e = record {
+    repeat = record { node = c; path = v.path };
+    meets = nodes_met (ways_from (cover_edges covers)) (cover_reads covers) cover_ways d.meets starts refl;
+    nodes_are = e;
+  }
+
+  -- the roots, and then all covers
+  pub new_ready : (w : WalkValue) → w ≡ record { count = length covers; begun = []; order = []; path = [] } → IsReady covers w
+  new_ready w e = subst (IsReady covers) (sym e) (record { count = refl; settled = tt; path = refl })
+
+  pub loop_of_roots : (roots nodes : List ℕ) → IsNumberLoop covers roots nodes → IsNumberLoop covers (all_starts covers roots) nodes
+  loop_of_roots roots nodes c = record { repeat = c.repeat; meets = found_append (cover_reads covers) c.meets c.repeat refl (range_with_len 0 (length covers)); nodes_are = c.nodes_are }
+
+  module _ (w v : WalkValue) (roots all : List ℕ) (q : all ≡ range_with_len 0 (length covers)) (d : IsClear covers w v roots) where
+    pub loop_of_others : (nodes : List ℕ) → IsNumberLoop covers all nodes → IsNumberLoop covers (all_starts covers roots) nodes
+    loop_of_others nodes c = record {
+      repeat = c.repeat;
+      meets = meets_append (cover_reads covers) d.meets refl (range_with_len 0 (length covers)) (Some c.repeat) (subst (λ ns. MeetsAll (cover_reads covers) [] ns (Some c.repeat)) q c.meets);
+      nodes_are = c.nodes_are;
+    }
+
+    pub order_of_roots : (u : WalkValue) (order : List ℕ) → w.order ≡ [] → IsClear covers v u all → reverse order ≡ v.order → IsOrder covers roots order
+    order_of_roots u order z h e = record {
+      meets = meets_append (cover_reads covers) d.meets refl (range_with_len 0 (length covers)) None (subst (λ ns. MeetsAll (cover_reads covers) [] ns None) q h.meets);
+      posts = subst₂ (λ x y. PostsAll (cover_reads covers) x roots y) z (sym e) d.posts;
+    }
+
+-- The walk of the covers by their numbers is the walk of their places.
 pub flat_walked : (library : LibraryValue) (flat : FlatValue) (f : IsFlat library flat) → AreWalked library f.main f.at (map (λ (o : OutPort). o.net) flat.outputs) flat.covers flat.latches
 flat_walked library flat f = record {
   is_main = f.is_main;
@@ -112,8 +174,7 @@ module _ (library : LibraryValue) (at : Places) where
     latches_mapped [] (l ∷ ls) n h = absurd (omega arith)
     latches_mapped (p ∷ ps) [] n h = absurd (omega arith)
     latches_mapped (p ∷ ps) (l ∷ ls) n h =
-        let m : suc (length ls) ≡ suc (length ps) = n in
-        ap₂ (λ (x y : List Place). x ++ y) (latch_mapped p l (h 0 p l refl refl)) (latches_mapped ps ls (omega arith) (λ k q o e f. h (suc k) q o e f))
+        ap₂ (λ (x y : List Place). x ++ y) (latch_mapped p l (h 0 p l refl refl)) (latches_mapped ps ls (omega (arith, n)) (λ k q o e f. h (suc k) q o e f))
         ∙ sym (first_mapped at l.input (latch_nets ls))
 
   latches_below : (ps : List Place) (ls : List FlatLatch) → length ls ≡ length ps → ((k : ℕ) (p : Place) (l : FlatLatch) → slice_get ps k ≡ Some p → slice_get ls k ≡ Some l → IsFlatLatch library at p l)
@@ -122,8 +183,7 @@ module _ (library : LibraryValue) (at : Places) where
   latches_below [] (l ∷ ls) n h m i = absurd (omega arith)
   latches_below (p ∷ ps) (l ∷ ls) n h m i =
       let o = h 0 p l refl refl in
-      let e : suc (length ls) ≡ suc (length ps) = n in
-      with_below l.input (o.input).net (o.input).numbered (latch_nets ls) m (latches_below ps ls (omega arith) (λ k q r a b. h (suc k) q r a b) m) i
+      with_below l.input (o.input).net (o.input).numbered (latch_nets ls) m (latches_below ps ls (omega (arith, n)) (λ k q r a b. h (suc k) q r a b) m) i
 
 module _ (library : LibraryValue) (main : ModelValue) (at : Places) (outputs : List FlatNet) (covers : List FlatCoverValue) (latches : List FlatLatch) (w : AreWalked library main at outputs covers latches) where
   -- the place and the cover of a number
@@ -134,9 +194,7 @@ module _ (library : LibraryValue) (main : ModelValue) (at : Places) (outputs : L
 
   here : (k : ℕ) (c : FlatCoverValue) → slice_get covers k ≡ Some c → IsHere k c
   here k c e =
-      let a : k < length covers = slice_get_within covers k c e in
-      let n : length covers ≡ length at.covers = w.cover_count in
-      let p = at_within at.covers k (omega arith) in
+      let p = at_within at.covers k (omega (arith, slice_get_within covers k c e)) in
       record { place = p.0; at_place = p.1; is = w.covers_are k p.0 c p.1 e }
 
   read_below : (k : ℕ) (o : Option FlatCoverValue) → slice_get covers k ≡ o → (m : ℕ) → In (cover_numbers (inputs_at o)) m → m < length at.covers
@@ -152,7 +210,7 @@ module _ (library : LibraryValue) (main : ModelValue) (at : Places) (outputs : L
   -- different numbers have different places
   one_number_at : (n m : ℕ) (p q : Place) → slice_get at.covers n ≡ Some p → slice_get at.covers m ≡ Some q → place_at at n ≡ place_at at m → n ≡ m
   one_number_at n m p q a b e =
-      apart_once at.covers n m p (order_apart library is_cover w.covers_order) a (b ∙ ap Some (sym (place_at-is at m q b) ∙ sym e ∙ place_at-is at n p a))
+      apart_once at.covers n m p (places_apart library is_cover w.covers_order) a (b ∙ ap Some (sym (place_at-is at m q b) ∙ sym e ∙ place_at-is at n p a))
 
   pub one_number : (n m : ℕ) → n < length at.covers → m < length at.covers → place_at at n ≡ place_at at m → n ≡ m
   one_number n m a b e =
@@ -219,7 +277,6 @@ module _ (library : LibraryValue) (main : ModelValue) (at : Places) (outputs : L
     -- the numbers that a cover reads are those of the places that its place reads
     pub same_reads : (k : ℕ) → k < length at.covers → reads_of library net (place_at at k) ≡ map (place_at at) (cover_reads covers k)
     same_reads k b =
-        let n : length covers ≡ length at.covers = w.cover_count in
         let c = at_within covers k (omega arith) in
         reads_here k c.0 c.1 (here k c.0 c.1)
 

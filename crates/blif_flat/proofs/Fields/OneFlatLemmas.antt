@@ -1,32 +1,27 @@
 -- A sound library has one flat circuit at most: each name has one net, and each net one number.
-use Rattle.std.proofs.Common.{◌≡◌, ℕ, List, [], ◌∷◌, Some, sym, ap, ap₂, ◌∙◌, subst, refl, suc, Bool, not, ◌++◌, map, length, filter, Option, subst₂, inl, inr, arith, slice_get, reverse, is_some}
-use Rattle.blif_read.specs.Once.{AreOnce}
-use Rattle.blif_flat.specs.Circuits.{LibraryValue, ModelValue, input_ports, LatchValue, CoverValue, Path, Net, input_net, latch_net, cover_net, IsDriven, Place, is_cover, is_latch, FlatOrder}
-use Rattle.blif_flat.specs.declared.flat.Net.{Net as FlatNet}
-use Rattle.blif_flat.specs.declared.flat.Net.TheVariants.{Input, Latch, Cover}
-use Rattle.blif_flat.specs.Flat.{Places, IsNumbered, an_input, a_latch, a_cover, IsNetOf, AreNetsOf, none, more, TellsClocks, IsControl, some_latch, no_latch, with_control_net, cover_numbers, inputs_at, reads_at, flat_roots, most_underscores, IsFlatCover, IsFlatLatch, IsFlat}
-use Rattle.blif_flat.proofs.Common.{AreApart, apart_once, cases_Bool, reverse-reverse, none-some, same_Some, In-get}
-use Rattle.blif_flat.proofs.Hierarchy.PlaceLemmas.{place_of, cover_at-is, one_latch}
-use Rattle.blif_flat.proofs.Clocking.ControlLemmas.{name_of}
-use Rattle.blif_flat.proofs.Connections.NetLemmas.{one_net}
-use Rattle.blif_flat.proofs.Connections.NetTableLemmas.{one_place}
-use Rattle.blif_flat.specs.declared.flat.OutPort.{OutPort}
-use Rattle.blif_flat.specs.declared.flat.FlatLatch.{FlatLatch}
+use Rattle.blif_flat.proofs.Common.{◌≡◌, ℕ, List, [], ◌∷◌, Some, sym, ap, ap₂, ◌∙◌, subst, refl, suc, Bool, not, ◌++◌, map, length, filter, Option, subst₂, inl, inr, arith, slice_get, reverse, is_some, AreApart, apart_once, cases_Bool, reverse-reverse, none-some, same_Some, In-get}
+use Rattle.blif_flat.specs.{AreOnce, LibraryValue, ModelValue, input_ports, LatchValue, CoverValue, Path, Net, input_net, latch_net, cover_net, IsDriven, Place, is_cover, is_latch, FlatOrder, FlatNet, IsNumbered, an_input, a_latch, a_cover, IsNetOf, AreNetsOf, TellsClocks, IsControl, some_latch, no_latch, with_control_net, cover_numbers, inputs_at, reads_at, flat_roots, most_underscores, IsFlatCover, IsFlatLatch, IsFlat, OutPort, FlatLatch, PostsAll, HasOneFlat, IsSound}
+use Rattle.blif_flat.specs.Flat.{Places, none, more}
 use Rattle.blif_flat.specs.FlatCoverValue.{FlatCoverValue}
 use Rattle.blif_flat.specs.FlatValue.{FlatValue}
-use Rattle.depth_first.specs.DepthFirst.{PostsAll}
-use Rattle.blif_flat.specs.Flattened.{HasOneFlat}
-use Rattle.blif_flat.specs.Sound.{IsSound}
-use Rattle.blif_flat.proofs.Fields.BoundLemmas.{filtered_once}
-use Rattle.blif_flat.proofs.Models.NameLemmas.{cons_first, cons_rest}
+use Rattle.blif_flat.specs.declared.flat.Net.TheVariants.{Input, Latch, Cover}
+use Rattle.blif_flat.proofs.Clocking.ControlLemmas.{name_of}
+use Rattle.blif_flat.proofs.Connections.NetLemmas.{one_net}
+use Rattle.blif_flat.proofs.Fields.AssembleLemmas.{filtered_once}
 use Rattle.blif_flat.proofs.Fields.LoopOnceLemmas.{order_once}
-use Rattle.blif_flat.proofs.Hierarchy.PlaceOnceLemmas.{order_apart}
-use Rattle.blif_flat.proofs.Walks.PostLemmas.{nodes_once}
+use Rattle.blif_flat.proofs.Hierarchy.OrderLemmas.{places_apart}
+use Rattle.blif_flat.proofs.Hierarchy.PlaceLemmas.{place_of, cover_at-is, one_latch}
 use Rattle.blif_flat.proofs.Models.ModelPathLemmas.{same_number}
+use Rattle.blif_flat.proofs.Models.NameLemmas.{cons_first, cons_rest}
+use Rattle.blif_flat.proofs.Walks.PostLemmas.{nodes_once}
+
+once_apart : (names : List (List ℕ)) → AreOnce names → AreApart names
+once_apart [] once = tt
+once_apart (name ∷ names) once = (once.0, once_apart names once.1)
 
 -- no driver stands at two places
 pub record ArePlacedOnce (at : Places) : Type 0 where
-  pub inputs : AreOnce at.inputs
+  pub inputs : AreApart at.inputs
   pub latches : AreApart at.latches
   pub covers : AreApart at.covers
 
@@ -40,7 +35,7 @@ module _ (at : Places) (once : ArePlacedOnce at) where
   number_once : (net : Net) (number other : FlatNet) → IsNumbered at net number → IsNumbered at net other → number ≡ other
   number_once net number other (an_input name j q g n) (an_input last k r h m) =
       let same : last ≡ name = ap name_of (sym r ∙ q) in
-      n ∙ ap Input (one_place at.inputs name j k once.inputs g (subst (λ x. slice_get at.inputs k ≡ Some x) same h)) ∙ sym m
+      n ∙ ap Input (apart_once at.inputs j k name once.inputs g (subst (λ x. slice_get at.inputs k ≡ Some x) same h)) ∙ sym m
   number_once net number other (an_input name j q g n) (a_latch p k r h m) = absurd (cc)
   number_once net number other (an_input name j q g n) (a_cover p k r h m) = absurd (cc)
   number_once net number other (a_latch p j q g n) (an_input name k r h m) = absurd (cc)
@@ -56,14 +51,14 @@ module _ (at : Places) (once : ArePlacedOnce at) where
 
   module _ (library : LibraryValue) (driven : IsDriven library) where
     -- a name has one number
-    pub one_number : (path : Path) (name : List ℕ) (number other : FlatNet) → IsNetOf library at path name number → IsNetOf library at path name other → number ≡ other
-    one_number path name number other a b =
+    pub one_net_number : (path : Path) (name : List ℕ) (number other : FlatNet) → IsNetOf library at path name number → IsNetOf library at path name other → number ≡ other
+    one_net_number path name number other a b =
         number_once a.net number other a.numbered (subst (λ x. IsNumbered at x other) (one_net library driven b.drives a.drives) b.numbered)
 
     -- and so have several names
     pub one_list : {path : Path} {names : List (List ℕ)} {numbers others : List FlatNet} → AreNetsOf library at path names numbers → AreNetsOf library at path names others → numbers ≡ others
     one_list none none = refl
-    one_list {path} (more name names number numbers a rest) (more last lasts other others b later) = ap₂ (λ (x : FlatNet) (xs : List FlatNet). x ∷ xs) (one_number path name number other a b) (one_list rest later)
+    one_list {path} (more name names number numbers a rest) (more last lasts other others b later) = ap₂ (λ (x : FlatNet) (xs : List FlatNet). x ∷ xs) (one_net_number path name number other a b) (one_list rest later)
 
 -- two lists as long as a third one are equal where their elements at each of its places are
 same_along : {A B : Type 0} (ps : List A) (xs ys : List B) → length xs ≡ length ps → length ys ≡ length ps
@@ -124,7 +119,7 @@ module _ (library : LibraryValue) where
       same_latch : (l r : FlatLatch) → IsFlatLatch library at p l → IsFlatLatch library at p r → l ≡ r
       same_latch l r a b =
           let latches : b.latch ≡ a.latch = one_latch library p.path p.command b.latch a.latch b.is a.is in
-          let input : l.input ≡ r.input = one_number at once library sound.driven p.path (a.latch).input l.input r.input a.input (subst (λ (x : LatchValue). IsNetOf library at p.path x.input r.input) latches b.input) in
+          let input : l.input ≡ r.input = one_net_number at once library sound.driven p.path (a.latch).input l.input r.input a.input (subst (λ (x : LatchValue). IsNetOf library at p.path x.input r.input) latches b.input) in
           let init : l.init ≡ r.init = a.init ∙ ap (λ (x : LatchValue). x.init) (sym latches) ∙ sym b.init in
           let clocked : l.clocked ≡ r.clocked = a.clocked ∙ ap (λ (x : LatchValue). is_some x.control) (sym latches) ∙ sym b.clocked in
           λ i. record { input = input i; init = init i; clocked = clocked i }
@@ -152,9 +147,9 @@ module _ (library : LibraryValue) where
 
       placed_once : ArePlacedOnce f.at
       placed_once = record {
-        inputs = subst AreOnce (sym (f.places ∙ f.inputs)) (filtered_once (λ name. not (f.test name)) (f.main).inputs (((sound.formed).each f.main (In-get library.models 0 f.main f.is_main)).ports input_ports));
-        latches = order_apart library is_latch f.latches_order;
-        covers = order_apart library is_cover f.covers_order;
+        inputs = subst AreApart (sym (f.places ∙ f.inputs)) (once_apart (filter (λ name. not (f.test name)) (f.main).inputs) (filtered_once (λ name. not (f.test name)) (f.main).inputs (((sound.formed).each f.main (In-get library.models 0 f.main f.is_main)).ports input_ports)));
+        latches = places_apart library is_latch f.latches_order;
+        covers = places_apart library is_cover f.covers_order;
       }
 
       same_covers : flat.covers ≡ other.covers

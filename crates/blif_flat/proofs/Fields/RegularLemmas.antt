@@ -1,9 +1,7 @@
 -- The inputs of a flat circuit are main inputs, and no clock nets.
-use Rattle.std.proofs.Common.{◌≡◌, ℕ, Bool, true, not, List, [], ◌∷◌, Some, ap, ◌∙◌, subst, inl, inr, filter, slice_get}
-use Rattle.blif_flat.proofs.Common.{or_left, not-true, In, choose, In-get}
-use Rattle.blif_flat.specs.Circuits.{LibraryValue, has_name, IsMainInput, IsClock}
+use Rattle.blif_flat.proofs.Common.{◌≡◌, ℕ, Bool, true, not, List, [], ◌∷◌, Some, ap, ◌∙◌, subst, inl, inr, filter, slice_get, or_left, not-true, In, choose, In-get}
+use Rattle.blif_flat.specs.{LibraryValue, has_name, IsMainInput, IsClock, IsFlat}
 use Rattle.blif_flat.specs.FlatValue.{FlatValue}
-use Rattle.blif_flat.specs.Flat.{IsFlat}
 use Rattle.blif_flat.proofs.Models.NameLemmas.{in_has}
 
 -- a member of a filtered list

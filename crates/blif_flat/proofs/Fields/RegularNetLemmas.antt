@@ -1,19 +1,14 @@
 -- Nets by the numbers of the regular inputs: an input that is no clock net stands among the regular ones at its number.
-use Rattle.std.proofs.Common.{◌≡◌, ℕ, zero, suc, ◌+◌, Bool, true, false, not, cond, List, [], ◌∷◌, ◌++◌, map, Option, Some, None, refl, sym, ap, ◌∙◌, subst, inl, inr, arith, filter, append-nil, slice_get}
-use Rattle.blif_flat.proofs.Common.{cases_Bool, both_ways, none-some, same_Some, In}
+use Rattle.blif_flat.proofs.Common.{◌≡◌, ℕ, zero, suc, ◌+◌, Bool, true, false, not, cond, List, [], ◌∷◌, ◌++◌, map, Option, Some, None, refl, sym, ap, ◌∙◌, subst, inl, inr, arith, filter, slice_get, cases_Bool, both_ways, none-some, same_Some, In, length, drop, drop_of_length-le, ◌≤◌, option_and_then, length-map, In-get, ◌<◌, max, get_or, ap₂, append_assoc, and_from, slice_get_read}
+use Rattle.blif_flat.specs.{LibraryValue, Path, has_name, inputs_of, Net, input_net, Drives, IsClock, listed, FlatNet, Instance, number_or_zero, paths_of, IsNumbered, an_input, a_latch, a_cover, IsNetOf, AreNetsOf, net_places, IsNetFound, NetsValue, table_of, AreAllNets, regular_numbers, renumbered, IsRegular, regular_places, renumbered_or, regular_net, regular_nets, Body, Cover, Latch, LatchValue, CoverValue, ModelValue, body_at, model_at, CoverAt, LatchAt, IsDriven, cover_input, latch_input, Place, cover_in, latch_in, is_cover, is_latch, Gate, cover_data, latch_data, places_at, AreInstances, IsGateAt, AreGatesAt, body_in, gate_body, IsFlatCover, IsFlatLatch, AreFlatCovers, AreFlatLatches, row_model, inputs_or, flat_cover, made_latch, latch_or, flat_latch, is_input, is_output, main_input, model_output, OutPort, underscores, most_underscores, out_port, outputs_or, with_unmarked, unmarked_after}
+use Rattle.std.proofs.Common.{append-nil}
 use Rattle.std.proofs.lemmas.List.Elements.{filter-append}
-use Rattle.blif_flat.specs.Circuits.{LibraryValue, Path, has_name, inputs_of, Net, input_net, Drives, IsClock, listed}
-use Rattle.blif_flat.specs.declared.flat.Net.{Net as FlatNet}
+use Rattle.blif_flat.specs.Flat.{Places, none, more}
 use Rattle.blif_flat.specs.declared.flat.Net.TheVariants.{Input}
-use Rattle.blif_flat.specs.declared.instances.Instance.{Instance}
-use Rattle.blif_flat.specs.Steps.InstanceRows.{number_or_zero, paths_of}
-use Rattle.blif_flat.specs.Flat.{Places, IsNumbered, an_input, a_latch, a_cover, IsNetOf, AreNetsOf, none, more}
-use Rattle.blif_flat.specs.Steps.NetTable.{net_places, IsNetFound}
-use Rattle.blif_flat.specs.Steps.NetSlots.{NetsValue, table_of}
-use Rattle.blif_flat.specs.Steps.NetMade.{AreAllNets}
-use Rattle.blif_flat.specs.Steps.RegularNets.{regular_numbers, renumbered, IsRegular, regular_places}
-use Rattle.blif_flat.specs.Steps.FieldSteps.{renumbered_or, regular_net, regular_nets}
+use Rattle.blif_flat.proofs.Connections.NetLemmas.{net_of_driver}
 use Rattle.blif_flat.proofs.Fields.RegularLemmas.{In-filter}
+use Rattle.blif_flat.proofs.Hierarchy.GateLemmas.{place_model, gate_row, gate_place}
+use Rattle.blif_flat.proofs.Hierarchy.OrderLemmas.{IsOfKind, flat_only, is_cover-some, is_latch-some, order_places, order_first}
 use Rattle.blif_flat.proofs.Models.NameLemmas.{in_has}
 
 -- an element that isn't marked has a number, counted on from n, and stands there among those that aren't marked
@@ -120,3 +115,186 @@ module _ (library : LibraryValue) (numbers : List ℕ) (r : IsRegular library nu
     nets_are i path e [] c = none
     nets_are i path e (name ∷ names) c =
         more name names (regular_net numbers n i name) (regular_nets numbers n i names) (net_is i path name e (c name (inl refl))) (nets_are i path e names (λ other j. c other (inr j)))
+
+-- The flat covers and latches of gates are those of their places.
+
+-- an element of a mapped list
+mapped_at : {A B : Type 0} (f : A → B) (xs : List A) (k : ℕ) (y : B) → slice_get (map f xs) k ≡ Some y → (x : A) × (slice_get xs k ≡ Some x) × (y ≡ f x)
+mapped_at f [] k y e = absurd (none-some y e)
+mapped_at f (x ∷ xs) zero y e = (x, refl, sym (same_Some (f x) y e))
+mapped_at f (x ∷ xs) (suc k) y e = mapped_at f xs k y e
+
+-- the last step of a list that is mapped one by one
+pub all_mapped : {A B : Type 0} (f : A → B) (made : List B) (xs : List A) (i : ℕ) → made ++ map f (drop i xs) ≡ map f xs → length xs ≤ i → made ≡ map f xs
+all_mapped f made xs i e h = sym (append-nil made) ∙ sym (ap (λ l. made ++ map f l) (drop_of_length-le xs h)) ∙ e
+
+module _ (library : LibraryValue) (rows : List Instance) (are : AreInstances library rows) where
+  -- each cover and each latch among the places of the instances
+  pub cover_there : (p : Place) → In (places_at library is_cover (paths_of rows)) p → (c : CoverValue) × CoverAt library p.path p.command c
+  cover_there p i =
+      let o : IsOfKind library is_cover p = flat_only library is_cover are.main (places_at library is_cover (paths_of rows)) are.first (order_places library is_cover are.order are.first) p i in
+      let c = is_cover-some o.body o.kind_is in
+      (c.0, record { model = o.model; at = o.at; is = o.is ∙ ap Some c.1 })
+
+  latch_there : (p : Place) → In (places_at library is_latch (paths_of rows)) p → (l : LatchValue) × LatchAt library p.path p.command l
+  latch_there p i =
+      let o : IsOfKind library is_latch p = flat_only library is_latch are.main (places_at library is_latch (paths_of rows)) are.first (order_places library is_latch are.order are.first) p i in
+      let l = is_latch-some o.body o.kind_is in
+      (l.0, record { model = o.model; at = o.at; is = o.is ∙ ap Some l.1 })
+
+  -- the model and the body of a gate are those of its place
+  gate_model : (g : Gate) (p : Place) → IsGateAt (paths_of rows) g p → slice_get library.models (row_model (slice_get rows g.row)) ≡ model_at library p.path
+  gate_model g p w = let r = gate_row library rows are g p w in ap (λ o. slice_get library.models (row_model o)) r.1 ∙ place_model library rows are g p w r.0 r.1
+
+  gate_body-is : (g : Gate) (p : Place) (m : ModelValue) (b : Body) → IsGateAt (paths_of rows) g p → model_at library p.path ≡ Some m → body_at m p.command ≡ Some b → gate_body library rows g ≡ Some b
+  gate_body-is g p m b w at is = gate_place library rows are g p w ∙ ap (body_in p.command) at ∙ is
+
+  module _ (driven : IsDriven library) (numbers : List ℕ) (r : IsRegular library numbers) (n : NetsValue) (nets : AreAllNets library rows n) where
+    abbrev gates_at : Places
+    gates_at = regular_places library r.main r.test (paths_of rows)
+
+    cover_no_clock : (path : Path) (i : ℕ) (c : CoverValue) → CoverAt library path i c → (name : List ℕ) → In c.inputs name → IsNoClock library path name
+    cover_no_clock path i c a name j =
+        let d = driven.driven path name (cover_input i c a j) in
+        record { driven = net_of_driver library driven path name d.0 d.1; off = λ net. r.no_clock_data path name net (cover_data i c a j) }
+
+    latch_no_clock : (path : Path) (i : ℕ) (l : LatchValue) → LatchAt library path i l → IsNoClock library path l.input
+    latch_no_clock path i l a =
+        let d = driven.driven path l.input (latch_input i l a refl) in
+        record { driven = net_of_driver library driven path l.input d.0 d.1; off = λ net. r.no_clock_data path l.input net (latch_data i l a refl) }
+
+    -- the flat cover and the flat latch of a gate
+    cover_is : (g : Gate) (p : Place) → IsGateAt (paths_of rows) g p → In (places_at library is_cover (paths_of rows)) p → IsFlatCover library gates_at p (flat_cover library rows n numbers g)
+    cover_is g p w i =
+        let c = cover_there p i in
+        let names : inputs_or (option_and_then cover_in (gate_body library rows g)) ≡ (c.0).inputs =
+        ap (λ o. inputs_or (option_and_then cover_in o)) (gate_body-is g p (c.1).model (Cover c.0) w (c.1).at (c.1).is) in
+        record {
+          cover = c.0;
+          is = c.1;
+          model = gate_model g p w;
+          command = w.command;
+          inputs = subst (λ l. AreNetsOf library gates_at p.path (c.0).inputs (regular_nets numbers n g.row l)) (sym names)
+              (nets_are library numbers r rows n nets g.row p.path w.row (c.0).inputs (cover_no_clock p.path p.command c.0 c.1));
+        }
+
+    made_latch-is : (i : ℕ) (p : Place) (l : LatchValue) → slice_get (paths_of rows) i ≡ Some p.path → LatchAt library p.path p.command l → IsFlatLatch library gates_at p (made_latch numbers n i l)
+    made_latch-is i p l e a = record {
+      latch = l;
+      is = a;
+      input = net_is library numbers r rows n nets i p.path l.input e (latch_no_clock p.path p.command l a);
+      init = refl;
+      clocked = refl;
+    }
+
+    latch_is : (g : Gate) (p : Place) → IsGateAt (paths_of rows) g p → In (places_at library is_latch (paths_of rows)) p → IsFlatLatch library gates_at p (flat_latch library rows n numbers g)
+    latch_is g p w i =
+        let l = latch_there p i in
+        let same : flat_latch library rows n numbers g ≡ made_latch numbers n g.row l.0 =
+        ap (λ o. latch_or numbers n g.row (option_and_then latch_in o)) (gate_body-is g p (l.1).model (Latch l.0) w (l.1).at (l.1).is) in
+        subst (IsFlatLatch library gates_at p) (sym same) (made_latch-is g.row p l.0 w.row l.1)
+
+    -- and those of all gates
+    pub covers_are : (gates : List Gate) → AreGatesAt (paths_of rows) gates (places_at library is_cover (paths_of rows))
+        → AreFlatCovers library (regular_places library r.main r.test (paths_of rows)) (map (flat_cover library rows n numbers) gates)
+    covers_are gates w = record {
+      count = length-map gates (flat_cover library rows n numbers) ∙ w.count;
+      each = λ k p c e f. (
+          let g = mapped_at (flat_cover library rows n numbers) gates k c f in
+          subst (IsFlatCover library gates_at p) (sym g.2) (cover_is g.0 p (w.each k g.0 p g.1 e) (In-get (places_at library is_cover (paths_of rows)) k p e)));
+    }
+
+    pub latches_are : (gates : List Gate) → AreGatesAt (paths_of rows) gates (places_at library is_latch (paths_of rows))
+        → AreFlatLatches library (regular_places library r.main r.test (paths_of rows)) (map (flat_latch library rows n numbers) gates)
+    latches_are gates w = record {
+      count = length-map gates (flat_latch library rows n numbers) ∙ w.count;
+      each = λ k p l e f. (
+          let g = mapped_at (flat_latch library rows n numbers) gates k l f in
+          subst (IsFlatLatch library gates_at p) (sym g.2) (latch_is g.0 p (w.each k g.0 p g.1 e) (In-get (places_at library is_latch (paths_of rows)) k p e)));
+    }
+
+-- The ports of a flat circuit: its outputs, its regular inputs, and the greatest number of leading underscores.
+
+-- the names and the nets of ports
+port_names : (numbers : List ℕ) (n : NetsValue) (names : List (List ℕ)) → map (λ (o : OutPort). o.name) (map (out_port numbers n) names) ≡ names
+port_names numbers n [] = refl
+port_names numbers n (name ∷ names) = ap (λ (l : List (List ℕ)). name ∷ l) (port_names numbers n names)
+
+port_nets : (numbers : List ℕ) (n : NetsValue) (names : List (List ℕ)) → map (λ (o : OutPort). o.net) (map (out_port numbers n) names) ≡ regular_nets numbers n 0 names
+port_nets numbers n [] = refl
+port_nets numbers n (name ∷ names) = ap (λ (l : List FlatNet). (out_port numbers n name).net ∷ l) (port_nets numbers n names)
+
+module _ (library : LibraryValue) (rows : List Instance) (are : AreInstances library rows) (driven : IsDriven library)
+    (numbers : List ℕ) (r : IsRegular library numbers) (n : NetsValue) (nets : AreAllNets library rows n) where
+  -- an output of the main model is an input too, or driven inside
+  output_driven : (name : List ℕ) → In r.main.outputs name → (net : Net) × Drives library [] name net
+  output_driven name i = elim (cases_Bool (is_input r.main name)) [
+    | inl t ↦ (input_net name, main_input refl (record { model = r.main; at = r.is_main; is = t }) refl)
+    | inr f ↦ (
+        let out : is_output r.main name ≡ true = and_from (not (is_input r.main name)) (has_name r.main.outputs name) (ap not f) (in_has r.main.outputs name i) in
+        let d = driven.driven [] name (model_output r.main r.is_main out) in
+        net_of_driver library driven [] name d.0 d.1)
+  ]
+
+  output_no_clock : (name : List ℕ) → In r.main.outputs name → IsNoClock library [] name
+  output_no_clock name i = record { driven = output_driven name i; off = λ net. r.no_clock_output name net i }
+
+  main_outputs : outputs_or (slice_get library.models 0) ≡ r.main.outputs
+  main_outputs = ap outputs_or r.is_main
+
+  pub output_names : (ports : List OutPort) (names : List (List ℕ)) → ports ≡ map (out_port numbers n) names → names ≡ outputs_or (slice_get library.models 0)
+      → map (λ (o : OutPort). o.name) ports ≡ r.main.outputs
+  output_names ports names e f = ap (map (λ (o : OutPort). o.name)) e ∙ port_names numbers n names ∙ f ∙ main_outputs
+
+  pub output_nets : (ports : List OutPort) (names : List (List ℕ)) → ports ≡ map (out_port numbers n) names → names ≡ outputs_or (slice_get library.models 0)
+      → AreNetsOf library (regular_places library r.main r.test (paths_of rows)) [] r.main.outputs (map (λ (o : OutPort). o.net) ports)
+  output_nets ports names e f =
+      let all : map (λ (o : OutPort). o.net) ports ≡ regular_nets numbers n 0 r.main.outputs = ap (map (λ (o : OutPort). o.net)) e ∙ port_nets numbers n names ∙ ap (regular_nets numbers n 0) (f ∙ main_outputs) in
+      subst (AreNetsOf library (regular_places library r.main r.test (paths_of rows)) [] r.main.outputs) (sym all)
+      (nets_are library numbers r rows n nets 0 [] (order_first library are.order) r.main.outputs output_no_clock)
+
+-- the names whose marks are off, one by one
+no_marks : (kept names : List (List ℕ)) → unmarked_after kept names [] ≡ kept
+no_marks kept [] = refl
+no_marks kept (name ∷ names) = refl
+
+unmarked_next : (kept names : List (List ℕ)) (marks : List Bool) (i : ℕ) (name : List ℕ) → slice_get names i ≡ Some name
+    → unmarked_after (with_unmarked kept (slice_get marks i) name) (drop (suc i) names) (drop (suc i) marks) ≡ unmarked_after kept (drop i names) (drop i marks)
+unmarked_next kept [] marks i name e = absurd (none-some name e)
+unmarked_next kept (x ∷ xs) [] zero name e = no_marks kept xs
+unmarked_next kept (x ∷ xs) (m ∷ ms) zero name e = ap (λ y. unmarked_after (with_unmarked kept (Some m) y) xs ms) (sym (same_Some x name e))
+unmarked_next kept (x ∷ xs) [] (suc i) name e = no_marks kept (drop (suc i) xs) ∙ sym (no_marks kept (drop i xs))
+unmarked_next kept (x ∷ xs) (m ∷ ms) (suc i) name e = unmarked_next kept xs ms i name e
+
+pub unmarked_step : (kept new whole names : List (List ℕ)) (marks : List Bool) (i : ℕ) (name : List ℕ) → i < length names → name ≡ get_or names i name → new ≡ with_unmarked kept (slice_get marks i) name
+    → unmarked_after kept (drop i names) (drop i marks) ≡ whole → unmarked_after new (drop (i + 1) names) (drop (i + 1) marks) ≡ whole
+unmarked_step kept new whole names marks i name h e f g =
+    let next : suc i ≡ i + 1 = omega arith in
+    subst (λ j. unmarked_after new (drop j names) (drop j marks) ≡ whole) next
+    (ap (λ k. unmarked_after k (drop (suc i) names) (drop (suc i) marks)) f ∙ unmarked_next kept names marks i name (slice_get_read names (length names) i name refl h e) ∙ g)
+
+unmarked_head : (test : List ℕ → Bool) (kept : List (List ℕ)) (name : List ℕ) (names : List (List ℕ)) (b : Bool) → test name ≡ b
+    → with_unmarked kept (Some b) name ++ filter (λ y. not (test y)) names ≡ kept ++ filter (λ y. not (test y)) (name ∷ names)
+unmarked_head test kept name names true e = rw e refl
+unmarked_head test kept name names false e = append_assoc kept (name ∷ []) (filter (λ y. not (test y)) names) ∙ rw e refl
+
+-- are those that the test leaves off
+unmarked_are : (test : List ℕ → Bool) (kept names others : List (List ℕ)) → unmarked_after kept names (map test (names ++ others)) ≡ kept ++ filter (λ y. not (test y)) names
+unmarked_are test kept [] others = sym (append-nil kept)
+unmarked_are test kept (name ∷ names) others = unmarked_are test (with_unmarked kept (Some (test name)) name) names others ∙ unmarked_head test kept name names (test name) refl
+
+pub regular_names : (test : List ℕ → Bool) (kept given : List (List ℕ)) (marks : List Bool) (m : ModelValue)
+    → kept ≡ unmarked_after [] given marks → given ≡ m.inputs → marks ≡ map test (inputs_of m) → kept ≡ filter (λ name. not (test name)) m.inputs
+regular_names test kept given marks m e f g =
+    e ∙ ap₂ (unmarked_after []) f g ∙ unmarked_are test [] m.inputs (filter (λ name. not (has_name m.inputs name)) m.clocks)
+
+-- the underscores of joined lists
+pub most-append : (xs ys : List (List ℕ)) → most_underscores (xs ++ ys) ≡ max (most_underscores xs) (most_underscores ys)
+most-append [] ys = let z : most_underscores ys ≡ max 0 (most_underscores ys) = omega arith in z
+most-append (x ∷ xs) ys =
+    ap (max (underscores x)) (most-append xs ys)
+    ∙ (let z : max (underscores x) (max (most_underscores xs) (most_underscores ys)) ≡ max (max (underscores x) (most_underscores xs)) (most_underscores ys) = omega arith in z)
+
+pub most_of_three : (xs ys zs : List (List ℕ)) (a b c : ℕ) → a ≡ max 0 (most_underscores xs) → b ≡ max a (most_underscores ys) → c ≡ max b (most_underscores zs) → c ≡ most_underscores (xs ++ (ys ++ zs))
+most_of_three xs ys zs a b c e f g =
+    omega (arith, most-append xs (ys ++ zs) ∙ ap (max (most_underscores xs)) (most-append ys zs))

@@ -1,23 +1,11 @@
 -- Gates: what stands at one stands at its place, and those that are listed row by row stand at the places of all instances in flat order.
-use Rattle.std.proofs.Common.{◌≡◌, ℕ, ◌<◌, List, length, Option, Some, None, refl, sym, ap, ap₂, ◌∙◌, arith, suc, ◌+◌, ◌≤◌, ◌^◌, Bool, [], ◌∷◌, ◌++◌, drop, subst, subst₂, inl, inr, append_assoc, slice_get, MatchOption, option_map, option_and_then}
-use Rattle.blif_flat.proofs.Common.{same_Some, slice_get_within, none-some, at_within, drop_past, cases_Bool, length-append, append-nil, In-get}
-use Rattle.blif_flat.specs.Circuits.{LatchValue, LibraryValue, ModelValue, Body, Command, Path, model_at, LatchAt, Place, latch_at, own_places, is_latch, FlatOrder, latch_net}
-use Rattle.blif_flat.specs.declared.gates.Gate.{Gate}
-use Rattle.blif_flat.specs.declared.instances.Instance.{Instance}
-use Rattle.blif_flat.specs.Steps.InstanceRows.{AreInstances, IsRow, paths_of, IsLight}
-use Rattle.blif_flat.specs.Steps.Gates.{IsGateAt, kind_test, AreGatesAt}
-use Rattle.blif_flat.specs.Steps.GateBodies.{body_in, numbered_body, place_body, gate_body}
-use Rattle.blif_flat.proofs.Hierarchy.InstanceRowLemmas.{paths_of-length, AreModelsOf, models_rest, models_of}
-use Rattle.blif_flat.specs.declared.gates.GateKind.{GateKind}
-use Rattle.blif_flat.specs.Steps.InstanceOrder.{model_places, places_at}
-use Rattle.blif_flat.specs.Steps.GateRows.{with_commands, with_model, with_rows}
-use Rattle.blif_flat.specs.Weight.{most_weight}
+use Rattle.blif_flat.proofs.Common.{◌≡◌, ℕ, ◌<◌, List, length, Option, Some, None, refl, sym, ap, ap₂, ◌∙◌, arith, suc, ◌+◌, ◌≤◌, ◌^◌, Bool, [], ◌∷◌, ◌++◌, drop, subst, subst₂, inl, inr, append_assoc, slice_get, MatchOption, option_map, option_and_then, same_Some, slice_get_within, none-some, at_within, drop_past, cases_Bool, length-append, append-nil, In-get}
+use Rattle.blif_flat.specs.{LatchValue, LibraryValue, ModelValue, Body, Command, Path, model_at, LatchAt, Place, latch_at, own_places, is_latch, FlatOrder, latch_net, Gate, Instance, AreInstances, IsRow, paths_of, IsLight, IsGateAt, kind_test, AreGatesAt, body_in, numbered_body, place_body, gate_body, GateKind, model_places, places_at, with_commands, with_model, with_rows, most_weight, path_text, IsWritten, of_latch}
 use Rattle.list_laws.proofs.TwoLists.{pushed_pair}
-use Rattle.blif_flat.proofs.Hierarchy.InstanceWeightLemmas.{light_commands, light_places}
-use Rattle.blif_flat.specs.Written.{path_text, IsWritten, of_latch}
-use Rattle.blif_flat.proofs.Hierarchy.InstanceOrderLemmas.{order_places}
-use Rattle.blif_flat.proofs.Hierarchy.KindLemmas.{IsOfKind, flat_only, is_latch-some}
 use Rattle.blif_flat.proofs.Clocking.ControlLemmas.{is_latch_at}
+use Rattle.blif_flat.proofs.Hierarchy.InstanceRowLemmas.{paths_of-length, AreModelsOf, models_rest, models_of}
+use Rattle.blif_flat.proofs.Hierarchy.InstanceWeightLemmas.{light_commands, light_places}
+use Rattle.blif_flat.proofs.Hierarchy.OrderLemmas.{order_places, IsOfKind, flat_only, is_latch-some}
 
 -- a row that has a path is there
 pub row_within : (rows : List Instance) (i : ℕ) (path : Path) → slice_get (paths_of rows) i ≡ Some path → i < length rows
@@ -58,9 +46,7 @@ module _ (kind : Body → Bool) (paths : List Path) where
         let p : Place = record { path = path; command = i } in
         record {
           count = let a : length (gates ++ g ∷ []) ≡ length gates + 1 = length-append gates (g ∷ []) in
-              let b : length (places ++ p ∷ []) ≡ length places + 1 = length-append places (p ∷ []) in
-              let n : length gates ≡ length places = are.count in
-              omega arith;
+              omega (arith, length-append places (p ∷ []));
           each = λ k h q e f. elim (pushed_pair gates places g p k h q are.count e f) [
             | inl old ↦ are.each k h q old.0 old.1
             | inr new ↦ subst₂ (λ (x : Gate) (y : Place). IsGateAt paths x y) (sym new.0) (sym new.1) (record { row = at; command = refl })
@@ -114,17 +100,14 @@ module _ (library : LibraryValue) (rows : List Instance) (are : AreInstances lib
   pub few_gates : IsLight library → (kind : GateKind) (gates : List Gate) → gates ≡ with_rows library.models (kind_test kind) 0 [] rows → length gates ≤ most_weight
   few_gates light kind gates is =
       let all : AreGatesAt (paths_of rows) (with_rows library.models (kind_test kind) 0 [] rows) (places_at library (kind_test kind) (paths_of rows)) = all_gates (kind_test kind) in
-      let a : length gates ≡ length (places_at library (kind_test kind) (paths_of rows)) = ap length is ∙ all.count in
-      let b : length (places_at library (kind_test kind) (paths_of rows)) ≤ most_weight = light_places library light kind are.main (paths_of rows) are.first are.order in
-      omega arith
+      omega (arith, ap length is ∙ all.count, light_places library light kind are.main (paths_of rows) are.first are.order)
 
   -- the commands of a row's model are few
   pub row_commands : IsLight library → (i : ℕ) (row : Instance) → slice_get rows i ≡ Some row → (m : ModelValue) → slice_get library.models row.model ≡ Some m → length m.commands < 2 ^ 32
   row_commands light i row e m at =
       let r = are.each i row e in
       let same : r.model ≡ m = same_Some r.model m (sym r.number ∙ at) in
-      let few : length m.commands ≤ most_weight = light_commands library light r.path m (r.there ∙ ap Some same) in
-      omega arith
+      omega (arith, light_commands library light r.path m (r.there ∙ ap Some same))
 
 module _ (paths : List Path) (gates : List Gate) (places : List Place) (are : AreGatesAt paths gates places) where
   -- the place of a gate

@@ -1,16 +1,13 @@
 -- The rows of instances: those that wait are put behind the others one by one, and in the end they are all instances in flat order.
-use Rattle.std.proofs.Common.{◌≡◌, ℕ, suc, List, ◌∷◌, length, Some, sym, ap, ◌∙◌, arith, ◌+◌, ◌<◌, ◌≤◌, [], ◌++◌, Option, None, refl, subst, inl, inr, append_assoc, reverse, slice_get, option_and_then}
-use Rattle.blif_flat.proofs.Common.{same_Some, none-some, slice_get_within, length-append, append-nil, reverse-append, reverse-reverse, get_before, get_end, get_pushed}
-use Rattle.blif_flat.specs.Circuits.{LibraryValue, ModelValue, Body, Cover, Latch, Subckt, Command, SubcktValue, Path, model_at, subckts_of, with_subckt, model_named}
-use Rattle.blif_flat.specs.declared.instances.Instance.{Instance}
-use Rattle.blif_flat.specs.Steps.InstanceRows.{AreInstances, IsRow, paths_of, path_under, path_of, paths_from, IsLight, number_or_zero, entry_of, with_entry, entries_from, entries_at, IsWaiting, Waits, none, more, Listed}
-use Rattle.tl_text.specs.NameIndex.{place_of}
-use Rattle.blif_flat.specs.Steps.NameSets.{model_names, Finds}
-use Rattle.blif_flat.specs.Weight.{most_weight, own_weight, Weighs, weighs, WeighAll, none as weigh_none, more as weigh_more}
-use Rattle.blif_flat.specs.Steps.InstanceOrder.{InstanceOrder, instance, InstancesUnder, none as under_none, more as under_more}
-use Rattle.blif_flat.proofs.Models.NameSetLemmas.{finds}
-use Rattle.blif_flat.proofs.Hierarchy.InstanceOrderLemmas.{AreFrom, from_start, from_first, from_rest, placed_at}
+use Rattle.blif_flat.proofs.Common.{◌≡◌, ℕ, suc, List, ◌∷◌, length, Some, sym, ap, ◌∙◌, arith, ◌+◌, ◌<◌, ◌≤◌, [], ◌++◌, Option, None, refl, subst, inl, inr, append_assoc, reverse, slice_get, option_and_then, same_Some, none-some, slice_get_within, length-append, append-nil, reverse-append, reverse-reverse, get_before, get_end, get_pushed}
+use Rattle.blif_flat.specs.{LibraryValue, ModelValue, Body, Cover, Latch, Subckt, Command, SubcktValue, Path, model_at, subckts_of, with_subckt, model_named, Instance, AreInstances, IsRow, paths_of, path_under, path_of, paths_from, IsLight, number_or_zero, entry_of, with_entry, entries_from, entries_at, IsWaiting, Waits, Listed, place_of, model_names, Finds, most_weight, own_weight, Weighs, weighs, WeighAll, flat, InstanceOrder, InstancesUnder, itself}
+use Rattle.blif_flat.specs.Places.{none as under_none, more as under_more}
+use Rattle.blif_flat.specs.Steps.InstanceRows.{none, more}
+use Rattle.blif_flat.specs.Weight.{none as weigh_none, more as weigh_more}
+use Rattle.blif_flat.proofs.Hierarchy.InstanceWeightLemmas.{order_few}
+use Rattle.blif_flat.proofs.Hierarchy.OrderLemmas.{AreFrom, from_start, from_first, from_rest, placed_at}
 use Rattle.blif_flat.proofs.Models.NameLemmas.{cons_first, cons_rest}
+use Rattle.blif_flat.proofs.Models.NameSetLemmas.{finds}
 
 -- the rows of the subcircuits of some commands
 body_entries : (names : List (List ℕ)) (parent k : ℕ) (entries : List Instance) (body : Body) (ss : List SubcktValue) → k ≡ length entries
@@ -38,9 +35,7 @@ paths_from-push paths (r ∷ rows) row = paths_from-push (paths ++ path_of paths
 paths_from-length : (paths : List Path) (rows : List Instance) → length (paths_from paths rows) ≡ length paths + length rows
 paths_from-length paths [] = omega arith
 paths_from-length paths (r ∷ rows) =
-    let a : length (paths_from (paths ++ path_of paths r ∷ []) rows) ≡ length (paths ++ path_of paths r ∷ []) + length rows = paths_from-length (paths ++ path_of paths r ∷ []) rows in
-    let b : length (paths ++ path_of paths r ∷ []) ≡ length paths + 1 = length-append paths (path_of paths r ∷ []) in
-    omega arith
+    omega (arith, paths_from-length (paths ++ path_of paths r ∷ []) rows, length-append paths (path_of paths r ∷ []))
 
 pub paths_of-length : (rows : List Instance) → length (paths_of rows) ≡ length rows
 paths_of-length rows = let a : length (paths_from [] rows) ≡ 0 + length rows = paths_from-length [] rows in omega arith
@@ -52,48 +47,27 @@ outer_stays made extra (Some p) h = get_before made extra p (h p refl)
 path_stays : (made extra : List Path) (row : Instance) → ((p : ℕ) → row.parent ≡ Some p → p < length made) → path_of (made ++ extra) row ≡ path_of made row
 path_stays made extra row h = ap (path_under row.ordinal) (outer_stays made extra row.parent h)
 
--- a model's weight bounds the number of the instances in it
+-- a model that weighs has an order of the instances in it
 module _ (library : LibraryValue) where
-  record HasFew (path : Path) (m : ModelValue) (w : ℕ) : Type 0 where
-    paths : List Path
-    order : InstanceOrder library path m paths
-    few : length paths ≤ w
-
-  record HasFewUnder (path : Path) (k : ℕ) (subckts : List SubcktValue) (w : ℕ) : Type 0 where
-    paths : List Path
-    order : InstancesUnder library path k subckts paths
-    few : length paths ≤ w
-
   mutual
-    order_weighed : {m : ModelValue} {w : ℕ} → Weighs library m w → (path : Path) → HasFew path m w
-    order_weighed {m} {w} (weighs inner all is) path =
-        let r : HasFewUnder path 0 (subckts_of m.commands) inner = under_weighed all path 0 in
-        let few : length r.paths ≤ inner = r.few in
-        let own : 1 ≤ own_weight m = omega arith in
-        record { paths = path ∷ r.paths; order = instance r.paths r.order refl; few = omega arith }
+    order_weighed : {m : ModelValue} {w : ℕ} → Weighs library m w → (path : Path) → (paths : List Path) × InstanceOrder library path m paths
+    order_weighed (weighs inner all is) path = let r = under_weighed all path 0 in (path ∷ r.0, flat r.0 r.1 refl)
 
-    under_weighed : {subckts : List SubcktValue} {w : ℕ} → WeighAll library subckts w → (path : Path) (k : ℕ) → HasFewUnder path k subckts w
-    under_weighed (weigh_none a b) path k = record { paths = []; order = under_none a refl; few = omega arith }
-    under_weighed {subckts} {w} (weigh_more s rest child first others a named one all is) path k =
-        let r : HasFew (k ∷ path) child first = order_weighed one (k ∷ path) in
-        let q : HasFewUnder path (suc k) rest others = under_weighed all path (suc k) in
-        let few : length r.paths ≤ first = r.few in
-        let more_few : length q.paths ≤ others = q.few in
-        let sum : length (r.paths ++ q.paths) ≡ length r.paths + length q.paths = length-append r.paths q.paths in
-        record { paths = r.paths ++ q.paths; order = under_more s rest child r.paths q.paths a named r.order q.order refl; few = omega arith }
+    under_weighed : {subckts : List SubcktValue} {w : ℕ} → WeighAll library subckts w → (path : Path) (k : ℕ) → (paths : List Path) × InstancesUnder library path k subckts paths
+    under_weighed (weigh_none a b) path k = ([], under_none a refl)
+    under_weighed (weigh_more s rest child first others a named one all is) path k =
+        let r = order_weighed one (k ∷ path) in
+        let q = under_weighed all path (suc k) in
+        (r.0 ++ q.0, under_more s rest child r.0 q.0 a named r.1 q.1 refl)
 
   -- each subcircuit places an instance at least
   order_positive : {path : Path} {m : ModelValue} {paths : List Path} → InstanceOrder library path m paths → 1 ≤ length paths
-  order_positive {path} (instance inner under z) = let e : length (path ∷ inner) ≡ length (path ∷ inner) = refl in subst (λ l. 1 ≤ length l) (sym z) (let q : 1 ≤ suc (length inner) = omega arith in q)
+  order_positive {path} (flat inner under z) = let e : length (path ∷ inner) ≡ length (path ∷ inner) = refl in subst (λ l. 1 ≤ length l) (sym z) (let q : 1 ≤ suc (length inner) = omega arith in q)
 
   under_length : {path : Path} {k : ℕ} {subckts : List SubcktValue} {paths : List Path} → InstancesUnder library path k subckts paths → length subckts ≤ length paths
   under_length (under_none a b) = let e = ap length a in omega arith
   under_length {path} {k} {subckts} {paths} (under_more s rest child these others e named order under z) =
-      let a : length subckts ≡ suc (length rest) = ap length e in
-      let b : length paths ≡ length these + length others = ap length z ∙ length-append these others in
-      let c : 1 ≤ length these = order_positive order in
-      let d : length rest ≤ length others = under_length under in
-      omega arith
+      omega (arith, ap length e, ap length z ∙ length-append these others, order_positive order, under_length under)
 
   -- the rows that wait stay so when paths are added
   waiting_stays : (made extra : List Path) (row : Instance) (m : ModelValue) → IsWaiting library made row m → IsWaiting library (made ++ extra) row m
@@ -124,10 +98,9 @@ module _ (library : LibraryValue) where
       subst (λ l. Waits library made (entries_at names place k l ++ pending) (inner ++ others)) (sym a) (subst (λ l. Waits library made pending (l ++ others)) (sym b) waits)
   entries_wait names made place m same {path} {k} {subckts} {inner} (under_more s rest child these further e named order under z) at there from pending others waits =
       let here : path_of made (entry_of names place k s) ≡ k ∷ path = ap (path_under k) at in
-      let inside : place < length made = slice_get_within made place path at in
       let up : model_at library (k ∷ path) ≡ Some child = placed_at library path m k s child there (from_first m k subckts s rest from e) named in
       let w : IsWaiting library made (entry_of names place k s) child = record {
-        earlier = λ p q. (let r : place ≡ p = same_Some place p q in omega arith);
+        earlier = λ p q. (let r : place ≡ p = same_Some place p q in omega (arith, slice_get_within made place path at));
         number = named_number names s.model child same named;
         there = subst (λ l. model_at library l ≡ Some child) (sym here) up;
       } in
@@ -147,7 +120,7 @@ module _ (library : LibraryValue) where
     split : paths ≡ path_of made row ∷ inner ++ others
 
   order_parts : {path : Path} {m : ModelValue} {paths : List Path} → InstanceOrder library path m paths → (inner : List Path) × InstancesUnder library path 0 (subckts_of m.commands) inner × (paths ≡ path ∷ inner)
-  order_parts (instance inner under z) = (inner, under, z)
+  order_parts (flat inner under z) = (inner, under, z)
 
   next : (made : List Path) (row : Instance) (rest : List Instance) {pending : List Instance} {paths : List Path} → pending ≡ row ∷ rest → Waits library made pending paths → Next made row rest paths
   next made row rest p (none a b) = let x : row ∷ rest ≡ [] = sym p ∙ a in cc
@@ -176,7 +149,6 @@ module _ (library : LibraryValue) where
   next_known rows row rest l =
       let made : List Path = paths_of rows in
       let n : Next made row rest l.rest = next made row rest refl l.waits in
-      let a : length (made ++ l.rest) ≤ most_weight = l.few in
       let b : length (made ++ l.rest) ≡ length made + length l.rest = length-append made l.rest in
       let c : length l.rest ≡ suc (length (n.inner ++ n.others)) = ap length n.split in
       let d : length (n.inner ++ n.others) ≡ length n.inner + length n.others = length-append n.inner n.others in
@@ -235,16 +207,15 @@ module _ (library : LibraryValue) where
   -- at the start the main model's own instance waits
   pub listed_start : IsLight library → Listed library [] (record { model = 0; parent = None; ordinal = 0 } ∷ [])
   listed_start h =
-      let r : HasFew [] h.main h.weight = order_weighed h.weighs [] in
-      let few : length r.paths ≤ h.weight = r.few in
-      let light : h.weight ≤ most_weight = h.light in
+      let r = order_weighed h.weighs [] in
+      let few : length r.0 ≤ h.weight = order_few library itself (λ path m. (let own : 1 ≤ own_weight m = omega arith in own)) r.1 h.weighs in
       record {
         main = h.main;
         first = h.first;
-        rest = r.paths;
-        order = r.order;
+        rest = r.0;
+        order = r.1;
         few = omega arith;
-        waits = more (record { model = 0; parent = None; ordinal = 0 }) [] h.main r.paths [] refl (record { earlier = λ p e. absurd (none-some p e); number = h.first; there = h.first }) r.order (none refl refl) (sym (append-nil r.paths));
+        waits = more (record { model = 0; parent = None; ordinal = 0 }) [] h.main r.0 [] refl (record { earlier = λ p e. absurd (none-some p e); number = h.first; there = h.first }) r.1 (none refl refl) (sym (append-nil r.0));
         each = λ i row e. absurd (none-some row e);
       }
 
@@ -257,8 +228,7 @@ module _ (library : LibraryValue) where
   listed_all rows l =
       let full : paths_of rows ++ l.rest ≡ paths_of rows = ap (λ x. paths_of rows ++ x) (nothing_waits refl l.waits) ∙ append-nil (paths_of rows) in
       let few : length (paths_of rows) ≤ most_weight = subst (λ x. length x ≤ most_weight) full l.few in
-      let e : length (paths_of rows) ≡ length rows = paths_of-length rows in
-      record { main = l.main; first = l.first; order = subst (λ x. InstanceOrder library [] l.main x) full l.order; each = l.each; few = omega arith }
+      record { main = l.main; first = l.first; order = subst (λ x. InstanceOrder library [] l.main x) full l.order; each = l.each; few = omega (arith, paths_of-length rows) }
 
   -- the rows that wait as a stack, whose top is the last one
   popped : (stack left : List Instance) (row : Instance) → stack ≡ left ++ row ∷ [] → reverse stack ≡ row ∷ reverse left

@@ -1,17 +1,24 @@
 -- The instances hold together what the main model weighs: so the covers and latches of all instances are few, and so are the commands of each.
-use Rattle.std.proofs.Common.{◌≡◌, ℕ, zero, suc, ◌+◌, ◌≤◌, true, false, List, [], ◌∷◌, ◌++◌, length, Option, Some, None, refl, sym, ap, ◌∙◌, subst, inl, inr, arith, slice_get}
-use Rattle.blif_flat.proofs.Common.{cases_Bool, both_ways, length-append, none-some, same_Some}
-use Rattle.blif_flat.specs.Circuits.{Body, Command, SubcktValue, ModelValue, LibraryValue, Path, subckts_of, with_subckt, model_named, model_at, own_places}
-use Rattle.blif_flat.specs.Words.{Cover as CoverBody, Latch as LatchBody, Subckt as SubcktBody}
-use Rattle.blif_flat.specs.declared.gates.GateKind.{GateKind}
-use Rattle.blif_flat.specs.declared.gates.GateKind.TheVariants.{Cover, Latch, Either}
-use Rattle.blif_flat.specs.Steps.Gates.{kind_test}
-use Rattle.blif_flat.specs.Weight.{most_weight, body_weight, commands_weight, own_weight, Weighs, weighs, WeighAll, none as weigh_none, more as weigh_more}
-use Rattle.blif_flat.specs.Steps.InstanceOrder.{InstanceOrder, instance, InstancesUnder, none, more, model_places, places_at}
-use Rattle.blif_flat.specs.Steps.InstanceRows.{IsLight}
+use Rattle.blif_flat.proofs.Common.{◌≡◌, Bool, not, filter, if◌then◌else◌, ℕ, zero, suc, ◌+◌, ◌≤◌, true, false, List, [], ◌∷◌, ◌++◌, length, Option, Some, None, refl, sym, ap, ◌∙◌, subst, inl, inr, arith, slice_get, cases_Bool, both_ways, length-append, none-some, same_Some}
+use Rattle.blif_flat.specs.{Body, Command, SubcktValue, ModelValue, LibraryValue, Path, subckts_of, with_subckt, model_named, model_at, has_name, inputs_of, CoverValue, CoverAt, Place, own_places, own_of, InFlatOrder, InFlatOrderUnder, FlatOrder, Cover as CoverBody, Latch as LatchBody, Subckt as SubcktBody, GateKind, kind_test, most_weight, body_weight, commands_weight, own_weight, Weighs, weighs, WeighAll, flat, InstanceOrder, InstancesUnder, places_at, IsLight}
+use Rattle.blif_flat.specs.Places.{none, more}
+use Rattle.blif_flat.specs.Weight.{none as weigh_none, more as weigh_more}
+use Rattle.blif_flat.specs.declared.instances.GateKind.TheVariants.{Cover, Latch, Either}
+use Rattle.blif_flat.proofs.Hierarchy.OrderLemmas.{AreFrom, from_start, from_first, from_rest, placed_at, order_places}
+use Rattle.blif_flat.proofs.Hierarchy.PlaceLemmas.{inside, command_of}
 use Rattle.blif_flat.proofs.Models.NameLemmas.{not_empty, same_first, same_rest}
-use Rattle.blif_flat.proofs.Hierarchy.PlaceLemmas.{inside}
-use Rattle.blif_flat.proofs.Hierarchy.InstanceOrderLemmas.{AreFrom, from_start, from_first, from_rest, placed_at}
+
+filtered_more : {A : Type 0} (b : Bool) (x : A) (ys : List A) (n : ℕ) → length ys ≤ n → length (if b then x ∷ ys else ys) ≤ suc n
+filtered_more true x ys n h = omega arith
+filtered_more false x ys n h = omega arith
+
+-- a filtered list is no longer
+pub filtered_below : {A : Type 0} (test : A → Bool) (xs : List A) → length (filter test xs) ≤ length xs
+filtered_below test [] = omega arith
+filtered_below test (x ∷ xs) = filtered_more (test x) x (filter test xs) (length xs) (filtered_below test xs)
+
+pub own_below : (library : LibraryValue) (m : ModelValue) (w : ℕ) → Weighs library m w → own_weight m ≤ w
+own_below library m w (weighs inner all e) = omega arith
 
 -- what a model holds itself
 abbrev pub held : Option ModelValue → ℕ
@@ -49,9 +56,7 @@ body_counted (SubcktBody s) ss = omega arith
 commands_counted : (cs : List Command) → length cs ≤ commands_weight cs + length (subckts_of cs)
 commands_counted [] = omega arith
 commands_counted (c ∷ cs) =
-    let a : length cs ≤ commands_weight cs + length (subckts_of cs) = commands_counted cs in
-    let b : 1 + length (subckts_of cs) ≤ body_weight c.body + length (with_subckt c.body (subckts_of cs)) = body_counted c.body (subckts_of cs) in
-    omega arith
+    omega (arith, commands_counted cs, body_counted c.body (subckts_of cs))
 
 module _ (library : LibraryValue) where
   held_by-append : (xs ys : List Path) → held_by library (xs ++ ys) ≡ held_by library xs + held_by library ys
@@ -61,11 +66,8 @@ module _ (library : LibraryValue) where
   -- a model's weight is what the instances within it hold together
   mutual
     pub order_weight : {path : Path} {m : ModelValue} {paths : List Path} {w : ℕ} → InstanceOrder library path m paths → model_at library path ≡ Some m → Weighs library m w → held_by library paths ≡ w
-    order_weight {path} {m} {paths} {w} (instance inner under z) at (weighs rest all is) =
-        let a : held_by library paths ≡ held (model_at library path) + held_by library inner = ap (held_by library) z in
-        let b : held (model_at library path) ≡ own_weight m = ap held at in
-        let c : held_by library inner ≡ rest = under_weight under m at (from_start m) all in
-        omega arith
+    order_weight {path} {m} {paths} {w} (flat inner under z) at (weighs rest all is) =
+        omega (arith, ap (held_by library) z, ap held at, under_weight under m at (from_start m) all)
 
     under_weight : {path : Path} {k : ℕ} {subckts : List SubcktValue} {paths : List Path} {w : ℕ} → InstancesUnder library path k subckts paths → (m : ModelValue) → model_at library path ≡ Some m → AreFrom m k subckts
         → WeighAll library subckts w → held_by library paths ≡ w
@@ -76,10 +78,8 @@ module _ (library : LibraryValue) where
         let same : s ≡ t = same_first s t rest last e f in
         let twin : placed ≡ child = same_Some placed child (sym known ∙ sym (ap (λ (r : SubcktValue). model_named library.models r.model) same) ∙ named) in
         let up : model_at library (k ∷ path) ≡ Some child = placed_at library path m k s child at (from_first m k subckts s rest from e) named in
-        let a : held_by library these ≡ first = order_weight order up (subst (λ x. Weighs library x first) twin one) in
         let b : held_by library others ≡ further = under_weight under m at (from_rest m k subckts s rest from e) (subst (λ l. WeighAll library l further) (sym (same_rest s t rest last e f)) all) in
-        let c : held_by library paths ≡ held_by library these + held_by library others = ap (held_by library) z ∙ held_by-append these others in
-        omega arith
+        omega (arith, order_weight order up (subst (λ x. Weighs library x first) twin one), ap (held_by library) z ∙ held_by-append these others)
 
   -- each placed model weighs 1 at least
   weighs_some : {m : ModelValue} {w : ℕ} → Weighs library m w → 1 ≤ w
@@ -88,10 +88,7 @@ module _ (library : LibraryValue) where
   subckts_few : {subckts : List SubcktValue} {w : ℕ} → WeighAll library subckts w → length subckts ≤ w
   subckts_few (weigh_none a b) = let e = ap length a in omega arith
   subckts_few {subckts} {w} (weigh_more s rest child first others a named one all is) =
-      let n : length subckts ≡ suc (length rest) = ap length a in
-      let some : 1 ≤ first = weighs_some one in
-      let few : length rest ≤ others = subckts_few all in
-      omega arith
+      omega (arith, ap length a, weighs_some one, subckts_few all)
 
   commands_few : {m : ModelValue} {w : ℕ} → Weighs library m w → length m.commands ≤ w
   commands_few {m} {w} (weighs inner all is) =
@@ -101,12 +98,12 @@ module _ (library : LibraryValue) where
       omega arith
 
   -- the model of an instance weighs no more than the main model
-  pub record IsWithin (m : ModelValue) (most : ℕ) : Type 0 where
+  pub record IsNoHeavier (m : ModelValue) (most : ℕ) : Type 0 where
     pub weight : ℕ
     pub weighs : Weighs library m weight
     pub within : weight ≤ most
 
-  subckt_within : {subckts : List SubcktValue} {w : ℕ} → WeighAll library subckts w → (k : ℕ) (s : SubcktValue) (child : ModelValue) → slice_get subckts k ≡ Some s → model_named library.models s.model ≡ Some child → IsWithin child w
+  subckt_within : {subckts : List SubcktValue} {w : ℕ} → WeighAll library subckts w → (k : ℕ) (s : SubcktValue) (child : ModelValue) → slice_get subckts k ≡ Some s → model_named library.models s.model ≡ Some child → IsNoHeavier child w
   subckt_within (weigh_none a b) k s child e named = absurd (none-some s (sym (ap (λ l. slice_get l k) a) ∙ e))
   subckt_within {subckts} {w} (weigh_more t rest placed first others a known one all is) zero s child e named =
       let same : t ≡ s = same_Some t s (sym (ap (λ l. slice_get l 0) a) ∙ e) in
@@ -114,57 +111,78 @@ module _ (library : LibraryValue) where
       record { weight = first; weighs = subst (λ x. Weighs library x first) twin one; within = omega arith }
   subckt_within {subckts} {w} (weigh_more t rest placed first others a known one all is) (suc k) s child e named =
       let r = subckt_within all k s child (sym (ap (λ l. slice_get l (suc k)) a) ∙ e) named in
-      let h : r.weight ≤ others = r.within in
       record { weight = r.weight; weighs = r.weighs; within = omega arith }
 
-  child_within : {m : ModelValue} {w : ℕ} → Weighs library m w → (k : ℕ) (s : SubcktValue) (child : ModelValue) → slice_get (subckts_of m.commands) k ≡ Some s → model_named library.models s.model ≡ Some child → IsWithin child w
+  child_within : {m : ModelValue} {w : ℕ} → Weighs library m w → (k : ℕ) (s : SubcktValue) (child : ModelValue) → slice_get (subckts_of m.commands) k ≡ Some s → model_named library.models s.model ≡ Some child → IsNoHeavier child w
   child_within (weighs inner all is) k s child e named =
       let r = subckt_within all k s child e named in
-      let h : r.weight ≤ inner = r.within in
       record { weight = r.weight; weighs = r.weighs; within = omega arith }
 
-  pub instance_within : (main : ModelValue) (w : ℕ) → model_at library [] ≡ Some main → Weighs library main w → (path : Path) (m : ModelValue) → model_at library path ≡ Some m → IsWithin m w
+  pub instance_within : (main : ModelValue) (w : ℕ) → model_at library [] ≡ Some main → Weighs library main w → (path : Path) (m : ModelValue) → model_at library path ≡ Some m → IsNoHeavier m w
   instance_within main w first h [] m e = record { weight = w; weighs = subst (λ x. Weighs library x w) (same_Some main m (sym first ∙ e)) h; within = omega arith }
   instance_within main w first h (k ∷ outer) m e =
       let u = inside library outer k m e in
       let r = instance_within main w first h outer u.model u.at in
       let q = child_within r.weighs k u.subckt m u.is u.places in
-      let a : r.weight ≤ w = r.within in
-      let b : q.weight ≤ r.weight = q.within in
       record { weight = q.weight; weighs = q.weighs; within = omega arith }
 
   -- so the commands of an instance's model are few
   pub light_commands : IsLight library → (path : Path) (m : ModelValue) → model_at library path ≡ Some m → length m.commands ≤ most_weight
   light_commands light path m e =
       let r = instance_within light.main light.weight light.first light.weighs path m e in
-      let a : length m.commands ≤ r.weight = commands_few r.weighs in
-      let b : r.weight ≤ light.weight = r.within in
-      let c : light.weight ≤ most_weight = light.light in
-      omega arith
+      omega (arith, commands_few r.weighs)
 
   -- and what all instances hold is little
   pub light_held : IsLight library → (main : ModelValue) (paths : List Path) → model_at library [] ≡ Some main → InstanceOrder library [] main paths → held_by library paths ≤ most_weight
   light_held light main paths first order =
       let twin : light.main ≡ main = same_Some light.main main (sym light.first ∙ first) in
-      let e : held_by library paths ≡ light.weight = order_weight order first (subst (λ x. Weighs library x light.weight) twin light.weighs) in
-      let c : light.weight ≤ most_weight = light.light in
-      omega arith
+      omega (arith, order_weight order first (subst (λ x. Weighs library x light.weight) twin light.weighs))
 
-  model_few : (kind : GateKind) (path : Path) (o : Option ModelValue) → length (model_places (kind_test kind) path o) ≤ held o
-  model_few kind path None = omega arith
-  model_few kind path (Some m) = let a : length (own_places (kind_test kind) path 0 m.commands) ≤ commands_weight m.commands = own_few kind path 0 m.commands in omega arith
+  -- a flat order has no more than its model weighs, where each instance has of its own no more than its model holds
+  module _ {A : Type 0} (own : Path → ModelValue → List A) (few : (path : Path) (m : ModelValue) → length (own path m) ≤ own_weight m) where
+    mutual
+      pub order_few : {path : Path} {m : ModelValue} {items : List A} {w : ℕ} → InFlatOrder library own path m items → Weighs library m w → length items ≤ w
+      order_few {path} {m} {items} {w} (flat inner under z) (weighs rest all is) =
+          omega (arith, ap length z ∙ length-append (own path m) inner, few path m, under_few under all)
 
-  places_few : (kind : GateKind) (paths : List Path) → length (places_at library (kind_test kind) paths) ≤ held_by library paths
-  places_few kind [] = omega arith
-  places_few kind (path ∷ paths) =
-      let a : length (model_places (kind_test kind) path (model_at library path)) ≤ held (model_at library path) = model_few kind path (model_at library path) in
-      let b : length (places_at library (kind_test kind) paths) ≤ held_by library paths = places_few kind paths in
-      let c : length (places_at library (kind_test kind) (path ∷ paths)) ≡ length (model_places (kind_test kind) path (model_at library path)) + length (places_at library (kind_test kind) paths) =
-      length-append (model_places (kind_test kind) path (model_at library path)) (places_at library (kind_test kind) paths) in
-      omega arith
+      under_few : {path : Path} {k : ℕ} {subckts : List SubcktValue} {items : List A} {w : ℕ} → InFlatOrderUnder library own path k subckts items → WeighAll library subckts w → length items ≤ w
+      under_few {path} {k} {subckts} {items} (none a b) all = let e : length items ≡ 0 = ap length b in omega arith
+      under_few (more s rest child these others a named order under z) (weigh_none c d) = absurd (not_empty s rest c a)
+      under_few {path} {k} {subckts} {items} {w} (more s rest child these others a named order under z) (weigh_more t last placed first further f known one all is) =
+          let same : s ≡ t = same_first s t rest last a f in
+          let twin : placed ≡ child = same_Some placed child (sym known ∙ sym (ap (λ (r : SubcktValue). model_named library.models r.model) same) ∙ named) in
+          omega (arith, order_few order (subst (λ x. Weighs library x first) twin one), under_few under (subst (λ l. WeighAll library l further) (sym (same_rest s t rest last a f)) all), ap length z ∙ length-append these others)
 
-  pub light_places : IsLight library → (kind : GateKind) (main : ModelValue) (paths : List Path) → model_at library [] ≡ Some main → InstanceOrder library [] main paths → length (places_at library (kind_test kind) paths) ≤ most_weight
-  light_places light kind main paths first order =
-      let a : length (places_at library (kind_test kind) paths) ≤ held_by library paths = places_few kind paths in
-      let b : held_by library paths ≤ most_weight = light_held light main paths first order in
-      omega arith
+  command_weighs : (cs : List Command) (i : ℕ) (c : Command) → slice_get cs i ≡ Some c → body_weight c.body ≤ commands_weight cs
+  command_weighs [] i c e = absurd (none-some c e)
+  command_weighs (d ∷ cs) zero c e = let s : body_weight d.body ≡ body_weight c.body = ap (λ (x : Command). body_weight x.body) (same_Some d c e) in omega arith
+  command_weighs (d ∷ cs) (suc i) c e = let r : body_weight c.body ≤ commands_weight cs = command_weighs cs i c e in omega arith
+
+  module _ (light : IsLight library) where
+    pub places_few : (kind : GateKind) (main : ModelValue) (places : List Place) → model_at library [] ≡ Some main → FlatOrder library (kind_test kind) [] main places → length places ≤ most_weight
+    places_few kind main places at order =
+        let same : light.main ≡ main = same_Some light.main main (sym light.first ∙ at) in
+        let few : length places ≤ light.weight = order_few (own_of (kind_test kind))
+        (λ path m. (let own : length (own_places (kind_test kind) path 0 m.commands) ≤ commands_weight m.commands = own_few kind path 0 m.commands in omega arith))
+        order (subst (λ m. Weighs library m light.weight) same light.weighs) in
+        omega arith
+
+    pub inputs_few : (path : Path) (i : ℕ) (c : CoverValue) → CoverAt library path i c → length c.inputs ≤ most_weight
+    inputs_few path i c a =
+        let r = instance_within light.main light.weight light.first light.weighs path a.model a.at in
+        let found = command_of (slice_get (a.model).commands i) (CoverBody c) a.is in
+        omega (arith, own_below library a.model r.weight r.weighs, command_weighs (a.model).commands i found.0 found.1, ap body_weight found.2)
+
+    pub ports_few : (main : ModelValue) → model_at library [] ≡ Some main → own_weight main ≤ most_weight
+    ports_few main at =
+        let same : light.main ≡ main = same_Some light.main main (sym light.first ∙ at) in
+        omega (arith, own_below library main light.weight (subst (λ m. Weighs library m light.weight) same light.weighs))
+
+    -- and so is the number of the main model's inputs
+    pub few_inputs : (main : ModelValue) → model_at library [] ≡ Some main → length (inputs_of main) ≤ most_weight
+    few_inputs main at =
+        let others : List (List ℕ) = filter (λ name. not (has_name main.inputs name)) main.clocks in
+        omega (arith, ports_few main at, length-append main.inputs others, filtered_below (λ name. not (has_name main.inputs name)) main.clocks)
+
+    pub light_places : (kind : GateKind) (main : ModelValue) (paths : List Path) → model_at library [] ≡ Some main → InstanceOrder library [] main paths → length (places_at library (kind_test kind) paths) ≤ most_weight
+    light_places kind main paths first order = places_few kind main (places_at library (kind_test kind) paths) first (order_places library (kind_test kind) order first)

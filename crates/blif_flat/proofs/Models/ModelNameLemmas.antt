@@ -1,17 +1,10 @@
 -- The names of a model, each once: they are all there, no more than the model holds, and each has a place of its own.
-use Rattle.std.proofs.Common.{◌≡◌, ℕ, ◌+◌, ◌<◌, ◌≤◌, true, ltb, List, [], ◌∷◌, ◌++◌, length, get_or, drop, bytes_eq, Option, Some, None, refl, sym, ap, ◌∙◌, subst, inl, inr, arith, slice_get, find}
+use Rattle.blif_flat.proofs.Common.{◌≡◌, ℕ, ◌+◌, ◌<◌, ◌≤◌, true, ltb, List, [], ◌∷◌, ◌++◌, length, get_or, drop, bytes_eq, Option, Some, None, refl, sym, ap, ◌∙◌, subst, inl, inr, arith, slice_get, cases_Bool, cond-true, cond-false, ltb-true, length-append, length-map, none-some, same_Some, cond_some, bytes_decides, In, at_within, find_at, drop_at}
+use Rattle.blif_flat.specs.{place_of, Body, Cover, Latch, Subckt, Command, Pair, ModelValue, has_name, control_names, body_names, commands_names, all_names, with_name, with_names, distinct_names, control_weight, body_weight, commands_weight, own_weight}
+use Rattle.std.proofs.Common.{find}
 use Rattle.std.specs.List.{position_or_len}
-use Rattle.blif_flat.proofs.Common.{cases_Bool, cond-true, cond-false, ltb-true, length-append, length-map, none-some, same_Some, cond_some, bytes_decides, In, at_within}
-use Rattle.std.proofs.lemmas.List.Folds.{find_at}
-use Rattle.tl_text.specs.NameIndex.{place_of}
-use Rattle.blif_flat.specs.Circuits.{Body, Cover, Latch, Subckt, Command, Pair, ModelValue, has_name}
-use Rattle.blif_flat.specs.Steps.ModelNames.{control_names, body_names, commands_names, all_names}
-use Rattle.blif_flat.specs.Steps.NameSets.{with_name, with_names}
-use Rattle.blif_flat.specs.Steps.NetStarts.{distinct_names}
-use Rattle.blif_flat.specs.Weight.{control_weight, body_weight, commands_weight, own_weight}
-use Rattle.list_laws.proofs.Items.{drop_at}
-use Rattle.blif_flat.proofs.Models.NameSetLemmas.{has_with_names}
 use Rattle.blif_flat.proofs.Models.NameLemmas.{in_has}
+use Rattle.blif_flat.proofs.Models.NameSetLemmas.{has_with_names}
 
 -- names are added in turn
 pub with_names-append : (names some more : List (List ℕ)) → with_names names (some ++ more) ≡ with_names (with_names names some) more
@@ -38,9 +31,7 @@ with_name-length names name = elim (cases_Bool (has_name names name)) [
 with_names-length : (names more : List (List ℕ)) → length (with_names names more) ≤ length names + length more
 with_names-length names [] = omega arith
 with_names-length names (name ∷ more) =
-    let a : length (with_name names name) ≤ length names + 1 = with_name-length names name in
-    let b : length (with_names (with_name names name) more) ≤ length (with_name names name) + length more = with_names-length (with_name names name) more in
-    omega arith
+    omega (arith, with_name-length names name, with_names-length (with_name names name) more)
 
 -- a model holds all its names
 control_names-length : (control : Option (List ℕ)) → length (control_names control) ≡ control_weight control
@@ -55,19 +46,13 @@ body_names-length (Subckt s) = length-map s.pairs (λ (pair : Pair). pair.actual
 commands_names-length : (cs : List Command) → length (commands_names cs) ≡ commands_weight cs
 commands_names-length [] = refl
 commands_names-length (c ∷ cs) =
-    let a : length (commands_names (c ∷ cs)) ≡ length (body_names c.body) + length (commands_names cs) = length-append (body_names c.body) (commands_names cs) in
-    let b : length (body_names c.body) ≡ body_weight c.body = body_names-length c.body in
-    let d : length (commands_names cs) ≡ commands_weight cs = commands_names-length cs in
-    omega arith
+    omega (arith, length-append (body_names c.body) (commands_names cs), body_names-length c.body, commands_names-length cs)
 
 pub distinct_few : (m : ModelValue) → length (distinct_names m) ≤ own_weight m
 distinct_few m =
     let a : length (distinct_names m) ≤ length {A = List ℕ} [] + length (all_names m) = with_names-length [] (all_names m) in
     let b : length (all_names m) ≡ length m.inputs + length (m.outputs ++ (m.clocks ++ commands_names m.commands)) = length-append m.inputs (m.outputs ++ (m.clocks ++ commands_names m.commands)) in
-    let c : length (m.outputs ++ (m.clocks ++ commands_names m.commands)) ≡ length m.outputs + length (m.clocks ++ commands_names m.commands) = length-append m.outputs (m.clocks ++ commands_names m.commands) in
-    let d : length (m.clocks ++ commands_names m.commands) ≡ length m.clocks + length (commands_names m.commands) = length-append m.clocks (commands_names m.commands) in
-    let e : length (commands_names m.commands) ≡ commands_weight m.commands = commands_names-length m.commands in
-    omega arith
+    omega (arith, length-append m.outputs (m.clocks ++ commands_names m.commands), length-append m.clocks (commands_names m.commands), commands_names-length m.commands)
 
 -- and all its names are among them
 pub distinct_has : (m : ModelValue) (name : List ℕ) → In (all_names m) name → has_name (distinct_names m) name ≡ true
@@ -81,8 +66,8 @@ found_is name (n ∷ ns) x e = elim (cases_Bool (bytes_eq name n)) [
   | inr f ↦ found_is name ns x (sym (cond-false (bytes_eq name n) (Some n) (find (bytes_eq name) ns) f) ∙ e)
 ]
 
-pub place_within : (names : List (List ℕ)) (name : List ℕ) (p : ℕ) → place_of names name ≡ Some p → p < length names
-place_within names name p e =
+pub name_place_within : (names : List (List ℕ)) (name : List ℕ) (p : ℕ) → place_of names name ≡ Some p → p < length names
+name_place_within names name p e =
     let at = cond_some (ltb (position_or_len (bytes_eq name) names) (length names)) (position_or_len (bytes_eq name) names) p e in
     let h : position_or_len (bytes_eq name) names < length names = ltb-true (position_or_len (bytes_eq name) names) (length names) at.0 in
     subst (λ q. q < length names) at.1 h
@@ -90,6 +75,6 @@ place_within names name p e =
 pub place_is : (names : List (List ℕ)) (name : List ℕ) (p : ℕ) → place_of names name ≡ Some p → slice_get names p ≡ Some name
 place_is names name p e =
     let at = cond_some (ltb (position_or_len (bytes_eq name) names) (length names)) (position_or_len (bytes_eq name) names) p e in
-    let x = at_within names p (place_within names name p e) in
+    let x = at_within names p (name_place_within names name p e) in
     let found : find (bytes_eq name) names ≡ Some x.0 = find_at (bytes_eq name) names ∙ ap (slice_get names) at.1 ∙ x.1 in
     x.1 ∙ ap Some (sym (found_is name names x.0 found))

@@ -1,20 +1,9 @@
 -- The models of a path by their numbers and by their names, and what the check of a line tells where they are being walked.
-use Rattle.std.proofs.Common.{◌≡◌, ℕ, zero, suc, ◌+◌, ◌<◌, true, false, ◌||◌, eqb, eqb-true, eq-eqb, List, [], ◌∷◌, ◌++◌, reverse, bytes_eq, append_assoc, drop, get_or, length, Option, Some, None, refl, sym, ap, ◌∙◌, subst, inl, inr, ◌⊎◌, if◌then◌else◌}
-use Rattle.std.specs.List.{slice_get}
-use Rattle.blif_flat.proofs.Common.{cond-true, cond-false, false_from_ne_true, or_left, or_right, append-nil, reverse-append, none-some, same_Some, slice_get-get_or, bytes_decides, In, drop_get, same_or, in_reversed, reversed_in}
+use Rattle.blif_flat.proofs.Common.{◌≡◌, ℕ, zero, suc, ◌+◌, ◌<◌, true, false, ◌||◌, eqb, List, [], ◌∷◌, ◌++◌, reverse, bytes_eq, append_assoc, drop, get_or, length, Option, Some, None, refl, sym, ap, ◌∙◌, subst, inl, inr, ◌⊎◌, if◌then◌else◌, slice_get, cond-true, cond-false, false_from_ne_true, or_left, or_right, append-nil, reverse-append, none-some, same_Some, slice_get-get_or, bytes_decides, In, drop_get, same_or, in_reversed, reversed_in}
+use Rattle.blif_flat.specs.{place_of, AreOnce, SubcktValue, ModelValue, has_name, FlatErr, RecursiveModel, SubcktLine, chain_from, placed_fault, line_fault, formal_fault, unknown_formal, is_walked, IsTold, ports_fault, model_names, IsModelOf, Finds, with_numbered, models_at, edge_by, line_edge, with_name_of, with_model_name, names_at, IsPlacing}
+use Rattle.std.proofs.Common.{eqb-true, eq-eqb}
 use Rattle.depth_first.specs.Walk.{from_node}
 use Rattle.depth_first.specs.declared.edge.Edge.TheVariants.{Node}
-use Rattle.tl_text.specs.NameIndex.{place_of}
-use Rattle.blif_read.specs.Once.{AreOnce}
-use Rattle.blif_flat.specs.Circuits.{SubcktValue, ModelValue, has_name}
-use Rattle.blif_flat.specs.declared.flat_err.FlatErr.{FlatErr}
-use Rattle.blif_flat.specs.declared.flat_err.FlatErr.TheVariants.{RecursiveModel}
-use Rattle.blif_flat.specs.Walk.{SubcktLine, chain_from, placed_fault, line_fault, formal_fault, unknown_formal, is_walked}
-use Rattle.blif_flat.specs.Steps.Answers.{IsTold}
-use Rattle.blif_flat.specs.Steps.Line.{ports_fault}
-use Rattle.blif_flat.specs.Steps.NameSets.{model_names, IsModelOf, Finds}
-use Rattle.blif_flat.specs.Steps.NumberedModels.{with_model, models_at}
-use Rattle.blif_flat.specs.Steps.ModelGraph.{edge_by, line_edge, with_name_of, with_model_name, names_at, IsPlacing}
 use Rattle.blif_flat.proofs.Models.NameSetLemmas.{no_match, finds}
 use Rattle.blif_flat.proofs.Models.WalkedLemmas.{named_is}
 
@@ -55,15 +44,15 @@ module _ (models : List ModelValue) where
       ap (λ ns. ns ++ names_at models (drop (i + 1) numbers)) e ∙ name_then now (slice_get models (get_or numbers i d)) (names_at models (drop (i + 1) numbers))
       ∙ ap (λ ns. now ++ names_at models ns) (sym (drop_get numbers i (get_or numbers i d) (slice_get-get_or numbers i d l))) ∙ h
 
-  with_model_more : (o : Option ModelValue) (ms : List ModelValue) (x : ModelValue) → with_model o (ms ++ x ∷ []) ≡ with_model o ms ++ x ∷ []
+  with_model_more : (o : Option ModelValue) (ms : List ModelValue) (x : ModelValue) → with_numbered o (ms ++ x ∷ []) ≡ with_numbered o ms ++ x ∷ []
   with_model_more None ms x = refl
   with_model_more (Some y) ms x = refl
 
   pub models_at-push : (ns : List ℕ) (n : ℕ) (m : ModelValue) → slice_get models n ≡ Some m → models_at models (ns ++ n ∷ []) ≡ models_at models ns ++ m ∷ []
-  models_at-push [] n m h = ap (λ o. with_model o []) h
-  models_at-push (k ∷ ns) n m h = ap (with_model (slice_get models k)) (models_at-push ns n m h) ∙ with_model_more (slice_get models k) (models_at models ns) m
+  models_at-push [] n m h = ap (λ o. with_numbered o []) h
+  models_at-push (k ∷ ns) n m h = ap (with_numbered (slice_get models k)) (models_at-push ns n m h) ∙ with_model_more (slice_get models k) (models_at models ns) m
 
-  walked_one : (o : Option ModelValue) (ms : List ModelValue) (names : List (List ℕ)) (name : List ℕ) → is_walked ms name ≡ has_name names name → is_walked (with_model o ms) name ≡ has_name (with_model_name o names) name
+  walked_one : (o : Option ModelValue) (ms : List ModelValue) (names : List (List ℕ)) (name : List ℕ) → is_walked ms name ≡ has_name names name → is_walked (with_numbered o ms) name ≡ has_name (with_model_name o names) name
   walked_one None ms names name h = h
   walked_one (Some m) ms names name h = ap (λ b. bytes_eq name m.name || b) h
 

@@ -1,7 +1,6 @@
 -- Names and other members of lists: what can be decided of them, and lists that are taken apart in two ways.
-use Rattle.std.proofs.Common.{◌≡◌, ℕ, zero, suc, List, [], ◌∷◌, Some, refl, sym, subst, inl, inr, ◌⊎◌, bytes_eq, Option, None, ap, ◌∙◌, Bool, true, not, slice_get, filter}
-use Rattle.blif_flat.proofs.Common.{both_ways, cases_Bool, or_cases, or_left, or_right, cond-true, cond-false, false≢true, not_from_false, none-some, same_Some, bytes_decides, In, In-left, In-right, In-append}
-use Rattle.blif_flat.specs.Circuits.{ModelValue, has_name, is_input, inputs_of}
+use Rattle.blif_flat.proofs.Common.{◌≡◌, ℕ, zero, suc, List, [], ◌∷◌, Some, refl, sym, subst, inl, inr, ◌⊎◌, bytes_eq, Option, None, ap, ◌∙◌, Bool, true, not, slice_get, filter, both_ways, cases_Bool, or_cases, or_left, or_right, cond-true, cond-false, false≢true, not_from_false, none-some, same_Some, bytes_decides, In, In-left, In-right, In-append}
+use Rattle.blif_flat.specs.{ModelValue, has_name, is_input, inputs_of}
 
 -- a type that has an element, or none
 abbrev pub Decided : Type 0 → Type 0

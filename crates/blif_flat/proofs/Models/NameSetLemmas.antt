@@ -1,14 +1,8 @@
 -- Names of which none stands twice, added one by one, and found.
-use Rattle.std.proofs.Common.{◌≡◌, ℕ, suc, ◌+◌, ◌<◌, ◌≤◌, Bool, true, false, not, ◌||◌, ltb, List, [], ◌∷◌, ◌++◌, length, drop, filter, bytes_eq, Option, Some, None, is_some, refl, sym, ap, ◌∙◌, subst, inl, inr, arith, append_assoc}
-use Rattle.std.specs.List.{position_or_len, slice_get}
-use Rattle.blif_flat.proofs.Common.{ltb-true, cases_Bool, cond-true, cond-false, both_ways, ltb-false, length-map, append-nil, none-some, slice_get_past, bytes_decides, In, drop_past, at_within}
-use Rattle.std.proofs.lemmas.List.Folds.{list_any-append}
-use Rattle.list_laws.proofs.FirstPlace.{position_none, list_any-position_none}
-use Rattle.tl_text.specs.NameIndex.{place_of}
-use Rattle.blif_flat.specs.Circuits.{ModelValue, input_ports, output_ports, clock_ports, has_name, is_input, inputs_of, model_named}
-use Rattle.blif_read.specs.WellFormed.{IsWellFormedModel}
-use Rattle.blif_read.specs.Once.{AreOnce}
-use Rattle.blif_flat.specs.Steps.NameSets.{with_name, with_names, ports_value, model_names, Finds}
+use Rattle.blif_flat.proofs.Common.{◌≡◌, ℕ, suc, ◌+◌, ◌<◌, ◌≤◌, Bool, true, false, not, ◌||◌, ltb, List, [], ◌∷◌, ◌++◌, length, drop, filter, bytes_eq, Option, Some, None, is_some, refl, sym, ap, ◌∙◌, subst, inl, inr, arith, append_assoc, slice_get, ltb-true, cases_Bool, cond-true, cond-false, both_ways, ltb-false, length-map, append-nil, none-some, slice_get_past, bytes_decides, In, drop_past, at_within, list_any-append, list_any-position_none}
+use Rattle.blif_flat.specs.{place_of, ModelValue, input_ports, output_ports, clock_ports, has_name, is_input, inputs_of, model_named, IsWellFormedModel, AreOnce, with_name, with_names, ports_value, model_names, Finds}
+use Rattle.std.specs.List.{position_or_len}
+use Rattle.list_laws.proofs.FirstPlace.{position_none}
 
 -- a name has a place exactly where it is among the names
 some_when : {A : Type 0} (o : Option A) (b : Bool) → (b ≡ false → o ≡ None) → (o ≡ None → b ≡ false) → is_some o ≡ b
@@ -127,8 +121,7 @@ same_model_names names models e once = e ∙ new_names (model_names models) once
 
 pub few_model_names : (names : List (List ℕ)) (models : List ModelValue) (n : ℕ) → names ≡ with_names [] (model_names models) → AreOnce (model_names models) → length models < n → length names < n
 few_model_names names models n e once few =
-    let a : length names ≡ length (model_names models) = ap length (same_model_names names models e once) in
-    let b : length (model_names models) ≡ length models = length-map models (λ (m : ModelValue). m.name) in omega arith
+    let b : length (model_names models) ≡ length models = length-map models (λ (m : ModelValue). m.name) in omega (arith, ap length (same_model_names names models e once))
 
 pub ports_of_parts : (m : ModelValue) → IsWellFormedModel m → (none inputs both none' outputs given clocks given' : List (List ℕ))
     → none ≡ [] → inputs ≡ with_names none given → both ≡ with_names inputs clocks → none' ≡ [] → outputs ≡ with_names none' given' → given ≡ m.inputs → clocks ≡ m.clocks → given' ≡ m.outputs

@@ -1,21 +1,13 @@
 -- A model has one weight, which exists where those of the placed models do, and sums of capped weights are as good as sums of weights.
-use Rattle.std.proofs.Common.{◌≡◌, ℕ, List, Some, sym, ap, ◌∙◌, arith, zero, suc, ◌+◌, ◌<◌, ◌≤◌, Bool, true, false, cond, ltb, eqb, [], ◌∷◌, ◌++◌, length, get_or, take, set, length-set, None, refl, subst, inl, inr, ◌⊎◌, bytes_eq, Result, Ok, Err, MatchResult}
-use Rattle.blif_flat.proofs.Common.{same_Some, none-some, get_or_from_slice_get, slice_get-get_or, slice_get_within, get_or-set_same, get_or-set_other, cases_Bool, both_ways, eq-eqb, eqb-true, In, get_pushed}
-use Rattle.blif_flat.specs.Circuits.{SubcktValue, ModelValue, LibraryValue, Body, Cover, Latch, Subckt, Command, subckts_of, model_named, with_subckt}
-use Rattle.blif_flat.specs.Weight.{own_weight, Weighs, weighs, WeighAll, none, more, most_weight}
-use Rattle.blif_flat.proofs.Models.NameLemmas.{not_empty, same_first, same_rest}
-use Rattle.std.specs.List.{slice_get, position, position_or_len, find}
-use Rattle.std.proofs.lemmas.List.Folds.{find_at}
+use Rattle.blif_flat.proofs.Common.{◌≡◌, ℕ, List, Some, sym, ap, ◌∙◌, arith, zero, suc, ◌+◌, ◌<◌, ◌≤◌, Bool, true, false, cond, ltb, eqb, [], ◌∷◌, ◌++◌, length, get_or, take, set, None, refl, subst, inl, inr, ◌⊎◌, bytes_eq, Result, Ok, Err, MatchResult, same_Some, none-some, get_or_from_slice_get, slice_get-get_or, slice_get_within, get_or-set_same, get_or-set_other, cases_Bool, both_ways, eq-eqb, eqb-true, In, get_pushed, slice_get, find_at}
+use Rattle.blif_flat.specs.{SubcktValue, ModelValue, LibraryValue, Body, Cover, Latch, Subckt, Command, subckts_of, model_named, with_subckt, own_weight, Weighs, weighs, WeighAll, most_weight, place_of, OrMemory, FlatErr, TooLarge, refusal_of, model_names, HasWeight, capped, kept_at, body_kept, commands_kept, model_kept, IsAmong, IsBehind, AreChildrenFirst, IsKeptWeight}
+use Rattle.std.proofs.Common.{length-set}
 use Rattle.std.proofs.Math.Seq.{take-append_seam}
-use Rattle.tl_text.specs.NameIndex.{place_of}
+use Rattle.std.specs.List.{position, position_or_len, find}
 use Rattle.tl_text.proofs.NameLemmas.{position-map}
-use Rattle.tl_fault.specs.OrMemory.{OrMemory}
-use Rattle.blif_flat.specs.declared.flat_err.FlatErr.{FlatErr}
-use Rattle.blif_flat.specs.declared.flat_err.FlatErr.TheVariants.{TooLarge}
-use Rattle.blif_flat.specs.Refusals.{refusal_of}
-use Rattle.blif_flat.specs.Steps.NameSets.{model_names}
-use Rattle.blif_flat.specs.Steps.Weighing.{HasWeight, capped, kept_at, body_kept, commands_kept, model_kept, IsAmong, IsBehind, AreChildrenFirst, IsKeptWeight}
+use Rattle.blif_flat.specs.Weight.{none, more}
 use Rattle.blif_flat.proofs.Hierarchy.InstanceLemmas.{subckt_more}
+use Rattle.blif_flat.proofs.Models.NameLemmas.{not_empty, same_first, same_rest}
 
 same_child : (library : LibraryValue) (s t : SubcktValue) (a b : ModelValue) → s ≡ t → model_named library.models s.model ≡ Some a → model_named library.models t.model ≡ Some b → a ≡ b
 same_child library s t a b e p q = same_Some a b (sym p ∙ ap (λ (r : SubcktValue). model_named library.models r.model) e ∙ q)
@@ -23,18 +15,14 @@ same_child library s t a b e p q = same_Some a b (sym p ∙ ap (λ (r : SubcktVa
 mutual
   pub weighs_once : (library : LibraryValue) (m n : ModelValue) (v w : ℕ) → m ≡ n → Weighs library m v → Weighs library n w → v ≡ w
   weighs_once library m n v w e (weighs inner all is) (weighs others each too) =
-      let same : inner ≡ others = weigh_all_once library (subckts_of m.commands) (subckts_of n.commands) inner others (ap (λ (r : ModelValue). subckts_of r.commands) e) all each in
-      let own : own_weight m ≡ own_weight n = ap own_weight e in
-      omega arith
+      omega (arith, weigh_all_once library (subckts_of m.commands) (subckts_of n.commands) inner others (ap (λ (r : ModelValue). subckts_of r.commands) e) all each, ap own_weight e)
 
   weigh_all_once : (library : LibraryValue) (ss ts : List SubcktValue) (v w : ℕ) → ss ≡ ts → WeighAll library ss v → WeighAll library ts w → v ≡ w
   weigh_all_once library ss ts v w e (none a q) (none b r) = q ∙ sym r
   weigh_all_once library ss ts v w e (none a q) (more s rest child first others b n x y r) = absurd (not_empty s rest a (e ∙ b))
   weigh_all_once library ss ts v w e (more s rest child first others a n x y q) (none b r) = absurd (not_empty s rest (e ∙ b) a)
   weigh_all_once library ss ts v w e (more s rest child first others a n x y q) (more t end placed one last b o z u r) =
-      let p : first ≡ one = weighs_once library child placed first one (same_child library s t child placed (same_first s t rest end a (e ∙ b)) n o) x z in
-      let l : others ≡ last = weigh_all_once library rest end others last (same_rest s t rest end a (e ∙ b)) y u in
-      omega arith
+      omega (arith, weighs_once library child placed first one (same_child library s t child placed (same_first s t rest end a (e ∙ b)) n o) x z, weigh_all_once library rest end others last (same_rest s t rest end a (e ∙ b)) y u)
 
 -- the number at which a name is found is that of the model of the name
 place_is : {A : Type 0} (test : A → Bool) (xs : List A) (k : ℕ) (b : Bool) → cond b (Some (position_or_len test xs)) None ≡ Some k → position_or_len test xs ≡ k
@@ -82,8 +70,6 @@ body_sum library weights (Cover c) ss sum h r = record { inner = r.inner; all = 
 body_sum library weights (Latch l) ss sum h r = record { inner = r.inner; all = r.all; is = let e : capped r.inner ≡ capped sum = r.is in omega arith }
 body_sum library weights (Subckt s) ss sum h r =
     let k : IsChildKept library weights s = h s (inl refl) in
-    let e : capped r.inner ≡ capped sum = r.is in
-    let f : kept_at weights (place_of (model_names library.models) s.model) ≡ capped k.weight = k.kept in
     record { inner = k.weight + r.inner; all = more s ss k.child k.weight r.inner refl k.named k.weighs r.all refl; is = omega arith }
 
 commands_sum : (library : LibraryValue) (weights : List ℕ) (cs : List Command) → ((s : SubcktValue) → In (subckts_of cs) s → IsChildKept library weights s) → IsSum library (subckts_of cs) (commands_kept (model_names library.models) weights cs)
@@ -98,7 +84,6 @@ fresh_kept library before weights news number b h at =
     let m : ModelValue = b.model in
     let r : IsSum library (subckts_of m.commands) (commands_kept (model_names library.models) weights m.commands) = commands_sum library weights m.commands (λ s i. child_kept library before weights s (b.children s i) h) in
     let w : Weighs library m (own_weight m + r.inner) = weighs r.inner r.all refl in
-    let e : capped r.inner ≡ capped (commands_kept (model_names library.models) weights m.commands) = r.is in
     let same : capped (own_weight m + commands_kept (model_names library.models) weights m.commands) ≡ capped (own_weight m + r.inner) = omega arith in
     record { model = m; at = b.at; weight = own_weight m + r.inner; weighs = w; kept = at ∙ ap Some same; once = λ v x. weighs_once library m m v (own_weight m + r.inner) refl x w }
 
@@ -106,16 +91,14 @@ fresh_kept library before weights news number b h at =
 kept_stays : (library : LibraryValue) (weights : List ℕ) (number value n : ℕ) → (n ≡ number → ⊥) → IsKeptWeight library weights n → IsKeptWeight library (set weights number value) n
 kept_stays library weights number value n other k =
     let inside : n < length weights = slice_get_within weights n (capped k.weight) k.kept in
-    let len : length (set weights number value) ≡ length weights = length-set weights number value in
     let e : get_or (set weights number value) n 0 ≡ get_or weights n 0 = get_or-set_other weights number n value 0 other in
     let at : slice_get (set weights number value) n ≡ Some (capped k.weight) =
-    slice_get-get_or (set weights number value) n 0 (omega arith) ∙ ap Some (e ∙ get_or_from_slice_get weights n (capped k.weight) 0 k.kept) in
+    slice_get-get_or (set weights number value) n 0 (omega (arith, length-set weights number value)) ∙ ap Some (e ∙ get_or_from_slice_get weights n (capped k.weight) 0 k.kept) in
     record { model = k.model; at = k.at; weight = k.weight; weighs = k.weighs; kept = at; once = k.once }
 
 slice_get-set_same : (xs : List ℕ) (i x : ℕ) → i < length xs → slice_get (set xs i x) i ≡ Some x
 slice_get-set_same xs i x h =
-    let len : length (set xs i x) ≡ length xs = length-set xs i x in
-    slice_get-get_or (set xs i x) i 0 (omega arith) ∙ ap Some (get_or-set_same xs i x 0 h)
+    slice_get-get_or (set xs i x) i 0 (omega (arith, length-set xs i x)) ∙ ap Some (get_or-set_same xs i x 0 h)
 
 in_take : (xs : List ℕ) (i x : ℕ) → In (take (suc i) xs) x → In (take i xs) x ⊎ (slice_get xs i ≡ Some x)
 in_take [] i x h = absurd h
@@ -170,14 +153,12 @@ same_model library weights number m k at = subst (λ n. Weighs library n k.weigh
 pub kept_light : (library : LibraryValue) (weights : List ℕ) (number kept : ℕ) (m : ModelValue) → IsKeptWeight library weights number → slice_get library.models number ≡ Some m → slice_get weights number ≡ Some kept
     → kept ≤ most_weight → HasWeight library m (λ w. w ≤ most_weight)
 kept_light library weights number kept m k at here h =
-    let e : kept ≡ capped k.weight = same_Some kept (capped k.weight) (sym here ∙ k.kept) in
-    record { weight = k.weight; weighs = same_model library weights number m k at; is = omega arith }
+    record { weight = k.weight; weighs = same_model library weights number m k at; is = omega (arith, same_Some kept (capped k.weight) (sym here ∙ k.kept)) }
 
 pub kept_heavy : (library : LibraryValue) (weights : List ℕ) (number kept : ℕ) (m : ModelValue) → IsKeptWeight library weights number → slice_get library.models number ≡ Some m → slice_get weights number ≡ Some kept
     → most_weight < kept → HasWeight library m (λ w. most_weight < w)
 kept_heavy library weights number kept m k at here h =
-    let e : kept ≡ capped k.weight = same_Some kept (capped k.weight) (sym here ∙ k.kept) in
-    record { weight = k.weight; weighs = same_model library weights number m k at; is = omega arith }
+    record { weight = k.weight; weighs = same_model library weights number m k at; is = omega (arith, same_Some kept (capped k.weight) (sym here ∙ k.kept)) }
 
 -- one more model behind those that it places
 take_front : (xs ys : List ℕ) (i : ℕ) → i ≤ length xs → take i (xs ++ ys) ≡ take i xs

@@ -1,17 +1,14 @@
 -- Loops of covers: none depends on itself exactly where the walk meets none again, and then they have an order in which each comes after those that it reads.
-use Rattle.std.proofs.Common.{◌≡◌, ℕ, List, [], ◌∷◌, Option, Some, None, refl, sym, ap, ◌∙◌, subst, inl, inr, ◌⊎◌, true, ◌++◌}
-use Rattle.blif_flat.proofs.Common.{In, both_ways, cases_Bool, false≢true, In-right, In-append}
-use Rattle.blif_flat.specs.Circuits.{CoverValue, LibraryValue, ModelValue, Body, Cover, Latch, Subckt, LatchValue, Path, body_at, model_at, CoverAt, Net, input_net, latch_net, cover_net, Drives, main_input, latch_output, cover_output, from_inside, from_outside, Place, same_place, cover_at, latch_at, is_cover, is_latch, FlatOrder, IsDriven}
-use Rattle.blif_flat.specs.Loops.{AreNets, with_cover, covers_among, reads_in, reads_of, ReadsCover, Depends, direct, through}
-use Rattle.blif_flat.proofs.Hierarchy.PlaceLemmas.{cover_at-is, place_of, same_place-is, same_place-refl}
-use Rattle.blif_flat.proofs.Walks.PostLemmas.{Reaches, at_once, further, acyclic}
-use Rattle.blif_flat.specs.Steps.CoverOrder.{Ordered}
-use Rattle.blif_flat.specs.LoopFault.{latch_covers, all_latch_covers, roots_of, LoopWalk}
-use Rattle.blif_flat.proofs.Models.NameLemmas.{Decided}
-use Rattle.blif_flat.proofs.Hierarchy.FlatLemmas.{flat_all, flat_exists}
-use Rattle.blif_flat.proofs.Hierarchy.KindLemmas.{IsOfKind, flat_only}
+use Rattle.blif_flat.proofs.Common.{◌≡◌, ℕ, List, [], ◌∷◌, Option, Some, None, refl, sym, ap, ◌∙◌, subst, inl, inr, ◌⊎◌, true, ◌++◌, In, both_ways, cases_Bool, false≢true, In-right, In-append}
+use Rattle.blif_flat.specs.{own_of, CoverValue, LibraryValue, ModelValue, Body, Cover, Latch, Subckt, LatchValue, Path, body_at, model_at, CoverAt, Net, input_net, latch_net, cover_net, Drives, main_input, latch_output, cover_output, from_inside, from_outside, Place, same_place, cover_at, latch_at, is_cover, is_latch, FlatOrder, IsDriven, AreNets, with_cover, covers_among, reads_in, reads_of, ReadsCover, Depends, direct, through, Ordered, latch_covers, all_latch_covers, roots_of, LoopWalk, IsWellFormed, Clocks, is_gate, ClockData, IsSound, IsClocked}
+use Rattle.blif_flat.proofs.Clocking.ControlLemmas.{clocks-input, clocks-one, data-output, data-clock}
 use Rattle.blif_flat.proofs.Connections.NetLemmas.{same_nets}
+use Rattle.blif_flat.proofs.Hierarchy.OrderLemmas.{flat_all, order_exists, IsOfKind, flat_only}
+use Rattle.blif_flat.proofs.Hierarchy.PlaceLemmas.{cover_at-is, place_of, same_place-is, same_place-refl}
+use Rattle.blif_flat.proofs.Models.DrivenLemmas.{walked_driven}
+use Rattle.blif_flat.proofs.Models.NameLemmas.{Decided}
 use Rattle.blif_flat.proofs.Walks.MeetLemmas.{meets_none, meets_clean}
+use Rattle.blif_flat.proofs.Walks.PostLemmas.{Reaches, at_once, further, acyclic}
 
 module _ (library : LibraryValue) (net : Path → List ℕ → Option Net) (nets : AreNets library net) where
   -- a name among several whose net is the cover's
@@ -83,11 +80,11 @@ one_place p q = elim (cases_Bool (same_place p q)) [
   | inr u ↦ inr (λ e. both_ways (same_place p q) u (subst (λ x. same_place p x ≡ true) e (same_place-refl p)))
 ]
 
-pub has_place : (ps : List Place) (p : Place) → In ps p ⊎ (In ps p → ⊥)
-has_place [] p = inr (λ i. i)
-has_place (q ∷ ps) p = elim (one_place p q) [
+pub has_cover_place : (ps : List Place) (p : Place) → In ps p ⊎ (In ps p → ⊥)
+has_cover_place [] p = inr (λ i. i)
+has_cover_place (q ∷ ps) p = elim (one_place p q) [
   | inl e ↦ inl (inl e)
-  | inr n ↦ (elim (has_place ps p) [ inl i ↦ inl (inr i) | inr o ↦ inr (λ h. elim h [ inl e ↦ n e | inr i ↦ o i ]) ])
+  | inr n ↦ (elim (has_cover_place ps p) [ inl i ↦ inl (inr i) | inr o ↦ inr (λ h. elim h [ inl e ↦ n e | inr i ↦ o i ]) ])
 ]
 
 module _ (library : LibraryValue) where
@@ -161,7 +158,7 @@ module _ (library : LibraryValue) where
 
   walk_ordered : (w : LoopWalk library None) → Ordered library w.net
   walk_ordered w =
-      let r = meets_none (reads_of library w.net) has_place HasCover (read_cover w.net w.nets) (roots_of library w.net w.main w.latches ++ w.covers) w.meets (start_cover w) in
+      let r = meets_none (reads_of library w.net) has_cover_place HasCover (read_cover w.net w.nets) (roots_of library w.net w.main w.latches ++ w.covers) w.meets (start_cover w) in
       record {
         order = r.order;
         after = r.after;
@@ -213,6 +210,30 @@ module _ (library : LibraryValue) (driven : IsDriven library) (no_loop : (p : Pl
 
   pub covers_ordered : Ordered library net
   covers_ordered =
-      let c = flat_exists library is_cover driven.known main (driven.finite [] main at) [] at in
-      let l = flat_exists library is_latch driven.known main (driven.finite [] main at) [] at in
+      let c = order_exists library (own_of is_cover) driven.known main (driven.finite [] main at) [] at in
+      let l = order_exists library (own_of is_latch) driven.known main (driven.finite [] main at) [] at in
       loops-ordered library (walk_through c.0 c.1 l.0 l.1) net nets
+
+-- A library at which no fault is found is sound.
+pub sound_of : (library : LibraryValue) → IsWellFormed library → (main : ModelValue) → model_at library [] ≡ Some main → IsDriven library
+    → (latches : List Place) → FlatOrder library is_latch [] main latches → Clocks library None latches None
+    → (gates : List Place) → FlatOrder library is_gate [] main gates → ClockData library main gates None
+    → LoopWalk library None → IsSound library
+sound_of library formed main at driven latches latches_are clocks gates gates_are clear walk = record {
+  formed = formed;
+  main = main;
+  at = at;
+  driven = driven;
+  control_input = clocks-input library main at latches latches_are clocks;
+  one_control = clocks-one library main at latches latches_are clocks driven;
+  no_clock_data = data-clock library main at gates gates_are clear;
+  no_clock_output = data-output library main clear;
+  no_loop = walk_free library walk;
+}
+
+-- so is a well-formed one that comes past all stages
+pub past_sound : (library : LibraryValue) → IsWellFormed library → (past : IsClocked library) (gates : List Place) → FlatOrder library is_gate [] past.past.past.main gates
+    → ClockData library past.past.past.main gates None → LoopWalk library None → IsSound library
+past_sound library formed past gates gates_are clear walk =
+    let walked = past.past.past in
+    sound_of library formed walked.main walked.at (walked_driven library walked.main past.past.models formed walked.at walked.walks past.past.none) past.latches past.latches_are past.none gates gates_are clear walk

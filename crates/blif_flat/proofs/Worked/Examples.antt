@@ -1,13 +1,7 @@
 -- A worked example of the definitions: a main model that places an inverter.
-use Rattle.std.proofs.Common.{◌≡◌, ℕ, Bool, true, List, [], ◌∷◌, codes, Some, None, refl, sym, ap, ◌∙◌, inl, inr}
-use Rattle.blif_read.specs.declared.cell.Cell.TheVariants.{Zero}
-use Rattle.blif_flat.specs.Circuits.{Cover, Subckt, Pair, CoverValue, cover_value, SubcktValue, ModelValue, LibraryValue, Path, CoverAt, ConnectionAt, cover_net, Drives, cover_output, from_inside}
-use Rattle.blif_flat.specs.declared.flat_err.FlatErr.TheVariants.{UnknownModel, RecursiveModel, UnknownFormal, Unconnected, DoublyDriven, Undriven}
-use Rattle.blif_flat.specs.Cycle.{Fits}
-use Rattle.blif_flat.specs.Walk.{SubcktLine, line_fault}
-use Rattle.blif_flat.specs.Weight.{Weighs, WeighAll, own_weight}
+use Rattle.blif_flat.proofs.Common.{◌≡◌, ℕ, Bool, true, List, [], ◌∷◌, codes, Some, None, refl, sym, ap, ◌∙◌, inl, inr}
+use Rattle.blif_flat.specs.{Zero, Cover, Subckt, Pair, CoverValue, cover_value, SubcktValue, ModelValue, LibraryValue, Path, CoverAt, ConnectionAt, cover_net, Drives, cover_output, from_inside, UnknownModel, RecursiveModel, UnknownFormal, Unconnected, DoublyDriven, Undriven, Fits, SubcktLine, line_fault, Weighs, model_fault}
 use Rattle.blif_flat.specs.Weight as weight
-use Rattle.blif_flat.specs.DriverFaults.{model_fault}
 
 -- .model top / .inputs a / .outputs y / .subckt inv i=a o=y / .model inv / .inputs i / .outputs o / .names i o / 0 1
 abbrev flip : CoverValue

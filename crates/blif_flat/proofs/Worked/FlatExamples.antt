@@ -1,11 +1,10 @@
 -- A worked example of flat circuits: two inverters in a row, each an instance, and a latch behind them.
-use Rattle.std.proofs.Common.{◌≡◌, true, false, [], ◌∷◌, codes, None, refl, inl, inr}
-use Rattle.blif_read.specs.declared.cell.Cell.TheVariants.{Zero}
-use Rattle.blif_flat.specs.Circuits.{Cover, Latch, Subckt, LatchValue, CoverValue, SubcktValue, ModelValue, LibraryValue, cover_net, cover_output, from_inside, from_outside, is_cover, FlatOrder, flat, more, none}
-use Rattle.blif_flat.specs.declared.flat.Net.TheVariants as net
+use Rattle.blif_flat.proofs.Common.{◌≡◌, true, false, [], ◌∷◌, codes, None, refl, inl, inr}
+use Rattle.blif_flat.specs.{Zero, Cover, Latch, Subckt, LatchValue, CoverValue, SubcktValue, ModelValue, LibraryValue, cover_net, cover_output, from_inside, from_outside, is_cover, FlatOrder, flat, flat_roots, IsNetOf, a_cover, most_underscores, flat_outputs, flat_next}
+use Rattle.blif_flat.specs.Flat.{Places}
 use Rattle.blif_flat.specs.FlatValue.{FlatValue}
-use Rattle.blif_flat.specs.Flat.{Places, flat_roots, IsNetOf, a_cover, most_underscores}
-use Rattle.blif_flat.specs.FlatCycle.{flat_outputs, flat_next}
+use Rattle.blif_flat.specs.Places.{more, none}
+use Rattle.blif_flat.specs.declared.flat.Net.TheVariants as net
 
 -- .model top / .inputs a / .outputs y q / .subckt inv i=a o=t / .subckt inv i=t o=y / .latch y q 1 / .model inv / .inputs i / .outputs o / .names i o / 0 1
 abbrev flip : CoverValue

@@ -1,9 +1,7 @@
 -- A worked example of loops: two covers that read each other through two instances.
-use Rattle.std.proofs.Common.{ℕ, true, List, [], ◌∷◌, codes, refl, inl, inr}
+use Rattle.blif_flat.proofs.Common.{ℕ, true, List, [], ◌∷◌, codes, refl, inl, inr}
+use Rattle.blif_flat.specs.{Cover, Subckt, Pair, CoverValue, SubcktValue, ModelValue, LibraryValue, CoverAt, ConnectionAt, cover_output, from_inside, from_outside, Place, ReadsCover, Depends, direct, through, IsSound}
 use Rattle.blif_read.specs.declared.cell.Cell.TheVariants.{One}
-use Rattle.blif_flat.specs.Circuits.{Cover, Subckt, Pair, CoverValue, SubcktValue, ModelValue, LibraryValue, CoverAt, ConnectionAt, cover_output, from_inside, from_outside, Place}
-use Rattle.blif_flat.specs.Loops.{ReadsCover, Depends, direct, through}
-use Rattle.blif_flat.specs.Sound.{IsSound}
 
 -- .model top / .inputs a / .outputs y / .subckt g i=a f=y o=x / .subckt g i=a f=x o=y / .model g / .inputs i f / .outputs o / .names i f o / 11 1
 abbrev both : CoverValue

@@ -1,10 +1,7 @@
 -- A worked example of runs: a latch that toggles.
-use Rattle.std.proofs.Common.{◌≡◌, ℕ, zero, suc, Bool, true, false, not, List, [], ◌∷◌, codes, map, bytes_eq, Some, None, refl, sym, ap, ap₂, ◌∙◌, subst, if◌then◌else◌, slice_get}
-use Rattle.blif_flat.proofs.Common.{false≢true, none-some, same_Some}
-use Rattle.blif_read.specs.declared.cell.Cell.TheVariants.{Zero}
-use Rattle.blif_flat.specs.Circuits.{Cover, Latch, LatchValue, CoverValue, cover_value, ModelValue, LibraryValue, Path, body_at, subckts_of, model_at, is_input, IsMainInput, Place, flat, none}
-use Rattle.blif_flat.specs.Cycle.{Fits}
-use Rattle.blif_flat.specs.Runs.{AreLatches, inits_of, state_of, IsCycle, stops, steps, IsRun}
+use Rattle.blif_flat.proofs.Common.{◌≡◌, ℕ, zero, suc, Bool, true, false, not, List, [], ◌∷◌, codes, map, bytes_eq, Some, None, refl, sym, ap, ap₂, ◌∙◌, subst, if◌then◌else◌, slice_get, false≢true, none-some, same_Some}
+use Rattle.blif_flat.specs.{Zero, Cover, Latch, LatchValue, CoverValue, cover_value, ModelValue, LibraryValue, Path, body_at, subckts_of, model_at, is_input, IsMainInput, Place, flat, Fits, AreLatches, inits_of, state_of, IsCycle, stops, steps, IsRun}
+use Rattle.blif_flat.specs.Places.{none}
 use Rattle.blif_flat.proofs.Hierarchy.PlaceLemmas.{inside}
 
 -- .model toggle / .outputs q / .names q d / 0 1 / .latch d q 1

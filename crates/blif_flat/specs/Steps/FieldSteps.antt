@@ -1,17 +1,72 @@
--- The fields of a flat circuit, as they are computed from its gates, its nets and the ports of its main model.
-use Rattle.std.specs.Prelude.{ℕ, Bool, true, false, List, [], ◌∷◌, ◌++◌, map, Option, Some, None, is_some, slice_get}
+-- Nets are numbered anew by the main model's inputs without its clock nets.
+use Rattle.std.specs.Prelude.{◌≡◌, ℕ, ◌+◌, Bool, not, if◌then◌else◌, List, [], ◌∷◌, filter, length, map, Some, slice_get, true, false, ◌++◌, Option, None, is_some, ◌<◌, Vec, reverse, ◌≤◌}
+use Rattle.std.specs.Global.{Global}
+use Rattle.std.specs.List.{range_with_len}
 use Rattle.std.specs.Option.{option_and_then}
-use Rattle.blif_flat.specs.Circuits.{Body, LatchValue, CoverValue, ModelValue, LibraryValue, cover_in, latch_in}
-use Rattle.blif_flat.specs.declared.flat.Net.{Net as FlatNet}
-use Rattle.blif_flat.specs.declared.flat.Net.TheVariants.{Input}
-use Rattle.blif_flat.specs.declared.flat.FlatLatch.{FlatLatch}
-use Rattle.blif_flat.specs.declared.flat.OutPort.{OutPort}
-use Rattle.blif_flat.specs.declared.gates.Gate.{Gate}
+use Rattle.depth_first.specs.DepthFirst.{PostsAll}
+use Rattle.depth_first.specs.Edges.{ways_from}
+use Rattle.depth_first.specs.Order.{IsAfter, IsSettled}
+use Rattle.depth_first.specs.Walk.{WalkValue, from_node}
+use Rattle.depth_first.specs.declared.edge.Edge.{Edge}
+use Rattle.depth_first.specs.declared.edge.Edge.TheVariants.{Node, Pass}
+use Rattle.blif_flat.specs.Circuits.{In, ModelValue, LibraryValue, Path, model_at, inputs_of, Drives, input_net, IsClock, Place, is_cover, is_latch, Body, LatchValue, CoverValue, cover_in, latch_in, FlatOrder, CoverAt, Net, cover_net, FlatCoverValue, FlatLatch, FlatNet, OutPort}
+use Rattle.blif_flat.specs.ClockFaults.{is_gate, ClockData}
+use Rattle.blif_flat.specs.DepthFirst.{Repeat, MeetsAll}
+use Rattle.blif_flat.specs.Flat.{Places, TellsClocks, IsFlatCover, IsFlatLatch, AreNetsOf, cover_numbers, inputs_at}
+use Rattle.blif_flat.specs.LoopFault.{AreWritten}
+use Rattle.blif_flat.specs.Loops.{reads_of}
+use Rattle.blif_flat.specs.Sound.{IsData}
+use Rattle.blif_flat.specs.Steps.ClockSteps.{input_name, IsControlled, clock_test}
+use Rattle.blif_flat.specs.Steps.InstanceRows.{places_at, number_or_zero, gate_body, AreInstances, paths_of, AreGatesAt}
+use Rattle.blif_flat.specs.Steps.NetTable.{NetsValue, table_of, AreAllNets}
+use Rattle.blif_flat.specs.Weight.{most_weight}
+use Rattle.blif_flat.specs.Written.{IsWritten}
+use Rattle.blif_flat.specs.declared.clock_check.ClockNets.{ClockNets}
+use Rattle.blif_flat.specs.declared.connect.Circuit.{Circuit}
+use Rattle.blif_flat.specs.declared.loops.Found.{Found}
+use Rattle.blif_flat.specs.declared.loops.Found.TheVariants.{Loop as found_loop, Order as found_order}
+use Rattle.blif_flat.specs.declared.flat.Net.TheVariants.{Input, Latch, Cover}
+use Rattle.blif_flat.specs.declared.instances.Gate.{Gate}
 use Rattle.blif_flat.specs.declared.instances.Instance.{Instance}
-use Rattle.blif_flat.specs.FlatCoverValue.{FlatCoverValue}
-use Rattle.blif_flat.specs.Steps.GateBodies.{gate_body}
-use Rattle.blif_flat.specs.Steps.NetSlots.{NetsValue, table_of}
-use Rattle.blif_flat.specs.Steps.RegularNets.{renumbered}
+
+-- the numbers of the inputs that aren't marked, counted on from n; a marked one has the number of the next one
+abbrev pub regular_numbers : ℕ → List Bool → List ℕ
+regular_numbers n [] = []
+regular_numbers n (mark ∷ marks) = n ∷ regular_numbers (if mark then n else 1 + n) marks
+
+abbrev pub renumbered : List ℕ → FlatNet → FlatNet
+renumbered numbers (Input j) = Input (number_or_zero (slice_get numbers j))
+renumbered numbers (Latch j) = Latch j
+renumbered numbers (Cover j) = Cover j
+
+-- the new numbers of the main model's inputs, where no clock net is data
+pub record IsRegular (library : LibraryValue) (numbers : List ℕ) : Type 0 where
+  pub main : ModelValue
+  pub is_main : model_at library [] ≡ Some main
+  pub test : List ℕ → Bool
+  pub tells : TellsClocks library test
+  pub numbers_are : numbers ≡ regular_numbers 0 (map test (inputs_of main))
+  pub no_clock_data : (path : Path) (name net : List ℕ) → IsData library path name → Drives library path name (input_net net) → ¬ (IsClock library net)
+  pub no_clock_output : (name net : List ℕ) → In main.outputs name → Drives library [] name (input_net net) → ¬ (IsClock library net)
+
+-- the drivers by which a flat circuit numbers its nets
+abbrev pub regular_places : LibraryValue → ModelValue → (List ℕ → Bool) → List Path → Places
+regular_places library main test paths = record {
+  inputs = filter (λ name. not (test name)) main.inputs;
+  latches = places_at library is_latch paths;
+  covers = places_at library is_cover paths;
+}
+
+-- the covers and the latches of a flat circuit, place by place
+pub record AreFlatCovers (library : LibraryValue) (at : Places) (flat : List FlatCoverValue) : Type 0 where
+  pub count : length flat ≡ length at.covers
+  pub each : (k : ℕ) (p : Place) (c : FlatCoverValue) → slice_get at.covers k ≡ Some p → slice_get flat k ≡ Some c → IsFlatCover library at p c
+
+pub record AreFlatLatches (library : LibraryValue) (at : Places) (flat : List FlatLatch) : Type 0 where
+  pub count : length flat ≡ length at.latches
+  pub each : (k : ℕ) (p : Place) (l : FlatLatch) → slice_get at.latches k ≡ Some p → slice_get flat k ≡ Some l → IsFlatLatch library at p l
+
+-- The fields of a flat circuit, as they are computed from its gates, its nets and the ports of its main model.
 
 -- the net of a name of an instance, by the numbers of the regular inputs; input 0 where nothing drives the name
 abbrev pub renumbered_or : List ℕ → Option FlatNet → FlatNet
@@ -48,11 +103,11 @@ flat_cover library rows n numbers g = record {
 abbrev pub made_latch : List ℕ → NetsValue → ℕ → LatchValue → FlatLatch
 made_latch numbers n i l = record { input = regular_net numbers n i l.input; init = l.init; clocked = is_some l.control }
 
-abbrev pub no_latch : FlatLatch
-no_latch = record { input = Input 0; init = false; clocked = false }
+abbrev pub absent_latch : FlatLatch
+absent_latch = record { input = Input 0; init = false; clocked = false }
 
 abbrev pub latch_or : List ℕ → NetsValue → ℕ → Option LatchValue → FlatLatch
-latch_or numbers n i None = no_latch
+latch_or numbers n i None = absent_latch
 latch_or numbers n i (Some l) = made_latch numbers n i l
 
 abbrev pub flat_latch : LibraryValue → List Instance → NetsValue → List ℕ → Gate → FlatLatch
@@ -76,3 +131,120 @@ abbrev pub unmarked_after : List (List ℕ) → List (List ℕ) → List Bool �
 unmarked_after kept [] marks = kept
 unmarked_after kept (name ∷ names) [] = kept
 unmarked_after kept (name ∷ names) (mark ∷ marks) = unmarked_after (with_unmarked kept (Some mark) name) names marks
+
+-- The fields of a flat circuit by which its covers are walked.
+pub record AreWalked (library : LibraryValue) (main : ModelValue) (at : Places) (outputs : List FlatNet) (covers : List FlatCoverValue) (latches : List FlatLatch) : Type 0 where
+  pub is_main : model_at library [] ≡ Some main
+  pub covers_order : FlatOrder library is_cover [] main at.covers
+  pub latches_order : FlatOrder library is_latch [] main at.latches
+  pub cover_count : length covers ≡ length at.covers
+  pub covers_are : (k : ℕ) (p : Place) (c : FlatCoverValue) → slice_get at.covers k ≡ Some p → slice_get covers k ≡ Some c → IsFlatCover library at p c
+  pub latch_count : length latches ≡ length at.latches
+  pub latches_are : (k : ℕ) (p : Place) (l : FlatLatch) → slice_get at.latches k ≡ Some p → slice_get latches k ≡ Some l → IsFlatLatch library at p l
+  pub outputs_are : AreNetsOf library at [] main.outputs outputs
+
+-- and whose covers are those of these instances
+pub record AreCounted (library : LibraryValue) (paths : List Path) (outputs : List FlatNet) (covers : List FlatCoverValue) (latches : List FlatLatch) : Type 0 where
+  pub main : ModelValue
+  pub at : Places
+  pub walked : AreWalked library main at outputs covers latches
+  pub covers_at : at.covers ≡ places_at library is_cover paths
+
+abbrev pub latch_nets : List FlatLatch → List FlatNet
+latch_nets latches = map (λ (l : FlatLatch). l.input) latches
+
+-- the roots of the walk by their numbers
+abbrev pub root_numbers : List FlatNet → List FlatLatch → List ℕ
+root_numbers outputs latches = cover_numbers outputs ++ cover_numbers (latch_nets latches)
+
+-- Orders of the covers in which each one stands behind those that it reads.
+
+-- an order of all covers, in which each comes after those that it reads
+pub record Ordered (library : LibraryValue) (net : Path → List ℕ → Option Net) : Type 0 where
+  pub order : List Place
+  pub after : IsAfter (reads_of library net) order
+  pub all : (path : Path) (i : ℕ) (c : CoverValue) → CoverAt library path i c → In order (record { path = path; command = i })
+  pub only : (p : Place) → In order p → (c : CoverValue) × CoverAt library p.path p.command c
+
+-- The covers of a flat circuit as a graph to walk, and what the walk of its roots and then of all covers finds.
+
+-- the covers that a cover reads, left to right
+abbrev pub cover_reads : List FlatCoverValue → ℕ → List ℕ
+cover_reads covers k = cover_numbers (inputs_at (slice_get covers k))
+
+-- the edges of a cover: those to inputs and latches are passed over
+abbrev pub edge_of : {S : Type 0} → FlatNet → Edge S
+edge_of (Input j) = Pass
+edge_of (Latch j) = Pass
+edge_of (Cover j) = Node j
+
+abbrev pub cover_edges : {S : Type 0} → List FlatCoverValue → ℕ → List (Edge S)
+cover_edges covers k = map edge_of (inputs_at (slice_get covers k))
+
+pub record InRange (covers : List FlatCoverValue) : Type 0 where
+  pub each : (n m : ℕ) → In (cover_reads covers n) m → m < length covers
+
+-- a walk whose next visit may begin
+pub record IsReady (covers : List FlatCoverValue) (w : WalkValue) : Type 0 where
+  pub count : w.count ≡ length covers
+  pub settled : IsSettled (ways_from {S = Unit {0}} (cover_edges covers)) w.order
+  pub path : w.path ≡ []
+
+-- the walk of several covers in turn closes no loop
+pub record IsClear (covers : List FlatCoverValue) (w v : WalkValue) (starts : List ℕ) : Type 0 where
+  pub ready : IsReady covers v
+  pub meets : MeetsAll (cover_reads covers) [] starts None
+  pub posts : PostsAll (cover_reads covers) w.order starts v.order
+
+-- or it does: these are the covers of the first one, each reading the next, the last reading the first
+pub record IsNumberLoop (covers : List FlatCoverValue) (starts nodes : List ℕ) : Type 0 where
+  pub repeat : Repeat ℕ
+  pub meets : MeetsAll (cover_reads covers) [] starts (Some repeat)
+  pub nodes_are : nodes ≡ from_node repeat.node repeat.path
+
+abbrev pub Searched : List FlatCoverValue → WalkValue → WalkValue → List ℕ → Option (Vec ℕ Global) → Type 0
+Searched covers w v starts None = IsClear covers w v starts
+Searched covers w v starts (Some nodes) = IsNumberLoop covers starts nodes.items
+
+-- what the walk of the roots and then of all covers finds: the first loop, or else the roots' order
+abbrev pub all_starts : List FlatCoverValue → List ℕ → List ℕ
+all_starts covers roots = roots ++ range_with_len 0 (length covers)
+
+pub record IsOrder (covers : List FlatCoverValue) (roots order : List ℕ) : Type 0 where
+  pub meets : MeetsAll (cover_reads covers) [] (all_starts covers roots) None
+  pub posts : PostsAll (cover_reads covers) [] roots (reverse order)
+
+abbrev pub IsFound : List FlatCoverValue → List ℕ → Found → Type 0
+IsFound covers roots (found_loop nodes) = IsNumberLoop covers (all_starts covers roots) nodes.items
+IsFound covers roots (found_order order) = IsOrder covers roots order.items
+
+-- The covers of a loop by their numbers, and how they are written.
+
+-- a text names the net of the cover of this number
+pub record IsWrittenAt (library : LibraryValue) (covers : List Place) (number : ℕ) (text : List ℕ) : Type 0 where
+  pub place : Place
+  pub at : slice_get covers number ≡ Some place
+  pub written : IsWritten library (cover_net place.path place.command) text
+
+-- and texts those of several numbers in order
+pub record AreWrittenAt (library : LibraryValue) (covers : List Place) (numbers : List ℕ) (texts : List (List ℕ)) : Type 0 where
+  pub places : List Place
+  pub at : map (slice_get covers) numbers ≡ map Some places
+  pub written : AreWritten library places texts
+
+-- What stands after each stage of flattening: the circuit's instances, gates and nets, and then its clock nets.
+
+-- the instances of a library, their covers and latches, and the nets of all their names
+pub record IsCircuit (library : LibraryValue) (c : Circuit) : Type 0 where
+  pub rows : AreInstances library c.rows.items
+  pub covers : AreGatesAt (paths_of c.rows.items) c.covers.items (places_at library is_cover (paths_of c.rows.items))
+  pub latches : AreGatesAt (paths_of c.rows.items) c.latches.items (places_at library is_latch (paths_of c.rows.items))
+  pub few : length c.covers.items ≤ most_weight
+  pub nets : AreAllNets library c.rows.items c.nets
+
+-- its control net, and the clock nets among the main model's inputs, past F7 to F9
+pub record AreClockNets (library : LibraryValue) (main : ModelValue) (rows : List Instance) (clocks : ClockNets) : Type 0 where
+  pub controlled : IsControlled library main (paths_of rows) clocks.control
+  pub marks : clocks.marks.items ≡ map (clock_test main (input_name main clocks.control)) (inputs_of main)
+  pub tells : TellsClocks library (clock_test main (input_name main clocks.control))
+  pub clear : ClockData library main (places_at library is_gate (paths_of rows)) None

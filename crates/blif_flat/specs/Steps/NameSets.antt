@@ -1,6 +1,6 @@
 -- Names in the order in which they were first seen, each once; and the ports and the models found by them.
 use Rattle.std.specs.Prelude.{◌≡◌, ℕ, if◌then◌else◌, List, [], ◌∷◌, ◌++◌, map, Option, Some, None, slice_get}
-use Rattle.blif_flat.specs.Circuits.{ModelValue, has_name, inputs_of, model_named}
+use Rattle.blif_flat.specs.Circuits.{ModelValue, has_name, inputs_of, model_named, Body, Cover, Latch, Subckt, Command, Pair}
 use Rattle.blif_flat.specs.declared.ports.Ports.{Ports}
 
 -- names and one more, unless it is among them
@@ -30,3 +30,29 @@ pub record IsModelOf (models : List ModelValue) (name : List ℕ) (number : ℕ)
 abbrev pub Finds : List ModelValue → List ℕ → Option ℕ → Type 0
 Finds models name (Some number) = IsModelOf models name number
 Finds models name None = model_named models name ≡ None
+
+-- The names that stand in a model: its ports, the names of its covers and latches, and the actuals of its connections.
+abbrev pub control_names : Option (List ℕ) → List (List ℕ)
+control_names None = []
+control_names (Some name) = name ∷ []
+
+abbrev pub body_names : Body → List (List ℕ)
+body_names (Cover c) = c.inputs ++ c.output ∷ []
+body_names (Latch l) = l.input ∷ l.output ∷ control_names l.control
+body_names (Subckt s) = map (λ (pair : Pair). pair.actual) s.pairs
+
+abbrev pub commands_names : List Command → List (List ℕ)
+commands_names [] = []
+commands_names (c ∷ cs) = body_names c.body ++ commands_names cs
+
+abbrev pub all_names : ModelValue → List (List ℕ)
+all_names m = m.inputs ++ (m.outputs ++ (m.clocks ++ commands_names m.commands))
+
+-- The models of several numbers.
+abbrev pub with_numbered : Option ModelValue → List ModelValue → List ModelValue
+with_numbered None ms = ms
+with_numbered (Some m) ms = m ∷ ms
+
+abbrev pub models_at : List ModelValue → List ℕ → List ModelValue
+models_at models [] = []
+models_at models (n ∷ ns) = with_numbered (slice_get models n) (models_at models ns)

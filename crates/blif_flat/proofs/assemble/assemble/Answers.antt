@@ -1,21 +1,12 @@
-use Rattle.std.proofs.Common.{◌≡◌, ◌≤◌, List, [], ap, ◌∙◌, refl, subst, subst₂, arith, length, map, reverse}
-use Rattle.blif_flat.specs.Words.{ModelValue}
-use Rattle.blif_flat.specs.declared.flat.OutPort.{OutPort}
-use Rattle.blif_flat.specs.declared.flat.FlatLatch.{FlatLatch}
-use Rattle.blif_flat.specs.Steps.ClockSteps.{clock_test, input_name}
-use Rattle.blif_flat.specs.Steps.CoverWalk.{cover_reads}
-use Rattle.blif_flat.specs.Weight.{most_weight}
-use Rattle.blif_flat.specs.Steps.Ordering.{root_numbers}
-use Rattle.depth_first.specs.DepthFirst.{PostsAll}
-use Rattle.blif_flat.specs.Steps.RegularNets.{regular_numbers}
+use Rattle.blif_flat.proofs.Common.{◌≡◌, ◌≤◌, List, [], ap, ◌∙◌, refl, subst, subst₂, arith, length, map, reverse}
+use Rattle.blif_flat.specs.{ModelValue, OutPort, FlatLatch, clock_test, input_name, cover_reads, most_weight, root_numbers, PostsAll, regular_numbers}
 use Rattle.blif_flat.proofs.Fields.AssembleLemmas.{few_marks, covers_known, latches_known, nets_known, names_known, few_covers, counted_as, fields}
 use Rattle.blif_flat.proofs.assemble.assemble.Goals as goal
 
 pub regular_numbers-requires : goal.regular_numbers-requires
 regular_numbers-requires c =
     let few : length c.args.clocks.now.marks.items ≤ most_weight = few_marks c.args.library.now c.args.main.now c.requires.main c.args.circuit.now c.requires.circuit c.args.clocks.now c.requires.clocks c.requires.light in
-    let same : length c.deref.result.now ≡ length c.args.clocks.now.marks.items = ap length c.deref.ensures.value in
-    record { few = omega arith }
+    record { few = omega (arith, ap length c.deref.ensures.value) }
 
 pub cover_order-requires-clause-walked : goal.cover_order-requires-clause-walked
 cover_order-requires-clause-walked c =
@@ -40,8 +31,7 @@ cover_order-requires-clause-few c =
     let few : length c.in_ok-covers.covers.items ≤ most_weight = few_covers c.args.library.now c.args.main.now c.requires.main c.args.circuit.now c.requires.circuit c.args.clocks.now c.requires.clocks c.in_ok-covers.covers.items
     (covers_known c.args.library.now c.args.main.now c.requires.main c.args.circuit.now c.requires.circuit c.args.clocks.now c.requires.clocks c.deref-3.result.now c.deref-2.result.now (c.deref-3.ensures.value ∙ numbers)
     c.deref-2.ensures.value c.in_ok-covers.covers.items c.in_ok-covers.ensures) in
-    let same : length c.deref-12.result.now ≡ length c.in_ok-covers.covers.items = ap length c.deref-12.ensures.value in
-    omega arith
+    omega (arith, ap length c.deref-12.ensures.value)
 
 pub returns-clause-flat : goal.returns-clause-flat
 returns-clause-flat c =

@@ -1,10 +1,7 @@
-use Rattle.std.proofs.Common.{◌∙◌, ap, reverse, subst, sym}
-use Rattle.blif_flat.proofs.Common.{reverse-reverse, In, at_within, reversed_in}
+use Rattle.blif_flat.proofs.Common.{◌∙◌, ap, reverse, subst, sym, reverse-reverse, In, at_within, reversed_in}
+use Rattle.blif_flat.specs.{models_fault, Tells, models_at}
 use Rattle.tl_fault.proofs.PassedOn.{passed_on}
-use Rattle.blif_flat.specs.DriverFaults.{models_fault}
-use Rattle.blif_flat.specs.Steps.DriverSteps.{Tells}
-use Rattle.blif_flat.specs.Steps.NumberedModels.{models_at}
-use Rattle.blif_flat.proofs.Faults.StageLemmas.{walk_fault, heavy_fault, driver_fault, comes_past}
+use Rattle.blif_flat.proofs.Faults.FaultOnceLemmas.{walk_fault, heavy_fault, driver_fault, comes_past}
 use Rattle.blif_flat.proofs.checks.check_models.Goals as goal
 
 pub check_weight-requires-clause-main : goal.check_weight-requires-clause-main

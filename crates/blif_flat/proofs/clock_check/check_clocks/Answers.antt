@@ -1,21 +1,14 @@
-use Rattle.std.proofs.Common.{◌≡◌, [], map, None, Some, ap, sym, ◌∙◌, subst}
-use Rattle.std.proofs.lemmas.Option.{same_Some}
-use Rattle.tl_fault.specs.OrMemory.{OrMemory}
+use Rattle.blif_flat.proofs.Common.{◌≡◌, [], map, None, Some, ap, sym, ◌∙◌, subst, same_Some}
+use Rattle.blif_flat.specs.{OrMemory, ModelValue, model_at, inputs_of, is_latch, refusal_of, places_at, paths_of, Clocks, is_gate, ClockData, clock_test, input_name, IsControlled}
 use Rattle.tl_fault.proofs.PassedOn.{passed_on}
-use Rattle.blif_flat.specs.Circuits.{ModelValue, model_at, inputs_of, is_latch}
-use Rattle.blif_flat.specs.Refusals.{refusal_of}
-use Rattle.blif_flat.specs.Steps.InstanceOrder.{places_at}
-use Rattle.blif_flat.specs.Steps.InstanceRows.{paths_of}
-use Rattle.blif_flat.specs.ClockFaults.{Clocks, is_gate, ClockData}
-use Rattle.blif_flat.specs.Steps.ClockSteps.{clock_test, input_name, IsControlled}
-use Rattle.blif_flat.proofs.Faults.StageLemmas.{control_refused, data_refused}
-use Rattle.blif_flat.proofs.Clocking.MarkLemmas.{clocks_told}
+use Rattle.blif_flat.proofs.Clocking.ClockStepLemmas.{clocks_told}
+use Rattle.blif_flat.proofs.Faults.FaultOnceLemmas.{controls_refused, data_refused}
 use Rattle.blif_flat.proofs.clock_check.check_clocks.Goals as goal
 
 pub returns-in_err-control-clause-err : goal.returns-in_err-control-clause-err
 returns-in_err-control-clause-err c =
     passed_on c.from_residual.result c.in_err-control.field-0.0 _ _ c.from_residual.ensures.1
-    (control_refused c.args.library.now c.args.circuit.now.rows.items c.requires.circuit.rows c.requires.connected c.in_err-control.field-0.0
+    (controls_refused c.args.library.now c.args.circuit.now.rows.items c.requires.circuit.rows c.requires.connected c.in_err-control.field-0.0
     (subst (λ rows. OrMemory refusal_of (λ r. Clocks c.args.library.now None (places_at c.args.library.now is_latch (paths_of rows)) (Some r)) c.in_err-control.field-0.0) c.deref.ensures.value c.in_err-control.ensures.err))
 
 pub check_data-requires-clause-marks : goal.check_data-requires-clause-marks

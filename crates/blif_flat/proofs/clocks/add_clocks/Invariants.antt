@@ -1,5 +1,5 @@
-use Rattle.std.proofs.Common.{◌≡◌, ◌++◌, not, drop, filter}
-use Rattle.blif_flat.specs.Models.{has_name}
+use Rattle.blif_flat.proofs.Common.{◌≡◌, ◌++◌, not, drop, filter}
+use Rattle.blif_flat.specs.{has_name}
 use Rattle.blif_flat.proofs.clocks.add_clocks.Given as goal
 
 abbrev pub invariant-loop-name : goal.invariant-loop-name

@@ -1,6 +1,6 @@
-use Rattle.std.proofs.Common.{◌≡◌, ◌∙◌, Bool, List, ap, subst, IfOk}
-use Rattle.blif_flat.specs.Words.{ModelValue}
-use Rattle.blif_flat.proofs.Clocking.MarkLemmas.{marked_inputs}
+use Rattle.blif_flat.proofs.Common.{◌≡◌, ◌∙◌, Bool, List, ap, subst, IfOk}
+use Rattle.blif_flat.specs.{ModelValue}
+use Rattle.blif_flat.proofs.Clocking.ClockStepLemmas.{marked_inputs}
 use Rattle.blif_flat.proofs.clocks.clock_marks.Goals as goal
 
 pub returns : goal.returns

@@ -1,4 +1,4 @@
-use Rattle.std.proofs.Common.{◌≡◌, ◌++◌, drop}
+use Rattle.blif_flat.proofs.Common.{◌≡◌, ◌++◌, drop}
 use Rattle.blif_flat.proofs.clocks.copies.Given as goal
 
 abbrev pub invariant-loop-name : goal.invariant-loop-name

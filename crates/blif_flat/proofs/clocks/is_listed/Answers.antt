@@ -1,8 +1,6 @@
-use Rattle.std.proofs.Common.{◌≡◌, ◌∙◌, length, ltb, sym, ap}
-use Rattle.tl_text.specs.NameIndex.{place_of}
-use Rattle.blif_flat.specs.Words.{ModelValue}
-use Rattle.blif_flat.specs.declared.ports.Ports.{Ports}
-use Rattle.blif_flat.proofs.Clocking.MarkLemmas.{unlisted, listed_at}
+use Rattle.blif_flat.proofs.Common.{◌≡◌, ◌∙◌, length, ltb, sym, ap}
+use Rattle.blif_flat.specs.{place_of, ModelValue, Ports}
+use Rattle.blif_flat.proofs.Clocking.ClockStepLemmas.{unlisted, listed_at}
 use Rattle.blif_flat.proofs.clocks.is_listed.Goals as goal
 
 pub returns-in-None : goal.returns-in-None

@@ -1,6 +1,5 @@
-use Rattle.std.proofs.Common.{◌≡◌, ◌++◌, ◌||◌, map, drop, slice_get, option_and_then}
-use Rattle.blif_flat.specs.Models.{has_name}
-use Rattle.blif_flat.specs.Steps.ClockSteps.{is_control}
+use Rattle.blif_flat.proofs.Common.{◌≡◌, ◌++◌, ◌||◌, map, drop, slice_get, option_and_then}
+use Rattle.blif_flat.specs.{has_name, is_control}
 use Rattle.blif_flat.proofs.clocks.marks_of.Given as goal
 
 abbrev pub invariant-loop-input : goal.invariant-loop-input

@@ -1,8 +1,7 @@
-use Rattle.std.proofs.lemmas.Result.{IfOk-weaker, IfErr-weaker}
-use Rattle.blif_flat.specs.Steps.ControlSteps.{input_at}
-use Rattle.blif_flat.proofs.Clocking.ControlStepLemmas.{control_read, control_met, control_refused}
+use Rattle.blif_flat.proofs.Common.{IfOk-weaker, IfErr-weaker}
+use Rattle.blif_flat.specs.{input_at, refusal_of}
 use Rattle.tl_fault.proofs.OrMemoryLemmas.{Unless-map}
-use Rattle.blif_flat.specs.Refusals.{refusal_of}
+use Rattle.blif_flat.proofs.Clocking.ClockStepLemmas.{control_read, control_met, control_refused}
 use Rattle.blif_flat.proofs.controls.check_control.Goals as goal
 
 pub returns-in-Some-control-clause-ok : goal.returns-in-Some-control-clause-ok

@@ -1,15 +1,9 @@
-use Rattle.std.proofs.Common.{get_or}
-use Rattle.std.proofs.lemmas.Option.{slice_get-get_or}
-use Rattle.blif_flat.specs.declared.gates.Gate.{Gate}
-use Rattle.blif_flat.specs.Refusals.{refusal_of}
-use Rattle.blif_flat.specs.Places.{is_latch}
-use Rattle.blif_flat.specs.Steps.InstanceRows.{paths_of}
-use Rattle.blif_flat.specs.Steps.InstanceOrder.{places_at}
-use Rattle.blif_flat.specs.Steps.ControlSteps.{input_at}
-use Rattle.blif_flat.proofs.Hierarchy.GateLemmas.{gate_within}
-use Rattle.blif_flat.proofs.Clocking.ControlStepLemmas.{gate_passed, gate_refused, all_passed, came_end}
+use Rattle.blif_flat.proofs.Common.{get_or, slice_get-get_or}
+use Rattle.blif_flat.specs.{Gate, refusal_of, is_latch, paths_of, places_at, input_at}
 use Rattle.tl_fault.proofs.OrMemoryLemmas.{Unless-map}
 use Rattle.tl_fault.proofs.PassedOn.{passed_on}
+use Rattle.blif_flat.proofs.Clocking.ClockStepLemmas.{gate_passed, gate_refused, all_passed, came_end}
+use Rattle.blif_flat.proofs.Hierarchy.GateLemmas.{gate_within}
 use Rattle.blif_flat.proofs.controls.check_controls.Goals as goal
 
 abbrev no_gate : Gate

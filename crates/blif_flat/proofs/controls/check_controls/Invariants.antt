@@ -1,8 +1,5 @@
-use Rattle.std.proofs.Common.{◌≡◌, ◌<◌, ℕ, length, drop, Some}
-use Rattle.blif_flat.specs.Places.{is_latch}
-use Rattle.blif_flat.specs.Steps.InstanceRows.{paths_of}
-use Rattle.blif_flat.specs.Steps.InstanceOrder.{places_at}
-use Rattle.blif_flat.specs.Steps.ControlSteps.{input_at, CameTo}
+use Rattle.blif_flat.proofs.Common.{◌≡◌, ◌<◌, ℕ, length, drop, Some}
+use Rattle.blif_flat.specs.{is_latch, paths_of, places_at, input_at, CameTo}
 use Rattle.blif_flat.proofs.controls.check_controls.Given as goal
 
 abbrev pub invariant-loop-gate : goal.invariant-loop-gate

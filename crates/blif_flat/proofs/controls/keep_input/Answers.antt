@@ -1,4 +1,4 @@
-use Rattle.blif_flat.proofs.Clocking.ControlStepLemmas.{kept_first}
+use Rattle.blif_flat.proofs.Clocking.ClockStepLemmas.{kept_first}
 use Rattle.blif_flat.proofs.controls.keep_input.Goals as goal
 
 pub returns-in-None-clause-ok : goal.returns-in-None-clause-ok

@@ -1,13 +1,11 @@
-use Rattle.std.proofs.Common.{◌≡◌, ◌<◌, ◌∙◌, length, Some, sym, ap, subst}
-use Rattle.std.proofs.lemmas.Option.{same_Some}
-use Rattle.blif_flat.specs.declared.flat.Net.TheVariants.{Input, Latch, Cover}
-use Rattle.blif_flat.specs.Refusals.{refusal_of}
-use Rattle.blif_flat.specs.Steps.NetSlots.{table_of}
-use Rattle.blif_flat.proofs.Clocking.ControlStepLemmas.{none_read, met_input, met_another, met_latch, met_cover, input_within, latch_within, cover_within, kept_within}
-use Rattle.blif_flat.proofs.controls.meet_control.Goals as goal
-use Rattle.blif_flat.proofs.controls.meet_control.Goals.{In-Some-Input, In-Some-Latch, In-Some-Cover}
+use Rattle.blif_flat.proofs.Common.{◌≡◌, ◌<◌, ◌∙◌, length, Some, sym, ap, subst, same_Some}
+use Rattle.blif_flat.specs.{refusal_of, table_of}
 use Rattle.tl_fault.proofs.OrMemoryLemmas.{Unless-map}
 use Rattle.tl_fault.proofs.PassedOn.{passed_on}
+use Rattle.blif_flat.specs.declared.flat.Net.TheVariants.{Input, Latch, Cover}
+use Rattle.blif_flat.proofs.Clocking.ClockStepLemmas.{none_read, met_input, met_another, met_latch, met_cover, input_within, latch_within, cover_within, kept_within}
+use Rattle.blif_flat.proofs.controls.meet_control.Goals.{In-Some-Input, In-Some-Latch, In-Some-Cover}
+use Rattle.blif_flat.proofs.controls.meet_control.Goals as goal
 
 at_input : (c : In-Some-Input) → table_of c.args.nets.now c.args.row c.args.control.now ≡ Some (Input c.in-Some-Input.j)
 at_input c = ap (table_of c.args.nets.now c.args.row) (sym c.bytes.ensures) ∙ sym c.in-Some-Input.ensures ∙ ap Some c.in-Some-Input.field-0-is

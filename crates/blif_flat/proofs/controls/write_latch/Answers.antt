@@ -1,9 +1,7 @@
-use Rattle.std.proofs.lemmas.Result.{IfOk-weaker}
-use Rattle.blif_flat.specs.Places.{is_latch}
-use Rattle.blif_flat.specs.Steps.InstanceOrder.{places_at}
-use Rattle.blif_flat.specs.Steps.InstanceRows.{paths_of}
-use Rattle.blif_flat.proofs.Fields.WrittenLemmas.{rows_under}
+use Rattle.blif_flat.proofs.Common.{IfOk-weaker}
+use Rattle.blif_flat.specs.{is_latch, places_at, paths_of}
 use Rattle.blif_flat.proofs.Hierarchy.GateLemmas.{gate_within, latch_stands, latch_written}
+use Rattle.blif_flat.proofs.Hierarchy.PlaceLemmas.{rows_under}
 use Rattle.blif_flat.proofs.controls.write_latch.Goals as goal
 
 pub write_net-requires-clause-rows : goal.write_net-requires-clause-rows

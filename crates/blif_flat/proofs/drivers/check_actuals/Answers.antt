@@ -1,5 +1,5 @@
 use Rattle.tl_fault.proofs.PassedOn.{passed_on}
-use Rattle.blif_flat.proofs.Models.DriverStepLemmas.{read_split, told, gone_on}
+use Rattle.blif_flat.proofs.Models.DrivenLemmas.{read_split, told, gone_on}
 use Rattle.blif_flat.proofs.drivers.check_actuals.Goals as goal
 
 pub returns-in_err-check_actual : goal.returns-in_err-check_actual

@@ -1,7 +1,5 @@
-use Rattle.std.proofs.Common.{◌≡◌, drop}
-use Rattle.blif_flat.specs.Words.{ModelValue}
-use Rattle.blif_flat.specs.DriverFaults.{undriven_in, input_actuals}
-use Rattle.blif_flat.specs.Steps.NameSets.{ports_value}
+use Rattle.blif_flat.proofs.Common.{◌≡◌, drop}
+use Rattle.blif_flat.specs.{ModelValue, undriven_in, input_actuals, ports_value}
 use Rattle.blif_flat.proofs.drivers.check_actuals.Given as goal
 
 abbrev pub invariant-loop-pair : goal.invariant-loop-pair

@@ -1,7 +1,5 @@
-use Rattle.std.proofs.Common.{◌≡◌, drop}
-use Rattle.blif_flat.specs.Words.{LibraryValue}
-use Rattle.blif_flat.specs.DriverFaults.{undriven_fault}
-use Rattle.blif_flat.specs.Steps.DriverSteps.{AreOf}
+use Rattle.blif_flat.proofs.Common.{◌≡◌, drop}
+use Rattle.blif_flat.specs.{LibraryValue, undriven_fault, AreOf}
 use Rattle.blif_flat.proofs.drivers.check_commands.Given as goal
 
 abbrev pub invariant-loop-command : goal.invariant-loop-command

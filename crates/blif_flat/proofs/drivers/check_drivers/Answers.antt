@@ -1,5 +1,5 @@
 use Rattle.tl_fault.proofs.PassedOn.{passed_on}
-use Rattle.blif_flat.proofs.Models.DriverStepLemmas.{models_split, told, gone_on}
+use Rattle.blif_flat.proofs.Models.DrivenLemmas.{models_split, told, gone_on}
 use Rattle.blif_flat.proofs.drivers.check_drivers.Goals as goal
 
 pub returns-in_err-check_number : goal.returns-in_err-check_number

@@ -1,6 +1,5 @@
-use Rattle.std.proofs.Common.{◌≡◌, drop}
-use Rattle.blif_flat.specs.DriverFaults.{models_fault}
-use Rattle.blif_flat.specs.Steps.NumberedModels.{models_at}
+use Rattle.blif_flat.proofs.Common.{◌≡◌, drop}
+use Rattle.blif_flat.specs.{models_fault, models_at}
 use Rattle.blif_flat.proofs.drivers.check_drivers.Given as goal
 
 abbrev pub invariant-loop-number : goal.invariant-loop-number

@@ -1,5 +1,5 @@
-use Rattle.std.proofs.Common.{◌≡◌, drop}
-use Rattle.blif_flat.specs.DriverFaults.{undriven_in}
+use Rattle.blif_flat.proofs.Common.{◌≡◌, drop}
+use Rattle.blif_flat.specs.{undriven_in}
 use Rattle.blif_flat.proofs.drivers.check_names.Given as goal
 
 abbrev pub invariant-loop-name : goal.invariant-loop-name

@@ -1,7 +1,5 @@
-use Rattle.std.proofs.Common.{length, ap, sym, subst, refl, ◌∙◌, slice_get}
-use Rattle.std.proofs.lemmas.Option.{slice_get_read, slice_get_past}
-use Rattle.blif_flat.specs.Words.{LibraryValue}
-use Rattle.blif_flat.specs.Steps.DriverSteps.{Tells, fault_of}
+use Rattle.blif_flat.proofs.Common.{length, ap, sym, subst, refl, ◌∙◌, slice_get, slice_get_read, slice_get_past}
+use Rattle.blif_flat.specs.{LibraryValue, Tells, fault_of}
 use Rattle.blif_flat.proofs.drivers.check_number.Goals as goal
 
 pub returns-in-None : goal.returns-in-None

@@ -1,8 +1,7 @@
-use Rattle.std.proofs.Common.{◌≡◌, ◌+◌, List, [], ◌∷◌, ◌++◌, drop, ap, sym, ◌∙◌}
+use Rattle.blif_flat.proofs.Common.{◌≡◌, ◌+◌, List, [], ◌∷◌, ◌++◌, drop, ap, sym, ◌∙◌}
+use Rattle.blif_flat.specs.{Pair, twice_in, output_actuals}
 use Rattle.tl_fault.proofs.PassedOn.{passed_on}
-use Rattle.blif_flat.specs.Words.{Pair}
-use Rattle.blif_flat.specs.DriverFaults.{twice_in, output_actuals}
-use Rattle.blif_flat.proofs.Models.DriverStepLemmas.{drive_split, names_split, told, gone_on}
+use Rattle.blif_flat.proofs.Models.DrivenLemmas.{drive_split, names_split, told, gone_on}
 use Rattle.blif_flat.proofs.drivers.drive_actuals.Goals as goal
 
 pub returns-in_err-drive_actual : goal.returns-in_err-drive_actual

@@ -1,7 +1,5 @@
-use Rattle.std.proofs.Common.{◌≡◌, ◌++◌, drop}
-use Rattle.blif_flat.specs.Words.{ModelValue}
-use Rattle.blif_flat.specs.DriverFaults.{twice_in, output_actuals}
-use Rattle.blif_flat.specs.Steps.NameSets.{ports_value}
+use Rattle.blif_flat.proofs.Common.{◌≡◌, ◌++◌, drop}
+use Rattle.blif_flat.specs.{ModelValue, twice_in, output_actuals, ports_value}
 use Rattle.blif_flat.proofs.drivers.drive_actuals.Given as goal
 
 abbrev pub invariant-loop-pair : goal.invariant-loop-pair

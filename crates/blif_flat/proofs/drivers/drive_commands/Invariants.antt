@@ -1,7 +1,5 @@
-use Rattle.std.proofs.Common.{◌≡◌, ◌++◌, drop}
-use Rattle.blif_flat.specs.Words.{LibraryValue}
-use Rattle.blif_flat.specs.DriverFaults.{twice_fault, all_drives}
-use Rattle.blif_flat.specs.Steps.DriverSteps.{AreOf}
+use Rattle.blif_flat.proofs.Common.{◌≡◌, ◌++◌, drop}
+use Rattle.blif_flat.specs.{LibraryValue, twice_fault, all_drives, AreOf}
 use Rattle.blif_flat.proofs.drivers.drive_commands.Given as goal
 
 abbrev pub invariant-loop-command : goal.invariant-loop-command

@@ -1,8 +1,6 @@
-use Rattle.std.proofs.Common.{sym, subst}
-use Rattle.blif_flat.specs.Steps.RegularNets.{regular_places, AreFlatCovers}
-use Rattle.blif_flat.specs.Steps.InstanceRows.{paths_of}
-use Rattle.blif_flat.specs.Steps.FieldSteps.{flat_cover}
-use Rattle.blif_flat.proofs.Fields.FlatGateLemmas.{all_mapped, covers_are}
+use Rattle.blif_flat.proofs.Common.{sym, subst}
+use Rattle.blif_flat.specs.{regular_places, AreFlatCovers, paths_of, flat_cover}
+use Rattle.blif_flat.proofs.Fields.RegularNetLemmas.{all_mapped, covers_are}
 use Rattle.blif_flat.proofs.flat_gates.flat_covers.Goals as goal
 
 pub returns : goal.returns

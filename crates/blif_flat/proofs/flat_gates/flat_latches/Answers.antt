@@ -1,8 +1,6 @@
-use Rattle.std.proofs.Common.{sym, subst}
-use Rattle.blif_flat.specs.Steps.RegularNets.{regular_places, AreFlatLatches}
-use Rattle.blif_flat.specs.Steps.InstanceRows.{paths_of}
-use Rattle.blif_flat.specs.Steps.FieldSteps.{flat_latch}
-use Rattle.blif_flat.proofs.Fields.FlatGateLemmas.{all_mapped, latches_are}
+use Rattle.blif_flat.proofs.Common.{sym, subst}
+use Rattle.blif_flat.specs.{regular_places, AreFlatLatches, paths_of, flat_latch}
+use Rattle.blif_flat.proofs.Fields.RegularNetLemmas.{all_mapped, latches_are}
 use Rattle.blif_flat.proofs.flat_gates.flat_latches.Goals as goal
 
 pub returns : goal.returns

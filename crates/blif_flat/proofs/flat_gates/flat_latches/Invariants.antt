@@ -1,5 +1,5 @@
-use Rattle.std.proofs.Common.{◌≡◌, ◌++◌, map, drop}
-use Rattle.blif_flat.specs.Steps.FieldSteps.{flat_latch}
+use Rattle.blif_flat.proofs.Common.{◌≡◌, ◌++◌, map, drop}
+use Rattle.blif_flat.specs.{flat_latch}
 use Rattle.blif_flat.proofs.flat_gates.flat_latches.Given as goal
 
 abbrev pub invariant-loop-gate : goal.invariant-loop-gate

@@ -1,4 +1,4 @@
-use Rattle.blif_flat.proofs.Fields.FlatPortLemmas.{output_names, output_nets}
+use Rattle.blif_flat.proofs.Fields.RegularNetLemmas.{output_names, output_nets}
 use Rattle.blif_flat.proofs.flat_ports.flat_outputs.Goals as goal
 
 pub returns-clause-names : goal.returns-clause-names

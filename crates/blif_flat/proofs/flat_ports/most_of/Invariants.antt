@@ -1,5 +1,5 @@
-use Rattle.std.proofs.Common.{◌≡◌, max, drop}
-use Rattle.blif_flat.specs.Flat.{most_underscores}
+use Rattle.blif_flat.proofs.Common.{◌≡◌, max, drop}
+use Rattle.blif_flat.specs.{most_underscores}
 use Rattle.blif_flat.proofs.flat_ports.most_of.Given as goal
 
 abbrev pub invariant-loop-name : goal.invariant-loop-name

@@ -1,8 +1,6 @@
-use Rattle.std.proofs.Common.{◌≡◌, ◌++◌, List, ℕ, ap, ◌∙◌, subst}
-use Rattle.blif_flat.proofs.Common.{In, In-left, In-right}
-use Rattle.blif_flat.specs.Words.{ModelValue}
-use Rattle.blif_flat.specs.Flat.{most_underscores}
-use Rattle.blif_flat.proofs.Fields.FlatPortLemmas.{most_of_three}
+use Rattle.blif_flat.proofs.Common.{◌≡◌, ◌++◌, List, ℕ, ap, ◌∙◌, subst, In, In-left, In-right}
+use Rattle.blif_flat.specs.{ModelValue, most_underscores}
+use Rattle.blif_flat.proofs.Fields.RegularNetLemmas.{most_of_three}
 use Rattle.blif_flat.proofs.flat_ports.most_underscores.Goals as goal
 
 pub most_of-requires : goal.most_of-requires

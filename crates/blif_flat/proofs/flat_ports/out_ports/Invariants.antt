@@ -1,5 +1,5 @@
-use Rattle.std.proofs.Common.{◌≡◌, ◌++◌, map, drop}
-use Rattle.blif_flat.specs.Steps.FieldSteps.{out_port}
+use Rattle.blif_flat.proofs.Common.{◌≡◌, ◌++◌, map, drop}
+use Rattle.blif_flat.specs.{out_port}
 use Rattle.blif_flat.proofs.flat_ports.out_ports.Given as goal
 
 abbrev pub invariant-loop-name : goal.invariant-loop-name

@@ -1,6 +1,6 @@
-use Rattle.std.proofs.Common.{ap, ◌∙◌}
-use Rattle.blif_flat.specs.Words.{ModelValue}
-use Rattle.blif_flat.proofs.Fields.FlatPortLemmas.{regular_names}
+use Rattle.blif_flat.proofs.Common.{ap, ◌∙◌}
+use Rattle.blif_flat.specs.{ModelValue}
+use Rattle.blif_flat.proofs.Fields.RegularNetLemmas.{regular_names}
 use Rattle.blif_flat.proofs.flat_ports.regular_inputs.Goals as goal
 
 pub returns : goal.returns

@@ -1,5 +1,5 @@
-use Rattle.std.proofs.Common.{◌≡◌, ◌+◌, ◌≤◌, drop}
-use Rattle.blif_flat.specs.Flat.{underscores}
+use Rattle.blif_flat.proofs.Common.{◌≡◌, ◌+◌, ◌≤◌, drop}
+use Rattle.blif_flat.specs.{underscores}
 use Rattle.blif_flat.proofs.flat_ports.underscores.Given as goal
 
 abbrev pub invariant-loop-byte : goal.invariant-loop-byte

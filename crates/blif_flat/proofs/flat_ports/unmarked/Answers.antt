@@ -1,6 +1,6 @@
-use Rattle.blif_flat.specs.Steps.FieldSteps.{unmarked_after}
-use Rattle.std.proofs.Common.{[]}
-use Rattle.blif_flat.proofs.Fields.FlatPortLemmas.{unmarked_step}
+use Rattle.blif_flat.proofs.Common.{[]}
+use Rattle.blif_flat.specs.{unmarked_after}
+use Rattle.blif_flat.proofs.Fields.RegularNetLemmas.{unmarked_step}
 use Rattle.blif_flat.proofs.flat_ports.unmarked.Goals as goal
 
 pub loop-i-preserved : goal.loop-i-preserved

@@ -1,5 +1,5 @@
-use Rattle.std.proofs.Common.{◌≡◌, [], drop}
-use Rattle.blif_flat.specs.Steps.FieldSteps.{unmarked_after}
+use Rattle.blif_flat.proofs.Common.{◌≡◌, [], drop}
+use Rattle.blif_flat.specs.{unmarked_after}
 use Rattle.blif_flat.proofs.flat_ports.unmarked.Given as goal
 
 abbrev pub invariant-loop-i : goal.invariant-loop-i

@@ -1,6 +1,5 @@
-use Rattle.std.proofs.Common.{◌≡◌, ◌+◌, ◌<◌, ◌^◌, [], length, drop}
-use Rattle.blif_flat.specs.Models.{subckts_of}
-use Rattle.blif_flat.specs.Steps.InstanceRows.{entries_from}
+use Rattle.blif_flat.proofs.Common.{◌≡◌, ◌+◌, ◌<◌, ◌^◌, [], length, drop}
+use Rattle.blif_flat.specs.{subckts_of, entries_from}
 use Rattle.blif_flat.proofs.instances.entries_of.Given as goal
 
 abbrev pub invariant-loop-command : goal.invariant-loop-command

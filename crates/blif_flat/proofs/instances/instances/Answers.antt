@@ -1,10 +1,6 @@
-use Rattle.std.proofs.Common.{◌≡◌, ◌+◌, ◌<◌, List, [], ◌∷◌, ◌++◌, length, reverse, Some, ap, sym, subst, ◌∙◌, arith, slice_get}
+use Rattle.blif_flat.proofs.Common.{◌≡◌, ◌+◌, ◌<◌, List, [], ◌∷◌, ◌++◌, length, reverse, Some, ap, sym, subst, ◌∙◌, arith, slice_get, length-append, same_Some, slice_get_within}
+use Rattle.blif_flat.specs.{ModelValue, subckts_of, Instance, Listed, entries_from, most_weight}
 use Rattle.std.specs.Vec.{vec_len}
-use Rattle.blif_flat.proofs.Common.{length-append, same_Some, slice_get_within}
-use Rattle.blif_flat.specs.Circuits.{ModelValue, subckts_of}
-use Rattle.blif_flat.specs.declared.instances.Instance.{Instance}
-use Rattle.blif_flat.specs.Steps.InstanceRows.{Listed, entries_from}
-use Rattle.blif_flat.specs.Weight.{most_weight}
 use Rattle.blif_flat.proofs.Hierarchy.InstanceRowLemmas.{listed_begin, listed_pushed, listed_empty, next_popped}
 use Rattle.blif_flat.proofs.instances.instances.Goals as goal
 
@@ -14,9 +10,6 @@ loop-entry-init c = listed_begin c.args.library.now c.new-rows.result.items c.ne
 pub overflow_cast-place : goal.overflow_cast-place
 overflow_cast-place c =
     let n = next_popped c.args.library.now c.loop-entry.rows.items c.loop-entry.stack.items c.pop.new.self.items c.in-Some.entry c.in-Some.ensures.items c.loop-entry.invariant in
-    let room : length c.loop-entry.rows.items < most_weight = n.room in
-    let len : vec_len c.loop-entry.rows ≡ length c.loop-entry.rows.items = c.loop-entry.rows.ok.0 in
-    let is : c.len-place.result ≡ vec_len c.loop-entry.rows = c.len-place.ensures in
     omega arith
 
 pub push_entries-requires-clause-room : goal.push_entries-requires-clause-room
@@ -27,16 +20,13 @@ push_entries-requires-clause-room c =
 pub push_entries-requires-clause-few : goal.push_entries-requires-clause-few
 push_entries-requires-clause-few c m e =
     let n = next_popped c.args.library.now c.loop-entry.rows.items c.loop-entry.stack.items c.pop.new.self.items c.in-Some.entry c.in-Some.ensures.items c.loop-entry.invariant in
-    let same : length (subckts_of n.model.commands) ≡ length (subckts_of m.commands) = ap (λ (x : ModelValue). length (subckts_of x.commands)) (same_Some n.model m (sym n.number ∙ e)) in
     let few = n.few in
-    omega arith
+    omega (arith, ap (λ (x : ModelValue). length (subckts_of x.commands)) (same_Some n.model m (sym n.number ∙ e)))
 
 pub loop-entry-smaller : goal.loop-entry-smaller
 loop-entry-smaller c =
     let n = next_popped c.args.library.now c.loop-entry.rows.items c.loop-entry.stack.items c.pop.new.self.items c.in-Some.entry c.in-Some.ensures.items c.loop-entry.invariant in
-    let room : length c.loop-entry.rows.items < most_weight = n.room in
-    let more : length c.push-in-Some.new.self.items ≡ length c.loop-entry.rows.items + 1 = ap length c.in_ok-push-2.ensures.items ∙ length-append c.loop-entry.rows.items (c.in-Some.entry ∷ []) in
-    omega arith
+    omega (arith, ap length c.in_ok-push-2.ensures.items ∙ length-append c.loop-entry.rows.items (c.in-Some.entry ∷ []))
 
 pub loop-entry-preserved : goal.loop-entry-preserved
 loop-entry-preserved c =

@@ -1,6 +1,5 @@
-use Rattle.std.proofs.Common.{◌-◌, length, reverse}
-use Rattle.blif_flat.specs.Steps.InstanceRows.{Listed}
-use Rattle.blif_flat.specs.Weight.{most_weight}
+use Rattle.blif_flat.proofs.Common.{◌-◌, length, reverse}
+use Rattle.blif_flat.specs.{Listed, most_weight}
 use Rattle.blif_flat.proofs.instances.instances.Given as goal
 
 abbrev pub invariant-loop-entry : goal.invariant-loop-entry

@@ -1,4 +1,4 @@
-use Rattle.std.proofs.Common.{◌≡◌, ◌++◌, length, reverse}
+use Rattle.blif_flat.proofs.Common.{◌≡◌, ◌++◌, length, reverse}
 use Rattle.blif_flat.proofs.instances.move_entries.Given as goal
 
 abbrev pub invariant-loop-entry : goal.invariant-loop-entry

@@ -1,5 +1,5 @@
-use Rattle.std.proofs.Common.{◌≡◌, drop}
-use Rattle.blif_flat.specs.Steps.Line.{foreign_formal}
+use Rattle.blif_flat.proofs.Common.{◌≡◌, drop}
+use Rattle.blif_flat.specs.{foreign_formal}
 use Rattle.blif_flat.proofs.line_check.check_formals.Given as goal
 
 abbrev pub invariant-loop-pair : goal.invariant-loop-pair

@@ -1,5 +1,5 @@
-use Rattle.std.proofs.Common.{◌≡◌, drop}
-use Rattle.blif_flat.specs.Steps.Line.{open_among}
+use Rattle.blif_flat.proofs.Common.{◌≡◌, drop}
+use Rattle.blif_flat.specs.{open_among}
 use Rattle.blif_flat.proofs.line_check.check_inputs.Given as goal
 
 abbrev pub invariant-loop-name : goal.invariant-loop-name

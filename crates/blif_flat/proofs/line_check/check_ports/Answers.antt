@@ -1,7 +1,7 @@
-use Rattle.std.proofs.Common.{◌∙◌, ap}
-use Rattle.std.proofs.lemmas.Result.{on_ok_weaker, IfErr-weaker}
+use Rattle.blif_flat.proofs.Common.{◌∙◌, ap, IfErr-weaker}
+use Rattle.blif_flat.specs.{SubcktValue, ModelValue}
+use Rattle.std.proofs.lemmas.Result.{on_ok_weaker}
 use Rattle.tl_fault.proofs.PassedOn.{passed_on}
-use Rattle.blif_flat.specs.Words.{SubcktValue, ModelValue}
 use Rattle.blif_flat.proofs.Models.LineLemmas.{IsRead, formals_err, inputs_err, clocks_err, line_ok}
 use Rattle.blif_flat.proofs.line_check.check_ports.Goals as goal
 

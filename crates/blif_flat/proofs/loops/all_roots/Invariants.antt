@@ -1,6 +1,5 @@
-use Rattle.std.proofs.Common.{◌≡◌, ◌++◌, drop}
-use Rattle.blif_flat.specs.Flat.{cover_numbers}
-use Rattle.blif_flat.specs.Steps.Ordering.{latch_nets}
+use Rattle.blif_flat.proofs.Common.{◌≡◌, ◌++◌, drop}
+use Rattle.blif_flat.specs.{cover_numbers, latch_nets}
 use Rattle.blif_flat.proofs.loops.all_roots.Given as goal
 
 abbrev pub invariant-loop-latch : goal.invariant-loop-latch

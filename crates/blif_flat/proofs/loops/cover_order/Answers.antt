@@ -1,10 +1,5 @@
-use Rattle.std.proofs.Common.{map, sym, subst, ◌∙◌}
-use Rattle.blif_flat.specs.declared.flat.OutPort.{OutPort}
-use Rattle.blif_flat.specs.Steps.InstanceRows.{paths_of}
-use Rattle.blif_flat.specs.Places.{is_cover}
-use Rattle.blif_flat.specs.Steps.InstanceOrder.{places_at}
-use Rattle.blif_flat.specs.Steps.CoverWalk.{IsFound, IsNumberLoop, all_starts}
-use Rattle.blif_flat.specs.Steps.LoopSteps.{AreWrittenAt}
+use Rattle.blif_flat.proofs.Common.{map, sym, subst, ◌∙◌}
+use Rattle.blif_flat.specs.{OutPort, paths_of, is_cover, places_at, IsFound, IsNumberLoop, all_starts, AreWrittenAt}
 use Rattle.blif_flat.proofs.Fields.LoopOrderLemmas.{walked_range, walked_roots, walked_clean, loop_inside, loop_told}
 use Rattle.blif_flat.proofs.loops.cover_order.Goals as goal
 

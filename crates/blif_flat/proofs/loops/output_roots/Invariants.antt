@@ -1,6 +1,5 @@
-use Rattle.std.proofs.Common.{◌≡◌, ◌++◌, map, drop}
-use Rattle.blif_flat.specs.declared.flat.OutPort.{OutPort}
-use Rattle.blif_flat.specs.Flat.{cover_numbers}
+use Rattle.blif_flat.proofs.Common.{◌≡◌, ◌++◌, map, drop}
+use Rattle.blif_flat.specs.{OutPort, cover_numbers}
 use Rattle.blif_flat.proofs.loops.output_roots.Given as goal
 
 abbrev pub invariant-loop-port : goal.invariant-loop-port

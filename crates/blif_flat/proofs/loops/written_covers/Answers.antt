@@ -1,8 +1,5 @@
-use Rattle.std.proofs.Common.{get_or}
-use Rattle.blif_flat.proofs.Common.{slice_get-get_or, In-get}
-use Rattle.blif_flat.specs.Places.{is_cover}
-use Rattle.blif_flat.specs.Steps.InstanceOrder.{places_at}
-use Rattle.blif_flat.specs.Steps.InstanceRows.{paths_of}
+use Rattle.blif_flat.proofs.Common.{get_or, slice_get-get_or, In-get}
+use Rattle.blif_flat.specs.{is_cover, places_at, paths_of}
 use Rattle.blif_flat.proofs.Fields.LoopOrderLemmas.{written_start, written_next}
 use Rattle.blif_flat.proofs.loops.written_covers.Goals as goal
 

@@ -1,8 +1,5 @@
-use Rattle.std.proofs.Common.{take}
-use Rattle.blif_flat.specs.Places.{is_cover}
-use Rattle.blif_flat.specs.Steps.InstanceOrder.{places_at}
-use Rattle.blif_flat.specs.Steps.InstanceRows.{paths_of}
-use Rattle.blif_flat.specs.Steps.LoopSteps.{AreWrittenAt}
+use Rattle.blif_flat.proofs.Common.{take}
+use Rattle.blif_flat.specs.{is_cover, places_at, paths_of, AreWrittenAt}
 use Rattle.blif_flat.proofs.loops.written_covers.Given as goal
 
 abbrev pub invariant-loop-number : goal.invariant-loop-number

@@ -1,12 +1,12 @@
-use Rattle.std.proofs.Common.{map, ap, ◌∙◌}
-use Rattle.blif_flat.specs.Circuits.{ModelValue, LibraryValue, subckts_of}
+use Rattle.blif_flat.proofs.Common.{map, ap, ◌∙◌}
+use Rattle.blif_flat.specs.{ModelValue, LibraryValue, subckts_of}
 use Rattle.blif_flat.proofs.Connections.NetAllLemmas.{inputs_fit, filled}
 use Rattle.blif_flat.proofs.net_table.fill_nets.Goals as goal
 
 pub set_inputs-requires-clause-few : goal.set_inputs-requires-clause-few
 set_inputs-requires-clause-few c =
     inputs_fit c.args.library.now c.args.rows.now c.library.inside.models.items c.index-main.result.now c.args.ports.now c.index-ports-0.result c.args.empty c.requires.formed c.requires.rows c.requires.ports c.requires.empty
-    (ap (λ (l : LibraryValue). l.models) c.library.view_is) c.index-main.ensures c.index-ports-0.is
+    (ap (λ (l : LibraryValue). l.models) c.library.view_is) c.index-main.ensures c.index-ports-0.is c.requires.light
 
 pub returns : goal.returns
 returns c =

@@ -1,7 +1,6 @@
-use Rattle.std.proofs.Common.{◌+◌, drop, ap, sym, ◌∙◌}
-use Rattle.blif_flat.specs.Models.{is_input}
-use Rattle.blif_flat.specs.Steps.NetSlots.{NetsValue, pairs_in}
-use Rattle.blif_flat.proofs.Connections.NetSlotLemmas.{pairs_in-split}
+use Rattle.blif_flat.proofs.Common.{◌+◌, drop, ap, sym, ◌∙◌}
+use Rattle.blif_flat.specs.{is_input, NetsValue, pairs_in}
+use Rattle.blif_flat.proofs.Connections.NetCopyLemmas.{pairs_in-split}
 use Rattle.blif_flat.proofs.nets.pairs_in.Goals as goal
 
 pub loop-pair-preserved : goal.loop-pair-preserved

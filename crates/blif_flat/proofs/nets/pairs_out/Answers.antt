@@ -1,7 +1,6 @@
-use Rattle.std.proofs.Common.{◌+◌, drop, ap, sym, ◌∙◌}
-use Rattle.blif_flat.specs.Models.{is_output}
-use Rattle.blif_flat.specs.Steps.NetSlots.{NetsValue, pairs_out}
-use Rattle.blif_flat.proofs.Connections.NetSlotLemmas.{pairs_out-split}
+use Rattle.blif_flat.proofs.Common.{◌+◌, drop, ap, sym, ◌∙◌}
+use Rattle.blif_flat.specs.{is_output, NetsValue, pairs_out}
+use Rattle.blif_flat.proofs.Connections.NetCopyLemmas.{pairs_out-split}
 use Rattle.blif_flat.proofs.nets.pairs_out.Goals as goal
 
 pub loop-pair-preserved : goal.loop-pair-preserved

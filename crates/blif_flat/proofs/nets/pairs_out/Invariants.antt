@@ -1,7 +1,5 @@
-use Rattle.std.proofs.Common.{◌≡◌, drop}
-use Rattle.blif_flat.specs.Circuits.{ModelValue, is_output}
-use Rattle.blif_flat.specs.Steps.NameSets.{ports_value}
-use Rattle.blif_flat.specs.Steps.NetSlots.{pairs_out, IsNets}
+use Rattle.blif_flat.proofs.Common.{◌≡◌, drop}
+use Rattle.blif_flat.specs.{ModelValue, is_output, ports_value, pairs_out, IsNets}
 use Rattle.blif_flat.proofs.nets.pairs_out.Given as goal
 
 abbrev pub invariant-loop-pair : goal.invariant-loop-pair

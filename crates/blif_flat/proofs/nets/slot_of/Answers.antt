@@ -1,7 +1,6 @@
-use Rattle.std.proofs.Common.{◌≡◌, ℕ, ◌+◌, ◌<◌, ◌≤◌, get_or, length, List, Some, None, refl, sym, ap, ◌∙◌, subst, arith, slice_get}
-use Rattle.std.proofs.lemmas.Option.{slice_get_past, slice_get_read}
-use Rattle.blif_flat.specs.Steps.NetSlots.{NetsValue}
-use Rattle.blif_flat.proofs.Connections.NetSlotLemmas.{no_start, no_names, slot_by_place, slot_fits}
+use Rattle.blif_flat.proofs.Common.{◌≡◌, ℕ, ◌+◌, ◌<◌, ◌≤◌, get_or, length, List, Some, None, refl, sym, ap, ◌∙◌, subst, arith, slice_get, slice_get_past, slice_get_read}
+use Rattle.blif_flat.specs.{NetsValue}
+use Rattle.blif_flat.proofs.Connections.NetCopyLemmas.{no_start, no_names, slot_by_place, slot_fits}
 use Rattle.blif_flat.proofs.nets.slot_of.Goals as goal
 
 -- what stands in a list that is another one

@@ -1,5 +1,5 @@
-use Rattle.std.proofs.Common.{◌≡◌, ◌++◌, map, drop}
-use Rattle.blif_flat.specs.Steps.NameSets.{ports_value}
+use Rattle.blif_flat.proofs.Common.{◌≡◌, ◌++◌, map, drop}
+use Rattle.blif_flat.specs.{ports_value}
 use Rattle.blif_flat.proofs.ports.all_ports.Given as goal
 
 abbrev pub invariant-loop-model : goal.invariant-loop-model

@@ -1,6 +1,5 @@
-use Rattle.std.proofs.Common.{◌≡◌, drop}
-use Rattle.blif_flat.specs.Walk.{subckt_lines}
-use Rattle.blif_flat.specs.Steps.ModelGraph.{names_at, lines_fault}
+use Rattle.blif_flat.proofs.Common.{◌≡◌, drop}
+use Rattle.blif_flat.specs.{subckt_lines, names_at, lines_fault}
 use Rattle.blif_flat.proofs.walk.check_commands.Given as goal
 
 abbrev pub invariant-loop-command : goal.invariant-loop-command

@@ -1,7 +1,6 @@
-use Rattle.std.proofs.Common.{◌∙◌, ap, length, subst}
-use Rattle.list_laws.proofs.Places.{at_within}
-use Rattle.depth_first.specs.Walk.{WalkValue, Visited}
-use Rattle.blif_flat.specs.Steps.ModelGraph.{edges_at}
+use Rattle.blif_flat.proofs.Common.{ap, length, subst, at_within}
+use Rattle.blif_flat.specs.{WalkValue, edges_at}
+use Rattle.depth_first.specs.Walk.{Visited}
 use Rattle.blif_flat.proofs.Models.ModelWalkLemmas.{graph_nodes, children_first, order_within, visit_walks, visit_faulty, visit_refuses}
 use Rattle.blif_flat.proofs.walk.walk_slice.Goals as goal
 

@@ -1,4 +1,4 @@
-use Rattle.std.proofs.Common.{ap, sym, ◌∙◌, slice_get}
+use Rattle.blif_flat.proofs.Common.{ap, sym, ◌∙◌, slice_get}
 use Rattle.blif_flat.proofs.Models.WeightLemmas.{weight_told}
 use Rattle.blif_flat.proofs.weight.check_weight.Goals as goal
 

@@ -1,6 +1,5 @@
-use Rattle.std.proofs.Common.{◌≡◌, ◌+◌, ◌≤◌, drop}
-use Rattle.blif_flat.specs.Steps.Weighing.{capped, commands_kept}
-use Rattle.blif_flat.specs.Weight.{most_weight}
+use Rattle.blif_flat.proofs.Common.{◌≡◌, ◌+◌, ◌≤◌, drop}
+use Rattle.blif_flat.specs.{capped, commands_kept, most_weight}
 use Rattle.blif_flat.proofs.weight.commands_kept.Given as goal
 
 abbrev pub invariant-loop-command : goal.invariant-loop-command

@@ -1,6 +1,5 @@
-use Rattle.std.proofs.Common.{◌≡◌, ◌+◌, ◌≤◌, drop}
-use Rattle.blif_flat.specs.Weight.{most_weight, commands_weight}
-use Rattle.blif_flat.specs.Steps.Weighing.{capped}
+use Rattle.blif_flat.proofs.Common.{◌≡◌, ◌+◌, ◌≤◌, drop}
+use Rattle.blif_flat.specs.{most_weight, commands_weight, capped}
 use Rattle.blif_flat.proofs.weight.commands_weight.Given as goal
 
 abbrev pub invariant-loop-command : goal.invariant-loop-command

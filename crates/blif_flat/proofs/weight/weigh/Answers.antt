@@ -1,4 +1,4 @@
-use Rattle.std.proofs.Common.{◌≡◌, ◌<◌, length, slice_index_or, arith}
+use Rattle.blif_flat.proofs.Common.{◌≡◌, ◌<◌, length, slice_index_or, arith}
 use Rattle.blif_flat.proofs.Models.WeightLemmas.{order_inside, kept_next}
 use Rattle.blif_flat.proofs.weight.weigh.Goals as goal
 
@@ -7,9 +7,7 @@ keep_weight-requires-clause-model c = order_inside c.args.library.now c.args.ord
 
 pub keep_weight-requires-clause-room : goal.keep_weight-requires-clause-room
 keep_weight-requires-clause-room c =
-    let h : slice_index_or c.args.order.now c.loop-number.number-index 0 < length c.args.library.now.models = order_inside c.args.library.now c.args.order.now c.loop-number.number-index c.requires.order c.loop-number-test.true in
-    let e : length c.loop-number.weights.items ≡ length c.args.library.now.models = c.loop-number.invariant.len in
-    omega arith
+    omega (arith, order_inside c.args.library.now c.args.order.now c.loop-number.number-index c.requires.order c.loop-number-test.true)
 
 pub loop-number-preserved : goal.loop-number-preserved
 loop-number-preserved c =

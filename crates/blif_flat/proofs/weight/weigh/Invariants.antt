@@ -1,6 +1,5 @@
-use Rattle.std.proofs.Common.{◌≡◌, ℕ, length, take}
-use Rattle.list_laws.specs.Members.{In}
-use Rattle.blif_flat.specs.Steps.Weighing.{IsKeptWeight}
+use Rattle.blif_flat.proofs.Common.{◌≡◌, ℕ, length, take, In}
+use Rattle.blif_flat.specs.{IsKeptWeight}
 use Rattle.blif_flat.proofs.weight.weigh.Given as goal
 
 abbrev pub invariant-loop-number : goal.invariant-loop-number

@@ -1,4 +1,4 @@
-use Rattle.blif_flat.proofs.Fields.WrittenLemmas.{so_far_end}
+use Rattle.blif_flat.proofs.Hierarchy.PlaceLemmas.{so_far_end}
 use Rattle.blif_flat.proofs.written.path_at.Goals as goal
 
 pub returns : goal.returns

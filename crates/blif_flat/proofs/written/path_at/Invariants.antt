@@ -1,5 +1,5 @@
-use Rattle.std.proofs.Common.{◌<◌, length}
-use Rattle.blif_flat.proofs.Fields.WrittenLemmas.{IsSoFar}
+use Rattle.blif_flat.proofs.Common.{◌<◌, length}
+use Rattle.blif_flat.proofs.Hierarchy.PlaceLemmas.{IsSoFar}
 use Rattle.blif_flat.proofs.written.path_at.Given as goal
 
 abbrev pub invariant-loop-parent : goal.invariant-loop-parent

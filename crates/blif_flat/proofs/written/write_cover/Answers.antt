@@ -1,4 +1,4 @@
-use Rattle.blif_flat.proofs.Fields.WrittenLemmas.{rows_under, written_cover}
+use Rattle.blif_flat.proofs.Hierarchy.PlaceLemmas.{rows_under, written_cover}
 use Rattle.blif_flat.proofs.written.write_cover.Goals as goal
 
 pub written_under-requires-clause-rows : goal.written_under-requires-clause-rows

@@ -1,6 +1,6 @@
-use Rattle.std.proofs.Common.{◌++◌, List, ℕ, ap, ◌∙◌}
-use Rattle.blif_flat.specs.Written.{path_text}
-use Rattle.blif_flat.proofs.Fields.WrittenLemmas.{path_text-last}
+use Rattle.blif_flat.proofs.Common.{◌++◌, List, ℕ, ap, ◌∙◌}
+use Rattle.blif_flat.specs.{path_text}
+use Rattle.blif_flat.proofs.Hierarchy.PlaceLemmas.{path_text-last}
 use Rattle.blif_flat.proofs.written.written_path.Goals as goal
 
 pub loop-ordinal-preserved : goal.loop-ordinal-preserved

@@ -1,5 +1,5 @@
-use Rattle.std.proofs.Common.{◌≡◌, ◌++◌, length}
-use Rattle.blif_flat.specs.Written.{path_text}
+use Rattle.blif_flat.proofs.Common.{◌≡◌, ◌++◌, length}
+use Rattle.blif_flat.specs.{path_text}
 use Rattle.blif_flat.proofs.written.written_path.Given as goal
 
 abbrev pub invariant-loop-ordinal : goal.invariant-loop-ordinal

@@ -1,6 +1,6 @@
-use Rattle.std.proofs.Common.{◌∙◌, ap}
-use Rattle.blif_flat.specs.Models.{has_name}
-use Rattle.blif_flat.proofs.Clocking.MarkLemmas.{none_behind}
+use Rattle.blif_flat.proofs.Common.{◌∙◌, ap}
+use Rattle.blif_flat.specs.{has_name}
+use Rattle.blif_flat.proofs.Clocking.ClockStepLemmas.{none_behind}
 use Rattle.blif_flat.proofs.driven.Driven.add.Goals as goal
 
 pub add-requires : goal.add-requires

@@ -1,6 +1,6 @@
-use Rattle.std.proofs.Common.{sym, subst}
-use Rattle.blif_flat.specs.Steps.NetSlots.{IsNets}
-use Rattle.blif_flat.proofs.Connections.NetSlotLemmas.{with_slot-nets}
+use Rattle.blif_flat.proofs.Common.{sym, subst}
+use Rattle.blif_flat.specs.{IsNets}
+use Rattle.blif_flat.proofs.Connections.NetCopyLemmas.{with_slot-nets}
 use Rattle.blif_flat.proofs.nets.Nets.set.Goals as goal
 
 pub returns-in-Some-clause-nets : goal.returns-in-Some-clause-nets

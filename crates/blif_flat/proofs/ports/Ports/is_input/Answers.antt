@@ -1,6 +1,5 @@
-use Rattle.std.proofs.Common.{◌∙◌, ap}
-use Rattle.blif_flat.specs.declared.ports.Ports.{Ports}
-use Rattle.blif_flat.specs.Models.{has_name}
+use Rattle.blif_flat.proofs.Common.{◌∙◌, ap}
+use Rattle.blif_flat.specs.{Ports, has_name}
 use Rattle.blif_flat.proofs.Models.NameSetLemmas.{has_inputs}
 use Rattle.blif_flat.proofs.ports.Ports.is_input.Goals as goal
 

@@ -1,5 +1,5 @@
-use Rattle.std.proofs.Common.{◌∙◌, ap}
-use Rattle.blif_flat.specs.Words.{ModelValue}
+use Rattle.blif_flat.proofs.Common.{◌∙◌, ap}
+use Rattle.blif_flat.specs.{ModelValue}
 use Rattle.blif_flat.proofs.Models.NameSetLemmas.{ports_of_parts}
 use Rattle.blif_flat.proofs.ports.Ports.make.Goals as goal
 

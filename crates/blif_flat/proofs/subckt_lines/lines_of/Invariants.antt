@@ -1,6 +1,0 @@
-use Rattle.std.proofs.Common.{◌≡◌, ◌++◌, map, drop}
-use Rattle.blif_flat.specs.Models.{subckts_of}
-use Rattle.blif_flat.proofs.subckt_lines.lines_of.Given as goal
-
-abbrev pub invariant-loop-command : goal.invariant-loop-command
-invariant-loop-command l = map (λ s. s.now) l.lines.items ++ subckts_of (drop l.command-index l.commands) ≡ subckts_of l.commands
