@@ -3,6 +3,7 @@ pub mod TargetLaws
 pub mod ChoiceLaws
 pub mod CandidateLaws
 pub mod WalkLaws
+pub mod PlaceLaws
 pub mod PlanLaws
 pub mod TableLaws
 pub mod WorkLaws

@@ -1,8 +1,7 @@
 -- The chosen cuts: the rule in its own words, and that they are a cover of the least depth.
-use Rattle.std.proofs.Common.{ltb, ◌≡◌, ℕ, zero, suc, ◌+◌, ◌*◌, ◌/◌, ◌<◌, ◌≤◌, List, [], ◌∷◌, ◌++◌, length, Option, Some, None, IsSome, refl, sym, ap, ◌∙◌, subst, inl, inr, arith, get_or}
-use Rattle.std.proofs.lemmas.List.{get_or_push, get_or_past}
-use Rattle.std.proofs.Math.ListN.{get_or-append}
-use Rattle.std.proofs.lemmas.Bool.{cases_lt}
+use Rattle.std.proofs.Common.{ltb, ◌≡◌, ℕ, zero, suc, ◌*◌, ◌/◌, ◌<◌, ◌≤◌, List, [], ◌∷◌, length, Option, Some, None, IsSome, refl, sym, ap, ◌∙◌, subst, inl, inr, arith, get_or}
+use Rattle.std.proofs.lemmas.List.{get_or_past}
+use Rattle.std.proofs.lemmas.Bool.{cases_lt, ltb-true, ltb-false}
 use Rattle.aig_core.specs.Aig.{Aig, first_and, node_count, IsAnd, AreNormal}
 use Rattle.aig_core.specs.declared.lit.Lit.{Lit}
 use Rattle.list_laws.specs.Members.{In}
@@ -15,6 +14,8 @@ use Rattle.aig_core.specs.Roots.{lits_of, AreRoots}
 use Rattle.cover_pick.specs.Target.{target}
 use Rattle.cover_pick.specs.Choice.{IsChosen}
 use Rattle.cover_pick.specs.Fewest.{or_empty, choice_of}
+use Rattle.cover_pick.specs.Places.{cut_of, cuts_of, best_for, AreBestPlaces}
+use Rattle.cover_pick.proofs.PlaceLaws.{cut_is}
 use Rattle.cover_pick.specs.Required.{cover_of, chosen, need}
 use Rattle.cover_pick.specs.Planned.{Chooses, cut_at, plan_of, depths_of, IsLeastCover, IsPlanned}
 use Rattle.cover_pick.proofs.ChoiceLaws.{Chooses-choice, best_is, best_found}
@@ -42,13 +43,14 @@ HasDepth-same g f h e {n} (table c at sub) = table c (e n ∙ at) (λ m i. HasDe
 RootsWithin-same : (g : Aig) (roots : List ℕ) (d : ℕ) (f h : ℕ → Option (List ℕ)) → ((n : ℕ) → h n ≡ f n) → RootsWithin g f roots d → RootsWithin g h roots d
 RootsWithin-same g roots d f h e w = record { complemented = w.complemented; nodes = λ l i and. HasDepth-same g f h e (w.nodes l i and) }
 
--- the list of chosen cuts, made from the front
-pub cuts_push : (f : ℕ → Option (List ℕ)) (n : ℕ) (cuts : List (Option (List ℕ))) (o : Option (List ℕ)) → length cuts ≡ n → o ≡ f n
-    → ((m : ℕ) → m < n → cut_at cuts m ≡ f m) → (m : ℕ) → m < n + 1 → cut_at (cuts ++ o ∷ []) m ≡ f m
-cuts_push f n cuts o e q old m l = elim (cases_lt m n) [
-  | inl b ↦ get_or-append cuts (o ∷ []) None m (omega arith) ∙ old m b
-  | inr b ↦ (let s : n ≡ m = omega arith in get_or_push cuts o None m (e ∙ s) ∙ subst (λ i. o ≡ f i) s q)
-]
+-- what the cover has at a source, and at an AND node
+cover_source : (g : Aig) (choice : ℕ → ℕ → List ℕ) (reqs : List (Option ℕ)) (n : ℕ) → n < first_and g → cover_of g choice reqs n ≡ None
+cover_source g choice reqs n l =
+    choose (λ o. o ≡ None) (ltb n (first_and g)) None (chosen choice n (need reqs n)) (λ _. refl) (λ b. absurd (let c : first_and g ≤ n = ltb-false n (first_and g) b in omega arith))
+
+cover_node : (g : Aig) (choice : ℕ → ℕ → List ℕ) (reqs : List (Option ℕ)) (n : ℕ) → first_and g ≤ n → cover_of g choice reqs n ≡ chosen choice n (need reqs n)
+cover_node g choice reqs n l =
+    choose (λ o. o ≡ chosen choice n (need reqs n)) (ltb n (first_and g)) None (chosen choice n (need reqs n)) (λ b. absurd (let c : n < first_and g = ltb-true n (first_and g) b in omega arith)) (λ _. refl)
 
 cover_past : (g : Aig) (choice : ℕ → ℕ → List ℕ) (reqs : List (Option ℕ)) (n : ℕ) → length reqs ≡ node_count g → node_count g ≤ n → cover_of g choice reqs n ≡ None
 cover_past g choice reqs n e l =
@@ -71,6 +73,27 @@ module _ (g : Aig) (rows : List (List (List ℕ))) (label : ℕ → ℕ) (roots 
       let h : label n ≡ height label m.0 = m.2 in
       let f = best_found label r (row_at rows n) None m.0 m.1 (omega arith) in
       subst (λ o. IsChosen label r (row_at rows n) (or_empty o)) (sym f.1) (best_is label r (row_at rows n) f.0 (are.each n and.1 and).ordered f.1)
+
+  -- the best cut of a node for its required depth is its choice
+  best_chosen : (k : ℕ) → AreRows g k (node_count g) rows → (n : ℕ) (o : Option ℕ) → IsAnd g n → need (depths_of g rows label roots) n ≡ o → best_for label (row_at rows n) o ≡ chosen (choice_of (row_at rows) label) n o
+  best_chosen k are n None and e = refl
+  best_chosen k are n (Some r) and e =
+      let low : label n ≤ r = (walked k are).low n r and e in
+      let m = labels.met n and in
+      let h : label n ≡ height label m.0 = m.2 in
+      let f = best_found label r (row_at rows n) None m.0 m.1 (omega arith) in
+      f.1 ∙ ap (λ o. Some (or_empty o)) (sym f.1)
+
+  -- The cuts at the best places are the plan.
+  pub places_plan : (k : ℕ) → AreRows g k (node_count g) rows → (places : List (Option ℕ)) → AreBestPlaces g rows label (depths_of g rows label roots) (first_and g) places
+      → (n : ℕ) → n < node_count g → cut_at (cuts_of rows places) n ≡ plan_of g rows label roots n
+  places_plan k are places best n l =
+      let depths : List (Option ℕ) = depths_of g rows label roots in
+      let choice : ℕ → ℕ → List ℕ = choice_of (row_at rows) label in
+      cut_is rows places n ∙ elim (cases_lt n (first_and g)) [
+        | inl s ↦ ap (λ p. cut_of (row_at rows n) p) (best.below n s) ∙ sym (cover_source g choice depths n s)
+        | inr a ↦ best.best n a l ∙ (best_chosen k are n (need depths n) (a, l) refl ∙ sym (cover_node g choice depths n a))
+      ]
 
   plan_least : AreNormal (first_and g) g.pairs → (cuts : List (Option (List ℕ))) → ((n : ℕ) → cut_at cuts n ≡ plan_of g rows label roots n) → (k : ℕ) → AreRows g k (node_count g) rows → IsLeastCover g k roots (cut_at cuts) (target g label roots)
   plan_least normal cuts e k are =

@@ -105,7 +105,7 @@ each_from (m ∷ ms) reqs r n s l h =
       | inr b ↦ inr (inr b.0, b.1)
     ]
 
-each_other : (ms : List ℕ) (reqs : List (Option ℕ)) (r n : ℕ) → (In ms n → ⊥) → need (require_each reqs ms r) n ≡ need reqs n
+pub each_other : (ms : List ℕ) (reqs : List (Option ℕ)) (r n : ℕ) → (In ms n → ⊥) → need (require_each reqs ms r) n ≡ need reqs n
 each_other [] reqs r n o = refl
 each_other (m ∷ ms) reqs r n o = each_other ms (require reqs m r) r n (λ i. o (inr i)) ∙ need_other reqs n m r (λ e. o (inl e))
 

@@ -11,6 +11,7 @@ pub mod Refusals
 pub mod Fewest
 pub mod Required
 pub mod Planned
+pub mod Places
 pub mod Cone
 pub mod Search
 pub mod Marks

@@ -1,13 +1,13 @@
 //! The rule by which a cut is chosen for a node with a required depth.
-ghost use Rattle.std.specs.Prelude.{◌≡◌, ℕ, ◌<◌, ◌≤◌, true, List, [], length, Option, None, slice_index_or};
+ghost use Rattle.std.specs.Prelude.{◌≡◌, ℕ, ◌<◌, ◌≤◌, true, List, [], length, Option, Some, None, slice_index_or};
 ghost use Rattle.cut_enum.specs.Sets.{IsOrdered};
 ghost use Rattle.cut_enum.specs.Table.{row_at};
 ghost use Rattle.depth_label.specs.Label.{height, label_of};
-ghost use Rattle.cover_pick.specs.Fewest.{IsAt, IsShorter, better as the_better, fewest as the_fewest, choice_of};
+ghost use Rattle.cover_pick.specs.Fewest.{IsAt, IsShorter, better as the_better, fewest as the_fewest};
+ghost use Rattle.cover_pick.specs.Places.{cut_of};
 
-use cut_enum::{Cut, CutTable};
+use cut_enum::CutTable;
 use depth_label::Labels;
-use std::alloc::Global;
 
 // A cut of a node, by its place, with the number of its leaves and its height.
 #[derive(Clone, Copy)]
@@ -87,13 +87,14 @@ fn fewest(labels: &Labels, table: &CutTable, n: u32, r: u32) -> Option<Candidate
     best
 }
 
-// The cut that is chosen for a node and its required depth.
-pub fn choose(alloc: Global, table: &CutTable, labels: &Labels, n: u32, r: u32) -> Cut
+// The place of the cut that is chosen for a node and its required depth, if one is low enough.
+pub fn choose(table: &CutTable, labels: &Labels, n: u32, r: u32) -> Option<u32>
     requires { IsOrdered (row_at table.now n) }
-    ensures { result ≡ choice_of (row_at table.now) (label_of labels.now) n r }
+    ensures cut { cut_of (row_at table.now n) result ≡ the_fewest (label_of labels.now) r None (row_at table.now n) }
+    ensures inside { (i : ℕ) → result ≡ Some i → i < length (row_at table.now n) }
 {
     match fewest(labels, table, n, r) {
-        None => Cut::empty(alloc),
-        Some(best) => table.cut(n, best.place),
+        None => None,
+        Some(best) => Some(best.place),
     }
 }

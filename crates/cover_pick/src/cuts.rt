@@ -1,63 +1,85 @@
 //! The chosen cuts of the needed nodes.
-ghost use Rattle.std.specs.Prelude.{◌≡◌, ℕ, ◌<◌, length, IfOk};
+ghost use Rattle.std.specs.Prelude.{◌≡◌, Option, None, List, length, IfOk, slice_index_or};
 ghost use Rattle.aig_core.specs.Aig.{first_and, node_count, AreNormal};
 ghost use Rattle.aig_core.specs.Roots.{lits_of, AreRoots};
-ghost use Rattle.cut_enum.specs.Table.{row_at};
 ghost use Rattle.depth_label.specs.Label.{label_of, IsCutTable, AreLabelled};
-ghost use Rattle.cover_pick.specs.Fewest.{choice_of};
-ghost use Rattle.cover_pick.specs.Required.{cover_of};
+ghost use Rattle.cover_pick.specs.Places.{place_at as the_place_at};
 ghost use Rattle.cover_pick.specs.Planned.{IsPlanned};
 
-use crate::choice::choose;
-use crate::required::required_depths;
+use crate::required::chosen_places;
 use aig_core::{Graph, Lit};
 use cut_enum::{Cut, CutTable};
 use depth_label::Labels;
 use std::alloc::{AllocError, Global};
+use std::marker::Model;
 
-// The chosen cut of a node, if it is a needed AND node.
-fn chosen_cut(
-    alloc: Global,
-    graph: &Graph,
-    table: &CutTable,
-    labels: &Labels,
-    depths: &[Option<u32>],
-    n: u32,
-) -> Option<Cut>
-    requires table { IsCutTable graph.now table.now }
-    requires node { n < node_count graph.now }
-    requires len { length depths.now ≡ node_count graph.now }
-    ensures { result ≡ cover_of graph.now (choice_of (row_at table.now) (label_of labels.now)) depths.now n }
+/// The chosen cut of each needed AND node, by its place in the table of cuts.
+#[derive(Drop)]
+pub struct ChosenCuts<'a> {
+    table: &'a CutTable,
+    places: Vec<Option<u32>>,
+}
+
+impl<'a> Model for ChosenCuts<'a> {
+    ghost use Rattle.std.specs.Prelude.{ℕ, List, Option};
+    ghost use Rattle.cover_pick.specs.Places.{cuts_of, ArePlaces};
+
+    ghost Value = { List (Option (List ℕ)) };
+
+    ghost view = { λ c. cuts_of c.table.now c.places.items };
+
+    ghost invariant = { λ c. ArePlaces c.table.now c.places.items };
+}
+
+// The place of a node's cut, if it has one.
+fn place_at(places: &[Option<u32>], n: u32) -> Option<u32>
+    ensures { result ≡ the_place_at places.now n }
 {
-    if n <= graph.sources() {
-        return None;
+    places.get(n as usize).copied().unwrap_or(None)
+}
+
+impl<'a> ChosenCuts<'a> {
+    ghost use Rattle.std.specs.Prelude.{◌≡◌};
+    ghost use Rattle.cover_pick.specs.Fewest.{or_empty};
+    ghost use Rattle.cover_pick.specs.Planned.{cut_at};
+
+    /// The chosen cut of a node, if it is a needed AND node.
+    pub fn cut(&self, n: u32) -> Option<Cut>
+        ensures { result ≡ cut_at self.now n }
+    {
+        match place_at(&self.places, n) {
+            None => None,
+            Some(place) => Some(self.table.cut(n, place)),
+        }
     }
-    match depths[n as usize] {
-        None => None,
-        Some(r) => Some(choose(alloc, table, labels, n, r)),
+
+    /// The leaves of a node's chosen cut, without a copy; none of any other node.
+    pub fn leaves(&self, n: u32) -> &[u32]
+        ensures { result.now ≡ or_empty (cut_at self.now n) }
+    {
+        match place_at(&self.places, n) {
+            None => &[],
+            Some(place) => self.table.leaves(n, place),
+        }
     }
 }
 
-// The chosen cuts of the needed AND nodes: a cover of the graph, of the least depth.
-pub fn chosen_cuts(
+/// The chosen cuts of the needed AND nodes: a cover of the graph, of the least depth.
+pub fn chosen_cuts<'a>(
     alloc: Global,
     graph: &Graph,
-    table: &CutTable,
+    table: &'a CutTable,
     labels: &Labels,
     roots: &[Lit],
-) -> Result<Vec<Option<Cut>>, AllocError>
+) -> Result<ChosenCuts<'a>, AllocError>
     requires table { IsCutTable graph.now table.now }
     requires labels { AreLabelled graph.now table.now labels.now }
     requires roots { AreRoots graph.now (lits_of roots.now) }
-    ensures plan { IfOk result (λ cuts. IsPlanned graph.now table.now (label_of labels.now) (lits_of roots.now) cuts.items) }
-    ensures len { IfOk result (λ cuts. length cuts.items ≡ node_count graph.now) }
+    ensures plan { IfOk result (λ cuts. IsPlanned graph.now table.now (label_of labels.now) (lits_of roots.now) cuts) }
+    ensures len { IfOk result (λ cuts. length cuts ≡ node_count graph.now) }
     ensures normal { IfOk result (λ _. AreNormal (first_and graph.now) graph.now.pairs) }
 {
-    let depths = required_depths(alloc, graph, table, labels, roots)?;
-    let mut cuts = Vec::new(alloc);
-    for n in 0..graph.len() {
-        let cut = chosen_cut(alloc, graph, table, labels, &depths, n);
-        cuts.push(cut)?;
-    }
-    Ok(cuts)
+    let places = chosen_places(alloc, graph, table, labels, roots)?;
+    let _count = graph.len();
+    Ok(ChosenCuts { table, places })
 }

@@ -24,8 +24,8 @@
 //! 1. `target`: the target of the roots.
 //! 2. `choice`: the rule by which a cut is chosen for a required depth. It is one function, `choose`, and one definition,
 //!    `IsChosen` of `specs/Choice.antt`; all that the theorem asks of it is `Chooses` of `specs/Planned.antt`.
-//! 3. `required`: the required depths, from the last AND node down.
-//! 4. `cuts`: the chosen cuts.
+//! 3. `required`: the required depths and the choices, each once, in one walk from the last AND node down.
+//! 4. `cuts`: the chosen cuts, each by its place in the table of cuts.
 //! 5. `needed`, `tables`: the needed literals and their tables, in ascending order.
 //! 6. `cone`: the AND nodes of a table's cone, each visited once.
 //!

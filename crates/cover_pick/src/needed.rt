@@ -3,10 +3,10 @@ ghost use Rattle.std.specs.Prelude.{◌≡◌, ℕ, List, ◌*◌, ◌<◌, leng
 ghost use Rattle.aig_core.specs.Aig.{node_count};
 ghost use Rattle.aig_core.specs.Roots.{lits_of, AreRoots};
 ghost use Rattle.list_laws.specs.Members.{In};
-ghost use Rattle.cover_pick.specs.Marks.{mark_each as each_marked, mark_leaves as leaves_marked, mark_cut as cut_marked, mark_cuts as cuts_marked, marks_of};
+ghost use Rattle.cover_pick.specs.Marks.{mark_each as each_marked, mark_leaves as leaves_marked, mark_cuts as cuts_marked, marks_of};
 
+use crate::cuts::ChosenCuts;
 use aig_core::{Graph, Lit};
-use cut_enum::Cut;
 use std::alloc::{AllocError, Global};
 
 // Marks literals.
@@ -29,23 +29,14 @@ fn mark_leaves(leaves: &[u32], marks: &mut [bool])
     }
 }
 
-// Marks the positive literals of a cut's leaves.
-fn mark_cut(cut: &Option<Cut>, marks: &mut [bool])
-    requires { (c : List ℕ) (m : ℕ) → cut.now ≡ Some c → In c m → 2 * m < length marks.old }
-    ensures { marks.new ≡ cut_marked marks.old cut.now }
-{
-    if let Some(cut) = cut {
-        mark_leaves(cut.leaves(), marks);
-    }
-}
-
-// Marks the positive literals of all cuts' leaves.
-fn mark_cuts(cuts: &[Option<Cut>], marks: &mut [bool])
-    requires { (c : List ℕ) (m : ℕ) → In cuts.now (Some c) → In c m → 2 * m < length marks.old }
+// Marks the positive literals of the leaves of all chosen cuts.
+fn mark_cuts(graph: &Graph, cuts: &ChosenCuts, marks: &mut [bool])
+    requires len { length cuts.now ≡ node_count graph.now }
+    requires inside { (c : List ℕ) (m : ℕ) → In cuts.now (Some c) → In c m → 2 * m < length marks.old }
     ensures { marks.new ≡ cuts_marked marks.old cuts.now }
 {
-    for cut in cuts {
-        mark_cut(cut, marks);
+    for n in 0..graph.len() {
+        mark_leaves(cuts.leaves(n), marks);
     }
 }
 
@@ -53,15 +44,16 @@ fn mark_cuts(cuts: &[Option<Cut>], marks: &mut [bool])
 pub fn needed(
     alloc: Global,
     graph: &Graph,
-    cuts: &[Option<Cut>],
+    cuts: &ChosenCuts,
     roots: &[Lit],
 ) -> Result<Vec<bool>, AllocError>
     requires roots { AreRoots graph.now (lits_of roots.now) }
+    requires len { length cuts.now ≡ node_count graph.now }
     requires cuts { (c : List ℕ) (m : ℕ) → In cuts.now (Some c) → In c m → m < node_count graph.now }
     ensures { IfOk result (λ marks. marks.items ≡ marks_of graph.now (lits_of roots.now) cuts.now) }
 {
     let mut marks = vec![in alloc; false; graph.len() as usize * 2]?;
     mark_each(roots, &mut marks);
-    mark_cuts(cuts, &mut marks);
+    mark_cuts(graph, cuts, &mut marks);
     Ok(marks)
 }

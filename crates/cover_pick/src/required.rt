@@ -1,5 +1,5 @@
-//! The required depths of the needed nodes.
-ghost use Rattle.std.specs.Prelude.{◌≡◌, ℕ, ◌+◌, ◌-◌, ◌/◌, ◌<◌, ◌≤◌, length, Option, None, IfOk, slice_index_or};
+//! The required depths of the needed nodes, and the places of their chosen cuts.
+ghost use Rattle.std.specs.Prelude.{◌≡◌, ℕ, ◌+◌, ◌-◌, ◌/◌, ◌<◌, ◌≤◌, length, Option, Some, None, IfOk, slice_index_or};
 ghost use Rattle.aig_core.specs.Aig.{first_and, node_count, IsAnd};
 ghost use Rattle.aig_core.specs.Roots.{lits_of, AreRoots};
 ghost use Rattle.cut_enum.specs.Table.{row_at};
@@ -7,6 +7,7 @@ ghost use Rattle.depth_label.specs.Label.{label_of, IsCutTable};
 ghost use Rattle.cover_pick.specs.Fewest.{choice_of};
 ghost use Rattle.cover_pick.specs.Required.{need, least_of as the_least, require as with_required, require_each as with_each_required, visit as visited, walk as walked, require_root as with_root, require_roots as with_roots};
 ghost use Rattle.cover_pick.specs.Planned.{depths_of};
+ghost use Rattle.cover_pick.specs.Places.{cut_of, place_at, best_for, AreBestPlaces};
 
 use crate::choice::choose;
 use crate::target::target;
@@ -43,36 +44,47 @@ fn require_each(reqs: &mut [Option<u32>], leaves: &[u32], r: u32)
     }
 }
 
-// Requires the leaves of a needed node's chosen cut, at one less than its required depth.
+// Chooses the cut of a needed node, and requires its leaves at one less than the node's required depth. The cut's place.
 fn visit(
-    alloc: Global,
     graph: &Graph,
     table: &CutTable,
     labels: &Labels,
     reqs: &mut [Option<u32>],
     n: u32,
-)
+) -> Option<u32>
     requires table { IsCutTable graph.now table.now }
     requires node { IsAnd graph.now n }
     requires len { length reqs.old ≡ node_count graph.now }
-    ensures { reqs.new ≡ visited (choice_of (row_at table.now) (label_of labels.now)) n (need reqs.old n) reqs.old }
+    ensures reqs { reqs.new ≡ visited (choice_of (row_at table.now) (label_of labels.now)) n (need reqs.old n) reqs.old }
+    ensures above { (m : ℕ) → n ≤ m → need reqs.new m ≡ need reqs.old m }
+    ensures best { cut_of (row_at table.now n) result ≡ best_for (label_of labels.now) (row_at table.now n) (need reqs.old n) }
+    ensures inside { (i : ℕ) → result ≡ Some i → i < length (row_at table.now n) }
 {
-    if let Some(r) = reqs[n as usize] {
-        let cut = choose(alloc, table, labels, n, r);
-        require_each(reqs, cut.leaves(), r.saturating_sub(1));
-    }
+    let r = reqs[n as usize]?;
+    let place = choose(table, labels, n, r)?;
+    require_each(reqs, table.leaves(n, place), r.saturating_sub(1));
+    Some(place)
 }
 
-// Takes the AND nodes in descending order.
-fn walk(alloc: Global, graph: &Graph, table: &CutTable, labels: &Labels, reqs: &mut [Option<u32>])
+// Takes the AND nodes in descending order, and sets the places of their chosen cuts.
+fn walk(
+    graph: &Graph,
+    table: &CutTable,
+    labels: &Labels,
+    reqs: &mut [Option<u32>],
+    places: &mut [Option<u32>],
+)
     requires table { IsCutTable graph.now table.now }
     requires len { length reqs.old ≡ node_count graph.now }
-    ensures { reqs.new ≡ walked (choice_of (row_at table.now) (label_of labels.now)) (first_and graph.now) (length graph.now.pairs) reqs.old }
+    requires places { AreBestPlaces graph.now table.now (label_of labels.now) reqs.old (node_count graph.now) places.old }
+    ensures reqs { reqs.new ≡ walked (choice_of (row_at table.now) (label_of labels.now)) (first_and graph.now) (length graph.now.pairs) reqs.old }
+    ensures places { AreBestPlaces graph.now table.now (label_of labels.now) reqs.new (first_and graph.now) places.new }
 {
     let first = graph.sources() + 1;
     let count = graph.len() - first;
     for i in 0..count {
-        visit(alloc, graph, table, labels, reqs, first + (count - 1 - i));
+        let n = first + (count - 1 - i);
+        places[n as usize] = visit(graph, table, labels, reqs, n);
     }
 }
 
@@ -98,8 +110,8 @@ fn require_roots(graph: &Graph, roots: &[Lit], t: u32, reqs: &mut [Option<u32>])
     }
 }
 
-// The required depth of each needed node.
-pub fn required_depths(
+// The places of the chosen cuts of the needed AND nodes, among the cuts of each.
+pub fn chosen_places(
     alloc: Global,
     graph: &Graph,
     table: &CutTable,
@@ -108,12 +120,12 @@ pub fn required_depths(
 ) -> Result<Vec<Option<u32>>, AllocError>
     requires table { IsCutTable graph.now table.now }
     requires roots { AreRoots graph.now (lits_of roots.now) }
-    ensures value { IfOk result (λ depths. depths.items ≡ depths_of graph.now table.now (label_of labels.now) (lits_of roots.now)) }
-    ensures len { IfOk result (λ depths. length depths.items ≡ node_count graph.now) }
+    ensures { IfOk result (λ places. AreBestPlaces graph.now table.now (label_of labels.now) (depths_of graph.now table.now (label_of labels.now) (lits_of roots.now)) (first_and graph.now) places.items) }
 {
     let t = target(graph, labels, roots);
     let mut depths = vec![in alloc; None; graph.len() as usize]?;
+    let mut places = vec![in alloc; None; graph.len() as usize]?;
     require_roots(graph, roots, t, &mut depths);
-    walk(alloc, graph, table, labels, &mut depths);
-    Ok(depths)
+    walk(graph, table, labels, &mut depths, &mut places);
+    Ok(places)
 }

@@ -9,6 +9,7 @@ ghost use Rattle.cover_pick.specs.Search.{stamp_at};
 ghost use Rattle.cover_pick.specs.Marks.{leaves_of as the_leaves, add_table as with_table, add_marked as with_marked, tables_from, tables_of, IsMarked, AreMade};
 
 use crate::cone::Search;
+use crate::cuts::ChosenCuts;
 use crate::limits::MOST_WORK;
 use crate::lut::{Lut, PickErr};
 use crate::needed::needed;
@@ -34,9 +35,8 @@ impl Model for Tables {
 }
 
 // The leaves of a literal's table, if it has one.
-fn leaves_of(alloc: Global, graph: &Graph, cuts: &[Option<Cut>], lit: Lit) -> Option<Cut>
-    requires node { lit.0 / 2 < node_count graph.now }
-    requires len { length cuts.now ≡ node_count graph.now }
+fn leaves_of(alloc: Global, graph: &Graph, cuts: &ChosenCuts, lit: Lit) -> Option<Cut>
+    requires { lit.0 / 2 < node_count graph.now }
     ensures { result ≡ the_leaves graph.now cuts.now lit.0 }
 {
     let n = lit.0 / 2;
@@ -44,10 +44,7 @@ fn leaves_of(alloc: Global, graph: &Graph, cuts: &[Option<Cut>], lit: Lit) -> Op
         return Some(Cut::empty(alloc));
     }
     if n > graph.sources() {
-        return match &cuts[n as usize] {
-            None => None,
-            Some(cut) => Some(cut.copy()),
-        };
+        return cuts.cut(n);
     }
     match graph.kind(n) {
         Kind::Regular => {
@@ -109,7 +106,7 @@ fn add_table(
 fn add_marked(
     alloc: Global,
     graph: &Graph,
-    cuts: &[Option<Cut>],
+    cuts: &ChosenCuts,
     search: &mut Search,
     made: &mut Tables,
     lit: Lit,
@@ -118,7 +115,6 @@ fn add_marked(
     requires node { lit.0 / 2 < node_count graph.now }
     requires small { node_count graph.now ≤ 2 ^ 30 }
     requires normal { AreNormal (first_and graph.now) graph.now.pairs }
-    requires cuts { length cuts.now ≡ node_count graph.now }
     requires work { made.old.work ≤ MOST_WORK }
     requires bits { made.old.bits ≤ made.old.work }
     requires len { length search.old.stamps ≡ node_count graph.now }
@@ -143,11 +139,10 @@ fn add_marked(
 fn marked_tables(
     alloc: Global,
     graph: &Graph,
-    cuts: &[Option<Cut>],
+    cuts: &ChosenCuts,
     marks: &[bool],
 ) -> Result<Tables, PickErr>
-    requires cuts { length cuts.now ≡ node_count graph.now }
-    requires marks { length marks.now ≡ 2 * node_count graph.now }
+    requires { length marks.now ≡ 2 * node_count graph.now }
     ensures ok { IfOk result (λ made. made ≡ tables_from graph.now cuts.now (record { luts = []; bits = 0; work = 0 }) 0 marks.now) }
     ensures within { IfOk result (λ made. made.work ≤ MOST_WORK) }
     ensures err { IfErr result (OrMemory refusal_of (λ _. MOST_WORK < (tables_from graph.now cuts.now (record { luts = []; bits = 0; work = 0 }) 0 marks.now).work)) }
@@ -178,7 +173,7 @@ fn marked_tables(
 pub fn make_tables(
     alloc: Global,
     graph: &Graph,
-    cuts: &[Option<Cut>],
+    cuts: &ChosenCuts,
     roots: &[Lit],
 ) -> Result<Tables, PickErr>
     requires cuts { length cuts.now ≡ node_count graph.now }

@@ -117,9 +117,9 @@ fn template_of(
 ///
 /// # Complexity
 ///
-/// The minimal cuts of a needed node are read twice at most, up to the first that has more leaves than the chosen one, and
-/// each AND node of a table's cone once for the table: so the time is bounded by the table of cuts and the work, of which no
-/// more than the limit and one cone is counted.
+/// The minimal cuts of a needed node are read once, up to the first that has more leaves than the chosen one, and each AND
+/// node of a table's cone once for the table: so the time is bounded by the table of cuts and the work, of which no more than
+/// the limit and one cone is counted.
 pub fn pick(
     alloc: Global,
     graph: &Graph,
@@ -146,6 +146,3 @@ pub fn pick(
 {
     template_of(alloc, graph, roots, table, labels)
 }
-
-#[cfg(test)]
-mod tests;

@@ -21,7 +21,7 @@ union_keep : (x : ℕ) (xs b : List ℕ) → ((n : ℕ) → In xs n → x < n) �
 union_keep x [] b h = refl
 union_keep x (z ∷ zs) b h = ap (λ s. union zs s) (put_past z x b (h z (inl refl))) ∙ union_keep x zs (put z b) (λ n i. h n (inr i))
 
-rest_is : (x : ℕ) (xs : List ℕ) → take (length (x ∷ xs) - 1) (drop 1 (x ∷ xs)) ≡ xs
+pub rest_is : (x : ℕ) (xs : List ℕ) → take (length (x ∷ xs) - 1) (drop 1 (x ∷ xs)) ≡ xs
 rest_is x xs = take_all (length (x ∷ xs) - 1) xs (omega arith)
 
 -- The least head is the union's, and the union goes on with what is left.

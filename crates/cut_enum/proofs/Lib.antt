@@ -4,6 +4,7 @@ pub mod SignatureLemmas
 pub mod LevelLemmas
 pub mod PlaceLemmas
 pub mod HeadLemmas
+pub mod PartLemmas
 pub mod LeastLemmas
 pub mod BlockLemmas
 pub mod CutLemmas

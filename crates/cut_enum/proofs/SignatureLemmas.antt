@@ -1,9 +1,10 @@
 -- What the signatures of two lists say of the lists.
-use Rattle.std.proofs.Common.{◌≡◌, ℕ, zero, suc, ◌+◌, ◌*◌, ◌/◌, ◌%◌, ◌^◌, ◌<◌, ◌≤◌, max, List, [], ◌∷◌, length, refl, sym, ap, ◌∙◌, inl, inr, arith, bit_or, count_ones, false}
+use Rattle.std.proofs.Common.{◌≡◌, ℕ, zero, suc, ◌+◌, ◌-◌, ◌*◌, ◌/◌, ◌%◌, ◌^◌, ◌<◌, ◌≤◌, max, min, List, [], ◌∷◌, length, refl, sym, ap, ◌∙◌, inl, inr, arith, bit_or, count_ones, false}
 use Rattle.std.proofs.Math.Nat.{pow-succ'}
 use Rattle.std.specs.Int.{bit_at}
-use Rattle.std.proofs.lemmas.Nat.{or_shr}
-use Rattle.std.proofs.lemmas.Nat.Bits.{bit_at-zero, bit_at_or, bit_at_lowest, same_from_bits}
+use Rattle.std.proofs.lemmas.Nat.{or_shr, and-not}
+use Rattle.std.specs.Int.Bits.{bit_and}
+use Rattle.std.proofs.lemmas.Nat.Bits.{bit_at-zero, bit_at_or, bit_at_and, bit_at_lowest, same_from_bits}
 use lib.Count.{ones_step, ones-le}
 use Rattle.std.proofs.lemmas.Bool.{cases_Bool}
 use Rattle.list_laws.specs.Members.{In, Within}
@@ -94,3 +95,16 @@ pub union_over_bits : (a b : List ℕ) (k : ℕ) → k < count_ones (bit_or (sig
 union_over_bits a b k h =
     let e : count_ones (signature_of (union a b)) ≡ count_ones (bit_or (signature_of a) (signature_of b)) = ap count_ones (signature-union a b) in
     let l : count_ones (signature_of (union a b)) ≤ length (union a b) = ones_le_length (union a b) in omega arith
+
+-- a part has no bit outside the whole's signature
+pub outside-subset : (a b : List ℕ) (outside : ℕ) → outside + signature_of b ≡ 2 ^ 64 - 1 → signature_of a < 2 ^ 64 → (bit_and outside (signature_of a) ≡ 0 → ⊥) → false ≡ subset a b
+outside-subset a b outside o l n =
+    subset-signature a b
+    (λ h. let s = signature_of a in let w = signature_of b in
+    let e : outside ≡ 2 ^ 64 - 1 - w = omega arith in
+    let c : bit_and (2 ^ 64 - 1 - w) s + bit_and w s ≡ s = and-not 64 w s (omega arith) l in
+    let i : bit_and w s ≡ s = same_from_bits (bit_and w s) s
+    (λ j. let p : bit_at (bit_and w s) j ≡ min (bit_at w j) (bit_at s j) = bit_at_and w s j in
+    let q : bit_at (bit_or s w) j ≡ max (bit_at s j) (bit_at w j) = bit_at_or s w j in
+    let r : bit_at (bit_or s w) j ≡ bit_at w j = ap (λ m. bit_at m j) h in omega arith) in
+    let z : bit_and (2 ^ 64 - 1 - w) s ≡ 0 = omega arith in n (ap (λ m. bit_and m s) e ∙ z))

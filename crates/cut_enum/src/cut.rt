@@ -5,6 +5,7 @@ ghost use Rattle.list_laws.specs.Order.{IsAscending};
 ghost use Rattle.cut_enum.specs.Merging.{put, union, subset};
 ghost use Rattle.cut_enum.specs.Unions.{IsUnion};
 
+use crate::flat::is_subset;
 use crate::signature::{leaf_bit, signature};
 use smallvec::SmallVec;
 use std::alloc::Global;
@@ -98,13 +99,6 @@ pub fn merge(a: &Cut, b: &Cut, k: u8) -> Option<Cut>
 {
     let _leaves = &b.leaves;
     joined(a, b, k)
-}
-
-// Is every element of a one of b?
-fn is_subset(a: &[u32], b: &[u32]) -> bool
-    ensures { result ≡ subset a.now b.now }
-{
-    a.iter().all(|x| b.contains(x))
 }
 
 // Is every leaf of a one of b? Leaves are looked at only where b's signature has every bit of a's.

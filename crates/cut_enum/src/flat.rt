@@ -5,7 +5,7 @@ ghost use Rattle.cut_enum.specs.Sets.{before as comes_before, lex};
 ghost use Rattle.cut_enum.specs.Merging.{union, subset};
 ghost use Rattle.cut_enum.specs.Signature.{signature_of};
 
-use crate::signature::signature;
+use crate::signature::leaf_bit;
 use std::marker::Model;
 
 // The leaves of a cut as a table keeps it: at most six nodes, ascending and without repeats.
@@ -78,7 +78,14 @@ impl FlatCut {
     pub fn signature(&self) -> u64
         ensures { result ≡ signature_of self.now }
     {
-        signature(self.leaves())
+        let mut word = 0;
+        for (i, leaf) in self.leaves.iter().enumerate() {
+            if i >= self.len as usize {
+                return word;
+            }
+            word |= leaf_bit(*leaf);
+        }
+        word
     }
 }
 
@@ -166,12 +173,34 @@ pub fn joined(a: &FlatCut, b: &FlatCut, size: usize) -> Option<FlatCut>
     }
 }
 
+// Is every element of an ascending list one of another?
+pub fn is_subset(xs: &[u32], ys: &[u32]) -> bool
+    requires x_up { IsAscending xs.now }
+    requires y_up { IsAscending ys.now }
+    ensures { result ≡ subset xs.now ys.now }
+{
+    match xs {
+        [] => true,
+        [x, x_rest @ ..] => match ys {
+            [] => false,
+            [y, y_rest @ ..] => {
+                if *x < *y {
+                    return false;
+                }
+                if *y < *x {
+                    return is_subset(xs, y_rest);
+                }
+                is_subset(x_rest, y_rest)
+            }
+        },
+    }
+}
+
 // Is every leaf of a one of b?
 pub fn is_part(a: &FlatCut, b: &FlatCut) -> bool
     ensures { result ≡ subset a.now b.now }
 {
-    let leaves = b.leaves();
-    a.leaves().iter().all(|x| leaves.contains(x))
+    is_subset(a.leaves(), b.leaves())
 }
 
 // The lexicographic order of two lists.

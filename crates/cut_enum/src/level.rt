@@ -2,6 +2,7 @@
 ghost use Rattle.std.specs.Prelude.{◌≡◌, ℕ, ◌-◌, ◌<◌, ◌≤◌, [], length, OnOk, IfOk, IfSome, IfNone, insert};
 ghost use Rattle.cut_enum.specs.Sets.{IsOrdered};
 ghost use Rattle.cut_enum.specs.Merging.{IsPlaceOf, IsAround, place, add as with_cut};
+ghost use Rattle.cut_enum.specs.Signature.{signature_of};
 
 use crate::flat::{FlatCut, before};
 use crate::signed::{SignedPart, has_part};
@@ -96,16 +97,22 @@ impl Level {
         self.cuts.len()
     }
 
-    // Puts a cut in its place, unless it stands there or one of the smaller ones is within it.
-    pub fn add(&mut self, smaller: &SignedPart<'_>, cut: FlatCut) -> Result<(), AllocError>
+    // Puts a cut with this signature in its place, unless one of the smaller ones is within it or it stands there.
+    pub fn add(
+        &mut self,
+        smaller: &SignedPart<'_>,
+        signature: u64,
+        cut: FlatCut,
+    ) -> Result<(), AllocError>
+        requires { signature ≡ signature_of cut }
         ensures { OnOk result (self.new ≡ with_cut smaller.now cut self.old) }
     {
+        if has_part(smaller, signature, &cut) {
+            return Ok(());
+        }
         match free_place(&self.cuts, &cut) {
             None => Ok(()),
             Some(at) => {
-                if has_part(smaller, &cut) {
-                    return Ok(());
-                }
                 self.cuts.insert(at, cut)?;
                 Ok(())
             }

@@ -41,6 +41,7 @@ fn own_cuts(alloc: Global, row: &[FlatCut], m: u32) -> Result<Vec<FlatCut>, Allo
     ensures { IfOk result (λ v. v.items ≡ with_own m row.now) }
 {
     let mut cuts = Vec::new(alloc);
+    cuts.reserve(row.len() + 1)?;
     if is_free(row) {
         push_all(&mut cuts, row)?;
         return Ok(cuts);

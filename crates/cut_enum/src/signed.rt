@@ -3,7 +3,7 @@
 //! A cut whose signature has a bit that another's lacks is not within it, and where two signatures together have more
 //! than k bits, the union of the cuts has more than k leaves. So a walk over many cuts reads their signatures, one
 //! after another, and looks at the leaves of few.
-ghost use Rattle.std.specs.Prelude.{◌≡◌, ◌++◌, ◌≤◌, [], length, take, map, OnOk, IfOk};
+ghost use Rattle.std.specs.Prelude.{◌≡◌, ◌+◌, ◌-◌, ◌^◌, ◌++◌, ◌≤◌, [], length, take, map, OnOk, IfOk};
 ghost use Rattle.std.specs.List.{list_any};
 ghost use Rattle.cut_enum.specs.Merging.{leading, subset};
 ghost use Rattle.cut_enum.specs.Signature.{signature_of};
@@ -52,6 +52,7 @@ impl<'a> Model for SignedPart<'a> {
 fn sign(signatures: &mut Vec<u64>, cuts: &[FlatCut]) -> Result<(), AllocError>
     ensures { OnOk result (signatures.new.items ≡ signatures.old.items ++ map signature_of cuts.now) }
 {
+    signatures.reserve(cuts.len())?;
     for cut in cuts {
         signatures.push(cut.signature())?;
     }
@@ -141,26 +142,27 @@ impl Signed {
     }
 }
 
-// Is a cut with this signature within another one?
-fn is_signed_part(signature: u64, cut: &FlatCut, whole_signature: u64, whole: &FlatCut) -> bool
+// Is a cut with this signature within another one? The bits outside are those that the other's signature lacks.
+fn is_signed_part(signature: u64, cut: &FlatCut, outside: u64, whole: &FlatCut) -> bool
     requires signature { signature ≡ signature_of cut.now }
-    requires whole { whole_signature ≡ signature_of whole.now }
+    requires outside { outside + signature_of whole.now ≡ 2 ^ 64 - 1 }
     ensures { result ≡ subset cut.now whole.now }
 {
-    if (signature | whole_signature) != whole_signature {
+    if outside & signature != 0 {
         return false;
     }
     is_part(cut, whole)
 }
 
-// Is one of these within the cut?
-pub fn has_part(parts: &SignedPart<'_>, cut: &FlatCut) -> bool
+// Is one of these within the cut, which has this signature?
+pub fn has_part(parts: &SignedPart<'_>, signature: u64, cut: &FlatCut) -> bool
+    requires { signature ≡ signature_of cut.now }
     ensures { result ≡ list_any (λ d. subset d cut.now) parts.now }
 {
-    let whole = cut.signature();
+    let outside = !signature;
     let cuts = parts.cuts;
-    for (i, signature) in parts.signatures.iter().enumerate() {
-        if is_signed_part(*signature, &cuts[i], whole, cut) {
+    for (i, part) in parts.signatures.iter().enumerate() {
+        if is_signed_part(*part, &cuts[i], outside, cut) {
             return true;
         }
     }

@@ -142,7 +142,7 @@ fn enumerate_with<L: Ledger>(
 ///
 /// # Complexity
 /// For a node whose fan-ins hand on p and q cuts, and which has r: at most (k + 2) p q tests of two signatures, and for
-/// each union of few enough leaves a search by halves, and at most r tests of two signatures.
+/// each union of few enough leaves at most r tests of two signatures, and then a search by halves.
 ///
 /// # Source
 /// Cong, Wu and Ding, "Cut ranking and pruning", 1999, for the merging of the fan-ins' lists; the signatures are

@@ -2,7 +2,7 @@
 ghost use Rattle.std.specs.Prelude.{◌≡◌, ℕ, ◌<◌, ◌≤◌, List, [], length, Option, None, slice_index_or, IfOk};
 ghost use Rattle.aig_core.specs.Aig.{first_and, node_count, IsAnd};
 ghost use Rattle.cut_enum.specs.Table.{row_at, AreRows};
-ghost use Rattle.depth_label.specs.Label.{label_at, label_of, IsCutTable, AreLabelled, HasOneLabelling, AreLeastDepths};
+ghost use Rattle.depth_label.specs.Label.{height, label_at, label_of, IsCutTable, AreLabelled, HasOneLabelling, AreLeastDepths};
 ghost use Rattle.depth_label.specs.Fold.{AreSmall, IsAt, lower_of, lowest, lowest_cut};
 
 use crate::height::cut_height;
@@ -48,18 +48,40 @@ fn lowest_of(labels: &[u32], table: &CutTable, n: u32) -> Option<Low>
     best
 }
 
-// The best cut of the next node.
-fn best_cut(alloc: Global, graph: &Graph, table: &CutTable, labels: &[u32], n: u32) -> Cut
+// The best cut of a node, and its height.
+#[derive(Drop)]
+struct Best {
+    cut: Cut,
+    height: u32,
+}
+
+// The cut of a source.
+fn without_leaves(alloc: Global) -> Best
+    ensures cut { result.cut ≡ [] }
+    ensures height { result.height ≡ 0 }
+{
+    Best {
+        cut: Cut::empty(alloc),
+        height: 0,
+    }
+}
+
+// The best cut of the next node, and its height: the node's label.
+fn best_cut(alloc: Global, graph: &Graph, table: &CutTable, labels: &[u32], n: u32) -> Best
     requires { AreSmall labels.now }
-    ensures source { n < first_and graph.now → result ≡ [] }
-    ensures node { IsAnd graph.now n → result ≡ lowest_cut (label_at labels.now) (row_at table.now n) }
+    ensures source { n < first_and graph.now → result.cut ≡ [] }
+    ensures node { IsAnd graph.now n → result.cut ≡ lowest_cut (label_at labels.now) (row_at table.now n) }
+    ensures height { result.height ≡ height (label_at labels.now) result.cut }
 {
     if n <= graph.sources() {
-        return Cut::empty(alloc);
+        return without_leaves(alloc);
     }
     match lowest_of(labels, table, n) {
-        None => Cut::empty(alloc),
-        Some(low) => table.cut(n, low.place),
+        None => without_leaves(alloc),
+        Some(low) => Best {
+            cut: table.cut(n, low.place),
+            height: low.height,
+        },
     }
 }
 
@@ -84,12 +106,9 @@ pub fn labels(alloc: Global, graph: &Graph, table: &CutTable) -> Result<Labels, 
     let mut labels = Vec::new(alloc);
     let mut best = Vec::new(alloc);
     for n in 0..graph.len() {
-        let cut = best_cut(alloc, graph, table, &labels, n);
-        labels.push(cut_height(&labels, cut.leaves()))?;
+        let Best { cut, height } = best_cut(alloc, graph, table, &labels, n);
+        labels.push(height)?;
         best.push(cut)?;
     }
     Ok(Labels::make(labels, best))
 }
-
-#[cfg(test)]
-mod tests;

@@ -38,8 +38,6 @@ mod board;
 mod play;
 mod shape;
 mod sim;
-#[cfg(test)]
-mod tests;
 
 pub use shape::Shape;
 pub use sim::Sim;

@@ -14,20 +14,20 @@ use aig_core::Lit;
 use cover_pick::{Lut, Template};
 use cut_enum::Cut;
 
-// The number of the values of a cut's leaves from a place on, the first the lowest digit.
-fn number_from(values: &[bool], cut: &Cut, place: usize) -> usize
-    requires room { (m : ℕ) → In cut.now m → 2 * m < length values.now }
-    requires within { place ≤ length cut.now }
-    ensures number { result ≡ number (leaf_values (value_in values.now) (drop place cut.now)) }
-    ensures small { result < 2 ^ (length cut.now - place) }
+// The number of the values of a cut's leaves, the first the lowest digit.
+fn number_of(values: &[bool], cut: &Cut) -> usize
+    requires { (m : ℕ) → In cut.now m → 2 * m < length values.now }
+    ensures number { result ≡ number (leaf_values (value_in values.now) cut.now) }
+    ensures small { result < 2 ^ length cut.now }
 {
-    if place == cut.len() {
-        return 0;
+    let leaves = cut.leaves();
+    let count = cut.len();
+    let mut above = 0;
+    for i in 0..count {
+        let leaf = leaves[count - 1 - i];
+        above = usize::from(values[leaf as usize * 2]) + 2 * above;
     }
-    let leaf = cut.leaves()[place];
-    let digit = usize::from(values[leaf as usize * 2]);
-    let above = number_from(values, cut, place + 1);
-    digit + 2 * above
+    above
 }
 
 // Gives bits to the sources from the first on.
@@ -47,7 +47,7 @@ fn play_table(shape: &Shape, config: &[bool], table: &Lut, values: &mut [bool])
     requires { IsTableInRoom table.now (length config.now) (length values.old) }
     ensures { values.new ≡ with_table shape.now config.now values.old table.now }
 {
-    let address = table.base as usize + number_from(values, &table.leaves, 0);
+    let address = table.base as usize + number_of(values, &table.leaves);
     if !is_plain(shape, table.lit) {
         values[table.lit.0 as usize] = config[address];
     }

@@ -1,11 +1,21 @@
-use Rattle.std.proofs.Common.{arith}
+use Rattle.std.proofs.Common.{◌∙◌}
 use Rattle.aig_core.specs.Roots.{lits_of}
 use Rattle.depth_label.specs.Label.{label_of}
-use Rattle.cover_pick.proofs.PlanLaws.{plan_all, roots_inside}
+use Rattle.cover_pick.specs.Places.{cuts_of}
+use Rattle.cover_pick.proofs.PlaceLaws.{cuts_length}
+use Rattle.cover_pick.proofs.PlanLaws.{plan_all, places_plan, roots_inside}
 use Rattle.cover_pick.proofs.cuts.chosen_cuts.Goals as goal
+
+pub returns-clause-len : goal.returns-clause-len
+returns-clause-len c = cuts_length c.args.table.now 0 c.in_ok-places.places.items ∙ c.in_ok-places.ensures.count
 
 pub returns-clause-plan : goal.returns-clause-plan
 returns-clause-plan c =
-    plan_all c.args.graph.now c.args.table.now (label_of c.args.labels.now) (lits_of c.args.roots.now) (roots_inside c.args.graph.now (lits_of c.args.roots.now) c.requires.roots) c.requires.labels.labels c.len-n-end.ensures.normal
-    c.loop-n.cuts.items c.requires.table (omega (arith, c.loop-n.invariant.len))
-    (λ n l. c.loop-n.invariant.cuts n (omega arith))
+    let g = c.args.graph.now in
+    let rows = c.args.table.now in
+    let label = label_of c.args.labels.now in
+    let roots = lits_of c.args.roots.now in
+    let places = c.in_ok-places.places.items in
+    let inside = roots_inside g roots c.requires.roots in
+    plan_all g rows label roots inside c.requires.labels.labels c.len-count.ensures.normal (cuts_of rows places) c.requires.table (cuts_length rows 0 places ∙ c.in_ok-places.ensures.count)
+    (places_plan g rows label roots inside c.requires.labels.labels c.requires.table.k c.requires.table.are places c.in_ok-places.ensures)

@@ -1,21 +1,31 @@
-use Rattle.std.proofs.Common.{arith, ◌<◌, ◌≡◌, ◌∙◌, subst, List, ℕ, get_or}
+use Rattle.std.proofs.Common.{arith, ◌<◌, ◌≡◌, ◌∙◌, [], Some, subst, ap, List, ℕ, get_or, length}
+use Rattle.std.specs.List.{slice_get}
+use Rattle.std.proofs.lemmas.Option.{get_or_from_slice_get}
+use Rattle.aig_core.specs.Aig.{Aig, IsAnd}
 use Rattle.list_laws.specs.Members.{In}
-use Rattle.cut_enum.specs.Table.{row_at}
-use Rattle.depth_label.specs.Label.{label_of}
-use Rattle.depth_label.proofs.LabelLaws.{leaves_below}
-use Rattle.cover_pick.specs.Fewest.{choice_of}
-use Rattle.cover_pick.proofs.ChoiceLaws.{choice_leaf}
 use Rattle.list_laws.proofs.Members.{In-get_or}
+use Rattle.cut_enum.specs.Table.{row_at}
+use Rattle.depth_label.specs.Label.{IsCutTable}
+use Rattle.depth_label.proofs.LabelLaws.{leaves_below}
+use Rattle.cover_pick.specs.Required.{need}
+use Rattle.cover_pick.proofs.WalkLaws.{each_other}
 use Rattle.cover_pick.proofs.required.visit.Goals as goal
+
+-- the leaves of a cut at a place are below the node
+below : (g : Aig) (rows : List (List (List ℕ))) (n place : ℕ) (leaves : List ℕ) → IsCutTable g rows → IsAnd g n → place < length (row_at rows n) → slice_get (row_at rows n) place ≡ Some leaves → (m : ℕ) → In leaves m → m < n
+below g rows n place leaves table node inside at m i =
+    leaves_below g rows n table node leaves m (subst (λ x. In (row_at rows n) x) (get_or_from_slice_get (row_at rows n) place leaves [] at) (In-get_or (row_at rows n) place [] inside)) i
 
 pub require_each-requires : goal.require_each-requires
 require_each-requires c i l =
-    let row = row_at c.args.table.now c.args.n in
     let leaves : List ℕ = c.leaves.result.now in
-    let e : leaves ≡ choice_of (row_at c.args.table.now) (label_of c.args.labels.now) c.args.n c.in-Some.r = c.leaves.ensures ∙ c.choose-cut.ensures in
-    let j : In (choice_of (row_at c.args.table.now) (label_of c.args.labels.now) c.args.n c.in-Some.r) (get_or leaves i 0) = subst (λ ms. In ms (get_or leaves i 0)) e (In-get_or leaves i 0 l) in
-    let b : get_or leaves i 0 < c.args.n = choice_leaf (row_at c.args.table.now) (label_of c.args.labels.now) c.args.n c.in-Some.r c.args.n (λ x m y z. leaves_below c.args.graph.now c.args.table.now c.args.n c.requires.table c.requires.node x m y z) (get_or leaves i 0) j in
+    let b : get_or leaves i 0 < c.args.n =
+    below c.args.graph.now c.args.table.now c.args.n c.in_ok-place.place leaves c.requires.table c.requires.node (c.choose.ensures.inside c.in_ok-place.place c.in_ok-place.was) c.leaves.ensures (get_or leaves i 0) (In-get_or leaves i 0 l) in
     omega arith
 
-pub choose-cut-requires : goal.choose-cut-requires
-choose-cut-requires c = (c.requires.table.are.each c.args.n c.requires.node.1 c.requires.node).ordered
+pub returns-clause-above : goal.returns-clause-above
+returns-clause-above c m le =
+    let leaves : List ℕ = c.leaves.result.now in
+    ap (λ s. need s m) c.require_each.ensures
+    ∙ each_other leaves c.args.reqs.now c.saturating_sub.result m
+    (λ i. absurd (let b : m < c.args.n = below c.args.graph.now c.args.table.now c.args.n c.in_ok-place.place leaves c.requires.table c.requires.node (c.choose.ensures.inside c.in_ok-place.place c.in_ok-place.was) c.leaves.ensures m i in omega arith))

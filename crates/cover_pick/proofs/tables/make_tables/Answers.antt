@@ -5,8 +5,8 @@ use Rattle.cover_pick.specs.Marks.{IsMarked, AreMade, Made, tables_from, tables_
 use Rattle.cover_pick.proofs.TableLaws.{tables_needed, marks_length}
 use Rattle.cover_pick.proofs.tables.make_tables.Goals as goal
 
-pub marked_tables-requires-clause-marks : goal.marked_tables-requires-clause-marks
-marked_tables-requires-clause-marks c =
+pub marked_tables-requires : goal.marked_tables-requires
+marked_tables-requires c =
     ap (λ (ms : List Bool). length ms) (c.deref.ensures.value ∙ c.in_ok-marks.ensures) ∙ marks_length c.args.graph.now (lits_of c.args.roots.now) c.args.cuts.now
 
 pub returns-clause-ok : goal.returns-clause-ok

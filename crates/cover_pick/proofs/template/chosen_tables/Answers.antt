@@ -1,32 +1,24 @@
-use Rattle.std.proofs.Common.{subst, sym, Some, ◌<◌}
 use Rattle.std.proofs.lemmas.Result.{err_from_is_err_and}
-use Rattle.tl_fault.specs.OrMemory.{OrMemory}
-use Rattle.cover_pick.specs.Refusals.{refusal_of}
 use Rattle.aig_core.specs.Roots.{lits_of}
-use Rattle.list_laws.specs.Members.{In}
 use Rattle.depth_label.specs.Label.{label_of}
-use Rattle.cover_pick.specs.declared.limits.TheConstants.{MOST_WORK}
-use Rattle.cover_pick.specs.Planned.{IsPlanned}
-use Rattle.cover_pick.specs.Marks.{tables_of}
 use Rattle.cover_pick.proofs.TemplateLaws.{leaves_inside}
 use Rattle.cover_pick.proofs.ChosenLaws.{light_is, too_much_told}
 use Rattle.cover_pick.proofs.template.chosen_tables.Goals as goal
 
 pub make_tables-requires-clause-leaves : goal.make_tables-requires-clause-leaves
 make_tables-requires-clause-leaves c x m i j =
-    leaves_inside c.args.graph.now c.args.table.now (label_of c.args.labels.now) (lits_of c.args.roots.now) c.in_ok-cuts.cuts.items c.requires.table c.in_ok-cuts.ensures.plan x m
-    (subst (λ os. In os (Some x)) c.deref.ensures.value i) j
+    leaves_inside c.args.graph.now c.args.table.now (label_of c.args.labels.now) (lits_of c.args.roots.now) c.in_ok-cuts.cuts c.requires.table c.in_ok-cuts.ensures.plan x m i j
 
 pub returns-clause-light : goal.returns-clause-light
 returns-clause-light c =
     light_is c.args.graph.now c.args.table.now (label_of c.args.labels.now) (lits_of c.args.roots.now) c.in_ok-made.made c.in_ok-cuts.ensures.normal (record {
-      cuts = c.deref.result.now;
-      plan = subst (λ os. IsPlanned c.args.graph.now c.args.table.now (label_of c.args.labels.now) (lits_of c.args.roots.now) os) (sym c.deref.ensures.value) c.in_ok-cuts.ensures.plan;
+      cuts = c.in_ok-cuts.cuts;
+      plan = c.in_ok-cuts.ensures.plan;
       tables = c.in_ok-made.ensures.ok;
     }) c.in_ok-made.ensures.within
 
 pub returns-in_err-made-clause-err : goal.returns-in_err-made-clause-err
 returns-in_err-made-clause-err c =
     let p = err_from_is_err_and c.from_residual-in_err-made.result c.from_residual-in_err-made.ensures.1 in
-    rw (p.1, p.2) (too_much_told c.args.graph.now c.args.table.now (label_of c.args.labels.now) (lits_of c.args.roots.now) c.in_ok-cuts.cuts.items c.in_ok-cuts.ensures.normal c.requires.table c.in_ok-cuts.ensures.plan c.requires.roots c.in_err-made.field-0.0
-    (subst (λ os. OrMemory refusal_of (λ _. MOST_WORK < (tables_of c.args.graph.now (lits_of c.args.roots.now) os).work) c.in_err-made.field-0.0) c.deref.ensures.value c.in_err-made.ensures.err))
+    rw (p.1, p.2) (too_much_told c.args.graph.now c.args.table.now (label_of c.args.labels.now) (lits_of c.args.roots.now) c.in_ok-cuts.cuts c.in_ok-cuts.ensures.normal c.requires.table c.in_ok-cuts.ensures.plan c.requires.roots c.in_err-made.field-0.0
+    c.in_err-made.ensures.err)

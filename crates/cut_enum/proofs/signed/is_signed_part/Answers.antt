@@ -1,6 +1,7 @@
-use Rattle.cut_enum.proofs.SignatureLemmas.{subset-signature}
+use Rattle.std.proofs.Common.{◌<◌, ◌^◌, arith, subst}
+use Rattle.cut_enum.proofs.SignatureLemmas.{outside-subset}
 use Rattle.cut_enum.proofs.signed.is_signed_part.Goals as goal
 
-pub returns-then-signature-whole_signature : goal.returns-then-signature-whole_signature
-returns-then-signature-whole_signature c =
-    subset-signature c.args.cut.now c.args.whole.now (rw (c.requires.signature, c.requires.whole) at c.if-signature-whole_signature.true)
+pub returns-then-outside-signature-ne0 : goal.returns-then-outside-signature-ne0
+returns-then-outside-signature-ne0 c =
+    outside-subset c.args.cut.now c.args.whole.now c.args.outside c.requires.outside (subst (λ m. m < 2 ^ 64) c.requires.signature (omega arith)) (rw (c.requires.signature) at c.if-outside-signature-ne0.true)

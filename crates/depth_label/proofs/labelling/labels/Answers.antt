@@ -10,8 +10,8 @@ use Rattle.depth_label.proofs.labelling.labels.Goals as goal
 pub loop-n-preserved : goal.loop-n-preserved
 loop-n-preserved c =
     let labels : List ℕ = c.loop-n.labels.items in
-    let cut : List ℕ = c.best_cut-cut.result in
-    let e : c.cut_height.result ≡ height (label_at labels) cut = c.cut_height.ensures ∙ (ap (λ ls. height (label_at ls) c.leaves.result.now) c.deref-in-loop-n.ensures.value ∙ ap (λ x. height (label_at labels) x) c.leaves.ensures) in
+    let cut : List ℕ = c.best_cut-cut.result.cut in
+    let e : c.best_cut-cut.result.height ≡ height (label_at labels) cut = c.best_cut-cut.ensures.height ∙ ap (λ ls. height (label_at ls) cut) c.deref.ensures.value in
     rw (c.in_ok-push.ensures.items, c.in_ok-push-2.ensures.items, e)
     (labels_push c.args.graph.now (row_at c.args.table.now) c.loop-n.n labels c.loop-n.best.items cut (omega arith)
     (λ m and x i. leaves_below c.args.graph.now c.args.table.now m c.requires and x i) c.loop-n.invariant c.best_cut-cut.ensures.source

@@ -1,0 +1,39 @@
+-- The chosen cuts, each by its place among the cuts of its node.
+use Rattle.std.specs.Prelude.{◌≡◌, ℕ, ◌+◌, ◌<◌, ◌≤◌, List, [], ◌∷◌, length, Option, Some, None, slice_index_or}
+use Rattle.aig_core.specs.Aig.{Aig, node_count}
+use Rattle.cut_enum.specs.Table.{row_at}
+use Rattle.cover_pick.specs.Fewest.{fewest}
+use Rattle.cover_pick.specs.Required.{need}
+
+-- the place of a node's cut, none where it has no cut
+abbrev pub place_at : List (Option ℕ) → ℕ → Option ℕ
+place_at places n = slice_index_or places n None
+
+-- the cut at a place of a row
+abbrev pub cut_of : List (List ℕ) → Option ℕ → Option (List ℕ)
+cut_of row None = None
+cut_of row (Some i) = Some (slice_index_or row i [])
+
+-- the cuts at the places of the nodes from n on
+abbrev pub cuts_from : List (List (List ℕ)) → ℕ → List (Option ℕ) → List (Option (List ℕ))
+cuts_from rows n [] = []
+cuts_from rows n (p ∷ ps) = cut_of (row_at rows n) p ∷ cuts_from rows (n + 1) ps
+
+abbrev pub cuts_of : List (List (List ℕ)) → List (Option ℕ) → List (Option (List ℕ))
+cuts_of rows places = cuts_from rows 0 places
+
+-- each place is one of its node's row
+abbrev pub ArePlaces : List (List (List ℕ)) → List (Option ℕ) → Type 0
+ArePlaces rows places = (n i : ℕ) → place_at places n ≡ Some i → i < length (row_at rows n)
+
+-- the best cut of a node, if it is needed, for its required depth
+abbrev pub best_for : (ℕ → ℕ) → List (List ℕ) → Option ℕ → Option (List ℕ)
+best_for label row None = None
+best_for label row (Some r) = fewest label r None row
+
+-- the places of the nodes from `from` on are those of their best cuts for these depths, and the nodes below have none
+pub record AreBestPlaces (g : Aig) (rows : List (List (List ℕ))) (label : ℕ → ℕ) (depths : List (Option ℕ)) (from : ℕ) (places : List (Option ℕ)) : Type 0 where
+  pub count : length places ≡ node_count g
+  pub inside : ArePlaces rows places
+  pub below : (n : ℕ) → n < from → place_at places n ≡ None
+  pub best : (n : ℕ) → from ≤ n → n < node_count g → cut_of (row_at rows n) (place_at places n) ≡ best_for label (row_at rows n) (need depths n)
