@@ -25,10 +25,6 @@ mod build_err;
 mod cover;
 mod net_lits;
 mod netlist;
-#[cfg(test)]
-mod netlist_tests;
-#[cfg(test)]
-mod tests;
 
 pub use build_err::BuildErr;
 pub use netlist::build;

@@ -21,8 +21,6 @@
 mod graph;
 mod lit;
 mod steps;
-#[cfg(test)]
-mod tests;
 
 pub use graph::{AigErr, Graph};
 pub use lit::{Kind, Lit, Pair, Roots, lit_value};

@@ -10,7 +10,6 @@ pub mod LawLemmas
 pub mod MadeLemmas
 pub mod MadeBitLemmas
 pub mod MakesLemmas
-pub mod NameExample
 pub mod PackExample
 pub mod PackKeptLemmas
 pub mod PackLemmas

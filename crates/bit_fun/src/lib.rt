@@ -40,8 +40,6 @@
 
 mod cone_graph;
 mod pack_of;
-#[cfg(test)]
-mod pack_tests;
 mod pass;
 
 pub use pack_of::functions;

@@ -47,8 +47,3 @@ pub use latch::Latch;
 pub use read_text::read;
 pub use row::Row;
 pub use subckt::{Pair, Subckt};
-
-#[cfg(test)]
-mod tests;
-#[cfg(test)]
-mod tool_tests;

@@ -23,8 +23,6 @@ mod netlist;
 mod piece;
 mod rows;
 mod tables;
-#[cfg(test)]
-mod tests;
 mod wires;
 
 pub use netlist::{specialised, template};

@@ -24,7 +24,7 @@ set_back marks n k m g q =
     let l : n < length marks = subst (λ j. n < j) (set_length marks n New) (slice_get_within (slice_set marks n New) n m h) in
     same_Some m New (sym h ∙ set_here marks n New l)
 
-forgotten-get : (marks : List Mark) (ns : List ℕ) (k : ℕ) (m : Mark) → slice_get (forgotten marks ns) k ≡ Some m → (m ≡ New) ⊎ ((In ns k → ⊥) × (slice_get marks k ≡ Some m))
+pub forgotten-get : (marks : List Mark) (ns : List ℕ) (k : ℕ) (m : Mark) → slice_get (forgotten marks ns) k ≡ Some m → (m ≡ New) ⊎ ((In ns k → ⊥) × (slice_get marks k ≡ Some m))
 forgotten-get marks [] k m g = inr (λ i. i, g)
 forgotten-get marks (n ∷ ns) k m g = elim (forgotten-get (slice_set marks n New) ns k m g) as (λ _. (m ≡ New) ⊎ ((In (n ∷ ns) k → ⊥) × (slice_get marks k ≡ Some m))) [
   | inl e ↦ inl e

@@ -7,7 +7,7 @@ mod FollowLemmas
 mod VisitLemmas
 mod AllLemmas
 mod ClearLemmas
+mod BackLemmas
 mod PathLemmas
 pub mod FallLemmas
 mod Examples
-mod RowLemmas

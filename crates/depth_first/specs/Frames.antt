@@ -1,5 +1,5 @@
 -- The state of a walk with its stack in memory: a mark for each node; the nodes that were entered, the order and the stack stand last first.
-use Rattle.std.specs.Prelude.{◌≡◌, ℕ, ◌+◌, ◌<◌, ◌⊎◌, Bool, true, false, List, [], ◌∷◌, length, Option, Some, None, slice_get, slice_set}
+use Rattle.std.specs.Prelude.{◌≡◌, ℕ, ◌+◌, ◌-◌, ◌<◌, ◌⊎◌, Bool, true, false, List, [], ◌∷◌, ◌++◌, length, take, drop, Option, Some, None, slice_get, slice_set}
 use Rattle.list_laws.specs.Members.{In}
 use Rattle.depth_first.specs.declared.frames.Frame.{Frame}
 use Rattle.depth_first.specs.declared.frames.Mark.{Mark}
@@ -75,6 +75,22 @@ has_path_mark None = false
 has_path_mark (Some New) = false
 has_path_mark (Some OnPath) = true
 has_path_mark (Some Done) = false
+
+-- only so many of the nodes that were entered are left: the later ones are taken away, and their marks forgotten
+abbrev pub renewed_since : ℕ → FramesValue → FramesValue
+renewed_since count w = record { marks = forgotten w.marks (take (length w.begun - count) w.begun); begun = drop (length w.begun - count) w.begun; order = w.order; stack = w.stack }
+
+-- and only so many of those that are done, and no path
+abbrev pub taken_back : ℕ → ℕ → FramesValue → FramesValue
+taken_back begun order w = record { marks = forgotten w.marks (take (length w.begun - begun) w.begun); begun = drop (length w.begun - begun) w.begun; order = drop (length w.order - order) w.order; stack = [] }
+
+-- v has come on from w: the nodes that were entered since then are others, and the order has grown
+pub record HasGrown (w v : FramesValue) : Type 0 where
+  pub since : List ℕ
+  pub begun : v.begun ≡ since ++ w.begun
+  pub others : (n : ℕ) → In since n → ¬ (In w.begun n)
+  pub behind : List ℕ
+  pub order : v.order ≡ behind ++ w.order
 
 -- as many marks as before, and they fit
 pub record AreKept (w v : FramesValue) : Type 0 where

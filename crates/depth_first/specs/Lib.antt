@@ -7,4 +7,3 @@ pub mod Walk
 -- What only bodies are compared with.
 pub mod Frames
 pub mod Steps
-pub mod Rows

@@ -2,7 +2,7 @@
 ghost use Rattle.std.specs.Prelude.{◌≡◌, ℕ, ◌+◌, ◌<◌, ◌^◌, [], ◌∷◌, length, replicate, reverse, slice_get, Some, IfOk, OnOk, OnErr};
 ghost use Rattle.list_laws.specs.Members.{In};
 ghost use Rattle.depth_first.specs.declared.frames.Mark.TheVariants.{New};
-ghost use Rattle.depth_first.specs.Frames.{entered, advanced, finished, has_path_mark, first_of, without_begun, renewed, forgotten};
+ghost use Rattle.depth_first.specs.Frames.{entered, advanced, finished, has_path_mark, first_of, without_begun, renewed, forgotten, renewed_since, taken_back};
 
 use std::alloc::{AllocError, Global};
 use std::marker::Model;
@@ -80,6 +80,20 @@ impl Frames {
         ensures { reverse result.now ≡ self.now.begun }
     {
         &self.begun
+    }
+
+    // How many nodes were entered.
+    pub(crate) fn begun_count(&self) -> usize
+        ensures { result ≡ length self.now.begun }
+    {
+        self.begun.len()
+    }
+
+    // How many nodes are done.
+    pub(crate) fn done_count(&self) -> usize
+        ensures { result ≡ length self.now.order }
+    {
+        self.order.len()
     }
 
     // The nodes that are done, in the order in which they were left.
@@ -169,5 +183,26 @@ pub(crate) fn forget(frames: &mut Frames)
         frames.renew(n);
     }
     frames.order.clear();
+    frames.stack.clear();
+}
+
+// Takes the nodes away that were entered last, until so many are left, and forgets their marks.
+fn renew_since(frames: &mut Frames, count: usize)
+    requires { (n : ℕ) → In frames.old.begun n → n < length frames.old.marks }
+    ensures { frames.new ≡ renewed_since count frames.old }
+{
+    while frames.begun_count() > count {
+        let Some(n) = frames.pop_begun() else { return };
+        frames.renew(n);
+    }
+}
+
+// Takes back what was entered and left since so many nodes had been entered and so many were done, and the path.
+pub(crate) fn take_back(frames: &mut Frames, begun: usize, order: usize)
+    requires { (n : ℕ) → In frames.old.begun n → n < length frames.old.marks }
+    ensures { frames.new ≡ taken_back begun order frames.old }
+{
+    renew_since(frames, begun);
+    frames.order.truncate(order);
     frames.stack.clear();
 }

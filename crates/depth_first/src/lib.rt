@@ -21,8 +21,6 @@
 mod edge;
 mod frames;
 mod run;
-#[cfg(test)]
-mod tests;
 mod walk;
 
 pub use edge::{Edge, End, Successors};

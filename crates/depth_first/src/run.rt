@@ -1,13 +1,13 @@
 //! The walk over a graph's edges.
-ghost use Rattle.std.specs.Prelude.{◌≡◌, [], Some, length, IfOk, OnErr};
+ghost use Rattle.std.specs.Prelude.{◌≡◌, [], All, Some, length, IfOk, OnErr};
 ghost use Rattle.depth_first.specs.Edges.{AreNodes, successors, ways_from};
-ghost use Rattle.depth_first.specs.Frames.{AreKept, AreMarks, first_of, path_of};
+ghost use Rattle.depth_first.specs.Frames.{AreKept, AreMarks, HasGrown, first_of, path_of};
 ghost use Rattle.depth_first.specs.Order.{IsSettled};
 ghost use Rattle.depth_first.specs.Steps.{IsEdgeWithin, Followed, IsGoing, Stepped, Ran, seen};
-ghost use Rattle.depth_first.specs.Walk.{Visited};
+ghost use Rattle.depth_first.specs.Walk.{Visited, VisitedAll};
 
 use crate::edge::{Edge, End, Successors};
-use crate::frames::{Frame, Frames, Mark};
+use crate::frames::{Frame, Frames, Mark, take_back};
 use std::alloc::AllocError;
 
 // Follows an edge: a new node is put on the path, and a node of the path or a stop is the end.
@@ -41,6 +41,7 @@ fn step<G: Successors>(
     requires top { first_of frames.old.stack ≡ Some frame }
     ensures ok { IfOk result (λ found. Stepped (G.edges graph.now) (G.is_node graph.now) frames.old frames.new found) }
     ensures kept { AreKept frames.old frames.new }
+    ensures grown { HasGrown frames.old frames.new }
 {
     match graph.successor(frame.node, frame.place) {
         None => {
@@ -61,6 +62,7 @@ fn run<G: Successors>(graph: &G, frames: &mut Frames) -> Result<Option<End<G::St
     requires going { IsGoing (G.edges graph.now) (G.is_node graph.now) frames.old }
     ensures ok { IfOk result (λ found. Ran (G.edges graph.now) (G.is_node graph.now) frames.old frames.new found) }
     ensures kept { AreKept frames.old frames.new }
+    ensures grown { HasGrown frames.old frames.new }
 {
     while let Some(frame) = frames.top() {
         let found = step(graph, frames, frame)?;
@@ -71,8 +73,8 @@ fn run<G: Successors>(graph: &G, frames: &mut Frames) -> Result<Option<End<G::St
     Ok(None)
 }
 
-// Walks from a start, unless it is done.
-pub(crate) fn visit_from<G: Successors>(
+// Walks from a start, unless it is done, as far as memory suffices.
+fn go_from<G: Successors>(
     graph: &G,
     frames: &mut Frames,
     start: u32,
@@ -84,6 +86,7 @@ pub(crate) fn visit_from<G: Successors>(
     requires empty { frames.old.stack ≡ [] }
     ensures ok { IfOk result (λ found. Visited (G.edges graph.now) (seen frames.old) (seen frames.new) start found) }
     ensures kept { AreKept frames.old frames.new }
+    ensures grown { HasGrown frames.old frames.new }
 {
     match frames.mark(start) {
         Mark::New => {
@@ -93,5 +96,81 @@ pub(crate) fn visit_from<G: Successors>(
         }
         Mark::OnPath => Ok(None),
         Mark::Done => Ok(None),
+    }
+}
+
+// Walks from a start, unless it is done. Out of memory, all is as before.
+pub(crate) fn visit_from<G: Successors>(
+    graph: &G,
+    frames: &mut Frames,
+    start: u32,
+) -> Result<Option<End<G::Stop>>, AllocError>
+    requires nodes { AreNodes (G.is_node graph.now) (successors (G.edges graph.now)) (length frames.old.marks) }
+    requires here { G.is_node graph.now start }
+    requires marks { AreMarks frames.old.marks frames.old.begun frames.old.order (path_of frames.old.stack) }
+    requires settled { IsSettled (ways_from (G.edges graph.now)) frames.old.order }
+    requires empty { frames.old.stack ≡ [] }
+    ensures ok { IfOk result (λ found. Visited (G.edges graph.now) (seen frames.old) (seen frames.new) start found) }
+    ensures err { OnErr result (seen frames.new ≡ seen frames.old) }
+    ensures kept { AreKept frames.old frames.new }
+{
+    let begun = frames.begun_count();
+    let order = frames.done_count();
+    match go_from(graph, frames, start) {
+        Ok(found) => Ok(found),
+        Err(error) => {
+            take_back(frames, begun, order);
+            Err(error)
+        }
+    }
+}
+
+// Walks from several starts in turn, up to the first end, as far as memory suffices.
+fn go_all<G: Successors>(
+    graph: &G,
+    frames: &mut Frames,
+    starts: &[u32],
+) -> Result<Option<End<G::Stop>>, AllocError>
+    requires nodes { AreNodes (G.is_node graph.now) (successors (G.edges graph.now)) (length frames.old.marks) }
+    requires here { All (λ start. G.is_node graph.now start) starts.now }
+    requires marks { AreMarks frames.old.marks frames.old.begun frames.old.order (path_of frames.old.stack) }
+    requires settled { IsSettled (ways_from (G.edges graph.now)) frames.old.order }
+    requires empty { frames.old.stack ≡ [] }
+    ensures ok { IfOk result (λ found. VisitedAll (G.edges graph.now) (seen frames.old) (seen frames.new) starts.now found) }
+    ensures kept { AreKept frames.old frames.new }
+    ensures grown { HasGrown frames.old frames.new }
+{
+    for &start in starts {
+        let found = go_from(graph, frames, start)?;
+        if found.is_some() {
+            return Ok(found);
+        }
+    }
+    Ok(None)
+}
+
+// Walks from several starts in turn, up to the first end. Out of memory, all is as before.
+pub(crate) fn visit_each<G: Successors>(
+    graph: &G,
+    frames: &mut Frames,
+    starts: &[u32],
+) -> Result<Option<End<G::Stop>>, AllocError>
+    requires nodes { AreNodes (G.is_node graph.now) (successors (G.edges graph.now)) (length frames.old.marks) }
+    requires here { All (λ start. G.is_node graph.now start) starts.now }
+    requires marks { AreMarks frames.old.marks frames.old.begun frames.old.order (path_of frames.old.stack) }
+    requires settled { IsSettled (ways_from (G.edges graph.now)) frames.old.order }
+    requires empty { frames.old.stack ≡ [] }
+    ensures ok { IfOk result (λ found. VisitedAll (G.edges graph.now) (seen frames.old) (seen frames.new) starts.now found) }
+    ensures err { OnErr result (seen frames.new ≡ seen frames.old) }
+    ensures kept { AreKept frames.old frames.new }
+{
+    let begun = frames.begun_count();
+    let order = frames.done_count();
+    match go_all(graph, frames, starts) {
+        Ok(found) => Ok(found),
+        Err(error) => {
+            take_back(frames, begun, order);
+            Err(error)
+        }
     }
 }

@@ -1,5 +1,5 @@
 //! Walks that share their marks.
-ghost use Rattle.std.specs.Prelude.{◌≡◌, ◌↔◌, [], All, IsTrue, reverse, IfOk};
+ghost use Rattle.std.specs.Prelude.{◌≡◌, ◌↔◌, [], All, IsTrue, reverse, IfOk, OnErr};
 ghost use Rattle.list_laws.specs.Members.{In};
 ghost use Rattle.depth_first.specs.Frames.{first_of};
 ghost use Rattle.depth_first.specs.Edges.{AreNodes, successors, ways_from};
@@ -8,7 +8,7 @@ ghost use Rattle.depth_first.specs.Walk.{Visited, VisitedAll, from_node};
 
 use crate::edge::{End, Successors};
 use crate::frames::{Frames, forget};
-use crate::run::visit_from;
+use crate::run::{visit_each, visit_from};
 use std::alloc::{AllocError, Global};
 use std::marker::Model;
 
@@ -50,7 +50,7 @@ impl Walk {
     /// the time is linear in the edges that are looked at.
     ///
     /// # Errors
-    /// Only for want of memory. Then the walk may be cleared, and nothing else is known of it.
+    /// Only for want of memory: then the walk is as before.
     pub fn visit<G: Successors>(
         &mut self,
         graph: &G,
@@ -61,6 +61,7 @@ impl Walk {
         requires settled { IsSettled (ways_from (G.edges graph.now)) self.old.order }
         requires path { self.old.path ≡ [] }
         ensures ok { IfOk result (λ found. Visited (G.edges graph.now) self.old self.new start found) }
+        ensures err { OnErr result (self.new ≡ self.old) }
         ensures count { self.new.count ≡ self.old.count }
     {
         let found = visit_from(graph, &mut self.frames, start)?;
@@ -70,7 +71,7 @@ impl Walk {
     /// Walks from several starts in turn, as `visit` does, up to the first end.
     ///
     /// # Errors
-    /// Only for want of memory. Then the walk may be cleared, and nothing else is known of it.
+    /// Only for want of memory: then the walk is as before.
     pub fn visit_all<G: Successors>(
         &mut self,
         graph: &G,
@@ -81,15 +82,11 @@ impl Walk {
         requires settled { IsSettled (ways_from (G.edges graph.now)) self.old.order }
         requires path { self.old.path ≡ [] }
         ensures ok { IfOk result (λ found. VisitedAll (G.edges graph.now) self.old self.new starts.now found) }
+        ensures err { OnErr result (self.new ≡ self.old) }
         ensures count { self.new.count ≡ self.old.count }
     {
-        for &start in starts {
-            let found = self.visit(graph, start)?;
-            if found.is_some() {
-                return Ok(found);
-            }
-        }
-        Ok(None)
+        let found = visit_each(graph, &mut self.frames, starts)?;
+        Ok(found)
     }
 
     /// The nodes that were entered, in this order.

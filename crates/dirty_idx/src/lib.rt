@@ -17,8 +17,6 @@
 
 mod lists;
 mod readers;
-#[cfg(test)]
-mod tests;
 mod tiers;
 
 pub use readers::Readers;

@@ -34,8 +34,6 @@ mod head;
 mod net;
 mod netlist;
 mod numbers;
-#[cfg(test)]
-mod tests;
 
 pub use case::Case;
 pub use generate::multiplier;

@@ -22,7 +22,5 @@
 mod bank;
 mod boxes;
 mod regions;
-#[cfg(test)]
-mod tests;
 
 pub use bank::{Bank, PortBank, PortFault};

@@ -39,8 +39,6 @@ mod put_parts;
 mod read_bits;
 mod read_nodes;
 mod read_params;
-#[cfg(test)]
-mod tests;
 mod version;
 
 pub use decoder::decode;

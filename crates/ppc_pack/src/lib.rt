@@ -18,8 +18,6 @@
 #![tactic(auto)]
 
 mod pack;
-#[cfg(test)]
-mod tests;
 
 pub use pack::{
     MOST_NAME_BYTES, MOST_PACK_BITS, MOST_PACK_NODES, MOST_PARAMETERS, Pack, PackParam,

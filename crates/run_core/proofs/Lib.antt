@@ -1,3 +1,2 @@
 pub mod HostLemmas
 pub mod TableLemmas
-pub mod MultiplexerLemmas

@@ -15,8 +15,6 @@
 mod host;
 mod machine;
 mod step_err;
-#[cfg(test)]
-mod tests;
 
 pub use host::Host;
 pub use machine::Machine;

@@ -47,10 +47,3 @@ pub use regular_inputs::regular;
 pub use script_err::ScriptErr;
 pub use scripts::read_script;
 pub use write_lines::{put_scrub, put_set, put_upset};
-
-#[cfg(test)]
-mod params_tests;
-#[cfg(test)]
-mod script_tests;
-#[cfg(test)]
-mod tests;

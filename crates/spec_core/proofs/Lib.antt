@@ -6,5 +6,4 @@ pub mod AssignLemmas
 pub mod WriteLemmas
 pub mod ChangeLemmas
 pub mod KeepLemmas
-pub mod TestLemmas
 pub mod EventsExample

@@ -19,7 +19,5 @@
 mod device;
 mod evaluation;
 mod specialiser;
-#[cfg(test)]
-mod tests;
 
 pub use specialiser::Specialiser;

@@ -1,4 +1,4 @@
-ghost use Rattle.std.specs.Prelude.{◌≡◌, ◌-◌, ◌^◌, ◌≤◌, false, is_some};
+ghost use Rattle.std.specs.Prelude.{◌≡◌, ◌-◌, ◌^◌, ◌≤◌, false, is_some, length, IfOk, OnErr};
 ghost use Rattle.std.proofs.Common.{rules};
 ghost use Rattle.tl_io.specs.DiskValue.{DiskValue, shelf_on_disk};
 ghost use Rattle.tl_io.specs.ShelfCounts.{no_counts};
@@ -41,6 +41,26 @@ impl<R: Files + Drop> DiskShelf<R> {
     }
 }
 
+// How many bytes are asked of a file at most.
+const PIECE: usize = 4_096;
+
+// Reads the next bytes of a file into the head of the buffer. What a read that fails leaves in its buffer isn't known, so the
+// bytes pass through a piece apart.
+fn read_piece<F: Read>(file: &mut F, buf: &mut [u8]) -> Result<usize, Failed>
+    ensures bound { IfOk result (λ count. count ≤ length buf.new) }
+    ensures kept { OnErr result (buf.new ≡ buf.old) }
+{
+    let mut piece = [0; PIECE];
+    let most = buf.len().min(PIECE);
+    match file.read(&mut piece[..most]) {
+        Ok(count) => {
+            buf[..count].copy_from_slice(&piece[..count]);
+            Ok(count)
+        }
+        Err(_) => Err(Failed),
+    }
+}
+
 impl<R: Files + Drop> Shelf for DiskShelf<R> {
     ghost seen = { λ shelf. shelf_on_disk shelf };
 
@@ -63,9 +83,9 @@ impl<R: Files + Drop> Shelf for DiskShelf<R> {
     fn pull(&mut self, buf: &mut [u8]) -> Result<usize, Failed> {
         let mut count = 0;
         if let Some(file) = &mut self.reading {
-            match file.read(buf) {
+            match read_piece(file, buf) {
                 Ok(given) => count = given,
-                Err(_) => {
+                Err(Failed) => {
                     self.counts.count_read_fault();
                     return Err(Failed);
                 }

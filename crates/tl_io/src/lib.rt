@@ -70,6 +70,3 @@ pub struct Assign {
     /// Its value.
     pub bit: bool,
 }
-
-#[cfg(test)]
-mod tests;

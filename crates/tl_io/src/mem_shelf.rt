@@ -118,6 +118,7 @@ impl Shelf for MemShelf {
         requires { IsTrue (shelf_in_memory self.old).is_reading }
         ensures cause { HasCause (shelf_in_memory self.old).read_faults (shelf_in_memory self.new).read_faults result }
         ensures pulls { Pulls (shelf_in_memory self.old) (shelf_in_memory self.new) buf.new result }
+        ensures kept { OnErr result (buf.new ≡ buf.old) }
         ensures reading { IsTrue (shelf_in_memory self.new).is_reading }
         ensures is_writing { (shelf_in_memory self.new).is_writing ≡ (shelf_in_memory self.old).is_writing }
         ensures writing { (shelf_in_memory self.new).writing ≡ (shelf_in_memory self.old).writing }

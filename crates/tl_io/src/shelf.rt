@@ -1,4 +1,4 @@
-ghost use Rattle.std.specs.Prelude.{◌≡◌, ◌-◌, ◌^◌, ◌≤◌, IsTrue, false, take};
+ghost use Rattle.std.specs.Prelude.{◌≡◌, ◌-◌, ◌^◌, ◌≤◌, IsTrue, OnErr, false, take};
 ghost use Rattle.tl_io.specs.Causes.{HasCause};
 ghost use Rattle.tl_io.specs.Content.{Puts};
 ghost use Rattle.tl_io.specs.Shelf.{ShelfSeen, Begins, BeginsWrite, Pulls, apart, written};
@@ -31,11 +31,12 @@ pub trait Shelf {
     /// `Ok(0)` for a buffer that isn't empty is the file's end.
     ///
     /// # Errors
-    /// `Failed` gives no bytes; the file is still being read.
+    /// `Failed` gives no bytes, and the buffer is as before; the file is still being read.
     fn pull(&mut self, buf: &mut [u8]) -> Result<usize, Failed>
         requires { IsTrue (seen self.old).is_reading }
         ensures cause { HasCause (seen self.old).read_faults (seen self.new).read_faults result }
         ensures pulls { Pulls (seen self.old) (seen self.new) buf.new result }
+        ensures kept { OnErr result (buf.new ≡ buf.old) }
         ensures reading { IsTrue (seen self.new).is_reading }
         ensures is_writing { (seen self.new).is_writing ≡ (seen self.old).is_writing }
         ensures writing { (seen self.new).writing ≡ (seen self.old).writing }

@@ -26,8 +26,6 @@ mod logical_lines;
 mod name_index;
 mod physical_line;
 mod reader;
-#[cfg(test)]
-mod tests;
 mod text_err;
 mod token;
 

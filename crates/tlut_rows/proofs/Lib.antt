@@ -1,2 +1,3 @@
 mod TextExamples
 mod JobExamples
+mod CommandExamples

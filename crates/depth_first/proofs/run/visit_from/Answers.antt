@@ -1,13 +1,12 @@
-use Rattle.std.proofs.Common.{Some, ap, ◌∙◌, subst}
-use Rattle.depth_first.specs.Steps.{Ran}
-use Rattle.depth_first.proofs.VisitLemmas.{visited_done, visited_ran}
+use Rattle.depth_first.proofs.BackLemmas.{seen_back, kept_back}
 use Rattle.depth_first.proofs.run.visit_from.Goals as goal
 
-pub returns-in_ok-found-in-New-clause-ok : goal.returns-in_ok-found-in-New-clause-ok
-returns-in_ok-found-in-New-clause-ok g c = let e = g.G.Successors.edges c.args.graph.now in let n = g.G.Successors.is_node c.args.graph.now in
-    visited_ran e n c.args.frames.now c.args.start c.requires.marks c.requires.settled c.requires.empty (c.mark.ensures ∙ ap Some c.in-New.is) c.run.new.frames c.in_ok-found-in-New.found
-    (subst (λ x. Ran e n x c.run.new.frames c.in_ok-found-in-New.found) c.in_ok-enter-in-New.ensures.ok c.in_ok-found-in-New.ensures.ok)
+pub returns-in-Err-clause-err : goal.returns-in-Err-clause-err
+returns-in-Err-clause-err g c =
+    seen_back c.args.frames.now c.go_from.new.frames c.requires.marks c.requires.empty c.go_from.ensures.kept c.go_from.ensures.grown
+    c.begun_count-begun.result c.done_count-order.result c.take_back.new.frames c.begun_count-begun.ensures c.done_count-order.ensures c.take_back.ensures
 
-pub returns-in-Done-clause-ok : goal.returns-in-Done-clause-ok
-returns-in-Done-clause-ok g c = let e = g.G.Successors.edges c.args.graph.now in let n = g.G.Successors.is_node c.args.graph.now in
-    visited_done e n c.args.frames.now c.args.start c.requires.marks c.requires.settled c.requires.empty (c.mark.ensures ∙ ap Some c.in-Done.is)
+pub returns-in-Err-clause-kept : goal.returns-in-Err-clause-kept
+returns-in-Err-clause-kept g c =
+    kept_back c.args.frames.now c.go_from.new.frames c.requires.marks c.requires.empty c.go_from.ensures.kept c.go_from.ensures.grown
+    c.begun_count-begun.result c.done_count-order.result c.take_back.new.frames c.begun_count-begun.ensures c.done_count-order.ensures c.take_back.ensures

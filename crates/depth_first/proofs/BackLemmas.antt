@@ -1,0 +1,214 @@
+-- A walk that comes on, and what is taken back where memory runs out.
+use Rattle.std.proofs.Common.{◌≡◌, ℕ, suc, ◌-◌, ◌<◌, ◌≤◌, Option, List, [], ◌∷◌, ◌++◌, length, take, drop, reverse, Some, None, refl, sym, ap, ◌∙◌, subst, subst₂, append_assoc, length-append, take-append-drop, inl, inr, arith}
+use Rattle.std.specs.Prelude.{slice_get, slice_set}
+use Rattle.std.proofs.Math.Seq.{take-append_seam, drop-append_seam}
+use Rattle.std.proofs.lemmas.List.{length-drop, length-reverse, reverse-append}
+use Rattle.std.proofs.lemmas.Option.{none-some, same_Some}
+use Rattle.list_laws.specs.Members.{In}
+use Rattle.list_laws.proofs.Members.{In-append, In-right}
+use Rattle.list_laws.proofs.Places.{at_within, set_other, set_length}
+use Rattle.depth_first.specs.declared.edge.Edge.{Edge}
+use Rattle.depth_first.specs.declared.frames.Frame.{Frame}
+use Rattle.depth_first.specs.declared.frames.Mark.{Mark}
+use Rattle.depth_first.specs.declared.frames.Mark.TheVariants.{New, OnPath, Done}
+use Rattle.depth_first.specs.declared.edge.End.{End}
+use Rattle.depth_first.specs.Walk.{WalkValue}
+use Rattle.depth_first.specs.Steps.{Followed, passes, stops_at, enters, hits, skips_over, seen}
+use Rattle.depth_first.specs.Frames.{FramesValue, path_of, entered, first_of, others_of, advanced, finished, without_begun, renewed, forgotten, renewed_since, taken_back, AreMarks, AreKept, HasGrown}
+use Rattle.depth_first.proofs.ClearLemmas.{forgotten-length, forgotten-get, first_others}
+
+-- the last so many of a reversed list
+pub reverse_take : {A : Type 0} (xs : List A) (n : ℕ) → reverse (take n xs) ≡ drop (length xs - n) (reverse xs)
+reverse_take xs n =
+    let e : reverse xs ≡ reverse (drop n xs) ++ reverse (take n xs) = ap reverse (sym (take-append-drop n xs)) ∙ reverse-append (take n xs) (drop n xs) in
+    let l : length (reverse (drop n xs)) ≡ length xs - n = length-reverse (drop n xs) ∙ length-drop n xs in
+    sym (ap (drop (length xs - n)) e ∙ subst (λ k. drop k (reverse (drop n xs) ++ reverse (take n xs)) ≡ reverse (take n xs)) l (drop-append_seam (reverse (drop n xs)) (reverse (take n xs))))
+
+abbrev shortened : ℕ → FramesValue → FramesValue
+shortened k v = record { marks = v.marks; begun = v.begun; order = drop (length v.order - k) v.order; stack = [] }
+
+pub shorten : (v : FramesValue) (items left : List ℕ) (stack : List Frame) (k : ℕ) → v.order ≡ reverse items → left ≡ take k items → stack ≡ []
+    → record { marks = v.marks; begun = v.begun; order = reverse left; stack = reverse stack } ≡ shortened k v
+shorten v items left stack k q p r =
+    let o : reverse left ≡ drop (length v.order - k) v.order = ap reverse p ∙ reverse_take items k ∙ ap (λ n. drop (n - k) (reverse items)) (sym (length-reverse items)) ∙ ap (λ x. drop (length x - k) x) (sym q) in
+    ap (λ x. record { marks = v.marks; begun = v.begun; order = x; stack = reverse stack }) o
+    ∙ ap (λ s. record { marks = v.marks; begun = v.begun; order = drop (length v.order - k) v.order; stack = reverse s }) r
+
+pub take_back_is : (begun k : ℕ) (w v : FramesValue) → v ≡ renewed_since begun w → shortened k v ≡ taken_back begun k w
+take_back_is begun k w v e = ap (shortened k) e
+
+-- one more of the nodes that were entered last is taken away, and all are
+pub renew_within : (v : FramesValue) (n : ℕ) → first_of v.begun ≡ Some n → ((k : ℕ) → In v.begun k → k < length v.marks) → (u : FramesValue) → u ≡ renewed (without_begun v) n
+    → (k : ℕ) → In u.begun k → k < length u.marks
+renew_within v n f h u e = subst (λ (x : FramesValue). (k : ℕ) → In x.begun k → k < length x.marks) (sym e)
+    (λ k i. subst (λ j. k < j) (sym (set_length v.marks n New)) (h k (subst (λ x. In x k) (sym (first_others v.begun n f)) (inr i))))
+
+module _ (v : FramesValue) (count : ℕ) where
+  abbrev cut : ℕ → List ℕ → FramesValue
+  cut k begun = record { marks = forgotten v.marks (take k begun); begun = drop k begun; order = v.order; stack = v.stack }
+
+  cut_next : (n : ℕ) (rest : List ℕ) → count < length (n ∷ rest) → cut (suc (length rest - count)) (n ∷ rest) ≡ cut (length (n ∷ rest) - count) (n ∷ rest)
+  cut_next n rest l = let q : suc (length rest - count) ≡ length (n ∷ rest) - count = omega (arith, l) in ap (λ k. cut k (n ∷ rest)) q
+
+  pub renew_step : (n : ℕ) → first_of v.begun ≡ Some n → count < length v.begun → renewed_since count (renewed (without_begun v) n) ≡ renewed_since count v
+  renew_step n e l =
+      let q = first_others v.begun n e in
+      cut_next n (others_of v.begun) (subst (λ b. count < length b) q l) ∙ ap (λ b. cut (length b - count) b) (sym q)
+
+  cut_none : (k : ℕ) (begun : List ℕ) → k ≡ 0 → record { marks = v.marks; begun = begun; order = v.order; stack = v.stack } ≡ cut k begun
+  cut_none k [] e = subst (λ j. record { marks = v.marks; begun = []; order = v.order; stack = v.stack } ≡ cut j []) (sym e) refl
+  cut_none k (n ∷ ns) e = subst (λ j. record { marks = v.marks; begun = n ∷ ns; order = v.order; stack = v.stack } ≡ cut j (n ∷ ns)) (sym e) refl
+
+  pub renew_end : length v.begun ≤ count → v ≡ renewed_since count v
+  renew_end l = cut_none (length v.begun - count) v.begun (omega (arith, l))
+
+pub some_first : {A : Type 0} (xs : List A) (count : ℕ) → first_of xs ≡ None → count < length xs → ⊥
+some_first [] count e l = omega (arith, l)
+some_first (x ∷ xs) count e l = none-some x (sym e)
+
+-- a walk comes on step by step
+pub grown_none : (w : FramesValue) → HasGrown w w
+grown_none w = record { since = []; begun = refl; others = λ n i j. i; behind = []; order = refl }
+
+pub grown_on : (w v u : FramesValue) → HasGrown w v → HasGrown v u → HasGrown w u
+grown_on w v u g h = record {
+  since = h.since ++ g.since;
+  begun = h.begun ∙ ap (λ x. h.since ++ x) g.begun ∙ sym (append_assoc h.since g.since w.begun);
+  others = λ n i j. elim (In-append h.since g.since n i) [ inl a ↦ h.others n a (subst (λ x. In x n) (sym g.begun) (In-right g.since w.begun n j)) | inr b ↦ g.others n b j ];
+  behind = h.behind ++ g.behind;
+  order = h.order ∙ ap (λ x. h.behind ++ x) g.order ∙ sym (append_assoc h.behind g.behind w.order);
+}
+
+pub grown_entered : (w : FramesValue) (path : List ℕ) (n : ℕ) → AreMarks w.marks w.begun w.order path → slice_get w.marks n ≡ Some New → HasGrown w (entered w n)
+grown_entered w path n fit e =
+    let f = fit.fresh n e in
+    let new : In w.begun n → ⊥ = λ i. elim (fit.entered n i) [ inl p ↦ f.0 p | inr o ↦ f.1 o ] in
+    record { since = n ∷ []; begun = refl; others = λ k i j. elim i [ inl q ↦ new (subst (λ y. In w.begun y) q j) | inr b ↦ b ]; behind = []; order = refl }
+
+pub grown_finished : (w : FramesValue) (n : ℕ) → HasGrown w (finished w n)
+grown_finished w n = record { since = []; begun = refl; others = λ k i j. i; behind = n ∷ []; order = refl }
+
+pub grown_advanced : (w : FramesValue) (f : Frame) → HasGrown w (advanced w f)
+grown_advanced w f = record { since = []; begun = refl; others = λ k i j. i; behind = []; order = refl }
+
+module _ {S : Type 0} (w : FramesValue) (path : List ℕ) (fit : AreMarks w.marks w.begun w.order path) (edge : Edge S) where
+  pub grown_followed : (v : FramesValue) (found : Option (End S)) → Followed w edge v found → HasGrown w v
+  grown_followed v found (passes is q r) = subst (HasGrown w) (sym q) (grown_none w)
+  grown_followed v found (stops_at s is q r) = subst (HasGrown w) (sym q) (grown_none w)
+  grown_followed v found (enters n is z q r) = subst (HasGrown w) (sym q) (grown_entered w path n fit z)
+  grown_followed v found (hits n is z q r) = subst (HasGrown w) (sym q) (grown_none w)
+  grown_followed v found (skips_over n is z q r) = subst (HasGrown w) (sym q) (grown_none w)
+
+-- the nodes that were entered are numbered
+pub begun_within : (v : FramesValue) → AreMarks v.marks v.begun v.order (path_of v.stack) → (n : ℕ) → In v.begun n → n < length v.marks
+begun_within v fit n i = elim (fit.entered n i) [ inl p ↦ fit.below n p | inr o ↦ fit.inside n o ]
+
+-- a node that is done has its mark
+mark_is_done : (marks : List Mark) (begun order path : List ℕ) → AreMarks marks begun order path → (n : ℕ) → In order n → (m : Mark) → slice_get marks n ≡ Some m → m ≡ Done
+mark_is_done marks begun order path fit n i New g = absurd ((fit.fresh n g).1 i)
+mark_is_done marks begun order path fit n i OnPath g = absurd (fit.apart n (fit.on n g) i)
+mark_is_done marks begun order path fit n i Done g = refl
+
+forgotten-other : (marks : List Mark) (ns : List ℕ) (k : ℕ) → (In ns k → ⊥) → slice_get (forgotten marks ns) k ≡ slice_get marks k
+forgotten-other marks [] k o = refl
+forgotten-other marks (n ∷ ns) k o = forgotten-other (slice_set marks n New) ns k (λ i. o (inr i)) ∙ set_other marks n k New (λ e. o (inl e))
+
+-- what was joined is taken apart
+more_left : {A : Type 0} (xs ys : List A) → length (xs ++ ys) - length ys ≡ length xs
+more_left xs ys = let l = length-append xs ys in omega (arith, l)
+
+take_more : {A : Type 0} (zs xs ys : List A) → zs ≡ xs ++ ys → take (length zs - length ys) zs ≡ xs
+take_more zs xs ys e = ap (λ z. take (length z - length ys) z) e ∙ ap (λ k. take k (xs ++ ys)) (more_left xs ys) ∙ take-append_seam xs ys
+
+drop_more : {A : Type 0} (zs xs ys : List A) → zs ≡ xs ++ ys → drop (length zs - length ys) zs ≡ ys
+drop_more zs xs ys e = ap (λ z. drop (length z - length ys) z) e ∙ ap (λ k. drop k (xs ++ ys)) (more_left xs ys) ∙ drop-append_seam xs ys
+
+abbrev value : ℕ → List ℕ → List ℕ → List ℕ → WalkValue
+value c b o p = record { count = c; begun = b; order = o; path = p }
+
+module _ (w v : FramesValue) (fit : AreMarks w.marks w.begun w.order (path_of w.stack)) (empty : w.stack ≡ []) (kept : AreKept w v) (grown : HasGrown w v) where
+  no_old_path : (n : ℕ) → In (path_of w.stack) n → ⊥
+  no_old_path n i = subst (λ s. In (path_of s) n) empty i
+
+  old_order : (n : ℕ) → In w.begun n → In w.order n
+  old_order n i = elim (fit.entered n i) [ inl p ↦ absurd (no_old_path n p) | inr o ↦ o ]
+
+  still_done : (n : ℕ) → In w.order n → In v.order n
+  still_done n i = subst (λ x. In x n) (sym grown.order) (In-right grown.behind w.order n i)
+
+  old_begun : (n : ℕ) → (In grown.since n → ⊥) → In v.begun n → In w.begun n
+  old_begun n o i = elim (In-append grown.since w.begun n (subst (λ x. In x n) grown.begun i)) [ inl a ↦ absurd (o a) | inr b ↦ b ]
+
+  abbrev marks_back : List Mark
+  marks_back = forgotten v.marks grown.since
+
+  not_new : (n : ℕ) → slice_get marks_back n ≡ Some New → In w.order n → ⊥
+  not_new n g i =
+      let j = still_done n i in
+      let m = at_within v.marks n (kept.fit.inside n j) in
+      let d : m.0 ≡ Done = mark_is_done v.marks v.begun v.order (path_of v.stack) kept.fit n j m.0 m.1 in
+      let o : In grown.since n → ⊥ = λ a. grown.others n a (fit.walked n (inr i)) in
+      let e : New ≡ Done = same_Some New Done (sym g ∙ forgotten-other v.marks grown.since n o ∙ m.1 ∙ ap Some d) in cc
+
+  not_on_path : (n : ℕ) → slice_get marks_back n ≡ Some OnPath → ⊥
+  not_on_path n g = elim (forgotten-get v.marks grown.since n OnPath g) [
+    | inl e ↦ absurd (let z : OnPath ≡ New = e in cc)
+    | inr p ↦ (let i = kept.fit.on n p.1 in kept.fit.apart n i (still_done n (old_order n (old_begun n p.0 (kept.fit.walked n (inl i))))))
+  ]
+
+  was_done : (n : ℕ) → slice_get marks_back n ≡ Some Done → In w.order n
+  was_done n g = elim (forgotten-get v.marks grown.since n Done g) [
+    | inl e ↦ absurd (let z : Done ≡ New = e in cc)
+    | inr p ↦ old_order n (old_begun n p.0 (kept.fit.walked n (inr (kept.fit.off n p.1))))
+  ]
+
+  fits_back : AreMarks marks_back w.begun w.order []
+  fits_back = record {
+    below = λ n i. absurd i;
+    inside = λ n i. subst (λ k. n < k) (sym (forgotten-length v.marks grown.since)) (kept.fit.inside n (still_done n i));
+    once = tt;
+    entered = λ n i. inr (old_order n i);
+    walked = λ n i. elim i [ inl b ↦ absurd b | inr o ↦ fit.walked n (inr o) ];
+    apart = λ n i j. i;
+    fresh = λ n g. (λ i. i, not_new n g);
+    on = λ n g. absurd (not_on_path n g);
+    off = was_done;
+  }
+
+  abbrev taken : FramesValue
+  taken = taken_back (length w.begun) (length w.order) v
+
+  begun_back : taken.begun ≡ w.begun
+  begun_back = drop_more v.begun grown.since w.begun grown.begun
+
+  order_back : taken.order ≡ w.order
+  order_back = drop_more v.order grown.behind w.order grown.order
+
+  marks_same : taken.marks ≡ marks_back
+  marks_same = ap (forgotten v.marks) (take_more v.begun grown.since w.begun grown.begun)
+
+  count_back : length taken.marks ≡ length w.marks
+  count_back = ap length marks_same ∙ forgotten-length v.marks grown.since ∙ kept.long
+
+  seen_taken : seen taken ≡ seen w
+  seen_taken = ap (λ c. value c taken.begun taken.order []) count_back
+      ∙ ap (λ b. value (length w.marks) b taken.order []) begun_back
+      ∙ ap (λ o. value (length w.marks) w.begun o []) order_back
+      ∙ ap (λ s. value (length w.marks) w.begun w.order (path_of s)) (sym empty)
+
+  kept_taken : AreKept w taken
+  kept_taken = record {
+    long = count_back;
+    fit = subst (λ m. AreMarks m taken.begun taken.order []) (sym marks_same) (subst₂ (λ b o. AreMarks marks_back b o []) (sym begun_back) (sym order_back) fits_back);
+  }
+
+  -- the state is seen as before, and its marks fit
+  module _ (begun order : ℕ) (u : FramesValue) (p : begun ≡ length w.begun) (q : order ≡ length w.order) (e : u ≡ taken_back begun order v) where
+    is_taken : u ≡ taken
+    is_taken = e ∙ ap (λ k. taken_back k order v) p ∙ ap (λ k. taken_back (length w.begun) k v) q
+
+    pub seen_back : seen u ≡ seen w
+    seen_back = ap seen is_taken ∙ seen_taken
+
+    pub kept_back : AreKept w u
+    kept_back = subst (AreKept w) (sym is_taken) kept_taken

@@ -1,0 +1,10 @@
+use Rattle.std.proofs.Common.{◌≡◌, ℕ, ◌<◌, length}
+use Rattle.list_laws.specs.Members.{In}
+use Rattle.depth_first.specs.Frames.{renewed_since}
+use Rattle.depth_first.proofs.frames.renew_since.Given as goal
+
+abbrev pub invariant-loop-frames : goal.invariant-loop-frames
+invariant-loop-frames l = ((n : ℕ) → In l.frames.begun n → n < length l.frames.marks) × (renewed_since l.count l.frames ≡ renewed_since l.count l.initial.frames)
+
+abbrev pub decreases-loop-frames : goal.decreases-loop-frames
+decreases-loop-frames l = length l.frames.begun

@@ -1,0 +1,4 @@
+pub mod MultiplexerLemmas
+pub mod PackLemmas
+pub mod NameExample
+pub mod RowLemmas

@@ -1,0 +1,110 @@
+//! Cases of one digit, of two and of 32. The texts were written by hand from the rules in words; the lengths and the lines of
+//! 32 digits are those of another program.
+use gen_case::multiplier;
+use std::test::Fail;
+
+const ONE_DIGIT: &[u8] = b".model mul
+.inputs x0 c0
+.outputs y0 y1
+.names zero
+.names x0 c0 p0_0
+11 1
+.names p0_0 y0
+1 1
+.names zero y1
+1 1
+.end
+.model fa
+.inputs a b c
+.outputs s k
+.names a b c s
+100 1
+010 1
+001 1
+111 1
+.names a b c k
+11- 1
+1-1 1
+-11 1
+.end
+";
+
+const TWO_DIGITS: &[u8] = b".model mul
+.inputs x0 x1 c0 c1
+.outputs y0 y1 y2 y3
+.names zero
+.names x0 c0 p0_0
+11 1
+.names x1 c0 p1_0
+11 1
+.names x0 c1 p0_1
+11 1
+.names x1 c1 p1_1
+11 1
+.subckt fa a=p1_0 b=p0_1 c=zero s=s1_0 k=k1_0
+.subckt fa a=zero b=p1_1 c=k1_0 s=s1_1 k=k1_1
+.names p0_0 y0
+1 1
+.names s1_0 y1
+1 1
+.names s1_1 y2
+1 1
+.names k1_1 y3
+1 1
+.end
+.model fa
+.inputs a b c
+.outputs s k
+.names a b c s
+100 1
+010 1
+001 1
+111 1
+.names a b c k
+11- 1
+1-1 1
+-11 1
+.end
+";
+
+#[test]
+fn one_digit(rt: HostRuntime) -> Result<(), Fail> {
+    let made = multiplier(rt.alloc(), 1, 0)?;
+    assert_eq!(rt; made.netlist.as_slice(), ONE_DIGIT);
+    assert_eq!(rt; made.params.as_slice(), b"c0 0\n".as_slice());
+    assert_eq!(rt; made.script.len(), 1700);
+    for two_rounds in made.script.chunks(34) {
+        assert_eq!(rt;
+            two_rounds,
+            b"set c0=1\ncycle 1\nset c0=0\ncycle 0\n".as_slice()
+        );
+    }
+    Ok(())
+}
+
+#[test]
+fn two_digits(rt: HostRuntime) -> Result<(), Fail> {
+    let made = multiplier(rt.alloc(), 2, 1)?;
+    assert_eq!(rt; made.netlist.as_slice(), TWO_DIGITS);
+    assert_eq!(rt; made.params.as_slice(), b"c0 1\nc1 0\n".as_slice());
+    assert_eq!(rt; made.script.len(), 2300);
+    let first = b"set c0=0 c1=1\ncycle 00\nset c0=1 c1=1\ncycle 10\n";
+    assert!(rt; made.script.starts_with(first));
+    let last = b"set c0=0 c1=0\ncycle 00\nset c0=1 c1=0\ncycle 10\n";
+    assert!(rt; made.script.ends_with(last));
+    Ok(())
+}
+
+#[test]
+fn thirty_two_digits(rt: HostRuntime) -> Result<(), Fail> {
+    let made = multiplier(rt.alloc(), 32, 4294967295)?;
+    assert_eq!(rt; made.netlist.len(), 80863);
+    assert_eq!(rt; made.params.len(), 182);
+    assert!(rt; made.params.ends_with(b"c30 1\nc31 1\n"));
+    assert_eq!(rt; made.script.len(), 22500);
+    assert!(rt;
+        made.script
+            .ends_with(b" c30=1 c31=1\ncycle 11110110001000100010010000011000\n")
+    );
+    Ok(())
+}

@@ -1,0 +1,112 @@
+-- Worked examples of the definitions: the words of the other commands, the lines of `gen`, and files that are written one after the other.
+use Rattle.std.proofs.Common.{◌≡◌, ◌≤◌, ℕ, List, [], ◌∷◌, ◌++◌, codes, Option, Some, None, length, take, refl, inl, inr, arith}
+use Rattle.std.specs.Fmt.{digits}
+use Rattle.tl_io.specs.Content.{extended}
+use Rattle.tl_io.specs.Shelf.{with_file}
+use Rattle.tlut_cli.specs.declared.generated.words.GenWords.{GenWords}
+use Rattle.tlut_cli.specs.Stations.Words.{SourceWords}
+use Rattle.tlut_cli.specs.Outside.{Outside}
+use Rattle.tlut_cli.specs.Writing.{FileText, AreWritten, IsCutInFile, IsCutInLine}
+use Rattle.tlut_cli.specs.Commands.{Command, Spec, Map, Bits, Gen, Repack, command_of}
+use Rattle.tlut_cli.specs.Gen.Verdict.{first_line, last_line}
+
+-- the words K NETLIST PARAMS, for tables of six inputs
+abbrev six : List (List ℕ)
+six = codes "6" ∷ codes "n" ∷ codes "p" ∷ []
+
+abbrev source : SourceWords
+source = record { k = 6; netlist = codes "n"; params = codes "p" }
+
+-- the commands of some words
+a_spec : command_of 4 (codes "spec" ∷ six ++ codes "n" ∷ []) ≡ Some (Spec (record { source = source; out = codes "n" }))
+a_spec = refl
+
+a_map : command_of 0 (codes "map" ∷ six ++ codes "t" ∷ codes "m" ∷ []) ≡ Some (Map (record { source = source; template = codes "t"; pack = codes "m" }))
+a_map = refl
+
+a_host : command_of 4 (codes "bits" ∷ codes "m" ∷ codes "m" ∷ []) ≡ Some (Bits (record { pack = codes "m"; script = codes "m" }))
+a_host = refl
+
+a_multiplier : command_of 4 (codes "gen" ∷ codes "32" ∷ codes "4294967295" ∷ []) ≡ Some (Gen (record { digits = 32; seed = 4294967295 }))
+a_multiplier = refl
+
+a_repack : command_of 4 (codes "repack" ∷ codes "m" ∷ codes "n" ∷ []) ≡ Some (Repack (record { old = codes "m"; new = codes "n" }))
+a_repack = refl
+
+-- and words of no form: one file for both, no digit or too many, too great a seed, a word too many
+one_file_of_map : command_of 4 (codes "map" ∷ six ++ codes "t" ∷ codes "t" ∷ []) ≡ None
+one_file_of_map = refl
+
+one_file_of_repack : command_of 4 (codes "repack" ∷ codes "m" ∷ codes "m" ∷ []) ≡ None
+one_file_of_repack = refl
+
+no_digits : command_of 4 (codes "gen" ∷ codes "0" ∷ codes "1" ∷ []) ≡ None
+no_digits = refl
+
+many_digits : command_of 4 (codes "gen" ∷ codes "33" ∷ codes "1" ∷ []) ≡ None
+many_digits = refl
+
+great_seed : command_of 4 (codes "gen" ∷ codes "1" ∷ codes "4294967296" ∷ []) ≡ None
+great_seed = refl
+
+one_word_more : command_of 4 (codes "bits" ∷ codes "m" ∷ codes "s" ∷ codes "0" ∷ []) ≡ None
+one_word_more = refl
+
+-- the lines of `gen`
+case_line : first_line (record { digits = 2; seed = 7 }) ≡ codes "gen 2 7\n"
+unfolding digits
+case_line = refl
+
+totals_line : last_line 12 345 ≡ codes "rounds 100 writes 12 total 345\n"
+unfolding digits
+totals_line = refl
+
+-- two files and a line
+abbrev template : FileText
+template = record { name = codes "t"; bytes = codes "xy" }
+
+abbrev pack : FileText
+pack = record { name = codes "m"; bytes = codes "z" }
+
+abbrev line : List ℕ
+line = codes "l\n"
+
+module _ (old : Outside) where
+  -- all is written
+  written : AreWritten (template ∷ pack ∷ []) line old
+      (record { files = with_file (with_file old.files (codes "t") (codes "xy")) (codes "m") (codes "z"); bytes = extended old.bytes (codes "l\n"); ports = old.ports })
+  written = record { files = refl; bytes = refl; ports = refl }
+
+  -- a fault behind one byte of the first file: the second one isn't touched
+  cut_in_first : IsCutInFile (template ∷ pack ∷ []) line old (record { files = with_file old.files (codes "t") (codes "x"); bytes = old.bytes; ports = old.ports })
+  cut_in_first = record {
+    before = [];
+    cut = template;
+    after = pack ∷ [];
+    split = refl;
+    files = inr (1, omega arith, refl);
+    bytes = refl;
+    ports = refl;
+  }
+
+  -- the second file can't be begun: the first one is whole
+  cut_at_second : IsCutInFile (template ∷ pack ∷ []) line old (record { files = with_file old.files (codes "t") (codes "xy"); bytes = old.bytes; ports = old.ports })
+  cut_at_second = record {
+    before = template ∷ [];
+    cut = pack;
+    after = [];
+    split = refl;
+    files = inl refl;
+    bytes = refl;
+    ports = refl;
+  }
+
+  -- a fault behind one byte of the line
+  cut_in_line : IsCutInLine (template ∷ []) line old (record { files = with_file old.files (codes "t") (codes "xy"); bytes = extended old.bytes (codes "l"); ports = old.ports })
+  cut_in_line = record {
+    part = 1;
+    within = omega arith;
+    files = refl;
+    bytes = refl;
+    ports = refl;
+  }
