@@ -1,5 +1,4 @@
 -- What the bodies put.
-pub mod AddLemmas
 pub mod RowLemmas
 pub mod NameLemmas
 pub mod TableLemmas

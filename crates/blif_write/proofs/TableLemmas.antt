@@ -68,7 +68,7 @@ wire_text root name =
     ∙ ap (λ (t : List ℕ). codes ".names" ++ t) (end_name (root ∷ []) name row)
 
 -- the type and the control of a latch, as they are added
-pub clock_text : (control : List ℕ) → codes " re " ++ control ≡ words_text (control_words (Some control))
+pub clock_text : (control : List ℕ) → codes " re" ++ 32 ∷ control ≡ words_text (control_words (Some control))
 clock_text control = ap (λ (t : List ℕ). codes " re " ++ t) (sym (append-nil control))
 
 -- the head of a netlist, as it is added

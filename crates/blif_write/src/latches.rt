@@ -2,16 +2,17 @@
 ghost use Rattle.std.specs.Prelude.{◌≡◌, [], ◌∷◌, ◌++◌, Some, length, map};
 ghost use Rattle.std.specs.List.{flat_map};
 ghost use Rattle.tl_io.specs.Causes.{HasCause};
-ghost use Rattle.run_text.specs.Pieces.{AddsOrStops};
+ghost use Rattle.tl_piece.specs.Pieces.{AddsOrStops};
 ghost use Rattle.blif_read.specs.Rows.{output_token};
 ghost use Rattle.blif_write.specs.PlainNetlist.{line_text, latch_line, control_words, words_text};
 ghost use Rattle.blif_write.specs.Netlists.{clock_of, written_latch, written_latches};
 
 use crate::names::Names;
-use crate::piece::Piece;
+use crate::words::add_word;
 use aig_core::Lit;
 use blif_flat::FlatLatch;
 use tl_io::{Failed, Sink};
+use tl_piece::Piece;
 use tl_text::Name;
 
 // Adds the type and the control of a latch.
@@ -21,8 +22,8 @@ fn add_clock<O: Sink>(control: &Name, piece: &mut Piece, out: &mut O) -> Result<
     ensures through { O.through out.new ≡ O.through out.old }
     ensures others { O.others out.new ≡ O.others out.old }
 {
-    piece.add_text(b" re ", out)?;
-    piece.add_name(control, out)
+    piece.add_text(b" re", out)?;
+    add_word(control, piece, out)
 }
 
 // Adds the type and the control of a latch that has one.

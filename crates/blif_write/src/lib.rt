@@ -13,16 +13,16 @@
 //! subcircuits; `OrderlyLemmas.antt` shows that the netlists of tables are in order, and `TableCycleLemmas.antt` that their
 //! cycles are the tables'.
 //!
-//! - `piece.rt` has the bytes that wait to be put, and `names.rt` the names.
+//! - `names.rt` and `words.rt` have the names. The bytes wait to be put in a `Piece` of `tl_piece`.
 //! - `rows.rt` and `tables.rt` have the tables, `latches.rt` and `wires.rt` the other commands, `netlist.rt` the whole.
 #![tactic(auto)]
 
 mod latches;
 mod names;
 mod netlist;
-mod piece;
 mod rows;
 mod tables;
 mod wires;
+mod words;
 
 pub use netlist::{specialised, template};

@@ -1,16 +1,16 @@
 //! The names in a written netlist.
 ghost use Rattle.std.specs.Prelude.{◌≡◌, ◌-◌, ◌/◌, ◌≤◌, ◌&&◌, [], IsTrue, nat_le, bytes_eq, slice_index_or};
 ghost use Rattle.tl_io.specs.Causes.{HasCause};
-ghost use Rattle.run_text.specs.Pieces.{AddsOrStops};
+ghost use Rattle.tl_piece.specs.Pieces.{AddsOrStops};
 ghost use Rattle.blif_flat.specs.Flat.{underscores};
 ghost use Rattle.lut_sim.specs.Sources.{is_regular, is_plain};
 ghost use Rattle.blif_write.specs.OwnNames.{own_name, source_name, literal_name};
 
-use crate::piece::Piece;
 use aig_core::Lit;
 use lut_sim::Shape;
 use std::marker::Model;
 use tl_io::{Failed, Sink};
+use tl_piece::Piece;
 use tl_text::Name;
 
 /// What names are made from: the most underscores that a port's name begins with, the inputs and the places of the regular

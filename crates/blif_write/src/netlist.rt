@@ -6,7 +6,7 @@ ghost use Rattle.blif_flat.specs.Flat.{underscores};
 ghost use Rattle.run_text.specs.declared.params.Param.{Param};
 ghost use Rattle.tl_io.specs.Content.{Puts};
 ghost use Rattle.tl_io.specs.Causes.{HasCause};
-ghost use Rattle.run_text.specs.Pieces.{AddsOrStops};
+ghost use Rattle.tl_piece.specs.Pieces.{AddsOrStops};
 ghost use Rattle.blif_write.specs.OwnNames.{naming_of};
 ghost use Rattle.blif_write.specs.PlainNetlist.{line_text, words_text, latch_line, cover_lines, netlist_text};
 ghost use Rattle.blif_read.specs.LibraryValue.{LibraryValue};
@@ -21,14 +21,15 @@ ghost use Rattle.blif_write.specs.Netlists.{control_names, bit_names, fixed_tabl
 
 use crate::latches::add_latches;
 use crate::names::Names;
-use crate::piece::Piece;
 use crate::tables::{add_bit_lines, add_fixed_tables, add_tunable_tables};
 use crate::wires::add_wires;
+use crate::words::add_word;
 use blif_flat::{Flat, OutPort};
 use cover_pick::Template;
 use lut_sim::Shape;
 use run_text::Params;
 use tl_io::{Failed, Sink};
+use tl_piece::Piece;
 use tl_text::Name;
 
 // Adds the names of the regular inputs, each behind a blank.
@@ -39,7 +40,7 @@ fn add_regular<O: Sink>(names: &Names, piece: &mut Piece, out: &mut O) -> Result
     ensures others { O.others out.new ≡ O.others out.old }
 {
     for place in names.regular {
-        piece.add_word(&names.inputs[*place as usize], out)?;
+        add_word(&names.inputs[*place as usize], piece, out)?;
     }
     Ok(())
 }
@@ -56,7 +57,7 @@ fn add_control_net<O: Sink>(
     ensures others { O.others out.new ≡ O.others out.old }
 {
     match control {
-        Some(name) => piece.add_word(name, out),
+        Some(name) => add_word(name, piece, out),
         None => Ok(()),
     }
 }
@@ -75,7 +76,7 @@ fn add_head<O: Sink>(
     ensures others { O.others out.new ≡ O.others out.old }
 {
     piece.add_text(b".model", out)?;
-    piece.add_word(model, out)?;
+    add_word(model, piece, out)?;
     piece.add_text(b"\n.inputs", out)?;
     add_regular(names, piece, out)?;
     add_control_net(control, piece, out)?;
@@ -94,7 +95,7 @@ fn add_output_names<O: Sink>(
     ensures others { O.others out.new ≡ O.others out.old }
 {
     for output in outputs {
-        piece.add_word(&output.name, out)?;
+        add_word(&output.name, piece, out)?;
     }
     Ok(())
 }

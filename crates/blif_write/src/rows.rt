@@ -2,14 +2,14 @@
 ghost use Rattle.std.specs.Prelude.{◌≡◌, ◌≤◌, ◌<◌, ◌+◌, ◌^◌, ◌++◌, [], if◌then◌else◌, false, map, slice_index_or};
 ghost use Rattle.std.specs.List.{flat_map};
 ghost use Rattle.tl_io.specs.Causes.{HasCause};
-ghost use Rattle.run_text.specs.Pieces.{AddsOrStops};
+ghost use Rattle.tl_piece.specs.Pieces.{AddsOrStops};
 ghost use Rattle.list_laws.specs.Digits.{digit};
 ghost use Rattle.blif_read.specs.Rows.{cell_character};
 ghost use Rattle.blif_write.specs.PlainNetlist.{row_line, line_text};
 ghost use Rattle.blif_write.specs.Netlists.{digit_cell, digit_cells, chosen_cells, fixed_rows, tunable_rows};
 
-use crate::piece::Piece;
 use tl_io::{Failed, Sink};
+use tl_piece::Piece;
 
 /// How many bits a table has.
 pub(crate) fn bit_count(leaves: usize) -> usize

@@ -2,16 +2,16 @@
 ghost use Rattle.std.specs.Prelude.{◌≡◌, ◌∷◌, [], ◌*◌, ◌^◌, ◌<◌, ◌++◌, length, map, codes};
 ghost use Rattle.std.specs.List.{flat_map, range_with_len};
 ghost use Rattle.tl_io.specs.Causes.{HasCause};
-ghost use Rattle.run_text.specs.Pieces.{AddsOrStops};
+ghost use Rattle.tl_piece.specs.Pieces.{AddsOrStops};
 ghost use Rattle.blif_write.specs.OwnNames.{bit_name, literal_name, table_name};
 ghost use Rattle.blif_write.specs.PlainNetlist.{line_text, cover_lines, row_line, words_text};
 ghost use Rattle.blif_write.specs.Netlists.{leaf_names, bit_names, fixed_rows, fixed_table, tunable_rows, tunable_table};
 
 use crate::names::Names;
-use crate::piece::Piece;
 use crate::rows::{add_fixed_rows, add_tunable_rows, bit_count};
 use cover_pick::Lut;
 use tl_io::{Failed, Sink};
+use tl_piece::Piece;
 
 // Adds the names of leaves, each behind a blank.
 fn add_leaves<O: Sink>(

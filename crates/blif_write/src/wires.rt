@@ -3,17 +3,18 @@ ghost use Rattle.std.specs.Prelude.{◌≡◌, ◌≤◌, [], ◌∷◌, length,
 ghost use Rattle.std.specs.List.{flat_map};
 ghost use Rattle.list_laws.specs.Members.{In};
 ghost use Rattle.tl_io.specs.Causes.{HasCause};
-ghost use Rattle.run_text.specs.Pieces.{AddsOrStops};
+ghost use Rattle.tl_piece.specs.Pieces.{AddsOrStops};
 ghost use Rattle.blif_flat.specs.Flat.{underscores};
 ghost use Rattle.blif_write.specs.OwnNames.{literal_name};
 ghost use Rattle.blif_write.specs.PlainNetlist.{line_text, cover_lines};
 ghost use Rattle.blif_write.specs.Netlists.{wire, wires};
 
 use crate::names::Names;
-use crate::piece::Piece;
+use crate::words::add_word;
 use aig_core::Lit;
 use blif_flat::OutPort;
 use tl_io::{Failed, Sink};
+use tl_piece::Piece;
 use tl_text::Name;
 
 // Adds a cover by which an output has the value of its root.
@@ -31,7 +32,7 @@ fn add_cover<O: Sink>(
 {
     piece.add_text(b".names ", out)?;
     names.add_literal(root.0 as u64, piece, out)?;
-    piece.add_word(output, out)?;
+    add_word(output, piece, out)?;
     piece.add_text(b"\n1 1\n", out)
 }
 

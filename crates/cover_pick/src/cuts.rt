@@ -80,6 +80,5 @@ pub fn chosen_cuts<'a>(
     ensures normal { IfOk result (λ _. AreNormal (first_and graph.now) graph.now.pairs) }
 {
     let places = chosen_places(alloc, graph, table, labels, roots)?;
-    let _count = graph.len();
     Ok(ChosenCuts { table, places })
 }

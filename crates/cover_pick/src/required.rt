@@ -1,6 +1,6 @@
 //! The required depths of the needed nodes, and the places of their chosen cuts.
 ghost use Rattle.std.specs.Prelude.{◌≡◌, ℕ, ◌+◌, ◌-◌, ◌/◌, ◌<◌, ◌≤◌, length, Option, Some, None, IfOk, slice_index_or};
-ghost use Rattle.aig_core.specs.Aig.{first_and, node_count, IsAnd};
+ghost use Rattle.aig_core.specs.Aig.{first_and, node_count, AreNormal, IsAnd};
 ghost use Rattle.aig_core.specs.Roots.{lits_of, AreRoots};
 ghost use Rattle.cut_enum.specs.Table.{row_at};
 ghost use Rattle.depth_label.specs.Label.{label_of, IsCutTable};
@@ -120,7 +120,8 @@ pub fn chosen_places(
 ) -> Result<Vec<Option<u32>>, AllocError>
     requires table { IsCutTable graph.now table.now }
     requires roots { AreRoots graph.now (lits_of roots.now) }
-    ensures { IfOk result (λ places. AreBestPlaces graph.now table.now (label_of labels.now) (depths_of graph.now table.now (label_of labels.now) (lits_of roots.now)) (first_and graph.now) places.items) }
+    ensures places { IfOk result (λ places. AreBestPlaces graph.now table.now (label_of labels.now) (depths_of graph.now table.now (label_of labels.now) (lits_of roots.now)) (first_and graph.now) places.items) }
+    ensures normal { IfOk result (λ _. AreNormal (first_and graph.now) graph.now.pairs) }
 {
     let t = target(graph, labels, roots);
     let mut depths = vec![in alloc; None; graph.len() as usize]?;

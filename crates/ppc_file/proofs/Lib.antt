@@ -6,7 +6,7 @@ pub mod NameRules
 pub mod NumberLemmas
 pub mod OneReading
 pub mod PowerLemmas
-pub mod PutLemmas
+pub mod AddedLemmas
 pub mod ReadLemmas
 pub mod ReadsLemmas
 pub mod StandLemmas

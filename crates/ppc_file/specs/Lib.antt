@@ -7,4 +7,4 @@ pub mod PackFile
 pub mod Refusals
 -- What only bodies are compared with.
 pub mod Reading
-pub mod Putting
+pub mod Adding

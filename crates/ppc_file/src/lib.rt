@@ -29,13 +29,13 @@
 //! `proofs/FileExamples.antt` works out two packs in both versions, and files that are refused.
 #![tactic(auto)]
 
+mod add_number;
+mod add_parts;
 mod decoder;
 mod encoder;
 mod field;
 mod number;
 mod pack_err;
-mod put_number;
-mod put_parts;
 mod read_bits;
 mod read_nodes;
 mod read_params;

@@ -12,7 +12,6 @@ pub mod ScriptText
 pub mod Fits
 pub mod ScriptRefusals
 -- What only bodies are compared with.
-pub mod Pieces
 pub mod Parts
 pub mod LinesErr
 pub mod ScriptLines

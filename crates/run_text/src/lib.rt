@@ -15,8 +15,8 @@
 //!
 //! Each line that is put out is one definition in `specs/Lines.antt` and one call here, which puts the line's bytes to a sink
 //! through a [`LineBuf`], in pieces of 4,096 bytes. A line is a list of parts, as a word, a number, a string of
-//! bits or a list of writes, and ends with a line feed. `specs/Pieces.antt` says what stands in the sink, and what still waits in the
-//! buffer, once a part is added.
+//! bits or a list of writes, and ends with a line feed. `Piece` of `tl_piece` has the bytes that
+//! still wait.
 #![tactic(auto)]
 
 mod assigns;

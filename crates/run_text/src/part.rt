@@ -1,14 +1,14 @@
-ghost use Rattle.std.specs.Prelude.{◌≡◌, List, ℕ, map, decimal};
+ghost use Rattle.std.specs.Prelude.{◌≡◌, List, ℕ, map};
 ghost use Rattle.std.specs.List.{flat_map};
 ghost use Rattle.tl_io.specs.Causes.{HasCause};
 ghost use Rattle.tl_io.specs.Content.{Puts};
-ghost use Rattle.run_text.specs.Pieces.{AddsOrStops};
+ghost use Rattle.tl_piece.specs.Pieces.{AddsOrStops};
 ghost use Rattle.run_text.specs.Lines.{bit_digit, bit_string, write_text};
 ghost use Rattle.run_text.specs.Parts.{part_text};
 
 use crate::line_buf::LineBuf;
-use itoa::Buffer;
 use tl_io::{Failed, Sink, Write};
+use tl_piece::Piece;
 
 /// A part of a line.
 #[derive(Clone, Copy)]
@@ -33,94 +33,73 @@ pub fn put_line<O: Sink>(parts: &[Part], buf: &mut LineBuf, out: &mut O) -> Resu
     ensures through { O.through out.new ≡ O.through out.old }
     ensures others { O.others out.new ≡ O.others out.old }
 {
-    buf.clear();
-    add_parts(parts, buf, out)?;
-    buf.flush(out)
+    let piece = &mut *buf.piece;
+    piece.clear();
+    add_parts(parts, piece, out)?;
+    piece.flush(out)
 }
 
-fn add_parts<O: Sink>(parts: &[Part], buf: &mut LineBuf, out: &mut O) -> Result<(), Failed>
+fn add_parts<O: Sink>(parts: &[Part], piece: &mut Piece, out: &mut O) -> Result<(), Failed>
     ensures cause { HasCause (O.faults out.old) (O.faults out.new) result }
-    ensures grown { AddsOrStops (O.bytes out.old) buf.old (flat_map part_text parts.now) (O.bytes out.new) buf.new result }
+    ensures grown { AddsOrStops (O.bytes out.old) piece.old (flat_map part_text parts.now) (O.bytes out.new) piece.new result }
     ensures through { O.through out.new ≡ O.through out.old }
     ensures others { O.others out.new ≡ O.others out.old }
 {
     for part in parts {
-        add_part(part, buf, out)?;
+        add_part(part, piece, out)?;
     }
     Ok(())
 }
 
-fn add_part<O: Sink>(part: &Part, buf: &mut LineBuf, out: &mut O) -> Result<(), Failed>
+fn add_part<O: Sink>(part: &Part, piece: &mut Piece, out: &mut O) -> Result<(), Failed>
     ensures cause { HasCause (O.faults out.old) (O.faults out.new) result }
-    ensures grown { AddsOrStops (O.bytes out.old) buf.old (part_text part.now) (O.bytes out.new) buf.new result }
+    ensures grown { AddsOrStops (O.bytes out.old) piece.old (part_text part.now) (O.bytes out.new) piece.new result }
     ensures through { O.through out.new ≡ O.through out.old }
     ensures others { O.others out.new ≡ O.others out.old }
 {
     match part {
-        Part::Text(text) => add_text(text, buf, out),
-        Part::Number(number) => add_number(*number, buf, out),
-        Part::Bits([]) => add_text(b"-", buf, out),
-        Part::Bits(bits) => add_bits(bits, buf, out),
-        Part::Writes(writes) => add_writes(writes, buf, out),
+        Part::Text(text) => piece.add_text(text, out),
+        Part::Number(number) => piece.add_number(*number, out),
+        Part::Bits([]) => piece.add_text(b"-", out),
+        Part::Bits(bits) => add_bits(bits, piece, out),
+        Part::Writes(writes) => add_writes(writes, piece, out),
     }
 }
 
-fn add_number<O: Sink>(number: u64, buf: &mut LineBuf, out: &mut O) -> Result<(), Failed>
+fn add_bits<O: Sink>(bits: &[bool], piece: &mut Piece, out: &mut O) -> Result<(), Failed>
     ensures cause { HasCause (O.faults out.old) (O.faults out.new) result }
-    ensures grown { AddsOrStops (O.bytes out.old) buf.old (decimal number) (O.bytes out.new) buf.new result }
-    ensures through { O.through out.new ≡ O.through out.old }
-    ensures others { O.others out.new ≡ O.others out.old }
-{
-    let mut digits = Buffer::new();
-    add_text(digits.format(number).as_bytes(), buf, out)
-}
-
-fn add_text<O: Sink>(text: &[u8], buf: &mut LineBuf, out: &mut O) -> Result<(), Failed>
-    ensures cause { HasCause (O.faults out.old) (O.faults out.new) result }
-    ensures grown { AddsOrStops (O.bytes out.old) buf.old text.now (O.bytes out.new) buf.new result }
-    ensures through { O.through out.new ≡ O.through out.old }
-    ensures others { O.others out.new ≡ O.others out.old }
-{
-    for byte in text {
-        buf.add_byte(*byte, out)?;
-    }
-    Ok(())
-}
-
-fn add_bits<O: Sink>(bits: &[bool], buf: &mut LineBuf, out: &mut O) -> Result<(), Failed>
-    ensures cause { HasCause (O.faults out.old) (O.faults out.new) result }
-    ensures grown { AddsOrStops (O.bytes out.old) buf.old (map bit_digit bits.now) (O.bytes out.new) buf.new result }
+    ensures grown { AddsOrStops (O.bytes out.old) piece.old (map bit_digit bits.now) (O.bytes out.new) piece.new result }
     ensures through { O.through out.new ≡ O.through out.old }
     ensures others { O.others out.new ≡ O.others out.old }
 {
     for bit in bits {
-        buf.add_byte(digit(*bit), out)?;
+        piece.add_byte(digit(*bit), out)?;
     }
     Ok(())
 }
 
-fn add_writes<O: Sink>(writes: &[Write], buf: &mut LineBuf, out: &mut O) -> Result<(), Failed>
+fn add_writes<O: Sink>(writes: &[Write], piece: &mut Piece, out: &mut O) -> Result<(), Failed>
     ensures cause { HasCause (O.faults out.old) (O.faults out.new) result }
-    ensures grown { AddsOrStops (O.bytes out.old) buf.old (flat_map write_text writes.now) (O.bytes out.new) buf.new result }
+    ensures grown { AddsOrStops (O.bytes out.old) piece.old (flat_map write_text writes.now) (O.bytes out.new) piece.new result }
     ensures through { O.through out.new ≡ O.through out.old }
     ensures others { O.others out.new ≡ O.others out.old }
 {
     for write in writes {
-        add_write(*write, buf, out)?;
+        add_write(*write, piece, out)?;
     }
     Ok(())
 }
 
-fn add_write<O: Sink>(write: Write, buf: &mut LineBuf, out: &mut O) -> Result<(), Failed>
+fn add_write<O: Sink>(write: Write, piece: &mut Piece, out: &mut O) -> Result<(), Failed>
     ensures cause { HasCause (O.faults out.old) (O.faults out.new) result }
-    ensures grown { AddsOrStops (O.bytes out.old) buf.old (write_text write) (O.bytes out.new) buf.new result }
+    ensures grown { AddsOrStops (O.bytes out.old) piece.old (write_text write) (O.bytes out.new) piece.new result }
     ensures through { O.through out.new ≡ O.through out.old }
     ensures others { O.others out.new ≡ O.others out.old }
 {
-    buf.add_byte(b' ', out)?;
-    add_number(write.address as u64, buf, out)?;
+    piece.add_byte(b' ', out)?;
+    piece.add_number(write.address as u64, out)?;
     let value = [b'=', digit(write.bit)];
-    add_text(&value, buf, out)
+    piece.add_text(&value, out)
 }
 
 fn digit(bit: bool) -> u8

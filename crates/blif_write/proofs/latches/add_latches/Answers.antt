@@ -1,7 +1,7 @@
 use Rattle.std.proofs.Common.{ℕ, ◌+◌, List, ◌++◌, drop, ap, ◌∙◌, arith}
 use Rattle.blif_write.specs.Netlists.{written_latches}
 use Rattle.blif_write.proofs.PairLemmas.{latches_text, latch_next, latches_all, latches_whole}
-use Rattle.blif_write.proofs.AddLemmas.{stopped, adds_to, stops_in, adds_as}
+use Rattle.tl_piece.proofs.AddLemmas.{stopped, adds_to, stops_in, adds_as}
 use Rattle.blif_write.proofs.latches.add_latches.Goals as goal
 
 pub returns-in_err-add_latch-clause-grown : goal.returns-in_err-add_latch-clause-grown

@@ -1,7 +1,7 @@
 use Rattle.blif_write.specs.Netlists.{control_names}
 use Rattle.blif_write.proofs.TableLemmas.{head_text}
-use Rattle.run_text.proofs.PieceLemmas.{stops_longer, stops_later, adds_then}
-use Rattle.blif_write.proofs.AddLemmas.{stopped, stops_as, as_text}
+use Rattle.tl_piece.proofs.PieceLemmas.{stops_longer, stops_later, adds_then}
+use Rattle.tl_piece.proofs.AddLemmas.{stopped, stops_as, as_text}
 use Rattle.blif_write.proofs.netlist.add_head.Goals as goal
 
 pub returns-in_err-add_text-clause-grown : goal.returns-in_err-add_text-clause-grown

@@ -3,8 +3,8 @@ use Rattle.std.specs.List.{flat_map}
 use Rattle.std.proofs.lemmas.List.{take_all}
 use Rattle.blif_flat.specs.declared.flat.OutPort.{OutPort}
 use Rattle.blif_write.proofs.NameLemmas.{words_of}
-use Rattle.run_text.proofs.PieceLemmas.{adds_part, stops_part}
-use Rattle.blif_write.proofs.AddLemmas.{stopped, stops_as, adds_as}
+use Rattle.tl_piece.proofs.PieceLemmas.{adds_part, stops_part}
+use Rattle.tl_piece.proofs.AddLemmas.{stopped, stops_as, adds_as}
 use Rattle.blif_write.proofs.netlist.add_output_names.Goals as goal
 
 pub returns-in_err-add_word-clause-grown : goal.returns-in_err-add_word-clause-grown

@@ -1,9 +1,9 @@
 use Rattle.std.proofs.Common.{ℕ, ◌≡◌, ◌<◌, ◌∷◌, [], List, length, get_or, ap, sym, arith, ◌∙◌}
 use Rattle.std.proofs.lemmas.List.{length-map}
 use Rattle.list_laws.proofs.Members.{In-get_or}
-use Rattle.run_text.proofs.PieceLemmas.{adds_part, stops_part}
+use Rattle.tl_piece.proofs.PieceLemmas.{adds_part, stops_part}
 use Rattle.blif_write.specs.OwnNames.{Naming}
-use Rattle.blif_write.proofs.AddLemmas.{stopped, stops_as, adds_as}
+use Rattle.tl_piece.proofs.AddLemmas.{stopped, stops_as, adds_as}
 use Rattle.blif_write.proofs.NameLemmas.{name_at}
 use Rattle.blif_write.proofs.netlist.add_regular.Goals as goal
 

@@ -1,6 +1,6 @@
 use Rattle.blif_write.proofs.NetlistLemmas.{template_is}
-use Rattle.run_text.proofs.PieceLemmas.{stops_longer, stops_later, adds_then}
-use Rattle.blif_write.proofs.AddLemmas.{stopped, stops_as, as_text}
+use Rattle.tl_piece.proofs.PieceLemmas.{stops_longer, stops_later, adds_then}
+use Rattle.tl_piece.proofs.AddLemmas.{stopped, stops_as, as_text}
 use Rattle.blif_write.proofs.netlist.add_template.Goals as goal
 
 pub returns-in_err-add_flat_head-clause-grown : goal.returns-in_err-add_flat_head-clause-grown

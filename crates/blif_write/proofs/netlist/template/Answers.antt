@@ -1,4 +1,4 @@
-use Rattle.run_text.proofs.PieceLemmas.{adds_then_puts}
+use Rattle.tl_piece.proofs.PieceLemmas.{adds_then_puts}
 use Rattle.blif_write.proofs.MeaningLemmas.{template_means}
 use Rattle.blif_write.proofs.PortLemmas.{ports_there}
 use Rattle.blif_write.proofs.netlist.template.Goals as goal

@@ -1,7 +1,7 @@
 use Rattle.std.proofs.Common.{◌≡◌, ℕ, [], ◌∷◌, arith, ap, ◌∙◌, map}
 use Rattle.blif_read.specs.Rows.{cell_character}
 use Rattle.blif_write.specs.Netlists.{digit_cells}
-use Rattle.blif_write.proofs.AddLemmas.{stopped, stops_as, adds_as, adds_next, stops_next}
+use Rattle.tl_piece.proofs.AddLemmas.{stopped, stops_as, adds_as, adds_next, stops_next}
 use Rattle.blif_write.proofs.RowLemmas.{digit_text, digits_are}
 use Rattle.blif_write.proofs.rows.add_digits.Goals as goal
 

@@ -4,7 +4,7 @@ use Rattle.std.specs.List.{flat_map, range_with_len}
 use Rattle.blif_write.specs.PlainNetlist.{row_line, line_text}
 use Rattle.blif_write.specs.Netlists.{digit_cells}
 use Rattle.blif_write.proofs.RowLemmas.{fixed_row_text, fixed_rows_are}
-use Rattle.blif_write.proofs.AddLemmas.{stopped, stops_as, adds_as, adds_next, stops_next}
+use Rattle.tl_piece.proofs.AddLemmas.{stopped, stops_as, adds_as, adds_next, stops_next}
 use Rattle.blif_write.proofs.rows.add_fixed_rows.Goals as goal
 
 pub returns-in_err-add_fixed_row_if-clause-grown : goal.returns-in_err-add_fixed_row_if-clause-grown

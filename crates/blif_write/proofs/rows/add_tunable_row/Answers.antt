@@ -1,7 +1,7 @@
 use Rattle.std.proofs.Common.{◌-◌, arith}
 use Rattle.blif_write.proofs.RowLemmas.{chosen_row}
-use Rattle.run_text.proofs.PieceLemmas.{stops_longer, stops_later, adds_then}
-use Rattle.blif_write.proofs.AddLemmas.{stopped, stops_as, as_text}
+use Rattle.tl_piece.proofs.PieceLemmas.{stops_longer, stops_later, adds_then}
+use Rattle.tl_piece.proofs.AddLemmas.{stopped, stops_as, as_text}
 use Rattle.blif_write.proofs.rows.add_tunable_row.Goals as goal
 
 pub returns-in_err-add_digits-clause-grown : goal.returns-in_err-add_digits-clause-grown

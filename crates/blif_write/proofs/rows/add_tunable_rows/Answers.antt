@@ -2,7 +2,7 @@ use Rattle.std.proofs.Common.{ℕ, ◌≡◌, ap, arith, ◌∙◌}
 use Rattle.std.proofs.Common.{◌^◌}
 use Rattle.std.specs.List.{flat_map, range_with_len}
 use Rattle.blif_write.proofs.RowLemmas.{tunable_row_text, tunable_rows_are}
-use Rattle.blif_write.proofs.AddLemmas.{stopped, stops_as, adds_as, adds_next, stops_next}
+use Rattle.tl_piece.proofs.AddLemmas.{stopped, stops_as, adds_as, adds_next, stops_next}
 use Rattle.blif_write.proofs.rows.add_tunable_rows.Goals as goal
 
 pub returns-in_err-add_tunable_row-clause-grown : goal.returns-in_err-add_tunable_row-clause-grown

@@ -1,6 +1,6 @@
 use Rattle.std.proofs.Common.{◌≡◌, ◌≤◌}
 use Rattle.std.specs.List.{flat_map, range_with_len}
-use Rattle.run_text.specs.Pieces.{Adds}
+use Rattle.tl_piece.specs.Pieces.{Adds}
 use Rattle.blif_write.proofs.RowLemmas.{tunable_row_text}
 use Rattle.blif_write.proofs.rows.add_tunable_rows.Given as goal
 

@@ -6,8 +6,8 @@ use Rattle.std.proofs.Common.{codes}
 use Rattle.blif_write.specs.PlainNetlist.{line_text}
 use Rattle.blif_write.specs.Netlists.{bit_names}
 use Rattle.blif_write.proofs.TableLemmas.{input_lines}
-use Rattle.run_text.proofs.PieceLemmas.{adds_part, stops_part}
-use Rattle.blif_write.proofs.AddLemmas.{stopped, stops_as, adds_as}
+use Rattle.tl_piece.proofs.PieceLemmas.{adds_part, stops_part}
+use Rattle.tl_piece.proofs.AddLemmas.{stopped, stops_as, adds_as}
 use Rattle.blif_write.proofs.tables.add_bit_lines.Goals as goal
 
 pub returns-in_err-add_bit_line-clause-grown : goal.returns-in_err-add_bit_line-clause-grown

@@ -1,6 +1,6 @@
 use Rattle.std.proofs.Common.{◌≡◌, ◌≤◌, ◌∷◌, take}
 use Rattle.std.specs.List.{flat_map}
-use Rattle.run_text.specs.Pieces.{Adds}
+use Rattle.tl_piece.specs.Pieces.{Adds}
 use Rattle.std.proofs.Common.{codes}
 use Rattle.blif_write.specs.PlainNetlist.{line_text}
 use Rattle.blif_write.specs.Netlists.{bit_names}

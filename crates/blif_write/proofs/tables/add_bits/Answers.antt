@@ -4,8 +4,8 @@ use Rattle.blif_write.specs.OwnNames.{bit_name}
 use Rattle.std.proofs.Common.{map}
 use Rattle.blif_write.specs.PlainNetlist.{words_text}
 use Rattle.blif_write.proofs.NameLemmas.{words_of}
-use Rattle.run_text.proofs.PieceLemmas.{stops_longer, stops_later, adds_twice}
-use Rattle.blif_write.proofs.AddLemmas.{stopped, stops_as, adds_as, adds_next, stops_next}
+use Rattle.tl_piece.proofs.PieceLemmas.{stops_longer, stops_later, adds_twice}
+use Rattle.tl_piece.proofs.AddLemmas.{stopped, stops_as, adds_as, adds_next, stops_next}
 use Rattle.blif_write.proofs.tables.add_bits.Goals as goal
 
 pub returns-in_err-add_byte-clause-grown : goal.returns-in_err-add_byte-clause-grown

@@ -1,6 +1,6 @@
 use Rattle.std.proofs.Common.{◌≡◌, ◌≤◌, ◌-◌, ◌∷◌}
 use Rattle.std.specs.List.{flat_map, range_with_len}
-use Rattle.run_text.specs.Pieces.{Adds}
+use Rattle.tl_piece.specs.Pieces.{Adds}
 use Rattle.blif_write.specs.OwnNames.{bit_name}
 use Rattle.blif_write.proofs.tables.add_bits.Given as goal
 

@@ -3,8 +3,8 @@ use Rattle.std.specs.List.{flat_map}
 use Rattle.blif_write.specs.OwnNames.{literal_name}
 use Rattle.std.proofs.lemmas.List.{take_all}
 use Rattle.blif_write.proofs.NameLemmas.{words_of}
-use Rattle.run_text.proofs.PieceLemmas.{adds_part, stops_part, stops_longer, stops_later, adds_twice}
-use Rattle.blif_write.proofs.AddLemmas.{stopped, stops_as, adds_as}
+use Rattle.tl_piece.proofs.PieceLemmas.{adds_part, stops_part, stops_longer, stops_later, adds_twice}
+use Rattle.tl_piece.proofs.AddLemmas.{stopped, stops_as, adds_as}
 use Rattle.blif_write.proofs.tables.add_leaves.Goals as goal
 
 pub returns-in_err-add_byte-clause-grown : goal.returns-in_err-add_byte-clause-grown

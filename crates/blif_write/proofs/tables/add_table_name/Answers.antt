@@ -1,5 +1,5 @@
-use Rattle.run_text.proofs.PieceLemmas.{stops_longer, stops_later, adds_then}
-use Rattle.blif_write.proofs.AddLemmas.{stopped}
+use Rattle.tl_piece.proofs.PieceLemmas.{stops_longer, stops_later, adds_then}
+use Rattle.tl_piece.proofs.AddLemmas.{stopped}
 use Rattle.blif_write.proofs.tables.add_table_name.Goals as goal
 
 pub returns-in_err-add_byte-clause-grown : goal.returns-in_err-add_byte-clause-grown

@@ -1,8 +1,8 @@
 use Rattle.std.proofs.Common.{refl}
 use Rattle.blif_write.specs.Netlists.{leaf_names, bit_names, tunable_table}
 use Rattle.blif_write.proofs.TableLemmas.{two_lists}
-use Rattle.run_text.proofs.PieceLemmas.{stops_longer, stops_later, adds_then}
-use Rattle.blif_write.proofs.AddLemmas.{stopped, stops_as, as_text}
+use Rattle.tl_piece.proofs.PieceLemmas.{stops_longer, stops_later, adds_then}
+use Rattle.tl_piece.proofs.AddLemmas.{stopped, stops_as, as_text}
 use Rattle.blif_write.proofs.tables.add_tunable_table.Goals as goal
 
 pub returns-in_err-add_text-clause-grown : goal.returns-in_err-add_text-clause-grown

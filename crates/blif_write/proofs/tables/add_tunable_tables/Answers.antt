@@ -5,8 +5,8 @@ use Rattle.cover_pick.specs.declared.lut.Lut.{Lut}
 use Rattle.blif_write.specs.PlainNetlist.{line_text, cover_lines}
 use Rattle.blif_write.specs.Netlists.{tunable_table}
 use Rattle.blif_write.proofs.TableLemmas.{tables_text}
-use Rattle.run_text.proofs.PieceLemmas.{adds_part, stops_part}
-use Rattle.blif_write.proofs.AddLemmas.{stopped, stops_as, adds_as}
+use Rattle.tl_piece.proofs.PieceLemmas.{adds_part, stops_part}
+use Rattle.tl_piece.proofs.AddLemmas.{stopped, stops_as, adds_as}
 use Rattle.blif_write.proofs.tables.add_tunable_tables.Goals as goal
 
 pub returns-in_err-add_tunable_table-clause-grown : goal.returns-in_err-add_tunable_table-clause-grown

@@ -1,6 +1,6 @@
 use Rattle.std.proofs.Common.{◌≡◌, ◌≤◌, take}
 use Rattle.std.specs.List.{flat_map}
-use Rattle.run_text.specs.Pieces.{Adds}
+use Rattle.tl_piece.specs.Pieces.{Adds}
 use Rattle.blif_write.specs.PlainNetlist.{line_text, cover_lines}
 use Rattle.blif_write.specs.Netlists.{tunable_table}
 use Rattle.blif_write.proofs.tables.add_tunable_tables.Given as goal

@@ -2,7 +2,7 @@ use Rattle.std.proofs.Common.{ℕ, ◌+◌, List, ◌++◌, drop, ap, ◌∙◌,
 use Rattle.list_laws.proofs.Members.{In-get_or}
 use Rattle.blif_write.specs.Netlists.{wires}
 use Rattle.blif_write.proofs.PairLemmas.{wires_text, wire_next, wires_all, wires_whole}
-use Rattle.blif_write.proofs.AddLemmas.{stopped, adds_to, stops_in, adds_as}
+use Rattle.tl_piece.proofs.AddLemmas.{stopped, adds_to, stops_in, adds_as}
 use Rattle.blif_write.proofs.wires.add_wires.Goals as goal
 
 pub returns-in_err-add_wire-clause-grown : goal.returns-in_err-add_wire-clause-grown

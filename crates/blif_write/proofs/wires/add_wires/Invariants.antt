@@ -1,5 +1,5 @@
 use Rattle.std.proofs.Common.{◌≡◌, ◌≤◌}
-use Rattle.run_text.specs.Pieces.{Adds}
+use Rattle.tl_piece.specs.Pieces.{Adds}
 use Rattle.blif_write.proofs.PairLemmas.{wires_before}
 use Rattle.blif_write.proofs.wires.add_wires.Given as goal
 

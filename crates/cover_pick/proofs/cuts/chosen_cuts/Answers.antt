@@ -7,7 +7,7 @@ use Rattle.cover_pick.proofs.PlanLaws.{plan_all, places_plan, roots_inside}
 use Rattle.cover_pick.proofs.cuts.chosen_cuts.Goals as goal
 
 pub returns-clause-len : goal.returns-clause-len
-returns-clause-len c = cuts_length c.args.table.now 0 c.in_ok-places.places.items ∙ c.in_ok-places.ensures.count
+returns-clause-len c = cuts_length c.args.table.now 0 c.in_ok-places.places.items ∙ c.in_ok-places.ensures.places.count
 
 pub returns-clause-plan : goal.returns-clause-plan
 returns-clause-plan c =
@@ -17,5 +17,5 @@ returns-clause-plan c =
     let roots = lits_of c.args.roots.now in
     let places = c.in_ok-places.places.items in
     let inside = roots_inside g roots c.requires.roots in
-    plan_all g rows label roots inside c.requires.labels.labels c.len-count.ensures.normal (cuts_of rows places) c.requires.table (cuts_length rows 0 places ∙ c.in_ok-places.ensures.count)
-    (places_plan g rows label roots inside c.requires.labels.labels c.requires.table.k c.requires.table.are places c.in_ok-places.ensures)
+    plan_all g rows label roots inside c.requires.labels.labels c.in_ok-places.ensures.normal (cuts_of rows places) c.requires.table (cuts_length rows 0 places ∙ c.in_ok-places.ensures.places.count)
+    (places_plan g rows label roots inside c.requires.labels.labels c.requires.table.k c.requires.table.are places c.in_ok-places.ensures.places)

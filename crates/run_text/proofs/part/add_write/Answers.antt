@@ -1,8 +1,8 @@
 use Rattle.std.proofs.Common.{List, ℕ, [], ◌∷◌, ◌++◌, decimal, subst}
 use Rattle.std.proofs.lemmas.Result.{err_from_is_err_and}
 use Rattle.run_text.specs.Lines.{bit_digit}
-use Rattle.run_text.specs.Pieces.{AddsOrStops}
-use Rattle.run_text.proofs.PieceLemmas.{stops_longer, stops_later, adds_then}
+use Rattle.tl_piece.specs.Pieces.{AddsOrStops}
+use Rattle.tl_piece.proofs.PieceLemmas.{stops_longer, stops_later, adds_then}
 use Rattle.run_text.proofs.part.add_write.Goals as goal
 
 pub returns-in_err-add_byte-clause-grown : goal.returns-in_err-add_byte-clause-grown
@@ -21,6 +21,6 @@ pub returns-clause-grown : goal.returns-clause-grown
 returns-clause-grown g c =
     let rest : List ℕ = decimal c.args.write.address ++ (61 ∷ bit_digit c.args.write.bit ∷ []) in
     let value : List ℕ = 61 ∷ bit_digit c.args.write.bit ∷ [] in
-    adds_then rest (g.O.Sink.bytes c.add_text.new.out) c.add_text.new.buf c.add_text.result c.in_ok-add_byte.ensures.grown
-    (adds_then value (g.O.Sink.bytes c.add_text.new.out) c.add_text.new.buf c.add_text.result c.in_ok-add_number.ensures.grown
-    (subst (λ (b : ℕ). AddsOrStops (g.O.Sink.bytes c.add_number.new.out) c.add_number.new.buf (61 ∷ b ∷ []) (g.O.Sink.bytes c.add_text.new.out) c.add_text.new.buf c.add_text.result) c.digit.ensures c.add_text.ensures.grown))
+    adds_then rest (g.O.Sink.bytes c.add_text.new.out) c.add_text.new.self c.add_text.result c.in_ok-add_byte.ensures.grown
+    (adds_then value (g.O.Sink.bytes c.add_text.new.out) c.add_text.new.self c.add_text.result c.in_ok-add_number.ensures.grown
+    (subst (λ (b : ℕ). AddsOrStops (g.O.Sink.bytes c.add_number.new.out) c.add_number.new.self (61 ∷ b ∷ []) (g.O.Sink.bytes c.add_text.new.out) c.add_text.new.self c.add_text.result) c.digit.ensures c.add_text.ensures.grown))

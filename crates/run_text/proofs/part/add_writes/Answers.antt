@@ -1,7 +1,7 @@
 use Rattle.std.proofs.Common.{arith, ◌∙◌}
 use Rattle.std.proofs.lemmas.Result.{err_from_is_err_and}
 use Rattle.run_text.specs.Lines.{write_text}
-use Rattle.run_text.proofs.PieceLemmas.{adds_part, stops_part}
+use Rattle.tl_piece.proofs.PieceLemmas.{adds_part, stops_part}
 use Rattle.run_text.proofs.part.add_writes.Goals as goal
 
 pub returns-in_err-add_write-clause-grown : goal.returns-in_err-add_write-clause-grown

@@ -1,4 +1,4 @@
-use Rattle.run_text.proofs.PieceLemmas.{adds_then_puts}
+use Rattle.tl_piece.proofs.PieceLemmas.{adds_then_puts}
 use Rattle.run_text.proofs.part.put_line.Goals as goal
 
 pub returns-clause-grown : goal.returns-clause-grown

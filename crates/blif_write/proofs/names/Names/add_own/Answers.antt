@@ -1,8 +1,8 @@
 use Rattle.std.proofs.Common.{ap}
 use Rattle.blif_write.specs.OwnNames.{Naming}
 use Rattle.blif_write.proofs.NameLemmas.{own_is}
-use Rattle.run_text.proofs.PieceLemmas.{stops_longer, stops_later, adds_then}
-use Rattle.blif_write.proofs.AddLemmas.{stopped, stops_as, as_text}
+use Rattle.tl_piece.proofs.PieceLemmas.{stops_longer, stops_later, adds_then}
+use Rattle.tl_piece.proofs.AddLemmas.{stopped, stops_as, as_text}
 use Rattle.blif_write.proofs.names.Names.add_own.Goals as goal
 
 pub returns-in_err-add_repeated-clause-grown : goal.returns-in_err-add_repeated-clause-grown

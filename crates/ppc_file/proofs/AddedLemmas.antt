@@ -1,0 +1,59 @@
+-- Texts that are added one behind another.
+use Rattle.std.proofs.Common.{◌≡◌, ℕ, ◌+◌, List, [], ◌++◌, length, replicate, drop, Option, Some, Result, Ok, Err, sym, ap, ◌∙◌, arith, append_assoc, append-nil}
+use Rattle.std.specs.Prelude.{slice_get}
+use Rattle.std.proofs.lemmas.List.{length-replicate}
+use Rattle.list_laws.proofs.Places.{drop_get}
+use Rattle.aig_core.specs.Aig.{Aig, first_and}
+use Rattle.aig_core.specs.declared.lit.Kind.TheVariants.{Parameter}
+use Rattle.aig_core.specs.declared.lit.Lit.{Lit}
+use Rattle.aig_core.specs.declared.lit.Pair.{Pair}
+use Rattle.ppc_pack.specs.Pack.{PackValue}
+use Rattle.ppc_pack.specs.declared.pack.PackParam.{PackParam}
+use Rattle.tl_piece.specs.Pieces.{Adds, Stops}
+use Rattle.tl_piece.proofs.PieceLemmas.{adds_none, adds_twice}
+use Rattle.tl_piece.proofs.AddLemmas.{adds_as, stops_in}
+use Rattle.ppc_file.specs.declared.version.Version.{Version}
+use Rattle.ppc_file.specs.Bytes.{node_bytes, nodes_bytes, head_bytes, params_part, nodes_part, bits_part, bytes_of}
+use Rattle.ppc_file.specs.Adding.{Added}
+
+module _ {old now : Option (List ℕ)} {waiting whole between left : List ℕ} (added : Added old waiting whole now between left) where
+  split_text : (part behind : List ℕ) → left ≡ part ++ behind → (added.front ++ part) ++ behind ≡ whole
+  split_text part behind split = append_assoc added.front part behind ∙ ap (λ (t : List ℕ). added.front ++ t) (sym split) ∙ added.rest
+
+  -- one more part
+  pub added_more : {new : Option (List ℕ)} {after : List ℕ} (part behind : List ℕ) → left ≡ part ++ behind → Adds now between part new after → Added old waiting whole new after behind
+  added_more part behind split adds = record {
+    front = added.front ++ part;
+    adds = adds_twice added.adds adds;
+    rest = split_text part behind split;
+  }
+
+  -- a part at which the sink failed
+  pub added_stop : {new : Option (List ℕ)} (part behind : List ℕ) → left ≡ part ++ behind → Stops now between part new → Stops old waiting whole new
+  added_stop part behind split stops = stops_in behind (split_text part behind split) added.adds stops
+
+  -- nothing is left
+  pub added_all : left ≡ [] → Adds old waiting whole now between
+  added_all none = adds_as (sym (append-nil added.front) ∙ ap (λ (t : List ℕ). added.front ++ t) (sym none) ∙ added.rest) added.adds
+
+-- ---- nodes in a row
+
+-- what is left begins with the node at a place
+pub next_node : (v : Version) (first i : ℕ) (ps : List Pair) (p : Pair) → slice_get ps i ≡ Some p → nodes_bytes v (first + i) (drop i ps) ≡ node_bytes v (first + i) p ++ nodes_bytes v (first + (i + 1)) (drop (i + 1) ps)
+next_node v first i ps p there =
+    let node : first + i + 1 ≡ first + (i + 1) = omega arith in
+    ap (nodes_bytes v (first + i)) (drop_get ps i p there) ∙ ap (λ (n : ℕ). node_bytes v (first + i) p ++ nodes_bytes v n (drop (i + 1) ps)) node
+
+-- ---- the parts of a pack
+
+pub pack_parts : (v : Version) (pack : PackValue) (params : List PackParam) (g : Aig) (bits : List Lit) → params ≡ pack.params → g ≡ pack.graph → bits ≡ pack.bits → pack.graph.kinds ≡ replicate (length pack.params) Parameter
+    → bytes_of v pack ≡ head_bytes v ++ (params_part v (length params) params ++ (nodes_part v (first_and g) (length g.pairs) g.pairs ++ bits_part v (length bits) bits))
+pack_parts v pack params g bits p-is g-is b-is kinds =
+    let H : List ℕ = head_bytes v in
+    let P : List ℕ = params_part v (length params) params in
+    let B : List ℕ = bits_part v (length pack.bits) pack.bits in
+    let sources : length pack.params ≡ length pack.graph.kinds = sym (ap length kinds ∙ length-replicate (length pack.params) Parameter) in
+    ap (λ (ps : List PackParam). H ++ (params_part v (length ps) ps ++ (nodes_part v (1 + length pack.params) (length pack.graph.pairs) pack.graph.pairs ++ B))) (sym p-is)
+    ∙ ap (λ (n : ℕ). H ++ (P ++ (nodes_part v (1 + n) (length pack.graph.pairs) pack.graph.pairs ++ B))) sources
+    ∙ ap (λ (h : Aig). H ++ (P ++ (nodes_part v (first_and h) (length h.pairs) h.pairs ++ B))) (sym g-is)
+    ∙ ap (λ (ls : List Lit). H ++ (P ++ (nodes_part v (first_and g) (length g.pairs) g.pairs ++ bits_part v (length ls) ls))) (sym b-is)
