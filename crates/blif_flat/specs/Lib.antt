@@ -61,13 +61,13 @@ pub use Steps.InstanceRows.*
 pub use Steps.ModelSteps.*
 pub use Steps.NameSets.*
 pub use Steps.NetTable.*
-pub use Rattle.blif_flat.specs.declared.instances.Instance.{Instance}
-pub use Rattle.blif_flat.specs.declared.instances.Gate.{Gate}
-pub use Rattle.blif_flat.specs.declared.instances.GateKind.{GateKind}
-pub use Rattle.blif_flat.specs.declared.ports.Ports.{Ports}
-pub use Rattle.blif_flat.specs.declared.nets.Start.{Start}
-pub use Rattle.blif_flat.specs.declared.connect.Circuit.{Circuit}
-pub use Rattle.blif_flat.specs.declared.clock_check.ClockNets.{ClockNets}
+pub use Rattle.blif_flat.specs.declared.circuit.instances.Instance.{Instance}
+pub use Rattle.blif_flat.specs.declared.circuit.instances.Gate.{Gate}
+pub use Rattle.blif_flat.specs.declared.circuit.instances.GateKind.{GateKind}
+pub use Rattle.blif_flat.specs.declared.model.ports.Ports.{Ports}
+pub use Rattle.blif_flat.specs.declared.circuit.nets.Start.{Start}
+pub use Rattle.blif_flat.specs.declared.circuit.connect.Circuit.{Circuit}
+pub use Rattle.blif_flat.specs.declared.clock.clock_check.ClockNets.{ClockNets}
 pub use Rattle.blif_flat.specs.declared.flat.OutPort.{OutPort}
 pub use Rattle.blif_flat.specs.declared.flat.FlatLatch.{FlatLatch}
 pub use Rattle.blif_flat.specs.declared.flat.Net.{Net as FlatNet}

@@ -3,14 +3,14 @@ ghost use Rattle.std.specs.Prelude.{◌≡◌, ◌<◌, ◌^◌, Some, IfOk, IfE
 ghost use Rattle.blif_read.specs.ShortPorts.{HasShortPorts};
 ghost use Rattle.blif_flat.specs.{OrMemory, IsWellFormed, refusal_of, IsFault, HasOneFault, HasNoFault, IsWithinBounds, IsLight, HasValues, HasOneFlat, HasCycles, HasOneCycle, IsSound};
 
-use crate::assemble::assemble;
-use crate::checks::check_models;
-use crate::clock_check::check_clocks;
-use crate::clocks::all_inputs;
-use crate::connect::connect;
+use crate::circuit::connect::connect;
+use crate::clock::clock_check::check_clocks;
+use crate::clock::clocks::all_inputs;
+use crate::field::assemble::assemble;
 use crate::flat::Flat;
 use crate::flat_err::FlatErr;
-use crate::ports::{ModelIndex, Ports, all_ports};
+use crate::model::checks::check_models;
+use crate::model::ports::{ModelIndex, Ports, all_ports};
 use blif_read::{BlifModel, Library};
 use std::alloc::Global;
 

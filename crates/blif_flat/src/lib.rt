@@ -13,48 +13,33 @@
 //!
 //! `call.rt` has `flatten`, which is four steps, each with an exact contract. No walk recurses: each keeps its stack in memory.
 //!
-//! `checks.rt` tells the faults of models:
+//! `model/checks.rt` tells the faults of models:
 //! - `walk.rt` walks the models depth first from the main one, and `line_check.rt` checks a line that places one.
 //! - `weight.rt` weighs the main model.
 //! - `drivers.rt` finds names that are driven twice or not at all, and `driven.rt` has those that are.
 //! - `ports.rt` finds names, ports and models by their hashes.
 //!
-//! `connect.rt` makes the circuit:
+//! `circuit/connect.rt` makes the circuit:
 //! - `instances.rt` lists the instances in flat order, and their covers and latches, and finds the command of one.
 //! - `nets.rt` is the table of the nets of all names, and `net_table.rt` fills it.
 //!
-//! `clock_check.rt` finds the clock nets and tells those that are data:
+//! `clock/clock_check.rt` finds the clock nets and tells those that are data:
 //! - `controls.rt` finds the one net of the latch controls, and `clocks.rt` marks the inputs that are clock nets.
 //!
-//! `assemble.rt` makes the flat circuit:
+//! `field/assemble.rt` makes the flat circuit:
 //! - `flat_gates.rt` makes the covers and the latches, and `flat_ports.rt` the ports.
 //! - `loops.rt` orders the covers or tells a loop, and `written.rt` writes the nets' names that a refusal tells.
 //!
 //! `flat.rt` and `flat_err.rt` are the types of a flat circuit and of its refusals.
 #![tactic(auto)]
 
-mod assemble;
 mod call;
-mod checks;
-mod clock_check;
-mod clocks;
-mod connect;
-mod controls;
-mod driven;
-mod drivers;
+mod circuit;
+mod clock;
+mod field;
 mod flat;
 mod flat_err;
-mod flat_gates;
-mod flat_ports;
-mod instances;
-mod line_check;
-mod loops;
-mod net_table;
-mod nets;
-mod ports;
-mod walk;
-mod weight;
-mod written;
+mod model;
 
 pub use call::flatten;
 pub use flat::{Flat, FlatCover, FlatLatch, Net, OutPort};

@@ -11,7 +11,7 @@ use Rattle.blif_flat.proofs.Fields.RegularLemmas.{In-filter}
 use Rattle.blif_flat.proofs.Hierarchy.InstanceWeightLemmas.{few_inputs, filtered_below, places_few, inputs_few, ports_few}
 use Rattle.blif_flat.proofs.Values.EvaluateLemmas.{behind_is}
 use Rattle.blif_flat.proofs.Walks.PostLemmas.{nodes_only, nodes_after, reversed_forward, reversed_apart, reads_earlier}
-use Rattle.blif_flat.specs.declared.instances.GateKind.TheVariants as kinds
+use Rattle.blif_flat.specs.declared.circuit.instances.GateKind.TheVariants as kinds
 
 module _ (library : LibraryValue) (main : ModelValue) (at : model_at library [] ≡ Some main) (circuit : Circuit) (is : IsCircuit library circuit) (clocks : ClockNets)
     (known : AreClockNets library main circuit.rows.items clocks) where

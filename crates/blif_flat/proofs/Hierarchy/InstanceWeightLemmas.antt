@@ -3,7 +3,7 @@ use Rattle.blif_flat.proofs.Common.{◌≡◌, Bool, not, filter, if◌then◌el
 use Rattle.blif_flat.specs.{Body, Command, SubcktValue, ModelValue, LibraryValue, Path, subckts_of, with_subckt, model_named, model_at, has_name, inputs_of, CoverValue, CoverAt, Place, own_places, own_of, InFlatOrder, InFlatOrderUnder, FlatOrder, Cover as CoverBody, Latch as LatchBody, Subckt as SubcktBody, GateKind, kind_test, most_weight, body_weight, commands_weight, own_weight, Weighs, weighs, WeighAll, flat, InstanceOrder, InstancesUnder, places_at, IsLight}
 use Rattle.blif_flat.specs.Places.{none, more}
 use Rattle.blif_flat.specs.Weight.{none as weigh_none, more as weigh_more}
-use Rattle.blif_flat.specs.declared.instances.GateKind.TheVariants.{Cover, Latch, Either}
+use Rattle.blif_flat.specs.declared.circuit.instances.GateKind.TheVariants.{Cover, Latch, Either}
 use Rattle.blif_flat.proofs.Hierarchy.OrderLemmas.{AreFrom, from_start, from_first, from_rest, placed_at, order_places}
 use Rattle.blif_flat.proofs.Hierarchy.PlaceLemmas.{inside, command_of}
 use Rattle.blif_flat.proofs.Models.NameLemmas.{not_empty, same_first, same_rest}

@@ -21,13 +21,13 @@ use Rattle.blif_flat.specs.Steps.InstanceRows.{places_at, number_or_zero, gate_b
 use Rattle.blif_flat.specs.Steps.NetTable.{NetsValue, table_of, AreAllNets}
 use Rattle.blif_flat.specs.Weight.{most_weight}
 use Rattle.blif_flat.specs.Written.{IsWritten}
-use Rattle.blif_flat.specs.declared.clock_check.ClockNets.{ClockNets}
-use Rattle.blif_flat.specs.declared.connect.Circuit.{Circuit}
-use Rattle.blif_flat.specs.declared.loops.Found.{Found}
-use Rattle.blif_flat.specs.declared.loops.Found.TheVariants.{Loop as found_loop, Order as found_order}
+use Rattle.blif_flat.specs.declared.clock.clock_check.ClockNets.{ClockNets}
+use Rattle.blif_flat.specs.declared.circuit.connect.Circuit.{Circuit}
+use Rattle.blif_flat.specs.declared.field.loops.Found.{Found}
+use Rattle.blif_flat.specs.declared.field.loops.Found.TheVariants.{Loop as found_loop, Order as found_order}
 use Rattle.blif_flat.specs.declared.flat.Net.TheVariants.{Input, Latch, Cover}
-use Rattle.blif_flat.specs.declared.instances.Gate.{Gate}
-use Rattle.blif_flat.specs.declared.instances.Instance.{Instance}
+use Rattle.blif_flat.specs.declared.circuit.instances.Gate.{Gate}
+use Rattle.blif_flat.specs.declared.circuit.instances.Instance.{Instance}
 
 -- the numbers of the inputs that aren't marked, counted on from n; a marked one has the number of the next one
 abbrev pub regular_numbers : ℕ → List Bool → List ℕ

@@ -6,10 +6,10 @@ use Rattle.tl_text.specs.NameIndex.{place_of}
 use Rattle.blif_flat.specs.Circuits.{Body, SubcktValue, ModelValue, LibraryValue, Path, model_at, Place, own_of, InFlatOrder, InFlatOrderUnder, Cover, Latch, Subckt, Command, CoverValue, body_at, cover_in, is_cover, is_latch}
 use Rattle.blif_flat.specs.ClockFaults.{is_gate}
 use Rattle.blif_flat.specs.Weight.{most_weight}
-use Rattle.blif_flat.specs.declared.instances.Gate.{Gate}
-use Rattle.blif_flat.specs.declared.instances.GateKind.{GateKind}
-use Rattle.blif_flat.specs.declared.instances.GateKind.TheVariants.{Cover, Latch, Either}
-use Rattle.blif_flat.specs.declared.instances.Instance.{Instance}
+use Rattle.blif_flat.specs.declared.circuit.instances.Gate.{Gate}
+use Rattle.blif_flat.specs.declared.circuit.instances.GateKind.{GateKind}
+use Rattle.blif_flat.specs.declared.circuit.instances.GateKind.TheVariants.{Cover, Latch, Either}
+use Rattle.blif_flat.specs.declared.circuit.instances.Instance.{Instance}
 
 abbrev pub itself : Path → ModelValue → List Path
 itself path m = path ∷ []

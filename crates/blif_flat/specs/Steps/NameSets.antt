@@ -1,7 +1,7 @@
 -- Names in the order in which they were first seen, each once; and the ports and the models found by them.
 use Rattle.std.specs.Prelude.{◌≡◌, ℕ, if◌then◌else◌, List, [], ◌∷◌, ◌++◌, map, Option, Some, None, slice_get}
 use Rattle.blif_flat.specs.Circuits.{ModelValue, has_name, inputs_of, model_named, Body, Cover, Latch, Subckt, Command, Pair}
-use Rattle.blif_flat.specs.declared.ports.Ports.{Ports}
+use Rattle.blif_flat.specs.declared.model.ports.Ports.{Ports}
 
 -- names and one more, unless it is among them
 abbrev pub with_name : List (List ℕ) → List ℕ → List (List ℕ)

@@ -8,10 +8,10 @@ use Rattle.blif_flat.specs.Steps.InstanceRows.{places_at, paths_of, gate_body}
 use Rattle.blif_flat.specs.Steps.NameSets.{all_names, with_names, ports_value}
 use Rattle.blif_flat.specs.Weight.{most_weight}
 use Rattle.blif_flat.specs.declared.flat.Net.TheVariants.{Input as InputNumber, Latch as LatchNumber, Cover as CoverNumber}
-use Rattle.blif_flat.specs.declared.instances.Gate.{Gate}
-use Rattle.blif_flat.specs.declared.instances.Instance.{Instance}
-use Rattle.blif_flat.specs.declared.nets.Start.{Start}
-use Rattle.blif_flat.specs.declared.ports.Ports.{Ports}
+use Rattle.blif_flat.specs.declared.circuit.instances.Gate.{Gate}
+use Rattle.blif_flat.specs.declared.circuit.instances.Instance.{Instance}
+use Rattle.blif_flat.specs.declared.circuit.nets.Start.{Start}
+use Rattle.blif_flat.specs.declared.model.ports.Ports.{Ports}
 
 -- the names of the models, the model and the first slot of each instance, and the slots
 pub record NetsValue : Type 0 where

@@ -1,0 +1,12 @@
+use Rattle.blif_flat.proofs.Common.{◌≡◌, length}
+use Rattle.blif_flat.specs.{LibraryValue, IsNets, links_out, AreLinesOf}
+use Rattle.blif_flat.proofs.circuit.net_table.links_out.Given as goal
+
+abbrev pub invariant-loop-left : goal.invariant-loop-left
+invariant-loop-left l = record {
+  out : (library : LibraryValue) → AreLinesOf library l.lines l.ports → links_out library l.rows l.nets l.left ≡ links_out library l.rows l.initial.nets (length l.rows);
+  nets : IsNets l.nets;
+}
+
+abbrev pub decreases-loop-left : goal.decreases-loop-left
+decreases-loop-left l = l.left

@@ -1,0 +1,9 @@
+use Rattle.blif_flat.proofs.Common.{◌≡◌, drop}
+use Rattle.blif_flat.specs.{ModelValue, is_input, ports_value, pairs_in, IsNets}
+use Rattle.blif_flat.proofs.circuit.nets.pairs_in.Given as goal
+
+abbrev pub invariant-loop-pair : goal.invariant-loop-pair
+invariant-loop-pair l = record {
+  copied : (child : ModelValue) → l.ports ≡ ports_value child → pairs_in (is_input child) l.inner l.outer l.nets (drop l.pair-index l.pairs) ≡ pairs_in (is_input child) l.inner l.outer l.initial.nets l.pairs;
+  nets : IsNets l.nets;
+}

@@ -1,7 +1,0 @@
-use Rattle.blif_flat.proofs.Common.{◌≡◌, ◌++◌, not, drop, filter}
-use Rattle.blif_flat.specs.{has_name}
-use Rattle.blif_flat.proofs.clocks.add_clocks.Given as goal
-
-abbrev pub invariant-loop-name : goal.invariant-loop-name
-invariant-loop-name l = l.all.items ++ filter (λ name. not (has_name l.model.inputs name)) (drop l.name-index l.model.clocks)
-    ≡ l.initial.all.items ++ filter (λ name. not (has_name l.model.inputs name)) l.model.clocks

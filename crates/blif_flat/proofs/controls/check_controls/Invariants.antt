@@ -1,9 +1,0 @@
-use Rattle.blif_flat.proofs.Common.{◌≡◌, ◌<◌, ℕ, length, drop, Some}
-use Rattle.blif_flat.specs.{is_latch, paths_of, places_at, input_at, CameTo}
-use Rattle.blif_flat.proofs.controls.check_controls.Given as goal
-
-abbrev pub invariant-loop-gate : goal.invariant-loop-gate
-invariant-loop-gate l = record {
-  within : (j : ℕ) → l.first ≡ Some j → j < length l.inputs;
-  came : CameTo l.library (places_at l.library is_latch (paths_of l.rows)) (drop l.gate-index (places_at l.library is_latch (paths_of l.rows))) (input_at l.inputs l.first);
-}

@@ -1,6 +1,0 @@
-use Rattle.blif_flat.proofs.Common.{◌≡◌, ◌++◌, map, drop}
-use Rattle.blif_flat.specs.{flat_latch}
-use Rattle.blif_flat.proofs.flat_gates.flat_latches.Given as goal
-
-abbrev pub invariant-loop-gate : goal.invariant-loop-gate
-invariant-loop-gate l = l.flat.items ++ map (flat_latch l.library l.rows l.nets l.numbers) (drop l.gate-index l.latches) ≡ map (flat_latch l.library l.rows l.nets l.numbers) l.latches

@@ -1,6 +1,0 @@
-use Rattle.blif_flat.proofs.Common.{◌≡◌, max, drop}
-use Rattle.blif_flat.specs.{most_underscores}
-use Rattle.blif_flat.proofs.flat_ports.most_of.Given as goal
-
-abbrev pub invariant-loop-name : goal.invariant-loop-name
-invariant-loop-name l = max l.most (most_underscores (drop l.name-index l.names)) ≡ max l.fn.least (most_underscores l.names)

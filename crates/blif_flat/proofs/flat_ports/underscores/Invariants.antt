@@ -1,9 +1,0 @@
-use Rattle.blif_flat.proofs.Common.{◌≡◌, ◌+◌, ◌≤◌, drop}
-use Rattle.blif_flat.specs.{underscores}
-use Rattle.blif_flat.proofs.flat_ports.underscores.Given as goal
-
-abbrev pub invariant-loop-byte : goal.invariant-loop-byte
-invariant-loop-byte l = record {
-  counts : l.count + underscores (drop l.byte-index l.name) ≡ underscores l.name;
-  within : l.count ≤ l.byte-index;
-}

@@ -1,0 +1,6 @@
+use Rattle.blif_flat.proofs.Common.{◌≡◌, drop}
+use Rattle.blif_flat.specs.{undriven_in}
+use Rattle.blif_flat.proofs.model.drivers.check_names.Given as goal
+
+abbrev pub invariant-loop-name : goal.invariant-loop-name
+invariant-loop-name l = undriven_in l.model l.line l.driven (drop l.name-index l.names) ≡ undriven_in l.model l.line l.driven l.names

@@ -1,9 +1,0 @@
-use Rattle.blif_flat.proofs.Common.{◌≡◌}
-use Rattle.blif_flat.specs.{LibraryValue, IsNets, links_in, AreLinesOf}
-use Rattle.blif_flat.proofs.net_table.links_in.Given as goal
-
-abbrev pub invariant-loop-j : goal.invariant-loop-j
-invariant-loop-j l = record {
-  inside : (library : LibraryValue) → AreLinesOf library l.lines l.ports → l.nets ≡ links_in library l.rows l.initial.nets l.j;
-  nets : IsNets l.nets;
-}

@@ -1,7 +1,0 @@
-use Rattle.blif_flat.proofs.Common.{sym, subst}
-use Rattle.blif_flat.specs.{IsNets}
-use Rattle.blif_flat.proofs.Connections.NetCopyLemmas.{with_slot-nets}
-use Rattle.blif_flat.proofs.nets.Nets.set.Goals as goal
-
-pub returns-in-Some-clause-nets : goal.returns-in-Some-clause-nets
-returns-in-Some-clause-nets c = subst IsNets (sym c.put.ensures) (with_slot-nets c.args.self.now c.in-Some.k c.args.net c.requires)

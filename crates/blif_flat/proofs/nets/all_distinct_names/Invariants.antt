@@ -1,6 +1,0 @@
-use Rattle.blif_flat.proofs.Common.{◌≡◌, ◌++◌, map, drop}
-use Rattle.blif_flat.specs.{distinct_names}
-use Rattle.blif_flat.proofs.nets.all_distinct_names.Given as goal
-
-abbrev pub invariant-loop-model : goal.invariant-loop-model
-invariant-loop-model l = l.all.items ++ map distinct_names (drop l.model-index l.models) ≡ map distinct_names l.models

@@ -1,9 +1,0 @@
-use Rattle.blif_flat.proofs.Common.{◌≡◌, ◌+◌, ◌++◌, drop}
-use Rattle.blif_flat.specs.{starts_from, slot_count}
-use Rattle.blif_flat.proofs.nets.row_starts.Given as goal
-
-abbrev pub invariant-loop-row : goal.invariant-loop-row
-invariant-loop-row l = record {
-  starts : l.starts.items ++ starts_from l.names l.count (drop l.row-index l.rows) ≡ starts_from l.names 0 l.rows;
-  count : l.count + slot_count l.names (drop l.row-index l.rows) ≡ slot_count l.names l.rows;
-}

@@ -1,6 +1,0 @@
-use Rattle.blif_flat.proofs.Common.{◌≡◌, map, drop}
-use Rattle.blif_flat.specs.{Pair, with_names}
-use Rattle.blif_flat.proofs.nets.with_actuals.Given as goal
-
-abbrev pub invariant-loop-pair : goal.invariant-loop-pair
-invariant-loop-pair l = with_names l.all (map (λ (pair : Pair). pair.actual) (drop l.pair-index l.pairs)) ≡ with_names l.fn.index (map (λ (pair : Pair). pair.actual) l.pairs)

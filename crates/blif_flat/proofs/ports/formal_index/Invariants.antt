@@ -1,6 +1,0 @@
-use Rattle.blif_flat.proofs.Common.{◌≡◌, [], drop}
-use Rattle.blif_flat.specs.{formals, with_names}
-use Rattle.blif_flat.proofs.ports.formal_index.Given as goal
-
-abbrev pub invariant-loop-pair : goal.invariant-loop-pair
-invariant-loop-pair l = with_names l.all (formals (drop l.pair-index l.pairs)) ≡ with_names [] (formals l.pairs)

@@ -1,6 +1,0 @@
-use Rattle.blif_flat.proofs.Common.{◌≡◌, ◌++◌, drop}
-use Rattle.blif_flat.specs.{commands_edges}
-use Rattle.blif_flat.proofs.walk.edges.Given as goal
-
-abbrev pub invariant-loop-command : goal.invariant-loop-command
-invariant-loop-command l = l.row.items ++ commands_edges l.models l.model (drop l.command-index l.model.commands) ≡ commands_edges l.models l.model l.model.commands

@@ -1,9 +1,0 @@
-use Rattle.blif_flat.proofs.Common.{◌≡◌, ◌++◌, length}
-use Rattle.blif_flat.specs.{path_text}
-use Rattle.blif_flat.proofs.written.written_path.Given as goal
-
-abbrev pub invariant-loop-ordinal : goal.invariant-loop-ordinal
-invariant-loop-ordinal l = l.text.items ++ path_text l.left.items ≡ l.initial.text.items ++ path_text l.initial.left.items
-
-abbrev pub decreases-loop-ordinal : goal.decreases-loop-ordinal
-decreases-loop-ordinal l = length l.left.items

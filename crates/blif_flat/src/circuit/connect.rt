@@ -1,0 +1,47 @@
+//! The circuit of a library: its instances, their covers and latches, and the nets of all their names.
+ghost use Rattle.std.specs.Prelude.{◌≡◌, map, IfOk};
+ghost use Rattle.blif_flat.specs.{IsWellFormed, ports_value, model_names, IsDriven, IsLight, IsCircuit};
+
+use crate::circuit::instances::{Gate, GateKind, Instance, gates, instances};
+use crate::circuit::net_table::fill_nets;
+use crate::circuit::nets::{Nets, make_nets};
+use crate::model::ports::{ModelIndex, Ports};
+use blif_read::Library;
+use std::alloc::{AllocError, Global};
+
+/// The instances of a library in flat order, their covers and their latches, and the nets of all their names.
+#[derive(Drop)]
+pub(crate) struct Circuit {
+    pub rows: Vec<Instance>,
+    pub covers: Vec<Gate>,
+    pub latches: Vec<Gate>,
+    pub nets: Nets,
+}
+
+/// The circuit of a library. The index and the ports are those of the library. `Err` comes only for want of memory. It takes
+/// time linear in the bytes of the names of all instances, on average over the hashes.
+pub(crate) fn connect(
+    alloc: Global,
+    library: &Library,
+    index: &ModelIndex,
+    ports: &[Ports],
+) -> Result<Circuit, AllocError>
+    requires formed { IsWellFormed library.now }
+    requires driven { IsDriven library.now }
+    requires light { IsLight library.now }
+    requires names { index.now.names ≡ model_names library.now.models }
+    requires ports { ports.now ≡ map ports_value library.now.models }
+    ensures { IfOk result (λ circuit. IsCircuit library.now circuit) }
+{
+    let rows = instances(alloc, library, index)?;
+    let covers = gates(alloc, library, &rows, GateKind::Cover)?;
+    let latches = gates(alloc, library, &rows, GateKind::Latch)?;
+    let empty = make_nets(alloc, library, &rows)?;
+    let nets = fill_nets(alloc, library, ports, &rows, &covers, &latches, empty)?;
+    Ok(Circuit {
+        rows,
+        covers,
+        latches,
+        nets,
+    })
+}

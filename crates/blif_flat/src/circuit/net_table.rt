@@ -1,0 +1,324 @@
+//! The nets of all instances: first their own covers and latches, then outputs from the inside out, then inputs from the outside in.
+ghost use Rattle.std.specs.Prelude.{◌≡◌, ◌++◌, List, [], map, slice_get, IfOk, OnOk, ◌<◌, ◌≤◌, length, None, MatchOption, ◌^◌, ◌∷◌};
+ghost use Rattle.std.specs.Option.{option_map, option_and_then};
+ghost use Rattle.blif_flat.specs.{SubcktValue, ModelValue, subckts_of, with_subckt, LibraryValue, IsNets, line_under, link_at, linked_out, linked_in, links_out, links_in, AreLinesOf, IsLink, most_weight, gate_body as body_of, output_of_cover as cover_output, output_of_latch as latch_output, with_named, with_covers, with_latches, with_inputs, IsWellFormed, IsDriven, ports_value, is_cover, is_latch, AreInstances, IsLight, paths_of, places_at, AreGatesAt, AreEmptyNets, AreAllNets};
+
+use crate::circuit::instances::{Gate, Instance, gate_body};
+use crate::circuit::nets::{Nets, pairs_in, pairs_out};
+use crate::flat::Net;
+use crate::model::ports::Ports;
+use blif_read::{BlifModel, Body, Command, Library, Pair, Subckt};
+use std::alloc::{AllocError, Global};
+use std::marker::Model;
+use tl_text::Name;
+
+/// The `.subckt` lines of each model in line order.
+#[derive(Drop)]
+pub(crate) struct SubcktLines<'a> {
+    models: Vec<Vec<&'a Subckt>>,
+}
+
+impl<'a> Model for SubcktLines<'a> {
+    ghost use Rattle.std.specs.Prelude.{List, map};
+    ghost use Rattle.blif_read.specs.SubcktValue.{SubcktValue};
+
+    ghost Value = { List (List SubcktValue) };
+
+    ghost view = { λ l. map (λ v. map (λ s. s.now) v.items) l.models.items };
+}
+
+// Adds the line of a command that places a model.
+fn add_line<'a>(lines: &mut Vec<&'a Subckt>, body: &'a Body) -> Result<(), AllocError>
+    ensures { OnOk result (map (λ s. s.now) lines.new.items ≡ map (λ s. s.now) lines.old.items ++ with_subckt body.now []) }
+{
+    match body {
+        Body::Cover(_) => Ok(()),
+        Body::Latch(_) => Ok(()),
+        Body::Subckt(subckt) => {
+            lines.push(subckt)?;
+            Ok(())
+        }
+    }
+}
+
+// The lines of a model's commands.
+fn lines_of<'a>(alloc: Global, commands: &'a [Command]) -> Result<Vec<&'a Subckt>, AllocError>
+    ensures { IfOk result (λ lines. map (λ s. s.now) lines.items ≡ subckts_of commands.now) }
+{
+    let mut lines: Vec<&'a Subckt> = Vec::new(alloc);
+    for command in commands {
+        add_line(&mut lines, &command.body)?;
+    }
+    Ok(lines)
+}
+
+impl<'a> SubcktLines<'a> {
+    /// The lines of these models. It takes time linear in their commands.
+    pub(crate) fn make(
+        alloc: Global,
+        models: &'a [BlifModel],
+    ) -> Result<SubcktLines<'a>, AllocError>
+        ensures { IfOk result (λ lines. lines ≡ map (λ (m : ModelValue). subckts_of m.commands) models.now) }
+    {
+        let mut all: Vec<Vec<&'a Subckt>> = Vec::new(alloc);
+        for model in models {
+            let lines = lines_of(alloc, &model.commands)?;
+            all.push(lines)?;
+        }
+        Ok(SubcktLines { models: all })
+    }
+
+    /// The line of an ordinal of the model of a number, in constant time; `None` where there is none.
+    pub(crate) fn line(&self, model: u32, ordinal: u32) -> Option<&'a Subckt>
+        ensures { option_map (λ s. s.now) result ≡ option_and_then (λ (lines : List SubcktValue). slice_get lines ordinal) (slice_get self.now model) }
+    {
+        match self.models.get(model as usize) {
+            None => None,
+            Some(lines) => match lines.get(ordinal as usize) {
+                None => None,
+                Some(&line) => Some(line),
+            },
+        }
+    }
+}
+
+// How an instance is connected.
+#[derive(Drop)]
+struct Link<'a> {
+    // The row of the instance that it stands in.
+    outer: u32,
+    // The ports of its own model.
+    ports: &'a Ports,
+    // The connections of the line that places it.
+    pairs: &'a [Pair],
+}
+
+// The line of an ordinal of the model of a row.
+fn line_under<'a>(
+    lines: &SubcktLines<'a>,
+    rows: &[Instance],
+    outer: u32,
+    ordinal: u32,
+) -> Option<&'a Subckt>
+    ensures { option_map (λ s. s.now) result ≡ line_under lines.now rows.now outer ordinal }
+{
+    match rows.get(outer as usize) {
+        None => None,
+        Some(row) => lines.line(row.model, ordinal),
+    }
+}
+
+// How the instance of a row is connected; `None` for the first one.
+fn link_of<'a>(
+    lines: &SubcktLines<'a>,
+    ports: &'a [Ports],
+    rows: &[Instance],
+    j: u32,
+) -> Option<Link<'a>>
+    ensures { (library : LibraryValue) → AreLinesOf library lines.now ports.now
+        → MatchOption result (link_at library rows.now j ≡ None) (λ link. IsLink (link_at library rows.now j) link.outer link.ports.now link.pairs.now) }
+{
+    let row = rows.get(j as usize)?;
+    let outer = row.parent?;
+    let subckt = line_under(lines, rows, outer, row.ordinal)?;
+    let ports = ports.get(row.model as usize)?;
+    Some(Link {
+        outer,
+        ports,
+        pairs: &subckt.pairs,
+    })
+}
+
+// Copies the nets of the outputs of the instance of a row out.
+fn link_out<'a>(
+    lines: &SubcktLines<'a>,
+    ports: &'a [Ports],
+    rows: &[Instance],
+    nets: &mut Nets,
+    j: u32,
+)
+    requires { IsNets nets.old }
+    ensures out { (library : LibraryValue) → AreLinesOf library lines.now ports.now → nets.new ≡ linked_out nets.old j (link_at library rows.now j) }
+    ensures nets { IsNets nets.new }
+{
+    match link_of(lines, ports, rows, j) {
+        None => {}
+        Some(link) => pairs_out(nets, link.ports, j, link.outer, link.pairs),
+    }
+}
+
+// Copies the nets of the inputs of the instance of a row in.
+fn link_in<'a>(
+    lines: &SubcktLines<'a>,
+    ports: &'a [Ports],
+    rows: &[Instance],
+    nets: &mut Nets,
+    j: u32,
+)
+    requires { IsNets nets.old }
+    ensures inside { (library : LibraryValue) → AreLinesOf library lines.now ports.now → nets.new ≡ linked_in nets.old j (link_at library rows.now j) }
+    ensures nets { IsNets nets.new }
+{
+    match link_of(lines, ports, rows, j) {
+        None => {}
+        Some(link) => pairs_in(nets, link.ports, j, link.outer, link.pairs),
+    }
+}
+
+/// Copies the nets of the outputs of all instances out, those of the last row first. It takes time linear in the bytes of
+/// their connections, on average over the hashes.
+pub(crate) fn links_out<'a>(
+    lines: &SubcktLines<'a>,
+    ports: &'a [Ports],
+    rows: &[Instance],
+    nets: &mut Nets,
+)
+    requires nets { IsNets nets.old }
+    requires few { length rows.now ≤ most_weight }
+    ensures out { (library : LibraryValue) → AreLinesOf library lines.now ports.now → nets.new ≡ links_out library rows.now nets.old (length rows.now) }
+    ensures nets { IsNets nets.new }
+{
+    let mut left = rows.len() as u32;
+    while left > 0 {
+        left -= 1;
+        link_out(lines, ports, rows, nets, left);
+    }
+}
+
+/// Copies the nets of the inputs of all instances in, those of the first row first. It takes time linear in the bytes of
+/// their connections, on average over the hashes.
+pub(crate) fn links_in<'a>(
+    lines: &SubcktLines<'a>,
+    ports: &'a [Ports],
+    rows: &[Instance],
+    nets: &mut Nets,
+)
+    requires nets { IsNets nets.old }
+    requires few { length rows.now ≤ most_weight }
+    ensures inside { (library : LibraryValue) → AreLinesOf library lines.now ports.now → nets.new ≡ links_in library rows.now nets.old (length rows.now) }
+    ensures nets { IsNets nets.new }
+{
+    for j in 0..rows.len() {
+        link_in(lines, ports, rows, nets, j as u32);
+    }
+}
+
+// Puts a cover in at its output.
+fn set_cover(library: &Library, rows: &[Instance], nets: &mut Nets, gate: &Gate, k: u32)
+    requires { IsNets nets.old }
+    ensures cover { nets.new ≡ with_named nets.old gate.now.row (option_and_then cover_output (body_of library.now rows.now gate.now)) (Net.Cover k) }
+    ensures nets { IsNets nets.new }
+{
+    if let Some(Body::Cover(cover)) = gate_body(library, rows, *gate) {
+        nets.set(gate.row, cover.output.bytes(), Net::Cover(k));
+    }
+}
+
+// Puts a latch in at its output.
+fn set_latch(library: &Library, rows: &[Instance], nets: &mut Nets, gate: &Gate, k: u32)
+    requires { IsNets nets.old }
+    ensures latch { nets.new ≡ with_named nets.old gate.now.row (option_and_then latch_output (body_of library.now rows.now gate.now)) (Net.Latch k) }
+    ensures nets { IsNets nets.new }
+{
+    if let Some(Body::Latch(latch)) = gate_body(library, rows, *gate) {
+        nets.set(gate.row, latch.output.bytes(), Net::Latch(k));
+    }
+}
+
+/// Puts the covers in at their outputs, by their places. It takes time linear in the bytes of their names, on average over
+/// the hashes.
+pub(crate) fn set_covers(library: &Library, rows: &[Instance], nets: &mut Nets, covers: &[Gate])
+    requires nets { IsNets nets.old }
+    requires few { length covers.now ≤ most_weight }
+    ensures covers { nets.new ≡ with_covers library.now rows.now nets.old 0 covers.now }
+    ensures nets { IsNets nets.new }
+{
+    for (k, gate) in covers.iter().enumerate() {
+        set_cover(library, rows, nets, gate, k as u32);
+    }
+}
+
+/// Puts the latches in at their outputs, by their places. It takes time linear in the bytes of their names, on average over
+/// the hashes.
+pub(crate) fn set_latches(library: &Library, rows: &[Instance], nets: &mut Nets, latches: &[Gate])
+    requires nets { IsNets nets.old }
+    requires few { length latches.now ≤ most_weight }
+    ensures latches { nets.new ≡ with_latches library.now rows.now nets.old 0 latches.now }
+    ensures nets { IsNets nets.new }
+{
+    for (k, gate) in latches.iter().enumerate() {
+        set_latch(library, rows, nets, gate, k as u32);
+    }
+}
+
+// Puts an input of the main model in.
+fn set_input(ports: &Ports, nets: &mut Nets, name: &[u8])
+    requires nets { IsNets nets.old }
+    requires few { length ports.now.inputs < 2 ^ 32 }
+    ensures input { nets.new ≡ with_inputs ports.now.inputs nets.old (name.now ∷ []) }
+    ensures nets { IsNets nets.new }
+{
+    if let Some(place) = ports.input_place(name) {
+        nets.set(0, name, Net::Input(place as u32));
+    }
+}
+
+// Puts inputs of the main model in.
+fn set_names(ports: &Ports, nets: &mut Nets, names: &[Name])
+    requires nets { IsNets nets.old }
+    requires few { length ports.now.inputs < 2 ^ 32 }
+    ensures inputs { nets.new ≡ with_inputs ports.now.inputs nets.old names.now }
+    ensures nets { IsNets nets.new }
+{
+    for name in names {
+        set_input(ports, nets, name.bytes());
+    }
+}
+
+/// Puts the inputs of the main model in, by their places: the names of its `.inputs`, then those of its `.clock` that aren't
+/// among them. It takes time linear in their bytes, on average over the hashes.
+pub(crate) fn set_inputs(main: &BlifModel, ports: &Ports, nets: &mut Nets)
+    requires nets { IsNets nets.old }
+    requires few { length ports.now.inputs < 2 ^ 32 }
+    ensures inputs { nets.new ≡ with_inputs ports.now.inputs (with_inputs ports.now.inputs nets.old main.now.inputs) main.now.clocks }
+    ensures nets { IsNets nets.new }
+{
+    set_names(ports, nets, &main.inputs);
+    set_names(ports, nets, &main.clocks);
+}
+
+/// The nets of all instances. The ports, the rows, the covers and the latches are those of the library, and the empty nets
+/// have slots for them. `Err` comes only for want of memory. It takes time linear in the library's commands and in the bytes
+/// of the names of all instances, on average over the hashes.
+pub(crate) fn fill_nets(
+    alloc: Global,
+    library: &Library,
+    ports: &[Ports],
+    rows: &[Instance],
+    covers: &[Gate],
+    latches: &[Gate],
+    empty: Nets,
+) -> Result<Nets, AllocError>
+    requires formed { IsWellFormed library.now }
+    requires driven { IsDriven library.now }
+    requires light { IsLight library.now }
+    requires ports { ports.now ≡ map ports_value library.now.models }
+    requires rows { AreInstances library.now rows.now }
+    requires covers { AreGatesAt (paths_of rows.now) covers.now (places_at library.now is_cover (paths_of rows.now)) }
+    requires latches { AreGatesAt (paths_of rows.now) latches.now (places_at library.now is_latch (paths_of rows.now)) }
+    requires few_covers { length covers.now ≤ most_weight }
+    requires few_latches { length latches.now ≤ most_weight }
+    requires empty { AreEmptyNets library.now (paths_of rows.now) empty }
+    ensures { IfOk result (λ nets. AreAllNets library.now rows.now nets) }
+{
+    let main: &BlifModel = &library.models[0];
+    let inputs: &Ports = &ports[0];
+    let lines = SubcktLines::make(alloc, &library.models)?;
+    let mut nets = empty;
+    set_covers(library, rows, &mut nets, covers);
+    set_latches(library, rows, &mut nets, latches);
+    set_inputs(main, inputs, &mut nets);
+    links_out(&lines, ports, rows, &mut nets);
+    links_in(&lines, ports, rows, &mut nets);
+    Ok(nets)
+}

@@ -1,0 +1,181 @@
+//! The clock nets of a circuit, and those that are data: the input of a cover or a latch, or an output of the main model.
+ghost use Rattle.std.specs.Prelude.{◌≡◌, [], slice_get, Some, None, IfOk, IfErr, MatchOption};
+ghost use Rattle.blif_flat.specs.{OrMemory, ModelValue, refusal_of, model_at, inputs_of, IsDriven, Place, AreInstances, paths_of, places_at, is_gate, data_of, ClockData, IsGateAt, AreGatesAt, IsNets, AreAllNets, AreClockMarks, Tells, marked_name, clock_named, name_fault, names_fault, IsConnected, IsFault, IsLight, IsCircuit, AreClockNets};
+
+use crate::circuit::connect::Circuit;
+use crate::circuit::instances::{Gate, GateKind, Instance, gate_body, gates};
+use crate::circuit::nets::Nets;
+use crate::clock::clocks::clock_marks;
+use crate::clock::controls::check_controls;
+use crate::flat::Net;
+use crate::flat_err::FlatErr;
+use blif_read::{BlifModel, Body, Library};
+use std::alloc::Global;
+use tl_text::Name;
+
+fn marked_input<'a>(inputs: &'a [Name], marks: &[bool], j: u32) -> Option<&'a Name>
+    ensures { MatchOption result (marked_name (slice_get marks.now j) (slice_get inputs.now j) ≡ None) (λ name. marked_name (slice_get marks.now j) (slice_get inputs.now j) ≡ Some name.now) }
+{
+    match marks.get(j as usize) {
+        None => None,
+        Some(mark) => { if *mark { inputs.get(j as usize) } else { None } }
+    }
+}
+
+// The marked input that a net is.
+fn clock_of<'a>(inputs: &'a [Name], marks: &[bool], net: Option<Net>) -> Option<&'a Name>
+    ensures { MatchOption result (clock_named inputs.now marks.now net ≡ None) (λ name. clock_named inputs.now marks.now net ≡ Some name.now) }
+{
+    match net {
+        None => None,
+        Some(Net::Input(j)) => marked_input(inputs, marks, j),
+        Some(Net::Latch(_)) => None,
+        Some(Net::Cover(_)) => None,
+    }
+}
+
+// Tells the net of a name where it is a clock net.
+fn check_name(
+    alloc: Global,
+    nets: &Nets,
+    inputs: &[Name],
+    marks: &[bool],
+    row: u32,
+    name: &Name,
+) -> Result<(), FlatErr>
+    requires { IsNets nets.now }
+    ensures { Tells result (name_fault inputs.now marks.now nets.now row name.now) }
+{
+    match clock_of(inputs, marks, nets.net(row, name.bytes())) {
+        None => Ok(()),
+        Some(clock) => {
+            let clock = Name::make(alloc, clock.bytes())?;
+            Err(FlatErr::ClockAsData(clock))
+        }
+    }
+}
+
+// Tells the first clock net of names of an instance.
+fn check_names(
+    alloc: Global,
+    nets: &Nets,
+    inputs: &[Name],
+    marks: &[bool],
+    row: u32,
+    names: &[Name],
+) -> Result<(), FlatErr>
+    requires { IsNets nets.now }
+    ensures { Tells result (names_fault inputs.now marks.now nets.now row names.now) }
+{
+    for name in names {
+        check_name(alloc, nets, inputs, marks, row, name)?;
+    }
+    Ok(())
+}
+
+// Tells the first clock net that a cover or a latch takes as data.
+fn check_gate(
+    alloc: Global,
+    library: &Library,
+    rows: &[Instance],
+    nets: &Nets,
+    inputs: &[Name],
+    marks: &[bool],
+    gate: Gate,
+) -> Result<(), FlatErr>
+    requires rows { AreInstances library.now rows.now }
+    requires nets { IsNets nets.now }
+    ensures { (p : Place) → IsGateAt (paths_of rows.now) gate p → Tells result (names_fault inputs.now marks.now nets.now gate.row (data_of library.now p)) }
+{
+    match gate_body(library, rows, gate) {
+        None => Ok(()),
+        Some(body) => match body {
+            Body::Cover(cover) => check_names(alloc, nets, inputs, marks, gate.row, &cover.inputs),
+            Body::Latch(latch) => check_name(alloc, nets, inputs, marks, gate.row, &latch.input),
+            Body::Subckt(_) => Ok(()),
+        },
+    }
+}
+
+/// Tells the first clock net that is the input of a cover or a latch, in flat order, or then an output of the main model.
+/// The nets, the rows and the gates (covers and latches in flat order) are those of the library, the inputs those of its
+/// main model, and the marks tell the clock nets among them. It takes time linear in the gates and in the bytes of their
+/// names, on average over the hashes.
+///
+/// # Errors
+/// `ClockAsData` with the clock net; `Memory` where there is none.
+pub(crate) fn check_data(
+    alloc: Global,
+    library: &Library,
+    rows: &[Instance],
+    nets: &Nets,
+    gates: &[Gate],
+    inputs: &[Name],
+    marks: &[bool],
+) -> Result<(), FlatErr>
+    requires driven { IsDriven library.now }
+    requires rows { AreInstances library.now rows.now }
+    requires nets { AreAllNets library.now rows.now nets.now }
+    requires gates { AreGatesAt (paths_of rows.now) gates.now (places_at library.now is_gate (paths_of rows.now)) }
+    requires inputs { (main : ModelValue) → model_at library.now [] ≡ Some main → inputs.now ≡ inputs_of main }
+    requires marks { (main : ModelValue) → model_at library.now [] ≡ Some main → AreClockMarks library.now main marks.now }
+    ensures ok { IfOk result (λ _. (main : ModelValue) → model_at library.now [] ≡ Some main → ClockData library.now main (places_at library.now is_gate (paths_of rows.now)) None) }
+    ensures err { IfErr result (OrMemory refusal_of (λ r. (main : ModelValue) → model_at library.now [] ≡ Some main → ClockData library.now main (places_at library.now is_gate (paths_of rows.now)) (Some r))) }
+{
+    for gate in gates {
+        check_gate(alloc, library, rows, nets, inputs, marks, *gate)?;
+    }
+    let main: &BlifModel = &library.models[0];
+    check_names(alloc, nets, inputs, marks, 0, &main.outputs)
+}
+
+/// The input that is the net of the latch controls, and for each input of the main model whether it is a clock net.
+#[derive(Drop)]
+pub(crate) struct ClockNets {
+    pub control: Option<u32>,
+    pub marks: Vec<bool>,
+}
+
+/// The clock nets. The circuit is that of the library, whose main model and its inputs are given. It takes time linear in
+/// the bytes of the gates' names, on average over the hashes.
+///
+/// # Errors
+/// The first of F8 and F7 in the latches, then of F9; `Memory` where there is none.
+pub(crate) fn check_clocks(
+    alloc: Global,
+    library: &Library,
+    main: &BlifModel,
+    circuit: &Circuit,
+    inputs: &[Name],
+) -> Result<ClockNets, FlatErr>
+    requires connected { IsConnected library.now }
+    requires driven { IsDriven library.now }
+    requires light { IsLight library.now }
+    requires main { slice_get library.now.models 0 ≡ Some main.now }
+    requires circuit { IsCircuit library.now circuit.now }
+    requires inputs { inputs.now ≡ inputs_of main.now }
+    ensures ok { IfOk result (λ clocks. AreClockNets library.now main.now circuit.now.rows.items clocks) }
+    ensures err { IfErr result (OrMemory refusal_of (IsFault library.now)) }
+{
+    let control = check_controls(
+        alloc,
+        library,
+        &circuit.rows,
+        &circuit.nets,
+        &circuit.covers,
+        &circuit.latches,
+        inputs,
+    )?;
+    let marks = clock_marks(alloc, main, inputs, control)?;
+    let all = gates(alloc, library, &circuit.rows, GateKind::Either)?;
+    check_data(
+        alloc,
+        library,
+        &circuit.rows,
+        &circuit.nets,
+        &all,
+        inputs,
+        &marks,
+    )?;
+    Ok(ClockNets { control, marks })
+}

@@ -1,0 +1,4 @@
+//! The clock nets.
+pub mod clock_check;
+pub mod clocks;
+pub mod controls;

@@ -1,0 +1,212 @@
+//! The covers and the latches of a flat circuit, with their nets by the numbers of the regular inputs.
+ghost use Rattle.std.specs.Prelude.{◌≡◌, ◌<◌, ◌^◌, length, slice_get, IfOk, []};
+ghost use Rattle.std.specs.Option.{option_map};
+ghost use Rattle.blif_flat.specs.{number_or_zero, IsNets, regular_numbers as numbers_of, renumbered as renumbered_of, regular_net, regular_nets, Body as BodyValue, IsDriven, is_cover, is_latch, AreInstances, paths_of, places_at, AreGatesAt, AreAllNets, IsRegular, regular_places, AreFlatCovers, AreFlatLatches, row_model, cover_inputs as inputs_of, flat_cover as cover_of, made_latch as latch_of, absent_latch as no_latch_value, flat_latch as latch_of_gate};
+
+use crate::circuit::instances::{Gate, Instance, gate_body};
+use crate::circuit::nets::Nets;
+use crate::flat::{FlatCover, FlatLatch, Net};
+use blif_read::{Body, Latch, Library};
+use std::alloc::{AllocError, Global};
+use tl_text::Name;
+
+/// For each mark, how many marks before it are off. `Err` comes only for want of memory. It takes linear time.
+pub(crate) fn regular_numbers(alloc: Global, marks: &[bool]) -> Result<Vec<u32>, AllocError>
+    requires few { length marks.now < 2 ^ 32 }
+    ensures { IfOk result (λ numbers. numbers.items ≡ numbers_of 0 marks.now) }
+{
+    let mut numbers = Vec::new(alloc);
+    let mut next = 0;
+    for &mark in marks {
+        numbers.push(next)?;
+        if !mark {
+            next += 1;
+        }
+    }
+    Ok(numbers)
+}
+
+// The number of an input among the regular ones, and 0 where there is no such input.
+fn number_at(numbers: &[u32], j: u32) -> u32
+    ensures { result ≡ number_or_zero (slice_get numbers.now j) }
+{
+    match numbers.get(j as usize) {
+        None => 0,
+        Some(number) => *number,
+    }
+}
+
+// A net with its regular number.
+fn renumbered(numbers: &[u32], net: Net) -> Net
+    ensures { result ≡ renumbered_of numbers.now net }
+{
+    match net {
+        Net::Input(j) => Net::Input(number_at(numbers, j)),
+        Net::Latch(j) => Net::Latch(j),
+        Net::Cover(j) => Net::Cover(j),
+    }
+}
+
+/// The net of a name of an instance by the regular inputs' numbers; `Input(0)` where nothing drives the name. It takes time
+/// linear in the name's bytes, on average over the hashes.
+pub(crate) fn net_at(nets: &Nets, numbers: &[u32], i: u32, name: &[u8]) -> Net
+    requires { IsNets nets.now }
+    ensures { result ≡ regular_net numbers.now nets.now i name.now }
+{
+    match nets.net(i, name) {
+        None => Net::Input(0),
+        Some(net) => renumbered(numbers, net),
+    }
+}
+
+/// The nets of several names of an instance in the same way. `Err` comes only for want of memory.
+pub(crate) fn net_list(
+    alloc: Global,
+    nets: &Nets,
+    numbers: &[u32],
+    i: u32,
+    names: &[Name],
+) -> Result<Vec<Net>, AllocError>
+    requires { IsNets nets.now }
+    ensures { IfOk result (λ list. list.items ≡ regular_nets numbers.now nets.now i names.now) }
+{
+    let mut list = Vec::new(alloc);
+    for name in names {
+        list.push(net_at(nets, numbers, i, name.bytes()))?;
+    }
+    Ok(list)
+}
+
+// The number of the model of a row.
+fn model_of(rows: &[Instance], i: u32) -> u32
+    ensures { result ≡ row_model (slice_get rows.now i) }
+{
+    match rows.get(i as usize) {
+        None => 0,
+        Some(row) => row.model,
+    }
+}
+
+// The inputs of a cover, and none where there is no cover.
+fn cover_inputs(body: Option<&Body>) -> &[Name]
+    ensures { result.now ≡ inputs_of (option_map (λ body. body.now) body.entry) }
+{
+    match body {
+        None => &[],
+        Some(Body::Cover(cover)) => &cover.inputs,
+        Some(Body::Latch(_)) => &[],
+        Some(Body::Subckt(_)) => &[],
+    }
+}
+
+// The flat cover of a gate.
+fn flat_cover(
+    alloc: Global,
+    library: &Library,
+    rows: &[Instance],
+    nets: &Nets,
+    numbers: &[u32],
+    gate: Gate,
+) -> Result<FlatCover, AllocError>
+    requires { IsNets nets.now }
+    ensures { IfOk result (λ cover. cover ≡ cover_of library.now rows.now nets.now numbers.now gate) }
+{
+    let model = model_of(rows, gate.row);
+    let names = cover_inputs(gate_body(library, rows, gate));
+    let inputs = net_list(alloc, nets, numbers, gate.row, names)?;
+    Ok(FlatCover {
+        model,
+        command: gate.command,
+        inputs,
+    })
+}
+
+/// The flat covers. The rows, the nets and the covers are those of the library. `Err` comes only for want of memory. It
+/// takes time linear in the bytes of the covers' inputs, on average over the hashes.
+pub(crate) fn flat_covers(
+    alloc: Global,
+    library: &Library,
+    rows: &[Instance],
+    nets: &Nets,
+    numbers: &[u32],
+    covers: &[Gate],
+) -> Result<Vec<FlatCover>, AllocError>
+    requires driven { IsDriven library.now }
+    requires rows { AreInstances library.now rows.now }
+    requires nets { AreAllNets library.now rows.now nets.now }
+    requires covers { AreGatesAt (paths_of rows.now) covers.now (places_at library.now is_cover (paths_of rows.now)) }
+    ensures { IfOk result (λ flat. (r : IsRegular library.now numbers.now)
+        → AreFlatCovers library.now (regular_places library.now r.main r.test (paths_of rows.now)) flat.items) }
+{
+    let mut flat = Vec::new(alloc);
+    for &gate in covers {
+        let cover = flat_cover(alloc, library, rows, nets, numbers, gate)?;
+        flat.push(cover)?;
+    }
+    Ok(flat)
+}
+
+// A latch of the instance of this row.
+fn made_latch(nets: &Nets, numbers: &[u32], i: u32, latch: &Latch) -> FlatLatch
+    requires { IsNets nets.now }
+    ensures { result ≡ latch_of numbers.now nets.now i latch.now }
+{
+    FlatLatch {
+        input: net_at(nets, numbers, i, latch.input.bytes()),
+        init: latch.init,
+        clocked: latch.control.is_some(),
+    }
+}
+
+// What stands for a latch where there is none.
+fn no_latch() -> FlatLatch
+    ensures { result ≡ no_latch_value }
+{
+    FlatLatch {
+        input: Net::Input(0),
+        init: false,
+        clocked: false,
+    }
+}
+
+// The flat latch of a gate.
+fn flat_latch(
+    library: &Library,
+    rows: &[Instance],
+    nets: &Nets,
+    numbers: &[u32],
+    gate: Gate,
+) -> FlatLatch
+    requires { IsNets nets.now }
+    ensures { result ≡ latch_of_gate library.now rows.now nets.now numbers.now gate }
+{
+    match gate_body(library, rows, gate) {
+        Some(Body::Latch(latch)) => made_latch(nets, numbers, gate.row, latch),
+        Some(Body::Cover(_)) => no_latch(),
+        Some(Body::Subckt(_)) => no_latch(),
+        None => no_latch(),
+    }
+}
+
+/// The flat latches, in the same way.
+pub(crate) fn flat_latches(
+    alloc: Global,
+    library: &Library,
+    rows: &[Instance],
+    nets: &Nets,
+    numbers: &[u32],
+    latches: &[Gate],
+) -> Result<Vec<FlatLatch>, AllocError>
+    requires driven { IsDriven library.now }
+    requires rows { AreInstances library.now rows.now }
+    requires nets { AreAllNets library.now rows.now nets.now }
+    requires latches { AreGatesAt (paths_of rows.now) latches.now (places_at library.now is_latch (paths_of rows.now)) }
+    ensures { IfOk result (λ flat. (r : IsRegular library.now numbers.now)
+        → AreFlatLatches library.now (regular_places library.now r.main r.test (paths_of rows.now)) flat.items) }
+{
+    let mut flat = Vec::new(alloc);
+    for &gate in latches {
+        flat.push(flat_latch(library, rows, nets, numbers, gate))?;
+    }
+    Ok(flat)
+}

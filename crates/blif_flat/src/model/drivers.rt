@@ -1,0 +1,345 @@
+//! The names that are driven twice, and those that are read and aren't driven.
+ghost use Rattle.std.specs.Prelude.{◌≡◌, ℕ, List, [], ◌∷◌, ◌++◌, map, None, slice_get, MatchOption, MatchResult};
+ghost use Rattle.blif_flat.specs.{ModelValue, LibraryValue, Memory, model_named, has_name, ports_value, model_names, output_actuals, input_actuals, driven_pairs, read_pairs, with_control, drives, reads, all_drives, twice_in, twice_fault, undriven_in, undriven_fault, model_fault, models_fault, Tells, Adds, ArePortsOf, AreOf, fault_of, models_at};
+
+use crate::flat_err::FlatErr;
+use crate::model::driven::Driven;
+use crate::model::ports::{ModelIndex, Ports};
+use blif_read::{BlifModel, Body, Latch, Library, Pair, Subckt};
+use std::alloc::Global;
+use tl_text::Name;
+
+fn copy_of(alloc: Global, name: &Name) -> Result<Name, FlatErr>
+    ensures { MatchResult result (λ copy. copy ≡ name.now) (λ e. e ≡ Memory) }
+{
+    Ok(Name::make(alloc, name.bytes())?)
+}
+
+// Adds a name that a line drives, unless it is driven already.
+fn drive(
+    alloc: Global,
+    model: &Name,
+    line: u32,
+    driven: &mut Driven,
+    name: &Name,
+) -> Result<(), FlatErr>
+    ensures { Adds result (twice_in model.now line driven.old (name.now ∷ [])) driven.old driven.new (name.now ∷ []) }
+{
+    if driven.has(name.bytes()) {
+        let model = copy_of(alloc, model)?;
+        let name = copy_of(alloc, name)?;
+        return Err(FlatErr::DoublyDriven(model, line, name));
+    }
+    driven.add(alloc, name.bytes())?;
+    Ok(())
+}
+
+// Tells a name that isn't driven.
+fn check_driven(
+    alloc: Global,
+    model: &Name,
+    line: u32,
+    driven: &Driven,
+    name: &Name,
+) -> Result<(), FlatErr>
+    ensures { Tells result (undriven_in model.now line driven.now (name.now ∷ [])) }
+{
+    if driven.has(name.bytes()) {
+        return Ok(());
+    }
+    let model = copy_of(alloc, model)?;
+    let name = copy_of(alloc, name)?;
+    Err(FlatErr::Undriven(model, line, name))
+}
+
+// The ports of the model of a name.
+fn ports_of<'a>(index: &ModelIndex, ports: &'a [Ports], name: &Name) -> Option<&'a Ports>
+    ensures { (library : LibraryValue) → AreOf library index.now.names ports.now
+        → MatchOption result (model_named library.models name.now ≡ None) (λ p. ArePortsOf library.models name.now p.now) }
+{
+    match index.find(name.bytes()) {
+        None => None,
+        Some(number) => ports.get(number as usize),
+    }
+}
+
+// Adds the actual of a connection of an output.
+fn drive_actual(
+    alloc: Global,
+    model: &Name,
+    line: u32,
+    driven: &mut Driven,
+    ports: &Ports,
+    pair: &Pair,
+) -> Result<(), FlatErr>
+    ensures { (child : ModelValue) → ports.now ≡ ports_value child
+        → Adds result (twice_in model.now line driven.old (output_actuals child (pair.now ∷ []))) driven.old driven.new (output_actuals child (pair.now ∷ [])) }
+{
+    if ports.is_output(pair.formal.bytes()) {
+        drive(alloc, model, line, driven, &pair.actual)
+    } else {
+        Ok(())
+    }
+}
+
+fn drive_actuals(
+    alloc: Global,
+    model: &Name,
+    line: u32,
+    driven: &mut Driven,
+    ports: &Ports,
+    pairs: &[Pair],
+) -> Result<(), FlatErr>
+    ensures { (child : ModelValue) → ports.now ≡ ports_value child
+        → Adds result (twice_in model.now line driven.old (output_actuals child pairs.now)) driven.old driven.new (output_actuals child pairs.now) }
+{
+    for pair in pairs {
+        drive_actual(alloc, model, line, driven, ports, pair)?;
+    }
+    Ok(())
+}
+
+// Tells the actual of a connection of an input where it isn't driven.
+fn check_actual(
+    alloc: Global,
+    model: &Name,
+    line: u32,
+    driven: &Driven,
+    ports: &Ports,
+    pair: &Pair,
+) -> Result<(), FlatErr>
+    ensures { (child : ModelValue) → ports.now ≡ ports_value child → Tells result (undriven_in model.now line driven.now (input_actuals child (pair.now ∷ []))) }
+{
+    if ports.is_input(pair.formal.bytes()) {
+        check_driven(alloc, model, line, driven, &pair.actual)
+    } else {
+        Ok(())
+    }
+}
+
+fn check_actuals(
+    alloc: Global,
+    model: &Name,
+    line: u32,
+    driven: &Driven,
+    ports: &Ports,
+    pairs: &[Pair],
+) -> Result<(), FlatErr>
+    ensures { (child : ModelValue) → ports.now ≡ ports_value child → Tells result (undriven_in model.now line driven.now (input_actuals child pairs.now)) }
+{
+    for pair in pairs {
+        check_actual(alloc, model, line, driven, ports, pair)?;
+    }
+    Ok(())
+}
+
+fn check_names(
+    alloc: Global,
+    model: &Name,
+    line: u32,
+    driven: &Driven,
+    names: &[Name],
+) -> Result<(), FlatErr>
+    ensures { Tells result (undriven_in model.now line driven.now names.now) }
+{
+    for name in names {
+        check_driven(alloc, model, line, driven, name)?;
+    }
+    Ok(())
+}
+
+fn drive_subckt(
+    alloc: Global,
+    index: &ModelIndex,
+    ports: &[Ports],
+    model: &Name,
+    line: u32,
+    driven: &mut Driven,
+    subckt: &Subckt,
+) -> Result<(), FlatErr>
+    ensures { (library : LibraryValue) → AreOf library index.now.names ports.now
+        → Adds result (twice_in model.now line driven.old (driven_pairs (model_named library.models subckt.now.model) subckt.now.pairs))
+        driven.old driven.new (driven_pairs (model_named library.models subckt.now.model) subckt.now.pairs) }
+{
+    match ports_of(index, ports, &subckt.model) {
+        None => Ok(()),
+        Some(child) => drive_actuals(alloc, model, line, driven, child, &subckt.pairs),
+    }
+}
+
+// Adds the names that a command drives.
+fn drive_body(
+    alloc: Global,
+    index: &ModelIndex,
+    ports: &[Ports],
+    model: &Name,
+    line: u32,
+    driven: &mut Driven,
+    body: &Body,
+) -> Result<(), FlatErr>
+    ensures { (library : LibraryValue) → AreOf library index.now.names ports.now
+        → Adds result (twice_in model.now line driven.old (drives library body.now)) driven.old driven.new (drives library body.now) }
+{
+    match body {
+        Body::Cover(cover) => drive(alloc, model, line, driven, &cover.output),
+        Body::Latch(latch) => drive(alloc, model, line, driven, &latch.output),
+        Body::Subckt(subckt) => drive_subckt(alloc, index, ports, model, line, driven, subckt),
+    }
+}
+
+// Adds the names that a model's commands drive.
+fn drive_commands(
+    alloc: Global,
+    index: &ModelIndex,
+    ports: &[Ports],
+    model: &BlifModel,
+    driven: &mut Driven,
+) -> Result<(), FlatErr>
+    ensures { (library : LibraryValue) → AreOf library index.now.names ports.now
+        → Adds result (twice_fault library model.now.name driven.old model.now.commands) driven.old driven.new (all_drives library model.now.commands) }
+{
+    for command in &model.commands {
+        drive_body(
+            alloc,
+            index,
+            ports,
+            &model.name,
+            command.line,
+            driven,
+            &command.body,
+        )?;
+    }
+    Ok(())
+}
+
+fn check_subckt(
+    alloc: Global,
+    index: &ModelIndex,
+    ports: &[Ports],
+    model: &Name,
+    line: u32,
+    driven: &Driven,
+    subckt: &Subckt,
+) -> Result<(), FlatErr>
+    ensures { (library : LibraryValue) → AreOf library index.now.names ports.now
+        → Tells result (undriven_in model.now line driven.now (read_pairs (model_named library.models subckt.now.model) subckt.now.pairs)) }
+{
+    match ports_of(index, ports, &subckt.model) {
+        None => Ok(()),
+        Some(child) => check_actuals(alloc, model, line, driven, child, &subckt.pairs),
+    }
+}
+
+fn check_latch(
+    alloc: Global,
+    model: &Name,
+    line: u32,
+    driven: &Driven,
+    latch: &Latch,
+) -> Result<(), FlatErr>
+    ensures { Tells result (undriven_in model.now line driven.now (latch.now.input ∷ with_control latch.now.control)) }
+{
+    check_driven(alloc, model, line, driven, &latch.input)?;
+    match &latch.control {
+        None => Ok(()),
+        Some(control) => check_driven(alloc, model, line, driven, control),
+    }
+}
+
+// Tells a name that a command reads and that isn't driven.
+fn check_body(
+    alloc: Global,
+    index: &ModelIndex,
+    ports: &[Ports],
+    model: &Name,
+    line: u32,
+    driven: &Driven,
+    body: &Body,
+) -> Result<(), FlatErr>
+    ensures { (library : LibraryValue) → AreOf library index.now.names ports.now
+        → Tells result (undriven_in model.now line driven.now (reads library body.now)) }
+{
+    match body {
+        Body::Cover(cover) => check_names(alloc, model, line, driven, &cover.inputs),
+        Body::Latch(latch) => check_latch(alloc, model, line, driven, latch),
+        Body::Subckt(subckt) => check_subckt(alloc, index, ports, model, line, driven, subckt),
+    }
+}
+
+// Tells a name that a model's commands read and that isn't driven.
+fn check_commands(
+    alloc: Global,
+    index: &ModelIndex,
+    ports: &[Ports],
+    model: &BlifModel,
+    driven: &Driven,
+) -> Result<(), FlatErr>
+    ensures { (library : LibraryValue) → AreOf library index.now.names ports.now
+        → Tells result (undriven_fault library model.now.name driven.now model.now.commands) }
+{
+    for command in &model.commands {
+        check_body(
+            alloc,
+            index,
+            ports,
+            &model.name,
+            command.line,
+            driven,
+            &command.body,
+        )?;
+    }
+    Ok(())
+}
+
+// Tells the first fault of a model's drivers. The own ports are those of this model.
+fn check_model(
+    alloc: Global,
+    index: &ModelIndex,
+    ports: &[Ports],
+    model: &BlifModel,
+    own: &Ports,
+) -> Result<(), FlatErr>
+    requires { own.now ≡ ports_value model.now }
+    ensures { (library : LibraryValue) → AreOf library index.now.names ports.now → Tells result (model_fault library model.now) }
+{
+    let mut driven = Driven::inputs(alloc, own);
+    drive_commands(alloc, index, ports, model, &mut driven)?;
+    check_commands(alloc, index, ports, model, &driven)?;
+    check_names(alloc, &model.name, model.line, &driven, &model.outputs)
+}
+
+fn check_number(
+    alloc: Global,
+    library: &Library,
+    index: &ModelIndex,
+    ports: &[Ports],
+    number: u32,
+) -> Result<(), FlatErr>
+    requires { AreOf library.now index.now.names ports.now }
+    ensures { Tells result (fault_of library.now (slice_get library.now.models number)) }
+{
+    match library.models.get(number as usize) {
+        None => Ok(()),
+        Some(model) => check_model(alloc, index, ports, model, &ports[number as usize]),
+    }
+}
+
+/// Tells the first fault of the drivers of the models of these numbers, in this order: in each model the first name that a
+/// line drives and that is driven already, then the first that a line reads and that isn't driven, then the first output
+/// that isn't. The index and the ports are those of the library. `Err(Memory)` comes for want of memory. It takes time
+/// linear in the models of the order, on average over the hashes.
+pub(crate) fn check_drivers(
+    alloc: Global,
+    library: &Library,
+    index: &ModelIndex,
+    ports: &[Ports],
+    order: &[u32],
+) -> Result<(), FlatErr>
+    requires { AreOf library.now index.now.names ports.now }
+    ensures { Tells result (models_fault library.now (models_at library.now.models order.now)) }
+{
+    for &number in order {
+        check_number(alloc, library, index, ports, number)?;
+    }
+    Ok(())
+}

@@ -1,0 +1,209 @@
+//! The first fault of a `.subckt` line, F1 to F4.
+ghost use Rattle.std.specs.Prelude.{◌≡◌, ◌∷◌, ◌++◌, [], IfOk, OnOk, IfErr, None, ◌<◌, length, map, slice_get, Some};
+ghost use Rattle.std.specs.Option.{option_map};
+ghost use Rattle.depth_first.specs.Walk.{from_node};
+ghost use Rattle.blif_flat.specs.{UnknownModel as unknown_model_of, UnknownFormal as unknown_formal_of, Unconnected as unconnected_of, IsTold, ports_value, foreign_formal, open_among, ports_fault, AreOnce, ModelValue, RecursiveModel as recursive_model_of, model_names, with_name_of, names_at, IsPlacing, line_fault};
+
+use crate::flat_err::FlatErr;
+use crate::model::ports::{ModelIndex, Ports, formal_index, is_among};
+use blif_read::{BlifModel, Pair, Subckt};
+use depth_first::Walk;
+use std::alloc::{AllocError, Global};
+use tl_fault::Names;
+use tl_text::{Name, NameIndex};
+
+/// A copy of a name.
+pub(crate) fn copied(alloc: Global, name: &Name) -> Result<Name, AllocError>
+    ensures { IfOk result (λ copy. copy ≡ name.now) }
+{
+    Name::make(alloc, name.bytes())
+}
+
+/// F1 of a line of a model.
+pub(crate) fn unknown_model(
+    alloc: Global,
+    model: &Name,
+    line: u32,
+    name: &Name,
+) -> Result<FlatErr, AllocError>
+    ensures { IfOk result (λ e. e ≡ unknown_model_of model.now line name.now) }
+{
+    let model = copied(alloc, model)?;
+    let name = copied(alloc, name)?;
+    Ok(FlatErr::UnknownModel(model, line, name))
+}
+
+fn unknown_formal(
+    alloc: Global,
+    model: &Name,
+    line: u32,
+    name: &Name,
+) -> Result<FlatErr, AllocError>
+    ensures { IfOk result (λ e. e ≡ unknown_formal_of model.now line name.now) }
+{
+    let model = copied(alloc, model)?;
+    let name = copied(alloc, name)?;
+    Ok(FlatErr::UnknownFormal(model, line, name))
+}
+
+fn unconnected(alloc: Global, model: &Name, line: u32, name: &Name) -> Result<FlatErr, AllocError>
+    ensures { IfOk result (λ e. e ≡ unconnected_of model.now line name.now) }
+{
+    let model = copied(alloc, model)?;
+    let name = copied(alloc, name)?;
+    Ok(FlatErr::Unconnected(model, line, name))
+}
+
+// F3 of a line.
+fn check_formals(
+    alloc: Global,
+    model: &Name,
+    line: u32,
+    ports: &Ports,
+    pairs: &[Pair],
+) -> Result<(), FlatErr>
+    ensures ok { OnOk result (foreign_formal ports.now pairs.now ≡ None) }
+    ensures err { IfErr result (λ e. IsTold e (option_map (λ name. unknown_formal_of model.now line name) (foreign_formal ports.now pairs.now))) }
+{
+    for pair in pairs {
+        let formal = pair.formal.bytes();
+        if !(ports.is_input(formal) || ports.has_output(formal)) {
+            return Err(unknown_formal(alloc, model, line, &pair.formal)?);
+        }
+    }
+    Ok(())
+}
+
+// F4 of a line, for some of the inputs.
+fn check_inputs(
+    alloc: Global,
+    model: &Name,
+    line: u32,
+    index: &NameIndex,
+    names: &[Name],
+) -> Result<(), FlatErr>
+    ensures ok { OnOk result (open_among index.now names.now ≡ None) }
+    ensures err { IfErr result (λ e. IsTold e (option_map (λ name. unconnected_of model.now line name) (open_among index.now names.now))) }
+{
+    for name in names {
+        if !is_among(index, name.bytes()) {
+            return Err(unconnected(alloc, model, line, name)?);
+        }
+    }
+    Ok(())
+}
+
+/// F3 and F4 of a line of a model that places a child. It takes time linear in the bytes of the line and of the child's
+/// inputs, on average over the hashes.
+pub(crate) fn check_ports(
+    alloc: Global,
+    model: &BlifModel,
+    line: u32,
+    subckt: &Subckt,
+    child: &BlifModel,
+    ports: &Ports,
+) -> Result<(), FlatErr>
+    requires { ports.now ≡ ports_value child.now }
+    ensures ok { OnOk result (ports_fault model.now line subckt.now child.now ≡ None) }
+    ensures err { IfErr result (λ e. IsTold e (ports_fault model.now line subckt.now child.now)) }
+{
+    check_formals(alloc, &model.name, line, ports, &subckt.pairs)?;
+    let index = formal_index(alloc, &subckt.pairs)?;
+    check_inputs(alloc, &model.name, line, &index, &child.inputs)?;
+    check_inputs(alloc, &model.name, line, &index, &child.clocks)
+}
+
+// Adds the name of the model of a number.
+fn add_name(
+    alloc: Global,
+    models: &[BlifModel],
+    number: u32,
+    names: &mut Vec<Name>,
+) -> Result<(), AllocError>
+    ensures { OnOk result (names.new.items ≡ with_name_of names.old.items (slice_get models.now number)) }
+{
+    match models.get(number as usize) {
+        None => Ok(()),
+        Some(model) => {
+            names.push(copied(alloc, &model.name)?)?;
+            Ok(())
+        }
+    }
+}
+
+// The names of the models of several numbers.
+fn names_of(alloc: Global, models: &[BlifModel], numbers: &[u32]) -> Result<Vec<Name>, AllocError>
+    ensures { IfOk result (λ names. names.items ≡ names_at models.now numbers.now) }
+{
+    let mut names: Vec<Name> = Vec::new(alloc);
+    for &number in numbers {
+        add_name(alloc, models, number, &mut names)?;
+    }
+    Ok(names)
+}
+
+// F2 of a line that places the model of a number.
+fn recursive_model(
+    alloc: Global,
+    models: &[BlifModel],
+    walk: &Walk,
+    n: u32,
+    name: &Name,
+) -> Result<FlatErr, AllocError>
+    ensures { IfOk result (λ e. e ≡ recursive_model_of (names_at models.now (from_node n walk.now.path) ++ name.now ∷ [])) }
+{
+    let nodes = walk.path_from(alloc, n)?;
+    let mut chain = names_of(alloc, models, &nodes)?;
+    chain.push(copied(alloc, name)?)?;
+    Ok(FlatErr::RecursiveModel(Names::make(chain)))
+}
+
+// F3 and F4 of a line that places the model of a number.
+fn check_child(
+    alloc: Global,
+    models: &[BlifModel],
+    ports: &[Ports],
+    n: u32,
+    model: &BlifModel,
+    line: u32,
+    subckt: &Subckt,
+) -> Result<(), FlatErr>
+    requires within { n < length models.now }
+    requires ports { ports.now ≡ map ports_value models.now }
+    ensures ok { OnOk result ((child : ModelValue) → slice_get models.now n ≡ Some child → ports_fault model.now line subckt.now child ≡ None) }
+    ensures err { IfErr result (λ e. (child : ModelValue) → slice_get models.now n ≡ Some child → IsTold e (ports_fault model.now line subckt.now child)) }
+{
+    let child = &models[n as usize];
+    let child_ports = &ports[n as usize];
+    check_ports(alloc, model, line, subckt, child, child_ports)
+}
+
+/// The number of the model that a line places, or the line's first fault of F1 to F4, where the models of the walk's path
+/// are being walked.
+pub(crate) fn check_line(
+    alloc: Global,
+    models: &[BlifModel],
+    index: &ModelIndex,
+    ports: &[Ports],
+    walk: &Walk,
+    model: &BlifModel,
+    line: u32,
+    subckt: &Subckt,
+) -> Result<u32, FlatErr>
+    requires index { index.now.names ≡ model_names models.now }
+    requires ports { ports.now ≡ map ports_value models.now }
+    requires names { AreOnce (model_names models.now) }
+    ensures ok { IfOk result (λ n. IsPlacing models.now walk.now.path model.now (record { line = line; subckt = subckt.now }) n) }
+    ensures err { IfErr result (λ e. IsTold e (line_fault (record { models = models.now }) (names_at models.now walk.now.path) model.now (record { line = line; subckt = subckt.now }))) }
+{
+    match index.find(subckt.model.bytes()) {
+        None => Err(unknown_model(alloc, &model.name, line, &subckt.model)?),
+        Some(n) => {
+            if walk.is_on_path(n) {
+                return Err(recursive_model(alloc, models, walk, n, &subckt.model)?);
+            }
+            check_child(alloc, models, ports, n, model, line, subckt)?;
+            Ok(n)
+        }
+    }
+}

@@ -1,0 +1,280 @@
+//! The walk of the models, as a graph in which each `.subckt` line leads to the model that it places.
+ghost use Rattle.std.specs.Prelude.{◌≡◌, [], map, IfOk, MatchResult, IsSome, ◌<◌, List, length, reverse, slice_get, Some, None, OnOk, IfErr};
+ghost use Rattle.depth_first.specs.declared.edge.Edge.TheVariants.{Stop as stop_at};
+ghost use Rattle.blif_flat.specs.{AreOnce, refusal_of, ports_value, model_names, line_edge, body_edge, commands_edges, edge_rows, In, OrMemory, IsWellFormed, ModelValue, IsTold, names_at, lines_fault, path_fault, models_at, AreChildrenFirst, SubcktLine, with_line, subckt_lines, walked, refused, WalksMain};
+
+use crate::flat_err::FlatErr;
+use crate::model::line_check::check_line;
+use crate::model::ports::{ModelIndex, Ports};
+use blif_read::{BlifModel, Body, Command, Library, Subckt};
+use depth_first::{Edge, Successors, Walk};
+use std::alloc::{AllocError, Global};
+
+// The edge of a line that has a fault.
+fn stop(error: FlatErr) -> Result<Edge<()>, AllocError>
+    ensures { IfOk result (λ edge. (edge ≡ stop_at tt) × IsSome (refusal_of error)) }
+{
+    match error {
+        FlatErr::Memory => Err(AllocError),
+        _ => Ok(Edge::Stop(())),
+    }
+}
+
+// The edge of a line; the walk has not begun.
+fn edge(
+    alloc: Global,
+    models: &[BlifModel],
+    index: &ModelIndex,
+    ports: &[Ports],
+    walk: &Walk,
+    model: &BlifModel,
+    line: u32,
+    subckt: &Subckt,
+) -> Result<Edge<()>, AllocError>
+    requires index { index.now.names ≡ model_names models.now }
+    requires ports { ports.now ≡ map ports_value models.now }
+    requires names { AreOnce (model_names models.now) }
+    requires path { walk.now.path ≡ [] }
+    ensures { IfOk result (λ edge. edge ≡ line_edge models.now model.now (record { line = line; subckt = subckt.now })) }
+{
+    match check_line(alloc, models, index, ports, walk, model, line, subckt) {
+        Ok(n) => Ok(Edge::Node(n)),
+        Err(error) => stop(error),
+    }
+}
+
+// The edge of a command.
+fn command_edge(
+    alloc: Global,
+    models: &[BlifModel],
+    index: &ModelIndex,
+    ports: &[Ports],
+    walk: &Walk,
+    model: &BlifModel,
+    command: &Command,
+) -> Result<Edge<()>, AllocError>
+    requires index { index.now.names ≡ model_names models.now }
+    requires ports { ports.now ≡ map ports_value models.now }
+    requires names { AreOnce (model_names models.now) }
+    requires path { walk.now.path ≡ [] }
+    ensures { IfOk result (λ edge. edge ≡ body_edge models.now model.now command.now.line command.now.body) }
+{
+    match &command.body {
+        Body::Cover(_) => Ok(Edge::Pass),
+        Body::Latch(_) => Ok(Edge::Pass),
+        Body::Subckt(subckt) => edge(
+            alloc,
+            models,
+            index,
+            ports,
+            walk,
+            model,
+            command.line,
+            subckt,
+        ),
+    }
+}
+
+// The edges of a model.
+fn edges(
+    alloc: Global,
+    models: &[BlifModel],
+    index: &ModelIndex,
+    ports: &[Ports],
+    walk: &Walk,
+    model: &BlifModel,
+) -> Result<Vec<Edge<()>>, AllocError>
+    requires index { index.now.names ≡ model_names models.now }
+    requires ports { ports.now ≡ map ports_value models.now }
+    requires names { AreOnce (model_names models.now) }
+    requires path { walk.now.path ≡ [] }
+    ensures { IfOk result (λ row. row.items ≡ commands_edges models.now model.now model.now.commands) }
+{
+    let mut row = Vec::new(alloc);
+    for command in &model.commands {
+        row.push(command_edge(alloc, models, index, ports, walk, model, command)?)?;
+    }
+    Ok(row)
+}
+
+/// The edges of each model, by its number.
+#[derive(Drop)]
+pub(crate) struct ModelGraph {
+    rows: Vec<Vec<Edge<()>>>,
+}
+
+impl ModelGraph {
+    /// The graph of these models; the walk has not begun. It takes time linear in the bytes of the models' lines, on average
+    /// over the hashes.
+    pub(crate) fn make(
+        alloc: Global,
+        models: &[BlifModel],
+        index: &ModelIndex,
+        ports: &[Ports],
+        walk: &Walk,
+    ) -> Result<ModelGraph, AllocError>
+        requires index { index.now.names ≡ model_names models.now }
+        requires ports { ports.now ≡ map ports_value models.now }
+        requires names { AreOnce (model_names models.now) }
+        requires path { walk.now.path ≡ [] }
+        ensures { IfOk result (λ graph. map (λ row. row.items) graph.rows.items ≡ edge_rows models.now models.now) }
+    {
+        let mut rows = Vec::new(alloc);
+        for model in models {
+            rows.push(edges(alloc, models, index, ports, walk, model)?)?;
+        }
+        Ok(ModelGraph { rows })
+    }
+}
+
+impl Successors for ModelGraph {
+    ghost use Rattle.std.specs.Prelude.{◌<◌, length};
+    ghost use Rattle.blif_flat.specs.Steps.ModelSteps.{edges_at};
+
+    type Stop = ();
+
+    ghost is_node = { λ graph n. n < length graph.rows.items };
+
+    ghost edges = { λ graph n. edges_at (map (λ row. row.items) graph.rows.items) n };
+
+    fn successor(&self, node: u32, place: usize) -> Option<Edge<()>> {
+        let row = &self.rows[node as usize];
+        match row.get(place) {
+            None => None,
+            Some(Edge::Node(n)) => Some(Edge::Node(*n)),
+            Some(Edge::Stop(())) => Some(Edge::Stop(())),
+            Some(Edge::Pass) => Some(Edge::Pass),
+        }
+    }
+}
+
+// The first fault of a command.
+fn check_command(
+    alloc: Global,
+    models: &[BlifModel],
+    index: &ModelIndex,
+    ports: &[Ports],
+    walk: &Walk,
+    model: &BlifModel,
+    command: &Command,
+) -> Result<(), FlatErr>
+    requires index { index.now.names ≡ model_names models.now }
+    requires ports { ports.now ≡ map ports_value models.now }
+    requires names { AreOnce (model_names models.now) }
+    ensures ok { OnOk result ((lines : List SubcktLine) → lines_fault models.now (names_at models.now walk.now.path) model.now (with_line command.now.line command.now.body lines) ≡ lines_fault models.now (names_at models.now walk.now.path) model.now lines) }
+    ensures err { IfErr result (λ e. (lines : List SubcktLine) → IsTold e (lines_fault models.now (names_at models.now walk.now.path) model.now (with_line command.now.line command.now.body lines))) }
+{
+    match &command.body {
+        Body::Cover(_) => Ok(()),
+        Body::Latch(_) => Ok(()),
+        Body::Subckt(subckt) => {
+            check_line(
+                alloc,
+                models,
+                index,
+                ports,
+                walk,
+                model,
+                command.line,
+                subckt,
+            )?;
+            Ok(())
+        }
+    }
+}
+
+// The first fault of a model's lines.
+fn check_commands(
+    alloc: Global,
+    models: &[BlifModel],
+    index: &ModelIndex,
+    ports: &[Ports],
+    walk: &Walk,
+    model: &BlifModel,
+) -> Result<(), FlatErr>
+    requires index { index.now.names ≡ model_names models.now }
+    requires ports { ports.now ≡ map ports_value models.now }
+    requires names { AreOnce (model_names models.now) }
+    ensures ok { OnOk result (lines_fault models.now (names_at models.now walk.now.path) model.now (subckt_lines model.now.commands) ≡ None) }
+    ensures err { IfErr result (λ e. IsTold e (lines_fault models.now (names_at models.now walk.now.path) model.now (subckt_lines model.now.commands))) }
+{
+    for command in &model.commands {
+        check_command(alloc, models, index, ports, walk, model, command)?;
+    }
+    Ok(())
+}
+
+// The first fault of the lines of the path's last model.
+fn check_path(
+    alloc: Global,
+    models: &[BlifModel],
+    index: &ModelIndex,
+    ports: &[Ports],
+    walk: &Walk,
+) -> Result<(), FlatErr>
+    requires index { index.now.names ≡ model_names models.now }
+    requires ports { ports.now ≡ map ports_value models.now }
+    requires names { AreOnce (model_names models.now) }
+    ensures ok { OnOk result (path_fault models.now walk.now.path ≡ None) }
+    ensures err { IfErr result (λ e. IsTold e (path_fault models.now walk.now.path)) }
+{
+    match walk.last() {
+        None => Ok(()),
+        Some(n) => match models.get(n as usize) {
+            None => Ok(()),
+            Some(model) => check_commands(alloc, models, index, ports, walk, model),
+        },
+    }
+}
+
+// The walk of models that have distinct names.
+fn walk_slice(
+    alloc: Global,
+    models: &[BlifModel],
+    index: &ModelIndex,
+    ports: &[Ports],
+) -> Result<Walk, FlatErr>
+    requires index { index.now.names ≡ model_names models.now }
+    requires ports { ports.now ≡ map ports_value models.now }
+    requires names { AreOnce (model_names models.now) }
+    requires some { 0 < length models.now }
+    ensures ok { IfOk result (λ w. (main : ModelValue) → slice_get models.now 0 ≡ Some main → WalksMain (record { models = models.now }) main (walked (models_at models.now (reverse w.begun)))) }
+    ensures children { IfOk result (λ w. AreChildrenFirst (record { models = models.now }) (reverse w.order)) }
+    ensures main { IfOk result (λ w. In w.order 0) }
+    ensures err { IfErr result (λ e. (main : ModelValue) → slice_get models.now 0 ≡ Some main → OrMemory refusal_of (λ r. WalksMain (record { models = models.now }) main (refused r)) e) }
+{
+    let mut walk = Walk::make(alloc, models.len())?;
+    let graph = ModelGraph::make(alloc, models, index, ports, &walk)?;
+    match walk.visit(&graph, 0)? {
+        None => Ok(walk),
+        Some(_) => match check_path(alloc, models, index, ports, &walk) {
+            Ok(()) => unreachable!(),
+            Err(error) => Err(error),
+        },
+    }
+}
+
+/// The walk from the main model, through each model that is reached: the numbers of the models in the order in which their
+/// walks begin, and in that in which they end, each behind those that it places. The index and the ports are those of the
+/// library. It takes time linear in the bytes of all models, on average over the hashes, and no stack of calls: the chain of
+/// models that are being walked stands in memory.
+///
+/// # Errors
+/// The first of F1 to F4 in the walk: `UnknownModel`, `RecursiveModel`, `UnknownFormal`, `Unconnected`; `Memory` where
+/// there is none.
+pub(crate) fn walk_models(
+    alloc: Global,
+    library: &Library,
+    index: &ModelIndex,
+    ports: &[Ports],
+) -> Result<Walk, FlatErr>
+    requires formed { IsWellFormed library.now }
+    requires index { index.now.names ≡ model_names library.now.models }
+    requires ports { ports.now ≡ map ports_value library.now.models }
+    ensures ok { IfOk result (λ w. (main : ModelValue) → slice_get library.now.models 0 ≡ Some main → WalksMain library.now main (walked (models_at library.now.models (reverse w.begun)))) }
+    ensures children { IfOk result (λ w. AreChildrenFirst library.now (reverse w.order)) }
+    ensures main { IfOk result (λ w. In w.order 0) }
+    ensures err { IfErr result (λ e. (main : ModelValue) → slice_get library.now.models 0 ≡ Some main → OrMemory refusal_of (λ r. WalksMain library.now main (refused r)) e) }
+{
+    walk_slice(alloc, &library.models, index, ports)
+}
