@@ -1,4 +1,1 @@
-pub mod MultiplexerLemmas
-pub mod PackLemmas
-pub mod NameExample
 pub mod RowLemmas

@@ -1,0 +1,2 @@
+pub mod MultiplexerLemmas
+pub mod NameExample
