@@ -12,7 +12,7 @@ ghost use Rattle.blif_read.specs.Inside.{commands_with, model_line_fault};
 use crate::blif_err::BlifErr;
 use crate::blif_model::BlifModel;
 use crate::command::{Body, Command};
-use crate::circuit::subckt_line;
+use crate::connections::subckt_line;
 use crate::keyword::Keyword;
 use crate::latch_line::latch_line;
 use crate::open_cover::{OpenCover, open_cover, read_cover_row};
