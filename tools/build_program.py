@@ -71,6 +71,9 @@ def prove(room, count, log):
 
 
 def main():
+    if not shutil.which("rt"):
+        print("tlut: the program is not built yet, and rt, which builds it, is not on the PATH", file=sys.stderr)
+        return 1
     with open(sys.argv[1], "w", encoding="utf-8") as log, tempfile.TemporaryDirectory(prefix="tlut-") as room:
         if not prove(room, copy_crates(room), log):
             print(f"tlut: the program was not proved; see {sys.argv[1]}", file=sys.stderr)
