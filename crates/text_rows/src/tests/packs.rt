@@ -211,18 +211,43 @@ fn large_counts_in_small_files(rt: HostRuntime) {
     assert_eq!(rt; refused(rt.alloc(), &bits), Some(PackErr::Truncated(20)));
 }
 
-// A sink that fails at one piece has the bytes before it and some of it.
+// The file in version 1 of a pack without parameters and nodes, whose 5,000 bits are 1.
+fn five_thousand_bits(alloc: Global) -> Result<Vec<u8>, AllocError> {
+    let head = [
+        0x54, 0x50, 0x50, 0x43, 0, 1, 0, 0, 0, 0, 0, 0, 0, 0, 0x13, 0x88,
+    ];
+    let mut bytes = Vec::from_slice(alloc, &head)?;
+    for _ in 0..5_000u32 {
+        bytes.extend_from_slice(&[0, 0, 0, 1])?;
+    }
+    Ok(bytes)
+}
+
+// A sink that fails at one piece of 4,096 bytes has the pieces before it and some of it: 20,016 bytes are five pieces.
 #[test]
 fn sinks_that_fail(rt: HostRuntime) -> Result<(), Fail> {
-    let pack = decode(rt.alloc(), &B_ONE)?;
-    for piece in 0..13u64 {
-        let mut sink = MemSink::make(rt.alloc(), 64, &[piece])?;
-        assert!(rt; encode(&pack, &mut sink).is_err(), "piece {piece}");
-        assert!(rt; B_TWO.as_slice().starts_with(sink.bytes()));
-        assert!(rt; sink.bytes().len() < 18);
-        let mut sink = MemSink::make(rt.alloc(), 64, &[piece])?;
+    let bytes = five_thousand_bits(rt.alloc())?;
+    assert!(rt; bytes.len() == 20_016);
+    let pack = decode(rt.alloc(), &bytes)?;
+    for piece in 0..5u64 {
+        let mut sink = MemSink::make(rt.alloc(), 32_768, &[piece])?;
         assert!(rt; encode_one(&pack, &mut sink).is_err(), "piece {piece}");
-        assert!(rt; B_ONE.as_slice().starts_with(sink.bytes()));
+        assert!(rt; bytes.starts_with(sink.bytes()));
+        assert!(rt; sink.bytes().len() as u64 / 4_096 == piece);
+    }
+    Ok(())
+}
+
+// In version 2 it has 5,010 bytes, which are two pieces.
+#[test]
+fn sinks_that_fail_in_version_two(rt: HostRuntime) -> Result<(), Fail> {
+    let bytes = five_thousand_bits(rt.alloc())?;
+    assert!(rt; bytes.len() == 20_016);
+    let pack = decode(rt.alloc(), &bytes)?;
+    for piece in 0..2u64 {
+        let mut sink = MemSink::make(rt.alloc(), 32_768, &[piece])?;
+        assert!(rt; encode(&pack, &mut sink).is_err(), "piece {piece}");
+        assert!(rt; sink.bytes().len() as u64 / 4_096 == piece);
     }
     Ok(())
 }
