@@ -13,6 +13,7 @@ import shutil
 import subprocess
 import sys
 import tempfile
+import time
 
 TOP = os.path.dirname(os.path.dirname(os.path.abspath(__file__)))
 PROGRAM = "tlut"
@@ -70,17 +71,26 @@ def prove(room, count, log):
     return gate.returncode == 0
 
 
+def place(made, begun):
+    """Puts the program that was made in its place, all at once, as old as the copy of the sources, so that a later edit tells."""
+    folder = f"{TOP}/crates/{PROGRAM}/out"
+    os.makedirs(folder, exist_ok=True)
+    new = f"{folder}/{PROGRAM}.{os.getpid()}"
+    shutil.copy(made, new)
+    os.utime(new, (begun, begun))
+    os.replace(new, f"{folder}/{PROGRAM}")
+
+
 def main():
     if not shutil.which("rt"):
         print("tlut: the program is not built yet, and rt, which builds it, is not on the PATH", file=sys.stderr)
         return 1
+    begun = time.time()
     with open(sys.argv[1], "w", encoding="utf-8") as log, tempfile.TemporaryDirectory(prefix="tlut-") as room:
         if not prove(room, copy_crates(room), log):
             print(f"tlut: the program was not proved; see {sys.argv[1]}", file=sys.stderr)
             return 1
-        target = f"{TOP}/crates/{PROGRAM}/out"
-        os.makedirs(target, exist_ok=True)
-        shutil.copy(f"{room}/crates/{PROGRAM}/out/{PROGRAM}", target)
+        place(f"{room}/crates/{PROGRAM}/out/{PROGRAM}", begun)
     return 0
 
 
