@@ -1,13 +1,12 @@
 -- Each name in a library that a text denotes is clean.
-use Rattle.std.proofs.Common.{◌≡◌, ◌⊎◌, ℕ, ◌+◌, ◌-◌, ◌<◌, ◌≤◌, Bool, false, eqb, List, [], ◌∷◌, ◌++◌, length, map, get_or, codes, Some, None, refl, sym, ap, ◌∙◌, subst, inl, inr, arith}
+use Rattle.std.proofs.Common.{◌≡◌, ℕ, ◌+◌, ◌-◌, ◌<◌, eqb, List, [], ◌∷◌, ◌++◌, length, map, get_or, codes, Some, None, refl, sym, ap, ◌∙◌, subst, inl, inr, arith}
 use Rattle.std.proofs.lemmas.List.{length-append, get_or-append-add}
 use Rattle.std.proofs.lemmas.Option.{none-some, same_Some}
 use Rattle.list_laws.specs.Members.{In}
 use Rattle.list_laws.proofs.Members.{In-append, In-left, In-right}
 use Rattle.tl_text.specs.declared.token.Token.{Token}
 use Rattle.tl_text.specs.LineValue.{LineValue, token_bytes, words_line}
-use Rattle.tl_text.specs.Lines.{ends_in, lines_of}
-use Rattle.tl_text.specs.Clean.{HasCleanBytes, IsClean, AreCleanIn}
+use Rattle.tl_text.specs.Clean.{IsClean, AreCleanIn}
 use Rattle.tl_text.proofs.PlaceLemmas.{lines_clean}
 use Rattle.blif_read.specs.declared.keyword.Keyword.{Keyword}
 use Rattle.blif_read.specs.declared.keyword.Keyword.TheVariants as keyword
@@ -17,7 +16,7 @@ use Rattle.blif_read.specs.declared.latch.Latch.{Latch as LatchValue}
 use Rattle.blif_read.specs.declared.subckt.Pair.{Pair}
 use Rattle.blif_read.specs.CoverValue.{CoverValue}
 use Rattle.blif_read.specs.SubcktValue.{SubcktValue}
-use Rattle.blif_read.specs.LibraryValue.{ModelValue, LibraryValue, Ports, input_ports, output_ports, clock_ports, ports_of}
+use Rattle.blif_read.specs.LibraryValue.{ModelValue, LibraryValue, Ports, input_ports, output_ports, clock_ports}
 use Rattle.blif_read.specs.Statement.{StatementValue, arguments_of, keyword_of, statement_at, statement_of, statements}
 use Rattle.blif_read.specs.Latches.{IsLatch, plain, with_init, with_control, whole, Controls, nil, net}
 use Rattle.blif_read.specs.Connections.{connection_token, IsConnection, IsSubckt}

@@ -13,7 +13,7 @@ use Rattle.blif_read.specs.LibraryValue.{ModelValue, LibraryValue, Ports, input_
 use Rattle.blif_read.specs.Statement.{StatementValue}
 use Rattle.blif_read.specs.Once.{AreOnce}
 use Rattle.blif_read.specs.Rows.{AreRows}
-use Rattle.blif_read.specs.Denotes.{port_names, names_in, IsCoverLine, AreCommands, IsModel, AreModels, AreLibrary, Denotes}
+use Rattle.blif_read.specs.Denotes.{port_names, names_in, IsCoverLine, AreCommands, IsModel, AreModels, Denotes}
 use Rattle.blif_read.specs.Denotes as denotes
 use Rattle.blif_read.specs.LineFault.{has, model_fault, ports_fault, fault_by}
 use Rattle.blif_read.specs.Reading.{State, ModelRead, CoverRead, with_command, with_cover, flushed, ended, context, with_ports, ports_read, body_read, next_by, or_fault, steps, library_at_end, finished, lines_read, text_read, fresh}

@@ -2,14 +2,14 @@
 use Rattle.std.proofs.Common.{◌≡◌, ◌⊎◌, ℕ, Bool, true, false, List, [], ◌∷◌, ◌++◌, None, refl, sym, ap, ◌∙◌, subst, inl, inr}
 use Rattle.std.proofs.lemmas.List.{append-nil, append_assoc}
 use Rattle.blif_read.specs.declared.keyword.Keyword.{Keyword}
-use Rattle.blif_read.specs.declared.keyword.Keyword.TheVariants.{Inputs, Outputs, Clock, Plain}
+use Rattle.blif_read.specs.declared.keyword.Keyword.TheVariants.{Inputs, Outputs, Clock}
 use Rattle.blif_read.specs.declared.command.Body.{Body}
 use Rattle.blif_read.specs.declared.command.Command.{Command}
 use Rattle.blif_read.specs.CoverValue.{RowValue}
 use Rattle.blif_read.specs.LibraryValue.{ModelValue, Ports, input_ports, output_ports, clock_ports, ports_of}
 use Rattle.blif_read.specs.Statement.{StatementValue}
 use Rattle.blif_read.specs.Once.{AreOnce}
-use Rattle.blif_read.specs.Rows.{IsRow, alone, behind, AreRows, none, more}
+use Rattle.blif_read.specs.Rows.{AreRows, none, more}
 use Rattle.blif_read.specs.Denotes.{port_names, names_in, none}
 use Rattle.blif_read.specs.LineFault.{ports_fault}
 use Rattle.blif_read.specs.Reading.{with_command, with_ports}

@@ -8,7 +8,7 @@ use Rattle.blif_read.specs.declared.keyword.Keyword.TheVariants as keyword
 use Rattle.blif_read.specs.CoverValue.{CoverValue, RowValue}
 use Rattle.blif_read.specs.LibraryValue.{ModelValue}
 use Rattle.blif_read.specs.Statement.{StatementValue}
-use Rattle.blif_read.specs.Rows.{IsRow, alone, behind, AreRows}
+use Rattle.blif_read.specs.Rows.{IsRow, AreRows}
 use Rattle.blif_read.specs.Rows as lines_rows
 use Rattle.blif_read.specs.Context.{row_of}
 use Rattle.blif_read.specs.LineFault.{fault_by, line_fault, mixed_fault, row_read_fault}

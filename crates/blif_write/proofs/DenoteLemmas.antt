@@ -21,7 +21,7 @@ use Rattle.blif_read.specs.LibraryValue.{Ports, input_ports, output_ports, clock
 use Rattle.blif_read.specs.Statement.{StatementValue, statement_at, statement_of, statements}
 use Rattle.blif_read.specs.Rows.{cell_character, output_token, IsRow, alone, behind, AreRows, none, more}
 use Rattle.blif_read.specs.Latches.{Starts, one, zero_, Controls, nil, net, IsLatch, with_init, whole}
-use Rattle.blif_read.specs.Denotes.{names_in, port_names, IsCoverLine, AreCommands, AreModels, IsModel, AreLibrary, Denotes}
+use Rattle.blif_read.specs.Denotes.{names_in, port_names, IsCoverLine, AreCommands, IsModel, AreLibrary, Denotes}
 use Rattle.blif_read.specs.HasCleanNames.{IsCleanBody}
 use Rattle.blif_read.specs.Denotes as denotes
 use Rattle.blif_write.specs.PlainNetlist.{PlainNetlist, IsPlain, all_inputs, control_words, latch_line, row_line, cover_lines, netlist_lines, netlist_text, read_control, read_latch, latch_commands, cover_commands, model_of, library_of}

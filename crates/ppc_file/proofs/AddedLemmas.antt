@@ -1,5 +1,5 @@
 -- Texts that are added one behind another.
-use Rattle.std.proofs.Common.{◌≡◌, ℕ, ◌+◌, List, [], ◌++◌, length, replicate, drop, Option, Some, Result, Ok, Err, sym, ap, ◌∙◌, arith, append_assoc, append-nil}
+use Rattle.std.proofs.Common.{◌≡◌, ℕ, ◌+◌, List, [], ◌++◌, length, replicate, drop, Option, Some, sym, ap, ◌∙◌, arith, append_assoc, append-nil}
 use Rattle.std.specs.Prelude.{slice_get}
 use Rattle.std.proofs.lemmas.List.{length-replicate}
 use Rattle.list_laws.proofs.Places.{drop_get}
@@ -10,7 +10,7 @@ use Rattle.aig_core.specs.declared.lit.Pair.{Pair}
 use Rattle.ppc_pack.specs.Pack.{PackValue}
 use Rattle.ppc_pack.specs.declared.pack.PackParam.{PackParam}
 use Rattle.tl_piece.specs.Pieces.{Adds, Stops}
-use Rattle.tl_piece.proofs.PieceLemmas.{adds_none, adds_twice}
+use Rattle.tl_piece.proofs.PieceLemmas.{adds_twice}
 use Rattle.tl_piece.proofs.AddLemmas.{adds_as, stops_in}
 use Rattle.ppc_file.specs.declared.version.Version.{Version}
 use Rattle.ppc_file.specs.Bytes.{node_bytes, nodes_bytes, head_bytes, params_part, nodes_part, bits_part, bytes_of}

@@ -1,6 +1,5 @@
 -- Which events fit what a script may name.
-use Rattle.std.specs.Prelude.{◌≡◌, ℕ, ◌<◌, List, length, Some, slice_get}
-use Rattle.list_laws.specs.Members.{In}
+use Rattle.std.specs.Prelude.{◌≡◌, ◌<◌, length, Some}
 use Rattle.tl_io.specs.Assigns.{AreAssigned}
 use Rattle.run_text.specs.EventValue.{EventValue, Set, Cycle, Upset, Scrub, Image}
 use Rattle.run_text.specs.NamesValue.{NamesValue}

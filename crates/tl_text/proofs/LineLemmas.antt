@@ -1,6 +1,5 @@
 -- Physical lines are read one by one, and the lines read so far stand before the rest.
 use Rattle.std.proofs.Common.{◌≡◌, ℕ, ◌+◌, ◌-◌, ◌<◌, ◌≤◌, Bool, true, false, cond, eqb, List, [], ◌∷◌, ◌++◌, length, get_or, take, drop, Option, Some, None, Result, Ok, Err, refl, sym, ap, ◌∙◌, arith, length-take, length-drop, get_or-drop, append_assoc}
-use Rattle.std.specs.Prelude.{MatchResult}
 use Rattle.std.specs.List.{slice_range, list_any}
 use Rattle.std.proofs.lemmas.List.{drop_more, drop_all, take_more, append-nil}
 use Rattle.std.proofs.lemmas.Bool.{eq-eqb, ne_eqb, cond-true, cond-false}

@@ -1,6 +1,6 @@
 -- The tokens of each logical line stand in the text, and are clean.
 use Rattle.std.proofs.Common.{◌≡◌, ℕ, ◌+◌, ◌<◌, eqb, List, [], ◌∷◌, length, Option, Some, None, Result, Ok, Err, inl, inr, sym, subst, arith}
-use Rattle.std.specs.Prelude.{MatchResult, IfOk}
+use Rattle.std.specs.Prelude.{IfOk}
 use Rattle.std.specs.List.{list_any}
 use Rattle.std.proofs.lemmas.Bool.{eqb-false}
 use Rattle.list_laws.specs.Members.{In}

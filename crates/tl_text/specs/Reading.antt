@@ -1,5 +1,5 @@
 -- What a reader of physical lines keeps, and what one more line makes of it. The definition of the lines is in `Lines`.
-use Rattle.std.specs.Prelude.{◌≡◌, ℕ, if◌then◌else◌, ◌==◌, List, [], ◌∷◌, ◌++◌, length, Option, Some, None, Result, Ok, Err}
+use Rattle.std.specs.Prelude.{ℕ, if◌then◌else◌, ◌==◌, List, [], ◌∷◌, ◌++◌, length, Option, Some, None, Result, Ok, Err}
 use Rattle.std.specs.List.{list_any}
 use Rattle.tl_text.specs.declared.text_err.TextErr.{TextErr}
 use Rattle.tl_text.specs.declared.text_err.TextErr.TheVariants.{BadByte, TrailingSlash}

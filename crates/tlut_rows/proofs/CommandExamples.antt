@@ -1,13 +1,12 @@
 -- Worked examples of the definitions: the words of the other commands, the lines of `gen`, and files that are written one after the other.
-use Rattle.std.proofs.Common.{◌≡◌, ◌≤◌, ℕ, List, [], ◌∷◌, ◌++◌, codes, Option, Some, None, length, take, refl, inl, inr, arith}
+use Rattle.std.proofs.Common.{◌≡◌, ℕ, List, [], ◌∷◌, ◌++◌, codes, Some, None, refl, inl, inr, arith}
 use Rattle.std.specs.Fmt.{digits}
 use Rattle.tl_io.specs.Content.{extended}
 use Rattle.tl_io.specs.Shelf.{with_file}
-use Rattle.tlut_cli.specs.declared.generated.words.GenWords.{GenWords}
 use Rattle.tlut_cli.specs.Stations.Words.{SourceWords}
 use Rattle.tlut_cli.specs.Outside.{Outside}
 use Rattle.tlut_cli.specs.Writing.{FileText, AreWritten, IsCutInFile, IsCutInLine}
-use Rattle.tlut_cli.specs.Commands.{Command, Spec, Map, Bits, Gen, Repack, command_of}
+use Rattle.tlut_cli.specs.Commands.{Spec, Map, Bits, Gen, Repack, command_of}
 use Rattle.tlut_cli.specs.Gen.Verdict.{first_line, last_line}
 
 -- the words K NETLIST PARAMS, for tables of six inputs

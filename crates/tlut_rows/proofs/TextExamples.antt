@@ -10,7 +10,7 @@ use Rattle.blif_read.specs.LibraryValue.{ModelValue, LibraryValue, Ports, input_
 use Rattle.blif_read.specs.Statement.{StatementValue}
 use Rattle.blif_read.specs.Once.{AreOnce}
 use Rattle.blif_read.specs.Rows as rows
-use Rattle.blif_read.specs.Denotes.{names_in, IsModel, AreCommands, Denotes}
+use Rattle.blif_read.specs.Denotes.{names_in, AreCommands, Denotes}
 use Rattle.blif_read.specs.Denotes as denotes
 use Rattle.blif_read.specs.ReadFault.{read_fault}
 

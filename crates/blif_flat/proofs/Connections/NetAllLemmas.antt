@@ -1,9 +1,9 @@
 -- How the instances of rows are connected: an inner one by the line that places it, and the main model's own by none.
 use Rattle.blif_flat.proofs.Common.{◌≡◌, ℕ, zero, suc, ◌<◌, List, [], ◌∷◌, ◌++◌, length, map, Option, Some, None, refl, sym, ap, ◌∙◌, subst, inl, inr, arith, slice_get, option_and_then, none-some, same_Some, slice_get_within, In, In-left, In-right, at_within, item_there, ◌≤◌, get_or, IsTrue, or_cases, slice_get_read, apart_once}
-use Rattle.blif_flat.specs.{Body, Cover, Latch, Subckt, Command, Pair, SubcktValue, ModelValue, LibraryValue, Path, with_subckt, subckts_of, model_at, ConnectionAt, Instance, path_of, paths_of, IsRow, AreInstances, body_names, commands_names, all_names, Link, line_of, link_of, link_under, link_at, has_name, is_input, is_output, inputs_of, IsDriven, is_cover, is_latch, Gate, places_at, AreGatesAt, IsSoundTable, HasOwn, HasOutputs, HasInputs, AreNetsAt, net_places, HasSlots, AreEmptyNets, IsNext, AreAllNets, NetsValue, table_of, IsNets, output_of_cover, output_of_latch, with_covers, with_latches, with_inputs, linked_out, linked_in, links_out, links_in, AreLinesOf, IsWellFormed, Ports, ports_value, most_weight, IsLight}
+use Rattle.blif_flat.specs.{Body, Cover, Latch, Subckt, Command, Pair, SubcktValue, ModelValue, LibraryValue, Path, with_subckt, subckts_of, model_at, ConnectionAt, Instance, path_of, paths_of, IsRow, AreInstances, body_names, commands_names, all_names, Link, line_of, link_of, link_under, link_at, has_name, is_input, is_output, inputs_of, IsDriven, is_cover, is_latch, Gate, places_at, AreGatesAt, IsSoundTable, HasOwn, HasOutputs, HasInputs, AreNetsAt, net_places, HasSlots, AreEmptyNets, IsNext, AreAllNets, NetsValue, table_of, IsNets, output_of_cover, output_of_latch, with_covers, with_latches, with_inputs, linked_out, linked_in, formal_of, actual_of, links_out, links_in, AreLinesOf, IsWellFormed, Ports, ports_value, IsLight}
 use Rattle.blif_flat.specs.Flat.{Places}
 use Rattle.blif_flat.specs.declared.flat.Net.TheVariants.{Latch as LatchNumber, Cover as CoverNumber}
-use Rattle.blif_flat.proofs.Connections.NetCopyLemmas.{sound_empty, own_kept, outputs_kept, inputs_start, outputs_start, inputs_step, outputs_step, next_same, next_on, pairs_next, pairs_known, inputs_next, inputs_known}
+use Rattle.blif_flat.proofs.Connections.NetCopyLemmas.{sound_empty, own_kept, outputs_kept, inputs_start, outputs_start, inputs_step, outputs_step, next_same, next_on, pairs_next, pairs_known, IsConnection, passes_out, passes_in}
 use Rattle.blif_flat.proofs.Connections.NetLemmas.{HasParent, has_parent, formal_known, actual_known, table_found}
 use Rattle.blif_flat.proofs.Connections.NetOwnLemmas.{commands_within, slots_on, gates_next, gates_known, covers_own, latches_own, gate_of, first_path, input_named, main_next, main_known}
 use Rattle.blif_flat.proofs.Hierarchy.InstanceRowLemmas.{paths_of-length}
@@ -113,7 +113,7 @@ module _ (library : LibraryValue) (main : ModelValue) (rows : List Instance) (ar
   out_next n right t (k ∷ path) e =
       let l : IsLinked library rows are t k path = linked library rows are t k path e in
       subst (λ o. IsNext library at (paths_of rows) n (linked_out n t o)) (sym l.is)
-      (pairs_next library at (paths_of rows) (l.link).child t (l.link).outer path k e l.outside (l.link).pairs n right.nets right.sound l.connects)
+      (pairs_next library at (paths_of rows) (is_output (l.link).child) formal_of actual_of t (l.link).outer (k ∷ path) path e l.outside (IsConnection library at (paths_of rows) (l.link).child path k) (passes_out library at (paths_of rows) (l.link).child path k) (l.link).pairs n right.nets right.sound l.connects)
 
   out_known : (n : NetsValue) → AreRight n → HasOwn library (paths_of rows) (table_of n) → (t : ℕ) → HasOutputs library (paths_of rows) (table_of n) (suc t)
       → (i : ℕ) (path : Path) (k : ℕ) (pair : Pair) (a : ConnectionAt library path k pair) → IsTrue (is_output a.child pair.formal) → slice_get (paths_of rows) i ≡ Some path → slice_get (paths_of rows) t ≡ Some (k ∷ path)
@@ -123,7 +123,8 @@ module _ (library : LibraryValue) (main : ModelValue) (rows : List Instance) (ar
       let place : (l.link).outer ≡ i = apart_once (paths_of rows) (l.link).outer i path (instances_apart library are.order) l.outside e in
       let child : a.child ≡ (l.link).child = same_Some a.child (l.link).child (sym (child_at library path k pair a) ∙ l.there) in
       let known : table_of (linked_out n t (Some l.link)) (l.link).outer pair.actual ≡ None → ⊥ =
-      pairs_known library at (paths_of rows) (l.link).child t (l.link).outer path k f l.outside (l.link).pairs n right.nets right.sound l.connects pair (l.all pair a)
+      pairs_known library at (paths_of rows) (is_output (l.link).child) formal_of actual_of t (l.link).outer (k ∷ path) path f l.outside (IsConnection library at (paths_of rows) (l.link).child path k) (passes_out library at (paths_of rows) (l.link).child path k)
+      (l.link).pairs n right.nets right.sound l.connects pair (l.all pair a)
       (subst (λ m. IsTrue (is_output m pair.formal)) child out)
       (formal_known library rows are driven (table_of n) own (suc t) outputs t path k pair a out f (omega arith))
       ((right.slots).each (l.link).outer path a.model pair.actual l.outside a.at (connection_named library rows are path k pair a)) in
@@ -146,7 +147,7 @@ module _ (library : LibraryValue) (main : ModelValue) (rows : List Instance) (ar
   in_next n right t (k ∷ path) e =
       let l : IsLinked library rows are t k path = linked library rows are t k path e in
       subst (λ o. IsNext library at (paths_of rows) n (linked_in n t o)) (sym l.is)
-      (inputs_next library at (paths_of rows) (l.link).child t (l.link).outer path k e l.outside (l.link).pairs n right.nets right.sound l.connects)
+      (pairs_next library at (paths_of rows) (is_input (l.link).child) actual_of formal_of (l.link).outer t path (k ∷ path) l.outside e (IsConnection library at (paths_of rows) (l.link).child path k) (passes_in library at (paths_of rows) (l.link).child path k) (l.link).pairs n right.nets right.sound l.connects)
 
   -- the nets of all covers and latches are known, those of all outputs, and those of the main model's inputs
   record AreReady (n : NetsValue) : Type 0 where
@@ -178,7 +179,8 @@ module _ (library : LibraryValue) (main : ModelValue) (rows : List Instance) (ar
       let child : m ≡ (c.1).child = same_Some m (c.1).child (sym there ∙ child_at library path k c.0 c.1) in
       let formal : IsTrue (is_input m (c.0).formal) = subst (λ x. IsTrue (is_input m x)) (sym c.2) is in
       let known : table_of (linked_in n t (Some l.link)) t (c.0).formal ≡ None → ⊥ =
-      inputs_known library at (paths_of rows) (l.link).child t (l.link).outer path k e l.outside (l.link).pairs n right.nets right.sound l.connects c.0 (l.all c.0 c.1)
+      pairs_known library at (paths_of rows) (is_input (l.link).child) actual_of formal_of (l.link).outer t path (k ∷ path) l.outside e (IsConnection library at (paths_of rows) (l.link).child path k) (passes_in library at (paths_of rows) (l.link).child path k)
+      (l.link).pairs n right.nets right.sound l.connects c.0 (l.all c.0 c.1)
       (subst (λ x. IsTrue (is_input x (c.0).formal)) model formal)
       (actual_known library rows are driven (table_of n) ready.own ready.outputs t inputs (l.link).outer path k c.0 c.1 (subst (λ x. IsTrue (is_input x (c.0).formal)) child formal) l.outside l.earlier)
       ((right.slots).each t (k ∷ path) m (c.0).formal e there (input_named m (c.0).formal formal)) in

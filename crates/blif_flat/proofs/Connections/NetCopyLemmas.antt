@@ -1,6 +1,6 @@
 -- Slots of nets: the slot of a name, and the table when one more slot is filled.
-use Rattle.blif_flat.proofs.Common.{◌≡◌, get_or, drop, ℕ, ◌+◌, ◌<◌, ◌≤◌, Bool, eqb, List, length, Option, Some, None, refl, sym, ap, ◌∙◌, inl, inr, bytes_eq, arith, slice_get, slice_set, ◌&&◌, option_map, option_and_then, cases_Bool, both_ways, cond-true, cond-false, and_parts, and_from, bytes_decides, set_here, set_other, set_length, drop_at, [], subst, zero, suc, ◌∷◌, ◌⊎◌, IsTrue, none-some, same_Some, slice_get_within, In}
-use Rattle.blif_flat.specs.{place_of, Pair, FlatNet, Start, with_net, NetsValue, name_place, slot_number, slot_at, table_of, with_slot, with_found, copied, pair_out, pairs_out, pair_in, pairs_in, IsNets, most_weight, ModelValue, LibraryValue, Path, model_at, inputs_of, Net, input_net, latch_net, cover_net, Drives, Place, is_cover, is_latch, Instance, places_at, AreInstances, paths_of, IsNumbered, an_input, a_latch, a_cover, net_places, IsNetFound, AreAllNets, is_input, is_output, ConnectionAt, IsNetOf, IsSoundTable, HasOwn, HasOutputs, HasInputs, IsKeptIn, IsNext}
+use Rattle.blif_flat.proofs.Common.{◌≡◌, ℕ, ◌+◌, ◌<◌, ◌≤◌, Bool, eqb, List, length, Option, Some, None, refl, sym, ap, ◌∙◌, inl, inr, bytes_eq, arith, slice_get, slice_set, ◌&&◌, option_map, option_and_then, cases_Bool, both_ways, cond-true, cond-false, and_parts, and_from, bytes_decides, set_here, set_other, set_length, [], subst, zero, suc, ◌∷◌, ◌⊎◌, IsTrue, none-some, same_Some, slice_get_within, In}
+use Rattle.blif_flat.specs.{place_of, Pair, FlatNet, Start, with_net, NetsValue, name_place, slot_number, slot_at, table_of, with_slot, with_found, copied, pair_copied, pairs_copied, IsNets, most_weight, ModelValue, LibraryValue, Path, model_at, inputs_of, Net, input_net, latch_net, cover_net, Drives, Place, is_cover, is_latch, Instance, places_at, AreInstances, paths_of, IsNumbered, an_input, a_latch, a_cover, net_places, IsNetFound, AreAllNets, is_input, is_output, ConnectionAt, IsNetOf, IsSoundTable, HasOwn, HasOutputs, HasInputs, IsKeptIn, IsNext}
 use Rattle.std.proofs.Common.{eqb-true, eq-eqb}
 use Rattle.blif_flat.specs.Flat.{Places}
 use Rattle.blif_flat.specs.declared.flat.Net.TheVariants.{Input, Latch, Cover}
@@ -59,15 +59,6 @@ with_found-nets n (Some k) number is = with_slot-nets n k number is
 pub copied-nets : (n : NetsValue) (i : ℕ) (name : List ℕ) (o : Option FlatNet) → IsNets n → IsNets (copied n i name o)
 copied-nets n i name None is = is
 copied-nets n i name (Some number) is = with_found-nets n (slot_number n i name) number is
-
--- the connections from a place on are copied one by one
-pub pairs_out-split : (test : List ℕ → Bool) (inner outer : ℕ) (n : NetsValue) (pairs : List Pair) (i : ℕ) (pair : Pair) → i < length pairs → pair ≡ get_or pairs i pair
-    → pairs_out test inner outer n (drop i pairs) ≡ pairs_out test inner outer (pair_out test inner outer n pair) (drop (i + 1) pairs)
-pairs_out-split test inner outer n pairs i pair h e = ap (pairs_out test inner outer n) (drop_at pairs i pair h e)
-
-pub pairs_in-split : (test : List ℕ → Bool) (inner outer : ℕ) (n : NetsValue) (pairs : List Pair) (i : ℕ) (pair : Pair) → i < length pairs → pair ≡ get_or pairs i pair
-    → pairs_in test inner outer n (drop i pairs) ≡ pairs_in test inner outer (pair_in test inner outer n pair) (drop (i + 1) pairs)
-pairs_in-split test inner outer n pairs i pair h e = ap (pairs_in test inner outer n) (drop_at pairs i pair h e)
 
 -- What the nets of all instances say of a name: its driver, by the number of an input, a latch or a cover.
 
@@ -278,101 +269,58 @@ module _ (library : LibraryValue) (at : Places) (paths : List Path) where
   pub next_on : (n middle next : NetsValue) → IsNext library at paths n middle → IsNext library at paths middle next → IsNext library at paths n next
   next_on n middle next a b = record { nets = b.nets; sound = b.sound; kept = kept_on (table_of n) (table_of middle) (table_of next) a.kept b.kept; slots = λ j other. b.slots j other ∙ a.slots j other }
 
-  module _ (child : ModelValue) (inner outer : ℕ) (path : Path) (k : ℕ) (inside : slice_get paths inner ≡ Some (k ∷ path)) (outside : slice_get paths outer ≡ Some path) where
-    pair_next : (n : NetsValue) → IsNets n → IsSoundTable library at paths (table_of n) → (pair : Pair) (a : ConnectionAt library path k pair) → a.child ≡ child → IsNext library at paths n (pair_out (is_output child) inner outer n pair)
-    pair_next n is sound pair a same =
-        let copy : NetsValue = copied n outer pair.actual (table_of n inner pair.formal) in
-        elim (cases_Bool (is_output child pair.formal)) [
+  -- nets are copied from an instance to another one along pairs of a kind, in which the net of the one name is that of the other
+  module _ (test : List ℕ → Bool) (source target : Pair → List ℕ) (from to : ℕ) (there here : Path) (at_from : slice_get paths from ≡ Some there) (at_to : slice_get paths to ≡ Some here)
+      (Is : Pair → Type 0) (passes : (pair : Pair) (number : FlatNet) → Is pair → IsTrue (test pair.formal) → IsNetOf library at there (source pair) number → IsNetOf library at here (target pair) number) where
+    pair_next : (n : NetsValue) → IsNets n → IsSoundTable library at paths (table_of n) → (pair : Pair) → Is pair → IsNext library at paths n (pair_copied test source target from to n pair)
+    pair_next n is sound pair known =
+        let copy : NetsValue = copied n to (target pair) (table_of n from (source pair)) in
+        elim (cases_Bool (test pair.formal)) [
           | inl t ↦
-              (let out : IsTrue (is_output a.child pair.formal) = subst (λ m. IsTrue (is_output m pair.formal)) (sym same) t in
-              subst (IsNext library at paths n) (sym (cond-true (is_output child pair.formal) copy n t)) (record {
-                nets = copied-nets n outer pair.actual (table_of n inner pair.formal) is;
-                sound = copied-sound library at paths n is outer path pair.actual (table_of n inner pair.formal) sound outside
-                    (λ number e. outer_number library path k pair a number out (sound.each inner (k ∷ path) pair.formal number inside e));
-                kept = copied-kept n is outer pair.actual (table_of n inner pair.formal);
-                slots = λ j other. copied-slots n outer pair.actual (table_of n inner pair.formal) j other;
-              }))
-          | inr f ↦ subst (IsNext library at paths n) (sym (cond-false (is_output child pair.formal) copy n f)) (next_same n is sound)
+              subst (IsNext library at paths n) (sym (cond-true (test pair.formal) copy n t)) (record {
+                nets = copied-nets n to (target pair) (table_of n from (source pair)) is;
+                sound = copied-sound library at paths n is to here (target pair) (table_of n from (source pair)) sound at_to (λ number e. passes pair number known t (sound.each from there (source pair) number at_from e));
+                kept = copied-kept n is to (target pair) (table_of n from (source pair));
+                slots = λ j other. copied-slots n to (target pair) (table_of n from (source pair)) j other;
+              })
+          | inr f ↦ subst (IsNext library at paths n) (sym (cond-false (test pair.formal) copy n f)) (next_same n is sound)
         ]
 
-    pair_known : (n : NetsValue) → IsNets n → (pair : Pair) → IsTrue (is_output child pair.formal) → (table_of n inner pair.formal ≡ None → ⊥) → (slot_number n outer pair.actual ≡ None → ⊥)
-        → table_of (pair_out (is_output child) inner outer n pair) outer pair.actual ≡ None → ⊥
-    pair_known n is pair t formal slot =
-        let copy : NetsValue = copied n outer pair.actual (table_of n inner pair.formal) in
-        subst (λ (v : NetsValue). table_of v outer pair.actual ≡ None → ⊥) (sym (cond-true (is_output child pair.formal) copy n t)) (copied-known n is outer pair.actual (table_of n inner pair.formal) formal slot)
+    pair_known : (n : NetsValue) → IsNets n → (pair : Pair) → IsTrue (test pair.formal) → (table_of n from (source pair) ≡ None → ⊥) → (slot_number n to (target pair) ≡ None → ⊥)
+        → table_of (pair_copied test source target from to n pair) to (target pair) ≡ None → ⊥
+    pair_known n is pair t known slot =
+        let copy : NetsValue = copied n to (target pair) (table_of n from (source pair)) in
+        subst (λ (v : NetsValue). table_of v to (target pair) ≡ None → ⊥) (sym (cond-true (test pair.formal) copy n t)) (copied-known n is to (target pair) (table_of n from (source pair)) known slot)
 
-    pub pairs_next : (pairs : List Pair) (n : NetsValue) → IsNets n → IsSoundTable library at paths (table_of n) → ((pair : Pair) → In pairs pair → (a : ConnectionAt library path k pair) × (a.child ≡ child))
-        → IsNext library at paths n (pairs_out (is_output child) inner outer n pairs)
+    pub pairs_next : (pairs : List Pair) (n : NetsValue) → IsNets n → IsSoundTable library at paths (table_of n) → ((pair : Pair) → In pairs pair → Is pair) → IsNext library at paths n (pairs_copied test source target from to n pairs)
     pairs_next [] n is sound all = next_same n is sound
     pairs_next (p ∷ pairs) n is sound all =
-        let c = all p (inl refl) in
-        let one : IsNext library at paths n (pair_out (is_output child) inner outer n p) = pair_next n is sound p c.0 c.1 in
-        next_on n (pair_out (is_output child) inner outer n p) (pairs_out (is_output child) inner outer n (p ∷ pairs)) one
-        (pairs_next pairs (pair_out (is_output child) inner outer n p) one.nets one.sound (λ q i. all q (inr i)))
+        let middle : NetsValue = pair_copied test source target from to n p in
+        let one : IsNext library at paths n middle = pair_next n is sound p (all p (inl refl)) in
+        next_on n middle (pairs_copied test source target from to n (p ∷ pairs)) one (pairs_next pairs middle one.nets one.sound (λ q i. all q (inr i)))
 
-    -- an actual stands in the table where the formal does and the actual has a slot
-    pub pairs_known : (pairs : List Pair) (n : NetsValue) → IsNets n → IsSoundTable library at paths (table_of n) → ((pair : Pair) → In pairs pair → (a : ConnectionAt library path k pair) × (a.child ≡ child))
-        → (pair : Pair) → In pairs pair → IsTrue (is_output child pair.formal) → (table_of n inner pair.formal ≡ None → ⊥) → (slot_number n outer pair.actual ≡ None → ⊥)
-        → table_of (pairs_out (is_output child) inner outer n pairs) outer pair.actual ≡ None → ⊥
-    pairs_known [] n is sound all pair i t formal slot = absurd i
-    pairs_known (p ∷ pairs) n is sound all pair (inl e) t formal slot =
-        let c = all p (inl refl) in
-        let middle : NetsValue = pair_out (is_output child) inner outer n p in
-        let one : IsNext library at paths n middle = pair_next n is sound p c.0 c.1 in
-        let rest : IsNext library at paths middle (pairs_out (is_output child) inner outer middle pairs) = pairs_next pairs middle one.nets one.sound (λ q j. all q (inr j)) in
-        rest.kept.each outer pair.actual (subst (λ (q : Pair). table_of (pair_out (is_output child) inner outer n q) outer pair.actual ≡ None → ⊥) e (pair_known n is pair t formal slot))
-    pairs_known (p ∷ pairs) n is sound all pair (inr i) t formal slot =
-        let c = all p (inl refl) in
-        let middle : NetsValue = pair_out (is_output child) inner outer n p in
-        let one : IsNext library at paths n middle = pair_next n is sound p c.0 c.1 in
-        pairs_known pairs middle one.nets one.sound (λ q j. all q (inr j)) pair i t (one.kept.each inner pair.formal formal) (λ g. slot (sym (one.slots outer pair.actual) ∙ g))
+    -- the one name of a pair stands in the table where the other does and it has a slot
+    pub pairs_known : (pairs : List Pair) (n : NetsValue) → IsNets n → IsSoundTable library at paths (table_of n) → ((pair : Pair) → In pairs pair → Is pair)
+        → (pair : Pair) → In pairs pair → IsTrue (test pair.formal) → (table_of n from (source pair) ≡ None → ⊥) → (slot_number n to (target pair) ≡ None → ⊥)
+        → table_of (pairs_copied test source target from to n pairs) to (target pair) ≡ None → ⊥
+    pairs_known [] n is sound all pair i t known slot = absurd i
+    pairs_known (p ∷ pairs) n is sound all pair (inl e) t known slot =
+        let middle : NetsValue = pair_copied test source target from to n p in
+        let one : IsNext library at paths n middle = pair_next n is sound p (all p (inl refl)) in
+        let rest : IsNext library at paths middle (pairs_copied test source target from to middle pairs) = pairs_next pairs middle one.nets one.sound (λ q j. all q (inr j)) in
+        rest.kept.each to (target pair) (subst (λ (q : Pair). table_of (pair_copied test source target from to n q) to (target pair) ≡ None → ⊥) e (pair_known n is pair t known slot))
+    pairs_known (p ∷ pairs) n is sound all pair (inr i) t known slot =
+        let middle : NetsValue = pair_copied test source target from to n p in
+        let one : IsNext library at paths n middle = pair_next n is sound p (all p (inl refl)) in
+        pairs_known pairs middle one.nets one.sound (λ q j. all q (inr j)) pair i t (one.kept.each from (source pair) known) (λ g. slot (sym (one.slots to (target pair)) ∙ g))
 
-module _ (library : LibraryValue) (at : Places) (paths : List Path) where
-  module _ (child : ModelValue) (inner outer : ℕ) (path : Path) (k : ℕ) (inside : slice_get paths inner ≡ Some (k ∷ path)) (outside : slice_get paths outer ≡ Some path) where
-    input_next : (n : NetsValue) → IsNets n → IsSoundTable library at paths (table_of n) → (pair : Pair) (a : ConnectionAt library path k pair) → a.child ≡ child → IsNext library at paths n (pair_in (is_input child) inner outer n pair)
-    input_next n is sound pair a same =
-        let copy : NetsValue = copied n inner pair.formal (table_of n outer pair.actual) in
-        elim (cases_Bool (is_input child pair.formal)) [
-          | inl t ↦
-              (let into : IsTrue (is_input a.child pair.formal) = subst (λ m. IsTrue (is_input m pair.formal)) (sym same) t in
-              subst (IsNext library at paths n) (sym (cond-true (is_input child pair.formal) copy n t)) (record {
-                nets = copied-nets n inner pair.formal (table_of n outer pair.actual) is;
-                sound = copied-sound library at paths n is inner (k ∷ path) pair.formal (table_of n outer pair.actual) sound inside
-                    (λ number e. inner_number library path k pair a number into (sound.each outer path pair.actual number outside e));
-                kept = copied-kept n is inner pair.formal (table_of n outer pair.actual);
-                slots = λ j other. copied-slots n inner pair.formal (table_of n outer pair.actual) j other;
-              }))
-          | inr f ↦ subst (IsNext library at paths n) (sym (cond-false (is_input child pair.formal) copy n f)) (next_same library at paths n is sound)
-        ]
+  -- the connections of a subcircuit pass nets on
+  module _ (child : ModelValue) (path : Path) (k : ℕ) where
+    abbrev pub IsConnection : Pair → Type 0
+    IsConnection pair = (a : ConnectionAt library path k pair) × (a.child ≡ child)
 
-    input_known : (n : NetsValue) → IsNets n → (pair : Pair) → IsTrue (is_input child pair.formal) → (table_of n outer pair.actual ≡ None → ⊥) → (slot_number n inner pair.formal ≡ None → ⊥)
-        → table_of (pair_in (is_input child) inner outer n pair) inner pair.formal ≡ None → ⊥
-    input_known n is pair t actual slot =
-        let copy : NetsValue = copied n inner pair.formal (table_of n outer pair.actual) in
-        subst (λ (v : NetsValue). table_of v inner pair.formal ≡ None → ⊥) (sym (cond-true (is_input child pair.formal) copy n t)) (copied-known n is inner pair.formal (table_of n outer pair.actual) actual slot)
+    pub passes_out : (pair : Pair) (number : FlatNet) → IsConnection pair → IsTrue (is_output child pair.formal) → IsNetOf library at (k ∷ path) pair.formal number → IsNetOf library at path pair.actual number
+    passes_out pair number c t o = outer_number library path k pair c.0 number (subst (λ m. IsTrue (is_output m pair.formal)) (sym c.1) t) o
 
-    pub inputs_next : (pairs : List Pair) (n : NetsValue) → IsNets n → IsSoundTable library at paths (table_of n) → ((pair : Pair) → In pairs pair → (a : ConnectionAt library path k pair) × (a.child ≡ child))
-        → IsNext library at paths n (pairs_in (is_input child) inner outer n pairs)
-    inputs_next [] n is sound all = next_same library at paths n is sound
-    inputs_next (p ∷ pairs) n is sound all =
-        let c = all p (inl refl) in
-        let one : IsNext library at paths n (pair_in (is_input child) inner outer n p) = input_next n is sound p c.0 c.1 in
-        next_on library at paths n (pair_in (is_input child) inner outer n p) (pairs_in (is_input child) inner outer n (p ∷ pairs)) one
-        (inputs_next pairs (pair_in (is_input child) inner outer n p) one.nets one.sound (λ q i. all q (inr i)))
-
-    -- a formal stands in the table where the actual does and the formal has a slot
-    pub inputs_known : (pairs : List Pair) (n : NetsValue) → IsNets n → IsSoundTable library at paths (table_of n) → ((pair : Pair) → In pairs pair → (a : ConnectionAt library path k pair) × (a.child ≡ child))
-        → (pair : Pair) → In pairs pair → IsTrue (is_input child pair.formal) → (table_of n outer pair.actual ≡ None → ⊥) → (slot_number n inner pair.formal ≡ None → ⊥)
-        → table_of (pairs_in (is_input child) inner outer n pairs) inner pair.formal ≡ None → ⊥
-    inputs_known [] n is sound all pair i t actual slot = absurd i
-    inputs_known (p ∷ pairs) n is sound all pair (inl e) t actual slot =
-        let c = all p (inl refl) in
-        let middle : NetsValue = pair_in (is_input child) inner outer n p in
-        let one : IsNext library at paths n middle = input_next n is sound p c.0 c.1 in
-        let rest : IsNext library at paths middle (pairs_in (is_input child) inner outer middle pairs) = inputs_next pairs middle one.nets one.sound (λ q j. all q (inr j)) in
-        rest.kept.each inner pair.formal (subst (λ (q : Pair). table_of (pair_in (is_input child) inner outer n q) inner pair.formal ≡ None → ⊥) e (input_known n is pair t actual slot))
-    inputs_known (p ∷ pairs) n is sound all pair (inr i) t actual slot =
-        let c = all p (inl refl) in
-        let middle : NetsValue = pair_in (is_input child) inner outer n p in
-        let one : IsNext library at paths n middle = input_next n is sound p c.0 c.1 in
-        inputs_known pairs middle one.nets one.sound (λ q j. all q (inr j)) pair i t (one.kept.each outer pair.actual actual) (λ g. slot (sym (one.slots inner pair.formal) ∙ g))
+    pub passes_in : (pair : Pair) (number : FlatNet) → IsConnection pair → IsTrue (is_input child pair.formal) → IsNetOf library at path pair.actual number → IsNetOf library at (k ∷ path) pair.formal number
+    passes_in pair number c t o = inner_number library path k pair c.0 number (subst (λ m. IsTrue (is_input m pair.formal)) (sym c.1) t) o

@@ -1,5 +1,5 @@
 -- A library has at most one fault, and none where it is sound and not too large.
-use Rattle.blif_flat.proofs.Common.{◌≡◌, ℕ, ◌<◌, List, [], ◌∷◌, Option, Some, None, refl, sym, ap, ap₂, ◌∙◌, subst, ◌≤◌, arith, none-some, same_Some, Result, Ok, Err, IfOk, IfErr, Bool, OrMemory-map}
+use Rattle.blif_flat.proofs.Common.{cases_lt, inl, inr, ◌≡◌, ℕ, ◌<◌, List, [], ◌∷◌, Option, Some, None, refl, sym, ap, ap₂, ◌∙◌, subst, ◌≤◌, arith, none-some, same_Some, Result, Ok, Err, IfOk, IfErr, Bool, OrMemory-map}
 use Rattle.blif_flat.specs.{ModelValue, LibraryValue, model_at, cover_net, IsDriven, Place, is_latch, FlatOrder, IsWellFormed, FlatErr, TooLarge, Walked, refused, walked, WalksMain, most_weight, Weighs, IsLight, models_fault, Clocks, is_gate, ClockData, Repeat, from_node, AreWritten, IsLoop, LoopWalk, IsWalked, IsConnected, IsClocked, IsFault, HasOneFault, in_walk, too_large, in_drivers, in_controls, in_data, in_loops, HasNoFault, IsSound, OrMemory, Body, refusal_of, IsChecked, Tells, models_at, HasWeight, Instance, ClockNets, AreInstances, paths_of, places_at, AreClockNets}
 use Rattle.blif_flat.specs.LoopFault.{none, more}
 use Rattle.blif_flat.specs.declared.flat_err.FlatErr.TheVariants.{Loop}
@@ -105,63 +105,42 @@ module _ (library : LibraryValue) where
         → ClockData library a.past.past.main ps (Some f) → ClockData library b.past.past.main qs None → ⊥
     data_first a b ps qs f o u c d = none-some f (same_data b a qs ps None (Some f) u o d c)
 
-    -- a fault of a stage is the only one
-    walk_only : (f g : FlatErr) (main : ModelValue) → model_at library [] ≡ Some main → WalksMain library main (refused f) → IsFault library g → f ≡ g
-    walk_only f g main at w (in_walk other at_other v) = refused_once main other f g at at_other w v
-    walk_only f g main at w (too_large other ms weight at_other v y heavy is) = absurd (refused_or_walked main other f ms at at_other w v)
-    walk_only f g main at w (in_drivers ms a is) = absurd (walk_first main f ms at w a)
-    walk_only f g main at w (in_controls a ps o c) = absurd (walk_first main f a.models at w a.past)
-    walk_only f g main at w (in_data a ps o c) = absurd (walk_first main f a.past.models at w a.past.past)
-    walk_only f g main at w (in_loops a ps o c l) = absurd (walk_first main f a.past.models at w a.past.past)
+    -- the stage of a fault
+    abbrev stage : {f : FlatErr} → IsFault library f → ℕ
+    stage (in_walk main at w) = 0
+    stage (too_large main ms weight at w y heavy is) = 1
+    stage (in_drivers ms a e) = 2
+    stage (in_controls a ps o c) = 3
+    stage (in_data a ps o c) = 4
+    stage (in_loops a ps o c l) = 5
 
-    weight_only : (f g : FlatErr) (main : ModelValue) (ms : List ModelValue) (weight : ℕ) → model_at library [] ≡ Some main → WalksMain library main (walked ms) → Weighs library main weight → most_weight < weight
-        → f ≡ TooLarge → IsFault library g → f ≡ g
-    weight_only f g main ms weight at w y heavy is (in_walk other at_other v) = absurd (refused_or_walked other main g ms at_other at v w)
-    weight_only f g main ms weight at w y heavy is (too_large other ns own at_other v z more_heavy too) = is ∙ sym too
-    weight_only f g main ms weight at w y heavy is (in_drivers ns a e) = absurd (weight_first main weight ns at y heavy a)
-    weight_only f g main ms weight at w y heavy is (in_controls a ps o c) = absurd (weight_first main weight a.models at y heavy a.past)
-    weight_only f g main ms weight at w y heavy is (in_data a ps o c) = absurd (weight_first main weight a.past.models at y heavy a.past.past)
-    weight_only f g main ms weight at w y heavy is (in_loops a ps o c l) = absurd (weight_first main weight a.past.models at y heavy a.past.past)
+    -- a fault of a stage is the only one, there and in the later stages
+    forward : (f g : FlatErr) (a : IsFault library f) (b : IsFault library g) → stage a ≤ stage b → f ≡ g
+    forward f g (in_walk main at w) (in_walk other at_other v) h = refused_once main other f g at at_other w v
+    forward f g (in_walk main at w) (too_large other ms weight at_other v y heavy is) h = absurd (refused_or_walked main other f ms at at_other w v)
+    forward f g (in_walk main at w) (in_drivers ms a is) h = absurd (walk_first main f ms at w a)
+    forward f g (in_walk main at w) (in_controls a ps o c) h = absurd (walk_first main f a.models at w a.past)
+    forward f g (in_walk main at w) (in_data a ps o c) h = absurd (walk_first main f a.past.models at w a.past.past)
+    forward f g (in_walk main at w) (in_loops a ps o c l) h = absurd (walk_first main f a.past.models at w a.past.past)
+    forward f g (too_large main ms weight at w y heavy is) (too_large other ns own at_other v z more_heavy too) h = is ∙ sym too
+    forward f g (too_large main ms weight at w y heavy is) (in_drivers ns a e) h = absurd (weight_first main weight ns at y heavy a)
+    forward f g (too_large main ms weight at w y heavy is) (in_controls a ps o c) h = absurd (weight_first main weight a.models at y heavy a.past)
+    forward f g (too_large main ms weight at w y heavy is) (in_data a ps o c) h = absurd (weight_first main weight a.past.models at y heavy a.past.past)
+    forward f g (too_large main ms weight at w y heavy is) (in_loops a ps o c l) h = absurd (weight_first main weight a.past.models at y heavy a.past.past)
+    forward f g (in_drivers ms a e) (in_drivers ns b d) h = same_Some f g (sym e ∙ same_drivers ms ns a b ∙ d)
+    forward f g (in_drivers ms a e) (in_controls b ps o c) h = absurd (drivers_first ms f a e b)
+    forward f g (in_drivers ms a e) (in_data b ps o c) h = absurd (drivers_first ms f a e b.past)
+    forward f g (in_drivers ms a e) (in_loops b ps o c l) h = absurd (drivers_first ms f a e b.past)
+    forward f g (in_controls a ps o c) (in_controls b qs u d) h = same_Some f g (same_clocks a b ps qs (Some f) (Some g) o u c d)
+    forward f g (in_controls a ps o c) (in_data b qs u d) h = absurd (controls_first a ps f o c b)
+    forward f g (in_controls a ps o c) (in_loops b qs u d l) h = absurd (controls_first a ps f o c b)
+    forward f g (in_data a ps o c) (in_data b qs u d) h = same_Some f g (same_data a b ps qs (Some f) (Some g) o u c d)
+    forward f g (in_data a ps o c) (in_loops b qs u d l) h = absurd (data_first a b ps qs f o u c d)
+    forward f g (in_loops a ps o c k) (in_loops b qs u d l) h = same_loop f g k l
+    forward f g a b h = absurd (omega arith)
 
-    drivers_only : (f g : FlatErr) (ms : List ModelValue) → IsWalked library ms → models_fault library ms ≡ Some f → IsFault library g → f ≡ g
-    drivers_only f g ms a e (in_walk other at v) = absurd (walk_first other g ms at v a)
-    drivers_only f g ms a e (too_large other ns weight at v z heavy is) = absurd (weight_first other weight ms at z heavy a)
-    drivers_only f g ms a e (in_drivers ns b d) = same_Some f g (sym e ∙ same_drivers ms ns a b ∙ d)
-    drivers_only f g ms a e (in_controls b ps o c) = absurd (drivers_first ms f a e b)
-    drivers_only f g ms a e (in_data b ps o c) = absurd (drivers_first ms f a e b.past)
-    drivers_only f g ms a e (in_loops b ps o c l) = absurd (drivers_first ms f a e b.past)
-
-    controls_only : (f g : FlatErr) (a : IsConnected library) (ps : List Place) → FlatOrder library is_latch [] a.past.main ps → Clocks library None ps (Some f) → IsFault library g → f ≡ g
-    controls_only f g a ps o c (in_walk other at v) = absurd (walk_first other g a.models at v a.past)
-    controls_only f g a ps o c (too_large other ns weight at v z heavy is) = absurd (weight_first other weight a.models at z heavy a.past)
-    controls_only f g a ps o c (in_drivers ns b d) = absurd (drivers_first ns g b d a)
-    controls_only f g a ps o c (in_controls b qs u d) = same_Some f g (same_clocks a b ps qs (Some f) (Some g) o u c d)
-    controls_only f g a ps o c (in_data b qs u d) = absurd (controls_first a ps f o c b)
-    controls_only f g a ps o c (in_loops b qs u d l) = absurd (controls_first a ps f o c b)
-
-    data_only : (f g : FlatErr) (a : IsClocked library) (ps : List Place) → FlatOrder library is_gate [] a.past.past.main ps → ClockData library a.past.past.main ps (Some f) → IsFault library g → f ≡ g
-    data_only f g a ps o c (in_walk other at v) = absurd (walk_first other g a.past.models at v a.past.past)
-    data_only f g a ps o c (too_large other ns weight at v z heavy is) = absurd (weight_first other weight a.past.models at z heavy a.past.past)
-    data_only f g a ps o c (in_drivers ns b d) = absurd (drivers_first ns g b d a.past)
-    data_only f g a ps o c (in_controls b qs u d) = absurd (controls_first b qs g u d a)
-    data_only f g a ps o c (in_data b qs u d) = same_Some f g (same_data a b ps qs (Some f) (Some g) o u c d)
-    data_only f g a ps o c (in_loops b qs u d l) = absurd (data_first a b ps qs f o u c d)
-
-    loops_only : (f g : FlatErr) (a : IsClocked library) (ps : List Place) → FlatOrder library is_gate [] a.past.past.main ps → ClockData library a.past.past.main ps None → IsLoop library f → IsFault library g → f ≡ g
-    loops_only f g a ps o c k (in_walk other at v) = absurd (walk_first other g a.past.models at v a.past.past)
-    loops_only f g a ps o c k (too_large other ns weight at v z heavy is) = absurd (weight_first other weight a.past.models at z heavy a.past.past)
-    loops_only f g a ps o c k (in_drivers ns b d) = absurd (drivers_first ns g b d a.past)
-    loops_only f g a ps o c k (in_controls b qs u d) = absurd (controls_first b qs g u d a)
-    loops_only f g a ps o c k (in_data b qs u d) = absurd (data_first b a qs ps g u o d c)
-    loops_only f g a ps o c k (in_loops b qs u d l) = same_loop f g k l
-
-pub fault_once : (library : LibraryValue) → IsWellFormed library → (f g : FlatErr) → IsFault library f → IsFault library g → f ≡ g
-fault_once library formed f g (in_walk main at w) b = walk_only library formed f g main at w b
-fault_once library formed f g (too_large main ms weight at w y heavy is) b = weight_only library formed f g main ms weight at w y heavy is b
-fault_once library formed f g (in_drivers ms a e) b = drivers_only library formed f g ms a e b
-fault_once library formed f g (in_controls a ps o c) b = controls_only library formed f g a ps o c b
-fault_once library formed f g (in_data a ps o c) b = data_only library formed f g a ps o c b
-fault_once library formed f g (in_loops a ps o c l) b = loops_only library formed f g a ps o c l b
+    pub fault_once : (f g : FlatErr) → IsFault library f → IsFault library g → f ≡ g
+    fault_once f g a b = elim (cases_lt (stage b) (stage a)) [ inl h ↦ sym (forward g f b a (omega arith)) | inr h ↦ forward f g a b h ]
 
 pub one_fault : (library : LibraryValue) → IsWellFormed library → HasOneFault library
 one_fault library formed = record { once = fault_once library formed }

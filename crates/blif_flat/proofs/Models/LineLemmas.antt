@@ -1,7 +1,6 @@
 -- What the refusals of a `.subckt` line say: F1 to F4 of it don't stand, or one does.
-use Rattle.blif_flat.proofs.Common.{◌≡◌, ℕ, true, false, ◌||◌, List, [], ◌∷◌, Option, Some, None, refl, sym, ap, ◌∙◌, subst, inl, inr, ◌⊎◌, bytes_eq, IsTrue, not, both_ways, cases_Bool, or_cases, or_left, or_right, and_from, not_from_false, false≢true, bytes_decides, In, none_else, none_both, Bool, cond, ◌++◌, filter, option_map, none-some}
-use Rattle.blif_flat.specs.{Pair, ModelValue, LibraryValue, model_named, has_name, is_input, is_output, inputs_of, SubcktLine, unknown_formal, is_connected, open_input, input_fault, formal_fault, placed_fault, line_fault, SubcktValue, formals, Ports, FlatErr, UnknownModel, RecursiveModel, UnknownFormal, Unconnected, TooLarge, DoublyDriven, Undriven, SecondClock, ClockNotInput, ClockAsData, Memory, IsTold, with_names, ports_value, foreign_formal, open_among, ports_fault}
-use Rattle.blif_flat.specs.declared.flat_err.FlatErr.TheVariants.{Loop}
+use Rattle.blif_flat.proofs.Common.{◌≡◌, ℕ, true, false, ◌||◌, List, [], ◌∷◌, Option, Some, None, refl, sym, ap, ◌∙◌, subst, inl, inr, ◌⊎◌, bytes_eq, IsTrue, not, both_ways, cases_Bool, or_cases, or_left, or_right, and_from, not_from_false, false≢true, bytes_decides, In, none_else, none_both, Bool, cond, ◌++◌, filter, option_map, none-some, OrMemory-map}
+use Rattle.blif_flat.specs.{Pair, ModelValue, LibraryValue, model_named, has_name, is_input, is_output, inputs_of, SubcktLine, unknown_formal, is_connected, open_input, input_fault, formal_fault, placed_fault, line_fault, SubcktValue, formals, Ports, FlatErr, UnknownFormal, Unconnected, Memory, IsTold, with_names, ports_value, refusal_of, foreign_formal, open_among, ports_fault}
 use Rattle.blif_flat.proofs.Models.NameSetLemmas.{has_inputs, has_with_names}
 
 -- each formal of a connection is an input or an output
@@ -152,18 +151,7 @@ open_second child pairs h =
 
 -- the answered fault
 none_fault : (e : FlatErr) (fault : Option FlatErr) → IsTold e None → IsTold e fault
-none_fault Memory fault h = tt
-none_fault (UnknownModel m n name) fault h = absurd (none-some (UnknownModel m n name) h)
-none_fault (RecursiveModel chain) fault h = absurd (none-some (RecursiveModel chain) h)
-none_fault (UnknownFormal m n name) fault h = absurd (none-some (UnknownFormal m n name) h)
-none_fault (Unconnected m n name) fault h = absurd (none-some (Unconnected m n name) h)
-none_fault TooLarge fault h = absurd (none-some TooLarge h)
-none_fault (DoublyDriven m n name) fault h = absurd (none-some (DoublyDriven m n name) h)
-none_fault (Undriven m n name) fault h = absurd (none-some (Undriven m n name) h)
-none_fault (SecondClock first second) fault h = absurd (none-some (SecondClock first second) h)
-none_fault (ClockNotInput net) fault h = absurd (none-some (ClockNotInput net) h)
-none_fault (ClockAsData net) fault h = absurd (none-some (ClockAsData net) h)
-none_fault (Loop nets) fault h = absurd (none-some (Loop nets) h)
+none_fault e fault h = OrMemory-map refusal_of (λ r. None ≡ Some r) (λ r. fault ≡ Some r) e (λ r q. absurd (none-some r q)) h
 
 formal_faults : (m : ModelValue) (line : ℕ) (s : SubcktValue) (child : ModelValue) (e : FlatErr) (o : Option (List ℕ)) → IsTold e (option_map (λ n. UnknownFormal m.name line n) o)
     → IsTold e (formal_fault m (record { line = line; subckt = s }) child o)

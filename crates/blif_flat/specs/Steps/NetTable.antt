@@ -53,20 +53,32 @@ abbrev pub copied : NetsValue → ℕ → List ℕ → Option FlatNet → NetsVa
 copied n i name None = n
 copied n i name (Some number) = with_found n (slot_number n i name) number
 
--- the net of a formal that passes is copied outside, and that of an actual inside
+-- the net of one name of a pair is copied to its other name, at another instance, where the formal passes a test; and so pair by pair
+abbrev pub pair_copied : (List ℕ → Bool) → (Pair → List ℕ) → (Pair → List ℕ) → ℕ → ℕ → NetsValue → Pair → NetsValue
+pair_copied test source target from to n pair = if test pair.formal then copied n to (target pair) (table_of n from (source pair)) else n
+
+abbrev pub pairs_copied : (List ℕ → Bool) → (Pair → List ℕ) → (Pair → List ℕ) → ℕ → ℕ → NetsValue → List Pair → NetsValue
+pairs_copied test source target from to n [] = n
+pairs_copied test source target from to n (pair ∷ pairs) = pairs_copied test source target from to (pair_copied test source target from to n pair) pairs
+
+abbrev pub formal_of : Pair → List ℕ
+formal_of pair = pair.formal
+
+abbrev pub actual_of : Pair → List ℕ
+actual_of pair = pair.actual
+
+-- the nets of formals are copied outside, and those of actuals inside
 abbrev pub pair_out : (List ℕ → Bool) → ℕ → ℕ → NetsValue → Pair → NetsValue
-pair_out test inner outer n pair = if test pair.formal then copied n outer pair.actual (table_of n inner pair.formal) else n
+pair_out test inner outer n pair = pair_copied test formal_of actual_of inner outer n pair
 
 abbrev pub pairs_out : (List ℕ → Bool) → ℕ → ℕ → NetsValue → List Pair → NetsValue
-pairs_out test inner outer n [] = n
-pairs_out test inner outer n (pair ∷ pairs) = pairs_out test inner outer (pair_out test inner outer n pair) pairs
+pairs_out test inner outer n pairs = pairs_copied test formal_of actual_of inner outer n pairs
 
 abbrev pub pair_in : (List ℕ → Bool) → ℕ → ℕ → NetsValue → Pair → NetsValue
-pair_in test inner outer n pair = if test pair.formal then copied n inner pair.formal (table_of n outer pair.actual) else n
+pair_in test inner outer n pair = pair_copied test actual_of formal_of outer inner n pair
 
 abbrev pub pairs_in : (List ℕ → Bool) → ℕ → ℕ → NetsValue → List Pair → NetsValue
-pairs_in test inner outer n [] = n
-pairs_in test inner outer n (pair ∷ pairs) = pairs_in test inner outer (pair_in test inner outer n pair) pairs
+pairs_in test inner outer n pairs = pairs_copied test actual_of formal_of outer inner n pairs
 
 -- A table of nets: for each instance by its place, and for each name, the number of the net that drives it.
 

@@ -9,6 +9,16 @@ use blif_read::{BlifModel, Body, Latch, Library, Pair, Subckt};
 use std::alloc::Global;
 use tl_text::Name;
 
+// A line of a model, and what tells the ports of the models that it places.
+#[derive(Clone, Copy)]
+struct Site<'a> {
+    alloc: Global,
+    index: &'a ModelIndex,
+    ports: &'a [Ports],
+    model: &'a Name,
+    line: u32,
+}
+
 fn copy_of(alloc: Global, name: &Name) -> Result<Name, FlatErr>
     ensures { MatchResult result (λ copy. copy ≡ name.now) (λ e. e ≡ Memory) }
 {
@@ -16,40 +26,28 @@ fn copy_of(alloc: Global, name: &Name) -> Result<Name, FlatErr>
 }
 
 // Adds a name that a line drives, unless it is driven already.
-fn drive(
-    alloc: Global,
-    model: &Name,
-    line: u32,
-    driven: &mut Driven,
-    name: &Name,
-) -> Result<(), FlatErr>
-    ensures { Adds result (twice_in model.now line driven.old (name.now ∷ [])) driven.old driven.new (name.now ∷ []) }
+fn drive(site: &Site, driven: &mut Driven, name: &Name) -> Result<(), FlatErr>
+    ensures { Adds result (twice_in site.now.model.now site.now.line driven.old (name.now ∷ [])) driven.old driven.new (name.now ∷ []) }
 {
     if driven.has(name.bytes()) {
-        let model = copy_of(alloc, model)?;
-        let name = copy_of(alloc, name)?;
-        return Err(FlatErr::DoublyDriven(model, line, name));
+        let model = copy_of(site.alloc, site.model)?;
+        let name = copy_of(site.alloc, name)?;
+        return Err(FlatErr::DoublyDriven(model, site.line, name));
     }
-    driven.add(alloc, name.bytes())?;
+    driven.add(site.alloc, name.bytes())?;
     Ok(())
 }
 
 // Tells a name that isn't driven.
-fn check_driven(
-    alloc: Global,
-    model: &Name,
-    line: u32,
-    driven: &Driven,
-    name: &Name,
-) -> Result<(), FlatErr>
-    ensures { Tells result (undriven_in model.now line driven.now (name.now ∷ [])) }
+fn check_driven(site: &Site, driven: &Driven, name: &Name) -> Result<(), FlatErr>
+    ensures { Tells result (undriven_in site.now.model.now site.now.line driven.now (name.now ∷ [])) }
 {
     if driven.has(name.bytes()) {
         return Ok(());
     }
-    let model = copy_of(alloc, model)?;
-    let name = copy_of(alloc, name)?;
-    Err(FlatErr::Undriven(model, line, name))
+    let model = copy_of(site.alloc, site.model)?;
+    let name = copy_of(site.alloc, name)?;
+    Err(FlatErr::Undriven(model, site.line, name))
 }
 
 // The ports of the model of a name.
@@ -64,126 +62,81 @@ fn ports_of<'a>(index: &ModelIndex, ports: &'a [Ports], name: &Name) -> Option<&
 }
 
 // Adds the actual of a connection of an output.
-fn drive_actual(
-    alloc: Global,
-    model: &Name,
-    line: u32,
-    driven: &mut Driven,
-    ports: &Ports,
-    pair: &Pair,
-) -> Result<(), FlatErr>
+fn drive_actual(site: &Site, driven: &mut Driven, ports: &Ports, pair: &Pair) -> Result<(), FlatErr>
     ensures { (child : ModelValue) → ports.now ≡ ports_value child
-        → Adds result (twice_in model.now line driven.old (output_actuals child (pair.now ∷ []))) driven.old driven.new (output_actuals child (pair.now ∷ [])) }
+        → Adds result (twice_in site.now.model.now site.now.line driven.old (output_actuals child (pair.now ∷ []))) driven.old driven.new (output_actuals child (pair.now ∷ [])) }
 {
     if ports.is_output(pair.formal.bytes()) {
-        drive(alloc, model, line, driven, &pair.actual)
+        drive(site, driven, &pair.actual)
     } else {
         Ok(())
     }
 }
 
 fn drive_actuals(
-    alloc: Global,
-    model: &Name,
-    line: u32,
+    site: &Site,
     driven: &mut Driven,
     ports: &Ports,
     pairs: &[Pair],
 ) -> Result<(), FlatErr>
     ensures { (child : ModelValue) → ports.now ≡ ports_value child
-        → Adds result (twice_in model.now line driven.old (output_actuals child pairs.now)) driven.old driven.new (output_actuals child pairs.now) }
+        → Adds result (twice_in site.now.model.now site.now.line driven.old (output_actuals child pairs.now)) driven.old driven.new (output_actuals child pairs.now) }
 {
     for pair in pairs {
-        drive_actual(alloc, model, line, driven, ports, pair)?;
+        drive_actual(site, driven, ports, pair)?;
     }
     Ok(())
 }
 
 // Tells the actual of a connection of an input where it isn't driven.
-fn check_actual(
-    alloc: Global,
-    model: &Name,
-    line: u32,
-    driven: &Driven,
-    ports: &Ports,
-    pair: &Pair,
-) -> Result<(), FlatErr>
-    ensures { (child : ModelValue) → ports.now ≡ ports_value child → Tells result (undriven_in model.now line driven.now (input_actuals child (pair.now ∷ []))) }
+fn check_actual(site: &Site, driven: &Driven, ports: &Ports, pair: &Pair) -> Result<(), FlatErr>
+    ensures { (child : ModelValue) → ports.now ≡ ports_value child → Tells result (undriven_in site.now.model.now site.now.line driven.now (input_actuals child (pair.now ∷ []))) }
 {
     if ports.is_input(pair.formal.bytes()) {
-        check_driven(alloc, model, line, driven, &pair.actual)
+        check_driven(site, driven, &pair.actual)
     } else {
         Ok(())
     }
 }
 
-fn check_actuals(
-    alloc: Global,
-    model: &Name,
-    line: u32,
-    driven: &Driven,
-    ports: &Ports,
-    pairs: &[Pair],
-) -> Result<(), FlatErr>
-    ensures { (child : ModelValue) → ports.now ≡ ports_value child → Tells result (undriven_in model.now line driven.now (input_actuals child pairs.now)) }
+fn check_actuals(site: &Site, driven: &Driven, ports: &Ports, pairs: &[Pair]) -> Result<(), FlatErr>
+    ensures { (child : ModelValue) → ports.now ≡ ports_value child → Tells result (undriven_in site.now.model.now site.now.line driven.now (input_actuals child pairs.now)) }
 {
     for pair in pairs {
-        check_actual(alloc, model, line, driven, ports, pair)?;
+        check_actual(site, driven, ports, pair)?;
     }
     Ok(())
 }
 
-fn check_names(
-    alloc: Global,
-    model: &Name,
-    line: u32,
-    driven: &Driven,
-    names: &[Name],
-) -> Result<(), FlatErr>
-    ensures { Tells result (undriven_in model.now line driven.now names.now) }
+fn check_names(site: &Site, driven: &Driven, names: &[Name]) -> Result<(), FlatErr>
+    ensures { Tells result (undriven_in site.now.model.now site.now.line driven.now names.now) }
 {
     for name in names {
-        check_driven(alloc, model, line, driven, name)?;
+        check_driven(site, driven, name)?;
     }
     Ok(())
 }
 
-fn drive_subckt(
-    alloc: Global,
-    index: &ModelIndex,
-    ports: &[Ports],
-    model: &Name,
-    line: u32,
-    driven: &mut Driven,
-    subckt: &Subckt,
-) -> Result<(), FlatErr>
-    ensures { (library : LibraryValue) → AreOf library index.now.names ports.now
-        → Adds result (twice_in model.now line driven.old (driven_pairs (model_named library.models subckt.now.model) subckt.now.pairs))
+fn drive_subckt(site: &Site, driven: &mut Driven, subckt: &Subckt) -> Result<(), FlatErr>
+    ensures { (library : LibraryValue) → AreOf library site.now.index.now.names site.now.ports.now
+        → Adds result (twice_in site.now.model.now site.now.line driven.old (driven_pairs (model_named library.models subckt.now.model) subckt.now.pairs))
         driven.old driven.new (driven_pairs (model_named library.models subckt.now.model) subckt.now.pairs) }
 {
-    match ports_of(index, ports, &subckt.model) {
+    match ports_of(site.index, site.ports, &subckt.model) {
         None => Ok(()),
-        Some(child) => drive_actuals(alloc, model, line, driven, child, &subckt.pairs),
+        Some(child) => drive_actuals(site, driven, child, &subckt.pairs),
     }
 }
 
 // Adds the names that a command drives.
-fn drive_body(
-    alloc: Global,
-    index: &ModelIndex,
-    ports: &[Ports],
-    model: &Name,
-    line: u32,
-    driven: &mut Driven,
-    body: &Body,
-) -> Result<(), FlatErr>
-    ensures { (library : LibraryValue) → AreOf library index.now.names ports.now
-        → Adds result (twice_in model.now line driven.old (drives library body.now)) driven.old driven.new (drives library body.now) }
+fn drive_body(site: &Site, driven: &mut Driven, body: &Body) -> Result<(), FlatErr>
+    ensures { (library : LibraryValue) → AreOf library site.now.index.now.names site.now.ports.now
+        → Adds result (twice_in site.now.model.now site.now.line driven.old (drives library body.now)) driven.old driven.new (drives library body.now) }
 {
     match body {
-        Body::Cover(cover) => drive(alloc, model, line, driven, &cover.output),
-        Body::Latch(latch) => drive(alloc, model, line, driven, &latch.output),
-        Body::Subckt(subckt) => drive_subckt(alloc, index, ports, model, line, driven, subckt),
+        Body::Cover(cover) => drive(site, driven, &cover.output),
+        Body::Latch(latch) => drive(site, driven, &latch.output),
+        Body::Subckt(subckt) => drive_subckt(site, driven, subckt),
     }
 }
 
@@ -199,70 +152,47 @@ fn drive_commands(
         → Adds result (twice_fault library model.now.name driven.old model.now.commands) driven.old driven.new (all_drives library model.now.commands) }
 {
     for command in &model.commands {
-        drive_body(
+        let site = Site {
             alloc,
             index,
             ports,
-            &model.name,
-            command.line,
-            driven,
-            &command.body,
-        )?;
+            model: &model.name,
+            line: command.line,
+        };
+        drive_body(&site, driven, &command.body)?;
     }
     Ok(())
 }
 
-fn check_subckt(
-    alloc: Global,
-    index: &ModelIndex,
-    ports: &[Ports],
-    model: &Name,
-    line: u32,
-    driven: &Driven,
-    subckt: &Subckt,
-) -> Result<(), FlatErr>
-    ensures { (library : LibraryValue) → AreOf library index.now.names ports.now
-        → Tells result (undriven_in model.now line driven.now (read_pairs (model_named library.models subckt.now.model) subckt.now.pairs)) }
+fn check_subckt(site: &Site, driven: &Driven, subckt: &Subckt) -> Result<(), FlatErr>
+    ensures { (library : LibraryValue) → AreOf library site.now.index.now.names site.now.ports.now
+        → Tells result (undriven_in site.now.model.now site.now.line driven.now (read_pairs (model_named library.models subckt.now.model) subckt.now.pairs)) }
 {
-    match ports_of(index, ports, &subckt.model) {
+    match ports_of(site.index, site.ports, &subckt.model) {
         None => Ok(()),
-        Some(child) => check_actuals(alloc, model, line, driven, child, &subckt.pairs),
+        Some(child) => check_actuals(site, driven, child, &subckt.pairs),
     }
 }
 
-fn check_latch(
-    alloc: Global,
-    model: &Name,
-    line: u32,
-    driven: &Driven,
-    latch: &Latch,
-) -> Result<(), FlatErr>
-    ensures { Tells result (undriven_in model.now line driven.now (latch.now.input ∷ with_control latch.now.control)) }
+fn check_latch(site: &Site, driven: &Driven, latch: &Latch) -> Result<(), FlatErr>
+    ensures { Tells result (undriven_in site.now.model.now site.now.line driven.now (latch.now.input ∷ with_control latch.now.control)) }
 {
-    check_driven(alloc, model, line, driven, &latch.input)?;
+    check_driven(site, driven, &latch.input)?;
     match &latch.control {
         None => Ok(()),
-        Some(control) => check_driven(alloc, model, line, driven, control),
+        Some(control) => check_driven(site, driven, control),
     }
 }
 
 // Tells a name that a command reads and that isn't driven.
-fn check_body(
-    alloc: Global,
-    index: &ModelIndex,
-    ports: &[Ports],
-    model: &Name,
-    line: u32,
-    driven: &Driven,
-    body: &Body,
-) -> Result<(), FlatErr>
-    ensures { (library : LibraryValue) → AreOf library index.now.names ports.now
-        → Tells result (undriven_in model.now line driven.now (reads library body.now)) }
+fn check_body(site: &Site, driven: &Driven, body: &Body) -> Result<(), FlatErr>
+    ensures { (library : LibraryValue) → AreOf library site.now.index.now.names site.now.ports.now
+        → Tells result (undriven_in site.now.model.now site.now.line driven.now (reads library body.now)) }
 {
     match body {
-        Body::Cover(cover) => check_names(alloc, model, line, driven, &cover.inputs),
-        Body::Latch(latch) => check_latch(alloc, model, line, driven, latch),
-        Body::Subckt(subckt) => check_subckt(alloc, index, ports, model, line, driven, subckt),
+        Body::Cover(cover) => check_names(site, driven, &cover.inputs),
+        Body::Latch(latch) => check_latch(site, driven, latch),
+        Body::Subckt(subckt) => check_subckt(site, driven, subckt),
     }
 }
 
@@ -278,15 +208,14 @@ fn check_commands(
         → Tells result (undriven_fault library model.now.name driven.now model.now.commands) }
 {
     for command in &model.commands {
-        check_body(
+        let site = Site {
             alloc,
             index,
             ports,
-            &model.name,
-            command.line,
-            driven,
-            &command.body,
-        )?;
+            model: &model.name,
+            line: command.line,
+        };
+        check_body(&site, driven, &command.body)?;
     }
     Ok(())
 }
@@ -305,7 +234,14 @@ fn check_model(
     let mut driven = Driven::inputs(alloc, own);
     drive_commands(alloc, index, ports, model, &mut driven)?;
     check_commands(alloc, index, ports, model, &driven)?;
-    check_names(alloc, &model.name, model.line, &driven, &model.outputs)
+    let site = Site {
+        alloc,
+        index,
+        ports,
+        model: &model.name,
+        line: model.line,
+    };
+    check_names(&site, &driven, &model.outputs)
 }
 
 fn check_number(

@@ -7,7 +7,7 @@ use Rattle.blif_flat.specs.declared.flat.FlatLatch.{FlatLatch}
 use Rattle.blif_flat.specs.FlatCycle.{flat_inits}
 use Rattle.blif_flat.specs.FlatValue.{FlatValue}
 use Rattle.blif_flat.specs.Places.{Place, latch_at}
-use Rattle.blif_flat.specs.Runs.{AreLatches, init_state, inits_of, IsCycle, Runs, IsRun}
+use Rattle.blif_flat.specs.Runs.{init_state, inits_of, IsCycle, Runs}
 use Rattle.blif_flat.specs.Runs as library_runs
 use Rattle.run_text.specs.declared.params.Param.{Param}
 use Rattle.run_text.specs.Parameters.{regular_names}

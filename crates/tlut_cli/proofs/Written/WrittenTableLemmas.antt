@@ -35,7 +35,7 @@ use Rattle.aig_core.specs.Aig.{Aig, node_count}
 use Rattle.aig_core.specs.And.{Answer}
 use Rattle.aig_build.specs.declared.TheConstants.{MOST_NODES}
 use Rattle.aig_build.specs.CoverGraph.{Literals}
-use Rattle.aig_build.specs.NetlistGraph.{input_names, source_kinds, root_nets, IsSourceLiteral, Makes, a_source, MakesAll, none, more}
+use Rattle.aig_build.specs.NetlistGraph.{input_names, IsSourceLiteral, Makes, a_source, MakesAll, none, more}
 use Rattle.aig_build.specs.NetlistGraph as graph
 use Rattle.cover_pick.specs.declared.lut.Lut.{Lut}
 use Rattle.cover_pick.specs.Mapping.{IsTableOf, bits_of}

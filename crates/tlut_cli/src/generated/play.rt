@@ -1,7 +1,7 @@
 //! The playing of a case.
-ghost use Rattle.std.specs.Prelude.{◌≡◌, ◌<◌, IfSome};
+ghost use Rattle.std.specs.Prelude.{◌≡◌, ◌<◌, IfSome, IfNone};
 ghost use Rattle.run_text.specs.EventValue.{event_values};
-ghost use Rattle.tlut_cli.specs.Gen.Totals.{Totals};
+ghost use Rattle.tlut_cli.specs.Gen.Totals.{Totals, IsTooMuch};
 ghost use Rattle.tlut_cli.specs.Run.Ready.{CanPlay};
 
 use crate::generated::totals::{CaseTotals, with_event};
@@ -18,7 +18,8 @@ fn play_with<L: Ledger>(machine: &mut Machine, events: &[Event], blank: Blank) -
     requires parts { blank.parts ≡ L.parts }
     requires some { 0 < L.parts }
     requires can_play { CanPlay (event_values events.now) machine.old }
-    ensures { IfSome result (λ t. Totals machine.old (event_values events.now) t.writes t.total machine.new) }
+    ensures totals { IfSome result (λ t. Totals machine.old (event_values events.now) t.writes t.total machine.new) }
+    ensures over { IfNone result (IsTooMuch machine.old (event_values events.now)) }
 {
     let mut steps = Steps::<L>::start(blank);
     let mut totals = CaseTotals {
@@ -35,18 +36,20 @@ fn play_with<L: Ledger>(machine: &mut Machine, events: &[Event], blank: Blank) -
 // Plays events, and adds up what they give.
 fn play_events(machine: &mut Machine, events: &[Event]) -> Option<CaseTotals>
     requires { CanPlay (event_values events.now) machine.old }
-    ensures { IfSome result (λ t. Totals machine.old (event_values events.now) t.writes t.total machine.new) }
+    ensures totals { IfSome result (λ t. Totals machine.old (event_values events.now) t.writes t.total machine.new) }
+    ensures over { IfNone result (IsTooMuch machine.old (event_values events.now)) }
 {
     play_with::<Brand>(machine, events, Blank::new(1))
 }
 
 /// Plays a case, and adds up what its events give.
 ///
-/// `None` comes only where a total doesn't fit its type. A generated case never comes to that: it has a hundred rounds, and a
-/// cycle of at most 64 outputs in each.
+/// `None` comes only where the totals up to some event don't fit their types. A generated case never comes to that: it has a hundred
+/// rounds, and a cycle of at most 64 outputs in each.
 pub fn play_case(ready: &mut Ready) -> Option<CaseTotals>
     requires { CanPlay (event_values ready.old.events.items) ready.old.machine }
-    ensures { IfSome result (λ t. Totals ready.old.machine (event_values ready.old.events.items) t.writes t.total ready.new.machine) }
+    ensures totals { IfSome result (λ t. Totals ready.old.machine (event_values ready.old.events.items) t.writes t.total ready.new.machine) }
+    ensures over { IfNone result (IsTooMuch ready.old.machine (event_values ready.old.events.items)) }
 {
     play_events(&mut ready.machine, &ready.events)
 }

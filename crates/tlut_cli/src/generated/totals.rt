@@ -1,8 +1,8 @@
 //! What the events of a case add up to.
-ghost use Rattle.std.specs.Prelude.{◌≡◌, ◌+◌, ◌*◌, ◌^◌, ◌<◌, IfSome, SomeIff};
+ghost use Rattle.std.specs.Prelude.{◌≡◌, ◌+◌, ◌*◌, ◌^◌, ◌<◌, IfSome, IfNone, SomeIff};
 ghost use Rattle.list_laws.specs.Digits.{bit_value, number};
 ghost use Rattle.run_text.specs.EventValue.{event_value};
-ghost use Rattle.tlut_cli.specs.Gen.Totals.{writes_of, output_of};
+ghost use Rattle.tlut_cli.specs.Gen.Totals.{writes_of, output_of, DoFit};
 
 use run_core::Machine;
 use run_text::Event;
@@ -45,6 +45,7 @@ fn number_of(digits: &[bool]) -> Option<u128>
 pub fn with_event(totals: CaseTotals, event: &Event, machine: &Machine) -> Option<CaseTotals>
     ensures writes { IfSome result (λ t. t.writes ≡ totals.writes + writes_of (event_value event.now) machine.now) }
     ensures total { IfSome result (λ t. t.total ≡ totals.total + output_of (event_value event.now) machine.now) }
+    ensures over { IfNone result (DoFit (totals.writes + writes_of (event_value event.now) machine.now) (totals.total + output_of (event_value event.now) machine.now) → ⊥) }
 {
     match event {
         Event::Set(_) => {

@@ -1,4 +1,4 @@
-use Rattle.std.proofs.Common.{List, ℕ, ◌∷◌, sym, ap}
+use Rattle.std.proofs.Common.{List, ℕ, ◌∷◌, ap}
 use Rattle.tl_piece.proofs.PieceLemmas.{stops_longer, adds_then}
 use Rattle.tl_piece.proofs.AddLemmas.{stopped, as_text}
 use Rattle.blif_write.proofs.words.add_word.Goals as goal

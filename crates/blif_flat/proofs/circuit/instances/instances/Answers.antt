@@ -1,6 +1,5 @@
-use Rattle.blif_flat.proofs.Common.{◌≡◌, ◌+◌, ◌<◌, List, [], ◌∷◌, ◌++◌, length, reverse, Some, ap, sym, subst, ◌∙◌, arith, slice_get, length-append, same_Some, slice_get_within}
-use Rattle.blif_flat.specs.{ModelValue, subckts_of, Instance, Listed, entries_from, most_weight}
-use Rattle.std.specs.Vec.{vec_len}
+use Rattle.blif_flat.proofs.Common.{◌≡◌, ◌+◌, List, [], ◌∷◌, ◌++◌, length, reverse, Some, ap, sym, subst, ◌∙◌, arith, slice_get, length-append, same_Some, slice_get_within}
+use Rattle.blif_flat.specs.{ModelValue, subckts_of, Instance, Listed, entries_from}
 use Rattle.blif_flat.proofs.Hierarchy.InstanceRowLemmas.{listed_begin, listed_pushed, listed_empty, next_popped}
 use Rattle.blif_flat.proofs.circuit.instances.instances.Goals as goal
 

@@ -1,13 +1,12 @@
-use Rattle.blif_flat.proofs.Common.{◌+◌, drop, ap, sym, ◌∙◌}
+use Rattle.blif_flat.proofs.Common.{◌+◌, drop, drop_at, ap, sym, ◌∙◌}
 use Rattle.blif_flat.specs.{is_input, NetsValue, pairs_in}
-use Rattle.blif_flat.proofs.Connections.NetCopyLemmas.{pairs_in-split}
 use Rattle.blif_flat.proofs.circuit.nets.pairs_in.Goals as goal
 
 pub loop-pair-preserved : goal.loop-pair-preserved
 loop-pair-preserved c = record {
   copied = λ child p.
       ap (λ (n : NetsValue). pairs_in (is_input child) c.args.inner c.args.outer n (drop (c.loop-pair.pair-index + 1) c.args.pairs.now)) (c.pair_in.ensures.inside child p)
-      ∙ sym (pairs_in-split (is_input child) c.args.inner c.args.outer c.loop-pair.nets c.args.pairs.now c.loop-pair.pair-index c.pair-item.result c.loop-pair-test.true c.pair-item.is)
+      ∙ sym (ap (pairs_in (is_input child) c.args.inner c.args.outer c.loop-pair.nets) (drop_at c.args.pairs.now c.loop-pair.pair-index c.pair-item.result c.loop-pair-test.true c.pair-item.is))
       ∙ c.loop-pair.invariant.copied child p;
   nets = c.pair_in.ensures.nets;
 }

@@ -4,5 +4,5 @@ use Rattle.blif_flat.proofs.model.drivers.drive_actuals.Given as goal
 
 abbrev pub invariant-loop-pair : goal.invariant-loop-pair
 invariant-loop-pair l = (child : ModelValue) → l.ports ≡ ports_value child
-    → (twice_in l.model l.line l.driven (output_actuals child (drop l.pair-index l.pairs)) ≡ twice_in l.model l.line l.initial.driven (output_actuals child l.pairs))
+    → (twice_in l.site.model.now l.site.line l.driven (output_actuals child (drop l.pair-index l.pairs)) ≡ twice_in l.site.model.now l.site.line l.initial.driven (output_actuals child l.pairs))
     × (l.driven ++ output_actuals child (drop l.pair-index l.pairs) ≡ l.initial.driven ++ output_actuals child l.pairs)

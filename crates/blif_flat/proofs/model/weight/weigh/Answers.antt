@@ -1,4 +1,4 @@
-use Rattle.blif_flat.proofs.Common.{◌≡◌, ◌<◌, length, slice_index_or, arith}
+use Rattle.blif_flat.proofs.Common.{arith}
 use Rattle.blif_flat.proofs.Models.WeightLemmas.{order_inside, kept_next}
 use Rattle.blif_flat.proofs.model.weight.weigh.Goals as goal
 

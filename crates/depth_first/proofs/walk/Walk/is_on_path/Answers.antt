@@ -1,4 +1,4 @@
-use Rattle.std.proofs.Common.{◌≡◌, ◌↔◌, IsTrue, refl, sym, ap, subst, subst₂}
+use Rattle.std.proofs.Common.{◌↔◌, IsTrue, refl, sym, ap, subst, subst₂}
 use Rattle.list_laws.specs.Members.{In}
 use Rattle.depth_first.specs.Frames.{path_of}
 use Rattle.depth_first.specs.Walk.{WalkValue}

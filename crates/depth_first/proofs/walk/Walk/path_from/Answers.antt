@@ -1,4 +1,4 @@
-use Rattle.std.proofs.Common.{◌≡◌, ◌∙◌, ◌+◌, ◌++◌, ◌∷◌, [], take, refl, ap}
+use Rattle.std.proofs.Common.{◌∙◌, ◌∷◌, [], take, refl, ap}
 use Rattle.depth_first.specs.Frames.{path_of}
 use Rattle.depth_first.specs.Walk.{WalkValue, from_node}
 use Rattle.depth_first.proofs.PathLemmas.{path_all, from_here, from_before}

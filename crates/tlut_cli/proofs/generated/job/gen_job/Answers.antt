@@ -23,7 +23,7 @@ returns-in-Ok-put_lines-clause-ends g c old ports =
     let before = outside old.files (g.O.Sink.bytes c.args.out.now) ports in
     let after = outside old.files (g.O.Sink.bytes c.put_lines.new.out) ports in (
       case_begun words ready is old,
-      λ files told. case_told words ready is c.play_case.new.ready.machine totals.writes totals.total c.in-Some.ensures c.as_str.result.now c.as_str-2.result.now (c.as_str.ensures.value ∙ c.in-Ok-first_line.ensures)
+      λ files told. case_told words ready is c.play_case.new.ready.machine totals.writes totals.total c.in-Some.ensures.totals c.as_str.result.now c.as_str-2.result.now (c.as_str.ensures.value ∙ c.in-Ok-first_line.ensures)
           (c.as_str-2.ensures.value ∙ c.in-Ok-last_line.ensures) (IsTold before after) (record { bytes = c.in-Ok-put_lines.ensures.grown; files = refl; ports = refl }),
     )
 
@@ -37,6 +37,6 @@ returns-clause-ends g c old ports =
     let before = outside old.files (g.O.Sink.bytes c.args.out.now) ports in
     let after = outside old.files (g.O.Sink.bytes c.put_lines.new.out) ports in (
       case_begun words ready is old,
-      λ files told. case_told words ready is c.play_case.new.ready.machine totals.writes totals.total c.in-Some.ensures c.as_str.result.now c.as_str-2.result.now (c.as_str.ensures.value ∙ c.in-Ok-first_line.ensures)
+      λ files told. case_told words ready is c.play_case.new.ready.machine totals.writes totals.total c.in-Some.ensures.totals c.as_str.result.now c.as_str-2.result.now (c.as_str.ensures.value ∙ c.in-Ok-first_line.ensures)
           (c.as_str-2.ensures.value ∙ c.in-Ok-last_line.ensures) (IsPartTold before after) (record { part = put.0; within = put.1; bytes = put.2; files = refl; ports = refl }),
     )

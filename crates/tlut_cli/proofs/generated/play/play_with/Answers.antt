@@ -1,4 +1,4 @@
-use Rattle.std.proofs.Common.{◌≡◌, List, take, refl, sym, ◌∙◌, subst}
+use Rattle.std.proofs.Common.{◌≡◌, ◌+◌, List, take, refl, sym, ◌∙◌, subst}
 use Rattle.std.proofs.lemmas.List.{take_all}
 use Rattle.list_laws.proofs.Items.{member_at}
 use Rattle.list_laws.proofs.Members.{In-map}
@@ -7,8 +7,8 @@ use Rattle.run_text.specs.EventValue.{event_value, event_values}
 use Rattle.lut_sim.specs.declared.shape.Shape.{Shape}
 use Rattle.ppc_pack.specs.Pack.{PackValue}
 use Rattle.run_core.specs.Fits.{FitsPack, FitsShape}
-use Rattle.tlut_cli.specs.Gen.Totals.{Totals, none}
-use Rattle.tlut_cli.proofs.PlayLemmas.{one_more}
+use Rattle.tlut_cli.specs.Gen.Totals.{writes_of, output_of, Totals, none, more}
+use Rattle.tlut_cli.proofs.PlayLemmas.{split_at, one_more}
 use Rattle.tlut_cli.proofs.Gen.GenLemmas.{total_more}
 use Rattle.tlut_cli.proofs.generated.play.play_with.Goals as goal
 
@@ -43,9 +43,29 @@ loop-event-preserved g c =
           c.in_ok-totals.ensures.writes c.in_ok-totals.ensures.total);
     }
 
-pub returns : goal.returns
-returns g c =
+pub returns-clause-totals : goal.returns-clause-totals
+returns-clause-totals g c =
     let events = c.args.events.now in
     let totals = c.loop-event.totals in
     let whole : take c.loop-event.event-index events ≡ events = take_all c.loop-event.event-index events c.loop-event-test.false in
     subst (λ (es : List Event). Totals c.args.machine.now (event_values es) totals.writes totals.total c.loop-event.machine) whole c.loop-event.invariant.totals
+
+pub returns-in_err-totals-clause-over : goal.returns-in_err-totals-clause-over
+returns-in_err-totals-clause-over g c =
+    let events = c.args.events.now in
+    let i = c.loop-event.event-index in
+    let item = c.event-item.result in
+    let old = c.loop-event.totals in
+    let new = c.play.new.self in
+    rw c.from_residual.ensures (
+    record {
+      before = event_values (take i events);
+      event = event_value item;
+      split = split_at events i item c.loop-event-test.true c.event-item.is;
+      writes = old.writes + writes_of (event_value item) new;
+      total = old.total + output_of (event_value item) new;
+      new = new;
+      totals = more (event_value item) c.loop-event.invariant.totals c.play.ensures.played;
+      over = c.in_err-totals.ensures.over;
+    }
+    )
