@@ -1,6 +1,6 @@
 """Proves and builds the program, and tells on standard error how far it is. `./tlut` calls it.
 
-The crates that the program stands on are copied to a folder of their own, without wrong edits, and the gate runs there: it proves
+The crates that the program stands on are copied to a folder of their own, without wrong bodies, and the gate runs there: it proves
 independent crates side by side, gives idle processors to those that others wait for, and keeps on this machine what it proved.
 So a later gate, or a later call, proves none of it again.
 

@@ -40,7 +40,7 @@ fn main_ports(ports: &[Ports]) -> &Ports
 /// A library has one fault at most.
 ///
 /// In every sound library the law of the cycle relation holds: for all values of inputs and latches there are values of all
-/// nets that fit them, and they are the only ones. The flat circuit's fields are those of the library's hierarchical names,
+/// names that fit them, and those of the names that a net drives are the only ones. The flat circuit's fields are those of the library's hierarchical names,
 /// and a sound library has one such circuit at most; evaluating its covers in its order gives these values, and
 /// so the outputs and the next states of each cycle, and of each run from the latches' inits. Its lists are short, and its
 /// nets and its order are in range (`specs/Bounds.antt`).

@@ -6,10 +6,10 @@
 //! and its actual and all names that are joined so; it is named by its *driver*, a main input, a latch or a cover. The
 //! *cycle relation* (`specs/Cycle.antt`) says which values of all names of all instances fit values of the inputs and the
 //! latches; nothing is flattened or evaluated in it. In a *sound* library (`specs/Sound.antt`) no cover's value depends on
-//! itself through covers, and such values exist and are the only ones. The refusal of a library is the first of five stages
-//! (`specs/Faults.antt`): the walk of its models, the weight, the drivers, the clocks, the loops of covers. A library has at
-//! most one, and one that comes past all stages is sound; clauses of `flatten` say all this. `specs` has what public clauses
-//! say, and `specs/Steps` what only bodies are compared with.
+//! itself through covers; such values exist, and those of the names that a net drives are the only ones. The refusal of a
+//! library is the first of five stages (`specs/Faults.antt`): the walk of its models, the weight, the drivers, the clocks, the
+//! loops of covers. A library has at most one, and one that comes past all stages is sound; clauses of `flatten` say all this.
+//! `specs` has what public clauses say, and `specs/Steps` what only bodies are compared with.
 //!
 //! `call.rt` has `flatten`, which is four steps, each with an exact contract. No walk recurses: each keeps its stack in memory.
 //!

@@ -17,7 +17,7 @@ pub(crate) struct Start {
     pub first: usize,
 }
 
-/// The nets of the names of all instances. Contracts see a table of them (`specs/Steps/NetSlots.antt`).
+/// The nets of the names of all instances. Contracts see a table of them (`specs/Steps/NetTable.antt`).
 #[derive(Drop)]
 pub(crate) struct Nets {
     /// The names of each model.

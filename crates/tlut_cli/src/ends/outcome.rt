@@ -19,7 +19,7 @@ pub enum File {
 pub enum Outcome {
     Done,
     Usage,
-    /// L1: the file has more than `MOST_BYTES` bytes.
+    /// L1: the file has more bytes than one of its kind may have, a text 2^26 and a pack 2^29.
     TooLong(File),
     /// The file, or the circuit that a netlist denotes, is refused for another reason.
     Refused(File, Refusal),

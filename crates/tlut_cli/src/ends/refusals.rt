@@ -4,7 +4,7 @@ ghost use Rattle.tlut_cli.specs.Refusals as own;
 
 use tl_fault::{Details, Refusal};
 
-/// The file has more than `MOST_BYTES` bytes.
+/// The file has more bytes than one of its kind may have, a text 2^26 and a pack 2^29.
 pub fn too_long() -> Refusal
     ensures { result ≡ own.too_long }
 {

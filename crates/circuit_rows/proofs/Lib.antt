@@ -1,2 +1,0 @@
-pub mod MultiplexerLemmas
-pub mod NameExample

@@ -1,0 +1,77 @@
+//! What a job has outside, and what it must leave.
+use std::alloc::Global;
+
+/// The calls of an object that fail.
+#[derive(Drop)]
+pub enum Calls {
+    /// Those of these numbers.
+    These(Vec<u64>),
+    /// One alone, from the first one on, until the job leaves what it must.
+    InTurn,
+}
+
+/// A file and its bytes.
+#[derive(Drop)]
+pub struct File {
+    pub name: String,
+    pub bytes: Vec<u8>,
+}
+
+/// A port that is handed in: for how many writes it has room, and which of its calls fail.
+#[derive(Drop)]
+pub struct HandedIn {
+    pub room: usize,
+    pub fails: Vec<u64>,
+}
+
+/// What a job must leave: both outputs, the status, the files that differ from before, and the lines of the ports. No line:
+/// the ports as they were handed in.
+#[derive(Drop)]
+pub struct Wanted {
+    pub out: Vec<u8>,
+    pub err: Vec<u8>,
+    pub status: u8,
+    pub files: Vec<File>,
+    pub ports: Vec<u8>,
+}
+
+/// A job: its words, further words of which the same must come, what it has outside beside the files, and what it must leave.
+#[derive(Drop)]
+pub struct Job {
+    pub words: Vec<Vec<String>>,
+    pub ports: Vec<HandedIn>,
+    pub shelf: Calls,
+    pub out: Calls,
+    pub err: Calls,
+    pub wanted: Wanted,
+}
+
+impl Job {
+    /// A job without words, of which no call fails and which must leave nothing.
+    pub fn new(alloc: Global) -> Job {
+        Job {
+            words: Vec::new(alloc),
+            ports: Vec::new(alloc),
+            shelf: Calls::These(Vec::new(alloc)),
+            out: Calls::These(Vec::new(alloc)),
+            err: Calls::These(Vec::new(alloc)),
+            wanted: Wanted {
+                out: Vec::new(alloc),
+                err: Vec::new(alloc),
+                status: 0,
+                files: Vec::new(alloc),
+                ports: Vec::new(alloc),
+            },
+        }
+    }
+}
+
+/// The file of a name.
+pub fn find<'a>(files: &'a [File], name: &str) -> Option<&'a File> {
+    for file in files {
+        if file.name.as_str() == name {
+            return Some(file);
+        }
+    }
+    None
+}

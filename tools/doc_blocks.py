@@ -1,0 +1,99 @@
+#!/usr/bin/env python3
+"""Runs the commands that README.md and docs/ show, and compares what they print and write with what is shown there.
+
+    python3 tools/doc_blocks.py
+
+A block ```sh with a line `./tlut ..` is run in a folder of its own, where `./tlut` and `examples` are those of the repository;
+its lines that begin with `rt` are left out. Each plain block of README.md, and each one of docs/ behind such a command, must stand
+line by line in what a command before it printed, in a file that one wrote, or in a file of examples/.
+The last line tells how many commands and blocks there were, and the status is 0 where all are as shown.
+"""
+
+import os
+import re
+import subprocess
+import sys
+import tempfile
+
+TOP = os.path.dirname(os.path.dirname(os.path.abspath(__file__)))
+BLOCK = re.compile(r"^```(\w*)\n(.*?)^```$", re.MULTILINE | re.DOTALL)
+
+
+def blocks_of(page):
+    """The blocks of a page: the number of the first line, the kind, and the lines."""
+    with open(f"{TOP}/{page}", encoding="utf-8") as file:
+        text = file.read()
+    for found in BLOCK.finditer(text):
+        yield text.count("\n", 0, found.start()) + 1, found[1], found[2].splitlines()
+
+
+def texts_in(folder):
+    """The lines of each file in a folder and below it that is text."""
+    for at, _, names in os.walk(folder):
+        for name in names:
+            try:
+                with open(f"{at}/{name}", encoding="utf-8") as file:
+                    yield file.read().splitlines()
+            except UnicodeDecodeError:
+                pass
+
+
+def stands_in(block, lines):
+    """Whether the lines of a block stand one behind another in these lines."""
+    return any(lines[i : i + len(block)] == block for i in range(len(lines) - len(block) + 1))
+
+
+class Page:
+    """A page while its blocks are looked at: the folder where its commands run, and what they printed."""
+
+    def __init__(self, name, folder):
+        self.name, self.folder, self.printed, self.failed = name, folder, [], 0
+        os.symlink(f"{TOP}/examples", f"{folder}/examples")
+        with open(f"{folder}/tlut", "w", encoding="utf-8") as file:
+            file.write(f'#!/bin/sh\nexec "{TOP}/tlut" "$@"\n')
+        os.chmod(f"{folder}/tlut", 0o755)
+
+    def say(self, line, what):
+        print(f"{self.name}:{line}: {what}")
+        self.failed += 1
+
+    def run(self, line, commands):
+        ran = subprocess.run(["bash", "-e"], input="\n".join(commands), cwd=self.folder, capture_output=True, text=True)
+        self.printed.append(ran.stdout.splitlines())
+        if ran.returncode:
+            self.say(line, f"the command ended with status {ran.returncode}: {ran.stderr[-300:]}")
+
+    def is_shown(self, block):
+        places = [*self.printed, *texts_in(self.folder), *texts_in(f"{TOP}/examples/")]
+        return any(stands_in(block, lines) for lines in places)
+
+
+def look_at(name, page):
+    """Runs the commands of a page and looks for its blocks. Returns how many commands and blocks there were."""
+    commands = blocks = 0
+    for line, kind, lines in blocks_of(name):
+        if kind == "sh" and any(it.startswith("./tlut") for it in lines):
+            commands += 1
+            page.run(line, [it for it in lines if not it.startswith("rt ")])
+        elif not kind and (name == "README.md" or page.printed):
+            blocks += 1
+            if not page.is_shown(lines):
+                page.say(line, "no command before it prints or writes these lines, and no example has them")
+    return commands, blocks
+
+
+def main():
+    pages = ["README.md", *sorted(f"docs/{name}" for name in os.listdir(f"{TOP}/docs") if name.endswith(".md"))]
+    commands = blocks = failed = 0
+    subprocess.run([f"{TOP}/tlut"], stdout=subprocess.DEVNULL, stderr=subprocess.DEVNULL)
+    for name in pages:
+        with tempfile.TemporaryDirectory(prefix="doc-blocks-") as folder:
+            page = Page(name, folder)
+            more = look_at(name, page)
+            commands, blocks, failed = commands + more[0], blocks + more[1], failed + page.failed
+    print(f"{commands} commands and {blocks} blocks of README and docs: {'all are as shown' if not failed else f'{failed} ARE NOT AS SHOWN'}")
+    return 1 if failed else 0
+
+
+if __name__ == "__main__":
+    sys.exit(main())
