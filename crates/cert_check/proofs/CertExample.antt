@@ -1,0 +1,227 @@
+-- A worked example: the product of an input and an exclusive or of two others, which needs two tables of two leaves on a way.
+--
+-- The sources are the inputs 1, 2 and 3. Nodes 4 and 5 are the products of the exclusive or of inputs 1 and 2, node 6 is its
+-- complement, and node 7 is the product of input 3 and the exclusive or.
+use Rattle.std.proofs.Common.{◌≡◌, ◌≢◌, ℕ, zero, suc, ◌+◌, ◌<◌, ◌≤◌, Bool, true, ◌||◌, not, eqb, leb, List, [], ◌∷◌, Some, refl, sym, ap, subst, inl, inr, arith}
+use Rattle.std.specs.Prelude.{slice_get}
+use Rattle.std.specs.List.{list_all, list_any}
+use Rattle.std.proofs.lemmas.Bool.{and_parts, or_cases, or_left, or_right, not-true, eqb-true, leb-true, eq-eqb, both_ways}
+use Rattle.std.proofs.lemmas.Option.{none-some, same_Some, slice_get_within}
+use Rattle.aig_core.specs.Aig.{Aig, IsAnd, IsSource}
+use Rattle.aig_core.specs.declared.lit.Kind.TheVariants.{Regular}
+use Rattle.aig_core.specs.declared.lit.Pair.{Pair}
+use Rattle.list_laws.specs.Members.{In}
+use Rattle.cert_check.specs.CertificateValue.{PathValue, StepValue, CertificateValue}
+use Rattle.cert_check.specs.Paths.{IsFanIn, first, second, IsPath}
+use Rattle.cert_check.specs.Valid.{claim_of, IsJustified, node, complemented, IsReached, IsValid}
+use Rattle.cert_check.specs.Faults.{MayStand, IsFault}
+use Rattle.cert_check.specs.LowerBound.{IsLowerBound}
+use Rattle.cert_check.specs.declared.cert_err.CertErr.TheVariants.{PathCount, Shared, NotReached}
+use Rattle.cert_check.proofs.LeastLemmas.{valid_bound}
+
+abbrev pair : ℕ → ℕ → Pair
+pair a b = record { x = record { 0 = a }; y = record { 0 = b } }
+
+abbrev pub circuit : Aig
+circuit = record { kinds = Regular ∷ Regular ∷ Regular ∷ []; pairs = pair 2 5 ∷ pair 3 4 ∷ pair 9 11 ∷ pair 6 13 ∷ []; max = 4 }
+
+abbrev path : ℕ → List ℕ → PathValue
+path line nodes = record { line = line; nodes = nodes }
+
+-- node 6 is no less deep than 1, and node 7 than 2: its three paths share node 6 alone
+abbrev lower : StepValue
+lower = record { line = 2; node = 6; claim = 1; paths = path 3 (1 ∷ 4 ∷ 6 ∷ []) ∷ [] }
+
+abbrev upper : StepValue
+upper = record { line = 4; node = 7; claim = 2; paths = path 5 (3 ∷ 7 ∷ []) ∷ path 6 (1 ∷ 4 ∷ 6 ∷ 7 ∷ []) ∷ path 7 (2 ∷ 5 ∷ 6 ∷ 7 ∷ []) ∷ [] }
+
+abbrev pub certificate : CertificateValue
+certificate = record { depth = 2; steps = lower ∷ upper ∷ [] }
+
+-- the edges
+one_four : IsFanIn circuit 1 4
+one_four = first (pair 2 5) (record { above = omega arith; is = refl }) refl
+
+two_five : IsFanIn circuit 2 5
+two_five = second (pair 3 4) (record { above = omega arith; is = refl }) refl
+
+four_six : IsFanIn circuit 4 6
+four_six = first (pair 9 11) (record { above = omega arith; is = refl }) refl
+
+five_six : IsFanIn circuit 5 6
+five_six = second (pair 9 11) (record { above = omega arith; is = refl }) refl
+
+three_seven : IsFanIn circuit 3 7
+three_seven = first (pair 6 13) (record { above = omega arith; is = refl }) refl
+
+six_seven : IsFanIn circuit 6 7
+six_seven = second (pair 6 13) (record { above = omega arith; is = refl }) refl
+
+input_one : IsSource circuit Regular 1
+input_one = record { above = omega arith; is = refl }
+
+input_two : IsSource circuit Regular 2
+input_two = record { above = omega arith; is = refl }
+
+input_three : IsSource circuit Regular 3
+input_three = record { above = omega arith; is = refl }
+
+path_three : IsPath circuit 7 (3 ∷ 7 ∷ [])
+path_three = (input_three, (three_seven, refl))
+
+path_one : IsPath circuit 7 (1 ∷ 4 ∷ 6 ∷ 7 ∷ [])
+path_one = (input_one, (one_four, (four_six, (six_seven, refl))))
+
+path_two : IsPath circuit 7 (2 ∷ 5 ∷ 6 ∷ 7 ∷ [])
+path_two = (input_two, (two_five, (five_six, (six_seven, refl))))
+
+-- a path that leaves out a node is none
+jump : IsFanIn circuit 1 6 → ⊥
+jump (first p is e) = let q : pair 9 11 ≡ p = same_Some (pair 9 11) p is.is in let x : p.x.0 ≡ 9 = ap (λ (r : Pair). r.x.0) (sym q) in omega arith
+jump (second p is e) = let q : pair 9 11 ≡ p = same_Some (pair 9 11) p is.is in let y : p.y.0 ≡ 11 = ap (λ (r : Pair). r.y.0) (sym q) in omega arith
+
+no_path : IsPath circuit 6 (1 ∷ 6 ∷ []) → ⊥
+no_path p = jump p.1.0
+
+-- which nodes two lists share, by a test
+abbrev has : List ℕ → ℕ → Bool
+has ms m = list_any (λ x. eqb x m) ms
+
+has_member : (ms : List ℕ) (m : ℕ) → In ms m → has ms m ≡ true
+has_member [] m i = absurd i
+has_member (x ∷ xs) m (inl e) = or_left (eqb x m) (list_any (λ y. eqb y m) xs) (eq-eqb x m (sym e))
+has_member (x ∷ xs) m (inr i) = or_right (eqb x m) (list_any (λ y. eqb y m) xs) (has_member xs m i)
+
+abbrev may_share : (ℕ → ℕ) → StepValue → List ℕ → ℕ → Bool
+may_share claim s ms m = not (has ms m) || (eqb m s.node || leb s.claim (claim m + 1))
+
+one_shares : (claim : ℕ → ℕ) (s : StepValue) (ms : List ℕ) (m : ℕ) → may_share claim s ms m ≡ true → In ms m → m ≢ s.node → s.claim ≤ claim m + 1
+one_shares claim s ms m t i other = elim (or_cases (not (has ms m)) (eqb m s.node || leb s.claim (claim m + 1)) t) [
+  | inl a ↦ absurd (both_ways (has ms m) (not-true (has ms m) a) (has_member ms m i))
+  | inr b ↦ elim (or_cases (eqb m s.node) (leb s.claim (claim m + 1)) b) [ inl e ↦ absurd (other (eqb-true m s.node e)) | inr l ↦ leb-true s.claim (claim m + 1) l ]
+]
+
+all_share : (claim : ℕ → ℕ) (s : StepValue) (ns ms : List ℕ) → list_all (may_share claim s ms) ns ≡ true → (m : ℕ) → In ns m → In ms m → m ≢ s.node → s.claim ≤ claim m + 1
+all_share claim s [] ms t m i j other = absurd i
+all_share claim s (n ∷ ns) ms t m (inl e) j other = one_shares claim s ms m (subst (λ x. may_share claim s ms x ≡ true) (sym e) (and_parts (may_share claim s ms n) (list_all (may_share claim s ms) ns) t).0) j other
+all_share claim s (n ∷ ns) ms t m (inr i) j other = all_share claim s ns ms (and_parts (may_share claim s ms n) (list_all (may_share claim s ms) ns) t).1 m i j other
+
+-- the three paths by their places
+three : (P : ℕ → PathValue → Type 0) (a b c : PathValue) → P 0 a → P 1 b → P 2 c → (i : ℕ) (p : PathValue) → slice_get (a ∷ b ∷ c ∷ []) i ≡ Some p → P i p
+three P a b c x y z zero p e = subst (P 0) (same_Some a p e) x
+three P a b c x y z (suc zero) p e = subst (P 1) (same_Some b p e) y
+three P a b c x y z (suc (suc zero)) p e = subst (P 2) (same_Some c p e) z
+three P a b c x y z (suc (suc (suc i))) p e = absurd (none-some p e)
+
+abbrev Shares : (ℕ → ℕ) → ℕ → PathValue → ℕ → PathValue → Type 0
+Shares claim j q i p = i < j → (m : ℕ) → In p.nodes m → In q.nodes m → m ≢ 7 → 2 ≤ claim m + 1
+
+apart : (i j m : ℕ) (p q : PathValue) → i < j → slice_get upper.paths i ≡ Some p → slice_get upper.paths j ≡ Some q → In p.nodes m → In q.nodes m → m ≢ 7 → 2 ≤ claim_of certificate.steps m + 1
+apart i j m p q l e f =
+    let claim : ℕ → ℕ = claim_of certificate.steps in
+    three (λ k r. (h : ℕ) (s : PathValue) → slice_get upper.paths h ≡ Some s → Shares claim k r h s) (path 5 (3 ∷ 7 ∷ [])) (path 6 (1 ∷ 4 ∷ 6 ∷ 7 ∷ [])) (path 7 (2 ∷ 5 ∷ 6 ∷ 7 ∷ []))
+    (λ h s g below. absurd (omega arith))
+    (three (Shares claim 1 (path 6 (1 ∷ 4 ∷ 6 ∷ 7 ∷ []))) (path 5 (3 ∷ 7 ∷ [])) (path 6 (1 ∷ 4 ∷ 6 ∷ 7 ∷ [])) (path 7 (2 ∷ 5 ∷ 6 ∷ 7 ∷ []))
+    (λ below. all_share claim upper (3 ∷ 7 ∷ []) (1 ∷ 4 ∷ 6 ∷ 7 ∷ []) refl) (λ below. absurd (omega arith)) (λ below. absurd (omega arith)))
+    (three (Shares claim 2 (path 7 (2 ∷ 5 ∷ 6 ∷ 7 ∷ []))) (path 5 (3 ∷ 7 ∷ [])) (path 6 (1 ∷ 4 ∷ 6 ∷ 7 ∷ [])) (path 7 (2 ∷ 5 ∷ 6 ∷ 7 ∷ []))
+    (λ below. all_share claim upper (3 ∷ 7 ∷ []) (2 ∷ 5 ∷ 6 ∷ 7 ∷ []) refl) (λ below. all_share claim upper (1 ∷ 4 ∷ 6 ∷ 7 ∷ []) (2 ∷ 5 ∷ 6 ∷ 7 ∷ []) refl) (λ below. absurd (omega arith)))
+    j q f i p e l m
+
+upper_shown : IsJustified circuit 2 (claim_of certificate.steps) upper
+upper_shown = record {
+  count = refl;
+  paths = λ p i. elim i [
+    | inl e ↦ subst (λ (r : PathValue). IsPath circuit 7 r.nodes) (sym e) path_three
+    | inr j ↦ elim j [
+      | inl e ↦ subst (λ (r : PathValue). IsPath circuit 7 r.nodes) (sym e) path_one
+      | inr k ↦ elim k [ inl e ↦ subst (λ (r : PathValue). IsPath circuit 7 r.nodes) (sym e) path_two | inr x ↦ absurd x ]
+    ]
+  ];
+  apart = apart;
+}
+
+lower_shown : IsJustified circuit 2 (claim_of certificate.steps) lower
+lower_shown = record {
+  count = refl;
+  paths = λ p i. elim i [ inl e ↦ subst (λ (r : PathValue). IsPath circuit 6 r.nodes) (sym e) (input_one, (one_four, (four_six, refl))) | inr x ↦ absurd x ];
+  apart = λ i j m p q l e f a b other. absurd (let one : j < 1 = slice_get_within lower.paths j q f in omega arith);
+}
+
+-- The certificate is valid for the root 14, the literal of node 7, so no cover by tables of two leaves has a depth below 2.
+pub valid : IsValid circuit (14 ∷ []) 2 certificate
+valid = record {
+  ascending = (λ n i. elim i [ inl e ↦ (let q : n ≡ 7 = e in omega arith) | inr x ↦ absurd x ], (λ n i. absurd i, tt));
+  nodes = λ s i. elim i [
+    | inl e ↦ subst (λ (t : StepValue). IsAnd circuit t.node) (sym e) (omega arith, omega arith)
+    | inr j ↦ elim j [ inl e ↦ subst (λ (t : StepValue). IsAnd circuit t.node) (sym e) (omega arith, omega arith) | inr x ↦ absurd x ]
+  ];
+  justified = λ s i. elim i [
+    | inl e ↦ subst (IsJustified circuit 2 (claim_of certificate.steps)) (sym e) lower_shown
+    | inr j ↦ elim j [ inl e ↦ subst (IsJustified circuit 2 (claim_of certificate.steps)) (sym e) upper_shown | inr x ↦ absurd x ]
+  ];
+  reached = inr (inl (node (omega arith, omega arith) (omega arith)));
+}
+
+pub bound : IsLowerBound circuit 2 (14 ∷ []) 2
+bound = valid_bound circuit (14 ∷ []) 2 certificate valid
+
+-- a node may stand behind paths, by a test
+may_by : (claim : ℕ → ℕ) (s : StepValue) (earlier : List PathValue) (m : ℕ) → list_all (λ (p : PathValue). may_share claim s p.nodes m) earlier ≡ true → MayStand claim s earlier m
+may_by claim s [] m t p i j other = absurd i
+may_by claim s (q ∷ qs) m t p (inl e) j other = one_shares claim s q.nodes m (and_parts (may_share claim s q.nodes m) (list_all (λ (r : PathValue). may_share claim s r.nodes m) qs) t).0 (subst (λ (r : PathValue). In r.nodes m) e j) other
+may_by claim s (q ∷ qs) m t p (inr i) j other = may_by claim s qs m (and_parts (may_share claim s q.nodes m) (list_all (λ (r : PathValue). may_share claim s r.nodes m) qs) t).1 p i j other
+
+-- Without the claim of node 6 the third path, in line 7, may not share it with the second one.
+abbrev unclaimed : CertificateValue
+unclaimed = record { depth = 2; steps = upper ∷ [] }
+
+shared_node : MayStand (claim_of []) upper (path 5 (3 ∷ 7 ∷ []) ∷ path 6 (1 ∷ 4 ∷ 6 ∷ 7 ∷ []) ∷ []) 6 → ⊥
+shared_node may = let l : 2 ≤ 0 + 1 = may (path 6 (1 ∷ 4 ∷ 6 ∷ 7 ∷ [])) (inr (inl refl)) (inr (inr (inl refl))) (λ e. let q : 6 ≡ 7 = e in omega arith) in omega arith
+
+pub shared : IsFault circuit (14 ∷ []) 2 unclaimed (Shared 7 6)
+shared =
+    let may : (earlier : List PathValue) (m : ℕ) → list_all (λ (p : PathValue). may_share (claim_of []) upper p.nodes m) earlier ≡ true → MayStand (claim_of []) upper earlier m = may_by (claim_of []) upper in
+    let one : List PathValue = path 5 (3 ∷ 7 ∷ []) ∷ [] in
+    let two : List PathValue = path 5 (3 ∷ 7 ∷ []) ∷ path 6 (1 ∷ 4 ∷ 6 ∷ 7 ∷ []) ∷ [] in
+    inr (
+      record { and = (omega arith, omega arith); above = λ t i. absurd i },
+      inr (
+        refl,
+        inr (
+          path_three,
+          inr (
+            may [] 3 refl,
+            inr (
+              may [] 7 refl,
+              inr (
+                path_one,
+                inr (
+                  may one 1 refl,
+                  inr (
+                    may one 4 refl,
+                    inr (may one 6 refl, inr (may one 7 refl, inr (path_two, inr (may two 2 refl, inr (may two 5 refl, inl (shared_node, refl)))))),
+                  ),
+                ),
+              ),
+            ),
+          ),
+        ),
+      ),
+    )
+
+-- two paths are too few for a claim of 2
+pub too_few : IsFault circuit (14 ∷ []) 2 (record { depth = 2; steps = record { line = 4; node = 7; claim = 2; paths = path 5 (3 ∷ 7 ∷ []) ∷ path 6 (1 ∷ 4 ∷ 6 ∷ 7 ∷ []) ∷ [] } ∷ [] }) (PathCount 4)
+too_few = inr (record { and = (omega arith, omega arith); above = λ t i. absurd i }, inl ((λ e. let q : 2 ≡ 3 = e in omega arith), refl))
+
+-- no root needs a depth that isn't claimed, and a root that is the complement of an input needs the depth 1
+not_needed : IsReached circuit (14 ∷ []) (claim_of []) 3 → ⊥
+not_needed (inl e) = cc
+not_needed (inr (inl (node and l))) = let q : 3 ≤ 0 = l in omega arith
+not_needed (inr (inl (complemented e s odd))) = cc
+not_needed (inr (inr x)) = x
+
+pub not_reached : IsFault circuit (14 ∷ []) 2 (record { depth = 3; steps = [] }) NotReached
+not_reached = inl (not_needed, refl)
+
+pub complement_needs : IsReached circuit (3 ∷ []) (claim_of []) 1
+complement_needs = inr (inl (complemented refl input_one refl))

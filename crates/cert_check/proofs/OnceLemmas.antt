@@ -1,0 +1,121 @@
+-- A text is that of one certificate at most, or has one refusal at most, and never both.
+use Rattle.std.proofs.Common.{◌≡◌, ℕ, suc, List, [], ◌∷◌, ◌++◌, map, Some, None, Err, refl, sym, ap, ◌∙◌, subst, arith}
+use Rattle.std.proofs.lemmas.Bool.{cond-true, le-leb}
+use Rattle.std.proofs.lemmas.Option.{none-some, same_Some}
+use Rattle.tl_fault.specs.OrMemory.{OrMemory}
+use Rattle.tl_text.specs.LineValue.{WordsLine, words_line}
+use Rattle.tl_text.specs.Lines.{lines_of}
+use Rattle.tl_text.specs.Refusals.{refusal_of as text_refusal}
+use Rattle.tl_text.specs.declared.text_err.TextErr.{TextErr}
+use Rattle.tl_text.specs.declared.text_err.TextErr.TheVariants as text_err
+use Rattle.cert_check.specs.CertificateValue.{PathValue, StepValue, CertificateValue}
+use Rattle.cert_check.specs.CertText.{Saying, says_depth, says_claim, says_path, said_of, SaidLine, path_said, steps_said, AreSaid, AreLinesOf, IsCertText, fits_at, first_misfit, malformed_line, IsCertTextFault, bad_byte, trailing_slash, malformed, HasOneReading}
+use Rattle.cert_check.specs.Reading.{cert_err}
+use Rattle.cert_check.specs.Refusals.{refusal_of}
+use Rattle.cert_check.specs.declared.cert_err.CertErr.{CertErr}
+
+-- lines say one thing
+said_same : (x y : SaidLine) → x.number ≡ y.number → x.saying ≡ y.saying → x ≡ y
+said_same x y a b = ap (λ n. record { number = n; saying = x.saying }) a ∙ ap (λ s. record { number = y.number; saying = s }) b
+
+said_once : (lines : List WordsLine) (xs ys : List SaidLine) → AreSaid lines xs → AreSaid lines ys → xs ≡ ys
+said_once [] [] [] a b = refl
+said_once [] [] (y ∷ ys) a b = absurd b
+said_once [] (x ∷ xs) ys a b = absurd a
+said_once (l ∷ ls) [] ys a b = absurd a
+said_once (l ∷ ls) (x ∷ xs) [] a b = absurd b
+said_once (l ∷ ls) (x ∷ xs) (y ∷ ys) a b =
+    ap (λ z. z ∷ xs) (said_same x y (sym a.0 ∙ b.0) (same_Some x.saying y.saying (sym a.1 ∙ b.1))) ∙ ap (λ zs. y ∷ zs) (said_once ls xs ys a.2 b.2)
+
+-- the steps that lines say, and the paths before the first of them
+record Unsaid : Type 0 where
+  paths : List PathValue
+  steps : List StepValue
+
+unsay_one : ℕ → Saying → Unsaid → Unsaid
+unsay_one n (says_depth d) u = u
+unsay_one n (says_claim node claim) u = record { paths = []; steps = record { line = n; node = node; claim = claim; paths = u.paths } ∷ u.steps }
+unsay_one n (says_path nodes) u = record { paths = record { line = n; nodes = nodes } ∷ u.paths; steps = u.steps }
+
+unsay : List SaidLine → Unsaid
+unsay [] = record { paths = []; steps = [] }
+unsay (x ∷ xs) = unsay_one x.number x.saying (unsay xs)
+
+unsay_paths : (ps : List PathValue) (rest : List SaidLine) (ss : List StepValue) → unsay rest ≡ record { paths = []; steps = ss } → unsay (map path_said ps ++ rest) ≡ record { paths = ps; steps = ss }
+unfolding unsay unsay_one
+unsay_paths [] rest ss e = e
+unsay_paths (p ∷ ps) rest ss e = ap (λ u. unsay_one p.line (says_path p.nodes) u) (unsay_paths ps rest ss e)
+
+unsay_steps : (ss : List StepValue) → unsay (steps_said ss) ≡ record { paths = []; steps = ss }
+unfolding unsay unsay_one
+unsay_steps [] = refl
+unsay_steps (s ∷ ss) = ap (λ u. unsay_one s.line (says_claim s.node s.claim) u) (unsay_paths s.paths (steps_said ss) ss (unsay_steps ss))
+
+steps_once : (ss ts : List StepValue) → steps_said ss ≡ steps_said ts → ss ≡ ts
+steps_once ss ts e = ap (λ (u : Unsaid). u.steps) (sym (unsay_steps ss) ∙ ap unsay e ∙ unsay_steps ts)
+
+depth_same : (d e : ℕ) → Some (says_depth d) ≡ Some (says_depth e) → d ≡ e
+depth_same d e h = let same : says_depth d ≡ says_depth e = same_Some (says_depth d) (says_depth e) h in cc
+
+lines_once : (lines : List WordsLine) (c d : CertificateValue) → AreLinesOf lines c → AreLinesOf lines d → c ≡ d
+lines_once [] c d a b = absurd a
+lines_once (l ∷ ls) c d a b =
+    let depth : c.depth ≡ d.depth = depth_same c.depth d.depth (sym a.0 ∙ b.0) in
+    let steps : c.steps ≡ d.steps = steps_once c.steps d.steps (said_once ls (steps_said c.steps) (steps_said d.steps) a.1 b.1) in
+    ap (λ x. record { depth = x; steps = c.steps }) depth ∙ ap (λ x. record { depth = d.depth; steps = x }) steps
+
+-- the lines of a certificate fit
+paths_fit : (lines : List WordsLine) (place : ℕ) (ps : List PathValue) (rest : List SaidLine) → AreSaid lines (map path_said ps ++ rest)
+    → ((more : List WordsLine) (n : ℕ) → AreSaid more rest → first_misfit (suc n) more ≡ None) → first_misfit (suc (suc place)) lines ≡ None
+paths_fit lines place [] rest are later = later lines (suc place) are
+paths_fit [] place (p ∷ ps) rest are later = absurd are
+paths_fit (l ∷ ls) place (p ∷ ps) rest are later =
+    cond-true (fits_at (suc (suc place)) (said_of l.words)) (first_misfit (suc (suc (suc place))) ls) (Some l.number) (ap (fits_at (suc (suc place))) are.1 ∙ le-leb 2 (suc (suc place)) (omega arith))
+    ∙ paths_fit ls (suc place) ps rest are.2 later
+
+steps_fit : (lines : List WordsLine) (place : ℕ) (ss : List StepValue) → AreSaid lines (steps_said ss) → first_misfit (suc place) lines ≡ None
+steps_fit [] place [] are = refl
+steps_fit (l ∷ ls) place [] are = absurd are
+steps_fit [] place (s ∷ ss) are = absurd are
+steps_fit (l ∷ ls) place (s ∷ ss) are =
+    cond-true (fits_at (suc place) (said_of l.words)) (first_misfit (suc (suc place)) ls) (Some l.number) (ap (fits_at (suc place)) are.1 ∙ le-leb 1 (suc place) (omega arith))
+    ∙ paths_fit ls place s.paths (steps_said ss) are.2 (λ more n a. steps_fit more n ss a)
+
+lines_fit : (lines : List WordsLine) (c : CertificateValue) → AreLinesOf lines c → malformed_line lines ≡ None
+lines_fit [] c are = absurd are
+lines_fit (l ∷ ls) c are = cond-true (fits_at 0 (said_of l.words)) (first_misfit 1 ls) (Some l.number) (ap (fits_at 0) are.0) ∙ steps_fit ls 0 c.steps are.1
+
+module _ (text : List ℕ) where
+  one_certificate : (c d : CertificateValue) → IsCertText text c → IsCertText text d → c ≡ d
+  one_certificate c d a b =
+      let same : b.lines ≡ a.lines = cc (a.lines_are, b.lines_are) in
+      lines_once (map (words_line text) a.lines) c d a.are (subst (λ l. AreLinesOf (map (words_line text) l) d) same b.are)
+
+  one_fault : (e f : CertErr) → IsCertTextFault text e → IsCertTextFault text f → e ≡ f
+  one_fault e f (bad_byte l a b) (bad_byte m c d) = cc (a, b, c, d)
+  one_fault e f (bad_byte l a b) (trailing_slash m c d) = cc (a, c)
+  one_fault e f (bad_byte l a b) (malformed m ms c first d) = cc (a, c)
+  one_fault e f (trailing_slash l a b) (bad_byte m c d) = cc (a, c)
+  one_fault e f (trailing_slash l a b) (trailing_slash m c d) = cc (a, b, c, d)
+  one_fault e f (trailing_slash l a b) (malformed m ms c first d) = cc (a, c)
+  one_fault e f (malformed l ls a first b) (bad_byte m c d) = cc (a, c)
+  one_fault e f (malformed l ls a first b) (trailing_slash m c d) = cc (a, c)
+  one_fault e f (malformed l ls a first b) (malformed m ms c second d) =
+      let same : ms ≡ ls = cc (a, c) in
+      let line : l ≡ m = same_Some l m (sym first ∙ ap (λ x. malformed_line (map (words_line text) x)) (sym same) ∙ second) in cc (b, d, line)
+
+  not_both : (c : CertificateValue) (e : CertErr) → IsCertText text c → IsCertTextFault text e → ⊥
+  not_both c e t (bad_byte l a b) = cc (t.lines_are, a)
+  not_both c e t (trailing_slash l a b) = cc (t.lines_are, a)
+  not_both c e t (malformed l ls a first b) =
+      let same : ls ≡ t.lines = cc (t.lines_are, a) in
+      none-some l (sym (lines_fit (map (words_line text) t.lines) c t.are) ∙ ap (λ x. malformed_line (map (words_line text) x)) (sym same) ∙ first)
+
+  pub one_reading : HasOneReading text
+  one_reading = record { one_certificate = one_certificate; one_fault = one_fault; not_both = not_both }
+
+-- a refusal of the text's lines
+pub text_fault : (text : List ℕ) (error : TextErr) (e : CertErr) → e ≡ cert_err error → OrMemory text_refusal (λ x. lines_of text ≡ Err x) error → OrMemory refusal_of (IsCertTextFault text) e
+text_fault text (text_err.BadByte line) e is told = subst (OrMemory refusal_of (IsCertTextFault text)) (sym is) (bad_byte line told refl)
+text_fault text (text_err.TrailingSlash line) e is told = subst (OrMemory refusal_of (IsCertTextFault text)) (sym is) (trailing_slash line told refl)
+text_fault text text_err.Memory e is told = subst (OrMemory refusal_of (IsCertTextFault text)) (sym is) tt

@@ -1,0 +1,83 @@
+-- The nodes of a path are no higher than its end, and a set that blocks this has one of them.
+use Rattle.std.proofs.Common.{◌≡◌, ℕ, ◌+◌, ◌-◌, ◌/◌, ◌<◌, ◌≤◌, List, [], ◌∷◌, length, refl, sym, ap, ◌∙◌, subst, inl, inr, ◌⊎◌, arith}
+use Rattle.std.proofs.lemmas.Option.{slice_get_within, same_Some}
+use Rattle.aig_core.specs.Aig.{Aig, first_and, IsNode, IsNormal, AreNormal, IsSource}
+use Rattle.aig_core.specs.declared.lit.Kind.{Kind}
+use Rattle.aig_core.specs.declared.lit.Kind.TheVariants.{Regular, Parameter}
+use Rattle.aig_core.specs.declared.lit.Pair.{Pair}
+use Rattle.list_laws.specs.Members.{In}
+use Rattle.cut_enum.specs.Cuts.{Blocks, member, constant, parameter, fan_ins}
+use Rattle.cert_check.specs.Paths.{IsFanIn, first, second, Climbs, IsPath}
+
+-- no source is an AND node
+pub source_below : (g : Aig) (kind : Kind) (n : ℕ) → IsSource g kind n → n < first_and g
+source_below g kind n s = let k : n - 1 < length g.kinds = slice_get_within g.kinds (n - 1) kind s.is in let a : 1 ≤ n = s.above in omega arith
+
+-- a node has one pair
+pub same_pair : (g : Aig) (p q : Pair) (n : ℕ) → IsNode g p n → IsNode g q n → p ≡ q
+same_pair g p q n a b = same_Some p q (sym a.is ∙ b.is)
+
+other_kind : Regular ≡ Parameter → ⊥
+other_kind h = cc
+
+-- a set blocks a regular source only as a member
+pub regular_blocked : (g : Aig) (c : List ℕ) {n : ℕ} → IsSource g Regular n → Blocks g c n → In c n
+regular_blocked g c s (member i) = i
+regular_blocked g c {n} s (constant e) = absurd (let a : 1 ≤ n = s.above in omega arith)
+regular_blocked g c {n} s (parameter t) = absurd (other_kind (same_Some Regular Parameter (sym s.is ∙ t.is)))
+regular_blocked g c {n} s (fan_ins p is x y) = absurd (let a : n < first_and g = source_below g Regular n s in let b : first_and g ≤ n = is.above in omega arith)
+
+-- a node with a fan-in has a pair
+fan_in_above : (g : Aig) (m n : ℕ) → IsFanIn g m n → first_and g ≤ n
+fan_in_above g m n (first p is e) = is.above
+fan_in_above g m n (second p is e) = is.above
+
+-- a fan-in of a blocked node is blocked
+fan_in_blocked : (g : Aig) (c : List ℕ) (m n : ℕ) (p : Pair) → IsNode g p n → Blocks g c (p.x.0 / 2) → Blocks g c (p.y.0 / 2) → IsFanIn g m n → Blocks g c m
+fan_in_blocked g c m n p is x y (first q at e) = subst (λ l. Blocks g c l) (sym (e ∙ ap (λ (r : Pair). r.x.0 / 2) (same_pair g q p n at is))) x
+fan_in_blocked g c m n p is x y (second q at e) = subst (λ l. Blocks g c l) (sym (e ∙ ap (λ (r : Pair). r.y.0 / 2) (same_pair g q p n at is))) y
+
+-- what blocks a node has the node, or blocks its fan-ins
+pub blocked_below : (g : Aig) (c : List ℕ) {m n : ℕ} → IsFanIn g m n → Blocks g c n → In c n ⊎ Blocks g c m
+blocked_below g c f (member i) = inl i
+blocked_below g c {m} {n} f (constant e) = absurd (let a : first_and g ≤ n = fan_in_above g m n f in omega arith)
+blocked_below g c {m} {n} f (parameter s) = absurd (let a : first_and g ≤ n = fan_in_above g m n f in let b : n < first_and g = source_below g Parameter n s in omega arith)
+blocked_below g c {m} {n} f (fan_ins p is x y) = inr (fan_in_blocked g c m n p is x y f)
+
+-- the list has one of the set
+pub record Meets (c xs : List ℕ) : Type 0 where
+  pub at : ℕ
+  pub in_set : In c at
+  pub in_list : In xs at
+
+-- on the way up from a node that is blocked only where the list so far has one of the set
+climb_meets : (g : Aig) (c all : List ℕ) (m : ℕ) (ms : List ℕ) (n : ℕ) → (Blocks g c m → Meets c all) → ((x : ℕ) → In ms x → In all x) → Climbs g m ms n → Blocks g c n → Meets c all
+climb_meets g c all m [] n from part e b = from (subst (λ l. Blocks g c l) (sym e) b)
+climb_meets g c all m (x ∷ xs) n from part climbs b =
+    climb_meets g c all x xs n
+    (λ bx. elim (blocked_below g c climbs.0 bx) [ inl i ↦ record { at = x; in_set = i; in_list = part x (inl refl) } | inr bm ↦ from bm ])
+    (λ y i. part y (inr i)) climbs.1 b
+
+-- A set that blocks a node has a node of each path to it.
+pub path_meets : (g : Aig) (c : List ℕ) (n : ℕ) (p : List ℕ) → IsPath g n p → Blocks g c n → Meets c p
+path_meets g c n [] path b = absurd path
+path_meets g c n (m ∷ ms) path b =
+    climb_meets g c (m ∷ ms) m ms n (λ bm. record { at = m; in_set = regular_blocked g c path.0 bm; in_list = inl refl }) (λ x i. inr i) path.1 b
+
+-- a fan-in node is lower, so no node of a path is higher than its end
+fan_in_below : (g : Aig) (m n : ℕ) → AreNormal (first_and g) g.pairs → IsFanIn g m n → m < n
+fan_in_below g m n normal (first p is e) = let k : IsNormal n p = node_normal g p n normal is in let a : p.y.0 / 2 < n = k.below in let b : p.x.0 / 2 < p.y.0 / 2 = k.ordered in omega arith
+  where
+    node_normal : (g : Aig) (p : Pair) (n : ℕ) → AreNormal (first_and g) g.pairs → IsNode g p n → IsNormal n p
+    node_normal g p n normal is = let a : first_and g ≤ n = is.above in subst (λ i. IsNormal i p) (let e : first_and g + (n - first_and g) ≡ n = omega arith in e) (normal.each (n - first_and g) p is.is)
+fan_in_below g m n normal (second p is e) = let a : first_and g ≤ n = is.above in let k : IsNormal n p = subst (λ i. IsNormal i p) (let q : first_and g + (n - first_and g) ≡ n = omega arith in q) (normal.each (n - first_and g) p is.is) in let b : p.y.0 / 2 < n = k.below in omega arith
+
+climbs_below : (g : Aig) (m : ℕ) (ms : List ℕ) (n x : ℕ) → AreNormal (first_and g) g.pairs → Climbs g m ms n → In (m ∷ ms) x → (x ≤ n) × (m ≤ n)
+climbs_below g m [] n x normal c (inl e) = let q : m ≡ n = c in (omega arith, omega arith)
+climbs_below g m [] n x normal c (inr b) = absurd b
+climbs_below g m (y ∷ ys) n x normal c (inl e) = let r : y ≤ n = (climbs_below g y ys n y normal c.1 (inl refl)).0 in let l : m < y = fan_in_below g m y normal c.0 in (omega arith, omega arith)
+climbs_below g m (y ∷ ys) n x normal c (inr i) = let r = climbs_below g y ys n x normal c.1 i in let s : y ≤ n = r.1 in let l : m < y = fan_in_below g m y normal c.0 in (r.0, omega arith)
+
+pub path_below : (g : Aig) (n : ℕ) (p : List ℕ) (x : ℕ) → AreNormal (first_and g) g.pairs → IsPath g n p → In p x → x ≤ n
+path_below g n [] x normal path i = absurd path
+path_below g n (m ∷ ms) x normal path i = (climbs_below g m ms n x normal path.1 i).0

@@ -1,0 +1,59 @@
+-- The parts of a certificate's text.
+use Rattle.std.proofs.Common.{◌≡◌, ℕ, ◌+◌, ◌<◌, List, [], ◌∷◌, ◌++◌, length, get_or, take, map, codes, decimal, Option, refl, sym, ap, ◌∙◌, subst, append_assoc, append-nil}
+use Rattle.std.specs.List.{flat_map}
+use Rattle.std.proofs.lemmas.List.{map-append}
+use Rattle.std.proofs.lemmas.List.Concat.{flat_map-append}
+use Rattle.tl_piece.specs.Pieces.{Adds, Stops}
+use Rattle.tl_piece.proofs.PieceLemmas.{adds_part, stops_part}
+use Rattle.cert_check.specs.CertificateValue.{PathValue, StepValue, CertificateValue}
+use Rattle.cert_check.specs.CertText.{says_depth, says_path, SaidLine, path_said, step_said, steps_said}
+use Rattle.cert_check.specs.WrittenText.{saying_words, words_text, line_text, cert_text}
+use Rattle.cert_check.specs.Writing.{number_text, path_text, claim_text, step_text}
+
+-- a loop over parts adds the next one, or stops there
+pub adds_item : {X : Type 0} {old mid new : Option (List ℕ)} {waiting between left : List ℕ} (f : X → List ℕ) (xs : List X) (i : ℕ) (x : X) → i < length xs → x ≡ get_or xs i x
+    → Adds old waiting (flat_map f (take i xs)) mid between → Adds mid between (f x) new left → Adds old waiting (flat_map f (take (i + 1) xs)) new left
+adds_item {mid = mid} {new = new} {between = between} {left = left} f xs i x within is a b = adds_part f xs i x within a (subst (λ y. Adds mid between (f y) new left) is b)
+
+pub stops_item : {X : Type 0} {old mid new : Option (List ℕ)} {waiting between : List ℕ} (f : X → List ℕ) (xs : List X) (i : ℕ) (x : X) → i < length xs → x ≡ get_or xs i x
+    → Adds old waiting (flat_map f (take i xs)) mid between → Stops mid between (f x) new → Stops old waiting (flat_map f xs) new
+stops_item {mid = mid} {new = new} {between = between} f xs i x within is a s = stops_part f xs i x within a (subst (λ y. Stops mid between (f y) new) is s)
+
+-- the words of numbers
+numbers_text : (ns : List ℕ) → flat_map number_text ns ≡ words_text (map decimal ns)
+numbers_text [] = refl
+numbers_text (n ∷ ns) = ap (λ t. number_text n ++ t) (numbers_text ns)
+
+-- lines
+pub depth_line : (d : ℕ) → codes "depth" ++ (number_text d ++ 10 ∷ []) ≡ line_text (saying_words (says_depth d))
+depth_line d = ap (λ t. codes "depth" ++ (t ++ 10 ∷ [])) (sym (append-nil (number_text d)))
+
+pub claim_line : (s : StepValue) (n h : ℕ) → n ≡ s.node → h ≡ s.claim → codes "claim" ++ (number_text n ++ (number_text h ++ 10 ∷ [])) ≡ claim_text s
+claim_line s n h node claim =
+    ap (λ x. codes "claim" ++ (number_text x ++ (number_text h ++ 10 ∷ []))) node ∙ ap (λ x. codes "claim" ++ (number_text s.node ++ (number_text x ++ 10 ∷ []))) claim
+    ∙ ap (λ t. codes "claim" ++ t) (sym (append_assoc (number_text s.node) (number_text s.claim) (10 ∷ [])))
+    ∙ ap (λ t. codes "claim" ++ ((number_text s.node ++ t) ++ 10 ∷ [])) (sym (append-nil (number_text s.claim)))
+
+pub path_line : (p : PathValue) (ns : List ℕ) → ns ≡ p.nodes → codes "path" ++ (flat_map number_text ns ++ 10 ∷ []) ≡ path_text p
+path_line p ns same = ap (λ t. codes "path" ++ (t ++ 10 ∷ [])) (numbers_text ns) ∙ ap (λ l. line_text (saying_words (says_path l))) same
+
+pub step_line : (s : StepValue) (ps : List PathValue) → ps ≡ s.paths → claim_text s ++ flat_map path_text ps ≡ step_text s
+step_line s ps same = ap (λ l. claim_text s ++ flat_map path_text l) same
+
+-- all lines
+paths_text : (ps : List PathValue) → flat_map path_text ps ≡ flat_map line_text (map (λ (l : SaidLine). saying_words l.saying) (map path_said ps))
+paths_text [] = refl
+paths_text (p ∷ ps) = ap (λ t. path_text p ++ t) (paths_text ps)
+
+steps_text : (ss : List StepValue) → flat_map step_text ss ≡ flat_map line_text (map (λ (l : SaidLine). saying_words l.saying) (steps_said ss))
+steps_text [] = refl
+steps_text (s ∷ ss) =
+    let words : SaidLine → List (List ℕ) = λ l. saying_words l.saying in
+    let one : step_text s ≡ flat_map line_text (map words (step_said s)) = ap (λ t. claim_text s ++ t) (paths_text s.paths) in
+    ap (λ t. t ++ flat_map step_text ss) one ∙ ap (λ t. flat_map line_text (map words (step_said s)) ++ t) (steps_text ss)
+    ∙ sym (ap (flat_map line_text) (map-append words (step_said s) (steps_said ss)) ∙ flat_map-append line_text (map words (step_said s)) (map words (steps_said ss)))
+
+pub whole_text : (c : CertificateValue) (d : ℕ) (ss : List StepValue) → d ≡ c.depth → ss ≡ c.steps → line_text (saying_words (says_depth d)) ++ flat_map step_text ss ≡ cert_text c
+whole_text c d ss depth steps =
+    ap (λ x. line_text (saying_words (says_depth x)) ++ flat_map step_text ss) depth ∙ ap (λ x. line_text (saying_words (says_depth c.depth)) ++ flat_map step_text x) steps
+    ∙ ap (λ t. line_text (saying_words (says_depth c.depth)) ++ t) (steps_text c.steps)

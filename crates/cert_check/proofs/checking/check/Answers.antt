@@ -1,0 +1,57 @@
+use Rattle.std.proofs.Common.{◌≡◌, ℕ, [], List, get_or, ap, ◌∙◌, subst}
+use Rattle.aig_core.specs.Roots.{roots_of}
+use Rattle.tl_fault.specs.OrMemory.{OrMemory}
+use Rattle.tl_fault.proofs.OrMemoryLemmas.{OrMemory-map}
+use Rattle.cert_check.specs.CertificateValue.{StepValue, CertificateValue}
+use Rattle.cert_check.specs.Faults.{StepsFault, IsFault}
+use Rattle.cert_check.specs.InTurn.{AreInTurn}
+use Rattle.cert_check.specs.Refusals.{refusal_of}
+use Rattle.cert_check.specs.Valid.{claim_of, IsReached, IsValid}
+use Rattle.cert_check.proofs.StepLemmas.{passed_err}
+use Rattle.cert_check.proofs.InTurnLemmas.{turn_valid}
+use Rattle.cert_check.proofs.LeastLemmas.{valid_bound, valid_claims}
+use Rattle.cert_check.proofs.CheckLemmas.{one_verdict, fault_of_steps, fault_of_depth, reached_all, reached_back, passed_on_ok}
+use Rattle.cert_check.proofs.checking.check.Goals as goal
+
+pub returns-in_err-claims : goal.returns-in_err-claims
+returns-in_err-claims c =
+    let same : c.deref.result.now ≡ c.args.cert.now.steps = c.deref.ensures.value ∙ ap (λ (x : CertificateValue). x.steps) c.cert.view_is in
+    record {
+      ok = passed_on_ok c.from_residual.result _ _ c.from_residual.ensures.1;
+      fault = passed_err c.from_residual.result c.in_err-claims.field-0.0 (OrMemory refusal_of (IsFault c.args.graph.now (roots_of c.args.roots.now) c.args.k c.args.cert.now)) c.from_residual.ensures.1
+          (OrMemory-map refusal_of (StepsFault c.args.graph.now c.args.k [] c.deref.result.now ⊥) (IsFault c.args.graph.now (roots_of c.args.roots.now) c.args.k c.args.cert.now) c.in_err-claims.field-0.0
+          (λ e f. fault_of_steps c.args.graph.now (roots_of c.args.roots.now) c.args.k c.args.cert.now e (subst (λ (ss : List StepValue). StepsFault c.args.graph.now c.args.k [] ss ⊥ e) same f)) c.in_err-claims.ensures.fault);
+      one_verdict = one_verdict c.args.graph.now (roots_of c.args.roots.now) c.args.k c.args.cert.now c.take_steps.ensures.normal;
+      least = passed_on_ok c.from_residual.result _ _ c.from_residual.ensures.1;
+      claims = passed_on_ok c.from_residual.result _ _ c.from_residual.ensures.1;
+    }
+
+pub returns-then-not-is_reached : goal.returns-then-not-is_reached
+returns-then-not-is_reached c =
+    let same : c.deref.result.now ≡ c.args.cert.now.steps = c.deref.ensures.value ∙ ap (λ (x : CertificateValue). x.steps) c.cert.view_is in
+    let turn : AreInTurn c.args.graph.now c.args.k [] c.args.cert.now.steps = subst (λ (ss : List StepValue). AreInTurn c.args.graph.now c.args.k [] ss) same c.in_ok-claims.ensures.in_turn in
+    let are : (m : ℕ) → get_or c.in_ok-claims.claims.items m 0 ≡ claim_of c.args.cert.now.steps m = λ m. c.in_ok-claims.ensures.claims m ∙ ap (λ (ss : List StepValue). claim_of ss m) same in
+    record {
+      ok = tt;
+      fault = fault_of_depth c.args.graph.now (roots_of c.args.roots.now) c.args.k c.args.cert.now turn
+          (λ r. c.is_reached.ensures.no c.if-not-is_reached.true (reached_back c.args.graph.now (roots_of c.args.roots.now) c.args.k c.args.cert.now c.in_ok-claims.claims.items c.deref-2.result.now c.cert.inside.depth c.deref-2.ensures.value (ap (λ (x : CertificateValue). x.depth) c.cert.view_is) are r));
+      one_verdict = one_verdict c.args.graph.now (roots_of c.args.roots.now) c.args.k c.args.cert.now c.take_steps.ensures.normal;
+      least = tt;
+      claims = tt;
+    }
+
+pub returns : goal.returns
+returns c =
+    let same : c.deref.result.now ≡ c.args.cert.now.steps = c.deref.ensures.value ∙ ap (λ (x : CertificateValue). x.steps) c.cert.view_is in
+    let turn : AreInTurn c.args.graph.now c.args.k [] c.args.cert.now.steps = subst (λ (ss : List StepValue). AreInTurn c.args.graph.now c.args.k [] ss) same c.in_ok-claims.ensures.in_turn in
+    let are : (m : ℕ) → get_or c.in_ok-claims.claims.items m 0 ≡ claim_of c.args.cert.now.steps m = λ m. c.in_ok-claims.ensures.claims m ∙ ap (λ (ss : List StepValue). claim_of ss m) same in
+    let reached : IsReached c.args.graph.now (roots_of c.args.roots.now) (claim_of c.args.cert.now.steps) c.args.cert.now.depth =
+    reached_all c.args.graph.now (roots_of c.args.roots.now) c.args.k c.args.cert.now c.in_ok-claims.claims.items c.deref-2.result.now c.cert.inside.depth c.deref-2.ensures.value (ap (λ (x : CertificateValue). x.depth) c.cert.view_is) are (c.is_reached.ensures.yes c.if-not-is_reached.false) in
+    let valid : IsValid c.args.graph.now (roots_of c.args.roots.now) c.args.k c.args.cert.now = turn_valid c.args.graph.now (roots_of c.args.roots.now) c.args.k c.args.cert.now c.take_steps.ensures.normal turn reached in
+    record {
+      ok = valid;
+      fault = tt;
+      one_verdict = one_verdict c.args.graph.now (roots_of c.args.roots.now) c.args.k c.args.cert.now c.take_steps.ensures.normal;
+      least = valid_bound c.args.graph.now (roots_of c.args.roots.now) c.args.k c.args.cert.now valid;
+      claims = valid_claims c.args.graph.now (roots_of c.args.roots.now) c.args.k c.args.cert.now valid;
+    }

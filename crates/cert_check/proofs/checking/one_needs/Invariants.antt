@@ -1,0 +1,8 @@
+use Rattle.std.proofs.Common.{ℕ, drop, get_or}
+use Rattle.aig_core.specs.Roots.{lits_of}
+use Rattle.cert_check.specs.Valid.{SomeNeeds}
+use Rattle.cert_check.proofs.FaultLemmas.{Same}
+use Rattle.cert_check.proofs.checking.one_needs.Given as goal
+
+abbrev pub invariant-loop-root : goal.invariant-loop-root
+invariant-loop-root l = Same (SomeNeeds l.graph (lits_of l.roots) (λ (m : ℕ). get_or l.claims m 0) l.depth) (SomeNeeds l.graph (lits_of (drop l.root-index l.roots)) (λ (m : ℕ). get_or l.claims m 0) l.depth)

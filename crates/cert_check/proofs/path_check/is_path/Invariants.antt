@@ -1,0 +1,12 @@
+use Rattle.std.proofs.Common.{ℕ, ◌+◌, ◌<◌, get_or, length}
+use Rattle.aig_core.specs.Aig.{IsSource}
+use Rattle.aig_core.specs.declared.lit.Kind.TheVariants.{Regular}
+use Rattle.cert_check.specs.Paths.{IsFanIn}
+use Rattle.cert_check.proofs.path_check.is_path.Given as goal
+
+abbrev pub invariant-loop-i : goal.invariant-loop-i
+invariant-loop-i l = record {
+  some : 0 < length l.nodes;
+  source : IsSource l.graph Regular (get_or l.nodes 0 0);
+  edges : (j : ℕ) → j + 1 < l.i → IsFanIn l.graph (get_or l.nodes j 0) (get_or l.nodes (j + 1) 0);
+}

@@ -1,0 +1,14 @@
+-- What public clauses say.
+pub mod CertificateValue
+pub mod Paths
+pub mod Valid
+pub mod Faults
+pub mod LowerBound
+pub mod CertText
+pub mod WrittenText
+pub mod Refusals
+-- What only bodies are compared with.
+pub mod Stamps
+pub mod InTurn
+pub mod Reading
+pub mod Writing

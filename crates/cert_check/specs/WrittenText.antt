@@ -1,0 +1,61 @@
+-- The text that a certificate is written as: the lines that say it, each of words with one blank between them.
+use Rattle.std.specs.Prelude.{◌≡◌, ℕ, ◌^◌, ◌<◌, ◌≤◌, List, [], ◌∷◌, ◌++◌, length, map, codes, decimal}
+use Rattle.std.specs.List.{flat_map}
+use Rattle.list_laws.specs.Members.{In}
+use Rattle.cert_check.specs.CertificateValue.{PathValue, StepValue, CertificateValue}
+use Rattle.cert_check.specs.CertText.{Saying, says_depth, says_claim, says_path, SaidLine, steps_said, IsCertText}
+
+-- the words that say it
+abbrev pub saying_words : Saying → List (List ℕ)
+saying_words (says_depth d) = codes "depth" ∷ decimal d ∷ []
+saying_words (says_claim n h) = codes "claim" ∷ decimal n ∷ decimal h ∷ []
+saying_words (says_path ns) = codes "path" ∷ map decimal ns
+
+-- words, each behind a blank (32)
+abbrev pub words_text : List (List ℕ) → List ℕ
+words_text words = flat_map (λ (w : List ℕ). 32 ∷ w) words
+
+-- a line of words, with its line feed (10)
+abbrev pub line_text : List (List ℕ) → List ℕ
+line_text [] = 10 ∷ []
+line_text (word ∷ words) = word ++ (words_text words ++ 10 ∷ [])
+
+-- the lines of a certificate, and its text
+abbrev pub cert_lines : CertificateValue → List (List (List ℕ))
+cert_lines c = saying_words (says_depth c.depth) ∷ map (λ (l : SaidLine). saying_words l.saying) (steps_said c.steps)
+
+abbrev pub cert_text : CertificateValue → List ℕ
+cert_text c = flat_map line_text (cert_lines c)
+
+-- a certificate without its lines' numbers
+abbrev pub bare_path : PathValue → PathValue
+bare_path p = record { line = 0; nodes = p.nodes }
+
+abbrev pub bare_step : StepValue → StepValue
+bare_step s = record { line = 0; node = s.node; claim = s.claim; paths = map bare_path s.paths }
+
+abbrev pub bare : CertificateValue → CertificateValue
+bare c = record { depth = c.depth; steps = map bare_step c.steps }
+
+-- a path has two nodes at least, and its numbers fit a word of 32 bits
+pub record IsWritablePath (p : PathValue) : Type 0 where
+  pub nodes : 2 ≤ length p.nodes
+  pub small : (m : ℕ) → In p.nodes m → m < 2 ^ 32
+
+-- a step's claim is 1 at least, and so on
+pub record IsWritableStep (s : StepValue) : Type 0 where
+  pub claim : 1 ≤ s.claim
+  pub small_node : s.node < 2 ^ 32
+  pub small_claim : s.claim < 2 ^ 32
+  pub paths : (p : PathValue) → In s.paths p → IsWritablePath p
+
+-- a certificate whose text is one
+pub record IsWritable (c : CertificateValue) : Type 0 where
+  pub small : c.depth < 2 ^ 32
+  pub steps : (s : StepValue) → In c.steps s → IsWritableStep s
+
+-- a text is that of a certificate again, but for the numbers of lines
+pub record ReadsBack (text : List ℕ) (c : CertificateValue) : Type 0 where
+  pub read : CertificateValue
+  pub is : IsCertText text read
+  pub same : bare read ≡ bare c

@@ -1,0 +1,81 @@
+//! Why a certificate is refused.
+use std::alloc::{AllocError, AllocFailed};
+use tl_fault::{Details, Refusal};
+use tl_text::TextErr;
+
+/// Why a text is no certificate, or a certificate isn't valid. Each line is a logical one, but for the first two a physical
+/// one; lines are counted from 1.
+#[derive(Debug, PartialEq, Eq, Drop, thiserror::Error)]
+pub enum CertErr {
+    /// T1: a byte that no line may have.
+    #[error("bad byte in line {0}")]
+    BadByte(u32),
+    /// T2: a token ends in `\`.
+    #[error("trailing backslash in line {0}")]
+    TrailingSlash(u32),
+    /// C1: the line isn't of its form or place.
+    #[error("malformed line {0}")]
+    Malformed(u32),
+    /// C2: the node of the step isn't an AND node, or isn't above that of the step before.
+    #[error("bad claim in line {0}")]
+    BadClaim(u32),
+    /// C3: the path isn't one from a regular source to the node of its step.
+    #[error("bad path in line {0}")]
+    BadPath(u32),
+    /// C4: the number of the step's paths isn't that of its claim.
+    #[error("wrong number of paths of the claim in line {0}")]
+    PathCount(u32),
+    /// C5: the path in this line shares a node with an earlier one of its step, whose claim is too low for that.
+    #[error("shared node in line {0}")]
+    Shared(u32, u32),
+    /// C6: no root is as deep as the certificate says.
+    #[error("depth not reached")]
+    NotReached,
+    /// There is no memory.
+    #[error("out of memory")]
+    Memory,
+}
+
+impl<T: Drop> From<AllocFailed<T>> for CertErr {
+    ghost use Rattle.std.specs.Prelude.{◌≡◌};
+    ghost use Rattle.cert_check.specs.declared.cert_err.CertErr.TheVariants.{Memory};
+
+    ghost from_gives = { λ _ e. e ≡ Memory };
+
+    fn from(_: AllocFailed<T>) -> CertErr {
+        CertErr::Memory
+    }
+}
+
+impl From<AllocError> for CertErr {
+    ghost use Rattle.std.specs.Prelude.{◌≡◌};
+    ghost use Rattle.cert_check.specs.declared.cert_err.CertErr.TheVariants.{Memory};
+
+    ghost from_gives = { λ _ e. e ≡ Memory };
+
+    fn from(_: AllocError) -> CertErr {
+        CertErr::Memory
+    }
+}
+
+impl CertErr {
+    ghost use Rattle.std.specs.Prelude.{◌≡◌};
+    ghost use Rattle.cert_check.specs.Refusals.{refusal_of};
+
+    /// What the refusal tells; none for want of memory.
+    pub fn refusal(self) -> Option<Refusal>
+        ensures { result ≡ refusal_of self }
+    {
+        match self {
+            CertErr::BadByte(line) => TextErr::BadByte(line).refusal(),
+            CertErr::TrailingSlash(line) => TextErr::TrailingSlash(line).refusal(),
+            CertErr::Malformed(line) => Some(Refusal::new("C1", "Malformed", Details::Line(line))),
+            CertErr::BadClaim(line) => Some(Refusal::new("C2", "BadClaim", Details::Line(line))),
+            CertErr::BadPath(line) => Some(Refusal::new("C3", "BadPath", Details::Line(line))),
+            CertErr::PathCount(line) => Some(Refusal::new("C4", "PathCount", Details::Line(line))),
+            CertErr::Shared(line, _) => Some(Refusal::new("C5", "Shared", Details::Line(line))),
+            CertErr::NotReached => Some(Refusal::new("C6", "NotReached", Details::Nothing)),
+            CertErr::Memory => None,
+        }
+    }
+}

@@ -1,0 +1,88 @@
+//! Whether nodes are a path of a graph.
+ghost use Rattle.std.specs.Prelude.{◌≡◌, ◌<◌, ◌≤◌, ℕ, Some, true, false, length};
+ghost use Rattle.aig_core.specs.Aig.{first_and, node_count, pair_of, IsAnd, IsSource, AreNormal};
+ghost use Rattle.aig_core.specs.declared.lit.Kind.TheVariants.{Regular};
+ghost use Rattle.list_laws.specs.Members.{In};
+ghost use Rattle.cert_check.specs.Paths.{IsFanIn, IsPath};
+
+use aig_core::{Graph, Kind, Pair, Steps};
+use std::marker::Brand;
+use std::sync::ledger::{Blank, Ledger};
+
+// The pair of an AND node, read with a counter of its own.
+fn pair_with<L: Ledger>(graph: &Graph, n: u32, blank: Blank) -> Pair
+    requires node { IsAnd graph.now n }
+    requires name { blank.name ≡ L.name }
+    requires parts { blank.parts ≡ L.parts }
+    requires some { 0 < L.parts }
+    ensures { pair_of graph.now n ≡ Some result }
+{
+    let mut steps = Steps::<L>::start(blank);
+    graph.node(n, &mut steps)
+}
+
+// The pair of an AND node.
+fn pair_at(graph: &Graph, n: u32) -> Pair
+    requires { IsAnd graph.now n }
+    ensures { pair_of graph.now n ≡ Some result }
+{
+    pair_with::<Brand>(graph, n, Blank::new(1))
+}
+
+/// Whether this is an AND node of the graph.
+pub(crate) fn is_and(graph: &Graph, n: u32) -> bool
+    ensures yes { result ≡ true → IsAnd graph.now n }
+    ensures no { result ≡ false → IsAnd graph.now n → ⊥ }
+{
+    n > graph.sources() && n < graph.len()
+}
+
+/// Whether this is a regular source of the graph.
+pub(crate) fn is_regular(graph: &Graph, m: u32) -> bool
+    ensures yes { result ≡ true → IsSource graph.now Regular m }
+    ensures no { result ≡ false → IsSource graph.now Regular m → ⊥ }
+    ensures normal { AreNormal (first_and graph.now) graph.now.pairs }
+{
+    if m > graph.sources() || m == 0 {
+        return false;
+    }
+    match graph.kind(m) {
+        Kind::Regular => true,
+        Kind::Parameter => false,
+    }
+}
+
+// Whether m is a fan-in node of n.
+fn is_fan_in(graph: &Graph, m: u32, n: u32) -> bool
+    ensures yes { result ≡ true → IsFanIn graph.now m n }
+    ensures no { result ≡ false → IsFanIn graph.now m n → ⊥ }
+{
+    if !is_and(graph, n) {
+        return false;
+    }
+    let pair = pair_at(graph, n);
+    if pair.x.0 / 2 == m {
+        return true;
+    }
+    pair.y.0 / 2 == m
+}
+
+/// Whether the nodes are a path to n; then none of them is above n. It takes time linear in their number.
+pub(crate) fn is_path(graph: &Graph, nodes: &[u32], n: u32) -> bool
+    ensures yes { result ≡ true → IsPath graph.now n nodes.now }
+    ensures no { result ≡ false → IsPath graph.now n nodes.now → ⊥ }
+    ensures below { result ≡ true → (m : ℕ) → In nodes.now m → m ≤ n }
+{
+    if nodes.is_empty() {
+        return false;
+    }
+    if !is_regular(graph, nodes[0]) {
+        return false;
+    }
+    for i in 1..nodes.len() {
+        if !is_fan_in(graph, nodes[i - 1], nodes[i]) {
+            return false;
+        }
+    }
+    nodes[nodes.len() - 1] == n
+}

@@ -1,0 +1,127 @@
+//! What a line of a certificate's text says.
+ghost use Rattle.std.specs.Prelude.{◌≡◌, ◌<◌, ◌≤◌, length, map, None, Some, MatchResult};
+ghost use Rattle.std.specs.Option.{option_map};
+ghost use Rattle.list_laws.specs.Members.{In};
+ghost use Rattle.tl_fault.specs.OrMemory.{OrMemory};
+ghost use Rattle.tl_text.specs.LineValue.{IsLineIn, IsWithin, token_bytes, words_line};
+ghost use Rattle.tl_text.specs.declared.token.Token.{Token as TokenValue};
+ghost use Rattle.cert_check.specs.CertText.{number_of, numbers_of, depth_with, claim_with, path_with, saying_by, said_of};
+ghost use Rattle.cert_check.specs.Reading.{saying_value};
+ghost use Rattle.cert_check.specs.Refusals.{refusal_of};
+ghost use Rattle.cert_check.specs.declared.cert_err.CertErr.TheVariants.{Malformed};
+
+use crate::cert_err::CertErr;
+use std::alloc::Global;
+use tl_text::{Line, Token, decimal};
+
+/// What a line says.
+#[derive(Debug, Drop)]
+pub enum Saying {
+    /// The depth.
+    Depth(u32),
+    /// The claim of a node.
+    Claim(u32, u32),
+    /// The nodes of a path.
+    Path(Vec<u32>),
+}
+
+// The number that a word is.
+fn number(word: &[u8]) -> Option<u32>
+    ensures { result ≡ number_of word.now }
+{
+    let number = decimal(word)?;
+    if number > u32::MAX as u64 {
+        return None;
+    }
+    Some(number as u32)
+}
+
+// The numbers that tokens are.
+fn read_numbers(
+    alloc: Global,
+    text: &[u8],
+    line: u32,
+    tokens: &[Token],
+) -> Result<Vec<u32>, CertErr>
+    requires { (token : TokenValue) → In tokens.now token → IsWithin text.now token }
+    ensures { MatchResult result
+        (λ numbers. numbers_of (map (token_bytes text.now) tokens.now) ≡ Some numbers.items)
+        (OrMemory refusal_of (λ e. (numbers_of (map (token_bytes text.now) tokens.now) ≡ None) × (e ≡ Malformed line))) }
+{
+    let mut numbers = Vec::new(alloc);
+    for token in tokens {
+        let Some(number) = number(token.bytes(text)) else {
+            return Err(CertErr::Malformed(line));
+        };
+        numbers.push(number)?;
+    }
+    Ok(numbers)
+}
+
+// A depth: one number.
+fn depth(numbers: &[u32]) -> Option<Saying>
+    ensures { option_map saying_value result ≡ depth_with numbers.now }
+{
+    if numbers.len() != 1 {
+        return None;
+    }
+    Some(Saying::Depth(numbers[0]))
+}
+
+// A claim: two numbers, the second one at least 1.
+fn claim(numbers: &[u32]) -> Option<Saying>
+    ensures { option_map saying_value result ≡ claim_with numbers.now }
+{
+    if numbers.len() != 2 {
+        return None;
+    }
+    if numbers[1] == 0 {
+        return None;
+    }
+    Some(Saying::Claim(numbers[0], numbers[1]))
+}
+
+// A path: two numbers or more.
+fn path(numbers: Vec<u32>) -> Option<Saying>
+    ensures { option_map saying_value result ≡ path_with numbers.items }
+{
+    if numbers.len() < 2 {
+        return None;
+    }
+    Some(Saying::Path(numbers))
+}
+
+// What a first word says with the numbers behind it.
+fn saying_of(word: &[u8], numbers: Vec<u32>) -> Option<Saying>
+    ensures { option_map saying_value result ≡ saying_by word.now numbers.items }
+{
+    if word == b"depth".as_slice() {
+        return depth(&numbers);
+    }
+    if word == b"claim".as_slice() {
+        return claim(&numbers);
+    }
+    if word == b"path".as_slice() {
+        return path(numbers);
+    }
+    None
+}
+
+/// What a line of a text says. It takes time and memory linear in the line.
+///
+/// # Errors
+/// C1 where the line has none of the three forms; `Memory` where there is none.
+pub(crate) fn read_saying(alloc: Global, text: &[u8], line: &Line) -> Result<Saying, CertErr>
+    requires { IsLineIn text.now line.now }
+    ensures { MatchResult result
+        (λ saying. said_of (words_line text.now line.now).words ≡ Some (saying_value saying))
+        (OrMemory refusal_of (λ e. (said_of (words_line text.now line.now).words ≡ None) × (e ≡ Malformed line.now.number))) }
+{
+    let tokens = line.tokens.as_slice();
+    let word = tokens[0].bytes(text);
+    let numbers = read_numbers(alloc, text, line.number, &tokens[1..])?;
+    match saying_of(word, numbers) {
+        Some(saying) => Ok(saying),
+        None => Err(CertErr::Malformed(line.number)),
+    }
+}
