@@ -1,12 +1,12 @@
 -- Making rows and covers again, over nodes that extend those that they left, adds nothing and gives the same literals.
 use Rattle.std.proofs.Common.{sym, subst, ◌≡◌, ℕ, zero, suc, min, max, List, [], ◌∷◌, ◌++◌, length, refl, ap, ◌∙◌}
-use Rattle.blif_read.specs.CoverValue.{RowValue, CoverValue}
-use Rattle.blif_read.specs.declared.cell.Cell.{Cell}
+use Rattle.netlist.specs.CoverValue.{RowValue, CoverValue}
+use Rattle.netlist.specs.declared.cell.Cell.{Cell}
 use Rattle.aig_core.specs.declared.lit.Lit.{Lit}
 use Rattle.aig_core.specs.declared.lit.Pair.{Pair}
-use Rattle.aig_core.specs.And.{complement, Answer}
+use Rattle.aig_core.specs.And.{complement, Answer, product_of}
 use Rattle.aig_core.proofs.GrowthLemmas.{Extends, Extends-trans, and_again, and_grows}
-use Rattle.aig_build.specs.Balanced.{product_of, front_half, back_half}
+use Rattle.aig_build.specs.Balanced.{front_half, back_half}
 use Rattle.aig_build.specs.BalancedMade.{balanced, balanced_and}
 use Rattle.aig_build.specs.CoverGraph.{row_literals, Literals}
 use Rattle.aig_build.specs.CoverMade.{row_made, rows_made, cover_made}

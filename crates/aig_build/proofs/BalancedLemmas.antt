@@ -7,12 +7,12 @@ use Rattle.std.proofs.lemmas.List.Elements.{All-head, All-tail, All-take, All-dr
 use Rattle.aig_core.specs.declared.lit.Lit.{Lit}
 use Rattle.aig_core.specs.declared.lit.Pair.{Pair}
 use Rattle.aig_core.specs.Aig.{Aig, AreNormal, IsLit, first_and}
-use Rattle.aig_core.specs.And.{Answer, and_of, with_pairs}
+use Rattle.aig_core.specs.And.{Answer, and_of, with_pairs, product_of}
 use Rattle.aig_core.specs.Value.{value_of}
 use Rattle.aig_core.proofs.ValueLemmas.{values_from}
-use Rattle.aig_core.proofs.GrowthLemmas.{Extends, Extends-refl, Extends-trans, and_grows}
+use Rattle.aig_core.proofs.GrowthLemmas.{Extends, Extends-refl, Extends-trans, length-Extends, and_grows}
 use Rattle.aig_core.proofs.ProductLemmas.{AreBase, Makes, Makes-and, Makes-literal, Makes-one, value_of-more, product}
-use Rattle.aig_build.specs.Balanced.{product_of, front_half, back_half}
+use Rattle.aig_build.specs.Balanced.{front_half, back_half}
 use Rattle.aig_build.specs.BalancedMade.{balanced, balanced_and}
 
 -- it only adds nodes
@@ -87,9 +87,6 @@ IsBelow first pairs lit = lit.0 < 2 * (first + length pairs)
 -- literals of the nodes so far
 abbrev pub AreBelow : ℕ → List Pair → List Lit → Type 0
 AreBelow first pairs lits = All (IsBelow first pairs) lits
-
-pub length-Extends : (ps qs : List Pair) → Extends ps qs → length ps ≤ length qs
-length-Extends ps qs e = let n : length qs ≡ length ps + length e.more = ap length e.is ∙ length-append ps e.more in omega arith
 
 pub AreBelow-more : (first : ℕ) (ps qs : List Pair) (lits : List Lit) → Extends ps qs → AreBelow first ps lits → AreBelow first qs lits
 AreBelow-more first ps qs lits e below = All-weaker (IsBelow first ps) (IsBelow first qs) (λ (lit : Lit) l. let n : length ps ≤ length qs = length-Extends ps qs e in omega arith) lits below

@@ -4,22 +4,22 @@ use Rattle.std.proofs.Math.Seq.{drop-cons}
 use Rattle.std.specs.List.{All}
 use Rattle.std.proofs.lemmas.List.Elements.{All-nil, All-cons, All-head, All-tail, All-append, All-push}
 use Rattle.list_laws.proofs.Places.{drop_past}
-use Rattle.blif_read.specs.declared.cell.Cell.{Cell}
-use Rattle.blif_read.specs.declared.cell.Cell.TheVariants.{Zero, One, Any}
-use Rattle.blif_read.specs.CoverValue.{RowValue, CoverValue, allows, matches, some_row, cover_value}
+use Rattle.netlist.specs.declared.cell.Cell.{Cell}
+use Rattle.netlist.specs.declared.cell.Cell.TheVariants.{Zero, One, Any}
+use Rattle.netlist.specs.CoverValue.{RowValue, CoverValue, allows, matches, some_row, cover_value}
 use Rattle.aig_core.specs.declared.lit.Lit.{Lit}
 use Rattle.aig_core.specs.declared.lit.Pair.{Pair}
 use Rattle.aig_core.specs.Aig.{Aig, IsLit, AreNormal, first_and}
 use Rattle.aig_core.specs.And.{complement, Answer, with_pairs}
 use Rattle.aig_core.specs.Value.{value_of, KeepsValues}
 use Rattle.aig_core.proofs.ValueLemmas.{values_from, values_of}
-use Rattle.aig_core.proofs.GrowthLemmas.{Extends, Extends-refl, Extends-trans}
+use Rattle.aig_core.proofs.GrowthLemmas.{Extends, Extends-refl, Extends-trans, length-Extends}
 use Rattle.aig_core.proofs.ProductLemmas.{AreBase, AreBase-sources, Makes, Makes-complement, Makes-weaker, value_of-more, value_of-complement, complement-below, not-not, KeepsValues-Extends, Makes-fits}
 use Rattle.aig_build.specs.BalancedMade.{balanced_and}
 use Rattle.aig_build.specs.CoverGraph.{flipped, cell_literals, row_literals, Literals}
 use Rattle.aig_build.specs.CoverMade.{row_made, rows_made, cover_made, cover_of, HasCoverValue}
 use Rattle.aig_build.specs.RowsOnto.{rows_onto}
-use Rattle.aig_build.proofs.BalancedLemmas.{balanced-grows, all_true, all_true-append, IsBelow, AreBelow, length-Extends, AreBelow-more, all_true-more, Makes-balanced}
+use Rattle.aig_build.proofs.BalancedLemmas.{balanced-grows, all_true, all_true-append, IsBelow, AreBelow, AreBelow-more, all_true-more, Makes-balanced}
 
 -- the values of the inputs under the values of the nodes
 abbrev pub values_at : List Lit → List Bool → List Bool

@@ -1,10 +1,10 @@
 -- The nodes of products, rows and covers are those that the functions give, and no others.
 use Rattle.std.proofs.Common.{◌≡◌, ℕ, zero, suc, ◌≤◌, cond, List, [], ◌∷◌, length, refl, sym, ap, ◌∙◌, arith}
-use Rattle.blif_read.specs.CoverValue.{RowValue, CoverValue}
+use Rattle.netlist.specs.CoverValue.{RowValue, CoverValue}
 use Rattle.aig_core.specs.declared.lit.Lit.{Lit}
 use Rattle.aig_core.specs.declared.lit.Pair.{Pair}
-use Rattle.aig_core.specs.And.{complement, Answer}
-use Rattle.aig_build.specs.Balanced.{product_of, front_half, back_half}
+use Rattle.aig_core.specs.And.{complement, Answer, product_of}
+use Rattle.aig_build.specs.Balanced.{front_half, back_half}
 use Rattle.aig_build.specs.BalancedMade.{balanced_and}
 use Rattle.aig_build.specs.CoverGraph.{row_literals, Literals}
 use Rattle.aig_build.specs.CoverMade.{row_made, rows_made, cover_made}

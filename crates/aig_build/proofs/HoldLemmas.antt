@@ -6,22 +6,22 @@ use Rattle.std.proofs.lemmas.List.Elements.{All-nil, All-cons, All-set}
 use Rattle.std.proofs.lemmas.Option.{slice_get_read}
 use Rattle.list_laws.specs.Members.{In}
 use Rattle.list_laws.proofs.Places.{set_length}
-use Rattle.blif_read.specs.CoverValue.{CoverValue}
-use Rattle.blif_read.specs.LibraryValue.{LibraryValue}
-use Rattle.blif_flat.specs.declared.flat.Net.{Net}
-use Rattle.blif_flat.specs.declared.flat.Net.TheVariants.{Input, Latch, Cover}
-use Rattle.blif_flat.specs.FlatCoverValue.{FlatCoverValue}
-use Rattle.blif_flat.specs.FlatValue.{FlatValue}
-use Rattle.blif_flat.specs.Bounds.{IsThere}
-use Rattle.blif_flat.specs.Evaluation.{cover_behind}
+use Rattle.netlist.specs.CoverValue.{CoverValue}
+use Rattle.netlist.specs.LibraryValue.{LibraryValue}
+use Rattle.netlist.specs.declared.flat.Net.{Net}
+use Rattle.netlist.specs.declared.flat.Net.TheVariants.{Input, Latch, Cover}
+use Rattle.netlist.specs.FlatCoverValue.{FlatCoverValue}
+use Rattle.netlist.specs.FlatValue.{FlatValue}
+use Rattle.netlist.specs.Bounds.{IsThere}
+use Rattle.netlist.specs.Evaluation.{cover_behind}
 use Rattle.aig_core.specs.declared.lit.Lit.{Lit}
 use Rattle.aig_core.specs.declared.lit.Pair.{Pair}
 use Rattle.aig_core.specs.Aig.{Aig, IsLit, first_and}
 use Rattle.aig_core.specs.And.{Answer, with_pairs}
-use Rattle.aig_core.proofs.GrowthLemmas.{Extends}
+use Rattle.aig_core.proofs.GrowthLemmas.{Extends, length-Extends}
 use Rattle.aig_build.specs.CoverMade.{cover_of}
 use Rattle.aig_build.specs.Walked.{NetLitsValue, net_lit, net_lits, with_cover, Built, behind_made, gate_made, with_gate, walked, gate_of, order_of, IsHeld, HoldsNets}
-use Rattle.aig_build.proofs.BalancedLemmas.{IsBelow, AreBelow-more, length-Extends}
+use Rattle.aig_build.proofs.BalancedLemmas.{IsBelow, AreBelow-more}
 use Rattle.aig_build.proofs.SignalLemmas.{walked-grows}
 use Rattle.aig_build.proofs.NetValueLemmas.{below_or_zero}
 

@@ -9,34 +9,34 @@ use Rattle.list_laws.specs.Members.{In}
 use Rattle.list_laws.proofs.Members.{In-get}
 use Rattle.list_laws.proofs.Places.{at_within, get_left}
 use Rattle.list_laws.proofs.TwoLists.{get_right}
-use Rattle.blif_read.specs.declared.command.Body.{Body}
-use Rattle.blif_read.specs.declared.command.Body.TheVariants.{Cover as CoverBody, Latch as LatchBody, Subckt as SubcktBody}
-use Rattle.blif_read.specs.declared.command.Command.{Command}
-use Rattle.blif_read.specs.CoverValue.{RowValue, CoverValue, cover_value}
-use Rattle.blif_read.specs.LibraryValue.{ModelValue, LibraryValue}
-use Rattle.blif_read.specs.WellFormed.{IsWellFormedBody, IsWellFormed}
-use Rattle.blif_flat.specs.declared.flat.Net.{Net}
-use Rattle.blif_flat.specs.declared.flat.Net.TheVariants.{Input, Latch, Cover}
-use Rattle.blif_flat.specs.FlatCoverValue.{FlatCoverValue}
-use Rattle.blif_flat.specs.FlatValue.{FlatValue}
-use Rattle.blif_flat.specs.FlatCycle.{input_values}
-use Rattle.blif_flat.proofs.Fields.LoopOrderLemmas.{all_members}
-use Rattle.blif_flat.specs.Models.{body_at}
-use Rattle.blif_flat.specs.Places.{cover_in}
-use Rattle.blif_flat.specs.Bounds.{IsThere, IsWithinBounds}
-use Rattle.blif_flat.specs.Evaluation.{cover_behind, net_value, gate_value, evaluated, flat_values}
-use Rattle.blif_flat.specs.Evaluation as evaluation
-use Rattle.run_text.specs.declared.params.Param.{Param}
-use Rattle.run_text.specs.Parameters.{param_names, regular_names}
+use Rattle.netlist.specs.declared.command.Body.{Body}
+use Rattle.netlist.specs.declared.command.Body.TheVariants.{Cover as CoverBody, Latch as LatchBody, Subckt as SubcktBody}
+use Rattle.netlist.specs.declared.command.Command.{Command}
+use Rattle.netlist.specs.CoverValue.{RowValue, CoverValue, cover_value}
+use Rattle.netlist.specs.LibraryValue.{ModelValue, LibraryValue}
+use Rattle.netlist.specs.WellFormed.{IsWellFormedBody, IsWellFormed}
+use Rattle.netlist.specs.declared.flat.Net.{Net}
+use Rattle.netlist.specs.declared.flat.Net.TheVariants.{Input, Latch, Cover}
+use Rattle.netlist.specs.FlatCoverValue.{FlatCoverValue}
+use Rattle.netlist.specs.FlatValue.{FlatValue}
+use Rattle.netlist.specs.FlatCycle.{input_values}
+use Rattle.netlist.proofs.NameLemmas.{all_members}
+use Rattle.netlist.specs.Models.{body_at}
+use Rattle.netlist.specs.Places.{cover_in}
+use Rattle.netlist.specs.Bounds.{IsThere, IsWithinBounds}
+use Rattle.netlist.specs.Evaluation.{cover_behind, net_value, gate_value, evaluated, flat_values}
+use Rattle.netlist.specs.Evaluation as evaluation
+use Rattle.param_list.specs.declared.params.Param.{Param}
+use Rattle.param_list.specs.Parameters.{param_names, regular_names}
 use Rattle.aig_core.specs.declared.lit.Kind.{Kind}
 use Rattle.aig_core.specs.declared.lit.Kind.TheVariants.{Regular, Parameter}
 use Rattle.aig_core.specs.declared.lit.Lit.{Lit}
 use Rattle.aig_core.specs.declared.lit.Pair.{Pair}
 use Rattle.aig_core.specs.Aig.{AreNormal}
 use Rattle.aig_core.specs.And.{Answer}
-use Rattle.aig_core.specs.Value.{xor, value_of}
+use Rattle.aig_core.specs.Value.{value_of}
 use Rattle.aig_core.proofs.GrowthLemmas.{Extends}
-use Rattle.aig_core.proofs.ProductLemmas.{AreBase, Makes, value_of-more}
+use Rattle.aig_core.proofs.ProductLemmas.{AreBase, Makes, value_of-even, value_of-more}
 use Rattle.aig_core.proofs.ValueLemmas.{values_from, values_old}
 use Rattle.aig_build.specs.CoverMade.{cover_made}
 use Rattle.aig_build.specs.NetlistGraph.{input_names, source_kinds, IsSourceLiteral, an_input, a_latch}
@@ -71,19 +71,8 @@ pub behind_width : (library : LibraryValue) (flat : FlatValue) → IsWellFormed 
 behind_width library flat formed bounds k c cover lits at behind n =
     all_members (λ (row : RowValue). length row.cells ≡ length lits) cover.rows (λ row i. behind_rows library c cover formed behind row i ∙ bounds.reads k c cover at behind ∙ sym n)
 
-xor-false : (b : Bool) → xor b false ≡ b
-xor-false true = refl
-xor-false false = refl
-
--- the value of a positive literal
-even_value : (vs : List Bool) (lit n : ℕ) → lit ≡ 2 * n → value_of vs lit ≡ get_or vs n false
-even_value vs lit n e =
-    let h : lit / 2 ≡ n = omega arith in
-    let o : lit % 2 ≡ 0 = omega arith in
-    rw (h, o) (xor-false (get_or vs n false))
-
 zero_value : (first : ℕ) (vs : List Bool) (ps : List Pair) → 1 ≤ first → AreBase first vs → value_of (values_from vs ps) 0 ≡ false
-zero_value first vs ps some base = let n : length vs ≡ first = base.count in even_value (values_from vs ps) 0 0 refl ∙ values_old vs ps 0 (omega arith) ∙ base.constant
+zero_value first vs ps some base = let n : length vs ≡ first = base.count in value_of-even (values_from vs ps) 0 0 refl ∙ values_old vs ps 0 (omega arith) ∙ base.constant
 
 map-replicate : {A B : Type 0} (f : A → B) (n : ℕ) (x : A) (y : B) → f x ≡ y → map f (replicate n x) ≡ replicate n y
 map-replicate f zero x y e = refl
@@ -160,7 +149,7 @@ module _ (library : LibraryValue) (flat : FlatValue) (params : List Param) (form
     place_value : (ps : List Pair) (lit place : ℕ) (b : Bool) → lit ≡ 2 * (1 + place) → slice_get given place ≡ Some b → value_of (values_from base ps) lit ≡ b
     place_value ps lit place b e at =
         let w : place < length given = slice_get_within given place b at in
-        even_value (values_from base ps) lit (suc place) (omega arith) ∙ values_old base ps (suc place) (omega arith) ∙ get_or_from_slice_get given place b false at
+        value_of-even (values_from base ps) lit (suc place) (omega arith) ∙ values_old base ps (suc place) (omega arith) ∙ get_or_from_slice_get given place b false at
 
     source_value : (ps : List Pair) (values : List Bool) (net : Net) (lit : ℕ) → IsThere flat net → IsSourceLiteral flat params net lit → value_of (values_from base ps) lit ≡ net_value xs s values net
     source_value ps values net lit there (an_input i place name e g h l) =

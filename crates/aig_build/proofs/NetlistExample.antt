@@ -1,15 +1,15 @@
 -- A worked example: the multiplexer `.names p a b y` with the rows `11- 1` and `0-1 1`, over the inputs a, b and p, of which p is the parameter. Its nodes are 4 = a · p, 5 = b · not p and
 -- 6 = not 4 · not 5, and its root is the complement of node 6, the literal 13.
 use Rattle.std.proofs.Common.{◌≡◌, ℕ, true, false, List, [], ◌∷◌, codes, None, refl}
-use Rattle.blif_read.specs.declared.cell.Cell.TheVariants.{Zero, One, Any}
-use Rattle.blif_read.specs.declared.command.Body.TheVariants.{Cover as CoverBody}
-use Rattle.blif_read.specs.CoverValue.{CoverValue}
-use Rattle.blif_read.specs.LibraryValue.{LibraryValue}
-use Rattle.blif_flat.specs.declared.flat.Net.{Net}
-use Rattle.blif_flat.specs.declared.flat.Net.TheVariants.{Input, Cover}
-use Rattle.blif_flat.specs.FlatCoverValue.{FlatCoverValue}
-use Rattle.blif_flat.specs.FlatValue.{FlatValue}
-use Rattle.run_text.specs.declared.params.Param.{Param}
+use Rattle.netlist.specs.declared.cell.Cell.TheVariants.{Zero, One, Any}
+use Rattle.netlist.specs.declared.command.Body.TheVariants.{Cover as CoverBody}
+use Rattle.netlist.specs.CoverValue.{CoverValue}
+use Rattle.netlist.specs.LibraryValue.{LibraryValue}
+use Rattle.netlist.specs.declared.flat.Net.{Net}
+use Rattle.netlist.specs.declared.flat.Net.TheVariants.{Input, Cover}
+use Rattle.netlist.specs.FlatCoverValue.{FlatCoverValue}
+use Rattle.netlist.specs.FlatValue.{FlatValue}
+use Rattle.param_list.specs.declared.params.Param.{Param}
 use Rattle.aig_core.specs.declared.lit.Kind.TheVariants.{Regular, Parameter}
 use Rattle.aig_core.specs.declared.lit.Lit.{Lit}
 use Rattle.aig_core.specs.Aig.{Aig}

@@ -5,23 +5,23 @@ use Rattle.std.proofs.lemmas.List.{length-map, length-replicate, length-append, 
 use Rattle.std.proofs.lemmas.List.Elements.{All-from_get_or, All-replicate}
 use Rattle.std.proofs.lemmas.Option.{unwrap_or-slice_get}
 use Rattle.list_laws.specs.Members.{In}
-use Rattle.list_laws.proofs.Members.{In-append, place_in}
-use Rattle.blif_read.specs.LibraryValue.{LibraryValue}
-use Rattle.blif_read.specs.WellFormed.{IsWellFormed}
-use Rattle.blif_flat.specs.declared.flat.Net.{Net}
-use Rattle.blif_flat.specs.declared.flat.Net.TheVariants.{Input, Latch, Cover}
-use Rattle.blif_flat.specs.declared.flat.OutPort.{OutPort}
-use Rattle.blif_flat.specs.declared.flat.FlatLatch.{FlatLatch}
-use Rattle.blif_flat.specs.FlatValue.{FlatValue}
-use Rattle.blif_flat.specs.Flat.{cover_numbers, reads_at}
-use Rattle.blif_flat.specs.Flattened.{HasValues}
+use Rattle.list_laws.proofs.Members.{In-append, place_in, from_map}
+use Rattle.netlist.specs.LibraryValue.{LibraryValue}
+use Rattle.netlist.specs.WellFormed.{IsWellFormed}
+use Rattle.netlist.specs.declared.flat.Net.{Net}
+use Rattle.netlist.specs.declared.flat.Net.TheVariants.{Input, Latch, Cover}
+use Rattle.netlist.specs.declared.flat.OutPort.{OutPort}
+use Rattle.netlist.specs.declared.flat.FlatLatch.{FlatLatch}
+use Rattle.netlist.specs.FlatValue.{FlatValue}
+use Rattle.netlist.specs.Flat.{cover_numbers, reads_at}
+use Rattle.netlist.specs.Flattened.{HasValues}
 use Rattle.depth_first.specs.DepthFirst.{PostsAll}
-use Rattle.blif_flat.specs.Bounds.{IsThere, IsWithinBounds}
-use Rattle.blif_flat.specs.Evaluation.{net_value, flat_values}
-use Rattle.blif_flat.specs.Runs.{IsCycle}
-use Rattle.blif_flat.specs.FlatCycle.{flat_outputs, flat_next, input_values, HasCycles}
-use Rattle.run_text.specs.declared.params.Param.{Param}
-use Rattle.run_text.specs.Parameters.{AreParameters}
+use Rattle.netlist.specs.Bounds.{IsThere, IsWithinBounds}
+use Rattle.netlist.specs.Evaluation.{net_value, flat_values}
+use Rattle.netlist.specs.Runs.{IsCycle}
+use Rattle.netlist.specs.FlatCycle.{flat_outputs, flat_next, input_values, HasCycles}
+use Rattle.param_list.specs.declared.params.Param.{Param}
+use Rattle.param_list.specs.Parameters.{AreParameters}
 use Rattle.aig_core.specs.declared.lit.Lit.{Lit}
 use Rattle.aig_core.specs.Aig.{Aig, IsLit}
 use Rattle.aig_core.specs.And.{with_pairs}
@@ -34,7 +34,7 @@ use Rattle.aig_build.specs.NetlistGraph.{input_names, source_kinds, root_nets, M
 use Rattle.aig_build.specs.NetlistCycle.{source_values, literal_values, HasSourceCycles}
 use Rattle.aig_build.specs.Walked.{NetLitsValue, no_lit, net_lit, net_lits, Built, marks_of, regular_lits, regular_next, start_nets, source_aig, order_of, root_lits, HoldsNets}
 use Rattle.aig_build.proofs.SignalLemmas.{AreKnown, order_made}
-use Rattle.aig_build.proofs.SourceLemmas.{mapped_in, length-marked, length-regular, length-param_lits, regular_next-le, start_latches, start_sourced}
+use Rattle.aig_build.proofs.SourceLemmas.{length-marked, length-regular, length-param_lits, regular_next-le, start_latches, start_sourced}
 use Rattle.aig_build.proofs.NetValueLemmas.{source_count, source_below, IsRight, net_right, flat_right}
 use Rattle.aig_build.proofs.HoldLemmas.{held_lit}
 
@@ -55,19 +55,19 @@ module _ (library : LibraryValue) (flat : FlatValue) (bounds : IsWithinBounds li
 
   roots_there : (net : Net) → In (root_nets flat) net → IsThere flat net
   roots_there net i = elim (In-append (map (λ (o : OutPort). o.net) flat.outputs) (map (λ (l : FlatLatch). l.input) flat.latches) net i) [
-    | inl j ↦ (let r = mapped_in (λ (o : OutPort). o.net) flat.outputs net j in subst (IsThere flat) (sym r.1.1) (output_there r.0 r.1.0))
-    | inr j ↦ (let r = mapped_in (λ (l : FlatLatch). l.input) flat.latches net j in subst (IsThere flat) (sym r.1.1) (latch_there r.0 r.1.0))
+    | inl j ↦ (let r = from_map (λ (o : OutPort). o.net) flat.outputs net j in subst (IsThere flat) (sym r.2) (output_there r.0 r.1))
+    | inr j ↦ (let r = from_map (λ (l : FlatLatch). l.input) flat.latches net j in subst (IsThere flat) (sym r.2) (latch_there r.0 r.1))
   ]
 
   -- the roots' literals are literals of the graph
   pub are_roots : (g : Aig) (nets : NetLitsValue) → HoldsNets flat g nets → AreRoots g (roots_of (root_lits flat nets))
   are_roots g nets holds l i = elim (In-append (lits_of (root_lits flat nets).outputs) (lits_of (root_lits flat nets).next) l i) [
-    | inl j ↦ (let r = mapped_in (λ (x : Lit). x.0) (root_lits flat nets).outputs l j in
-        let q = mapped_in (λ (o : OutPort). net_lit nets o.net) flat.outputs r.0 r.1.0 in
-        subst (IsLit g) (sym (r.1.1 ∙ ap (λ (x : Lit). x.0) q.1.1)) (held_lit flat g nets holds q.0.net (output_there q.0 q.1.0)))
-    | inr j ↦ (let r = mapped_in (λ (x : Lit). x.0) (root_lits flat nets).next l j in
-        let q = mapped_in (λ (o : FlatLatch). net_lit nets o.input) flat.latches r.0 r.1.0 in
-        subst (IsLit g) (sym (r.1.1 ∙ ap (λ (x : Lit). x.0) q.1.1)) (held_lit flat g nets holds q.0.input (latch_there q.0 q.1.0)))
+    | inl j ↦ (let r = from_map (λ (x : Lit). x.0) (root_lits flat nets).outputs l j in
+        let q = from_map (λ (o : OutPort). net_lit nets o.net) flat.outputs r.0 r.1 in
+        subst (IsLit g) (sym (r.2 ∙ ap (λ (x : Lit). x.0) q.2)) (held_lit flat g nets holds q.0.net (output_there q.0 q.1)))
+    | inr j ↦ (let r = from_map (λ (x : Lit). x.0) (root_lits flat nets).next l j in
+        let q = from_map (λ (o : FlatLatch). net_lit nets o.input) flat.latches r.0 r.1 in
+        subst (IsLit g) (sym (r.2 ∙ ap (λ (x : Lit). x.0) q.2)) (held_lit flat g nets holds q.0.input (latch_there q.0 q.1)))
   ]
 
 -- a list of literals has the values of the nets that they are made for

@@ -5,18 +5,18 @@ use mathlib.Core.List.{reverse_aux, reverse-reverse}
 use Rattle.list_laws.specs.Members.{In}
 use Rattle.list_laws.proofs.Members.{In-left, In-right}
 use Rattle.list_laws.proofs.Places.{at_within, set_here, set_other, set_length, same_or}
-use Rattle.blif_read.specs.CoverValue.{CoverValue}
-use Rattle.blif_read.specs.LibraryValue.{LibraryValue}
-use Rattle.blif_flat.specs.declared.flat.Net.{Net}
-use Rattle.blif_flat.specs.declared.flat.Net.TheVariants.{Input, Latch, Cover}
-use Rattle.blif_flat.specs.FlatCoverValue.{FlatCoverValue}
-use Rattle.blif_flat.specs.FlatValue.{FlatValue}
-use Rattle.blif_flat.specs.Evaluation.{cover_behind}
-use Rattle.blif_flat.specs.Flat.{cover_numbers, inputs_at, reads_at}
+use Rattle.netlist.specs.CoverValue.{CoverValue}
+use Rattle.netlist.specs.LibraryValue.{LibraryValue}
+use Rattle.netlist.specs.declared.flat.Net.{Net}
+use Rattle.netlist.specs.declared.flat.Net.TheVariants.{Input, Latch, Cover}
+use Rattle.netlist.specs.FlatCoverValue.{FlatCoverValue}
+use Rattle.netlist.specs.FlatValue.{FlatValue}
+use Rattle.netlist.specs.Evaluation.{cover_behind}
+use Rattle.netlist.specs.Flat.{cover_numbers, inputs_at, reads_at}
 use Rattle.depth_first.specs.DepthFirst.{Posts, skips, posts, PostsAll, none, more}
-use Rattle.blif_flat.specs.Bounds.{IsThere, IsWithinBounds}
+use Rattle.netlist.specs.Bounds.{IsThere, IsWithinBounds}
 use Rattle.depth_first.proofs.PostLemmas.{nodes_done}
-use Rattle.run_text.specs.declared.params.Param.{Param}
+use Rattle.param_list.specs.declared.params.Param.{Param}
 use Rattle.aig_core.specs.declared.lit.Lit.{Lit}
 use Rattle.aig_core.specs.declared.lit.Pair.{Pair}
 use Rattle.aig_core.specs.And.{Answer}

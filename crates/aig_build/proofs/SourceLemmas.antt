@@ -6,19 +6,17 @@ use Rattle.std.proofs.lemmas.Bool.{both_ways, cases_Bool}
 use Rattle.std.proofs.lemmas.List.{length-map, length-replicate, length-append}
 use Rattle.std.proofs.lemmas.Option.{none-some, same_Some, slice_get_within, slice_get-map}
 use Rattle.list_laws.specs.Members.{In}
-use Rattle.list_laws.proofs.Members.{In-map, place_in}
+use Rattle.list_laws.proofs.Members.{In-map, In-filter, from_map, place_in}
 use Rattle.list_laws.proofs.Places.{at_within, get_left, set_here, set_other, set_length, same_or, replicate_at}
 use Rattle.list_laws.proofs.TwoLists.{get_right}
-use Rattle.list_laws.proofs.Choice.{choose}
 use Rattle.tl_text.specs.Once.{AreOnce}
-use Rattle.blif_flat.specs.declared.flat.Net.TheVariants.{Input}
-use Rattle.blif_flat.specs.FlatValue.{FlatValue}
-use Rattle.blif_flat.specs.Models.{has_name}
-use Rattle.list_laws.proofs.Apart.{AreApart, joined_apart, apart_once}
-use Rattle.blif_flat.proofs.Models.NameLemmas.{has_in, in_has}
-use Rattle.blif_flat.proofs.Fields.RegularLemmas.{In-filter}
-use Rattle.run_text.specs.declared.params.Param.{Param}
-use Rattle.run_text.specs.Parameters.{param_names, regular_names, AreParameters}
+use Rattle.tl_text.proofs.NameSetLemmas.{has_in, in_has, names_apart as once_apart}
+use Rattle.netlist.specs.declared.flat.Net.TheVariants.{Input}
+use Rattle.netlist.specs.FlatValue.{FlatValue}
+use Rattle.netlist.specs.Models.{has_name}
+use Rattle.list_laws.proofs.Apart.{AreApart, joined_apart, filtered_apart, apart_once}
+use Rattle.param_list.specs.declared.params.Param.{Param}
+use Rattle.param_list.specs.Parameters.{param_names, regular_names, AreParameters}
 use Rattle.aig_core.specs.declared.lit.Lit.{Lit}
 use Rattle.aig_build.specs.NetlistGraph.{input_names, IsSourceLiteral, an_input, a_latch}
 use Rattle.aig_build.specs.Walked.{NetLitsValue, no_lit, net_lit, marked, index_behind, regular_lits, regular_next, with_param_lits, marks_of, start_nets}
@@ -33,23 +31,6 @@ alike (x ∷ xs) (y ∷ ys) n same =
     let m : suc (length xs) ≡ suc (length ys) = n in
     let e : x ≡ y = same_Some x y (same 0 y refl) in
     ap (λ z. z ∷ xs) e ∙ ap (λ zs. y ∷ zs) (alike xs ys (omega arith) (λ i z f. same (suc i) z f))
-
--- a member of a mapped list
-pub mapped_in : {A B : Type 0} (f : A → B) (xs : List A) (y : B) → In (map f xs) y → (x : A) × (In xs x × (y ≡ f x))
-mapped_in f [] y i = absurd i
-mapped_in f (x ∷ xs) y (inl e) = (x, (inl refl, e))
-mapped_in f (x ∷ xs) y (inr i) = let r = mapped_in f xs y i in (r.0, (inr r.1.0, r.1.1))
-
--- names of which none stands twice stand apart
-once_apart : (names : List (List ℕ)) → AreOnce names → AreApart names
-once_apart [] once = tt
-once_apart (name ∷ names) once = (λ (i : In names name). once.0 i, once_apart names once.1)
-
-filtered_apart : (test : List ℕ → Bool) (names : List (List ℕ)) → AreApart names → AreApart (filter test names)
-filtered_apart test [] apart = tt
-filtered_apart test (name ∷ names) apart =
-    let rest : AreApart (filter test names) = filtered_apart test names apart.1 in
-    choose (λ l. AreApart l) (test name) (name ∷ filter test names) (filter test names) (λ t. (λ (i : In (filter test names) name). apart.0 (In-filter test names name i).0, rest)) (λ u. rest)
 
 -- the marks
 pub length-marked : (marks : List Bool) (ps : List Param) → length (marked marks ps) ≡ length marks
@@ -184,10 +165,10 @@ module _ (flat : FlatValue) (params : List Param) (once : AreOnce flat.inputs) (
           let name = at_within flat.inputs i within in
           let same : is_param name.0 ≡ b = same_Some (is_param name.0) b (sym (slice_get-map is_param flat.inputs i ∙ ap (option_map is_param) name.1) ∙ e) in
           elim (cases_Bool (is_param name.0)) [
-            | inl t ↦ (let p = mapped_in (λ (q : Param). q.name) params name.0 (has_in (param_names params) name.0 t) in
-                let place : p.0.input ≡ i = input_place p.0 p.1.0 i (name.1 ∙ ap Some p.1.1) in
+            | inl t ↦ (let p = from_map (λ (q : Param). q.name) params name.0 (has_in (param_names params) name.0 t) in
+                let place : p.0.input ≡ i = input_place p.0 p.1 i (name.1 ∙ ap Some p.2) in
                 let few : p.0.input < length none = subst (λ m. p.0.input < m) (sym (length-replicate (length flat.inputs) false)) (subst (λ m. m < length flat.inputs) (sym place) within) in
-                subst (λ j. slice_get (marked none params) j ≡ Some true) place (marked-yes none params p.0 p.1.0 few) ∙ ap Some (sym t ∙ same))
+                subst (λ j. slice_get (marked none params) j ≡ Some true) place (marked-yes none params p.0 p.1 few) ∙ ap Some (sym t ∙ same))
             | inr u ↦ marked-other none params i (λ p m q. off name.0 u name.1 p m q) ∙ replicate_at (length flat.inputs) i false within ∙ ap Some (sym u ∙ same)
           ]
 
@@ -213,14 +194,14 @@ module _ (flat : FlatValue) (params : List Param) (once : AreOnce flat.inputs) (
 
         param_source : (i : ℕ) (name : List ℕ) → slice_get flat.inputs i ≡ Some name → i < length flat.inputs → is_param name ≡ true → IsSourceLiteral flat params (Input i) (net_lit nets (Input i)).0
         param_source i name e l t =
-            let p = mapped_in (λ (q : Param). q.name) params name (has_in (param_names params) name t) in
-            let place : p.0.input ≡ i = input_place p.0 p.1.0 i (e ∙ ap Some p.1.1) in
-            let j = place_in params p.0 p.1.0 in
+            let p = from_map (λ (q : Param). q.name) params name (has_in (param_names params) name t) in
+            let place : p.0.input ≡ i = input_place p.0 p.1 i (e ∙ ap Some p.2) in
+            let j = place_in params p.0 p.1 in
             let count : length (regular_lits 1 marks) ≡ length flat.inputs = length-regular 1 marks ∙ ap length marks_eq ∙ length-map flat.inputs is_param in
             let few : p.0.input < length (regular_lits 1 marks) = subst (λ m. p.0.input < m) (sym count) (subst (λ m. m < length flat.inputs) (sym place) l) in
             let at : slice_get lits p.0.input ≡ Some (record { 0 = 2 * (regular_next 1 marks + j.0) }) =
             param_lits-at (regular_lits 1 marks) (regular_next 1 marks) params j.0 p.0 (inputs_apart params are.inputs (once_apart (param_names params) are.named.once)) j.1 few in
-            let named : slice_get (param_names params) j.0 ≡ Some name = slice_get-map (λ (q : Param). q.name) params j.0 ∙ ap (option_map (λ (q : Param). q.name)) j.1 ∙ ap Some (sym p.1.1) in
+            let named : slice_get (param_names params) j.0 ≡ Some name = slice_get-map (λ (q : Param). q.name) params j.0 ∙ ap (option_map (λ (q : Param). q.name)) j.1 ∙ ap Some (sym p.2) in
             let lit : (net_lit nets (Input p.0.input)).0 ≡ 2 * (1 + (length (regular_names flat params) + j.0)) =
             ap (λ o. (unwrap_or o no_lit).0) at ∙ (let m : regular_next 1 marks ≡ 1 + length (regular_names flat params) = next_is in omega arith) in
             an_input i (length (regular_names flat params) + j.0) name refl e (get_right (regular_names flat params) (param_names params) j.0 name named) (subst (λ m. (net_lit nets (Input m)).0 ≡ 2 * (1 + (length (regular_names flat params) + j.0))) place lit)

@@ -2,8 +2,8 @@
 use Rattle.std.specs.Prelude.{ℕ, zero, suc, List, [], ◌∷◌, length}
 use Rattle.aig_core.specs.declared.lit.Lit.{Lit}
 use Rattle.aig_core.specs.declared.lit.Pair.{Pair}
-use Rattle.aig_core.specs.And.{Answer}
-use Rattle.aig_build.specs.Balanced.{product_of, front_half, back_half}
+use Rattle.aig_core.specs.And.{Answer, product_of}
+use Rattle.aig_build.specs.Balanced.{front_half, back_half}
 
 -- the balanced AND of a list: of none the constant 1, of one that literal, else the product of the balanced ANDs of its halves, the first half made first; at most `depth` halvings
 abbrev pub balanced : ℕ → ℕ → List Pair → List Lit → Answer

@@ -1,10 +1,10 @@
 -- The AND nodes of products, rows and covers, as relations: nodes that stand become nodes that then stand, and a literal.
 use Rattle.std.specs.Prelude.{◌≡◌, ℕ, ◌≤◌, if◌then◌else◌, List, [], ◌∷◌, length}
-use Rattle.blif_read.specs.CoverValue.{RowValue, CoverValue}
+use Rattle.netlist.specs.CoverValue.{RowValue, CoverValue}
 use Rattle.aig_core.specs.declared.lit.Lit.{Lit}
 use Rattle.aig_core.specs.declared.lit.Pair.{Pair}
-use Rattle.aig_core.specs.And.{complement, Answer}
-use Rattle.aig_build.specs.Balanced.{product_of, front_half, back_half}
+use Rattle.aig_core.specs.And.{complement, Answer, product_of}
+use Rattle.aig_build.specs.Balanced.{front_half, back_half}
 use Rattle.aig_build.specs.CoverGraph.{row_literals, Literals}
 
 -- The balanced AND of a list: of none the constant 1, of one that literal, else the product of the balanced ANDs of its halves, the first half made first.

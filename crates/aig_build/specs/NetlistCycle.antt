@@ -1,9 +1,9 @@
 -- The cycles of a netlist's graph: under the values of its sources the roots have the outputs and the next states of the source circuit.
 use Rattle.std.specs.Prelude.{◌≡◌, ℕ, Bool, List, ◌++◌, length, map}
-use Rattle.blif_read.specs.LibraryValue.{LibraryValue}
-use Rattle.blif_flat.specs.FlatValue.{FlatValue}
-use Rattle.blif_flat.specs.Runs.{IsCycle}
-use Rattle.run_text.specs.declared.params.Param.{Param}
+use Rattle.netlist.specs.LibraryValue.{LibraryValue}
+use Rattle.netlist.specs.FlatValue.{FlatValue}
+use Rattle.netlist.specs.Runs.{IsCycle}
+use Rattle.param_list.specs.declared.params.Param.{Param}
 use Rattle.aig_core.specs.declared.lit.Lit.{Lit}
 use Rattle.aig_core.specs.Aig.{Aig}
 use Rattle.aig_core.specs.Roots.{RootsValue, lits_of}

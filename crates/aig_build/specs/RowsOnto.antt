@@ -1,6 +1,6 @@
 -- The rows of a cover as the code makes them, behind the literals so far.
 use Rattle.std.specs.Prelude.{ℕ, List, [], ◌∷◌, ◌++◌}
-use Rattle.blif_read.specs.CoverValue.{RowValue}
+use Rattle.netlist.specs.CoverValue.{RowValue}
 use Rattle.aig_core.specs.declared.lit.Lit.{Lit}
 use Rattle.aig_core.specs.declared.lit.Pair.{Pair}
 use Rattle.aig_core.specs.And.{complement, Answer}

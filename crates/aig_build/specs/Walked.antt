@@ -1,15 +1,15 @@
 -- The covers of a flat circuit as the code makes them: in order, each one once, into a literal for each cover.
 use Rattle.std.specs.Prelude.{◌≡◌, ℕ, ◌+◌, ◌*◌, ◌^◌, ◌<◌, ◌≤◌, Bool, true, false, if◌then◌else◌, List, [], ◌∷◌, length, map, replicate, Option, Some, None, All, unwrap_or, slice_get, slice_set}
-use Rattle.blif_read.specs.CoverValue.{CoverValue}
-use Rattle.blif_read.specs.LibraryValue.{LibraryValue}
-use Rattle.blif_flat.specs.declared.flat.Net.{Net}
-use Rattle.blif_flat.specs.declared.flat.Net.TheVariants.{Input, Latch, Cover}
-use Rattle.blif_flat.specs.declared.flat.OutPort.{OutPort}
-use Rattle.blif_flat.specs.declared.flat.FlatLatch.{FlatLatch}
-use Rattle.blif_flat.specs.FlatCoverValue.{FlatCoverValue}
-use Rattle.blif_flat.specs.FlatValue.{FlatValue}
-use Rattle.blif_flat.specs.Evaluation.{cover_behind}
-use Rattle.run_text.specs.declared.params.Param.{Param}
+use Rattle.netlist.specs.CoverValue.{CoverValue}
+use Rattle.netlist.specs.LibraryValue.{LibraryValue}
+use Rattle.netlist.specs.declared.flat.Net.{Net}
+use Rattle.netlist.specs.declared.flat.Net.TheVariants.{Input, Latch, Cover}
+use Rattle.netlist.specs.declared.flat.OutPort.{OutPort}
+use Rattle.netlist.specs.declared.flat.FlatLatch.{FlatLatch}
+use Rattle.netlist.specs.FlatCoverValue.{FlatCoverValue}
+use Rattle.netlist.specs.FlatValue.{FlatValue}
+use Rattle.netlist.specs.Evaluation.{cover_behind}
+use Rattle.param_list.specs.declared.params.Param.{Param}
 use Rattle.aig_core.specs.declared.lit.Lit.{Lit}
 use Rattle.aig_core.specs.declared.lit.Pair.{Pair}
 use Rattle.aig_core.specs.Aig.{Aig, IsLit, first_and}

@@ -2,13 +2,13 @@
 ghost use Rattle.std.specs.Prelude.{◌≡◌, ◌+◌, ◌*◌, ◌/◌, ◌<◌, ◌≤◌, [], ◌++◌, length, IfOk, OnOk, All, Err};
 ghost use Rattle.aig_core.specs.Aig.{IsLit, first_and};
 ghost use Rattle.aig_core.specs.And.{with_pairs};
-ghost use Rattle.blif_read.specs.CoverValue.{RowValue};
+ghost use Rattle.netlist.specs.CoverValue.{RowValue};
 ghost use Rattle.aig_build.specs.CoverGraph.{cell_literals, row_literals};
 ghost use Rattle.aig_build.specs.CoverMade.{row_made, rows_made, cover_of};
 
 use crate::balanced::balanced_and;
 use aig_core::{AigErr, Graph, Lit};
-use blif_read::{Cell, Cover, Row};
+use netlist::{Cell, Cover, Row};
 use std::alloc::{AllocError, Global};
 
 // Adds what a cell asks for of its input's literal: nothing, the literal, or its complement.

@@ -22,12 +22,12 @@
 
 mod balanced;
 mod build_err;
+mod building;
 mod cover;
 mod net_lits;
-mod netlist;
 
 pub use build_err::BuildErr;
-pub use netlist::build;
+pub use building::build;
 
 /// The most AND nodes that the graph of a netlist may have.
 pub const MOST_NODES: u32 = 131_072;

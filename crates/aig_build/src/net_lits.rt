@@ -1,14 +1,14 @@
 //! The literals of a flat circuit's nets.
 ghost use Rattle.std.specs.Prelude.{◌≡◌, ℕ, ◌+◌, ◌*◌, ◌^◌, ◌<◌, ◌≤◌, List, [], false, length, map, replicate, IfOk, OnOk};
 ghost use Rattle.list_laws.specs.Members.{In};
-ghost use Rattle.blif_flat.specs.Bounds.{IsWithinBounds};
-ghost use Rattle.run_text.specs.declared.params.Param.{Param as ParamValue};
-ghost use Rattle.run_text.specs.Parameters.{AreParameters};
+ghost use Rattle.netlist.specs.Bounds.{IsWithinBounds};
+ghost use Rattle.param_list.specs.declared.params.Param.{Param as ParamValue};
+ghost use Rattle.param_list.specs.Parameters.{AreParameters};
 ghost use Rattle.aig_build.specs.Walked.{net_lit, net_lits, with_cover, marked, regular_lit as regular_lit_of, index_behind as index_after, regular_lits as regular_lits_of, regular_next, with_param_lits, start_nets, IsHeld};
 
 use aig_core::Lit;
-use blif_flat::{Flat, Net};
-use run_text::{Param, Params};
+use netlist::{Flat, Net};
+use param_list::{Param, Params};
 use std::alloc::{AllocError, Global};
 use std::marker::Model;
 

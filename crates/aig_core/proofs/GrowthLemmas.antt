@@ -1,5 +1,5 @@
 -- The pairs of a graph only grow, and a product that was made stays made.
-use Rattle.std.proofs.Common.{◌≡◌, ℕ, ◌+◌, ◌/◌, ◌<◌, Bool, true, eqb, List, [], ◌∷◌, ◌++◌, length, get_or, Option, Some, None, refl, sym, ap, ◌∙◌, arith, length-append, append_assoc, append-nil}
+use Rattle.std.proofs.Common.{◌≡◌, ℕ, ◌+◌, ◌/◌, ◌<◌, ◌≤◌, Bool, true, eqb, List, [], ◌∷◌, ◌++◌, length, get_or, Option, Some, None, refl, sym, ap, ◌∙◌, arith, length-append, append_assoc, append-nil}
 use Rattle.std.specs.List.{slice_get, position}
 use Rattle.std.proofs.lemmas.Option.{slice_get-get_or}
 use Rattle.std.proofs.lemmas.List.Quantifiers.{position-Some}
@@ -23,6 +23,10 @@ Extends-refl ps = record { more = []; is = sym (append-nil ps) }
 
 pub Extends-trans : (ps qs rs : List Pair) → Extends ps qs → Extends qs rs → Extends ps rs
 Extends-trans ps qs rs a b = record { more = a.more ++ b.more; is = b.is ∙ ap (λ l. l ++ b.more) a.is ∙ append_assoc ps a.more b.more }
+
+-- so they are as many at least
+pub length-Extends : (ps qs : List Pair) → Extends ps qs → length ps ≤ length qs
+length-Extends ps qs e = let n : length qs ≡ length ps + length e.more = ap length e.is ∙ length-append ps e.more in omega arith
 
 -- a place that is found stays found
 found_stays : (test : Pair → Bool) (ps qs : List Pair) (i : ℕ) (d : Pair) → Extends ps qs → position test ps ≡ Some i → position test qs ≡ Some i

@@ -41,7 +41,7 @@ xor-true true = refl
 xor-true false = refl
 
 -- an even literal has its node's value, an odd one the other
-value_of-even : (vs : List Bool) (lit n : ℕ) → lit ≡ 2 * n → value_of vs lit ≡ get_or vs n false
+pub value_of-even : (vs : List Bool) (lit n : ℕ) → lit ≡ 2 * n → value_of vs lit ≡ get_or vs n false
 value_of-even vs lit n e =
     let h : lit / 2 ≡ n = omega arith in
     let o : lit % 2 ≡ 0 = omega arith in

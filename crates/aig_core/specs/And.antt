@@ -30,8 +30,12 @@ and_in_order first pairs x y =
     else if (x / 2) == (y / 2) then record { pairs = pairs; lit = 0 }
     else found_or_new first pairs x y (position (is_pair x y) pairs)
 
+-- the product of any two literals, where `first` is the index of the first AND node and `pairs` are the nodes so far
+abbrev pub product_of : ℕ → List Pair → ℕ → ℕ → Answer
+product_of first pairs a b = and_in_order first pairs (min a b) (max a b)
+
 abbrev pub and_of : Aig → ℕ → ℕ → Answer
-and_of g a b = and_in_order (first_and g) g.pairs (min a b) (max a b)
+and_of g a b = product_of (first_and g) g.pairs a b
 
 abbrev pub with_pairs : Aig → List Pair → Aig
 with_pairs g pairs = record g { pairs = pairs }

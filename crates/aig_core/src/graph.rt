@@ -198,6 +198,15 @@ impl Graph {
         }
     }
 
+    /// The pair of an AND node, for a reader that counts no steps. It takes no memory and constant time.
+    pub fn pair_at(&self, n: u32) -> Pair
+        requires { IsAnd self.now n }
+        ensures pair { pair_of self.now n ≡ Some result }
+        ensures normal { IsNormal n result }
+    {
+        self.pairs[n as usize - 1 - self.kinds.len()]
+    }
+
     /// The pair of an AND node. It takes no memory, constant time, and counts as a step.
     pub fn node<L: Ledger>(&self, n: u32, steps: &mut Steps<L>) -> Pair
         requires { IsAnd self.now n }
@@ -206,7 +215,7 @@ impl Graph {
         ensures cost { steps.new ≡ steps.old + 1 }
     {
         steps.tick();
-        self.pairs[n as usize - 1 - self.kinds.len()]
+        self.pair_at(n)
     }
 
     /// The value of each index under the values of the sources, in time linear in their number.

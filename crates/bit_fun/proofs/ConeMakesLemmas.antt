@@ -10,7 +10,7 @@ use Rattle.aig_core.specs.declared.lit.Kind.TheVariants.{Parameter}
 use Rattle.aig_core.specs.declared.lit.Lit.{Lit}
 use Rattle.aig_core.specs.declared.lit.Pair.{Pair}
 use Rattle.aig_core.specs.Aig.{Aig, first_and, node_count, IsNode, IsNormal, AreNormal, IsSource}
-use Rattle.aig_core.specs.And.{Answer}
+use Rattle.aig_core.specs.And.{Answer, product_of}
 use Rattle.aig_core.proofs.NodeLemmas.{node_normal}
 use Rattle.aig_core.proofs.GrowthLemmas.{Extends, Extends-refl, Extends-trans, and_grows}
 use Rattle.cover_pick.specs.Cone.{is_stop}
@@ -19,7 +19,7 @@ use Rattle.cover_pick.proofs.WorkLaws.{stop_inner, inner_stop, node_inside}
 use Rattle.cut_enum.specs.Cuts.{Blocks, member, constant as blocks_constant, parameter as blocks_parameter, fan_ins}
 use Rattle.depth_first.specs.DepthFirst.{Posts, skips, posts}
 use Rattle.bit_fun.specs.Parameters.{IsParam}
-use Rattle.bit_fun.specs.PackOf.{phase_literal, product, MakesNode, leaf, constant, parameter, node}
+use Rattle.bit_fun.specs.PackOf.{phase_literal, MakesNode, leaf, constant, parameter, node}
 use Rattle.bit_fun.specs.Pass.{cone_next, Visits, passed, walked, PassValue, lit_of, fan_in, with_made, made_node, pass_over, HaveSourceLits, HaveLeafLits}
 use Rattle.bit_fun.proofs.BitLemmas.{AreLeaves, in_or}
 use Rattle.bit_fun.proofs.ConeWalkLemmas.{VisitsBoth, visits_both}
@@ -103,14 +103,14 @@ module _ (g : Aig) (first : ℕ) (leaves : List ℕ) (v : ℕ) (are : AreLeaves 
       ap (λ (a : Answer). a.lit) (makes_once g first leaves v s.pairs m (record { pairs = s.pairs; lit = made.lit }) (record { pairs = s.pairs; lit = lit_of s.lits m }) are
       (node_again g first leaves v from m made makes s.pairs grows) (known.again s.pairs (Extends-refl s.pairs)))
 
-  grown : (s : PassValue) (p : Pair) → Extends s.pairs (product first s.pairs (fan_in s.lits p.x.0) (fan_in s.lits p.y.0)).pairs
+  grown : (s : PassValue) (p : Pair) → Extends s.pairs (product_of first s.pairs (fan_in s.lits p.x.0) (fan_in s.lits p.y.0)).pairs
   grown s p = and_grows first s.pairs (min (fan_in s.lits p.x.0) (fan_in s.lits p.y.0)) (max (fan_in s.lits p.x.0) (fan_in s.lits p.y.0))
 
   one_more : (s t u : PassValue) (before mid below : List ℕ) (n : ℕ) (p : Pair) → IsNode g p n → IsInner g leaves n → IsVisited g first leaves v s before (p.x.0 / 2) t mid → IsVisited g first leaves v t mid (p.y.0 / 2) u below
       → IsKnown g first leaves v u (p.x.0 / 2)
-      → IsVisited g first leaves v s before n (with_made u.lits n (product first u.pairs (fan_in u.lits p.x.0) (fan_in u.lits p.y.0))) (n ∷ below)
+      → IsVisited g first leaves v s before n (with_made u.lits n (product_of first u.pairs (fan_in u.lits p.x.0) (fan_in u.lits p.y.0))) (n ∷ below)
   one_more s t u before mid below n p is inner vx vy kx =
-      let a : Answer = product first u.pairs (fan_in u.lits p.x.0) (fan_in u.lits p.y.0) in
+      let a : Answer = product_of first u.pairs (fan_in u.lits p.x.0) (fan_in u.lits p.y.0) in
       let r : PassValue = with_made u.lits n a in
       let between : Extends t.pairs u.pairs = node_grows g first leaves v t.pairs (p.y.0 / 2) _ vy.makes in
       let ex : lit_of t.lits (p.x.0 / 2) ≡ lit_of u.lits (p.x.0 / 2) = same_literal u (p.x.0 / 2) s.pairs _ vx.makes between kx in
@@ -118,7 +118,7 @@ module _ (g : Aig) (first : ℕ) (leaves : List ℕ) (v : ℕ) (are : AreLeaves 
       let here : lit_of r.lits n ≡ a.lit = lit_here u.lits n (record { 0 = a.lit }) within in
       let made : MakesNode g first leaves v s.pairs n (record { pairs = r.pairs; lit = lit_of r.lits n }) =
       node p (record { pairs = t.pairs; lit = lit_of t.lits (p.x.0 / 2) }) (record { pairs = u.pairs; lit = lit_of u.lits (p.y.0 / 2) }) inner.apart is vx.makes vy.makes
-      (ap (λ l. record { pairs = a.pairs; lit = l }) here ∙ ap (λ l. product first u.pairs (phase_literal p.x.0 l) (fan_in u.lits p.y.0)) (sym ex)) in
+      (ap (λ l. record { pairs = a.pairs; lit = l }) here ∙ ap (λ l. product_of first u.pairs (phase_literal p.x.0 l) (fan_in u.lits p.y.0)) (sym ex)) in
       let known : IsKnown g first leaves v r n = record { again = λ qs e. node_again g first leaves v s.pairs n _ made qs e } in
       record {
         makes = made;
@@ -148,7 +148,7 @@ module _ (g : Aig) (first : ℕ) (leaves : List ℕ) (v : ℕ) (are : AreLeaves 
   module _ (S : Type 0) (start : PassValue) (normal : AreNormal (first_and g) g.pairs) where
     -- the next node of an order
     over_next : (n : ℕ) (p : Pair) (below : List ℕ) → IsNode g p n
-        → pass_over g first start (n ∷ below) ≡ with_made (pass_over g first start below).lits n (product first (pass_over g first start below).pairs (fan_in (pass_over g first start below).lits p.x.0) (fan_in (pass_over g first start below).lits p.y.0))
+        → pass_over g first start (n ∷ below) ≡ with_made (pass_over g first start below).lits n (product_of first (pass_over g first start below).pairs (fan_in (pass_over g first start below).lits p.x.0) (fan_in (pass_over g first start below).lits p.y.0))
     over_next n p below is = ap (λ (o : Option Pair). made_node first (pass_over g first start below) n o) is.is
 
     pub visit_makes : (bound n : ℕ) → n < bound → n < node_count g → Blocks g leaves n → (before after : List ℕ) → Visits (cone_next S g leaves) g leaves before n after → IsPassed g first leaves v (pass_over g first start before) before

@@ -10,14 +10,14 @@ use Rattle.aig_core.specs.declared.lit.Lit.{Lit}
 use Rattle.aig_core.specs.declared.lit.Pair.{Pair}
 use Rattle.aig_core.specs.Aig.{Aig, AreNormal}
 use Rattle.aig_core.specs.Value.{in_phase, value_of}
-use Rattle.aig_core.proofs.GrowthLemmas.{Extends, Extends-refl, Extends-trans}
+use Rattle.aig_core.proofs.GrowthLemmas.{Extends, Extends-refl, Extends-trans, length-Extends}
 use Rattle.aig_core.proofs.ProductLemmas.{value_of-more}
 use Rattle.cover_pick.specs.declared.lut.Lut.{Lut}
 use Rattle.cover_pick.specs.Mapping.{HaveBases, bits_of}
 use Rattle.bit_fun.specs.Parameters.{param_count}
 use Rattle.bit_fun.specs.BitFunction.{NodeBit}
 use Rattle.bit_fun.specs.PackOf.{phase_literal, BitsMade, MakesTable, done, more, MakesTables, none, tables}
-use Rattle.bit_fun.proofs.MadeLemmas.{values_over, phase_value, phase_below, longer, IsMade, is_made}
+use Rattle.bit_fun.proofs.MadeLemmas.{values_over, phase_value, phase_below, IsMade, is_made}
 
 -- the literal of a place, and 0 past the end
 abbrev pub literal_at : List Lit → ℕ → ℕ
@@ -50,7 +50,7 @@ table_made g params first t pairs v made at len normal (more this others m ms e)
     let here : IsMade g params first t.leaves v pairs (t.lit.0 / 2) this = is_made g params first t.leaves v pairs (t.lit.0 / 2) this at len normal m in
     let rest : IsTableMade g params first t this.pairs (1 + v) others = table_made g params first t this.pairs (1 + v) others at len here.normal ms in
     let lit : ℕ = phase_literal t.lit.0 this.lit in
-    let long : length this.pairs ≤ length others.pairs = longer this.pairs others.pairs rest.grows in
+    let long : length this.pairs ≤ length others.pairs = length-Extends this.pairs others.pairs rest.grows in
     let low : this.lit < 2 * (first + length this.pairs) = here.below in
     subst (λ (x : BitsMade). IsTableMade g params first t pairs v x) (sym e) (record {
       grows = Extends-trans pairs this.pairs others.pairs here.grows rest.grows;
@@ -116,7 +116,7 @@ tables_made g params first off luts pairs made at len bases normal (tables t res
     let bases' : HaveBases off (t ∷ rest) = subst (HaveBases off) q bases in
     let here : IsTableMade g params first t pairs 0 these = table_made g params first t pairs 0 these at len normal m in
     let left : AreTablesMade g params first (off + 2 ^ length t.leaves) rest these.pairs others = tables_made g params first (off + 2 ^ length t.leaves) rest these.pairs others at len bases'.1 here.normal ms in
-    let long : length these.pairs ≤ length others.pairs = longer these.pairs others.pairs left.grows in
+    let long : length these.pairs ≤ length others.pairs = length-Extends these.pairs others.pairs left.grows in
     let n : 0 + length these.bits ≡ 2 ^ length t.leaves = here.count in
     let whole : length (these.bits ++ others.bits) ≡ length these.bits + length others.bits = length-append these.bits others.bits in
     subst (λ (ls : List Lut). AreTablesMade g params first off ls pairs made) (sym q) (subst (λ (x : BitsMade). AreTablesMade g params first off (t ∷ rest) pairs x) (sym e) (record {

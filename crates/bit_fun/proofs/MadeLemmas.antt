@@ -7,14 +7,14 @@ use Rattle.aig_core.specs.Aig.{Aig, AreNormal}
 use Rattle.aig_core.specs.And.{Answer, complement}
 use Rattle.aig_core.specs.Value.{xor, in_phase, value_of}
 use Rattle.aig_core.proofs.FitLemmas.{behind_constant}
-use Rattle.aig_core.proofs.GrowthLemmas.{Extends, Extends-refl, Extends-trans}
+use Rattle.aig_core.proofs.GrowthLemmas.{Extends, Extends-refl, Extends-trans, length-Extends}
 use Rattle.aig_core.proofs.ProductLemmas.{AreBase, AreBase-sources, Makes, Makes-and, complement-below, value_of-complement, value_of-more}
 use Rattle.aig_core.proofs.ValueLemmas.{values_from, values_old}
 use Rattle.bit_fun.specs.Parameters.{param_count}
 use Rattle.bit_fun.specs.BitFunction.{NodeBit, leaf as leaf_bit, constant as constant_bit, parameter as parameter_bit, node as node_bit}
 use Rattle.bit_fun.specs.PackOf.{phase_literal, MakesNode, leaf, constant, parameter, node}
 use Rattle.bit_fun.proofs.LawLemmas.{positive_value, xor-false}
-use Rattle.bit_fun.proofs.MakesLemmas.{product_of}
+use Rattle.bit_fun.proofs.MakesLemmas.{node_product}
 use Rattle.bit_fun.proofs.ParamLemmas.{param_below}
 
 -- the values of the nodes under the parameters' values, where these pairs are the AND nodes
@@ -41,10 +41,6 @@ phase_below lit made count l = by (eqb (lit % 2) 1)
     by : (odd : Bool) → cond odd (complement made) made < 2 * count
     by true = complement-below made count l
     by false = l
-
--- more nodes are as many at least
-pub longer : (ps qs : List Pair) → Extends ps qs → length ps ≤ length qs
-longer ps qs e = let s : length qs ≡ length ps + length e.more = ap length e.is ∙ length-append ps e.more in omega arith
 
 -- What is made for a node: the nodes grow and stay normal, and the literal has the value of the node's bit.
 pub record IsMade (g : Aig) (params : List Bool) (first : ℕ) (leaves : List ℕ) (v : ℕ) (pairs : List Pair) (n : ℕ) (made : Answer) : Type 0 where
@@ -106,9 +102,9 @@ is_made g params first leaves v pairs n made at len normal (node p x y out is mx
     let hy : IsMade g params first leaves v x.pairs (p.y.0 / 2) y = is_made g params first leaves v x.pairs (p.y.0 / 2) y at len hx.normal my in
     let a : ℕ = phase_literal p.x.0 x.lit in
     let b : ℕ = phase_literal p.y.0 y.lit in
-    let more : length x.pairs ≤ length y.pairs = longer x.pairs y.pairs hy.grows in
+    let more : length x.pairs ≤ length y.pairs = length-Extends x.pairs y.pairs hy.grows in
     let lx : x.lit < 2 * (first + length x.pairs) = hx.below in
-    let both : Makes first y.pairs _ (product_of first p x y) =
+    let both : Makes first y.pairs _ (node_product first p x y) =
     Makes-and first y.pairs a b hy.normal (omega arith) (phase_below p.x.0 x.lit (first + length y.pairs) (omega arith)) (phase_below p.y.0 y.lit (first + length y.pairs) hy.below) in
     let base : AreBase first (false ∷ params) = subst (λ m. AreBase m (false ∷ params)) (sym at) (AreBase-sources params (length params) refl) in
     subst (λ (s : Answer). IsMade g params first leaves v pairs n s) (sym e) (record {

@@ -8,16 +8,16 @@ use Rattle.list_laws.proofs.Members.{In-get}
 use Rattle.aig_core.specs.declared.lit.Kind.TheVariants.{Parameter}
 use Rattle.aig_core.specs.declared.lit.Pair.{Pair}
 use Rattle.aig_core.specs.Aig.{Aig, first_and, IsNode}
-use Rattle.aig_core.specs.And.{Answer}
+use Rattle.aig_core.specs.And.{Answer, product_of}
 use Rattle.aig_core.proofs.GrowthLemmas.{Extends, Extends-refl, Extends-trans, and_again, and_grows}
 use Rattle.cover_pick.specs.declared.lut.Lut.{Lut}
 use Rattle.bit_fun.specs.Parameters.{IsParam}
-use Rattle.bit_fun.specs.PackOf.{phase_literal, product, MakesNode, leaf, constant, parameter, node, BitsMade, MakesTable, done, more, MakesTables, none, tables}
+use Rattle.bit_fun.specs.PackOf.{phase_literal, MakesNode, leaf, constant, parameter, node, BitsMade, MakesTable, done, more, MakesTables, none, tables}
 use Rattle.bit_fun.proofs.BitLemmas.{AreLeaves, leaf_not_constant, leaf_not_parameter, leaf_place}
 
 -- the product of a node's fan-ins
-abbrev pub product_of : ℕ → Pair → Answer → Answer → Answer
-product_of first p x y = product first y.pairs (phase_literal p.x.0 x.lit) (phase_literal p.y.0 y.lit)
+abbrev pub node_product : ℕ → Pair → Answer → Answer → Answer
+node_product first p x y = product_of first y.pairs (phase_literal p.x.0 x.lit) (phase_literal p.y.0 y.lit)
 
 -- a node has one pair
 one_pair : (g : Aig) (n : ℕ) (p q : Pair) → IsNode g p n → IsNode g q n → q ≡ p
@@ -64,7 +64,7 @@ makes_once g first leaves v pairs n a b are (node p x y out at mx my e) (node q 
     let mw' : MakesNode g first leaves v x.pairs (q.y.0 / 2) w = subst (λ (s : Answer). MakesNode g first leaves v s.pairs (q.y.0 / 2) w) (sym ex) mw in
     let mw'' : MakesNode g first leaves v x.pairs (p.y.0 / 2) w = subst (λ (r : Pair). MakesNode g first leaves v x.pairs (r.y.0 / 2) w) same mw' in
     let ey : y ≡ w = makes_once g first leaves v x.pairs (p.y.0 / 2) y w are my mw'' in
-    e ∙ ap (λ (s : Answer). product_of first p s y) ex ∙ ap (λ (s : Answer). product_of first p u s) ey ∙ ap (λ (r : Pair). product_of first r u w) (sym same) ∙ sym f
+    e ∙ ap (λ (s : Answer). node_product first p s y) ex ∙ ap (λ (s : Answer). node_product first p u s) ey ∙ ap (λ (r : Pair). node_product first r u w) (sym same) ∙ sym f
 
 -- making a node adds to the nodes that stand
 pub node_grows : (g : Aig) (first : ℕ) (leaves : List ℕ) (v : ℕ) (pairs : List Pair) (n : ℕ) (made : Answer) → MakesNode g first leaves v pairs n made → Extends pairs made.pairs
@@ -87,8 +87,8 @@ node_again g first leaves v pairs n made (parameter j is e) qs ext = parameter j
 node_again g first leaves v pairs n made (node p x y out is mx my e) qs ext =
     let a : ℕ = phase_literal p.x.0 x.lit in
     let b : ℕ = phase_literal p.y.0 y.lit in
-    let ez : Extends (product_of first p x y).pairs qs = subst (λ (s : Answer). Extends s.pairs qs) e ext in
-    let ey : Extends y.pairs qs = Extends-trans y.pairs (product_of first p x y).pairs qs (and_grows first y.pairs (min a b) (max a b)) ez in
+    let ez : Extends (node_product first p x y).pairs qs = subst (λ (s : Answer). Extends s.pairs qs) e ext in
+    let ey : Extends y.pairs qs = Extends-trans y.pairs (node_product first p x y).pairs qs (and_grows first y.pairs (min a b) (max a b)) ez in
     let ex : Extends x.pairs qs = Extends-trans x.pairs y.pairs qs (node_grows g first leaves v x.pairs (p.y.0 / 2) y my) ey in
     node p (record { pairs = qs; lit = x.lit }) (record { pairs = qs; lit = y.lit }) out is
     (node_again g first leaves v pairs (p.x.0 / 2) x mx qs ex) (node_again g first leaves v x.pairs (p.y.0 / 2) y my qs ey)

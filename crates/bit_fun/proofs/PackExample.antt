@@ -3,24 +3,24 @@ use Rattle.std.proofs.Common.{ℕ, ◌<◌, List, [], ◌∷◌, refl, inl, inr,
 use Rattle.list_laws.specs.Members.{In}
 use Rattle.list_laws.specs.Digits.{bit_value, digit}
 use Rattle.aig_core.specs.Aig.{Aig}
-use Rattle.aig_core.specs.And.{Answer}
+use Rattle.aig_core.specs.And.{Answer, product_of}
 use Rattle.aig_core.specs.declared.lit.Kind.TheVariants.{Parameter}
 use Rattle.aig_core.specs.declared.lit.Pair.{Pair}
 use Rattle.aig_core.proofs.ValueExample.{multiplexer, pair}
 use Rattle.cover_pick.specs.declared.lut.Lut.{Lut}
 use Rattle.bit_fun.specs.Parameters.{IsParam}
-use Rattle.bit_fun.specs.PackOf.{phase_literal, product, MakesNode, leaf, parameter, node, BitsMade, MakesTable, done, more, MakesTables, none, tables}
+use Rattle.bit_fun.specs.PackOf.{phase_literal, MakesNode, leaf, parameter, node, BitsMade, MakesTable, done, more, MakesTables, none, tables}
 use Rattle.bit_fun.proofs.BitExample.{root_table}
 
 -- the functions of the AND nodes for v, over no nodes
 abbrev node_4 : ℕ → Answer
-node_4 v = product 2 [] (phase_literal 2 (bit_value (digit v 0))) (phase_literal 6 2)
+node_4 v = product_of 2 [] (phase_literal 2 (bit_value (digit v 0))) (phase_literal 6 2)
 
 abbrev node_5 : ℕ → List Pair → Answer
-node_5 v pairs = product 2 pairs (phase_literal 4 (bit_value (digit v 1))) (phase_literal 7 2)
+node_5 v pairs = product_of 2 pairs (phase_literal 4 (bit_value (digit v 1))) (phase_literal 7 2)
 
 abbrev node_6 : ℕ → Answer
-node_6 v = product 2 (node_5 v (node_4 v).pairs).pairs (phase_literal 9 (node_4 v).lit) (phase_literal 11 (node_5 v (node_4 v).pairs).lit)
+node_6 v = product_of 2 (node_5 v (node_4 v).pairs).pairs (phase_literal 9 (node_4 v).lit) (phase_literal 11 (node_5 v (node_4 v).pairs).lit)
 
 no_leaf : (n : ℕ) → 2 < n → In (1 ∷ 2 ∷ []) n → ⊥
 no_leaf n l (inl e) = omega arith

@@ -13,8 +13,8 @@ use Rattle.aig_core.specs.Aig.{Aig, first_and, node_count}
 use Rattle.cover_pick.specs.declared.lut.Lut.{Lut}
 use Rattle.cover_pick.specs.Mapping.{IsTableOf, source, free, node, bits_of}
 use Rattle.cover_pick.specs.Work.{IsTableWork, IsWork, IsLight}
-use Rattle.run_text.specs.declared.params.Param.{Param}
-use Rattle.run_text.specs.Parameters.{AreNamed, param_names}
+use Rattle.param_list.specs.declared.params.Param.{Param}
+use Rattle.param_list.specs.Parameters.{AreNamed, param_names}
 use Rattle.ppc_pack.specs.declared.pack.PackParam.{PackParam}
 use Rattle.ppc_pack.specs.Pack.{IsPack}
 use Rattle.bit_fun.specs.Parameters.{param_count}

@@ -12,7 +12,7 @@ use Rattle.aig_core.proofs.FitLemmas.{is_values_of}
 use Rattle.aig_core.proofs.GrowthLemmas.{Extends-refl}
 use Rattle.cover_pick.specs.declared.lut.Lut.{Lut}
 use Rattle.cover_pick.specs.Mapping.{bits_of}
-use Rattle.run_text.specs.declared.params.Param.{Param}
+use Rattle.param_list.specs.declared.params.Param.{Param}
 use Rattle.ppc_pack.specs.Pack.{PackValue, IsConf}
 use Rattle.bit_fun.specs.Parameters.{param_count}
 use Rattle.bit_fun.specs.BitFunction.{IsBit}

@@ -13,11 +13,10 @@ use Rattle.aig_core.specs.declared.lit.Lit.{Lit}
 use Rattle.aig_core.specs.declared.lit.Pair.{Pair}
 use Rattle.aig_core.specs.Aig.{Aig, first_and, node_count, pair_of}
 use Rattle.aig_core.specs.And.{Answer, and_in_order, and_of, found_or_new, is_pair, with_pairs}
-use Rattle.aig_core.proofs.GrowthLemmas.{and_grows}
+use Rattle.aig_core.proofs.GrowthLemmas.{and_grows, length-Extends}
 use Rattle.bit_fun.specs.Pass.{PassValue, lit_of, fan_in, made_node, pass_over, with_leaves, HaveSourceLits, HaveLeafLits, AreLits, IsMadeOver}
 use Rattle.bit_fun.proofs.BitLemmas.{AreLeaves, leaf_not_constant, leaf_not_parameter}
 use Rattle.bit_fun.proofs.ConeMakesLemmas.{lit_other, lit_here}
-use Rattle.bit_fun.proofs.MadeLemmas.{longer}
 
 -- a product adds one node at most
 found_few : (first : ℕ) (ps : List Pair) (x y : ℕ) (o : Option ℕ) → length (found_or_new first ps x y o).pairs ≤ length ps + 1
@@ -88,7 +87,7 @@ made_one g old before n p new l at within are lit is low =
     let a : Answer = and_of old (fan_in before p.x.0) (fan_in before p.y.0) in
     let pairs : new.pairs ≡ a.pairs = ap (λ (m : Aig). m.pairs) is in
     let more : length a.pairs ≤ length old.pairs + 1 = and_few (first_and old) old.pairs (min (fan_in before p.x.0) (fan_in before p.y.0)) (max (fan_in before p.x.0) (fan_in before p.y.0)) in
-    let grows : length old.pairs ≤ length a.pairs = longer old.pairs a.pairs (and_grows (first_and old) old.pairs (min (fan_in before p.x.0) (fan_in before p.y.0)) (max (fan_in before p.x.0) (fan_in before p.y.0))) in
+    let grows : length old.pairs ≤ length a.pairs = length-Extends old.pairs a.pairs (and_grows (first_and old) old.pairs (min (fan_in before p.x.0) (fan_in before p.y.0)) (max (fan_in before p.x.0) (fan_in before p.y.0))) in
     let long : length new.pairs ≡ length a.pairs = ap length pairs in
     record {
       same = is ∙ ap (λ ps. with_pairs old ps) (sym pairs);

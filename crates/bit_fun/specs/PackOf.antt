@@ -1,14 +1,14 @@
 -- The pack of a template: the functions of its bits over one graph, made in the order of the addresses.
-use Rattle.std.specs.Prelude.{◌≡◌, ℕ, ◌+◌, ◌*◌, ◌/◌, ◌%◌, ◌^◌, ◌==◌, if◌then◌else◌, List, [], ◌∷◌, ◌++◌, length, map, min, max, replicate, Some, slice_get}
+use Rattle.std.specs.Prelude.{◌≡◌, ℕ, ◌+◌, ◌*◌, ◌/◌, ◌%◌, ◌^◌, ◌==◌, if◌then◌else◌, List, [], ◌∷◌, ◌++◌, length, map, replicate, Some, slice_get}
 use Rattle.list_laws.specs.Members.{In}
 use Rattle.list_laws.specs.Digits.{bit_value, digit}
 use Rattle.aig_core.specs.declared.lit.Kind.TheVariants.{Parameter}
 use Rattle.aig_core.specs.declared.lit.Lit.{Lit}
 use Rattle.aig_core.specs.declared.lit.Pair.{Pair}
 use Rattle.aig_core.specs.Aig.{Aig, IsNode}
-use Rattle.aig_core.specs.And.{Answer, complement, and_in_order}
+use Rattle.aig_core.specs.And.{Answer, complement, product_of}
 use Rattle.cover_pick.specs.declared.lut.Lut.{Lut}
-use Rattle.run_text.specs.declared.params.Param.{Param}
+use Rattle.param_list.specs.declared.params.Param.{Param}
 use Rattle.ppc_pack.specs.declared.pack.PackParam.{PackParam}
 use Rattle.ppc_pack.specs.Pack.{PackValue}
 use Rattle.bit_fun.specs.Parameters.{IsParam}
@@ -17,10 +17,6 @@ use Rattle.bit_fun.specs.Parameters.{IsParam}
 abbrev pub phase_literal : ℕ → ℕ → ℕ
 phase_literal lit made = if (lit % 2) == 1 then complement made else made
 
--- the product of two literals over the pack's nodes so far, where `first` is the index of the first AND node
-abbrev pub product : ℕ → List Pair → ℕ → ℕ → Answer
-product first pairs a b = and_in_order first pairs (min a b) (max a b)
-
 -- The function of a node for v, over the pack's nodes so far: leaf j is the constant of the binary digit j of v, the constant is 0, a parameter is its source, and an AND
 -- node that is no leaf is the product of its two fan-ins, the lower one made first. Nothing is remembered: a node is made anew at every use.
 pub data MakesNode (g : Aig) (first : ℕ) (leaves : List ℕ) (v : ℕ) : List Pair → ℕ → Answer → Type 0 where
@@ -28,7 +24,7 @@ pub data MakesNode (g : Aig) (first : ℕ) (leaves : List ℕ) (v : ℕ) : List 
   constant : {pairs : List Pair} {n : ℕ} {made : Answer} → n ≡ 0 → made ≡ record { pairs = pairs; lit = 0 } → MakesNode g first leaves v pairs n made
   parameter : {pairs : List Pair} {n : ℕ} {made : Answer} (j : ℕ) → IsParam g j n → made ≡ record { pairs = pairs; lit = 2 * (1 + j) } → MakesNode g first leaves v pairs n made
   node : {pairs : List Pair} {n : ℕ} {made : Answer} (p : Pair) (x y : Answer) → (In leaves n → ⊥) → IsNode g p n → MakesNode g first leaves v pairs (p.x.0 / 2) x → MakesNode g first leaves v x.pairs (p.y.0 / 2) y
-      → made ≡ product first y.pairs (phase_literal p.x.0 x.lit) (phase_literal p.y.0 y.lit) → MakesNode g first leaves v pairs n made
+      → made ≡ product_of first y.pairs (phase_literal p.x.0 x.lit) (phase_literal p.y.0 y.lit) → MakesNode g first leaves v pairs n made
 
 -- nodes, and the literals of bits that were made over them
 pub record BitsMade : Type 0 where

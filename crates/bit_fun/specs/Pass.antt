@@ -6,7 +6,7 @@ use Rattle.list_laws.specs.Order.{IsAscending}
 use Rattle.aig_core.specs.declared.lit.Lit.{Lit}
 use Rattle.aig_core.specs.declared.lit.Pair.{Pair}
 use Rattle.aig_core.specs.Aig.{Aig, first_and, node_count, pair_of}
-use Rattle.aig_core.specs.And.{Answer}
+use Rattle.aig_core.specs.And.{Answer, product_of}
 use Rattle.aig_core.specs.And.{with_pairs}
 use Rattle.cover_pick.specs.declared.lut.Lut.{Lut}
 use Rattle.cover_pick.specs.Cone.{is_stop}
@@ -17,7 +17,7 @@ use Rattle.depth_first.specs.declared.edge.Edge.TheVariants.{Node, Pass}
 use Rattle.depth_first.specs.DepthFirst.{Posts}
 use Rattle.depth_first.specs.Edges.{successors}
 use Rattle.bit_fun.specs.Parameters.{param_count, IsParam}
-use Rattle.bit_fun.specs.PackOf.{phase_literal, product, BitsMade, MakesNode, MakesTable, MakesTables}
+use Rattle.bit_fun.specs.PackOf.{phase_literal, BitsMade, MakesNode, MakesTable, MakesTables}
 
 -- the edge to a node: leaves, the constant and sources are passed over
 abbrev pub cone_edge : {S : Type 0} → Aig → List ℕ → ℕ → Edge S
@@ -65,7 +65,7 @@ with_made lits n a = record { pairs = a.pairs; lits = slice_set lits n (record {
 
 abbrev pub made_node : ℕ → PassValue → ℕ → Option Pair → PassValue
 made_node first s n None = s
-made_node first s n (Some p) = with_made s.lits n (product first s.pairs (fan_in s.lits p.x.0) (fan_in s.lits p.y.0))
+made_node first s n (Some p) = with_made s.lits n (product_of first s.pairs (fan_in s.lits p.x.0) (fan_in s.lits p.y.0))
 
 -- the nodes of an order, which stands the last first, one after the other
 abbrev pub pass_over : Aig → ℕ → PassValue → List ℕ → PassValue

@@ -1,36 +1,12 @@
 //! The cone of a table as a graph to walk, and its order.
-ghost use Rattle.std.specs.Prelude.{◌≡◌, ◌<◌, Some, OnOk};
-ghost use Rattle.aig_core.specs.Aig.{first_and, node_count, pair_of, IsAnd, IsNormal, AreNormal};
+ghost use Rattle.std.specs.Prelude.{◌≡◌, ◌<◌, OnOk};
+ghost use Rattle.aig_core.specs.Aig.{first_and, node_count, AreNormal};
 ghost use Rattle.cover_pick.specs.Cone.{is_stop as ends_way};
 ghost use Rattle.bit_fun.specs.Pass.{cone_edge, IsConeOrder};
 
-use aig_core::{Graph, Pair, Steps};
+use aig_core::Graph;
 use depth_first::{Edge, Successors, Walk};
 use std::alloc::AllocError;
-use std::marker::Brand;
-use std::sync::ledger::{Blank, Ledger};
-
-// The pair of an AND node, read with a counter of its own.
-fn pair_with<L: Ledger>(graph: &Graph, n: u32, blank: Blank) -> Pair
-    requires node { IsAnd graph.now n }
-    requires name { blank.name ≡ L.name }
-    requires parts { blank.parts ≡ L.parts }
-    requires some { 0 < L.parts }
-    ensures pair { pair_of graph.now n ≡ Some result }
-    ensures normal { IsNormal n result }
-{
-    let mut steps = Steps::<L>::start(blank);
-    graph.node(n, &mut steps)
-}
-
-// The pair of an AND node.
-pub fn pair_at(graph: &Graph, n: u32) -> Pair
-    requires { IsAnd graph.now n }
-    ensures pair { pair_of graph.now n ≡ Some result }
-    ensures normal { IsNormal n result }
-{
-    pair_with::<Brand>(graph, n, Blank::new(1))
-}
 
 // Does a node end the way down: the constant, a source or a leaf?
 fn is_stop(graph: &Graph, leaves: &[u32], n: u32) -> bool
@@ -69,7 +45,7 @@ impl Successors for Cone<'_> {
     ghost edges = { λ cone n. cone_edges cone.graph.now cone.leaves.now n };
 
     fn successor(&self, node: u32, place: usize) -> Option<Edge<()>> {
-        let pair = pair_at(self.graph, node);
+        let pair = self.graph.pair_at(node);
         match place {
             0 => Some(edge(self.graph, self.leaves, pair.x.0 / 2)),
             1 => Some(edge(self.graph, self.leaves, pair.y.0 / 2)),

@@ -1,7 +1,7 @@
 //! The pack of a template: the bits of its tables over one graph.
 ghost use Rattle.std.specs.Prelude.{◌≡◌, ℕ, ◌+◌, ◌*◌, ◌/◌, ◌^◌, ◌<◌, ◌≤◌, List, [], Bool, length, map, replicate, reverse, IfOk, OnOk};
 ghost use Rattle.list_laws.specs.Members.{In};
-ghost use Rattle.run_text.specs.Parameters.{AreNamed};
+ghost use Rattle.param_list.specs.Parameters.{AreNamed};
 ghost use Rattle.aig_core.specs.declared.lit.Kind.TheVariants.{Parameter};
 ghost use Rattle.aig_core.specs.Aig.{first_and, node_count, AreNormal};
 ghost use Rattle.cover_pick.specs.declared.lut.Lut.{Lut as LutValue};
@@ -20,8 +20,8 @@ use crate::pass::make_bit;
 use aig_core::{Graph, Kind, Lit};
 use cover_pick::{Lut, Template};
 use depth_first::Walk;
+use param_list::Params;
 use ppc_pack::{MOST_PACK_NODES, Pack, PackParam};
-use run_text::Params;
 use std::alloc::{AllocError, Global};
 use tl_text::Name;
 

@@ -8,7 +8,6 @@ ghost use Rattle.cover_pick.specs.Work.{IsInner};
 ghost use Rattle.bit_fun.specs.PackOf.{phase_literal};
 ghost use Rattle.bit_fun.specs.Pass.{lit_of, fan_in, with_leaves, AreLits, IsMadeOver, HaveSourceLits, IsTableIn, IsConeOrder, IsBetween, IsBitMade};
 
-use crate::cone_graph::pair_at;
 use aig_core::{AigErr, Graph, Lit};
 use cover_pick::Lut;
 use list_laws::digit;
@@ -56,7 +55,7 @@ fn make_node(graph: &Graph, n: u32, pack: &mut Graph, lits: &mut [Lit]) -> Resul
     requires room { length pack.old.pairs < pack.old.max }
     ensures { OnOk result (IsMadeOver graph.now pack.old lits.old (n ∷ []) pack.new lits.new) }
 {
-    let pair = pair_at(graph, n);
+    let pair = graph.pair_at(n);
     let x = fan_in_lit(lits, pair.x);
     let y = fan_in_lit(lits, pair.y);
     lits[n as usize] = product_of(pack, x, y)?;

@@ -1,5 +1,4 @@
 pub mod Common
-pub mod Walks
 pub mod Models
 pub mod Hierarchy
 pub mod Connections

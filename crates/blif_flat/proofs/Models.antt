@@ -1,5 +1,4 @@
 -- The models of a library: their names, their walk, their drivers and their weight.
-pub mod NameLemmas
 pub mod NameSetLemmas
 pub mod ModelNameLemmas
 pub mod LineLemmas

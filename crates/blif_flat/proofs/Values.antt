@@ -1,4 +1,2 @@
 -- The cycle relation: its law, and what a flat circuit computes.
-pub mod LawLemmas
 pub mod LoopLemmas
-pub mod EvaluateLemmas

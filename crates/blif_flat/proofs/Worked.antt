@@ -1,5 +1,2 @@
 -- Worked examples.
 pub mod Examples
-pub mod FlatExamples
-pub mod LoopExamples
-pub mod RunExamples

@@ -5,7 +5,7 @@ use Rattle.blif_flat.specs.ClockFaults.{Clocks, is_gate, ClockData}
 use Rattle.blif_flat.specs.DriverFaults.{models_fault}
 use Rattle.blif_flat.specs.LoopFault.{IsLoop}
 use Rattle.blif_flat.specs.Walk.{refused, walked, WalksMain}
-use Rattle.blif_flat.specs.Weight.{most_weight, Weighs}
+use Rattle.netlist.specs.Weight.{most_weight, Weighs}
 
 -- the walk comes past F1 to F4 and the weight's limit
 pub record IsWalked (library : LibraryValue) (ms : List ModelValue) : Type 0 where

@@ -1,17 +1,16 @@
 //! Flattening.
 ghost use Rattle.std.specs.Prelude.{◌≡◌, ◌<◌, ◌^◌, Some, IfOk, IfErr, length, slice_get};
-ghost use Rattle.blif_read.specs.ShortPorts.{HasShortPorts};
+ghost use Rattle.netlist.specs.ShortPorts.{HasShortPorts};
 ghost use Rattle.blif_flat.specs.{OrMemory, IsWellFormed, refusal_of, IsFault, HasOneFault, HasNoFault, IsWithinBounds, IsLight, HasValues, HasOneFlat, HasCycles, HasOneCycle, IsSound};
 
 use crate::circuit::connect::connect;
 use crate::clock::clock_check::check_clocks;
 use crate::clock::clocks::all_inputs;
 use crate::field::assemble::assemble;
-use crate::flat::Flat;
 use crate::flat_err::FlatErr;
 use crate::model::checks::check_models;
 use crate::model::ports::{ModelIndex, Ports, all_ports};
-use blif_read::{BlifModel, Library};
+use netlist::{BlifModel, Flat, Library, cycle_law, flat_law};
 use std::alloc::Global;
 
 // The main model.
@@ -51,7 +50,7 @@ fn main_ports(ports: &[Ports]) -> &Ports
 /// # Errors
 /// The first of the walk's F1 to F4, L2, the drivers' F5 and F6, the clocks' F8, F7 and F9, and F10; `Memory` where there is
 /// none. The order and the details are those of `specs/Faults.antt`.
-#[tactic(auto, using(crate::proofs::Values::LawLemmas::sound_law, crate::proofs::Faults::FaultOnceLemmas::one_fault, crate::proofs::Faults::FaultOnceLemmas::no_fault, crate::proofs::Fields::OneFlatLemmas::one_flat))]
+#[tactic(auto, using(crate::proofs::Faults::FaultOnceLemmas::one_fault, crate::proofs::Faults::FaultOnceLemmas::no_fault))]
 pub fn flatten(alloc: Global, library: &Library) -> Result<Flat, FlatErr>
     requires formed { IsWellFormed library.now }
     requires few { length library.now.models < 2 ^ 32 }
@@ -68,6 +67,7 @@ pub fn flatten(alloc: Global, library: &Library) -> Result<Flat, FlatErr>
     ensures clean { IfOk result (λ flat. HasNoFault library.now) }
     ensures err { IfErr result (OrMemory refusal_of (IsFault library.now)) }
 {
+    cycle_law(library);
     let models = library.models.as_slice();
     let ports = all_ports(alloc, models)?;
     let index = ModelIndex::make(alloc, models)?;
@@ -77,5 +77,6 @@ pub fn flatten(alloc: Global, library: &Library) -> Result<Flat, FlatErr>
     let inputs = all_inputs(alloc, main, main_ports(&ports))?;
     let clocks = check_clocks(alloc, library, main, &circuit, &inputs)?;
     let flat = assemble(alloc, library, main, &circuit, &inputs, &clocks)?;
+    flat_law(library, &flat);
     Ok(flat)
 }

@@ -37,11 +37,10 @@ mod call;
 mod circuit;
 mod clock;
 mod field;
-mod flat;
 mod flat_err;
 mod model;
 
 pub use call::flatten;
-pub use flat::{Flat, FlatCover, FlatLatch, Net, OutPort};
 pub use flat_err::FlatErr;
+pub use netlist::{Flat, FlatCover, FlatLatch, Net, OutPort};
 pub use tl_fault::Names;

@@ -2,8 +2,8 @@
 use Rattle.std.proofs.Common.{◌≡◌, ℕ, Bool, List, [], ◌∷◌, ◌++◌, refl, ap, ◌∙◌, inl, inr, ◌⊎◌}
 use Rattle.blif_read.specs.declared.keyword.Keyword.{Keyword}
 use Rattle.blif_read.specs.declared.keyword.Keyword.TheVariants as keyword
-use Rattle.blif_read.specs.CoverValue.{RowValue}
-use Rattle.blif_read.specs.LibraryValue.{Ports, input_ports, output_ports, clock_ports}
+use Rattle.netlist.specs.CoverValue.{RowValue}
+use Rattle.netlist.specs.LibraryValue.{Ports, input_ports, output_ports, clock_ports}
 use Rattle.blif_read.specs.Statement.{StatementValue}
 use Rattle.blif_read.specs.Rows.{IsRow, alone, behind, AreRows}
 use Rattle.blif_read.specs.Rows as lines_rows

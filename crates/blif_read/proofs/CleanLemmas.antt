@@ -3,35 +3,30 @@ use Rattle.std.proofs.Common.{◌≡◌, ℕ, ◌+◌, ◌-◌, ◌<◌, eqb, Li
 use Rattle.std.proofs.lemmas.List.{length-append, get_or-append-add}
 use Rattle.std.proofs.lemmas.Option.{none-some, same_Some}
 use Rattle.list_laws.specs.Members.{In}
-use Rattle.list_laws.proofs.Members.{In-append, In-left, In-right}
+use Rattle.list_laws.proofs.Members.{In-append, In-left, In-right, from_map}
 use Rattle.tl_text.specs.declared.token.Token.{Token}
 use Rattle.tl_text.specs.LineValue.{LineValue, token_bytes, words_line}
 use Rattle.tl_text.specs.Clean.{IsClean, AreCleanIn}
 use Rattle.tl_text.proofs.PlaceLemmas.{lines_clean}
 use Rattle.blif_read.specs.declared.keyword.Keyword.{Keyword}
 use Rattle.blif_read.specs.declared.keyword.Keyword.TheVariants as keyword
-use Rattle.blif_read.specs.declared.command.Body.TheVariants.{Cover, Latch, Subckt}
-use Rattle.blif_read.specs.declared.command.Command.{Command}
-use Rattle.blif_read.specs.declared.latch.Latch.{Latch as LatchValue}
-use Rattle.blif_read.specs.declared.subckt.Pair.{Pair}
-use Rattle.blif_read.specs.CoverValue.{CoverValue}
-use Rattle.blif_read.specs.SubcktValue.{SubcktValue}
-use Rattle.blif_read.specs.LibraryValue.{ModelValue, LibraryValue, Ports, input_ports, output_ports, clock_ports}
+use Rattle.netlist.specs.declared.command.Body.TheVariants.{Cover, Latch, Subckt}
+use Rattle.netlist.specs.declared.command.Command.{Command}
+use Rattle.netlist.specs.declared.latch.Latch.{Latch as LatchValue}
+use Rattle.netlist.specs.declared.subckt.Pair.{Pair}
+use Rattle.netlist.specs.CoverValue.{CoverValue}
+use Rattle.netlist.specs.SubcktValue.{SubcktValue}
+use Rattle.netlist.specs.LibraryValue.{ModelValue, LibraryValue, Ports, input_ports, output_ports, clock_ports}
 use Rattle.blif_read.specs.Statement.{StatementValue, arguments_of, keyword_of, statement_at, statement_of, statements}
 use Rattle.blif_read.specs.Latches.{IsLatch, plain, with_init, with_control, whole, Controls, nil, net}
 use Rattle.blif_read.specs.Connections.{connection_token, IsConnection, IsSubckt}
 use Rattle.blif_read.specs.Denotes.{port_names, names_in, IsCoverLine, AreCommands, IsModel, AreModels, Denotes}
 use Rattle.blif_read.specs.Denotes as denotes
-use Rattle.blif_read.specs.HasCleanNames.{AreClean, IsCleanPair, IsCleanBody, IsCleanModel, HasCleanNames}
+use Rattle.netlist.specs.HasCleanNames.{AreClean, IsCleanPair, IsCleanBody, IsCleanModel, HasCleanNames}
 
 -- all words of lines are clean
 abbrev AllClean : List StatementValue → Type 0
 AllClean ss = (s : StatementValue) → In ss s → AreClean s.arguments
-
-from_map : {A B : Type 0} (f : A → B) (xs : List A) (y : B) → In (map f xs) y → (x : A) × In xs x × (y ≡ f x)
-from_map f [] y i = absurd i
-from_map f (x ∷ xs) y (inl e) = (x, inl refl, e)
-from_map f (x ∷ xs) y (inr i) = let p = from_map f xs y i in (p.0, inr p.1, p.2)
 
 word_of : (k : Keyword) (word : List ℕ) (rest : List (List ℕ)) (name : List ℕ) → In (arguments_of k word rest) name → In (word ∷ rest) name
 word_of keyword.Plain word rest name i = i

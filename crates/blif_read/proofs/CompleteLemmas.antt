@@ -5,13 +5,13 @@ use Rattle.std.proofs.lemmas.Bool.{cond-false}
 use Rattle.blif_read.specs.declared.blif_err.BlifErr.{BlifErr}
 use Rattle.blif_read.specs.declared.blif_err.BlifErr.TheVariants.{DuplicateModel}
 use Rattle.blif_read.specs.declared.keyword.Keyword.TheVariants as keyword
-use Rattle.blif_read.specs.declared.command.Body.{Body}
-use Rattle.blif_read.specs.declared.command.Body.TheVariants.{Cover, Latch, Subckt}
-use Rattle.blif_read.specs.declared.command.Command.{Command}
-use Rattle.blif_read.specs.CoverValue.{CoverValue, RowValue}
-use Rattle.blif_read.specs.LibraryValue.{ModelValue, LibraryValue, Ports, input_ports, output_ports, clock_ports, ports_of}
+use Rattle.netlist.specs.declared.command.Body.{Body}
+use Rattle.netlist.specs.declared.command.Body.TheVariants.{Cover, Latch, Subckt}
+use Rattle.netlist.specs.declared.command.Command.{Command}
+use Rattle.netlist.specs.CoverValue.{CoverValue, RowValue}
+use Rattle.netlist.specs.LibraryValue.{ModelValue, LibraryValue, Ports, input_ports, output_ports, clock_ports, ports_of}
 use Rattle.blif_read.specs.Statement.{StatementValue}
-use Rattle.blif_read.specs.Once.{AreOnce}
+use Rattle.tl_text.specs.Once.{AreOnce}
 use Rattle.blif_read.specs.Rows.{AreRows}
 use Rattle.blif_read.specs.Denotes.{port_names, names_in, IsCoverLine, AreCommands, IsModel, AreModels, Denotes}
 use Rattle.blif_read.specs.Denotes as denotes
@@ -19,7 +19,7 @@ use Rattle.blif_read.specs.LineFault.{has, model_fault, ports_fault, fault_by}
 use Rattle.blif_read.specs.Reading.{State, ModelRead, CoverRead, with_command, with_cover, flushed, ended, context, with_ports, ports_read, body_read, next_by, or_fault, steps, library_at_end, finished, lines_read, text_read, fresh}
 use Rattle.blif_read.proofs.FitsLemmas.{once_has, ports_fit, latch_fits, subckt_fits, cover_fits, names_fit}
 use Rattle.blif_read.proofs.StepLemmas.{step_over, within, between, value_after, with_last, cover_with, rows_steps}
-use Rattle.blif_read.proofs.PortLemmas.{ports_grown, ports_keep, ports_commanded}
+use Rattle.blif_read.proofs.PortLemmas.{ports_grown, ports_keep, ports_commanded, ports_flushed}
 use Rattle.blif_read.proofs.BodyPortLemmas.{keyword_for, ports_line, which_ports, own_names, names_none, latch_none, subckt_none, end_none, skipped, rows_skipped}
 
 -- what follows the lines of a model: nothing, or a `.model` line
@@ -62,11 +62,6 @@ becomes_itself m t ss none b =
     same : (p : Ports) → ports_of p m ≡ ports_of p t
     same p = sym (b.ports p ∙ ap (λ names. ports_of p m ++ names) (none p) ∙ append-nil (ports_of p m))
 
--- the last cover changes no ports
-flushed_ports : (p : Ports) (m : ModelValue) (c : Option CoverRead) → ports_of p (with_cover m c) ≡ ports_of p m
-flushed_ports p m None = refl
-flushed_ports p m (Some c) = ports_commanded p m c.line (Cover c.cover)
-
 becomes_command : (m t : ModelValue) (line : ℕ) (body : Body) (ss rest : List StatementValue) (commands : List Command) → ((p : Ports) → names_in p ss ≡ names_in p rest)
     → Becomes m ss (record { line = line; body = body } ∷ commands) t → Becomes (with_command m line body) rest commands t
 becomes_command m t line body ss rest commands same b = record {
@@ -108,7 +103,7 @@ ports_step : (names : List (List ℕ)) (done : List ModelValue) (t : ModelValue)
     → Becomes (flushed r) (s ∷ ss) commands t → steps (within names done r) (s ∷ more) ≡ steps (within names done (ports_read q s.arguments r)) more
 ports_step names done t r q s ss more commands k once b =
     let same : ports_of q t ≡ ports_of q r.model ++ (s.arguments ++ names_in q ss) =
-    b.ports q ∙ ap (λ ns. ns ++ (port_names q s.keyword s.arguments ++ names_in q ss)) (flushed_ports q r.model r.cover)
+    b.ports q ∙ ap (λ ns. ns ++ (port_names q s.keyword s.arguments ++ names_in q ss)) (ports_flushed q r.model r.cover)
     ∙ ap (λ w. ports_of q r.model ++ (port_names q w s.arguments ++ names_in q ss)) k
     ∙ ap (λ ns. ports_of q r.model ++ (ns ++ names_in q ss)) (own_names q s.arguments) in
     step_over (within names done r) s (keyword_for q) s.arguments more k refl

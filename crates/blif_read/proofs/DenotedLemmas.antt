@@ -8,11 +8,11 @@ use Rattle.tl_text.specs.declared.text_err.TextErr.{TextErr}
 use Rattle.blif_read.specs.declared.blif_err.BlifErr.{BlifErr}
 use Rattle.blif_read.specs.declared.keyword.Keyword.{Keyword}
 use Rattle.blif_read.specs.declared.keyword.Keyword.TheVariants.{Model, Inputs, Outputs, Clock, Names, Latch, Subckt, End, Unknown, Plain}
-use Rattle.blif_read.specs.declared.command.Body.{Body}
-use Rattle.blif_read.specs.declared.command.Body.TheVariants as body
-use Rattle.blif_read.specs.LibraryValue.{ModelValue, LibraryValue, input_ports, output_ports, clock_ports, ports_of}
+use Rattle.netlist.specs.declared.command.Body.{Body}
+use Rattle.netlist.specs.declared.command.Body.TheVariants as body
+use Rattle.netlist.specs.LibraryValue.{ModelValue, LibraryValue, input_ports, output_ports, clock_ports, ports_of}
 use Rattle.blif_read.specs.Statement.{StatementValue, statements}
-use Rattle.blif_read.specs.Once.{AreOnce}
+use Rattle.tl_text.specs.Once.{AreOnce}
 use Rattle.blif_read.specs.Rows.{none}
 use Rattle.blif_read.specs.Denotes.{AreModels, AreLibrary, Denotes, none, end as end_line, latch as latch_line, subckt as subckt_line}
 use Rattle.blif_read.specs.Context.{row_of}

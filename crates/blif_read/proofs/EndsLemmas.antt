@@ -3,11 +3,11 @@ use Rattle.std.proofs.Common.{◌≡◌, ℕ, ◌<◌, Bool, List, [], ◌∷◌
 use Rattle.std.proofs.lemmas.List.{append-nil, append_assoc}
 use Rattle.std.proofs.lemmas.Option.{none-some}
 use Rattle.blif_read.specs.declared.keyword.Keyword.TheVariants.{Model, Names, Plain}
-use Rattle.blif_read.specs.declared.command.Body.{Body}
-use Rattle.blif_read.specs.declared.command.Body.TheVariants as body
-use Rattle.blif_read.specs.declared.command.Command.{Command}
-use Rattle.blif_read.specs.CoverValue.{CoverValue, RowValue}
-use Rattle.blif_read.specs.LibraryValue.{ModelValue, Ports, input_ports, output_ports, clock_ports, ports_of}
+use Rattle.netlist.specs.declared.command.Body.{Body}
+use Rattle.netlist.specs.declared.command.Body.TheVariants as body
+use Rattle.netlist.specs.declared.command.Command.{Command}
+use Rattle.netlist.specs.CoverValue.{CoverValue, RowValue}
+use Rattle.netlist.specs.LibraryValue.{ModelValue, Ports, input_ports, output_ports, clock_ports, ports_of}
 use Rattle.blif_read.specs.Statement.{StatementValue}
 use Rattle.blif_read.specs.Rows.{IsRow, AreRows, none, more}
 use Rattle.blif_read.specs.Denotes.{port_names, names_in, AreCommands, AreModels, none, ports as ports_line, cover as cover_lines, model as model_lines}

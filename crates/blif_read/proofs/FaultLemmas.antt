@@ -11,12 +11,13 @@ use Rattle.blif_read.specs.declared.blif_err.BlifErr.{BlifErr}
 use Rattle.blif_read.specs.declared.blif_err.BlifErr.TheVariants.{NoModel}
 use Rattle.blif_read.specs.declared.keyword.Keyword.{Keyword}
 use Rattle.blif_read.specs.declared.keyword.Keyword.TheVariants.{Model, Inputs, Outputs, Clock, Names, Latch, Subckt, End, Unknown, Plain}
-use Rattle.blif_read.specs.CoverValue.{CoverValue, RowValue}
-use Rattle.blif_read.specs.LibraryValue.{ModelValue, LibraryValue, Ports, input_ports, output_ports, clock_ports, ports_of}
+use Rattle.netlist.specs.CoverValue.{CoverValue, RowValue}
+use Rattle.netlist.specs.LibraryValue.{ModelValue, LibraryValue, Ports, input_ports, output_ports, clock_ports, ports_of}
 use Rattle.blif_read.specs.Statement.{StatementValue, statements}
 use Rattle.blif_read.specs.Context.{Context, CoverPlace, RowRead, row_of, first_value, row_place, place_after, open_after, models_after, ports_after, context_of}
 use Rattle.blif_read.specs.LineFault.{or_later, mixed_fault, row_read_fault, row_fault, fault_by, line_fault}
 use Rattle.blif_read.specs.ReadFault.{first_fault, is_model_keyword, has_model, statements_fault, blif_err, lines_fault, read_fault}
+use Rattle.blif_read.proofs.PortLemmas.{ports_flushed}
 use Rattle.blif_read.specs.Reading.{CoverRead, ModelRead, State, start, with_cover, ended, value_so_far, place_of_cover, context, cover_of, with_row, with_row_words, next_by, next, or_fault, steps, library_at_end, finished, library_read, lines_read, text_read}
 
 -- contexts with the same parts are the same
@@ -35,19 +36,11 @@ place_behind k c words = record {
 }
 
 -- the ports of a model with its last cover
-ports_same : (p : Ports) (m : ModelValue) (c : Option CoverRead) → ports_of p (with_cover m c) ≡ ports_of p m
-ports_same input_ports m None = refl
-ports_same input_ports m (Some c) = refl
-ports_same output_ports m None = refl
-ports_same output_ports m (Some c) = refl
-ports_same clock_ports m None = refl
-ports_same clock_ports m (Some c) = refl
-
 ports_kept : (p : Ports) (m : ModelValue) (c : Option CoverRead) → ports_of p (with_cover m c) ≡ ports_of p m ++ []
-ports_kept p m c = ports_same p m c ∙ sym (append-nil (ports_of p m))
+ports_kept p m c = ports_flushed p m c ∙ sym (append-nil (ports_of p m))
 
 ports_added : (p : Ports) (m : ModelValue) (c : Option CoverRead) (words : List (List ℕ)) → ports_of p (with_cover m c) ++ words ≡ ports_of p m ++ words
-ports_added p m c words = ap (λ ports. ports ++ words) (ports_same p m c)
+ports_added p m c words = ap (λ ports. ports ++ words) (ports_flushed p m c)
 
 -- the place of a cover behind its row: a row that isn't mixed has the value of the first one
 pub same_value : (n : ℕ) (first value : Bool) → mixed_fault n (Some first) value ≡ None → value ≡ first

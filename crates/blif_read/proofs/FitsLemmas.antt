@@ -8,17 +8,18 @@ use Rattle.list_laws.specs.Members.{In}
 use Rattle.tl_text.specs.Decimal.{bit_of}
 use Rattle.std.proofs.lemmas.List.{length-map}
 use Rattle.blif_read.specs.declared.blif_err.BlifErr.TheVariants.{BadConnection}
-use Rattle.blif_read.specs.declared.cell.Cell.{Cell}
-use Rattle.blif_read.specs.declared.cell.Cell.TheVariants.{Zero, One, Any}
-use Rattle.blif_read.specs.declared.latch.Latch.{Latch}
-use Rattle.blif_read.specs.declared.subckt.Pair.{Pair}
-use Rattle.blif_read.specs.CoverValue.{RowValue}
-use Rattle.blif_read.specs.SubcktValue.{SubcktValue}
+use Rattle.netlist.specs.declared.cell.Cell.{Cell}
+use Rattle.netlist.specs.declared.cell.Cell.TheVariants.{Zero, One, Any}
+use Rattle.netlist.specs.declared.latch.Latch.{Latch}
+use Rattle.netlist.specs.declared.subckt.Pair.{Pair}
+use Rattle.netlist.specs.CoverValue.{RowValue}
+use Rattle.netlist.specs.SubcktValue.{SubcktValue}
 use Rattle.blif_read.specs.Statement.{StatementValue}
-use Rattle.blif_read.specs.Once.{AreOnce}
+use Rattle.tl_text.specs.Once.{AreOnce}
 use Rattle.blif_read.specs.Rows.{IsRow, alone, behind, cell_character, output_token}
 use Rattle.blif_read.specs.Latches.{IsLatch, plain, with_init, with_control, whole, Starts, one, zero_, Controls, nil, net}
-use Rattle.blif_read.specs.Connections.{connection_token, IsConnection, formals, IsSubckt}
+use Rattle.blif_read.specs.Connections.{connection_token, IsConnection, IsSubckt}
+use Rattle.netlist.specs.SubcktValue.{formals}
 use Rattle.blif_read.specs.Context.{cells_of, row_of, row_with}
 use Rattle.blif_read.specs.LineFault.{has, ports_fault, init_fault, latch_fault, connection_of, connections_fault, subckt_fault, split_at, names_fault, repeats_formal, with_formal}
 use Rattle.blif_read.specs.Reading.{cover_of, control_of, init_of, latch_of, put_pair, pairs_of, subckt_of}

@@ -11,15 +11,16 @@ use Rattle.list_laws.proofs.Choice.{choose, none_else, none_both, some_then, som
 use Rattle.tl_text.specs.Decimal.{bit_of}
 use Rattle.blif_read.specs.declared.blif_err.BlifErr.{BlifErr}
 use Rattle.blif_read.specs.declared.blif_err.BlifErr.TheVariants.{BadConnection}
-use Rattle.blif_read.specs.declared.cell.Cell.{Cell}
-use Rattle.blif_read.specs.declared.cell.Cell.TheVariants.{Zero, One, Any}
+use Rattle.netlist.specs.declared.cell.Cell.{Cell}
+use Rattle.netlist.specs.declared.cell.Cell.TheVariants.{Zero, One, Any}
 use Rattle.blif_read.specs.declared.keyword.Keyword.TheVariants.{Plain}
-use Rattle.blif_read.specs.declared.subckt.Pair.{Pair}
+use Rattle.netlist.specs.declared.subckt.Pair.{Pair}
 use Rattle.blif_read.specs.Statement.{StatementValue}
-use Rattle.blif_read.specs.Once.{AreOnce}
+use Rattle.tl_text.specs.Once.{AreOnce}
 use Rattle.blif_read.specs.Rows.{cell_character, output_token, IsRow, alone, behind}
 use Rattle.blif_read.specs.Latches.{Starts, one, zero_, Controls, nil, net, IsLatch, plain, with_init, with_control, whole}
-use Rattle.blif_read.specs.Connections.{connection_token, IsConnection, formals, IsSubckt}
+use Rattle.blif_read.specs.Connections.{connection_token, IsConnection, IsSubckt}
+use Rattle.netlist.specs.SubcktValue.{formals}
 use Rattle.blif_read.specs.Context.{RowRead, cell_of, put_cell, cells_of, row_with, row_of}
 use Rattle.blif_read.specs.LineFault.{or_later, names_fault, init_fault, kind_fault, latch_fault, split_at, connection_of, repeats_formal, with_formal, connections_fault, subckt_fault}
 use Rattle.blif_read.specs.Reading.{cover_of, control_of, init_of, latch_of, put_pair, pairs_of, subckt_of}

@@ -3,10 +3,10 @@ use Rattle.std.proofs.Common.{◌≡◌, ℕ, List, [], ◌∷◌, ◌++◌, map
 use Rattle.std.proofs.lemmas.List.{map_push}
 use Rattle.blif_read.specs.declared.keyword.Keyword.{Keyword}
 use Rattle.blif_read.specs.declared.keyword.Keyword.TheVariants.{Model, End, Plain}
-use Rattle.blif_read.specs.LibraryValue.{ModelValue}
+use Rattle.netlist.specs.LibraryValue.{ModelValue}
 use Rattle.blif_read.specs.Statement.{StatementValue}
 use Rattle.blif_read.specs.LineFault.{fault_by, line_fault}
-use Rattle.blif_read.specs.Once.{AreOnce}
+use Rattle.tl_text.specs.Once.{AreOnce}
 use Rattle.blif_read.specs.Reading.{CoverRead, ModelRead, State, with_cover, flushed, ended, context, first_word, fresh, model_after, next_by, next, steps}
 use Rattle.blif_read.proofs.FaultLemmas.{state_of, or_fault_ok}
 use Rattle.blif_read.proofs.OnceLemmas.{once_push, IsNewName, model_new}

@@ -5,7 +5,7 @@ use Rattle.std.proofs.lemmas.Option.{none-some}
 use Rattle.list_laws.specs.Members.{In}
 use Rattle.blif_read.specs.declared.blif_err.BlifErr.TheVariants.{DuplicateModel, DuplicatePort}
 use Rattle.blif_read.specs.LineFault.{has, model_fault, ports_fault}
-use Rattle.blif_read.specs.Once.{AreOnce}
+use Rattle.tl_text.specs.Once.{AreOnce}
 use Rattle.list_laws.proofs.Choice.{none_both}
 pub use Rattle.list_laws.proofs.Members.{In-append}
 pub use Rattle.tl_text.proofs.NameLemmas.{not_there, once_push}

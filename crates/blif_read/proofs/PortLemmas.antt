@@ -1,18 +1,19 @@
 -- The ports that lines add to a model, and that no port stands twice in its list.
-use Rattle.std.proofs.Common.{◌≡◌, ◌⊎◌, ℕ, Bool, true, false, List, [], ◌∷◌, ◌++◌, None, refl, sym, ap, ◌∙◌, subst, inl, inr}
+use Rattle.std.proofs.Common.{◌≡◌, ◌⊎◌, ℕ, Bool, true, false, List, [], ◌∷◌, ◌++◌, Option, Some, None, refl, sym, ap, ◌∙◌, subst, inl, inr}
 use Rattle.std.proofs.lemmas.List.{append-nil, append_assoc}
 use Rattle.blif_read.specs.declared.keyword.Keyword.{Keyword}
 use Rattle.blif_read.specs.declared.keyword.Keyword.TheVariants.{Inputs, Outputs, Clock}
-use Rattle.blif_read.specs.declared.command.Body.{Body}
-use Rattle.blif_read.specs.declared.command.Command.{Command}
-use Rattle.blif_read.specs.CoverValue.{RowValue}
-use Rattle.blif_read.specs.LibraryValue.{ModelValue, Ports, input_ports, output_ports, clock_ports, ports_of}
+use Rattle.netlist.specs.declared.command.Body.{Body}
+use Rattle.netlist.specs.declared.command.Body.TheVariants.{Cover}
+use Rattle.netlist.specs.declared.command.Command.{Command}
+use Rattle.netlist.specs.CoverValue.{RowValue}
+use Rattle.netlist.specs.LibraryValue.{ModelValue, Ports, input_ports, output_ports, clock_ports, ports_of}
 use Rattle.blif_read.specs.Statement.{StatementValue}
-use Rattle.blif_read.specs.Once.{AreOnce}
+use Rattle.tl_text.specs.Once.{AreOnce}
 use Rattle.blif_read.specs.Rows.{AreRows, none, more}
 use Rattle.blif_read.specs.Denotes.{port_names, names_in, none}
 use Rattle.blif_read.specs.LineFault.{ports_fault}
-use Rattle.blif_read.specs.Reading.{with_command, with_ports}
+use Rattle.blif_read.specs.Reading.{CoverRead, with_command, with_cover, with_ports}
 use Rattle.blif_read.proofs.OnceLemmas.{ports_once}
 use Rattle.blif_read.proofs.BodyPortLemmas.{keyword_for, row_keyword}
 
@@ -92,6 +93,11 @@ pub ports_commanded : (p : Ports) (m : ModelValue) (n : ℕ) (made : Body) → p
 ports_commanded input_ports m n made = refl
 ports_commanded output_ports m n made = refl
 ports_commanded clock_ports m n made = refl
+
+-- nor does the last cover
+pub ports_flushed : (p : Ports) (m : ModelValue) (c : Option CoverRead) → ports_of p (with_cover m c) ≡ ports_of p m
+ports_flushed p m None = refl
+ports_flushed p m (Some c) = ports_commanded p m c.line (Cover c.cover)
 
 pub once_commanded : (m : ModelValue) (n : ℕ) (made : Body) → HasOnce m → HasOnce (with_command m n made)
 once_commanded m n made o p = subst AreOnce (sym (ports_commanded p m n made)) (o p)

@@ -3,13 +3,13 @@ use Rattle.std.proofs.Common.{◌≡◌, ℕ, ◌<◌, ◌^◌, true, false, Lis
 use Rattle.std.proofs.lemmas.Option.{same_Some}
 use Rattle.list_laws.specs.Members.{In}
 use Rattle.blif_read.specs.declared.blif_err.BlifErr.TheVariants.{BadLatch, LatchKind}
-use Rattle.blif_read.specs.declared.cell.Cell.TheVariants.{Zero, One, Any}
-use Rattle.blif_read.specs.CoverValue.{CoverValue, matches, cover_value}
+use Rattle.netlist.specs.declared.cell.Cell.TheVariants.{Zero, One, Any}
+use Rattle.netlist.specs.CoverValue.{CoverValue, matches, cover_value}
 use Rattle.blif_read.specs.Context.{row_of}
 use Rattle.blif_read.specs.LineFault.{connection_of, latch_fault}
-use Rattle.blif_read.specs.LibraryValue.{ModelValue}
+use Rattle.netlist.specs.LibraryValue.{ModelValue}
 use Rattle.blif_read.specs.ReadFault.{read_fault}
-use Rattle.blif_read.specs.ShortPorts.{HasShortPorts}
+use Rattle.netlist.specs.ShortPorts.{HasShortPorts}
 
 -- a row matches values of its length, and none of another
 as_long : matches (One ∷ Any ∷ Zero ∷ []) (true ∷ false ∷ false ∷ []) ≡ true

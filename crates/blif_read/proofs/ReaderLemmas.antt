@@ -5,12 +5,13 @@ use Rattle.std.specs.Option.{option_map}
 use Rattle.std.proofs.lemmas.Bool.{cases_Bool, cases_lt, lt-ltb, le-ltb}
 use Rattle.std.proofs.lemmas.List.{drop_more}
 use Rattle.tl_text.specs.NameIndex.{place_of}
+use Rattle.tl_text.proofs.NameSetLemmas.{place_some}
 use Rattle.blif_read.specs.declared.blif_err.BlifErr.{BlifErr}
 use Rattle.blif_read.specs.declared.blif_err.BlifErr.TheVariants.{BadConnection}
 use Rattle.blif_read.specs.declared.keyword.Keyword.{Keyword}
 use Rattle.blif_read.specs.declared.keyword.Keyword.TheVariants as k
-use Rattle.blif_read.specs.declared.subckt.Pair.{Pair}
-use Rattle.blif_read.specs.LibraryValue.{ModelValue}
+use Rattle.netlist.specs.declared.subckt.Pair.{Pair}
+use Rattle.netlist.specs.LibraryValue.{ModelValue}
 use Rattle.blif_read.specs.Statement.{StatementValue}
 use Rattle.blif_read.specs.LineFault.{has, connection_of, connections_fault, fault_by, line_fault}
 use Rattle.tl_fault.specs.OrMemory.{OrMemory}
@@ -18,25 +19,10 @@ use Rattle.blif_read.specs.Refusals.{refusal_of}
 use Rattle.blif_read.specs.Reading.{ModelRead, State, context, model_after, next, next_by, pairs_of}
 use Rattle.blif_read.specs.Inside.{inside_fault}
 
--- a name is among others exactly where it has a place
-ltb_suc : (p n : ℕ) → ltb p n ≡ ltb (1 + p) (suc n)
-ltb_suc p n = elim (cases_lt p n) [ inl h ↦ lt-ltb p n h ∙ sym (lt-ltb (1 + p) (suc n) (omega arith)) | inr h ↦ le-ltb p n h ∙ sym (le-ltb (1 + p) (suc n) (omega arith)) ]
-
-any_place : {A : Type 0} (test : A → Bool) (xs : List A) → list_any test xs ≡ ltb (position_or_len test xs) (length xs)
-any_place test [] = refl
-any_place test (x ∷ xs) = elim (cases_Bool (test x)) [ inl t ↦ rw t (sym (lt-ltb 0 (suc (length xs)) (omega arith))) | inr f ↦ rw f (any_place test xs ∙ ltb_suc (position_or_len test xs) (length xs)) ]
-
-is_some_cond : {A : Type 0} (b : Bool) (x : A) → is_some (cond b (Some x) None) ≡ b
-is_some_cond true x = refl
-is_some_cond false x = refl
-
-pub has_place : (names : List (List ℕ)) (name : List ℕ) → is_some (place_of names name) ≡ has names name
-has_place names name = is_some_cond (ltb (position_or_len (bytes_eq name) names) (length names)) (position_or_len (bytes_eq name) names) ∙ sym (any_place (bytes_eq name) names)
-
--- the same, of an index and of the answer that it gave
+-- a name is among others exactly where an index answers a place
 pub has_from : (names index : List (List ℕ)) (name bytes : List ℕ) (o : Option ℕ) (b : Bool) → index ≡ names → bytes ≡ name → o ≡ place_of index bytes → b ≡ is_some o → has names name ≡ b
 has_from names index name bytes o b same alike is found =
-    sym (found ∙ ap is_some is ∙ has_place index bytes ∙ ap (λ (l : List (List ℕ)). has l bytes) same ∙ ap (λ (l : List ℕ). has names l) alike)
+    sym (found ∙ ap is_some is ∙ place_some index bytes ∙ ap (λ (l : List (List ℕ)). has l bytes) same ∙ ap (λ (l : List ℕ). has names l) alike)
 
 -- one more connection
 pub no_connection : (number : ℕ) (formals : List (List ℕ)) (word : List ℕ) (words : List (List ℕ)) → connection_of word ≡ None → connections_fault number formals (word ∷ words) ≡ Some (BadConnection number)

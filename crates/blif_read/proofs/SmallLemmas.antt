@@ -6,8 +6,8 @@ use Rattle.list_laws.specs.Members.{In}
 use Rattle.list_laws.proofs.Members.{In-append}
 use Rattle.tl_text.specs.declared.logical_lines.TheConstants.{MOST_BYTES}
 use Rattle.blif_read.specs.Denotes.{Denotes}
-use Rattle.blif_read.specs.LibraryValue.{ModelValue, LibraryValue}
-use Rattle.blif_read.specs.ShortPorts.{HasShortPorts}
+use Rattle.netlist.specs.LibraryValue.{ModelValue, LibraryValue}
+use Rattle.netlist.specs.ShortPorts.{HasShortPorts}
 use Rattle.blif_read.specs.Size.{names_size, model_size, models_size, library_size}
 use Rattle.blif_read.proofs.SizeLemmas.{denotes_small}
 

@@ -5,8 +5,8 @@ use Rattle.std.proofs.lemmas.Bool.{eqb-false}
 use Rattle.list_laws.proofs.Choice.{choose}
 use Rattle.blif_read.specs.declared.keyword.Keyword.{Keyword}
 use Rattle.blif_read.specs.declared.keyword.Keyword.TheVariants as keyword
-use Rattle.blif_read.specs.CoverValue.{CoverValue, RowValue}
-use Rattle.blif_read.specs.LibraryValue.{ModelValue}
+use Rattle.netlist.specs.CoverValue.{CoverValue, RowValue}
+use Rattle.netlist.specs.LibraryValue.{ModelValue}
 use Rattle.blif_read.specs.Statement.{StatementValue}
 use Rattle.blif_read.specs.Rows.{IsRow, AreRows}
 use Rattle.blif_read.specs.Rows as lines_rows

@@ -4,7 +4,7 @@ use Rattle.std.specs.Result.{result_ok}
 use Rattle.std.proofs.lemmas.Option.{same_Some, none-some}
 use Rattle.blif_read.specs.declared.blif_err.BlifErr.{BlifErr}
 use Rattle.blif_read.specs.declared.blif_err.BlifErr.TheVariants as blif_err
-use Rattle.blif_read.specs.LibraryValue.{LibraryValue}
+use Rattle.netlist.specs.LibraryValue.{LibraryValue}
 use Rattle.blif_read.specs.Denotes.{Denotes}
 use Rattle.tl_fault.specs.OrMemory.{OrMemory}
 use Rattle.blif_read.specs.Refusals.{refusal_of}

@@ -1,15 +1,15 @@
 -- Every library that a text denotes is well formed.
 use Rattle.std.proofs.Common.{◌≡◌, ℕ, Bool, List, length, sym, ap, ◌∙◌, subst, inl, inr}
 use Rattle.list_laws.specs.Members.{In}
-use Rattle.blif_read.specs.declared.command.Command.{Command}
-use Rattle.blif_read.specs.CoverValue.{RowValue}
-use Rattle.blif_read.specs.LibraryValue.{ModelValue, LibraryValue}
+use Rattle.netlist.specs.declared.command.Command.{Command}
+use Rattle.netlist.specs.CoverValue.{RowValue}
+use Rattle.netlist.specs.LibraryValue.{ModelValue, LibraryValue}
 use Rattle.blif_read.specs.Statement.{StatementValue}
 use Rattle.blif_read.specs.Rows.{IsRow, alone, behind, AreRows}
 use Rattle.blif_read.specs.Rows as lines_rows
 use Rattle.blif_read.specs.Denotes.{AreCommands, AreModels, Denotes}
 use Rattle.blif_read.specs.Denotes as denotes
-use Rattle.blif_read.specs.WellFormed.{IsWellFormedBody, IsWellFormedModel, IsWellFormed}
+use Rattle.netlist.specs.WellFormed.{IsWellFormedBody, IsWellFormedModel, IsWellFormed}
 
 row_width : (inputs : ℕ) (value : Bool) (s : StatementValue) (row : RowValue) → IsRow inputs value s row → length row.cells ≡ inputs
 row_width inputs value s row (alone none k words cells) = ap length cells ∙ sym none

@@ -1,9 +1,10 @@
 -- The form of a `.subckt` line.
 use Rattle.std.specs.Prelude.{◌≡◌, ℕ, ◌<◌, List, ◌∷◌, ◌++◌, length, map}
 use Rattle.list_laws.specs.Members.{In}
-use Rattle.blif_read.specs.declared.subckt.Pair.{Pair}
-use Rattle.blif_read.specs.SubcktValue.{SubcktValue}
-use Rattle.blif_read.specs.Once.{AreOnce}
+use Rattle.netlist.specs.declared.subckt.Pair.{Pair}
+pub use Rattle.netlist.specs.SubcktValue.{formals}
+use Rattle.netlist.specs.SubcktValue.{SubcktValue}
+use Rattle.tl_text.specs.Once.{AreOnce}
 
 -- a connection as it is written: the formal, `=` (61), the actual
 abbrev pub connection_token : Pair → List ℕ
@@ -14,9 +15,6 @@ pub record IsConnection (pair : Pair) : Type 0 where
   pub formal : 0 < length pair.formal
   pub first : ¬ (In pair.formal 61)
   pub actual : 0 < length pair.actual
-
-abbrev pub formals : List Pair → List (List ℕ)
-formals pairs = map (λ (pair : Pair). pair.formal) pairs
 
 -- the words behind `.subckt`: the name of a model and connections, in which no formal stands twice
 pub record IsSubckt (words : List (List ℕ)) (subckt : SubcktValue) : Type 0 where

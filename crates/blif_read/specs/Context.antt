@@ -3,11 +3,11 @@
 use Rattle.std.specs.Prelude.{ℕ, ◌-◌, ◌==◌, Bool, true, false, not, ◌&&◌, if◌then◌else◌, List, [], ◌∷◌, ◌++◌, length, Option, Some, None}
 use Rattle.std.specs.Option.{option_map}
 use Rattle.tl_text.specs.Decimal.{bit_of}
-use Rattle.blif_read.specs.declared.cell.Cell.{Cell}
-use Rattle.blif_read.specs.declared.cell.Cell.TheVariants.{Zero, One, Any}
+use Rattle.netlist.specs.declared.cell.Cell.{Cell}
+use Rattle.netlist.specs.declared.cell.Cell.TheVariants.{Zero, One, Any}
 use Rattle.blif_read.specs.declared.keyword.Keyword.{Keyword}
 use Rattle.blif_read.specs.declared.keyword.Keyword.TheVariants.{Model, Inputs, Outputs, Clock, Names, Latch, Subckt, End, Unknown, Plain}
-use Rattle.blif_read.specs.LibraryValue.{Ports, input_ports, output_ports, clock_ports}
+use Rattle.netlist.specs.LibraryValue.{Ports, input_ports, output_ports, clock_ports}
 use Rattle.blif_read.specs.Statement.{StatementValue}
 use Rattle.blif_read.specs.Denotes.{port_names}
 

@@ -4,14 +4,14 @@ use Rattle.tl_text.specs.LineValue.{LineValue}
 use Rattle.tl_text.specs.Lines.{lines_of}
 use Rattle.blif_read.specs.declared.keyword.Keyword.{Keyword}
 use Rattle.blif_read.specs.declared.keyword.Keyword.TheVariants as keyword
-use Rattle.blif_read.specs.declared.command.Body.TheVariants.{Cover, Latch, Subckt}
-use Rattle.blif_read.specs.declared.command.Command.{Command}
-use Rattle.blif_read.specs.declared.latch.Latch.{Latch as LatchValue}
-use Rattle.blif_read.specs.CoverValue.{CoverValue}
-use Rattle.blif_read.specs.SubcktValue.{SubcktValue}
-use Rattle.blif_read.specs.LibraryValue.{ModelValue, LibraryValue, Ports, input_ports, output_ports, clock_ports, ports_of}
+use Rattle.netlist.specs.declared.command.Body.TheVariants.{Cover, Latch, Subckt}
+use Rattle.netlist.specs.declared.command.Command.{Command}
+use Rattle.netlist.specs.declared.latch.Latch.{Latch as LatchValue}
+use Rattle.netlist.specs.CoverValue.{CoverValue}
+use Rattle.netlist.specs.SubcktValue.{SubcktValue}
+use Rattle.netlist.specs.LibraryValue.{ModelValue, LibraryValue, Ports, input_ports, output_ports, clock_ports, ports_of}
 use Rattle.blif_read.specs.Statement.{StatementValue, statements}
-use Rattle.blif_read.specs.Once.{AreOnce}
+use Rattle.tl_text.specs.Once.{AreOnce}
 use Rattle.blif_read.specs.Rows.{AreRows}
 use Rattle.blif_read.specs.Latches.{IsLatch}
 use Rattle.blif_read.specs.Connections.{IsSubckt}

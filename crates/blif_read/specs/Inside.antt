@@ -2,8 +2,8 @@
 use Rattle.std.specs.Prelude.{ℕ, List, [], ◌∷◌, ◌++◌, Option, Some, None}
 use Rattle.blif_read.specs.declared.blif_err.BlifErr.{BlifErr}
 use Rattle.blif_read.specs.declared.blif_err.BlifErr.TheVariants.{OutsideModel}
-use Rattle.blif_read.specs.declared.command.Body.TheVariants.{Cover}
-use Rattle.blif_read.specs.declared.command.Command.{Command}
+use Rattle.netlist.specs.declared.command.Body.TheVariants.{Cover}
+use Rattle.netlist.specs.declared.command.Command.{Command}
 use Rattle.blif_read.specs.declared.keyword.Keyword.{Keyword}
 use Rattle.blif_read.specs.declared.keyword.Keyword.TheVariants.{Model, Inputs, Outputs, Clock, Names, Latch, Subckt, End, Unknown, Plain}
 use Rattle.blif_read.specs.LineFault.{ports_fault, names_fault, row_fault, latch_fault, subckt_fault, end_fault}

@@ -1,6 +1,6 @@
 -- The forms of a `.latch` line.
 use Rattle.std.specs.Prelude.{◌≡◌, ◌⊎◌, ℕ, Bool, true, false, List, [], ◌∷◌, codes, Option, Some, None}
-use Rattle.blif_read.specs.declared.latch.Latch.{Latch}
+use Rattle.netlist.specs.declared.latch.Latch.{Latch}
 
 -- the init `1` starts at 1; `0`, `2` and `3` start at 0
 pub data Starts (init : List ℕ) (value : Bool) : Type 0 where

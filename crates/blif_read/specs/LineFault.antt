@@ -1,11 +1,11 @@
 -- The refusal of a line in its place: the first of the table's order.
 use Rattle.std.specs.Prelude.{ℕ, ◌+◌, ◌==◌, Bool, true, false, not, ◌||◌, if◌then◌else◌, List, [], ◌∷◌, ◌++◌, length, take, drop, codes, bytes_eq, Option, Some, None, position}
-use Rattle.std.specs.List.{list_any}
+pub use Rattle.tl_text.specs.NameSets.{has_name as has}
 use Rattle.blif_read.specs.declared.blif_err.BlifErr.{BlifErr}
 use Rattle.blif_read.specs.declared.blif_err.BlifErr.TheVariants.{NotCommand, Unsupported, OutsideModel, Arity, BadRow, MixedRows, BadLatch, LatchKind, DuplicateModel, DuplicatePort, BadConnection}
 use Rattle.blif_read.specs.declared.keyword.Keyword.{Keyword}
 use Rattle.blif_read.specs.declared.keyword.Keyword.TheVariants.{Model, Inputs, Outputs, Clock, Names, Latch, Subckt, End, Unknown, Plain}
-use Rattle.blif_read.specs.declared.subckt.Pair.{Pair}
+use Rattle.netlist.specs.declared.subckt.Pair.{Pair}
 use Rattle.blif_read.specs.Statement.{StatementValue}
 use Rattle.blif_read.specs.Context.{Context, CoverPlace, RowRead, row_of}
 
@@ -13,10 +13,6 @@ use Rattle.blif_read.specs.Context.{Context, CoverPlace, RowRead, row_of}
 abbrev pub or_later : Option BlifErr → Option BlifErr → Option BlifErr
 or_later (Some e) later = Some e
 or_later None later = later
-
--- is a name among others
-abbrev pub has : List (List ℕ) → List ℕ → Bool
-has names name = list_any (bytes_eq name) names
 
 -- B9: a model of this name began earlier
 abbrev pub model_fault : ℕ → List (List ℕ) → List (List ℕ) → Option BlifErr

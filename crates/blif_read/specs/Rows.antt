@@ -1,9 +1,9 @@
 -- The rows of a cover, by their lines (BLIF manual of 1992).
 use Rattle.std.specs.Prelude.{◌≡◌, ℕ, ◌<◌, Bool, true, false, List, [], ◌∷◌, length, map, codes}
-use Rattle.blif_read.specs.declared.cell.Cell.{Cell}
-use Rattle.blif_read.specs.declared.cell.Cell.TheVariants.{Zero, One, Any}
+use Rattle.netlist.specs.declared.cell.Cell.{Cell}
+use Rattle.netlist.specs.declared.cell.Cell.TheVariants.{Zero, One, Any}
 use Rattle.blif_read.specs.declared.keyword.Keyword.TheVariants.{Plain}
-use Rattle.blif_read.specs.CoverValue.{RowValue}
+use Rattle.netlist.specs.CoverValue.{RowValue}
 use Rattle.blif_read.specs.Statement.{StatementValue}
 
 -- the characters of a cell: `0`, `1` and `-`

@@ -6,7 +6,7 @@ ghost use Rattle.tl_fault.specs.OrMemory.{OrMemory};
 ghost use Rattle.blif_read.specs.Reading.{pairs_of, subckt_of};
 
 use crate::blif_err::BlifErr;
-use crate::subckt::{Pair, Subckt};
+use netlist::{Pair, Subckt};
 use std::alloc::{AllocError, Global};
 use tl_text::{Name, NameIndex};
 

@@ -6,7 +6,7 @@ ghost use Rattle.tl_fault.specs.OrMemory.{OrMemory};
 ghost use Rattle.blif_read.specs.Reading.{control_of, init_of, latch_of};
 
 use crate::blif_err::BlifErr;
-use crate::latch::Latch;
+use netlist::Latch;
 use tl_text::Name;
 
 // Is a word an init?

@@ -16,34 +16,23 @@
 //!
 //! - `read_text.rt` has `read`; `reader.rt` the one pass over the lines, and `open_model.rt` the model that is open in it.
 //! - `statement.rt`, `row_line.rt`, `latch_line.rt`, `connections.rt` and `port_list.rt` each read one kind of line.
-//! - The other files are the types of a library.
+//! - `blif_err.rt` and `keyword.rt` have the refusals and the first tokens of lines.
+//!
+//! The types of a library stand in `netlist`, with its meaning.
 #![tactic(auto)]
 
 mod blif_err;
-mod blif_model;
-mod cell;
-mod command;
 mod connections;
-mod cover;
 mod keyword;
-mod latch;
 mod latch_line;
 mod open_cover;
 mod open_model;
 mod port_list;
 mod read_text;
 mod reader;
-mod row;
 mod row_line;
 mod statement;
-mod subckt;
 
 pub use blif_err::BlifErr;
-pub use blif_model::{BlifModel, Library};
-pub use cell::Cell;
-pub use command::{Body, Command};
-pub use cover::Cover;
-pub use latch::Latch;
+pub use netlist::{BlifModel, Body, Cell, Command, Cover, Latch, Library, Pair, Row, Subckt};
 pub use read_text::read;
-pub use row::Row;
-pub use subckt::{Pair, Subckt};

@@ -8,9 +8,8 @@ ghost use Rattle.tl_fault.specs.OrMemory.{OrMemory};
 ghost use Rattle.blif_read.specs.Reading.{cover_of, place_of_cover, value_so_far, with_row as cover_with_row, with_row_words};
 
 use crate::blif_err::BlifErr;
-use crate::cover::Cover;
-use crate::row::Row;
 use crate::row_line::{RowLine, row_line};
+use netlist::{Cover, Row};
 use std::alloc::{AllocError, Global};
 use std::marker::Model;
 use tl_text::Name;

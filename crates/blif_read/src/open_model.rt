@@ -1,7 +1,7 @@
 //! A model whose lines are being read.
 ghost use Rattle.std.specs.Prelude.{◌≡◌, Some, ◌∷◌, [], None, MatchResult, IfOk};
-ghost use Rattle.blif_read.specs.declared.command.Body.TheVariants.{Latch as LatchBody, Subckt as SubcktBody};
-ghost use Rattle.blif_read.specs.LibraryValue.{input_ports, output_ports, clock_ports};
+ghost use Rattle.netlist.specs.declared.command.Body.TheVariants.{Latch as LatchBody, Subckt as SubcktBody};
+ghost use Rattle.netlist.specs.LibraryValue.{input_ports, output_ports, clock_ports};
 ghost use Rattle.blif_read.specs.LineFault.{latch_fault, names_fault, ports_fault, row_fault, subckt_fault};
 ghost use Rattle.blif_read.specs.Refusals.{refusal_of};
 ghost use Rattle.tl_fault.specs.OrMemory.{OrMemory};
@@ -10,13 +10,12 @@ ghost use Rattle.blif_read.specs.Reading.{model_after as after};
 ghost use Rattle.blif_read.specs.Inside.{commands_with, model_line_fault};
 
 use crate::blif_err::BlifErr;
-use crate::blif_model::BlifModel;
-use crate::command::{Body, Command};
 use crate::connections::subckt_line;
 use crate::keyword::Keyword;
 use crate::latch_line::latch_line;
 use crate::open_cover::{OpenCover, open_cover, read_cover_row};
 use crate::port_list::PortList;
+use netlist::{BlifModel, Body, Command};
 use std::alloc::{AllocError, Global};
 use std::marker::Model;
 use tl_text::Name;
@@ -60,6 +59,18 @@ fn with_cover(
     }
 }
 
+// The model with its last cover among its commands: no row of it follows any more.
+fn with_last_cover(model: OpenModel) -> Result<OpenModel, AllocError>
+    ensures { IfOk result (λ m. m ≡ record { model = record model.model { commands = commands_with model.model.commands model.cover }; cover = None }) }
+{
+    let commands = with_cover(model.commands, model.cover)?;
+    Ok(OpenModel {
+        commands,
+        cover: None,
+        ..model
+    })
+}
+
 // The model with the ports of a line.
 fn with_inputs(
     alloc: Global,
@@ -71,26 +82,9 @@ fn with_inputs(
         (λ m. (ports_fault number model.model.inputs names.items ≡ None) × (m ≡ ports_read input_ports names.items model))
         (OrMemory refusal_of (λ e. ports_fault number model.model.inputs names.items ≡ Some e)) }
 {
-    let OpenModel {
-        name,
-        line,
-        inputs,
-        outputs,
-        clocks,
-        commands,
-        cover,
-    } = model;
-    let commands = with_cover(commands, cover)?;
-    let inputs = inputs.with(alloc, number, names)?;
-    Ok(OpenModel {
-        name,
-        line,
-        inputs,
-        outputs,
-        clocks,
-        commands,
-        cover: None,
-    })
+    let model = with_last_cover(model)?;
+    let inputs = model.inputs.with(alloc, number, names)?;
+    Ok(OpenModel { inputs, ..model })
 }
 
 fn with_outputs(
@@ -103,26 +97,9 @@ fn with_outputs(
         (λ m. (ports_fault number model.model.outputs names.items ≡ None) × (m ≡ ports_read output_ports names.items model))
         (OrMemory refusal_of (λ e. ports_fault number model.model.outputs names.items ≡ Some e)) }
 {
-    let OpenModel {
-        name,
-        line,
-        inputs,
-        outputs,
-        clocks,
-        commands,
-        cover,
-    } = model;
-    let commands = with_cover(commands, cover)?;
-    let outputs = outputs.with(alloc, number, names)?;
-    Ok(OpenModel {
-        name,
-        line,
-        inputs,
-        outputs,
-        clocks,
-        commands,
-        cover: None,
-    })
+    let model = with_last_cover(model)?;
+    let outputs = model.outputs.with(alloc, number, names)?;
+    Ok(OpenModel { outputs, ..model })
 }
 
 fn with_clocks(
@@ -135,52 +112,18 @@ fn with_clocks(
         (λ m. (ports_fault number model.model.clocks names.items ≡ None) × (m ≡ ports_read clock_ports names.items model))
         (OrMemory refusal_of (λ e. ports_fault number model.model.clocks names.items ≡ Some e)) }
 {
-    let OpenModel {
-        name,
-        line,
-        inputs,
-        outputs,
-        clocks,
-        commands,
-        cover,
-    } = model;
-    let commands = with_cover(commands, cover)?;
-    let clocks = clocks.with(alloc, number, names)?;
-    Ok(OpenModel {
-        name,
-        line,
-        inputs,
-        outputs,
-        clocks,
-        commands,
-        cover: None,
-    })
+    let model = with_last_cover(model)?;
+    let clocks = model.clocks.with(alloc, number, names)?;
+    Ok(OpenModel { clocks, ..model })
 }
 
 // The model with a command.
 fn with_body(model: OpenModel, line: u32, body: Body) -> Result<OpenModel, AllocError>
     ensures { IfOk result (λ m. m ≡ body_read line body model) }
 {
-    let OpenModel {
-        name,
-        line: first,
-        inputs,
-        outputs,
-        clocks,
-        commands,
-        cover,
-    } = model;
-    let mut commands = with_cover(commands, cover)?;
-    commands.push(Command { line, body })?;
-    Ok(OpenModel {
-        name,
-        line: first,
-        inputs,
-        outputs,
-        clocks,
-        commands,
-        cover: None,
-    })
+    let mut model = with_last_cover(model)?;
+    model.commands.push(Command { line, body })?;
+    Ok(model)
 }
 
 // The model with the cover of a `.names` line.
@@ -197,24 +140,10 @@ fn with_names(
     let Some(next) = open_cover(alloc, number, names) else {
         return Err(BlifErr::Arity(number));
     };
-    let OpenModel {
-        name,
-        line,
-        inputs,
-        outputs,
-        clocks,
-        commands,
-        cover,
-    } = model;
-    let commands = with_cover(commands, cover)?;
+    let model = with_last_cover(model)?;
     Ok(OpenModel {
-        name,
-        line,
-        inputs,
-        outputs,
-        clocks,
-        commands,
         cover: Some(next),
+        ..model
     })
 }
 
@@ -229,25 +158,8 @@ fn with_row_line(
         (λ m. (row_fault number (place_of_cover model.cover) words.now ≡ None) × (m ≡ row_read words.now model))
         (OrMemory refusal_of (λ e. row_fault number (place_of_cover model.cover) words.now ≡ Some e)) }
 {
-    let OpenModel {
-        name,
-        line,
-        inputs,
-        outputs,
-        clocks,
-        commands,
-        cover,
-    } = model;
-    let cover = read_cover_row(alloc, number, cover, words)?;
-    Ok(OpenModel {
-        name,
-        line,
-        inputs,
-        outputs,
-        clocks,
-        commands,
-        cover,
-    })
+    let cover = read_cover_row(alloc, number, model.cover, words)?;
+    Ok(OpenModel { cover, ..model })
 }
 
 // The model with the latch that a line's words are.

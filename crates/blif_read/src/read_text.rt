@@ -1,21 +1,21 @@
 //! The library that a text denotes.
 ghost use Rattle.std.specs.Prelude.{◌≡◌, Some, ◌+◌, ◌≤◌, ◌<◌, ◌^◌, length, None, Ok, IfOk, MatchResult};
 ghost use Rattle.tl_text.specs.declared.logical_lines.TheConstants.{MOST_BYTES};
-ghost use Rattle.blif_read.specs.LibraryValue.{LibraryValue};
+ghost use Rattle.netlist.specs.LibraryValue.{LibraryValue};
 ghost use Rattle.blif_read.specs.Denotes.{Denotes};
-ghost use Rattle.blif_read.specs.HasCleanNames.{HasCleanNames};
+ghost use Rattle.netlist.specs.HasCleanNames.{HasCleanNames};
 ghost use Rattle.blif_read.specs.HasOneReading.{HasOneReading};
 ghost use Rattle.blif_read.specs.ReadFault.{blif_err, read_fault};
 ghost use Rattle.blif_read.specs.Refusals.{refusal_of};
 ghost use Rattle.tl_fault.specs.OrMemory.{OrMemory};
 ghost use Rattle.blif_read.specs.Reading.{fault_of, text_read};
-ghost use Rattle.blif_read.specs.ShortPorts.{HasShortPorts};
+ghost use Rattle.netlist.specs.ShortPorts.{HasShortPorts};
 ghost use Rattle.blif_read.specs.Size.{library_size};
-ghost use Rattle.blif_read.specs.WellFormed.{IsWellFormed};
+ghost use Rattle.netlist.specs.WellFormed.{IsWellFormed};
 
 use crate::blif_err::BlifErr;
-use crate::blif_model::Library;
 use crate::reader::read_lines;
+use netlist::Library;
 use std::alloc::Global;
 use tl_text::{TextErr, lines};
 

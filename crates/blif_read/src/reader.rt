@@ -11,10 +11,10 @@ ghost use Rattle.blif_read.specs.Reading.{context, ended, fault_of, finished, li
 ghost use Rattle.blif_read.specs.Inside.{end_line_fault, inside_fault};
 
 use crate::blif_err::BlifErr;
-use crate::blif_model::{BlifModel, Library};
 use crate::keyword::Keyword;
 use crate::open_model::{OpenModel, begun, closed, model_after};
 use crate::statement::{Statement, line_statement};
+use netlist::{BlifModel, Library};
 use std::alloc::{AllocError, Global};
 use std::marker::Model;
 use tl_text::{Line, Name, NameIndex};

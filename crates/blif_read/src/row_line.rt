@@ -4,7 +4,7 @@ ghost use Rattle.std.specs.Option.{option_map};
 ghost use Rattle.tl_text.specs.Decimal.{bit_of};
 ghost use Rattle.blif_read.specs.Context.{cell_of, cells_of, row_of};
 
-use crate::cell::Cell;
+use netlist::Cell;
 use std::alloc::{AllocError, Global};
 use std::marker::Model;
 use tl_text::Name;

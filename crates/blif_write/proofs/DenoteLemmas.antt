@@ -11,21 +11,21 @@ use Rattle.tl_text.specs.Lines.{is_bad}
 use Rattle.tl_text.specs.Tokens.{is_blank}
 use Rattle.tl_text.specs.Clean.{IsClean}
 use Rattle.tl_text.specs.Once.{AreOnce}
-use Rattle.blif_read.specs.declared.cell.Cell.{Cell}
-use Rattle.blif_read.specs.declared.cell.Cell.TheVariants.{Zero, One, Any}
-use Rattle.blif_read.specs.declared.latch.Latch.{Latch as LatchValue}
-use Rattle.blif_read.specs.declared.command.Command.{Command}
-use Rattle.blif_read.specs.declared.command.Body.TheVariants.{Cover, Latch}
-use Rattle.blif_read.specs.CoverValue.{RowValue, CoverValue}
-use Rattle.blif_read.specs.LibraryValue.{Ports, input_ports, output_ports, clock_ports, ports_of}
+use Rattle.netlist.specs.declared.cell.Cell.{Cell}
+use Rattle.netlist.specs.declared.cell.Cell.TheVariants.{Zero, One, Any}
+use Rattle.netlist.specs.declared.latch.Latch.{Latch as LatchValue}
+use Rattle.netlist.specs.declared.command.Command.{Command}
+use Rattle.netlist.specs.declared.command.Body.TheVariants.{Cover, Latch}
+use Rattle.netlist.specs.CoverValue.{RowValue, CoverValue}
+use Rattle.netlist.specs.LibraryValue.{Ports, input_ports, output_ports, clock_ports, ports_of}
 use Rattle.blif_read.specs.Statement.{StatementValue, statement_at, statement_of, statements}
 use Rattle.blif_read.specs.Rows.{cell_character, output_token, IsRow, alone, behind, AreRows, none, more}
 use Rattle.blif_read.specs.Latches.{Starts, one, zero_, Controls, nil, net, IsLatch, with_init, whole}
 use Rattle.blif_read.specs.Denotes.{names_in, port_names, IsCoverLine, AreCommands, IsModel, AreLibrary, Denotes}
-use Rattle.blif_read.specs.HasCleanNames.{IsCleanBody}
+use Rattle.netlist.specs.HasCleanNames.{IsCleanBody}
 use Rattle.blif_read.specs.Denotes as denotes
 use Rattle.blif_write.specs.PlainNetlist.{PlainNetlist, IsPlain, all_inputs, control_words, latch_line, row_line, cover_lines, netlist_lines, netlist_text, read_control, read_latch, latch_commands, cover_commands, model_of, library_of}
-use Rattle.blif_write.proofs.LineTextLemmas.{IsWritable, AreWritable, numbered, ReadsAgain, reads_again}
+use Rattle.tl_text.proofs.WrittenLineLemmas.{IsCleanLine as IsWritable, AreCleanLines as AreWritable, numbered, ReadsAgain, reads_again}
 
 -- statements of lines, the first of which has this number
 abbrev statements_of : ℕ → List (List (List ℕ)) → List StatementValue

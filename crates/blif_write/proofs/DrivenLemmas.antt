@@ -1,43 +1,39 @@
 -- The names of a written netlist's parts: of which kind they are, and that each stands once.
 use Rattle.std.proofs.Common.{◌≡◌, ℕ, zero, suc, ◌+◌, ◌^◌, ◌<◌, ◌≤◌, Bool, true, false, not, cond, eqb, ◌&&◌, ◌||◌, nat_lt, List, [], ◌∷◌, ◌++◌, length, map, filter, replicate, slice_get, bytes_eq, Option, Some, refl, sym, ap, subst, ◌∙◌, inl, inr, arith, decimal}
 use Rattle.std.proofs.lemmas.Slice.Eq.{bytes_eq-Decides}
-use Rattle.std.proofs.lemmas.Bool.{ne_eqb, ltb-true}
+use Rattle.std.proofs.lemmas.Bool.{ne_eqb, ltb-true, or_from}
 use Rattle.std.proofs.lemmas.Fmt.{decimal-digits_of, decimal_digit}
 use Rattle.std.proofs.lemmas.Int.Digits.{all_below_base_digits_of}
 use Rattle.std.specs.Int.Digits.{digits_of, AllBelowBase}
 use Rattle.list_laws.specs.Members.{In}
-use Rattle.list_laws.proofs.Members.{In-append}
+use Rattle.list_laws.proofs.Members.{In-append, In-filter, from_map}
 use Rattle.tl_text.specs.Lines.{is_bad}
 use Rattle.tl_text.specs.Tokens.{is_blank}
 use Rattle.tl_text.specs.Clean.{IsClean}
 use Rattle.tl_text.specs.Once.{AreOnce}
-use Rattle.blif_read.specs.declared.latch.Latch.{Latch as LatchValue}
-use Rattle.blif_read.specs.CoverValue.{CoverValue}
-use Rattle.blif_flat.specs.declared.flat.OutPort.{OutPort}
-use Rattle.blif_flat.specs.declared.flat.FlatLatch.{FlatLatch}
+use Rattle.netlist.specs.declared.latch.Latch.{Latch as LatchValue}
+use Rattle.netlist.specs.CoverValue.{CoverValue}
+use Rattle.netlist.specs.declared.flat.OutPort.{OutPort}
+use Rattle.netlist.specs.declared.flat.FlatLatch.{FlatLatch}
 use Rattle.aig_core.specs.declared.lit.Lit.{Lit}
 use Rattle.cover_pick.specs.declared.lut.Lut.{Lut}
 use Rattle.cover_pick.specs.Mapping.{AscendByLit}
 use Rattle.blif_write.specs.OwnNames.{Naming, own_name, table_name, latch_name, literal_name}
 use Rattle.blif_write.specs.Netlists.{wire_of, wire, wires, written_latches}
 use Rattle.blif_write.proofs.DenoteLemmas.{is_odd, even_clean}
-use Rattle.blif_write.proofs.RowValueLemmas.{not_true, of_filter, unmapped}
+use Rattle.blif_write.proofs.RowValueLemmas.{not_true}
 use Rattle.blif_write.proofs.OwnNameLemmas.{own_number}
 
 -- own names are clean
-none_of : (a b : Bool) → a ≡ false → b ≡ false → (a || b) ≡ false
-none_of true b h k = absurd (let wrong : ⊥ = cc in wrong)
-none_of false b h k = k
-
 not_below : (a b : ℕ) → b ≤ a → nat_lt a b ≡ false
 not_below a b h = not_true (nat_lt a b) (λ t. let e : a < b = ltb-true a b t in omega (arith, e, h))
 
 digit_even : (b : ℕ) → 48 ≤ b → b ≤ 57 → is_odd b ≡ false
 digit_even b low high =
-    none_of (is_blank b) (is_bad b || (eqb b 35 || eqb b 92)) (none_of (eqb b 32) (eqb b 9) (ne_eqb b 32 (λ e. omega (arith, e, low))) (ne_eqb b 9 (λ e. omega (arith, e, low))))
-    (none_of (is_bad b) (eqb b 35 || eqb b 92)
-    (none_of (nat_lt b 32 && not (eqb b 9)) (eqb b 127) (ap (λ (t : Bool). t && not (eqb b 9)) (not_below b 32 (omega (arith, low)))) (ne_eqb b 127 (λ e. omega (arith, e, high))))
-    (none_of (eqb b 35) (eqb b 92) (ne_eqb b 35 (λ e. omega (arith, e, low))) (ne_eqb b 92 (λ e. omega (arith, e, high)))))
+    or_from (is_blank b) (is_bad b || (eqb b 35 || eqb b 92)) (or_from (eqb b 32) (eqb b 9) (ne_eqb b 32 (λ e. omega (arith, e, low))) (ne_eqb b 9 (λ e. omega (arith, e, low))))
+    (or_from (is_bad b) (eqb b 35 || eqb b 92)
+    (or_from (nat_lt b 32 && not (eqb b 9)) (eqb b 127) (ap (λ (t : Bool). t && not (eqb b 9)) (not_below b 32 (omega (arith, low)))) (ne_eqb b 127 (λ e. omega (arith, e, high))))
+    (or_from (eqb b 35) (eqb b 92) (ne_eqb b 35 (λ e. omega (arith, e, low))) (ne_eqb b 92 (λ e. omega (arith, e, high)))))
 
 digits_even : (ds : List ℕ) → AllBelowBase 10 ds → (b : ℕ) → In (map (λ d. 48 + d) ds) b → is_odd b ≡ false
 digits_even [] h b i = elim i [ ]
@@ -69,7 +65,7 @@ once_both (x ∷ xs) ys h k apart =
     (λ i. elim (In-append xs ys x i) [ inl j ↦ h.0 j | inr j ↦ apart x (inl refl) j ], once_both xs ys h.1 k (λ name i j. apart name (inr i) j))
 
 once_kept : (test : List ℕ → Bool) (x : List ℕ) (xs : List (List ℕ)) (b : Bool) → AreOnce (x ∷ xs) → AreOnce (filter test xs) → AreOnce (cond b (x ∷ filter test xs) (filter test xs))
-once_kept test x xs true h k = (λ i. h.0 (of_filter test xs x i).0, k)
+once_kept test x xs true h k = (λ i. h.0 (In-filter test xs x i).0, k)
 once_kept test x xs false h k = k
 
 pub once_filter : (test : List ℕ → Bool) (xs : List (List ℕ)) → AreOnce xs → AreOnce (filter test xs)
@@ -103,7 +99,7 @@ table_names g luts = map (λ (u : Lut). table_name g u.lit.0) luts
 pub tables_once : (g : Naming) (luts : List Lut) → ((u : Lut) → In luts u → u.lit.0 < 2 ^ 64) → AscendByLit luts → AreOnce (table_names g luts)
 tables_once g [] small h = tt
 tables_once g (t ∷ ts) small h = (
-  λ i. let r : (u : Lut) × In ts u × (table_name g t.lit.0 ≡ table_name g u.lit.0) = unmapped (λ (u : Lut). table_name g u.lit.0) ts (table_name g t.lit.0) i in
+  λ i. let r : (u : Lut) × In ts u × (table_name g t.lit.0 ≡ table_name g u.lit.0) = from_map (λ (u : Lut). table_name g u.lit.0) ts (table_name g t.lit.0) i in
       let same : t.lit.0 ≡ r.0.lit.0 = own_number g 110 t.lit.0 r.0.lit.0 (small t (inl refl)) (small r.0 (inr r.1)) r.2 in
       let more : t.lit.0 < r.0.lit.0 = h.0 r.0 r.1 in
       omega (arith, same, more),

@@ -5,7 +5,6 @@ pub mod TableLemmas
 pub mod PairLemmas
 pub mod NetlistLemmas
 -- The text is read again.
-pub mod LineTextLemmas
 pub mod DenoteLemmas
 -- One model as a library.
 pub mod PlainLemmas

@@ -6,17 +6,17 @@ use Rattle.std.proofs.lemmas.List.FromFn.{length-map-range_with_len}
 use Rattle.std.proofs.lemmas.List.Sums.{sum_by-cons}
 use Rattle.list_laws.specs.Members.{In}
 use Rattle.list_laws.specs.Digits.{digit}
-use Rattle.list_laws.proofs.Members.{In-append, In-map}
+use Rattle.list_laws.proofs.Members.{In-append, In-map, from_map}
 use Rattle.tl_text.specs.Once.{AreOnce}
-use Rattle.blif_read.specs.declared.cell.Cell.TheVariants.{One, Any}
-use Rattle.blif_read.specs.declared.command.Body.TheVariants.{Cover}
-use Rattle.blif_read.specs.declared.latch.Latch.{Latch as LatchValue}
-use Rattle.blif_read.specs.CoverValue.{RowValue}
+use Rattle.netlist.specs.declared.cell.Cell.TheVariants.{One, Any}
+use Rattle.netlist.specs.declared.command.Body.TheVariants.{Cover}
+use Rattle.netlist.specs.declared.latch.Latch.{Latch as LatchValue}
+use Rattle.netlist.specs.CoverValue.{RowValue}
 use Rattle.blif_read.specs.Denotes.{Denotes}
-use Rattle.blif_read.specs.WellFormed.{IsWellFormedBody}
-use Rattle.blif_flat.specs.declared.flat.FlatLatch.{FlatLatch}
-use Rattle.blif_flat.specs.FlatValue.{FlatValue}
-use Rattle.run_text.specs.declared.params.Param.{Param}
+use Rattle.netlist.specs.WellFormed.{IsWellFormedBody}
+use Rattle.netlist.specs.declared.flat.FlatLatch.{FlatLatch}
+use Rattle.netlist.specs.FlatValue.{FlatValue}
+use Rattle.param_list.specs.declared.params.Param.{Param}
 use Rattle.aig_core.specs.declared.lit.Lit.{Lit}
 use Rattle.cover_pick.specs.declared.lut.Lut.{Lut}
 use Rattle.cover_pick.specs.Mapping.{HaveBases, bits_of}
@@ -28,7 +28,7 @@ use Rattle.blif_write.specs.Meaning.{HasPorts, AreTablesOf, Means, input_bits}
 use Rattle.blif_write.proofs.DenoteLemmas.{denotes_plain}
 use Rattle.blif_write.proofs.PlainCycleLemmas.{IsPlainCycle, plain_cycle, plain_inits}
 use Rattle.blif_write.proofs.PlainSoundLemmas.{IsOrderly, plain_sound}
-use Rattle.blif_write.proofs.RowValueLemmas.{unmapped, of_range, in_range}
+use Rattle.blif_write.proofs.RowValueLemmas.{of_range, in_range}
 use Rattle.blif_write.proofs.OwnNameLemmas.{own_number}
 use Rattle.blif_write.proofs.TableCycleLemmas.{in_all, table_cycle, fixed_valued, tunable_valued}
 use Rattle.blif_write.proofs.DrivenLemmas.{once_both}
@@ -50,14 +50,14 @@ fixed_cells : (g : Naming) (config : List Bool) (u : Lut) → IsWellFormedBody (
 fixed_cells g config u row i =
     let leaves : ℕ = length u.leaves in
     let r : (v : ℕ) × In (filter (λ v. slice_index_or config (u.base + v) false) (range_with_len 0 (2 ^ leaves))) v × (row ≡ record { cells = digit_cells leaves v }) =
-    unmapped (λ (v : ℕ). record { cells = digit_cells leaves v }) (filter (λ v. slice_index_or config (u.base + v) false) (range_with_len 0 (2 ^ leaves))) row i in
+    from_map (λ (v : ℕ). record { cells = digit_cells leaves v }) (filter (λ v. slice_index_or config (u.base + v) false) (range_with_len 0 (2 ^ leaves))) row i in
     ap (λ (q : RowValue). length q.cells) r.2 ∙ digits_long leaves r.0 ∙ sym (length-map u.leaves (λ (m : ℕ). _))
 
 tunable_cells : (g : Naming) (u : Lut) → IsWellFormedBody (Cover (tunable_table g u))
 tunable_cells g u row i =
     let leaves : ℕ = length u.leaves in
     let make : ℕ → RowValue = λ v. record { cells = digit_cells leaves v ++ chosen_cells (2 ^ leaves) v } in
-    let r : (v : ℕ) × In (range_with_len 0 (2 ^ leaves)) v × (row ≡ make v) = unmapped make (range_with_len 0 (2 ^ leaves)) row i in
+    let r : (v : ℕ) × In (range_with_len 0 (2 ^ leaves)) v × (row ≡ make v) = from_map make (range_with_len 0 (2 ^ leaves)) row i in
     let small : (0 ≤ r.0) × (r.0 < 0 + 2 ^ leaves) = of_range 0 (2 ^ leaves) r.0 r.1 in
     let cells : length (digit_cells leaves r.0 ++ chosen_cells (2 ^ leaves) r.0) ≡ length (digit_cells leaves r.0) + length (chosen_cells (2 ^ leaves) r.0) = length-append (digit_cells leaves r.0) (chosen_cells (2 ^ leaves) r.0) in
     let digits : length (digit_cells leaves r.0) ≡ leaves = digits_long leaves r.0 in
@@ -76,7 +76,7 @@ bits_there g b [] name h i = elim i [ ]
 bits_there g b (t ∷ ts) name h i =
     let sum : bits_of (t ∷ ts) ≡ 2 ^ length t.leaves + bits_of ts = sum_by-cons (λ (k : Lut). 2 ^ length k.leaves) t ts in
     elim (In-append (bit_names g t) (all_bits g ts) name i) [
-      | inl j ↦ let r : (a : ℕ) × In (range_with_len t.base (2 ^ length t.leaves)) a × (name ≡ bit_name g a) = unmapped (bit_name g) (range_with_len t.base (2 ^ length t.leaves)) name j in
+      | inl j ↦ let r : (a : ℕ) × In (range_with_len t.base (2 ^ length t.leaves)) a × (name ≡ bit_name g a) = from_map (bit_name g) (range_with_len t.base (2 ^ length t.leaves)) name j in
           let s : (t.base ≤ r.0) × (r.0 < t.base + 2 ^ length t.leaves) = of_range t.base (2 ^ length t.leaves) r.0 r.1 in
           let base : t.base ≡ b = h.0 in
           (r.0, omega (arith, s.0, base), omega (arith, s.1, base, sum), r.2)
@@ -87,7 +87,7 @@ bits_there g b (t ∷ ts) name h i =
 range_once : (g : Naming) (a n : ℕ) → a + n ≤ 2 ^ 64 → AreOnce (map (bit_name g) (range_with_len a n))
 range_once g a zero small = tt
 range_once g a (suc n) small = (
-  λ i. let r : (b : ℕ) × In (range_with_len (a + 1) n) b × (bit_name g a ≡ bit_name g b) = unmapped (bit_name g) (range_with_len (a + 1) n) (bit_name g a) i in
+  λ i. let r : (b : ℕ) × In (range_with_len (a + 1) n) b × (bit_name g a ≡ bit_name g b) = from_map (bit_name g) (range_with_len (a + 1) n) (bit_name g a) i in
       let s : (a + 1 ≤ r.0) × (r.0 < a + 1 + n) = of_range (a + 1) n r.0 r.1 in
       let same : a ≡ r.0 = own_number g 99 a r.0 (omega (arith, small)) (omega (arith, small, s.1)) r.2 in
       omega (arith, same, s.0),
@@ -101,7 +101,7 @@ bits_once g b (t ∷ ts) h small =
     let base : t.base ≡ b = h.0 in
     once_both (bit_names g t) (all_bits g ts) (range_once g t.base (2 ^ length t.leaves) (omega (arith, small, sum, base))) (bits_once g (b + 2 ^ length t.leaves) ts h.1 (omega (arith, small, sum)))
     (λ name i j.
-    let r : (a : ℕ) × In (range_with_len t.base (2 ^ length t.leaves)) a × (name ≡ bit_name g a) = unmapped (bit_name g) (range_with_len t.base (2 ^ length t.leaves)) name i in
+    let r : (a : ℕ) × In (range_with_len t.base (2 ^ length t.leaves)) a × (name ≡ bit_name g a) = from_map (bit_name g) (range_with_len t.base (2 ^ length t.leaves)) name i in
     let s : (t.base ≤ r.0) × (r.0 < t.base + 2 ^ length t.leaves) = of_range t.base (2 ^ length t.leaves) r.0 r.1 in
     let q : (a : ℕ) × (b + 2 ^ length t.leaves ≤ a) × (a < b + 2 ^ length t.leaves + bits_of ts) × (name ≡ bit_name g a) = bits_there g (b + 2 ^ length t.leaves) ts name h.1 j in
     let same : r.0 ≡ q.0 = own_number g 99 r.0 q.0 (omega (arith, s.1, small, sum, base)) (omega (arith, q.2, small, sum)) (sym r.2 ∙ q.3) in

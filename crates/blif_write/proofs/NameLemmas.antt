@@ -6,7 +6,7 @@ use Rattle.std.proofs.lemmas.List.{length-map, get_or-map, get_or_read}
 use Rattle.std.proofs.lemmas.List.Folds.{flat_map-map}
 use Rattle.std.proofs.lemmas.Bool.{cases_Bool}
 use Rattle.list_laws.specs.Members.{In}
-use Rattle.blif_flat.specs.Flat.{underscores}
+use Rattle.netlist.specs.Flat.{underscores}
 use Rattle.lut_sim.specs.declared.shape.Shape.{Shape}
 use Rattle.lut_sim.specs.Sources.{is_plain}
 use Rattle.blif_write.specs.OwnNames.{Naming, own_name, latch_name, table_name, literal_name}

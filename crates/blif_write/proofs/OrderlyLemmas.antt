@@ -6,17 +6,17 @@ use Rattle.std.proofs.lemmas.Bool.{leb-true, le-leb}
 use Rattle.std.proofs.lemmas.Option.{same_Some}
 use Rattle.std.proofs.lemmas.Slice.Eq.{bytes_eq-Decides}
 use Rattle.list_laws.specs.Members.{In}
-use Rattle.list_laws.proofs.Members.{In-append, In-left, In-right, In-get, In-get_or, In-map}
+use Rattle.list_laws.proofs.Members.{In-append, In-left, In-right, In-get, In-get_or, In-map, from_map}
 use Rattle.tl_text.specs.Clean.{IsClean}
 use Rattle.tl_text.specs.Once.{AreOnce}
-use Rattle.blif_read.specs.declared.command.Body.TheVariants.{Cover, Latch}
-use Rattle.blif_read.specs.declared.latch.Latch.{Latch as LatchValue}
-use Rattle.blif_read.specs.CoverValue.{CoverValue}
-use Rattle.blif_read.specs.WellFormed.{IsWellFormedBody}
-use Rattle.blif_flat.specs.declared.flat.OutPort.{OutPort}
-use Rattle.blif_flat.specs.FlatValue.{FlatValue}
-use Rattle.blif_flat.specs.Flat.{underscores}
-use Rattle.run_text.specs.declared.params.Param.{Param}
+use Rattle.netlist.specs.declared.command.Body.TheVariants.{Cover, Latch}
+use Rattle.netlist.specs.declared.latch.Latch.{Latch as LatchValue}
+use Rattle.netlist.specs.CoverValue.{CoverValue}
+use Rattle.netlist.specs.WellFormed.{IsWellFormedBody}
+use Rattle.netlist.specs.declared.flat.OutPort.{OutPort}
+use Rattle.netlist.specs.FlatValue.{FlatValue}
+use Rattle.netlist.specs.Flat.{underscores}
+use Rattle.param_list.specs.declared.params.Param.{Param}
 use Rattle.aig_core.specs.declared.lit.Lit.{Lit}
 use Rattle.cover_pick.specs.declared.lut.Lut.{Lut}
 use Rattle.cover_pick.specs.Mapping.{HasLut}
@@ -28,7 +28,7 @@ use Rattle.blif_write.specs.Netlists.{leaf_names, wire_of, wires, written_latche
 use Rattle.blif_write.specs.Meaning.{HasPorts, AreTablesOf}
 use Rattle.blif_write.proofs.PlainCycleLemmas.{IsControlName}
 use Rattle.blif_write.proofs.PlainSoundLemmas.{body_output, command_outputs, IsOrderly}
-use Rattle.blif_write.proofs.RowValueLemmas.{both_true, not_true, unmapped}
+use Rattle.blif_write.proofs.RowValueLemmas.{both_true, not_true}
 use Rattle.blif_write.proofs.OwnNameLemmas.{own_under, no_port_name, own_letter, own_number, plain_even, table_literal}
 use Rattle.blif_write.proofs.TableCycleLemmas.{regular_parts, name_input, latch_named, latch_written}
 use Rattle.blif_write.proofs.PartLemmas.{AreCovers, in_lits, outputs_clean, latch_next, later_wire, latch_outputs_are, cover_outputs_are, table_outputs_are, rank_in, rank_of, rank_there, in_control, control_once, regular_once, wire_formed, in_lines, control_named_in}
@@ -72,7 +72,7 @@ module _ (flat : FlatValue) (params : List Param) (t : TemplateValue) (bits : Li
 
   wire_is : (name : List ℕ) → In wire_names name → (o : OutPort) × In flat.outputs o × (name ≡ o.name) × (In g.regular name → ⊥)
   wire_is name i =
-      let r : (c : CoverValue) × In (wires g flat.outputs t.outputs) c × (name ≡ c.output) = unmapped (λ (c : CoverValue). c.output) (wires g flat.outputs t.outputs) name i in
+      let r : (c : CoverValue) × In (wires g flat.outputs t.outputs) c × (name ≡ c.output) = from_map (λ (c : CoverValue). c.output) (wires g flat.outputs t.outputs) name i in
       let w : IsWire g flat.outputs t.outputs r.0 = wires_there g flat.outputs t.outputs r.0 are.fed r.1 in
       let e : name ≡ w.output.name = r.2 ∙ ap (λ (c : CoverValue). c.output) w.is in
       (w.output, w.output_in, e, λ k. w.no_input (subst (In g.regular) e k))
@@ -83,7 +83,7 @@ module _ (flat : FlatValue) (params : List Param) (t : TemplateValue) (bits : Li
       (r.0, let f : length flat.latches < 2 ^ 32 = are.few_latches in omega (arith, f, r.2), r.3)
 
   table_is : (name : List ℕ) → In (table_names g t.luts) name → (u : Lut) × In t.luts u × (name ≡ table_name g u.lit.0)
-  table_is name i = unmapped (λ (u : Lut). table_name g u.lit.0) t.luts name i
+  table_is name i = from_map (λ (u : Lut). table_name g u.lit.0) t.luts name i
 
   -- each stands once
   ports_apart : (name : List ℕ) → In g.regular name → In (control_names flat.control) name → ⊥
@@ -222,7 +222,7 @@ module _ (flat : FlatValue) (params : List Param) (t : TemplateValue) (bits : Li
 
   leaf_named : (u : Lut) (name : List ℕ) → In t.luts u → In (leaf_names g u) name → (m : ℕ) × In u.leaves m × (name ≡ literal_name g (2 * m)) × LitIs (2 * m)
   leaf_named u name i j =
-      let r : (m : ℕ) × In u.leaves m × (name ≡ literal_name g (2 * m)) = unmapped (λ (m : ℕ). literal_name g (2 * m)) u.leaves name j in
+      let r : (m : ℕ) × In u.leaves m × (name ≡ literal_name g (2 * m)) = from_map (λ (m : ℕ). literal_name g (2 * m)) u.leaves name j in
       (r.0, r.1, r.2, leaf_is u r.0 i r.1)
 
   -- roots
@@ -239,7 +239,7 @@ module _ (flat : FlatValue) (params : List Param) (t : TemplateValue) (bits : Li
 
   cover_is : (c : CoverValue) → In n.covers c → CoverIs c
   cover_is c i = elim (In-append (map table t.luts) (wires g flat.outputs t.outputs) c i) [
-    | inl j ↦ let r : (u : Lut) × In t.luts u × (c ≡ table u) = unmapped table t.luts c j in of_lut r.0 r.1 r.2
+    | inl j ↦ let r : (u : Lut) × In t.luts u × (c ≡ table u) = from_map table t.luts c j in of_lut r.0 r.1 r.2
     | inr j ↦ of_wire (wires_there g flat.outputs t.outputs c are.fed j)
   ]
 
@@ -365,7 +365,7 @@ module _ (flat : FlatValue) (params : List Param) (t : TemplateValue) (bits : Li
 
   output_no_control : (name : List ℕ) → In (map (λ (o : OutPort). o.name) flat.outputs) name → IsControlName n name → ⊥
   output_no_control name i c =
-      let r : (o : OutPort) × In flat.outputs o × (name ≡ o.name) = unmapped (λ (o : OutPort). o.name) flat.outputs name i in
+      let r : (o : OutPort) × In flat.outputs o × (name ≡ o.name) = from_map (λ (o : OutPort). o.name) flat.outputs name i in
       ports.no_output name (control_named name c) r.0 r.1 (sym r.2)
 
   output_driven : (os : List OutPort) (lits : List Lit) → length lits ≡ length os → ((lit : Lit) → In lits lit → LitIs lit.0) → ((name : List ℕ) → In (map (λ (c : CoverValue). c.output) (wires g os lits)) name → In wire_names name)

@@ -2,7 +2,7 @@
 use Rattle.std.proofs.Common.{◌≡◌, ℕ, zero, suc, ◌+◌, ◌*◌, ◌/◌, ◌%◌, ◌^◌, ◌<◌, ◌≤◌, Bool, false, cond, eqb, ◌&&◌, IsTrue, List, ◌∷◌, ◌++◌, drop, replicate, get_or, sym, ap, ◌∙◌, arith, decimal}
 use Rattle.std.proofs.lemmas.List.{append_cancel_left}
 use Rattle.std.proofs.lemmas.Fmt.{decimal_injective}
-use Rattle.blif_flat.specs.Flat.{underscores}
+use Rattle.netlist.specs.Flat.{underscores}
 use Rattle.lut_sim.specs.declared.shape.Shape.{Shape}
 use Rattle.lut_sim.specs.Sources.{is_regular, is_plain}
 use Rattle.blif_write.specs.OwnNames.{Naming, own_name, source_name, table_name, literal_name}

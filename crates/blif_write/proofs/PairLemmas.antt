@@ -3,10 +3,10 @@ use Rattle.std.proofs.Common.{◌≡◌, ℕ, suc, ◌+◌, ◌<◌, ◌≤◌, 
 use Rattle.std.specs.List.{flat_map}
 use Rattle.std.proofs.lemmas.List.{take_more, take_all, take-append-drop, map-append}
 use Rattle.std.proofs.lemmas.List.Concat.{flat_map-append}
-use Rattle.blif_flat.specs.declared.flat.OutPort.{OutPort}
-use Rattle.blif_flat.specs.declared.flat.FlatLatch.{FlatLatch}
-use Rattle.blif_read.specs.CoverValue.{CoverValue}
-use Rattle.blif_read.specs.declared.latch.Latch.{Latch as LatchValue}
+use Rattle.netlist.specs.declared.flat.OutPort.{OutPort}
+use Rattle.netlist.specs.declared.flat.FlatLatch.{FlatLatch}
+use Rattle.netlist.specs.CoverValue.{CoverValue}
+use Rattle.netlist.specs.declared.latch.Latch.{Latch as LatchValue}
 use Rattle.aig_core.specs.declared.lit.Lit.{Lit}
 use Rattle.blif_write.specs.OwnNames.{Naming, literal_name}
 use Rattle.blif_write.specs.PlainNetlist.{line_text, cover_lines, latch_line}

@@ -6,15 +6,15 @@ use Rattle.std.proofs.lemmas.Slice.Eq.{bytes_eq-Decides}
 use Rattle.list_laws.specs.Members.{In}
 use Rattle.list_laws.proofs.Members.{In-left, In-right}
 use Rattle.tl_text.specs.Once.{AreOnce}
-use Rattle.blif_read.specs.declared.command.Body.TheVariants.{Cover, Latch}
-use Rattle.blif_read.specs.declared.latch.Latch.{Latch as LatchValue}
-use Rattle.blif_read.specs.CoverValue.{RowValue, CoverValue}
-use Rattle.blif_read.specs.WellFormed.{IsWellFormedBody}
-use Rattle.blif_flat.specs.FlatValue.{FlatValue}
-use Rattle.blif_flat.specs.Flat.{underscores}
-use Rattle.run_text.specs.declared.params.Param.{Param}
-use Rattle.run_text.specs.Parameters.{regular_names, param_names}
-use Rattle.blif_flat.specs.Models.{has_name}
+use Rattle.netlist.specs.declared.command.Body.TheVariants.{Cover, Latch}
+use Rattle.netlist.specs.declared.latch.Latch.{Latch as LatchValue}
+use Rattle.netlist.specs.CoverValue.{RowValue, CoverValue}
+use Rattle.netlist.specs.WellFormed.{IsWellFormedBody}
+use Rattle.netlist.specs.FlatValue.{FlatValue}
+use Rattle.netlist.specs.Flat.{underscores}
+use Rattle.param_list.specs.declared.params.Param.{Param}
+use Rattle.param_list.specs.Parameters.{regular_names, param_names}
+use Rattle.netlist.specs.Models.{has_name}
 use Rattle.cover_pick.specs.declared.lut.Lut.{Lut}
 use Rattle.blif_write.specs.PlainNetlist.{read_latch}
 use Rattle.blif_write.specs.OwnNames.{Naming, table_name, literal_name, bit_name}
@@ -26,8 +26,8 @@ use Rattle.std.proofs.lemmas.List.{map-append}
 use Rattle.tl_text.specs.Clean.{IsClean}
 use Rattle.aig_core.specs.declared.lit.Lit.{Lit}
 use Rattle.aig_core.specs.Roots.{lits_of}
-use Rattle.blif_flat.specs.declared.flat.OutPort.{OutPort}
-use Rattle.blif_flat.specs.declared.flat.FlatLatch.{FlatLatch}
+use Rattle.netlist.specs.declared.flat.OutPort.{OutPort}
+use Rattle.netlist.specs.declared.flat.FlatLatch.{FlatLatch}
 
 -- What is said of the covers of tables: each is by its on-set, under its own name, and reads its leaves and bits; and the names of the bits stand once.
 pub record AreCovers (g : Naming) (luts : List Lut) (bits : List (List (List ℕ))) (table : Lut → CoverValue) : Type 0 where

@@ -1,23 +1,22 @@
 -- A clock cycle of a netlist without hierarchy, over the names of its one instance.
 use Rattle.std.proofs.Common.{◌≡◌, ℕ, zero, suc, ◌+◌, ◌<◌, Bool, true, false, cond, ◌||◌, IsTrue, List, [], ◌∷◌, ◌++◌, length, map, slice_get, slice_index_or, bytes_eq, Option, Some, refl, sym, ap, subst, ◌∙◌, inl, inr, arith, append-nil}
-use Rattle.std.specs.List.{list_any}
 use Rattle.std.specs.Option.{option_and_then}
-use Rattle.std.proofs.lemmas.Slice.Eq.{bytes_eq-Decides}
 use Rattle.std.proofs.lemmas.Bool.{eq-eqb, ne_eqb}
 use Rattle.std.proofs.lemmas.Option.{slice_get_within}
 use Rattle.list_laws.specs.Members.{In}
 use Rattle.list_laws.proofs.Members.{In-get}
-use Rattle.blif_read.specs.declared.command.Command.{Command}
-use Rattle.blif_read.specs.declared.latch.Latch.{Latch as LatchValue}
-use Rattle.blif_read.specs.CoverValue.{CoverValue, cover_value}
-use Rattle.blif_read.specs.SubcktValue.{SubcktValue}
-use Rattle.blif_read.specs.LibraryValue.{ModelValue, LibraryValue}
-use Rattle.blif_flat.specs.Models.{Path, body_at, subckts_of, has_name, is_input}
-use Rattle.blif_flat.specs.Instances.{CoverAt, LatchAt, IsMainInput}
-use Rattle.blif_flat.specs.Nets.{Net, input_net, latch_net, cover_net, Drives, main_input, latch_output, cover_output, from_inside, from_outside, IsClock, listed, controls}
-use Rattle.blif_flat.specs.Places.{Place, latch_at, latch_in, is_latch, own_places, FlatOrder, FlatUnder, flat, none, more}
-use Rattle.blif_flat.specs.Cycle.{Fits}
-use Rattle.blif_flat.specs.Runs.{AreLatches, init_state, inits_of, state_of, next_state, next_states, IsCycle}
+use Rattle.tl_text.proofs.NameSetLemmas.{in_has}
+use Rattle.netlist.specs.declared.command.Command.{Command}
+use Rattle.netlist.specs.declared.latch.Latch.{Latch as LatchValue}
+use Rattle.netlist.specs.CoverValue.{CoverValue, cover_value}
+use Rattle.netlist.specs.SubcktValue.{SubcktValue}
+use Rattle.netlist.specs.LibraryValue.{ModelValue, LibraryValue}
+use Rattle.netlist.specs.Models.{Path, body_at, subckts_of, has_name, is_input}
+use Rattle.netlist.specs.Instances.{CoverAt, LatchAt, IsMainInput}
+use Rattle.netlist.specs.Nets.{Net, input_net, latch_net, cover_net, Drives, main_input, latch_output, cover_output, from_inside, from_outside, IsClock, listed, controls}
+use Rattle.netlist.specs.Places.{Place, latch_at, latch_in, is_latch, own_places, FlatOrder, FlatUnder, flat, none, more}
+use Rattle.netlist.specs.Cycle.{Fits}
+use Rattle.netlist.specs.Runs.{AreLatches, init_state, inits_of, state_of, next_state, next_states, IsCycle}
 use Rattle.blif_write.specs.PlainNetlist.{PlainNetlist, all_inputs, read_control, read_latch, latch_commands, cover_commands, model_of, library_of}
 use Rattle.blif_write.proofs.PlainLemmas.{no_subckts, only_top, latch_there, cover_at_top, latch_at_top, no_connection}
 
@@ -87,10 +86,6 @@ state_there i (suc j) (suc count) (b ∷ s) h =
     ∙ ap (λ (k : ℕ). state_of (places_from (suc i) count) s [] k) e ∙ state_there (suc i) j count s (omega (arith, h))
 
 -- a main input, and a clock
-or_true : (b : Bool) → (b || true) ≡ true
-or_true true = refl
-or_true false = refl
-
 abbrev pub net_name : List ℕ → Net → List ℕ
 net_name d (input_net name) = name
 net_name d (latch_net path i) = d
@@ -101,13 +96,8 @@ is_input_net (input_net name) = true
 is_input_net (latch_net path i) = false
 is_input_net (cover_net path i) = false
 
-has_there : (names : List (List ℕ)) (name : List ℕ) → In names name → has_name names name ≡ true
-has_there (other ∷ names) name (inl e) = ap (λ (t : Bool). t || list_any (bytes_eq name) names) ((bytes_eq-Decides name other).1 e)
-has_there (other ∷ names) name (inr i) = ap (λ (t : Bool). bytes_eq name other || t) (has_there names name i) ∙ or_true (bytes_eq name other)
-has_there [] name i = elim i [ ]
-
 pub input_is : (n : PlainNetlist) (name : List ℕ) → In (all_inputs n) name → IsTrue (is_input (model_of n) name)
-input_is n name i = ap (λ (t : Bool). t || has_name [] name) (has_there (all_inputs n) name i)
+input_is n name i = ap (λ (t : Bool). t || has_name [] name) (in_has (all_inputs n) name i)
 
 pub main_there : (n : PlainNetlist) (name : List ℕ) → In (all_inputs n) name → IsMainInput (library_of n) name
 main_there n name i = record { model = model_of n; at = refl; is = input_is n name i }

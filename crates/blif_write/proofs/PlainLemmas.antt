@@ -6,17 +6,17 @@ use Rattle.list_laws.specs.Members.{In}
 use Rattle.list_laws.proofs.Members.{In-get, In-map, place_in}
 use Rattle.list_laws.proofs.Places.{get_left}
 use Rattle.list_laws.proofs.TwoLists.{get_right}
-use Rattle.blif_read.specs.declared.command.Body.{Body}
-use Rattle.blif_read.specs.declared.command.Body.TheVariants.{Cover, Latch, Subckt}
-use Rattle.blif_read.specs.declared.command.Command.{Command}
-use Rattle.blif_read.specs.declared.latch.Latch.{Latch as LatchValue}
-use Rattle.blif_read.specs.CoverValue.{CoverValue}
-use Rattle.blif_read.specs.declared.subckt.Pair.{Pair}
-use Rattle.blif_read.specs.SubcktValue.{SubcktValue}
-use Rattle.blif_read.specs.LibraryValue.{ModelValue}
-use Rattle.blif_flat.specs.Models.{Path, body_at, subckts_of, model_named, placed, model_at}
-use Rattle.blif_flat.specs.Places.{is_cover}
-use Rattle.blif_flat.specs.Instances.{CoverAt, LatchAt, ConnectionAt}
+use Rattle.netlist.specs.declared.command.Body.{Body}
+use Rattle.netlist.specs.declared.command.Body.TheVariants.{Cover, Latch, Subckt}
+use Rattle.netlist.specs.declared.command.Command.{Command}
+use Rattle.netlist.specs.declared.latch.Latch.{Latch as LatchValue}
+use Rattle.netlist.specs.CoverValue.{CoverValue}
+use Rattle.netlist.specs.declared.subckt.Pair.{Pair}
+use Rattle.netlist.specs.SubcktValue.{SubcktValue}
+use Rattle.netlist.specs.LibraryValue.{ModelValue}
+use Rattle.netlist.specs.Models.{Path, body_at, subckts_of, model_named, placed, model_at}
+use Rattle.netlist.specs.Places.{is_cover}
+use Rattle.netlist.specs.Instances.{CoverAt, LatchAt, ConnectionAt}
 use Rattle.blif_write.specs.PlainNetlist.{PlainNetlist, read_latch, latch_commands, cover_commands, model_of, library_of}
 
 -- no instance is placed

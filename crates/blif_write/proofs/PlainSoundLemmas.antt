@@ -7,21 +7,22 @@ use Rattle.std.proofs.lemmas.Option.{none-some, same_Some, slice_get-map}
 use Rattle.list_laws.specs.Members.{In}
 use Rattle.list_laws.proofs.Members.{In-get, In-append, In-left, In-right, place_in}
 use Rattle.tl_text.specs.Once.{AreOnce}
-use Rattle.blif_read.specs.declared.command.Body.{Body}
-use Rattle.blif_read.specs.declared.command.Body.TheVariants.{Cover, Latch, Subckt}
-use Rattle.blif_read.specs.declared.command.Command.{Command}
-use Rattle.blif_read.specs.declared.latch.Latch.{Latch as LatchValue}
-use Rattle.blif_read.specs.CoverValue.{CoverValue}
-use Rattle.blif_read.specs.SubcktValue.{SubcktValue}
-use Rattle.blif_read.specs.LibraryValue.{ModelValue}
-use Rattle.blif_read.specs.WellFormed.{IsWellFormedBody, IsWellFormedModel, IsWellFormed}
-use Rattle.blif_flat.specs.Models.{Path, body_at, subckts_of, has_name, is_input, is_output}
-use Rattle.blif_flat.specs.Instances.{CoverAt, LatchAt}
-use Rattle.blif_flat.specs.Nets.{Net, input_net, latch_net, cover_net, Drives, main_input, latch_output, cover_output, from_inside, from_outside}
-use Rattle.blif_flat.specs.Places.{Place}
-use Rattle.blif_flat.specs.Loops.{ReadsCover, Depends, direct, through}
-use Rattle.blif_flat.specs.Drivers.{Driver, by_input, by_latch, by_cover, IsDriver, input, latch, cover, output, IsRead, cover_input, latch_input, latch_control, input_actual, model_output, Ends, ends, IsDriven}
-use Rattle.blif_flat.specs.Sound.{IsData, cover_data, latch_data, IsSound}
+use Rattle.tl_text.proofs.NameSetLemmas.{one_place}
+use Rattle.netlist.specs.declared.command.Body.{Body}
+use Rattle.netlist.specs.declared.command.Body.TheVariants.{Cover, Latch, Subckt}
+use Rattle.netlist.specs.declared.command.Command.{Command}
+use Rattle.netlist.specs.declared.latch.Latch.{Latch as LatchValue}
+use Rattle.netlist.specs.CoverValue.{CoverValue}
+use Rattle.netlist.specs.SubcktValue.{SubcktValue}
+use Rattle.netlist.specs.LibraryValue.{ModelValue}
+use Rattle.netlist.specs.WellFormed.{IsWellFormedBody, IsWellFormedModel, IsWellFormed}
+use Rattle.netlist.specs.Models.{Path, body_at, subckts_of, has_name, is_input, is_output}
+use Rattle.netlist.specs.Instances.{CoverAt, LatchAt}
+use Rattle.netlist.specs.Nets.{Net, input_net, latch_net, cover_net, Drives, main_input, latch_output, cover_output, from_inside, from_outside}
+use Rattle.netlist.specs.Places.{Place}
+use Rattle.netlist.specs.Loops.{ReadsCover, Depends, direct, through}
+use Rattle.netlist.specs.Drivers.{Driver, by_input, by_latch, by_cover, IsDriver, input, latch, cover, output, IsRead, cover_input, latch_input, latch_control, input_actual, model_output, Ends, ends, IsDriven}
+use Rattle.netlist.specs.Sound.{IsData, cover_data, latch_data, IsSound}
 use Rattle.blif_write.specs.PlainNetlist.{PlainNetlist, IsPlain, all_inputs, read_latch, model_of, library_of}
 use Rattle.blif_write.proofs.DenoteLemmas.{ports_once}
 use Rattle.blif_write.proofs.PlainLemmas.{bodies_of, body_is, cover_or, no_subckts, none_placed, only_top, cover_there, latch_there, no_connection}
@@ -57,13 +58,6 @@ once_left (x ∷ xs) ys name h (inr i) j = once_left xs ys name h.1 i j
 once_rest : (xs ys : List (List ℕ)) → AreOnce (xs ++ ys) → AreOnce ys
 once_rest [] ys h = h
 once_rest (x ∷ xs) ys h = once_rest xs ys h.1
-
-once_place : (names : List (List ℕ)) (i j : ℕ) (name : List ℕ) → AreOnce names → slice_get names i ≡ Some name → slice_get names j ≡ Some name → i ≡ j
-once_place [] i j name h e f = absurd (none-some name e)
-once_place (x ∷ xs) zero zero name h e f = refl
-once_place (x ∷ xs) zero (suc j) name h e f = absurd (h.0 (subst (In xs) (sym (same_Some x name e)) (In-get xs j name f)))
-once_place (x ∷ xs) (suc i) zero name h e f = absurd (h.0 (subst (In xs) (sym (same_Some x name f)) (In-get xs i name e)))
-once_place (x ∷ xs) (suc i) (suc j) name h e f = ap suc (once_place xs i j name h.1 e f)
 
 -- the command of a cover or a latch
 cover_body : (n : PlainNetlist) (path : Path) (i : ℕ) (c : CoverValue) → CoverAt (library_of n) path i c → slice_get (bodies_of n) i ≡ Some (Cover c)
@@ -144,13 +138,13 @@ one_driver n h name driver other (an_input i e) (a_cover j c b g f) = absurd (on
 one_driver n h name driver other (a_latch j l b g f) (an_input i e) = absurd (once_left (all_inputs n) (command_outputs n) name h.once i (In-get (command_outputs n) j name g))
 one_driver n h name driver other (a_cover j c b g f) (an_input i e) = absurd (once_left (all_inputs n) (command_outputs n) name h.once i (In-get (command_outputs n) j name g))
 one_driver n h name driver other (a_latch i l b g f) (a_latch j m d k e) =
-    f ∙ ap by_latch (once_place (command_outputs n) i j name (once_rest (all_inputs n) (command_outputs n) h.once) g k) ∙ sym e
+    f ∙ ap by_latch (one_place (command_outputs n) i j name (once_rest (all_inputs n) (command_outputs n) h.once) g k) ∙ sym e
 one_driver n h name driver other (a_cover i c b g f) (a_cover j d a k e) =
-    f ∙ ap by_cover (once_place (command_outputs n) i j name (once_rest (all_inputs n) (command_outputs n) h.once) g k) ∙ sym e
+    f ∙ ap by_cover (one_place (command_outputs n) i j name (once_rest (all_inputs n) (command_outputs n) h.once) g k) ∙ sym e
 one_driver n h name driver other (a_latch i l b g f) (a_cover j d a k e) =
-    absurd (latch_no_cover n i j l d b a (once_place (command_outputs n) i j name (once_rest (all_inputs n) (command_outputs n) h.once) g k))
+    absurd (latch_no_cover n i j l d b a (one_place (command_outputs n) i j name (once_rest (all_inputs n) (command_outputs n) h.once) g k))
 one_driver n h name driver other (a_cover j d a k e) (a_latch i l b g f) =
-    absurd (latch_no_cover n i j l d b a (once_place (command_outputs n) i j name (once_rest (all_inputs n) (command_outputs n) h.once) g k))
+    absurd (latch_no_cover n i j l d b a (one_place (command_outputs n) i j name (once_rest (all_inputs n) (command_outputs n) h.once) g k))
 
 -- what is driven has a driver
 body_driver : (n : PlainNetlist) (i : ℕ) (name : List ℕ) (body : Body) → slice_get (bodies_of n) i ≡ Some body → body_output body ≡ name → (driver : Driver) × IsDriver (library_of n) [] name driver

@@ -2,22 +2,21 @@
 use Rattle.std.proofs.Common.{◌≡◌, ◌⊎◌, ℕ, ◌≤◌, Bool, true, false, not, ◌||◌, List, [], ◌∷◌, ◌++◌, Option, Some, refl, sym, ap, subst, ◌∙◌, inl, inr, arith}
 use Rattle.std.proofs.lemmas.Option.{none-some, same_Some}
 use Rattle.list_laws.specs.Members.{In}
-use Rattle.list_laws.proofs.Members.{In-get, In-left, In-right, In-map}
+use Rattle.list_laws.proofs.Members.{In-get, In-left, In-right, In-map, In-filter}
 use Rattle.tl_text.specs.Clean.{IsClean}
 use Rattle.tl_text.specs.Once.{AreOnce}
-use Rattle.blif_read.specs.LibraryValue.{ModelValue, LibraryValue, input_ports, output_ports, clock_ports}
-use Rattle.blif_read.specs.HasCleanNames.{HasCleanNames}
-use Rattle.blif_flat.specs.declared.flat.OutPort.{OutPort}
-use Rattle.blif_flat.specs.FlatValue.{FlatValue}
-use Rattle.blif_flat.specs.Flat.{underscores, most_underscores, IsControl, some_latch, no_latch, IsFlat}
-use Rattle.blif_flat.specs.Models.{Path, has_name}
-use Rattle.blif_flat.specs.Instances.{IsMainInput}
-use Rattle.blif_flat.specs.Nets.{Net, input_net, Drives, main_input, latch_output, cover_output, from_inside, from_outside, IsClock, controls}
-use Rattle.blif_flat.specs.Sound.{IsSound}
+use Rattle.netlist.specs.LibraryValue.{ModelValue, LibraryValue, input_ports, output_ports, clock_ports}
+use Rattle.netlist.specs.HasCleanNames.{HasCleanNames}
+use Rattle.netlist.specs.declared.flat.OutPort.{OutPort}
+use Rattle.netlist.specs.FlatValue.{FlatValue}
+use Rattle.netlist.specs.Flat.{underscores, most_underscores, IsControl, some_latch, no_latch, IsFlat}
+use Rattle.netlist.specs.Models.{Path, has_name}
+use Rattle.netlist.specs.Instances.{IsMainInput}
+use Rattle.netlist.specs.Nets.{Net, input_net, Drives, main_input, latch_output, cover_output, from_inside, from_outside, IsClock, controls}
+use Rattle.netlist.specs.Sound.{IsSound}
 use Rattle.blif_write.specs.Meaning.{IsPortName, HasPorts}
 use Rattle.blif_write.proofs.PlainCycleLemmas.{net_name, is_input_net}
 use Rattle.blif_write.proofs.PlainSoundLemmas.{there_has}
-use Rattle.blif_write.proofs.RowValueLemmas.{of_filter}
 use Rattle.blif_write.proofs.DrivenLemmas.{once_filter}
 
 few_underscores : (names : List (List ℕ)) (name : List ℕ) → In names name → underscores name ≤ most_underscores names
@@ -57,7 +56,7 @@ module _ (library : LibraryValue) (flat : FlatValue) (sound : IsSound library) (
 
   input_in : (name : List ℕ) → In flat.inputs name → In main.inputs name × (fields.test name ≡ false)
   input_in name i =
-      let r : In main.inputs name × (not (fields.test name) ≡ true) = of_filter (λ (other : List ℕ). not (fields.test other)) main.inputs name (subst (λ (k : List (List ℕ)). In k name) fields.inputs i) in
+      let r : In main.inputs name × (not (fields.test name) ≡ true) = In-filter (λ (other : List ℕ). not (fields.test other)) main.inputs name (subst (λ (k : List (List ℕ)). In k name) fields.inputs i) in
       (r.0, not_false (fields.test name) r.1)
 
   output_in : (o : OutPort) → In flat.outputs o → In main.outputs o.name

@@ -7,9 +7,9 @@ use Rattle.std.proofs.lemmas.List.Folds.{flat_map-map}
 use Rattle.std.proofs.lemmas.List.FromFn.{length-map-range_with_len}
 use Rattle.std.proofs.lemmas.Simd.{map-map}
 use Rattle.list_laws.specs.Digits.{digit}
-use Rattle.blif_read.specs.declared.cell.Cell.{Cell}
-use Rattle.blif_read.specs.declared.cell.Cell.TheVariants.{One, Any}
-use Rattle.blif_read.specs.CoverValue.{RowValue}
+use Rattle.netlist.specs.declared.cell.Cell.{Cell}
+use Rattle.netlist.specs.declared.cell.Cell.TheVariants.{One, Any}
+use Rattle.netlist.specs.CoverValue.{RowValue}
 use Rattle.blif_read.specs.Rows.{cell_character}
 use Rattle.blif_write.specs.PlainNetlist.{row_line, line_text}
 use Rattle.blif_write.specs.Netlists.{digit_cell, digit_cells, chosen_cells, fixed_rows, tunable_rows}

@@ -7,11 +7,11 @@ use Rattle.std.proofs.lemmas.Bool.Decides.{Decides-eqb}
 use Rattle.std.proofs.lemmas.List.FromFn.{length-map-range_with_len}
 use Rattle.list_laws.specs.Members.{In}
 use Rattle.list_laws.specs.Digits.{bit_value, number, digit}
-use Rattle.list_laws.proofs.Digits.{number-small}
-use Rattle.list_laws.proofs.Members.{In-map}
-use Rattle.blif_read.specs.declared.cell.Cell.{Cell}
-use Rattle.blif_read.specs.declared.cell.Cell.TheVariants.{One, Any}
-use Rattle.blif_read.specs.CoverValue.{RowValue, allows, matches, some_row}
+use Rattle.list_laws.proofs.Digits.{number-small, lowest, half}
+use Rattle.list_laws.proofs.Members.{In-map, In-filter, from_map, in_filter}
+use Rattle.netlist.specs.declared.cell.Cell.{Cell}
+use Rattle.netlist.specs.declared.cell.Cell.TheVariants.{One, Any}
+use Rattle.netlist.specs.CoverValue.{RowValue, allows, matches, some_row}
 use Rattle.blif_write.specs.Netlists.{digit_cell, digit_cells, fixed_rows, chosen_cells, tunable_rows}
 
 -- the cells of a number's digits, one by one
@@ -81,14 +81,6 @@ matches_number v (b ∷ bs) small h =
     let high : number bs ≡ v / 2 = matches_number (v / 2) bs (omega (arith, small, p)) parts.1 in
     omega (arith, low, high)
 
-lowest : (b : Bool) (n : ℕ) → eqb ((bit_value b + 2 * n) % 2) 1 ≡ b
-lowest true n = let e : (1 + 2 * n) % 2 ≡ 1 = omega arith in ap (λ (m : ℕ). eqb m 1) e
-lowest false n = let e : (0 + 2 * n) % 2 ≡ 0 = omega arith in ap (λ (m : ℕ). eqb m 1) e
-
-half : (b : Bool) (n : ℕ) → (bit_value b + 2 * n) / 2 ≡ n
-half true n = omega arith
-half false n = omega arith
-
 pub matches_own : (ins : List Bool) → matches (cells_of (length ins) (number ins)) ins ≡ true
 matches_own [] = refl
 matches_own (b ∷ bs) =
@@ -126,29 +118,6 @@ of_range a zero v i = elim i [ ]
 of_range a (suc n) v (inl e) = (omega (arith, e), omega (arith, e))
 of_range a (suc n) v (inr i) = let r : (a + 1 ≤ v) × (v < a + 1 + n) = of_range (a + 1) n v i in (omega (arith, r.0), omega (arith, r.1))
 
-pub unmapped : {A B : Type 0} (f : A → B) (xs : List A) (y : B) → In (map f xs) y → (x : A) × In xs x × (y ≡ f x)
-unmapped f [] y i = elim i [ ]
-unmapped f (x ∷ xs) y (inl e) = (x, inl refl, e)
-unmapped f (x ∷ xs) y (inr i) = let r : (z : _) × In xs z × (y ≡ f z) = unmapped f xs y i in (r.0, inr r.1, r.2)
-
-in_either : (test : ℕ → Bool) (y : ℕ) (xs : List ℕ) (x : ℕ) (b : Bool) → In (filter test xs) x → In (cond b (y ∷ filter test xs) (filter test xs)) x
-in_either test y xs x true i = inr i
-in_either test y xs x false i = i
-
-of_either : {A : Type 0} (test : A → Bool) (y : A) (xs : List A) (x : A) (b : Bool) → test y ≡ b → (In (filter test xs) x → In xs x × (test x ≡ true)) → In (cond b (y ∷ filter test xs) (filter test xs)) x → In (y ∷ xs) x × (test x ≡ true)
-of_either test y xs x true e later (inl same) = (inl same, ap test same ∙ e)
-of_either test y xs x true e later (inr i) = let r : In xs x × (test x ≡ true) = later i in (inr r.0, r.1)
-of_either test y xs x false e later i = let r : In xs x × (test x ≡ true) = later i in (inr r.0, r.1)
-
-in_filter : (test : ℕ → Bool) (xs : List ℕ) (x : ℕ) → In xs x → test x ≡ true → In (filter test xs) x
-in_filter test [] x i h = elim i [ ]
-in_filter test (y ∷ xs) x (inl e) h = subst (λ (t : Bool). In (cond t (y ∷ filter test xs) (filter test xs)) x) (sym (ap test (sym e) ∙ h)) (inl e)
-in_filter test (y ∷ xs) x (inr i) h = in_either test y xs x (test y) (in_filter test xs x i h)
-
-pub of_filter : {A : Type 0} (test : A → Bool) (xs : List A) (x : A) → In (filter test xs) x → In xs x × (test x ≡ true)
-of_filter test [] x i = elim i [ ]
-of_filter test (y ∷ xs) x i = of_either test y xs x (test y) refl (of_filter test xs x) i
-
 -- the rows of a table with fixed bits
 digits_match : (v : ℕ) (ins : List Bool) → matches (digit_cells (length ins) v) ins ≡ matches (cells_of (length ins) v) ins
 digits_match v ins = ap (λ (cells : List Cell). matches cells ins) (digits_are (length ins) v)
@@ -163,8 +132,8 @@ fixed_by config base ins true e =
 fixed_by config base ins false e =
     let test : ℕ → Bool = λ v. slice_index_or config (base + v) false in
     no_row_matches (fixed_rows config base (length ins)) ins (λ row i.
-    let at : (v : ℕ) × In (filter test (range_with_len 0 (2 ^ length ins))) v × (row ≡ record { cells = digit_cells (length ins) v }) = unmapped (λ (v : ℕ). record { cells = digit_cells (length ins) v }) (filter test (range_with_len 0 (2 ^ length ins))) row i in
-    let kept : In (range_with_len 0 (2 ^ length ins)) at.0 × (test at.0 ≡ true) = of_filter test (range_with_len 0 (2 ^ length ins)) at.0 at.1 in
+    let at : (v : ℕ) × In (filter test (range_with_len 0 (2 ^ length ins))) v × (row ≡ record { cells = digit_cells (length ins) v }) = from_map (λ (v : ℕ). record { cells = digit_cells (length ins) v }) (filter test (range_with_len 0 (2 ^ length ins))) row i in
+    let kept : In (range_with_len 0 (2 ^ length ins)) at.0 × (test at.0 ≡ true) = In-filter test (range_with_len 0 (2 ^ length ins)) at.0 at.1 in
     let small : (0 ≤ at.0) × (at.0 < 0 + 2 ^ length ins) = of_range 0 (2 ^ length ins) at.0 kept.0 in
     not_true (matches row.cells ins) (λ h.
     let same : number ins ≡ at.0 = matches_number at.0 ins (omega (arith, small.1)) (sym (digits_match at.0 ins) ∙ ap (λ (r : RowValue). matches r.cells ins) (sym at.2) ∙ h) in
@@ -217,7 +186,7 @@ tunable_by ins bits true count e =
 tunable_by ins bits false count e =
     let make : ℕ → RowValue = λ v. record { cells = digit_cells (length ins) v ++ chosen_cells (2 ^ length ins) v } in
     no_row_matches (tunable_rows (length ins)) (ins ++ bits) (λ row i.
-    let at : (v : ℕ) × In (range_with_len 0 (2 ^ length ins)) v × (row ≡ make v) = unmapped make (range_with_len 0 (2 ^ length ins)) row i in
+    let at : (v : ℕ) × In (range_with_len 0 (2 ^ length ins)) v × (row ≡ make v) = from_map make (range_with_len 0 (2 ^ length ins)) row i in
     let small : (0 ≤ at.0) × (at.0 < 0 + 2 ^ length ins) = of_range 0 (2 ^ length ins) at.0 at.1 in
     let below : at.0 < 2 ^ length ins = omega (arith, small.1) in
     not_true (matches row.cells (ins ++ bits)) (λ h.

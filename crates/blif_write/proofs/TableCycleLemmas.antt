@@ -10,15 +10,15 @@ use Rattle.std.proofs.lemmas.Option.{none-some}
 use Rattle.list_laws.specs.Members.{In}
 use Rattle.list_laws.specs.Digits.{number}
 use Rattle.list_laws.proofs.Digits.{number-small}
-use Rattle.list_laws.proofs.Members.{In-get_or, In-left, In-right}
-use Rattle.blif_read.specs.declared.latch.Latch.{Latch as LatchValue}
-use Rattle.blif_read.specs.CoverValue.{CoverValue, cover_value, some_row}
-use Rattle.blif_flat.specs.declared.flat.OutPort.{OutPort}
-use Rattle.blif_flat.specs.declared.flat.FlatLatch.{FlatLatch}
-use Rattle.blif_flat.specs.FlatValue.{FlatValue}
-use Rattle.run_text.specs.declared.params.Param.{Param}
-use Rattle.run_text.specs.Parameters.{regular_names, param_names}
-use Rattle.blif_flat.specs.Models.{has_name}
+use Rattle.list_laws.proofs.Members.{In-get_or, In-left, In-right, In-filter}
+use Rattle.netlist.specs.declared.latch.Latch.{Latch as LatchValue}
+use Rattle.netlist.specs.CoverValue.{CoverValue, cover_value, some_row}
+use Rattle.netlist.specs.declared.flat.OutPort.{OutPort}
+use Rattle.netlist.specs.declared.flat.FlatLatch.{FlatLatch}
+use Rattle.netlist.specs.FlatValue.{FlatValue}
+use Rattle.param_list.specs.declared.params.Param.{Param}
+use Rattle.param_list.specs.Parameters.{regular_names, param_names}
+use Rattle.netlist.specs.Models.{has_name}
 use Rattle.aig_core.specs.declared.lit.Lit.{Lit}
 use Rattle.aig_core.specs.Roots.{lits_of}
 use Rattle.cover_pick.specs.declared.lut.Lut.{Lut}
@@ -32,7 +32,7 @@ use Rattle.blif_write.specs.OwnNames.{Naming, naming_of, table_name, latch_name,
 use Rattle.blif_write.specs.Netlists.{leaf_names, bit_names, fixed_rows, tunable_rows, fixed_table, tunable_table, wire_of, wire, wires, clock_of, written_latch, written_latches, control_names, with_tables}
 use Rattle.blif_write.specs.Meaning.{HasPorts, AreTablesOf, input_bits}
 use Rattle.blif_write.proofs.PlainCycleLemmas.{IsControlName, PlainFits}
-use Rattle.blif_write.proofs.RowValueLemmas.{both_true, not_true, of_filter, fixed_value, tunable_value}
+use Rattle.blif_write.proofs.RowValueLemmas.{both_true, not_true, fixed_value, tunable_value}
 use Rattle.blif_write.proofs.OwnNameLemmas.{no_port_name, source_literal, table_literal}
 
 -- the latches of a written netlist
@@ -127,7 +127,7 @@ pub regular_parts : (shape : Shape) (n : ℕ) → is_regular shape n ≡ true �
 regular_parts shape n h = parts_by shape n (nat_le 1 n && nat_le n shape.regular) refl h
 
 pub name_input : (flat : FlatValue) (params : List Param) (name : List ℕ) → In (regular_names flat params) name → In flat.inputs name
-name_input flat params name i = (of_filter (λ (other : List ℕ). not (has_name (param_names params) other)) flat.inputs name i).0
+name_input flat params name i = (In-filter (λ (other : List ℕ). not (has_name (param_names params) other)) flat.inputs name i).0
 
 past_regular : (n r : ℕ) → r < n → nat_le n r ≡ false
 past_regular n r h = not_true (nat_le n r) (λ t. let e : n ≤ r = leb-true n r t in omega (arith, e, h))

@@ -3,9 +3,9 @@ use Rattle.std.proofs.Common.{◌≡◌, ℕ, List, [], ◌∷◌, ◌++◌, map
 use Rattle.std.specs.List.{flat_map}
 use Rattle.std.proofs.lemmas.List.Concat.{flat_map-append}
 use Rattle.std.proofs.lemmas.List.Folds.{flat_map-map}
-use Rattle.blif_read.specs.CoverValue.{CoverValue}
+use Rattle.netlist.specs.CoverValue.{CoverValue}
 use Rattle.blif_read.specs.Rows.{output_token}
-use Rattle.blif_read.specs.declared.latch.Latch.{Latch as LatchValue}
+use Rattle.netlist.specs.declared.latch.Latch.{Latch as LatchValue}
 use Rattle.blif_write.specs.PlainNetlist.{line_text, words_text, cover_lines, row_line, latch_line, control_words}
 
 -- a line of inputs for each table

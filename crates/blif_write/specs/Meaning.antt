@@ -4,16 +4,16 @@ use Rattle.std.specs.List.{range_with_len}
 use Rattle.list_laws.specs.Members.{In}
 use Rattle.tl_text.specs.Clean.{IsClean}
 use Rattle.tl_text.specs.Once.{AreOnce}
-use Rattle.blif_read.specs.LibraryValue.{ModelValue}
-use Rattle.blif_flat.specs.declared.flat.OutPort.{OutPort}
-use Rattle.blif_flat.specs.declared.flat.FlatLatch.{FlatLatch}
-use Rattle.blif_flat.specs.FlatValue.{FlatValue}
-use Rattle.blif_flat.specs.Flat.{underscores}
-use Rattle.blif_flat.specs.Places.{Place}
-use Rattle.blif_flat.specs.Runs.{AreLatches, inits_of, IsCycle}
-use Rattle.blif_flat.specs.Sound.{IsSound}
-use Rattle.run_text.specs.declared.params.Param.{Param}
-use Rattle.run_text.specs.Parameters.{regular_names}
+use Rattle.netlist.specs.LibraryValue.{ModelValue}
+use Rattle.netlist.specs.declared.flat.OutPort.{OutPort}
+use Rattle.netlist.specs.declared.flat.FlatLatch.{FlatLatch}
+use Rattle.netlist.specs.FlatValue.{FlatValue}
+use Rattle.netlist.specs.Flat.{underscores}
+use Rattle.netlist.specs.Places.{Place}
+use Rattle.netlist.specs.Runs.{AreLatches, inits_of, IsCycle}
+use Rattle.netlist.specs.Sound.{IsSound}
+use Rattle.param_list.specs.declared.params.Param.{Param}
+use Rattle.param_list.specs.Parameters.{regular_names}
 use Rattle.aig_core.specs.declared.lit.Lit.{Lit}
 use Rattle.cover_pick.specs.declared.lut.Lut.{Lut}
 use Rattle.cover_pick.specs.Template.{TemplateValue}

@@ -1,9 +1,9 @@
 -- The names in a written netlist. The regular inputs and the outputs have their own; tables, latches and configuration bits have names
 -- that begin with more underscores than any port's.
 use Rattle.std.specs.Prelude.{ℕ, suc, ◌+◌, ◌-◌, ◌/◌, nat_le, if◌then◌else◌, List, [], ◌∷◌, ◌++◌, length, replicate, slice_index_or, decimal}
-use Rattle.blif_flat.specs.FlatValue.{FlatValue}
-use Rattle.run_text.specs.declared.params.Param.{Param}
-use Rattle.run_text.specs.Parameters.{regular_names}
+use Rattle.netlist.specs.FlatValue.{FlatValue}
+use Rattle.param_list.specs.declared.params.Param.{Param}
+use Rattle.param_list.specs.Parameters.{regular_names}
 use Rattle.lut_sim.specs.declared.shape.Shape.{Shape}
 use Rattle.lut_sim.specs.Sources.{is_plain}
 

@@ -4,15 +4,16 @@ use Rattle.std.specs.List.{flat_map}
 use Rattle.list_laws.specs.Members.{In}
 use Rattle.tl_text.specs.Clean.{IsClean}
 use Rattle.tl_text.specs.Once.{AreOnce}
-use Rattle.blif_read.specs.declared.cell.Cell.{Cell}
-use Rattle.blif_read.specs.declared.latch.Latch.{Latch as LatchValue}
-use Rattle.blif_read.specs.declared.command.Command.{Command}
-use Rattle.blif_read.specs.declared.command.Body.TheVariants.{Cover, Latch}
-use Rattle.blif_read.specs.CoverValue.{CoverValue}
-use Rattle.blif_read.specs.LibraryValue.{ModelValue, LibraryValue}
+pub use Rattle.tl_text.specs.WrittenText.{words_text, line_text}
+use Rattle.netlist.specs.declared.cell.Cell.{Cell}
+use Rattle.netlist.specs.declared.latch.Latch.{Latch as LatchValue}
+use Rattle.netlist.specs.declared.command.Command.{Command}
+use Rattle.netlist.specs.declared.command.Body.TheVariants.{Cover, Latch}
+use Rattle.netlist.specs.CoverValue.{CoverValue}
+use Rattle.netlist.specs.LibraryValue.{ModelValue, LibraryValue}
 use Rattle.blif_read.specs.Rows.{cell_character, output_token}
-use Rattle.blif_read.specs.HasCleanNames.{AreClean, IsCleanBody}
-use Rattle.blif_read.specs.WellFormed.{IsWellFormedBody}
+use Rattle.netlist.specs.HasCleanNames.{AreClean, IsCleanBody}
+use Rattle.netlist.specs.WellFormed.{IsWellFormedBody}
 
 -- One model of latches and of covers by their on-sets. Its inputs stand in one list for each `.inputs` line.
 pub record PlainNetlist : Type 0 where
@@ -52,15 +53,7 @@ netlist_lines n =
     ++ (flat_map cover_lines n.covers
     ++ (codes ".end" ∷ []) ∷ []))))
 
--- words, each behind a blank (32)
-abbrev pub words_text : List (List ℕ) → List ℕ
-words_text words = flat_map (λ (w : List ℕ). 32 ∷ w) words
-
--- a line's bytes: its words with a blank between them, and a line feed (10)
-abbrev pub line_text : List (List ℕ) → List ℕ
-line_text [] = 10 ∷ []
-line_text (word ∷ words) = word ++ (words_text words ++ 10 ∷ [])
-
+-- the bytes of the lines, each of its words with a blank between them and a line feed
 abbrev pub netlist_text : PlainNetlist → List ℕ
 netlist_text n = flat_map line_text (netlist_lines n)
 

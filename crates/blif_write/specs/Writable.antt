@@ -1,11 +1,11 @@
 -- What a netlist must keep to be written.
 use Rattle.std.specs.Prelude.{◌≡◌, ℕ, ◌<◌, ◌≤◌, ◌^◌, List, Some, length, map, slice_get}
 use Rattle.list_laws.specs.Members.{In}
-use Rattle.blif_flat.specs.declared.flat.OutPort.{OutPort}
-use Rattle.blif_flat.specs.FlatValue.{FlatValue}
-use Rattle.blif_flat.specs.Flat.{underscores}
-use Rattle.run_text.specs.declared.params.Param.{Param}
-use Rattle.run_text.specs.Parameters.{regular_names}
+use Rattle.netlist.specs.declared.flat.OutPort.{OutPort}
+use Rattle.netlist.specs.FlatValue.{FlatValue}
+use Rattle.netlist.specs.Flat.{underscores}
+use Rattle.param_list.specs.declared.params.Param.{Param}
+use Rattle.param_list.specs.Parameters.{regular_names}
 use Rattle.cover_pick.specs.Template.{TemplateValue}
 
 -- the sources can be numbered, and the regular inputs stand at these places

@@ -10,7 +10,7 @@ ghost use Rattle.blif_write.specs.Netlists.{clock_of, written_latch, written_lat
 use crate::names::Names;
 use crate::words::add_word;
 use aig_core::Lit;
-use blif_flat::FlatLatch;
+use netlist::FlatLatch;
 use tl_io::{Failed, Sink};
 use tl_piece::Piece;
 use tl_text::Name;

@@ -8,21 +8,21 @@
 //! works out four.
 //!
 //! What the text means is said over the definition of BLIF, not over a reader (`specs/Meaning.antt`): it denotes one model,
-//! which is sound, and whose cycles are those of the tables. `proofs/LineTextLemmas.antt` reads the lines again,
+//! which is sound, and whose cycles are those of the tables. `tl_text/proofs/WrittenLineLemmas.antt` reads the lines again,
 //! `DenoteLemmas.antt` the model; `PlainSoundLemmas.antt` and `PlainCycleLemmas.antt` have a library of one model without
 //! subcircuits; `OrderlyLemmas.antt` shows that the netlists of tables are in order, and `TableCycleLemmas.antt` that their
 //! cycles are the tables'.
 //!
 //! - `names.rt` and `words.rt` have the names. The bytes wait to be put in a `Piece` of `tl_piece`.
-//! - `rows.rt` and `tables.rt` have the tables, `latches.rt` and `wires.rt` the other commands, `netlist.rt` the whole.
+//! - `rows.rt` and `tables.rt` have the tables, `latches.rt` and `wires.rt` the other commands, `writing.rt` the whole.
 #![tactic(auto)]
 
 mod latches;
 mod names;
-mod netlist;
 mod rows;
 mod tables;
 mod wires;
 mod words;
+mod writing;
 
-pub use netlist::{specialised, template};
+pub use writing::{specialised, template};

@@ -2,7 +2,7 @@
 ghost use Rattle.std.specs.Prelude.{◌≡◌, ◌-◌, ◌/◌, ◌≤◌, ◌&&◌, [], IsTrue, nat_le, bytes_eq, slice_index_or};
 ghost use Rattle.tl_io.specs.Causes.{HasCause};
 ghost use Rattle.tl_piece.specs.Pieces.{AddsOrStops};
-ghost use Rattle.blif_flat.specs.Flat.{underscores};
+ghost use Rattle.netlist.specs.Flat.{underscores};
 ghost use Rattle.lut_sim.specs.Sources.{is_regular, is_plain};
 ghost use Rattle.blif_write.specs.OwnNames.{own_name, source_name, literal_name};
 

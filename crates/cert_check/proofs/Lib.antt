@@ -10,7 +10,6 @@ pub mod ReadLemmas
 pub mod LineLemmas
 pub mod OnceLemmas
 pub mod WriteLemmas
-pub mod LineTextLemmas
 pub mod NumberLemmas
 pub mod RoundTrip
 pub mod CertExample

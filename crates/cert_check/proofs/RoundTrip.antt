@@ -11,7 +11,7 @@ use Rattle.cert_check.specs.CertificateValue.{PathValue, StepValue, CertificateV
 use Rattle.cert_check.specs.CertText.{Saying, says_depth, says_claim, says_path, number_of, in_front, numbers_of, saying_by, path_with, said_of, SaidLine, path_said, steps_said, AreSaid, AreLinesOf}
 use Rattle.cert_check.specs.WrittenText.{saying_words, cert_lines, cert_text, bare_path, bare_step, IsWritablePath, IsWritableStep, IsWritable, ReadsBack}
 use Rattle.cert_check.proofs.FormedLemmas.{IsReadable}
-use Rattle.cert_check.proofs.LineTextLemmas.{IsCleanLine, AreCleanLines, numbered, ReadsAgain, reads_again}
+use Rattle.tl_text.proofs.WrittenLineLemmas.{IsCleanLine, AreCleanLines, numbered, ReadsAgain, reads_again}
 use Rattle.cert_check.proofs.NumberLemmas.{plain_clean, tested_plain, number_back, number_clean}
 
 -- each is said by its words

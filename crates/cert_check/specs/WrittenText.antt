@@ -2,6 +2,7 @@
 use Rattle.std.specs.Prelude.{◌≡◌, ℕ, ◌^◌, ◌<◌, ◌≤◌, List, [], ◌∷◌, ◌++◌, length, map, codes, decimal}
 use Rattle.std.specs.List.{flat_map}
 use Rattle.list_laws.specs.Members.{In}
+pub use Rattle.tl_text.specs.WrittenText.{words_text, line_text}
 use Rattle.cert_check.specs.CertificateValue.{PathValue, StepValue, CertificateValue}
 use Rattle.cert_check.specs.CertText.{Saying, says_depth, says_claim, says_path, SaidLine, steps_said, IsCertText}
 
@@ -10,15 +11,6 @@ abbrev pub saying_words : Saying → List (List ℕ)
 saying_words (says_depth d) = codes "depth" ∷ decimal d ∷ []
 saying_words (says_claim n h) = codes "claim" ∷ decimal n ∷ decimal h ∷ []
 saying_words (says_path ns) = codes "path" ∷ map decimal ns
-
--- words, each behind a blank (32)
-abbrev pub words_text : List (List ℕ) → List ℕ
-words_text words = flat_map (λ (w : List ℕ). 32 ∷ w) words
-
--- a line of words, with its line feed (10)
-abbrev pub line_text : List (List ℕ) → List ℕ
-line_text [] = 10 ∷ []
-line_text (word ∷ words) = word ++ (words_text words ++ 10 ∷ [])
 
 -- the lines of a certificate, and its text
 abbrev pub cert_lines : CertificateValue → List (List (List ℕ))

@@ -1,33 +1,11 @@
 //! Whether nodes are a path of a graph.
-ghost use Rattle.std.specs.Prelude.{◌≡◌, ◌<◌, ◌≤◌, ℕ, Some, true, false, length};
-ghost use Rattle.aig_core.specs.Aig.{first_and, node_count, pair_of, IsAnd, IsSource, AreNormal};
+ghost use Rattle.std.specs.Prelude.{◌≡◌, ◌<◌, ◌≤◌, ℕ, true, false, length};
+ghost use Rattle.aig_core.specs.Aig.{first_and, node_count, IsAnd, IsSource, AreNormal};
 ghost use Rattle.aig_core.specs.declared.lit.Kind.TheVariants.{Regular};
 ghost use Rattle.list_laws.specs.Members.{In};
 ghost use Rattle.cert_check.specs.Paths.{IsFanIn, IsPath};
 
-use aig_core::{Graph, Kind, Pair, Steps};
-use std::marker::Brand;
-use std::sync::ledger::{Blank, Ledger};
-
-// The pair of an AND node, read with a counter of its own.
-fn pair_with<L: Ledger>(graph: &Graph, n: u32, blank: Blank) -> Pair
-    requires node { IsAnd graph.now n }
-    requires name { blank.name ≡ L.name }
-    requires parts { blank.parts ≡ L.parts }
-    requires some { 0 < L.parts }
-    ensures { pair_of graph.now n ≡ Some result }
-{
-    let mut steps = Steps::<L>::start(blank);
-    graph.node(n, &mut steps)
-}
-
-// The pair of an AND node.
-fn pair_at(graph: &Graph, n: u32) -> Pair
-    requires { IsAnd graph.now n }
-    ensures { pair_of graph.now n ≡ Some result }
-{
-    pair_with::<Brand>(graph, n, Blank::new(1))
-}
+use aig_core::{Graph, Kind};
 
 /// Whether this is an AND node of the graph.
 pub(crate) fn is_and(graph: &Graph, n: u32) -> bool
@@ -60,7 +38,7 @@ fn is_fan_in(graph: &Graph, m: u32, n: u32) -> bool
     if !is_and(graph, n) {
         return false;
     }
-    let pair = pair_at(graph, n);
+    let pair = graph.pair_at(n);
     if pair.x.0 / 2 == m {
         return true;
     }

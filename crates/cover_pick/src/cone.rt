@@ -1,13 +1,12 @@
 //! How many AND nodes a table computes.
-ghost use Rattle.std.specs.Prelude.{◌≡◌, ℕ, ◌+◌, ◌/◌, ◌<◌, ◌≤◌, ◌^◌, length, Some, OnOk, IfOk};
-ghost use Rattle.aig_core.specs.Aig.{first_and, node_count, IsAnd, IsNormal, AreNormal, pair_of};
+ghost use Rattle.std.specs.Prelude.{◌≡◌, ℕ, ◌+◌, ◌/◌, ◌<◌, ◌≤◌, ◌^◌, length, OnOk, IfOk};
+ghost use Rattle.aig_core.specs.Aig.{first_and, node_count, AreNormal};
 ghost use Rattle.cover_pick.specs.Cone.{is_stop as ends_way, cone_of};
 ghost use Rattle.cover_pick.specs.Search.{stamp_at, reach as reached_by};
 
-use aig_core::{Graph, Pair, Steps};
+use aig_core::{Graph, Pair};
 use std::alloc::{AllocError, Global};
-use std::marker::{Brand, Model};
-use std::sync::ledger::{Blank, Ledger};
+use std::marker::Model;
 
 /// A search of the nodes below a node: a stamp of each node, and the nodes that are reached.
 #[derive(Drop)]
@@ -22,28 +21,6 @@ impl Model for Search {
     ghost Value = { SearchValue };
 
     ghost view = { λ s. record { stamps = s.stamps.items; reached = s.reached.items } };
-}
-
-// The pair of an AND node, read with a counter of its own.
-fn pair_with<L: Ledger>(graph: &Graph, n: u32, blank: Blank) -> Pair
-    requires node { IsAnd graph.now n }
-    requires name { blank.name ≡ L.name }
-    requires parts { blank.parts ≡ L.parts }
-    requires some { 0 < L.parts }
-    ensures pair { pair_of graph.now n ≡ Some result }
-    ensures normal { IsNormal n result }
-{
-    let mut steps = Steps::<L>::start(blank);
-    graph.node(n, &mut steps)
-}
-
-// The pair of an AND node.
-fn pair_at(graph: &Graph, n: u32) -> Pair
-    requires { IsAnd graph.now n }
-    ensures pair { pair_of graph.now n ≡ Some result }
-    ensures normal { IsNormal n result }
-{
-    pair_with::<Brand>(graph, n, Blank::new(1))
 }
 
 // Does a node end the way down: a source or a leaf?
@@ -148,7 +125,7 @@ impl Search {
         self.reach(graph, leaves, stamp, top)?;
         let mut next = 0;
         while next < self.count() {
-            let pair = pair_at(graph, self.node(next));
+            let pair = graph.pair_at(self.node(next));
             self.reach_fan_ins(graph, leaves, stamp, pair)?;
             next += 1;
         }

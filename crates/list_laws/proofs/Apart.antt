@@ -1,9 +1,10 @@
 -- Lists in which nothing stands twice.
-use Rattle.std.proofs.Common.{◌≡◌, ℕ, zero, suc, ◌≤◌, List, [], ◌∷◌, ◌++◌, length, Some, refl, sym, ap, ◌∙◌, subst, inl, inr, arith}
-use Rattle.std.specs.Prelude.{slice_get}
+use Rattle.std.proofs.Common.{◌≡◌, ℕ, zero, suc, ◌≤◌, Bool, List, [], ◌∷◌, ◌++◌, length, Some, refl, sym, ap, ◌∙◌, subst, inl, inr, arith}
+use Rattle.std.specs.Prelude.{filter, slice_get}
 use Rattle.std.proofs.lemmas.Option.{none-some}
 use Rattle.list_laws.specs.Members.{In}
-use Rattle.list_laws.proofs.Members.{In-get, In-append}
+use Rattle.list_laws.proofs.Choice.{choose}
+use Rattle.list_laws.proofs.Members.{In-get, In-append, In-filter}
 
 -- a list in which nothing stands twice
 abbrev pub AreApart : {A : Type 0} → List A → Type 0
@@ -16,6 +17,12 @@ joined_apart (x ∷ xs) ys a b apart = (
   λ (i : In (xs ++ ys) x). elim (In-append xs ys x i) [ inl j ↦ a.0 j | inr j ↦ apart x (inl refl) j ],
   joined_apart xs ys a.1 b (λ p i j. apart p (inr i) j),
 )
+
+pub filtered_apart : {A : Type 0} (test : A → Bool) (xs : List A) → AreApart xs → AreApart (filter test xs)
+filtered_apart test [] apart = tt
+filtered_apart test (x ∷ xs) apart =
+    let rest : AreApart (filter test xs) = filtered_apart test xs apart.1 in
+    choose (λ l. AreApart l) (test x) (x ∷ filter test xs) (filter test xs) (λ t. (λ (i : In (filter test xs) x). apart.0 (In-filter test xs x i).0, rest)) (λ u. rest)
 
 pub apart_once : {A : Type 0} (xs : List A) (i j : ℕ) (x : A) → AreApart xs → slice_get xs i ≡ Some x → slice_get xs j ≡ Some x → i ≡ j
 apart_once [] i j x a e f = absurd (none-some x e)

@@ -17,12 +17,12 @@ number-small (b ∷ bs) =
     omega arith
 
 -- the lowest digit
-lowest : (b : Bool) (n : ℕ) → (eqb ((bit_value b + 2 * n) % 2) 1) ≡ b
+pub lowest : (b : Bool) (n : ℕ) → (eqb ((bit_value b + 2 * n) % 2) 1) ≡ b
 lowest true n = let e : (1 + 2 * n) % 2 ≡ 1 = omega arith in ap (λ m. eqb m 1) e
 lowest false n = let e : (0 + 2 * n) % 2 ≡ 0 = omega arith in ap (λ m. eqb m 1) e
 
 -- the digits above it
-half : (b : Bool) (n : ℕ) → (bit_value b + 2 * n) / 2 ≡ n
+pub half : (b : Bool) (n : ℕ) → (bit_value b + 2 * n) / 2 ≡ n
 half b n = let s : bit_value b ≤ 1 = bit_value-small b in omega arith
 
 pub digit-number : (bs : List Bool) (j : ℕ) → j < length bs → digit (number bs) j ≡ get_or bs j false

@@ -1,8 +1,9 @@
--- Members of lists: by their places, of joined and of mapped lists.
-use Rattle.std.proofs.Common.{◌≡◌, ◌⊎◌, ℕ, zero, suc, ◌<◌, List, [], ◌∷◌, ◌++◌, length, get_or, map, Some, refl, sym, ap, ◌∙◌, inl, inr, arith}
-use Rattle.std.specs.Prelude.{slice_get}
+-- Members of lists: by their places, of joined, of mapped and of filtered lists.
+use Rattle.std.proofs.Common.{◌≡◌, ◌⊎◌, ℕ, zero, suc, ◌<◌, Bool, true, cond, List, [], ◌∷◌, ◌++◌, length, get_or, map, Some, refl, sym, ap, ◌∙◌, subst, inl, inr, arith}
+use Rattle.std.specs.Prelude.{filter, slice_get}
 use Rattle.std.proofs.lemmas.Option.{none-some, same_Some}
 use Rattle.list_laws.specs.Members.{In}
+use Rattle.list_laws.proofs.Choice.{choose}
 
 -- the element at a place is a member
 pub In-get_or : {A : Type 0} (xs : List A) (i : ℕ) (d : A) → i < length xs → In xs (get_or xs i d)
@@ -43,11 +44,29 @@ In-push xs y x i = elim (In-append xs (y ∷ []) x i) [ inl j ↦ inl j | inr j 
 pub In-pushed : {A : Type 0} (xs : List A) (y : A) → In (xs ++ y ∷ []) y
 In-pushed xs y = In-right xs (y ∷ []) y (inl refl)
 
--- a member of a mapped list comes from a member
+-- what a member is mapped to is a member of the mapped list
 pub In-map : {A B : Type 0} (f : A → B) (xs : List A) (x : A) → In xs x → In (map f xs) (f x)
 In-map f [] x h = h
 In-map f (y ∷ ys) x (inl e) = inl (ap f e)
 In-map f (y ∷ ys) x (inr i) = inr (In-map f ys x i)
+
+-- and each member of that list comes from one
+pub from_map : {A B : Type 0} (f : A → B) (xs : List A) (y : B) → In (map f xs) y → (x : A) × In xs x × (y ≡ f x)
+from_map f [] y i = absurd i
+from_map f (x ∷ xs) y (inl e) = (x, inl refl, e)
+from_map f (x ∷ xs) y (inr i) = let r = from_map f xs y i in (r.0, inr r.1, r.2)
+
+-- the members of a filtered list are those that pass the test
+pub In-filter : {A : Type 0} (test : A → Bool) (xs : List A) (x : A) → In (filter test xs) x → In xs x × (test x ≡ true)
+In-filter test [] x i = absurd i
+In-filter test (y ∷ ys) x i = choose (λ l. In l x → In (y ∷ ys) x × (test x ≡ true)) (test y) (y ∷ filter test ys) (filter test ys)
+    (λ t j. elim j [ inl e ↦ (inl e, ap test e ∙ t) | inr k ↦ (let r = In-filter test ys x k in (inr r.0, r.1)) ])
+    (λ u j. let r = In-filter test ys x j in (inr r.0, r.1)) i
+
+pub in_filter : {A : Type 0} (test : A → Bool) (xs : List A) (x : A) → In xs x → test x ≡ true → In (filter test xs) x
+in_filter test [] x i t = absurd i
+in_filter test (y ∷ ys) x (inl e) t = subst (λ b. In (cond b (y ∷ filter test ys) (filter test ys)) x) (sym (ap test (sym e) ∙ t)) (inl e)
+in_filter test (y ∷ ys) x (inr i) t = choose (λ zs. In zs x) (test y) (y ∷ filter test ys) (filter test ys) (λ _. inr (in_filter test ys x i t)) (λ _. in_filter test ys x i t)
 
 -- two functions that agree at each member map a list alike
 pub map_agree : {A B : Type 0} (f g : A → B) (xs : List A) → ((x : A) → In xs x → f x ≡ g x) → map f xs ≡ map g xs

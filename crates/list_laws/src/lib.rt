@@ -3,7 +3,7 @@
 //! The words stand in `specs`: `Members` has membership, `Order` ascending and descending lists, `Digits` numbers by their
 //! binary digits, the lowest first.
 //!
-//! The laws stand in `proofs`, over any type of elements: `Members` (of joined and mapped lists), `Reversed`, `Apart` (lists in
+//! The laws stand in `proofs`, over any type of elements: `Members` (of joined, mapped and filtered lists), `Reversed`, `Apart` (lists in
 //! which nothing stands twice), `Places` (elements by their places, with one set), `Items` (what a loop over a list meets),
 //! `TwoLists`, `FirstPlace` (where a test passes first), `Choice` (what holds of a value that a test chooses), `Digits`.
 #![tactic(auto)]

@@ -7,7 +7,7 @@ use Rattle.std.proofs.lemmas.Option.{slice_get_within, same_Some}
 use Rattle.list_laws.specs.Members.{In}
 use Rattle.list_laws.proofs.Choice.{choose}
 use Rattle.list_laws.proofs.Members.{In-left, In-right, In-append}
-use Rattle.list_laws.proofs.Places.{set_here, set_other, set_length, same_or}
+use Rattle.list_laws.proofs.Places.{set_here, set_other, same_or}
 use Rattle.tl_io.specs.Content.{extended}
 use Rattle.tl_io.specs.Port.{PortSeen}
 use Rattle.tl_io.specs.declared.Write.{Write}
@@ -141,7 +141,3 @@ pends_at_first w before config writes bank b h e = record {
       ];
   bits = b;
 }
-
-pub length-written : (writes : List Write) (config : List Bool) → length (written config writes) ≡ length config
-length-written [] config = refl
-length-written (x ∷ xs) config = length-written xs (slice_set config x.address x.bit) ∙ set_length config x.address x.bit

@@ -3,6 +3,7 @@ use Rattle.std.proofs.Common.{◌≡◌, ℕ, ◌<◌, Bool, List, [], ◌∷◌
 use Rattle.std.specs.List.{slice_get}
 use Rattle.std.proofs.lemmas.Option.{slice_get_within, none-some}
 use Rattle.std.proofs.lemmas.Result.{MatchResult-weaker}
+use Rattle.tl_io.proofs.BitLemmas.{length-written}
 use Rattle.tl_io.specs.Port.{PortSeen}
 use Rattle.tl_io.specs.declared.Write.{Write}
 use Rattle.port_bank.specs.declared.bank.PortFault.{PortFault}
@@ -14,7 +15,7 @@ use Rattle.port_bank.specs.Image.{Holds, ShowsRegions}
 use Rattle.tl_io.specs.Writes.{AreBitsOf, written}
 use Rattle.port_bank.specs.Moves.{MovesWithCause, KeepsPlaces, LosesPlace}
 use Rattle.port_bank.proofs.RegionLemmas.{wide, all_bits_are, all_addresses}
-use Rattle.port_bank.proofs.HoldLemmas.{Pends, pends, pends_at_first, holds_at_end, length-written}
+use Rattle.port_bank.proofs.HoldLemmas.{Pends, pends, pends_at_first, holds_at_end}
 use Rattle.port_bank.proofs.MoveLemmas.{keeps_places, loses_place, moves_with_cause, loses_with_cause}
 
 pub plays_places : (config : List Bool) (writes : List Write) (old new : BankSeen) (result : Result Unit PortFault) → Plays config writes old new result → OnOk result (KeepsPlaces old new)

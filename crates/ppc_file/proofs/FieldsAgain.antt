@@ -9,7 +9,7 @@ use Rattle.aig_core.specs.And.{is_pair}
 use Rattle.aig_core.specs.declared.lit.Lit.{Lit}
 use Rattle.aig_core.specs.declared.lit.Pair.{Pair}
 use Rattle.ppc_pack.specs.declared.pack.PackParam.{PackParam}
-use Rattle.ppc_pack.specs.declared.pack.TheConstants.{MOST_NAME_BYTES}
+use Rattle.tl_text.specs.declared.limits.TheConstants.{MOST_NAME_BYTES}
 use Rattle.ppc_file.specs.declared.pack_err.PackErr.{PackErr}
 use Rattle.ppc_file.specs.declared.pack_err.PackErr.TheVariants as refused
 use Rattle.ppc_file.specs.declared.version.Version.{Version}

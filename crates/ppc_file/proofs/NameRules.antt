@@ -1,15 +1,15 @@
 -- The names that the test of a name passes are the clean ones that are new.
-use Rattle.std.proofs.Common.{◌≡◌, ℕ, ◌≤◌, Bool, true, false, not, ◌||◌, ◌&&◌, eqb, ltb, bytes_eq, List, [], ◌∷◌, length, Option, Some, None, is_some, refl, sym, ap, subst, inl, inr, arith, eqb-true}
+use Rattle.std.proofs.Common.{◌≡◌, ℕ, ◌≤◌, Bool, true, false, not, ◌||◌, ◌&&◌, eqb, ltb, List, [], ◌∷◌, length, Option, Some, None, refl, sym, ap, subst, inl, inr, arith, eqb-true}
 use Rattle.std.specs.List.{list_any}
 use Rattle.std.proofs.lemmas.Bool.{both_ways, or_parts, or_from, cases_Bool, ltb-false, le-ltb, eqb-false}
-use Rattle.std.proofs.lemmas.Slice.Eq.{bytes_eq-Decides}
 use Rattle.list_laws.specs.Members.{In}
-use Rattle.list_laws.proofs.FirstPlace.{position_none, list_any-position_none}
 use Rattle.tl_text.specs.NameIndex.{place_of}
+use Rattle.tl_text.specs.NameSets.{has_name}
 use Rattle.tl_text.specs.Clean.{IsClean}
 use Rattle.tl_text.specs.Lines.{is_bad, ends_in}
 use Rattle.tl_text.specs.Tokens.{is_blank}
 use Rattle.tl_text.proofs.NameLemmas.{not_there}
+use Rattle.tl_text.proofs.NameSetLemmas.{has_in, place_none}
 use Rattle.ppc_file.specs.Fields.{is_bad_byte, is_bad_name}
 
 pub eqb_off : (a b : ℕ) → (a ≡ b → ⊥) → eqb a b ≡ false
@@ -68,15 +68,11 @@ clean_low b blank bad =
 no_delete : (b : ℕ) → is_bad b ≡ false → b ≡ 127 → ⊥
 no_delete b bad = eqb-false b 127 (or_parts (ltb b 32 && not (eqb b 9)) (eqb b 127) bad).1
 
-no_place : (o : Option ℕ) → is_some o ≡ false → o ≡ None
-no_place None h = refl
-no_place (Some i) h = absurd cc
-
 -- a name that the test passes
 pub clean_name : (earlier : List (List ℕ)) (name : List ℕ) → 1 ≤ length name → is_bad_name earlier name ≡ false → IsClean name × (In earlier name → ⊥)
 clean_name earlier name some h =
-    let p = or_parts (list_any is_bad_byte name) (ends_in 92 name || is_some (place_of earlier name)) h in
-    let q = or_parts (ends_in 92 name) (is_some (place_of earlier name)) p.1 in
+    let p = or_parts (list_any is_bad_byte name) (ends_in 92 name || has_name earlier name) h in
+    let q = or_parts (ends_in 92 name) (has_name earlier name) p.1 in
     let good : (b : ℕ) → In name b → IsGood b = (λ b i. good_byte b (none_in is_bad_byte name b p.0 i)) in (
       record {
         bytes = record {
@@ -87,17 +83,19 @@ clean_name earlier name some h =
         };
         no_slash = q.0;
       },
-      not_there earlier name (list_any-position_none (bytes_eq name) earlier (no_place (place_of earlier name) q.1)),
+      not_there earlier name q.1,
     )
 
--- a name that isn't there has no place
+-- a name that isn't there isn't found, and has no place
+not_found : (earlier : List (List ℕ)) (name : List ℕ) → (In earlier name → ⊥) → has_name earlier name ≡ false
+not_found earlier name new = elim (cases_Bool (has_name earlier name)) [ inl t ↦ absurd (new (has_in earlier name t)) | inr f ↦ f ]
+
 pub new_place : (earlier : List (List ℕ)) (name : List ℕ) → (In earlier name → ⊥) → place_of earlier name ≡ None
-new_place earlier name new =
-    position_none (bytes_eq name) earlier (none_all (bytes_eq name) earlier (λ other i. elim (cases_Bool (bytes_eq name other)) [ inl t ↦ absurd (new (subst (In earlier) (sym ((bytes_eq-Decides name other).0 t)) i)) | inr f ↦ f ]))
+new_place earlier name new = place_none earlier name (not_found earlier name new)
 
 pub clean_again : (earlier : List (List ℕ)) (name : List ℕ) → IsClean name → (In earlier name → ⊥) → is_bad_name earlier name ≡ false
 clean_again earlier name clean new =
     let bytes = clean.bytes in
-    or_from (list_any is_bad_byte name) (ends_in 92 name || is_some (place_of earlier name))
+    or_from (list_any is_bad_byte name) (ends_in 92 name || has_name earlier name)
     (none_all is_bad_byte name (λ b i. good_again b (clean_low b (bytes.no_blank b i) (bytes.no_bad b i)) (bytes.no_comment b i) (no_delete b (bytes.no_bad b i))))
-    (or_from (ends_in 92 name) (is_some (place_of earlier name)) clean.no_slash (ap is_some (new_place earlier name new)))
+    (or_from (ends_in 92 name) (has_name earlier name) clean.no_slash (not_found earlier name new))

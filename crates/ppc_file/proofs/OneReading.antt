@@ -1,13 +1,13 @@
 -- Bytes are the file of one pack at most, or have one refusal at most, and never both.
 use Rattle.std.proofs.Common.{◌≡◌, ℕ, ◌+◌, ◌*◌, ◌<◌, false, ltb, List, [], length, replicate, Option, Some, None, Ok, Err, refl, sym, ap, subst, ◌∙◌, append-nil, arith, inl, inr}
 use Rattle.std.proofs.lemmas.Bool.{le-ltb}
-use Rattle.std.proofs.lemmas.List.{length-replicate}
 use Rattle.std.proofs.lemmas.Option.{none-some}
 use Rattle.aig_core.specs.Aig.{AreNormal}
 use Rattle.aig_core.specs.declared.lit.Kind.TheVariants.{Parameter}
 use Rattle.aig_core.specs.declared.lit.Lit.{Lit}
 use Rattle.aig_core.specs.declared.lit.Pair.{Pair}
 use Rattle.ppc_pack.specs.Pack.{PackValue, IsPack}
+use Rattle.ppc_pack.proofs.ConfLemmas.{kinds_count}
 use Rattle.ppc_pack.specs.declared.pack.PackParam.{PackParam}
 use Rattle.ppc_file.specs.declared.pack_err.PackErr.{PackErr}
 use Rattle.ppc_file.specs.declared.version.Version.{Version}
@@ -21,9 +21,6 @@ use Rattle.ppc_file.proofs.ReadsLemmas.{Reads, IsEnd, one_end, reads_front}
 -- the front that is a whole pack
 abbrev pub whole : Version → PackValue → Front
 whole v pack = in_bits v pack.params pack.graph.pairs (length pack.bits) pack.bits
-
-kinds_count : (pack : PackValue) → IsPack pack.params pack.graph pack.bits → length pack.graph.kinds ≡ length pack.params
-kinds_count pack is = ap length is.kinds ∙ length-replicate (length pack.params) Parameter
 
 whole_sound : (v : Version) (pack : PackValue) → IsPack pack.params pack.graph pack.bits → AreNormal (1 + length pack.graph.kinds) pack.graph.pairs → IsSound (whole v pack)
 whole_sound v pack is normal =

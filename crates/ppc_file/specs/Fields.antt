@@ -1,14 +1,15 @@
 -- The fields of a pack file, one by one: what is taken, and what is refused at which byte. Each field is refused as truncated before anything else of it is looked at.
-use Rattle.std.specs.Prelude.{ℕ, ◌-◌, ◌*◌, ◌/◌, Bool, true, false, not, ◌||◌, ◌==◌, if◌then◌else◌, nat_lt, nat_le, List, [], ◌∷◌, length, map, take, drop, Ok, Err, bytes_eq, is_some}
+use Rattle.std.specs.Prelude.{ℕ, ◌-◌, ◌*◌, ◌/◌, Bool, true, false, not, ◌||◌, ◌==◌, if◌then◌else◌, nat_lt, nat_le, List, [], ◌∷◌, length, map, take, drop, Ok, Err, bytes_eq}
 use Rattle.std.specs.Int.{w16, w32}
 use Rattle.std.specs.List.{list_any}
 use Rattle.tl_text.specs.Lines.{ends_in}
-use Rattle.tl_text.specs.NameIndex.{place_of}
+use Rattle.tl_text.specs.NameSets.{has_name}
 use Rattle.aig_core.specs.And.{is_pair}
 use Rattle.aig_core.specs.declared.lit.Lit.{Lit}
 use Rattle.aig_core.specs.declared.lit.Pair.{Pair}
 use Rattle.ppc_pack.specs.declared.pack.PackParam.{PackParam}
-use Rattle.ppc_pack.specs.declared.pack.TheConstants.{MOST_PARAMETERS, MOST_NAME_BYTES, MOST_PACK_NODES, MOST_PACK_BITS}
+use Rattle.ppc_pack.specs.declared.pack.TheConstants.{MOST_PACK_NODES, MOST_PACK_BITS}
+use Rattle.tl_text.specs.declared.limits.TheConstants.{MOST_PARAMETERS, MOST_NAME_BYTES}
 use Rattle.ppc_file.specs.declared.pack_err.PackErr.TheVariants as refused
 use Rattle.ppc_file.specs.declared.version.Version.{Version}
 use Rattle.ppc_file.specs.declared.version.Version.TheVariants.{One, Two}
@@ -58,7 +59,7 @@ is_bad_byte b = nat_lt b 33 || ((b == 35) || (b == 127))
 
 -- has it such a byte, does it end in `\` (92), or stood it earlier
 abbrev pub is_bad_name : List (List ℕ) → List ℕ → Bool
-is_bad_name earlier name = list_any is_bad_byte name || (ends_in 92 name || is_some (place_of earlier name))
+is_bad_name earlier name = list_any is_bad_byte name || (ends_in 92 name || has_name earlier name)
 
 abbrev pub if_good_name : ℕ → List (List ℕ) → List ℕ × List ℕ → Field (List ℕ)
 if_good_name at earlier x = if is_bad_name earlier x.0 then Err (refused.BadName at) else Ok x

@@ -1,21 +1,20 @@
 //! How the parts of a pack file are added.
-ghost use Rattle.std.specs.Prelude.{◌≡◌, ◌+◌, ◌≤◌, ◌<◌, ◌++◌, length, Some};
+ghost use Rattle.std.specs.Prelude.{◌≡◌, ◌+◌, ◌≤◌, ◌<◌, ◌++◌, length};
 ghost use Rattle.std.specs.Int.{w32};
 ghost use Rattle.list_laws.specs.Members.{In};
 ghost use Rattle.tl_io.specs.Causes.{HasCause};
 ghost use Rattle.tl_piece.specs.Pieces.{AddsOrStops};
-ghost use Rattle.aig_core.specs.Aig.{first_and, pair_of, IsAnd, IsNormal};
+ghost use Rattle.aig_core.specs.Aig.{first_and, IsNormal};
 ghost use Rattle.ppc_pack.specs.declared.pack.PackParam.{PackParam as ParamValue};
-ghost use Rattle.ppc_pack.specs.declared.pack.TheConstants.{MOST_NAME_BYTES as MOST_LENGTH, MOST_PACK_BITS as MOST_BITS, MOST_PARAMETERS as MOST};
+ghost use Rattle.ppc_pack.specs.declared.pack.TheConstants.{MOST_PACK_BITS as MOST_BITS};
+ghost use Rattle.tl_text.specs.declared.limits.TheConstants.{MOST_NAME_BYTES as MOST_LENGTH, MOST_PARAMETERS as MOST};
 ghost use Rattle.ppc_file.specs.Numbers.{spelled};
 ghost use Rattle.ppc_file.specs.Bytes.{head_bytes, bit_byte, param_bytes, node_bytes, params_part, nodes_part, bits_part};
 
 use crate::add_number::{add_number, add_short};
 use crate::version::Version;
-use aig_core::{Graph, Lit, Pair, Steps};
+use aig_core::{Graph, Lit, Pair};
 use ppc_pack::PackParam;
-use std::marker::Brand;
-use std::sync::ledger::{Blank, Ledger};
 use tl_io::{Failed, Sink};
 use tl_piece::Piece;
 
@@ -115,28 +114,6 @@ fn add_node<O: Sink>(
     add_number(version, second, piece, out)
 }
 
-// The pair of an AND node, read with a counter of its own.
-fn pair_with<L: Ledger>(graph: &Graph, n: u32, blank: Blank) -> Pair
-    requires node { IsAnd graph.now n }
-    requires name { blank.name ≡ L.name }
-    requires parts { blank.parts ≡ L.parts }
-    requires some { 0 < L.parts }
-    ensures pair { pair_of graph.now n ≡ Some result }
-    ensures normal { IsNormal n result }
-{
-    let mut steps = Steps::<L>::start(blank);
-    graph.node(n, &mut steps)
-}
-
-// The pair of an AND node.
-fn pair_at(graph: &Graph, n: u32) -> Pair
-    requires { IsAnd graph.now n }
-    ensures pair { pair_of graph.now n ≡ Some result }
-    ensures normal { IsNormal n result }
-{
-    pair_with::<Brand>(graph, n, Blank::new(1))
-}
-
 // Adds how many nodes a graph has, and each of them.
 pub(crate) fn add_nodes<O: Sink>(
     version: Version,
@@ -154,7 +131,7 @@ pub(crate) fn add_nodes<O: Sink>(
     add_number(version, count, piece, out)?;
     for number in 0..count {
         let node = first + number;
-        add_node(version, node, pair_at(graph, node), piece, out)?;
+        add_node(version, node, graph.pair_at(node), piece, out)?;
     }
     Ok(())
 }

@@ -1,8 +1,7 @@
 //! The fields of a pack file, one by one.
-ghost use Rattle.std.specs.Prelude.{◌≡◌, ◌<◌, is_some};
+ghost use Rattle.std.specs.Prelude.{◌≡◌, ◌<◌};
 ghost use Rattle.std.specs.List.{list_any};
 ghost use Rattle.tl_text.specs.Lines.{ends_in};
-ghost use Rattle.tl_text.specs.NameIndex.{place_of};
 ghost use Rattle.ppc_file.specs.Fields.{bytes_at as bytes_there, magic_at, version_at, param_count_at, node_count_at, bit_count_at, name_length_at, name_at, is_bad_byte as is_bad_byte_there, value_at, param_at, fan_ins_at, is_bad_pair as is_bad_pair_there, bit_at};
 ghost use Rattle.ppc_file.specs.Reading.{Gives};
 
@@ -113,12 +112,6 @@ fn ends_in_slash(name: &[u8]) -> bool
     !name.is_empty() && name[name.len() - 1] == b'\\'
 }
 
-fn is_among(earlier: &NameIndex, name: &[u8]) -> bool
-    ensures { result ≡ is_some (place_of earlier.now name.now) }
-{
-    earlier.place(name).is_some()
-}
-
 // The name of a parameter, and what is left behind it.
 fn name<'a>(
     total: u32,
@@ -129,7 +122,7 @@ fn name<'a>(
     ensures { Gives (λ x. (x.0.now, x.1.now)) result (name_at total earlier.now length rest.now) }
 {
     let (name, behind) = bytes_at(total, length as usize, rest)?;
-    if has_bad_byte(name) || ends_in_slash(name) || is_among(earlier, name) {
+    if has_bad_byte(name) || ends_in_slash(name) || earlier.has(name) {
         return Err(PackErr::BadName(offset(total, rest)));
     }
     Ok((name, behind))

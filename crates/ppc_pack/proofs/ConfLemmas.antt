@@ -1,8 +1,14 @@
--- A pack has one configuration under any values of its parameters, and what the loop over the bits keeps.
-use Rattle.std.proofs.Common.{Bool, List, map, refl, ap, ◌∙◌}
+-- A pack has as many sources as parameters, and one configuration under any values of them; and what the loop over the bits keeps.
+use Rattle.std.proofs.Common.{◌≡◌, Bool, List, length, map, refl, ap, ◌∙◌}
+use Rattle.std.proofs.lemmas.List.{length-replicate}
+use Rattle.aig_core.specs.declared.lit.Kind.TheVariants.{Parameter}
 use Rattle.aig_core.specs.Roots.{lits_of}
 use Rattle.aig_core.specs.Value.{value_of, HasOneFit}
-use Rattle.ppc_pack.specs.Pack.{PackValue, HasOneConf}
+use Rattle.ppc_pack.specs.Pack.{PackValue, IsPack, HasOneConf}
+
+-- the sources are the parameters
+pub kinds_count : (pack : PackValue) → IsPack pack.params pack.graph pack.bits → length pack.graph.kinds ≡ length pack.params
+kinds_count pack is = ap length is.kinds ∙ length-replicate (length pack.params) Parameter
 
 -- there is one configuration where one list of values fits the graph
 pub has_one_conf : (pack : PackValue) (params : List Bool) → HasOneFit pack.graph params → HasOneConf pack params

@@ -9,7 +9,8 @@ use Rattle.aig_core.specs.Aig.{Aig, IsLit}
 use Rattle.aig_core.specs.Roots.{lits_of}
 use Rattle.aig_core.specs.Value.{FitsGraph, value_of}
 use Rattle.ppc_pack.specs.declared.pack.PackParam.{PackParam}
-use Rattle.ppc_pack.specs.declared.pack.TheConstants.{MOST_PARAMETERS, MOST_NAME_BYTES, MOST_PACK_NODES, MOST_PACK_BITS}
+use Rattle.ppc_pack.specs.declared.pack.TheConstants.{MOST_PACK_NODES, MOST_PACK_BITS}
+use Rattle.tl_text.specs.declared.limits.TheConstants.{MOST_PARAMETERS, MOST_NAME_BYTES}
 
 -- a pack as plain lists
 pub record PackValue : Type 0 where

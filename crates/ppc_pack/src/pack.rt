@@ -11,11 +11,6 @@ use std::alloc::{AllocError, Global};
 use std::marker::Model;
 use tl_text::Name;
 
-/// The most parameters of a pack, and the most bytes of a parameter's name.
-pub const MOST_PARAMETERS: usize = 65_535;
-
-pub const MOST_NAME_BYTES: usize = 65_535;
-
 /// The most AND nodes and the most bits of a pack, 2^25.
 pub const MOST_PACK_NODES: u32 = 33_554_432;
 

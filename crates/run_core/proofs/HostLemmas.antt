@@ -4,7 +4,7 @@ use Rattle.tl_io.specs.declared.Assign.{Assign}
 use Rattle.spec_core.specs.Events.{IsSet}
 use Rattle.spec_core.specs.Specialiser.{SpecialiserValue}
 use Rattle.spec_core.proofs.AssignLemmas.{length-assigned}
-use Rattle.spec_core.proofs.WriteLemmas.{length-written}
+use Rattle.tl_io.proofs.BitLemmas.{length-written}
 use Rattle.run_core.specs.Keeps.{KeepsHost}
 
 -- a change of parameters leaves as many values and bits

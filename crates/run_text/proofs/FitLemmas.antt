@@ -10,9 +10,8 @@ use Rattle.list_laws.proofs.Members.{place_in}
 use Rattle.tl_io.specs.declared.Assign.{Assign}
 use Rattle.tl_text.specs.LineValue.{WordsLine}
 use Rattle.tl_text.specs.NameIndex.{place_of}
-use Rattle.blif_flat.specs.Models.{has_name}
-use Rattle.blif_flat.proofs.Models.ModelNameLemmas.{place_is}
-use Rattle.blif_flat.proofs.Models.NameSetLemmas.{has_one_more}
+use Rattle.tl_text.specs.NameSets.{has_name}
+use Rattle.tl_text.proofs.NameSetLemmas.{place_is, has_one_more}
 use Rattle.run_text.specs.Each.{each_of}
 use Rattle.run_text.specs.EventValue.{EventValue, Set, Cycle, Upset, Scrub, Image}
 use Rattle.run_text.specs.Fits.{Fits}
@@ -23,7 +22,7 @@ use Rattle.run_text.specs.ScriptText.{settings_refusal, cycle_refusal, saying_re
 use Rattle.run_text.specs.declared.setting.Setting.{Setting}
 use Rattle.run_text.specs.declared.script_err.ScriptErr.TheVariants.{NotParameter, RepeatedInSet, Width, Address, Events}
 use Rattle.run_text.proofs.EachLemmas.{each_at}
-use Rattle.run_text.proofs.MarkLemmas.{has_this}
+use Rattle.param_list.proofs.MarkLemmas.{has_this}
 
 -- settings without a refusal: none has an earlier name, and each name stands once
 module _ (params : List (List ℕ)) (number : ℕ) where

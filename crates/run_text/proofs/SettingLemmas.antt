@@ -1,7 +1,7 @@
 -- A word is split at its last `=`, and the refusal of a setting by the tests of its name.
 use Rattle.std.proofs.Common.{◌≡◌, ◌≢◌, ℕ, zero, suc, ◌+◌, ◌<◌, ◌≤◌, true, false, List, [], ◌∷◌, ◌++◌, length, get_or, take, drop, Some, None, refl, sym, ap, ◌∙◌, subst, arith}
 use Rattle.std.proofs.lemmas.Bool.{cond-true, cond-false, eq-eqb, ne_eqb}
-use Rattle.blif_flat.specs.Models.{has_name}
+use Rattle.tl_text.specs.NameSets.{has_name}
 use Rattle.run_text.specs.Sayings.{split_before, split_last}
 use Rattle.run_text.specs.ScriptText.{settings_refusal}
 use Rattle.run_text.specs.declared.setting.Setting.{Setting}

@@ -1,9 +1,5 @@
 -- What public clauses say.
 pub mod Lines
-pub mod Parameters
-pub mod ParamsText
-pub mod RegularPlaces
-pub mod Refusals
 pub mod NamesValue
 pub mod EventValue
 pub mod Each
@@ -13,6 +9,4 @@ pub mod Fits
 pub mod ScriptRefusals
 -- What only bodies are compared with.
 pub mod Parts
-pub mod LinesErr
 pub mod ScriptLines
-pub mod Marks

@@ -6,7 +6,7 @@ use Rattle.tl_text.specs.LineValue.{LineValue, WordsLine, words_line}
 use Rattle.tl_text.specs.Lines.{lines_of}
 use Rattle.tl_text.specs.NameIndex.{place_of}
 use Rattle.tl_text.specs.declared.text_err.TextErr.TheVariants as text_err
-use Rattle.blif_flat.specs.Models.{has_name}
+use Rattle.tl_text.specs.NameSets.{has_name}
 use Rattle.run_text.specs.Each.{each_of}
 use Rattle.run_text.specs.EventValue.{EventValue, Set, Cycle, Upset, Scrub, Image}
 use Rattle.run_text.specs.NamesValue.{NamesValue}

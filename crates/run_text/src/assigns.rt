@@ -1,6 +1,6 @@
 //! The parameters that a line of a script sets, by their numbers.
 ghost use Rattle.std.specs.Prelude.{◌≡◌, ◌≤◌, ◌++◌, [], ◌∷◌, List, length, None, Some, MatchResult};
-ghost use Rattle.ppc_pack.specs.declared.pack.TheConstants.{MOST_PARAMETERS};
+ghost use Rattle.tl_text.specs.declared.limits.TheConstants.{MOST_PARAMETERS};
 ghost use Rattle.tl_fault.specs.OrMemory.{OrMemory};
 ghost use Rattle.tl_text.specs.NameIndex.{place_of};
 ghost use Rattle.run_text.specs.Each.{each_of};
@@ -8,7 +8,6 @@ ghost use Rattle.run_text.specs.ScriptText.{settings_refusal, assign_of};
 ghost use Rattle.run_text.specs.ScriptRefusals.{refusal_of};
 ghost use Rattle.run_text.specs.declared.setting.Setting.{Setting as SettingValue};
 
-use crate::name_index::is_among;
 use crate::script_err::ScriptErr;
 use crate::setting::Setting;
 use std::alloc::Global;
@@ -33,7 +32,7 @@ fn read_assign(
     let Some(param) = params.place(name) else {
         return Err(ScriptErr::NotParameter(number, Name::make(alloc, name)?));
     };
-    if is_among(seen, name) {
+    if seen.has(name) {
         return Err(ScriptErr::RepeatedInSet(number, Name::make(alloc, name)?));
     }
     Ok(Assign {

@@ -1,10 +1,6 @@
-//! The texts of a run: its parameter list, its script, and what it puts out, line by line.
+//! The texts of a run: its script, and what it puts out, line by line. Its parameter list is read by `params`, whose names are
+//! handed on here.
 //!
-//! [`read_params`] reads a parameter list, or answers the text's first refusal (`specs/ParamsText.antt`). The parameters are
-//! inputs of a flat circuit, each once (`specs/Parameters.antt`), and [`regular`] gives the places of the inputs that are left.
-//!
-//! - `param_line.rt` reads a line, and `param_lines.rt` all lines of a text.
-//! - `name_index.rt` finds names by their hashes.
 //!
 //! [`read_script`] reads a script, a line for each [`Event`], or answers the text's first refusal (`specs/ScriptText.antt`). What a
 //! line says by its words stands in `specs/Sayings.antt`, and is judged by the [`Names`] of the run. Each event that is answered
@@ -24,13 +20,7 @@ mod cycle_values;
 mod event;
 mod line_buf;
 mod lines;
-mod name_index;
-mod par_err;
-mod param_line;
-mod param_lines;
-mod params;
 mod part;
-mod regular_inputs;
 mod script_err;
 mod script_line;
 mod script_lines;
@@ -41,9 +31,7 @@ mod write_lines;
 pub use event::{Event, MOST_EVENTS, Names};
 pub use line_buf::LineBuf;
 pub use lines::{put_bits_header, put_cycle, put_header, put_image};
-pub use par_err::ParErr;
-pub use params::{Param, Params, read_params};
-pub use regular_inputs::regular;
+pub use param_list::{ParErr, Param, Params, read_params, regular};
 pub use script_err::ScriptErr;
 pub use scripts::read_script;
 pub use write_lines::{put_scrub, put_set, put_upset};

@@ -1,6 +1,6 @@
 //! The lines of a script.
 ghost use Rattle.std.specs.Prelude.{◌≡◌, ◌≤◌, length, map, IfOk, IfErr};
-ghost use Rattle.ppc_pack.specs.declared.pack.TheConstants.{MOST_PARAMETERS};
+ghost use Rattle.tl_text.specs.declared.limits.TheConstants.{MOST_PARAMETERS};
 ghost use Rattle.tl_fault.specs.OrMemory.{OrMemory};
 ghost use Rattle.tl_text.specs.LineValue.{AreLinesIn, words_line};
 ghost use Rattle.tl_text.specs.Once.{AreOnce};
@@ -9,7 +9,6 @@ ghost use Rattle.run_text.specs.ScriptText.{AreEventsOf, IsFirstRefusal};
 ghost use Rattle.run_text.specs.ScriptRefusals.{refusal_of};
 
 use crate::event::{Event, Names};
-use crate::name_index::index_of;
 use crate::script_err::ScriptErr;
 use crate::script_line::read_line;
 use std::alloc::Global;
@@ -54,7 +53,7 @@ pub(crate) fn read_lines(
     ensures events { IfOk result (λ events. AreEventsOf names.now (map (words_line text.now) lines.now) (event_values events.items)) }
     ensures fault { IfErr result (OrMemory refusal_of (IsFirstRefusal names.now (map (words_line text.now) lines.now))) }
 {
-    let params = index_of(alloc, &names.params)?;
+    let params = NameIndex::of(alloc, &names.params)?;
     let events = read_each(alloc, text, lines, names, &params)?;
     Ok(events)
 }

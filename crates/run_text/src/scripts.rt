@@ -1,7 +1,7 @@
 //! Scripts.
 ghost use Rattle.std.specs.Prelude.{◌≡◌, ◌≤◌, length, Ok, IfOk, IfErr};
 ghost use Rattle.list_laws.specs.Members.{In};
-ghost use Rattle.ppc_pack.specs.declared.pack.TheConstants.{MOST_PARAMETERS};
+ghost use Rattle.tl_text.specs.declared.limits.TheConstants.{MOST_PARAMETERS};
 ghost use Rattle.tl_fault.specs.OrMemory.{OrMemory};
 ghost use Rattle.tl_text.specs.LineValue.{AreLinesIn};
 ghost use Rattle.tl_text.specs.Lines.{lines_of};

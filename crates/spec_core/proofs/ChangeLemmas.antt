@@ -9,14 +9,13 @@ use Rattle.tl_io.specs.declared.Assign.{Assign}
 use Rattle.tl_io.specs.Assigns.{AreAssigned, assigned}
 use Rattle.tl_io.specs.Writes.{written}
 use Rattle.list_laws.proofs.Places.{at_within}
-use Rattle.aig_core.specs.declared.lit.Kind.TheVariants.{Parameter}
 use Rattle.aig_core.specs.declared.lit.Lit.{Lit}
 use Rattle.aig_core.specs.Aig.{first_and, node_count, AreNormal}
 use Rattle.aig_core.specs.Roots.{lits_of}
 use Rattle.aig_core.specs.Value.{xor, node_value, value_of, FitsGraph, HasOneFit}
 use Rattle.aig_core.proofs.FitLemmas.{one_fit}
 use Rattle.ppc_pack.specs.Pack.{PackValue, IsPack, IsConf}
-use Rattle.ppc_pack.proofs.ConfLemmas.{has_one_conf}
+use Rattle.ppc_pack.proofs.ConfLemmas.{kinds_count, has_one_conf}
 use Rattle.dirty_idx.specs.Marks.{is_marked}
 use Rattle.dirty_idx.specs.Readers.{ReadersValue, AreReaders}
 use Rattle.spec_core.specs.Differences.{config_bit, differs_at, write_of, differences}
@@ -77,10 +76,6 @@ marked_differs pack old new now start end len swept a = elim (cases_lt a (length
       get_or_past now.addresses a false (omega arith)
       ∙ sym (ap (λ b. xor b (config_bit (bits_under pack new) a)) (get_or_past (bits_under pack old) a false (omega arith)) ∙ get_or_past (bits_under pack new) a false (omega arith))
 ]
-
--- the sources are the parameters
-pub kinds_count : (pack : PackValue) → IsPack pack.params pack.graph pack.bits → length pack.graph.kinds ≡ length pack.params
-kinds_count pack is = ap length is.kinds ∙ length-replicate (length pack.params) Parameter
 
 -- the parameters' values among those that fit
 pub params_fit : (pack : PackValue) (given values : List Bool) → length given ≡ length pack.params → FitsGraph pack.graph given values → params_in pack values ≡ given

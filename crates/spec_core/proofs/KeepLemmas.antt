@@ -9,15 +9,16 @@ use Rattle.aig_core.proofs.FitLemmas.{one_fit}
 use Rattle.ppc_pack.specs.declared.pack.TheConstants.{MOST_PACK_BITS}
 use Rattle.ppc_pack.specs.declared.pack.PackParam.{PackParam}
 use Rattle.ppc_pack.specs.Pack.{PackValue, IsPack, IsConf, HasOneConf, inits_of}
-use Rattle.ppc_pack.proofs.ConfLemmas.{has_one_conf}
+use Rattle.ppc_pack.proofs.ConfLemmas.{has_one_conf, kinds_count}
 use Rattle.dirty_idx.specs.Marks.{is_marked}
 use Rattle.spec_core.specs.Differences.{differs_at}
 use Rattle.spec_core.specs.Events.{IsSet, IsScrub}
 use Rattle.spec_core.specs.Sweep.{Progress, EvaluationValue, bits_under}
 use Rattle.spec_core.specs.Device.{DeviceValue, IsSent}
 use Rattle.spec_core.specs.Keeps.{params_in, IsIdle, IsChange, Keeps}
-use Rattle.spec_core.proofs.WriteLemmas.{length-written, writes_ascend, writes_are_bits, written_differences}
-use Rattle.spec_core.proofs.ChangeLemmas.{kinds_count, params_fit, length-bits_under, idle_conf, change_set, change_steady}
+use Rattle.tl_io.proofs.BitLemmas.{length-written}
+use Rattle.spec_core.proofs.WriteLemmas.{writes_ascend, writes_are_bits, written_differences}
+use Rattle.spec_core.proofs.ChangeLemmas.{params_fit, length-bits_under, idle_conf, change_set, change_steady}
 
 -- the parameters' values at the start
 pub start_params : (pack : PackValue) (values : List Bool) → FitsGraph pack.graph (inits_of pack.params) values → params_in pack values ≡ inits_of pack.params

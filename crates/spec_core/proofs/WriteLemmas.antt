@@ -10,28 +10,17 @@ use Rattle.std.proofs.lemmas.List.Filters.{length-filter_both}
 use Rattle.std.proofs.lemmas.Option.{slice_get-get_or}
 use Rattle.tl_io.specs.declared.Write.{Write}
 use Rattle.tl_io.specs.Writes.{address_of, AreAscending, AreBitsOf, written}
+use Rattle.tl_io.proofs.BitLemmas.{length-written}
 use Rattle.list_laws.specs.Members.{In}
 use Rattle.list_laws.specs.Order.{IsAscending}
 use Rattle.list_laws.proofs.Choice.{choose}
+use Rattle.list_laws.proofs.Members.{In-filter, in_filter, from_map}
 use Rattle.list_laws.proofs.Places.{same_or}
 use Rattle.aig_core.specs.Value.{xor}
 use Rattle.dirty_idx.specs.Marks.{is_marked, IsLeast, IsEmpty}
 use Rattle.spec_core.specs.Differences.{config_bit, differs_at, write_of, differences}
 use Rattle.spec_core.specs.Device.{writes_where}
 use Rattle.spec_core.proofs.MarkLemmas.{xor-false}
-
--- what is in a filtered list
-In-filter : {A : Type 0} (test : A → Bool) (xs : List A) (x : A) → In (filter test xs) x → In xs x
-In-filter test [] x i = elim i [ ]
-In-filter test (y ∷ ys) x i = elim (cases_Bool (test y)) [
-  | inl t ↦ elim (subst (λ b. In (cond b (y ∷ filter test ys) (filter test ys)) x) t i) [ inl e ↦ inl e | inr j ↦ inr (In-filter test ys x j) ]
-  | inr f ↦ inr (In-filter test ys x (subst (λ b. In (cond b (y ∷ filter test ys) (filter test ys)) x) f i))
-]
-
-In-filtered : {A : Type 0} (test : A → Bool) (xs : List A) (x : A) → In xs x → test x ≡ true → In (filter test xs) x
-In-filtered test [] x i t = elim i [ ]
-In-filtered test (y ∷ ys) x (inl e) t = subst (λ b. In (cond b (y ∷ filter test ys) (filter test ys)) x) (sym (ap test (sym e) ∙ t)) (inl e)
-In-filtered test (y ∷ ys) x (inr i) t = choose (λ zs. In zs x) (test y) (y ∷ filter test ys) (filter test ys) (λ _. inr (In-filtered test ys x i t)) (λ _. In-filtered test ys x i t)
 
 -- the numbers of a range
 pub In-range : (count from x : ℕ) → In (range_with_len from count) x → (from ≤ x) × (x < from + count)
@@ -47,7 +36,7 @@ range_in (suc count) from x a b = elim (same_or x from) [ inl e ↦ inl e | inr 
 filter_ascends : (test : ℕ → Bool) (count from : ℕ) → IsAscending (filter test (range_with_len from count))
 filter_ascends test zero from = tt
 filter_ascends test (suc count) from = choose IsAscending (test from) (from ∷ filter test (range_with_len (from + 1) count)) (filter test (range_with_len (from + 1) count))
-    (λ t. (λ n i. let r = In-range count (from + 1) n (In-filter test (range_with_len (from + 1) count) n i) in let a : from + 1 ≤ n = r.0 in omega arith, filter_ascends test count (from + 1)))
+    (λ t. (λ n i. let r = In-range count (from + 1) n (In-filter test (range_with_len (from + 1) count) n i).0 in let a : from + 1 ≤ n = r.0 in omega arith, filter_ascends test count (from + 1)))
     (λ f. filter_ascends test count (from + 1))
 
 -- a filter by a test that fails everywhere
@@ -92,10 +81,6 @@ addresses_are to (a ∷ chosen) = ap (λ zs. a ∷ zs) (addresses_are to chosen)
 pub writes_ascend : (test : ℕ → Bool) (to : List Bool) → AreAscending (writes_where test to)
 writes_ascend test to = subst IsAscending (sym (addresses_are to (filter test (range_with_len 0 (length to))))) (filter_ascends test (length to) 0)
 
-pub length-written : (writes : List Write) (config : List Bool) → length (written config writes) ≡ length config
-length-written [] config = refl
-length-written (w ∷ ws) config = length-written ws (slice_set config w.address w.bit) ∙ length-set config w.address w.bit
-
 pub written-push : (writes : List Write) (config : List Bool) (w : Write) → written config (writes ++ w ∷ []) ≡ slice_set (written config writes) w.address w.bit
 written-push [] config w = refl
 written-push (v ∷ vs) config w = written-push vs (slice_set config v.address v.bit) w
@@ -126,27 +111,21 @@ written_differences from to same = ext_get_or false (written from (differences f
   where
     at : (k : ℕ) → k < length from → config_bit (written from (differences from to)) k ≡ config_bit to k
     at k l = elim (cases_Bool (differs_at from to k)) [
-      | inl t ↦ written_right to (filter (differs_at from to) (range_with_len 0 (length to))) from k (In-filtered (differs_at from to) (range_with_len 0 (length to)) k (range_in (length to) 0 k (omega arith) (omega arith)) t) l
+      | inl t ↦ written_right to (filter (differs_at from to) (range_with_len 0 (length to))) from k (in_filter (differs_at from to) (range_with_len 0 (length to)) k (range_in (length to) 0 k (omega arith) (omega arith)) t) l
       | inr f ↦ right_stays to (filter (differs_at from to) (range_with_len 0 (length to))) from k l (xor-false (config_bit from k) (config_bit to k) f)
     ]
-
--- where an element of a mapped list comes from
-pub In-mapped : {A B : Type 0} (f : A → B) (xs : List A) (y : B) → In (map f xs) y → (x : A) × (In xs x × (y ≡ f x))
-In-mapped f [] y i = elim i [ ]
-In-mapped f (x ∷ xs) y (inl e) = (x, (inl refl, e))
-In-mapped f (x ∷ xs) y (inr i) = let r = In-mapped f xs y i in (r.0, (inr r.1.0, r.1.1))
 
 -- writes that were sent are bits of the configuration
 pub writes_are_bits : (test : ℕ → Bool) (to config : List Bool) → length config ≡ length to → AreBitsOf (written config (writes_where test to)) (writes_where test to)
 writes_are_bits test to config same = record {
   bits = λ w i.
       let chosen : List ℕ = filter test (range_with_len 0 (length to)) in
-      let r = In-mapped (write_of to) chosen w i in
-      let within = In-range (length to) 0 r.0 (In-filter test (range_with_len 0 (length to)) r.0 r.1.0) in
+      let r = from_map (write_of to) chosen w i in
+      let within = In-range (length to) 0 r.0 (In-filter test (range_with_len 0 (length to)) r.0 r.1).0 in
       let l : r.0 < 0 + length to = within.1 in
       let n : length (written config (writes_where test to)) ≡ length config = length-written (writes_where test to) config in
-      subst (λ (v : Write). slice_get (written config (writes_where test to)) v.address ≡ Some v.bit) (sym r.1.1)
-      (slice_get-get_or (written config (writes_where test to)) r.0 false (omega arith) ∙ ap (λ b. Some b) (written_right to chosen config r.0 r.1.0 (omega arith)));
+      subst (λ (v : Write). slice_get (written config (writes_where test to)) v.address ≡ Some v.bit) (sym r.2)
+      (slice_get-get_or (written config (writes_where test to)) r.0 false (omega arith) ∙ ap (λ b. Some b) (written_right to chosen config r.0 r.1 (omega arith)));
 }
 
 -- the least marked address is written first

@@ -1,12 +1,12 @@
 //! The stages from a text to the functions of its bits.
 ghost use Rattle.std.specs.Prelude.{◌≡◌, ◌<◌, ◌≤◌, ◌^◌, length, IfOk};
 ghost use Rattle.tl_text.specs.declared.logical_lines.TheConstants.{MOST_BYTES};
-ghost use Rattle.blif_read.specs.ShortPorts.{HasShortPorts};
-ghost use Rattle.blif_read.specs.WellFormed.{IsWellFormed};
-ghost use Rattle.blif_flat.specs.Bounds.{IsWithinBounds};
-ghost use Rattle.blif_flat.specs.FlatCycle.{HasCycles};
-ghost use Rattle.blif_flat.specs.Flattened.{HasValues};
-ghost use Rattle.run_text.specs.Parameters.{AreNamed, AreParameters};
+ghost use Rattle.netlist.specs.ShortPorts.{HasShortPorts};
+ghost use Rattle.netlist.specs.WellFormed.{IsWellFormed};
+ghost use Rattle.netlist.specs.Bounds.{IsWithinBounds};
+ghost use Rattle.netlist.specs.FlatCycle.{HasCycles};
+ghost use Rattle.netlist.specs.Flattened.{HasValues};
+ghost use Rattle.param_list.specs.Parameters.{AreNamed, AreParameters};
 ghost use Rattle.aig_core.specs.Aig.{node_count};
 ghost use Rattle.aig_core.specs.Roots.{AreRoots, roots_of};
 ghost use Rattle.cut_enum.specs.Table.{AreRows};
@@ -20,11 +20,12 @@ use crate::stop::Stop;
 use aig_build::build;
 use aig_core::{Graph, Roots};
 use bit_fun::functions;
-use blif_flat::{Flat, flatten};
-use blif_read::{Library, read};
+use blif_flat::flatten;
+use blif_read::read;
 use cover_pick::{Template, pick};
 use cut_enum::{CutTable, enumerate};
 use depth_label::{Labels, labels};
+use netlist::{Flat, Library};
 use ppc_pack::Pack;
 use run_text::Params;
 

@@ -13,7 +13,8 @@ use Rattle.tl_text.specs.Lines.{ends_in}
 use Rattle.aig_core.specs.declared.lit.Kind.{Kind}
 use Rattle.aig_core.specs.declared.lit.Kind.TheVariants.{Parameter}
 use Rattle.ppc_pack.specs.declared.pack.PackParam.{PackParam}
-use Rattle.spec_core.proofs.WriteLemmas.{In-range, In-mapped}
+use Rattle.list_laws.proofs.Members.{from_map}
+use Rattle.spec_core.proofs.WriteLemmas.{In-range}
 
 -- the name of a number
 abbrev pub letters_of : ℕ → List ℕ
@@ -38,12 +39,12 @@ lettered_once init (suc count) from l = (λ i. again i, lettered_once init count
   where
     again : In (map (λ (p : PackParam). p.name) (map (lettered init) (range_with_len (from + 1) count))) (letters_of from) → ⊥
     again i =
-        let p = In-mapped (λ (p : PackParam). p.name) (map (lettered init) (range_with_len (from + 1) count)) (letters_of from) i in
-        let n = In-mapped (lettered init) (range_with_len (from + 1) count) p.0 p.1.0 in
-        let r = In-range count (from + 1) n.0 n.1.0 in
+        let p = from_map (λ (p : PackParam). p.name) (map (lettered init) (range_with_len (from + 1) count)) (letters_of from) i in
+        let n = from_map (lettered init) (range_with_len (from + 1) count) p.0 p.1 in
+        let r = In-range count (from + 1) n.0 n.1 in
         let low : from + 1 ≤ n.0 = r.0 in
         let high : n.0 < from + 1 + count = r.1 in
-        let same : from ≡ n.0 = letters_differ from n.0 (omega arith) (omega arith) (p.1.1 ∙ ap (λ (q : PackParam). q.name) n.1.1) in
+        let same : from ≡ n.0 = letters_differ from n.0 (omega arith) (omega arith) (p.2 ∙ ap (λ (q : PackParam). q.name) n.2) in
         omega arith
 
 -- their bytes are letters
@@ -71,10 +72,10 @@ letters_clean n = record {
 
 -- so these are names that a pack may have
 pub lettered_short : (init : Bool) (count : ℕ) (p : PackParam) → In (map (lettered init) (range_with_len 0 count)) p → length p.name ≤ 65535
-lettered_short init count p i = let n = In-mapped (lettered init) (range_with_len 0 count) p i in subst (λ (q : PackParam). length q.name ≤ 65535) (sym n.1.1) (omega arith)
+lettered_short init count p i = let n = from_map (lettered init) (range_with_len 0 count) p i in subst (λ (q : PackParam). length q.name ≤ 65535) (sym n.2) (omega arith)
 
 pub lettered_clean : (init : Bool) (count : ℕ) (p : PackParam) → In (map (lettered init) (range_with_len 0 count)) p → IsClean p.name
-lettered_clean init count p i = let n = In-mapped (lettered init) (range_with_len 0 count) p i in subst (λ (q : PackParam). IsClean q.name) (sym n.1.1) (letters_clean n.0)
+lettered_clean init count p i = let n = from_map (lettered init) (range_with_len 0 count) p i in subst (λ (q : PackParam). IsClean q.name) (sym n.2) (letters_clean n.0)
 
 -- one new value
 pub AreAssigned-one : (count : ℕ) (a : Assign) → a.param < count → AreAssigned count (a ∷ [])

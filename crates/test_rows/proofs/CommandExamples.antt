@@ -3,11 +3,11 @@ use Rattle.std.proofs.Common.{◌≡◌, ℕ, List, [], ◌∷◌, ◌++◌, cod
 use Rattle.std.specs.Fmt.{digits}
 use Rattle.tl_io.specs.Content.{extended}
 use Rattle.tl_io.specs.Shelf.{with_file}
-use Rattle.tlut_cli.specs.Stations.Words.{SourceWords}
-use Rattle.tlut_cli.specs.Outside.{Outside}
-use Rattle.tlut_cli.specs.Writing.{FileText, AreWritten, IsCutInFile, IsCutInLine}
+use Rattle.cmd_stations.specs.Words.{SourceWords}
+use Rattle.cmd_base.specs.Outside.{Outside}
+use Rattle.cmd_base.specs.Writing.{FileText, AreWritten, IsCutInFile, IsCutInLine}
 use Rattle.tlut_cli.specs.Commands.{Spec, Map, Bits, Gen, Repack, command_of}
-use Rattle.tlut_cli.specs.Gen.Verdict.{first_line, last_line}
+use Rattle.cmd_run.specs.GenCommand.Verdict.{first_line, last_line}
 
 -- the words K NETLIST PARAMS, for tables of six inputs
 abbrev six : List (List ℕ)

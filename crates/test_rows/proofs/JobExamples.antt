@@ -3,32 +3,32 @@ use Rattle.std.proofs.Common.{◌≡◌, ℕ, Bool, true, false, cond, List, [],
 use Rattle.std.specs.Fmt.{digits}
 use Rattle.std.specs.Option.{option_map}
 use Rattle.tl_io.specs.Port.{PortSeen}
-use Rattle.blif_read.specs.declared.cell.Cell.TheVariants.{One}
-use Rattle.blif_read.specs.declared.command.Body.TheVariants.{Cover}
-use Rattle.blif_read.specs.CoverValue.{CoverValue}
-use Rattle.blif_read.specs.LibraryValue.{LibraryValue}
+use Rattle.netlist.specs.declared.cell.Cell.TheVariants.{One}
+use Rattle.netlist.specs.declared.command.Body.TheVariants.{Cover}
+use Rattle.netlist.specs.CoverValue.{CoverValue}
+use Rattle.netlist.specs.LibraryValue.{LibraryValue}
 use Rattle.blif_read.specs.Refusals.{refusal_of as blif_refusal}
 use Rattle.blif_read.specs.declared.blif_err.BlifErr.TheVariants as blif_err
-use Rattle.blif_flat.specs.FlatValue.{FlatValue}
-use Rattle.blif_flat.specs.declared.flat.Net.TheVariants as net
+use Rattle.netlist.specs.FlatValue.{FlatValue}
+use Rattle.netlist.specs.declared.flat.Net.TheVariants as net
 use Rattle.blif_flat.specs.Refusals.{refusal_of as flat_refusal}
 use Rattle.blif_flat.specs.declared.flat_err.FlatErr.TheVariants as flat_err
-use Rattle.run_text.specs.Parameters.{regular_names, param_names}
+use Rattle.param_list.specs.Parameters.{regular_names, param_names}
 use Rattle.run_text.specs.ScriptRefusals.{refusal_of as script_refusal}
 use Rattle.run_text.specs.declared.script_err.ScriptErr.TheVariants as script_err
 use Rattle.tl_fault.specs.RefusalValue.{RefusalValue}
-use Rattle.tlut_cli.specs.declared.ends.outcome.File.{File}
-use Rattle.tlut_cli.specs.declared.ends.outcome.File.TheVariants as file
-use Rattle.tlut_cli.specs.declared.ends.outcome.Outcome.TheVariants as outcome
-use Rattle.tlut_cli.specs.declared.ends.status.Status.TheVariants as status
-use Rattle.tlut_cli.specs.declared.stations.source.Source.{Source}
+use Rattle.cmd_base.specs.declared.outcome.File.{File}
+use Rattle.cmd_base.specs.declared.outcome.File.TheVariants as file
+use Rattle.cmd_base.specs.declared.outcome.Outcome.TheVariants as outcome
+use Rattle.cmd_base.specs.declared.status.Status.TheVariants as status
+use Rattle.cmd_stations.specs.declared.source.Source.{Source}
 use Rattle.tlut_cli.specs.Call.{fault_word}
 use Rattle.tlut_cli.specs.FaultLine.{line_of}
-use Rattle.tlut_cli.specs.Run.Machine.{bank_of}
-use Rattle.tlut_cli.specs.Run.Words.{RunWords, run_of}
-use Rattle.tlut_cli.specs.Stations.Script.{names_of}
-use Rattle.tlut_cli.specs.Stations.SourceCircuit.{width_of, shape_of}
-use Rattle.tlut_cli.specs.Statuses.{refusal_status, status_of}
+use Rattle.cmd_run.specs.Run.Bank.{bank_of}
+use Rattle.cmd_run.specs.Run.Words.{RunWords, run_of}
+use Rattle.cmd_stations.specs.Script.{names_of}
+use Rattle.cmd_stations.specs.SourceCircuit.{width_of, shape_of}
+use Rattle.cmd_base.specs.Statuses.{refusal_status, status_of}
 
 -- the words of a job with tables of K inputs, and these ports and spares
 abbrev words : List ℕ → List ℕ → List ℕ → List (List ℕ)

@@ -1,3 +1,4 @@
+pub mod BitLemmas
 pub mod ContentLemmas
 pub mod FilesLemmas
 pub mod FirstNamed

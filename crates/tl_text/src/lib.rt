@@ -18,9 +18,16 @@
 //!
 //! A [`Name`] holds the bytes of one token, and a [`NameIndex`] numbers names: the *place* of a name is how many others were
 //! added before it. Each name is there once, and contracts see the list of the names in the order of their places (`specs/NameIndex.antt`).
+//! Whether a name is among others, and names of which each is taken once, stand in `specs/NameSets.antt`.
+//!
+//! Lines of words as they are written stand in `specs/WrittenText.antt`; `proofs/WrittenLineLemmas.antt` shows that they are read again
+//! as these words, where each word is clean.
+//!
+//! `limits.rt` has the limits that parameter lists and packs share.
 #![tactic(auto)]
 
 mod decimals;
+mod limits;
 mod line;
 mod logical_lines;
 mod name_index;
@@ -30,6 +37,7 @@ mod text_err;
 mod token;
 
 pub use decimals::{bit, decimal};
+pub use limits::{MOST_NAME_BYTES, MOST_PARAMETERS};
 pub use line::Line;
 pub use logical_lines::{MOST_BYTES, lines};
 pub use name_index::NameIndex;

@@ -4,26 +4,26 @@ use Rattle.std.proofs.lemmas.Option.{same_Some, none-some}
 use Rattle.tl_fault.specs.RefusalValue.{RefusalValue}
 use Rattle.tl_fault.specs.Refusals.{is_limit}
 use Rattle.tl_io.specs.Shelf.{Files, ShelfSeen}
-use Rattle.tlut_cli.specs.Outside.{Outside}
-use Rattle.tlut_cli.specs.Refusals.{too_long}
-use Rattle.tlut_cli.specs.Commands.{Command, command_of, walk_of}
-use Rattle.tlut_cli.specs.Ends.{Told, IsBegun}
+use Rattle.cmd_base.specs.Outside.{Outside}
+use Rattle.cmd_base.specs.Refusals.{too_long}
+use Rattle.cmd_run.specs.Run.Words.{RunWords}
+use Rattle.cmd_run.specs.Run.Headline.{HasHeadline}
+use Rattle.tlut_cli.specs.Commands.{Command, Run, command_of, walk_of}
+use Rattle.cmd_base.specs.Ends.{Told, IsBegun}
+use Rattle.cmd_base.specs.WalkLaws.{HasLaws}
+use Rattle.tlut_cli.specs.CommandEnds.{HasWalkLaws}
 use Rattle.tlut_cli.specs.Call.{IsEnd, HasRefusal, HasDone, HasCutOff, HasLost, HasFault, HasPortFault, IsAnswered, IsComplete, IsFinished, HasBegun, HasWriteCause}
-use Rattle.tlut_cli.specs.Statuses.{status_of, refusal_status}
-use Rattle.tlut_cli.specs.declared.ends.outcome.File.{File}
-use Rattle.tlut_cli.specs.declared.ends.outcome.Outcome.{Outcome}
-use Rattle.tlut_cli.specs.declared.ends.outcome.Outcome.TheVariants as outcome
-use Rattle.tlut_cli.specs.declared.ends.status.Status.{Status}
-use Rattle.tlut_cli.specs.declared.ends.status.Status.TheVariants as status
-use Rattle.tlut_cli.proofs.CommandLaws.{walk_laws}
-
--- words are of one command
-one_command : (ports : ℕ) (words : List (List ℕ)) (a b : Command) → command_of ports words ≡ Some a → command_of ports words ≡ Some b → a ≡ b
-one_command ports words a b x y = same_Some a b (sym x ∙ y)
+use Rattle.cmd_base.specs.Statuses.{status_of, refusal_status}
+use Rattle.cmd_base.specs.declared.outcome.File.{File}
+use Rattle.cmd_base.specs.declared.outcome.Outcome.{Outcome}
+use Rattle.cmd_base.specs.declared.outcome.Outcome.TheVariants as outcome
+use Rattle.cmd_base.specs.declared.status.Status.{Status}
+use Rattle.cmd_base.specs.declared.status.Status.TheVariants as status
+use Rattle.tlut_cli.proofs.CommandLemmas.{one_command}
 
 -- a job that was begun isn't refused
-begun_or_refused : (files : Files) (a b : Command) → a ≡ b → (f : File) (r : RefusalValue) → IsBegun (walk_of b) files → (walk_of a).reading.IsRefused files f r → ⊥
-begun_or_refused files a b same f r begun refused = (walk_laws b).not_both files begun.settled begun.accepted f r (subst (λ c. (walk_of c).reading.IsRefused files f r) same refused)
+begun_or_refused : (files : Files) (a b : Command) → HasLaws (walk_of b) → a ≡ b → (f : File) (r : RefusalValue) → IsBegun (walk_of b) files → (walk_of a).reading.IsRefused files f r → ⊥
+begun_or_refused files a b laws same f r begun refused = laws.not_both files begun.settled begun.accepted f r (subst (λ c. (walk_of c).reading.IsRefused files f r) same refused)
 
 usage_not_memory : status.Memory ≡ status.Usage → ⊥
 usage_not_memory e = cc
@@ -94,20 +94,20 @@ module _ (words : List (List ℕ)) (old new : ShelfSeen) (before after : Outside
   refusal_is o s e end (inr h) = subst (λ x. Told old.files (λ files. HasRefusal files (length before.ports) words x)) (sym h) (tells o s status.Limit e end h)
 
   -- An accepted job is done, but for want of memory, where no read, no write and no more ports than stand by fail.
-  pub accepted_done : (faults_before faults_after : ℕ) (o : Outcome) (s : Status) → s ≡ status_of o → IsEnd words old new before after o → (o ≡ outcome.WriteFault → HasWriteCause words old new (length before.ports) faults_before faults_after)
+  pub accepted_done : HasWalkLaws (length before.ports) words → (faults_before faults_after : ℕ) (o : Outcome) (s : Status) → s ≡ status_of o → IsEnd words old new before after o → (o ≡ outcome.WriteFault → HasWriteCause words old new (length before.ports) faults_before faults_after)
       → IsComplete words old new before after faults_before faults_after s
-  accepted_done fb fa o s e (inl u) w files told has read write port = absurd (none-some has.command (sym u.no_command ∙ has.is))
-  accepted_done fb fa outcome.Done s e (inr run) w files told has read write port = inl e
-  accepted_done fb fa outcome.Memory s e (inr run) w files told has read write port = inr e
-  accepted_done fb fa outcome.Usage s e (inr run) w files told has read write port = absurd run.ends
-  accepted_done fb fa outcome.PortFault s e (inr run) w files told has read write port = absurd (port (record { command = run.command; is = run.is; holds = run.ends.2 }))
-  accepted_done fb fa outcome.WriteFault s e (inr run) w files told has read write port = absurd (write (w refl))
-  accepted_done fb fa (outcome.ReadFault f) s e (inr run) w files told has read write port = absurd (read run.ends.0.fault.rose)
-  accepted_done fb fa (outcome.TooLong f) s e (inr run) w files told has read write port =
-      absurd ((walk_laws run.command).not_both files (run.ends.0.settled files told)
+  accepted_done laws fb fa o s e (inl u) w files told has read write port = absurd (none-some has.command (sym u.no_command ∙ has.is))
+  accepted_done laws fb fa outcome.Done s e (inr run) w files told has read write port = inl e
+  accepted_done laws fb fa outcome.Memory s e (inr run) w files told has read write port = inr e
+  accepted_done laws fb fa outcome.Usage s e (inr run) w files told has read write port = absurd run.ends
+  accepted_done laws fb fa outcome.PortFault s e (inr run) w files told has read write port = absurd (port (record { command = run.command; is = run.is; holds = run.ends.2 }))
+  accepted_done laws fb fa outcome.WriteFault s e (inr run) w files told has read write port = absurd (write (w refl))
+  accepted_done laws fb fa (outcome.ReadFault f) s e (inr run) w files told has read write port = absurd (read run.ends.0.fault.rose)
+  accepted_done laws fb fa (outcome.TooLong f) s e (inr run) w files told has read write port =
+      absurd ((laws run.command run.is).not_both files (run.ends.0.settled files told)
       (subst (λ c. (walk_of c).IsAccepted files) (one_command (length before.ports) words has.command run.command has.is run.is) has.holds) f too_long (run.ends.0.is files told))
-  accepted_done fb fa (outcome.Refused f r) s e (inr run) w files told has read write port =
-      absurd ((walk_laws run.command).not_both files (run.ends.0.settled files told)
+  accepted_done laws fb fa (outcome.Refused f r) s e (inr run) w files told has read write port =
+      absurd ((laws run.command run.is).not_both files (run.ends.0.settled files told)
       (subst (λ c. (walk_of c).IsAccepted files) (one_command (length before.ports) words has.command run.command has.is run.is) has.holds) f r (run.ends.0.is files told))
 
   -- Where there is no memory, nothing was begun.
@@ -126,9 +126,9 @@ module _ (words : List (List ℕ)) (old new : ShelfSeen) (before after : Outside
   no_memory (outcome.Refused f r) e (inr run) begun = refusal_not_memory (is_limit r) e
 
   -- So an accepted job is done where something was begun outside.
-  pub begun_done : (faults_before faults_after : ℕ) (o : Outcome) (s : Status) → s ≡ status_of o → IsEnd words old new before after o → (o ≡ outcome.WriteFault → HasWriteCause words old new (length before.ports) faults_before faults_after)
+  pub begun_done : HasWalkLaws (length before.ports) words → (faults_before faults_after : ℕ) (o : Outcome) (s : Status) → s ≡ status_of o → IsEnd words old new before after o → (o ≡ outcome.WriteFault → HasWriteCause words old new (length before.ports) faults_before faults_after)
       → IsFinished words old new before after faults_before faults_after s
-  begun_done fb fa o s e end w files told has read write port begun = elim (accepted_done fb fa o s e end w files told has read write port) [
+  begun_done laws fb fa o s e end w files told has read write port begun = elim (accepted_done laws fb fa o s e end w files told has read write port) [
     | inl done ↦ done
     | inr memory ↦ absurd (no_memory o (sym memory ∙ e) end begun)
   ]
@@ -149,17 +149,23 @@ module _ (words : List (List ℕ)) (old new : ShelfSeen) (before after : Outside
   fault_of_ports o s e end h = at_ports o (sym h ∙ e) end
 
   -- A refusal is answered, but for want of memory, where no read fails.
-  pub refused_answered : (o : Outcome) (s : Status) → s ≡ status_of o → IsEnd words old new before after o → IsAnswered words old new (length before.ports) s
-  refused_answered o s e (inl u) files told command is f r refused read = absurd (none-some command (sym u.no_command ∙ is))
-  refused_answered outcome.Usage s e (inr run) files told command is f r refused read = absurd run.ends
-  refused_answered outcome.Memory s e (inr run) files told command is f r refused read = inr e
-  refused_answered (outcome.ReadFault g) s e (inr run) files told command is f r refused read = absurd (read run.ends.0.fault.rose)
-  refused_answered outcome.Done s e (inr run) files told command is f r refused read = absurd (begun_or_refused files command run.command (one_command (length before.ports) words command run.command is run.is) f r (run.ends.0.begun files told) refused)
-  refused_answered outcome.WriteFault s e (inr run) files told command is f r refused read = absurd (begun_or_refused files command run.command (one_command (length before.ports) words command run.command is run.is) f r (run.ends.0.begun files told) refused)
-  refused_answered outcome.PortFault s e (inr run) files told command is f r refused read = absurd (begun_or_refused files command run.command (one_command (length before.ports) words command run.command is run.is) f r (run.ends.0.begun files told) refused)
-  refused_answered (outcome.Refused g q) s e (inr run) files told command is f r refused read =
-      inl (e ∙ ap (λ x. refusal_status x) ((walk_laws run.command).one_refusal files (run.ends.0.settled files told) g f q r (run.ends.0.is files told)
+  pub refused_answered : HasWalkLaws (length before.ports) words → (o : Outcome) (s : Status) → s ≡ status_of o → IsEnd words old new before after o → IsAnswered words old new (length before.ports) s
+  refused_answered laws o s e (inl u) files told command is f r refused read = absurd (none-some command (sym u.no_command ∙ is))
+  refused_answered laws outcome.Usage s e (inr run) files told command is f r refused read = absurd run.ends
+  refused_answered laws outcome.Memory s e (inr run) files told command is f r refused read = inr e
+  refused_answered laws (outcome.ReadFault g) s e (inr run) files told command is f r refused read = absurd (read run.ends.0.fault.rose)
+  refused_answered laws outcome.Done s e (inr run) files told command is f r refused read = absurd (begun_or_refused files command run.command (laws run.command run.is) (one_command (length before.ports) words command run.command is run.is) f r (run.ends.0.begun files told) refused)
+  refused_answered laws outcome.WriteFault s e (inr run) files told command is f r refused read = absurd (begun_or_refused files command run.command (laws run.command run.is) (one_command (length before.ports) words command run.command is run.is) f r (run.ends.0.begun files told) refused)
+  refused_answered laws outcome.PortFault s e (inr run) files told command is f r refused read = absurd (begun_or_refused files command run.command (laws run.command run.is) (one_command (length before.ports) words command run.command is run.is) f r (run.ends.0.begun files told) refused)
+  refused_answered laws (outcome.Refused g q) s e (inr run) files told command is f r refused read =
+      inl (e ∙ ap (λ x. refusal_status x) ((laws run.command run.is).one_refusal files (run.ends.0.settled files told) g f q r (run.ends.0.is files told)
       (subst (λ c. (walk_of c).reading.IsRefused files f r) (one_command (length before.ports) words command run.command is run.is) refused)))
-  refused_answered (outcome.TooLong g) s e (inr run) files told command is f r refused read =
-      inl (e ∙ ap (λ x. refusal_status x) ((walk_laws run.command).one_refusal files (run.ends.0.settled files told) g f too_long r (run.ends.0.is files told)
+  refused_answered laws (outcome.TooLong g) s e (inr run) files told command is f r refused read =
+      inl (e ∙ ap (λ x. refusal_status x) ((laws run.command run.is).one_refusal files (run.ends.0.settled files told) g f too_long r (run.ends.0.is files told)
       (subst (λ c. (walk_of c).reading.IsRefused files f r) (one_command (length before.ports) words command run.command is run.is) refused)))
+
+  -- A job of `run` that is done shows the headline.
+  pub shown : HasWalkLaws (length before.ports) words → (files : Files) → HasDone files words before after → (run : RunWords) → command_of (length before.ports) words ≡ Some (Run run) → HasHeadline files run before after
+  shown laws files done run is =
+      let same : done.command ≡ Run run = one_command (length before.ports) words done.command (Run run) done.is is in
+      (laws (Run run) is).shows files before after (subst (λ c. (walk_of c).IsDone files before after) same done.holds)

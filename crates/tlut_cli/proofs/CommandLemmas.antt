@@ -1,58 +1,29 @@
 -- How a command ends is how the command of its words does.
-use Rattle.std.proofs.Common.{◌≡◌, ℕ, subst, inl, inr, ◌⊎◌}
+use Rattle.std.proofs.Common.{◌≡◌, ℕ, ◌⊎◌, List, Some, None, sym, ◌∙◌, subst, inl, inr}
+use Rattle.std.proofs.lemmas.Option.{none-some, same_Some}
 use Rattle.tl_io.specs.Causes.{Rose}
 use Rattle.tl_io.specs.Shelf.{ShelfSeen}
-use Rattle.tlut_cli.specs.Outside.{Outside}
-use Rattle.tlut_cli.specs.Commands.{Command, Run, Spec, Map, Bits, Gen, Repack, walk_of}
-use Rattle.tlut_cli.specs.CommandEnds.{HasEnded, HasCause, HasFiles}
-use Rattle.tlut_cli.specs.Ends.{Ends}
-use Rattle.tlut_cli.specs.declared.ends.outcome.Outcome.{Outcome}
-use Rattle.tlut_cli.specs.declared.generated.words.GenWords.{GenWords}
-use Rattle.tlut_cli.specs.Run.Words.{RunWords}
-use Rattle.tlut_cli.specs.Run.Verdict.{run_walk}
-use Rattle.tlut_cli.specs.Spec.Words.{SpecWords}
-use Rattle.tlut_cli.specs.Spec.Verdict.{spec_walk}
-use Rattle.tlut_cli.specs.Map.Words.{MapWords}
-use Rattle.tlut_cli.specs.Map.Verdict.{map_walk}
-use Rattle.tlut_cli.specs.Bits.Words.{BitsWords}
-use Rattle.tlut_cli.specs.Bits.Verdict.{bits_walk}
-use Rattle.tlut_cli.specs.Gen.Verdict.{gen_walk}
-use Rattle.tlut_cli.specs.Repack.Words.{RepackWords}
-use Rattle.tlut_cli.specs.Repack.Verdict.{repack_walk}
+use Rattle.cmd_base.specs.Outside.{Outside}
+use Rattle.cmd_base.specs.WalkLaws.{HasLaws}
+use Rattle.cmd_base.specs.declared.outcome.Outcome.{Outcome}
+use Rattle.tlut_cli.specs.Commands.{Command, command_of, walk_of}
+use Rattle.tlut_cli.specs.CommandEnds.{HasEnded, HasWalkLaws}
 
-module _ (command : Command) (old new : ShelfSeen) (before after : Outside) (o : Outcome) where
-  pub run_ends : (words : RunWords) → Run words ≡ command → Ends (run_walk words) old new before after o → HasEnded command old new before after o
-  run_ends words same ends = record { ends = subst (λ c. Ends (walk_of c) old new before after o) same ends }
+pub ended_as : {old new : ShelfSeen} {before after : Outside} {faults_before faults_after : ℕ} {o : Outcome} (this command : Command) → this ≡ command
+    → HasEnded this old new before after faults_before faults_after o → HasEnded command old new before after faults_before faults_after o
+ended_as {old} {new} {before} {after} {faults_before} {faults_after} {o} this command same ended = subst (λ c. HasEnded c old new before after faults_before faults_after o) same ended
 
-  pub spec_ends : (words : SpecWords) → Spec words ≡ command → Ends (spec_walk words) old new before after o → HasEnded command old new before after o
-  spec_ends words same ends = record { ends = subst (λ c. Ends (walk_of c) old new before after o) same ends }
+-- a fault of a file or of the output, where files are written
+pub either_fault : (first last old new : ℕ) → Rose first last ⊎ Rose old new → Rose first last ⊎ (Unit {0} × Rose old new)
+either_fault first last old new (inl rose) = inl rose
+either_fault first last old new (inr rose) = inr (tt, rose)
 
-  pub map_ends : (words : MapWords) → Map words ≡ command → Ends (map_walk words) old new before after o → HasEnded command old new before after o
-  map_ends words same ends = record { ends = subst (λ c. Ends (walk_of c) old new before after o) same ends }
+-- words are of one command, whose walk has its laws
+pub one_command : (ports : ℕ) (words : List (List ℕ)) (a b : Command) → command_of ports words ≡ Some a → command_of ports words ≡ Some b → a ≡ b
+one_command ports words a b x y = same_Some a b (sym x ∙ y)
 
-  pub bits_ends : (words : BitsWords) → Bits words ≡ command → Ends (bits_walk words) old new before after o → HasEnded command old new before after o
-  bits_ends words same ends = record { ends = subst (λ c. Ends (walk_of c) old new before after o) same ends }
+pub no_laws : (ports : ℕ) (words : List (List ℕ)) → None ≡ command_of ports words → HasWalkLaws ports words
+no_laws ports words none command is = absurd (none-some command (none ∙ is))
 
-  pub gen_ends : (words : GenWords) → Gen words ≡ command → Ends (gen_walk words) old new before after o → HasEnded command old new before after o
-  gen_ends words same ends = record { ends = subst (λ c. Ends (walk_of c) old new before after o) same ends }
-
-  pub repack_ends : (words : RepackWords) → Repack words ≡ command → Ends (repack_walk words) old new before after o → HasEnded command old new before after o
-  repack_ends words same ends = record { ends = subst (λ c. Ends (walk_of c) old new before after o) same ends }
-
--- three commands write files
-module _ (this command : Command) (same : this ≡ command) (old new : ShelfSeen) where
-  pub writes_files : (walk_of this).WritesFiles → HasFiles command old new
-  writes_files writes = record { files = inr (subst (λ c. (walk_of c).WritesFiles) same writes) }
-
-  -- a fault of a file or of the output
-  pub either_fault : (faults_before faults_after : ℕ) → (walk_of this).WritesFiles → Rose faults_before faults_after ⊎ Rose old.write_faults new.write_faults → HasCause command old new faults_before faults_after
-  either_fault fb fa writes (inl rose) = record { fault = inl rose }
-  either_fault fb fa writes (inr rose) = record { fault = inr (subst (λ c. (walk_of c).WritesFiles) same writes, rose) }
-
--- and three don't
-module _ (command : Command) (old new : ShelfSeen) where
-  pub same_files : new.files ≡ old.files → HasFiles command old new
-  same_files same = record { files = inl same }
-
-  pub output_fault : (faults_before faults_after : ℕ) → Rose faults_before faults_after → HasCause command old new faults_before faults_after
-  output_fault fb fa rose = record { fault = inl rose }
+pub its_laws : (ports : ℕ) (words : List (List ℕ)) (this : Command) → Some this ≡ command_of ports words → HasLaws (walk_of this) → HasWalkLaws ports words
+its_laws ports words this is laws command other = subst (λ c. HasLaws (walk_of c)) (same_Some this command (is ∙ other)) laws

@@ -3,16 +3,16 @@ use Rattle.std.specs.Prelude.{◌≡◌, ℕ, ◌⊎◌, true, List, [], Option,
 use Rattle.tl_fault.specs.RefusalValue.{RefusalValue}
 use Rattle.tl_io.specs.Causes.{Rose}
 use Rattle.tl_io.specs.Shelf.{Files, ShelfSeen}
-use Rattle.tlut_cli.specs.Outside.{Outside}
-use Rattle.tlut_cli.specs.Walk.{Walk}
+use Rattle.cmd_base.specs.Outside.{Outside}
+use Rattle.cmd_base.specs.Walk.{Walk}
 use Rattle.tlut_cli.specs.Commands.{Command, command_of, walk_of}
-use Rattle.tlut_cli.specs.Ends.{Told, Ends, IsReadFault, HasWriteFault}
-use Rattle.tlut_cli.specs.Statuses.{refusal_status}
-use Rattle.tlut_cli.specs.declared.ends.outcome.File.{File}
-use Rattle.tlut_cli.specs.declared.ends.outcome.Outcome.{Outcome}
-use Rattle.tlut_cli.specs.declared.ends.outcome.Outcome.TheVariants as outcome
-use Rattle.tlut_cli.specs.declared.ends.status.Status.{Status}
-use Rattle.tlut_cli.specs.declared.ends.status.Status.TheVariants as status
+use Rattle.cmd_base.specs.Ends.{Told, Ends, IsReadFault, HasWriteFault}
+use Rattle.cmd_base.specs.Statuses.{refusal_status}
+use Rattle.cmd_base.specs.declared.outcome.File.{File}
+use Rattle.cmd_base.specs.declared.outcome.Outcome.{Outcome}
+use Rattle.cmd_base.specs.declared.outcome.Outcome.TheVariants as outcome
+use Rattle.cmd_base.specs.declared.status.Status.{Status}
+use Rattle.cmd_base.specs.declared.status.Status.TheVariants as status
 
 -- the words are of no form, and nothing was read, put or sent
 pub record IsUsage (words : List (List ℕ)) (old new : ShelfSeen) (before after : Outside) (o : Outcome) : Type 0 where

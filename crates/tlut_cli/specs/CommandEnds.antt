@@ -1,18 +1,20 @@
 -- How the command that was run ended.
-use Rattle.std.specs.Prelude.{◌≡◌, ◌⊎◌, ℕ}
+use Rattle.std.specs.Prelude.{◌≡◌, ◌⊎◌, ℕ, List, Some}
 use Rattle.tl_io.specs.Shelf.{ShelfSeen}
-use Rattle.tlut_cli.specs.Outside.{Outside}
-use Rattle.tlut_cli.specs.Commands.{Command, walk_of}
-use Rattle.tlut_cli.specs.Ends.{Ends, HasWriteFault}
-use Rattle.tlut_cli.specs.declared.ends.outcome.Outcome.{Outcome}
+use Rattle.cmd_base.specs.Outside.{Outside}
+use Rattle.cmd_base.specs.Ends.{Ends, HasWriteFault}
+use Rattle.cmd_base.specs.WalkLaws.{HasLaws}
+use Rattle.cmd_base.specs.declared.outcome.Outcome.{Outcome}
+use Rattle.cmd_base.specs.declared.outcome.Outcome.TheVariants.{WriteFault}
+use Rattle.tlut_cli.specs.Commands.{Command, command_of, walk_of}
 
-pub record HasEnded (command : Command) (old new : ShelfSeen) (before after : Outside) (o : Outcome) : Type 0 where
+-- what its outcome says, the cause of its fault of writing, that the files are as before or it writes files, and the laws of its walk
+pub record HasEnded (command : Command) (old new : ShelfSeen) (before after : Outside) (faults_before faults_after : ℕ) (o : Outcome) : Type 0 where
   pub ends : Ends (walk_of command) old new before after o
-
--- the cause of its fault of writing
-pub record HasCause (command : Command) (old new : ShelfSeen) (faults_before faults_after : ℕ) : Type 0 where
-  pub fault : HasWriteFault (walk_of command) old new faults_before faults_after
-
--- the files are as before, or it writes files
-pub record HasFiles (command : Command) (old new : ShelfSeen) : Type 0 where
+  pub cause : o ≡ WriteFault → HasWriteFault (walk_of command) old new faults_before faults_after
   pub files : (new.files ≡ old.files) ⊎ (walk_of command).WritesFiles
+  pub laws : HasLaws (walk_of command)
+
+-- the walk of the words' command, where they are one, has its laws
+abbrev pub HasWalkLaws : ℕ → List (List ℕ) → Type 0
+HasWalkLaws ports words = (command : Command) → command_of ports words ≡ Some command → HasLaws (walk_of command)

@@ -1,23 +1,23 @@
 -- The commands, by the words of the command line, and the walk of each.
-use Rattle.std.specs.Prelude.{ℕ, List, Option, Some, None}
+use Rattle.std.specs.Prelude.{ℕ, List, [], ◌∷◌, codes, Option, Some, None}
 use Rattle.std.specs.Option.{option_map}
-use Rattle.tlut_cli.specs.Walk.{Walk}
+use Rattle.cmd_base.specs.Walk.{Walk}
 use Rattle.tlut_cli.specs.declared.command.Command.{Command as CommandRead}
 use Rattle.tlut_cli.specs.declared.command.Command.TheVariants as read
-use Rattle.tlut_cli.specs.declared.generated.words.GenWords.{GenWords}
-use Rattle.tlut_cli.specs.Stations.Words.{IsTableSize}
-use Rattle.tlut_cli.specs.Run.Words.{RunWords, run_of, run_seen, IsInRange}
-use Rattle.tlut_cli.specs.Run.Verdict.{run_walk}
-use Rattle.tlut_cli.specs.Spec.Words.{SpecWords, spec_of, spec_seen}
-use Rattle.tlut_cli.specs.Spec.Verdict.{spec_walk}
-use Rattle.tlut_cli.specs.Map.Words.{MapWords, map_of, map_seen}
-use Rattle.tlut_cli.specs.Map.Verdict.{map_walk}
-use Rattle.tlut_cli.specs.Bits.Words.{BitsWords, bits_of, bits_seen}
-use Rattle.tlut_cli.specs.Bits.Verdict.{bits_walk}
-use Rattle.tlut_cli.specs.Gen.Words.{gen_of, HasDigits}
-use Rattle.tlut_cli.specs.Gen.Verdict.{gen_walk}
-use Rattle.tlut_cli.specs.Repack.Words.{RepackWords, repack_of, repack_seen}
-use Rattle.tlut_cli.specs.Repack.Verdict.{repack_walk}
+use Rattle.cmd_run.specs.declared.gen_command.words.GenWords.{GenWords}
+use Rattle.cmd_stations.specs.Words.{IsTableSize}
+use Rattle.cmd_run.specs.Run.Words.{RunWords, run_of, run_seen, IsInRange}
+use Rattle.cmd_run.specs.Run.Verdict.{run_walk}
+use Rattle.cmd_map.specs.Spec.Words.{SpecWords, spec_of, spec_seen}
+use Rattle.cmd_map.specs.Spec.Verdict.{spec_walk}
+use Rattle.cmd_map.specs.Map.Words.{MapWords, map_of, map_seen}
+use Rattle.cmd_map.specs.Map.Verdict.{map_walk}
+use Rattle.cmd_pack.specs.Bits.Words.{BitsWords, bits_of, bits_seen}
+use Rattle.cmd_pack.specs.Bits.Verdict.{bits_walk}
+use Rattle.cmd_run.specs.GenCommand.Words.{gen_of, HasDigits}
+use Rattle.cmd_run.specs.GenCommand.Verdict.{gen_walk}
+use Rattle.cmd_pack.specs.Repack.Words.{RepackWords, repack_of, repack_seen}
+use Rattle.cmd_pack.specs.Repack.Verdict.{repack_walk}
 
 -- a command with its words
 pub data Command : Type 0 where
@@ -57,6 +57,12 @@ command_seen (read.Map words) = Map (map_seen words)
 command_seen (read.Bits words) = Bits (bits_seen words)
 command_seen (read.Gen words) = Gen words
 command_seen (read.Repack words) = Repack (repack_seen words)
+
+-- the line of words that are of no command's form, in pieces: it lists all forms
+abbrev pub usage : List (List ℕ)
+usage =
+    codes "tlut: usage: " ∷ codes "run K NETLIST PARAMS SCRIPT PORTS SPARES" ∷ codes ", spec K NETLIST PARAMS OUT" ∷ codes ", map K NETLIST PARAMS TEMPLATE PACK" ∷ codes ", bits PACK SCRIPT" ∷ codes ", gen N SEED"
+    ∷ codes ", repack OLD NEW" ∷ codes "\n" ∷ []
 
 -- its numbers are in range
 abbrev pub HasRange : ℕ → CommandRead → Type 0

@@ -1,38 +1,8 @@
--- The line on the error output.
-use Rattle.std.specs.Prelude.{◌≡◌, ℕ, ◌≤◌, ◌⊎◌, take, length, codes, [], ◌∷◌, ◌++◌, List, Option}
-use Rattle.std.specs.List.{concat}
-use Rattle.tl_io.specs.Causes.{Rose}
-use Rattle.tl_io.specs.Content.{extended}
-use Rattle.tl_fault.specs.RefusalValue.{RefusalValue}
-use Rattle.tl_fault.specs.Refusals.{details_words, spaced}
-use Rattle.tlut_cli.specs.Refusals.{too_long}
-use Rattle.tlut_cli.specs.declared.ends.outcome.Outcome.{Outcome}
-use Rattle.tlut_cli.specs.declared.ends.outcome.Outcome.TheVariants as outcome
+-- The fault line of a call: that of words of no form lists the forms of all commands.
+use Rattle.std.specs.Prelude.{ℕ, List}
+use Rattle.cmd_base.specs.FaultLine.{line_of as line_with}
+use Rattle.cmd_base.specs.declared.outcome.Outcome.{Outcome}
+use Rattle.tlut_cli.specs.Commands.{usage}
 
--- a line of a file's name and a word
-abbrev pub plain_line : List ℕ → List ℕ → List ℕ
-plain_line name word = concat (codes "tlut: " ∷ name ∷ word ∷ codes "\n" ∷ [])
-
--- a file's name, and the code and the word of a refusal
-abbrev pub head_line : List ℕ → List ℕ → List ℕ → List ℕ
-head_line name code word = concat (codes "tlut: " ∷ name ∷ codes ": " ∷ code ∷ codes " " ∷ word ∷ [])
-
--- the line of a refusal in the file of this name
-abbrev pub refusal_line : List ℕ → RefusalValue → List ℕ
-refusal_line name refusal = head_line name refusal.code refusal.word ++ (spaced (details_words refusal.details) ++ codes "\n")
-
--- the line of an outcome; none where the job is done
 abbrev pub line_of : List ℕ → Outcome → List ℕ
-line_of name outcome.Done = []
-line_of name outcome.Usage = concat (codes "tlut: usage: run K NETLIST PARAMS SCRIPT PORTS SPARES, spec K NETLIST PARAMS OUT, map K NETLIST PARAMS TEMPLATE PACK, bits PACK SCRIPT, gen N SEED, repack OLD NEW\n" ∷ [])
-line_of name (outcome.TooLong file) = refusal_line name too_long
-line_of name (outcome.Refused file refusal) = refusal_line name refusal
-line_of name (outcome.ReadFault file) = plain_line name (codes ": read failed")
-line_of name outcome.WriteFault = concat (codes "tlut: write failed\n" ∷ [])
-line_of name outcome.PortFault = concat (codes "tlut: port failed\n" ∷ [])
-line_of name outcome.Memory = concat (codes "tlut: out of memory\n" ∷ [])
-
--- the line was appended, or the count of faults rose and a prefix of it was
-abbrev pub Reports : ℕ → ℕ → Option (List ℕ) → Option (List ℕ) → List ℕ → Type 0
-Reports before now old new line =
-    (new ≡ extended old line) ⊎ (Rose before now × ((n : ℕ) × (n ≤ length line) × (new ≡ extended old (take n line))))
+line_of name outcome = line_with usage name outcome

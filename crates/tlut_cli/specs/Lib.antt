@@ -1,22 +1,8 @@
--- What public clauses say: how a call ends, for every command,
-pub mod Outside
-pub mod Walk
-pub mod Writing
+-- What public clauses say: the forms and the walk of each command,
 pub mod Commands
-pub mod Ends
+-- how a call ends, whatever the command,
 pub mod Call
+-- and its fault line.
 pub mod FaultLine
-pub mod Refusals
-pub mod Statuses
--- the stations that commands share,
-pub mod Stations
--- and the commands.
-pub mod Run
-pub mod Spec
-pub mod Map
-pub mod Bits
-pub mod Gen
-pub mod Repack
 -- What only bodies are compared with.
-pub mod Stops
 pub mod CommandEnds

@@ -1,29 +1,32 @@
 //! The top call.
 ghost use Rattle.std.specs.Prelude.{◌≡◌, ◌≤◌, ◌↔◌, ◌⊎◌, ℕ, List, length, None, Some, map, string_bytes};
 ghost use Rattle.tl_io.specs.Shelf.{Files};
-ghost use Rattle.tlut_cli.specs.Outside.{outside};
+ghost use Rattle.cmd_base.specs.Outside.{outside};
 ghost use Rattle.tlut_cli.specs.Commands.{Run, command_of, command_seen, HasRange};
-ghost use Rattle.tlut_cli.specs.CommandEnds.{HasEnded, HasCause, HasFiles};
-ghost use Rattle.tlut_cli.specs.Ends.{Told};
+ghost use Rattle.tlut_cli.specs.CommandEnds.{HasEnded, HasWalkLaws};
+ghost use Rattle.cmd_base.specs.Ends.{Told};
 ghost use Rattle.tlut_cli.specs.Call.{IsEnd, fault_file, word_at, fault_word, HasRefusal, HasDone, HasCutOff, HasLost, HasFault, HasPortFault, IsAnswered, IsComplete, IsFinished, IsQuiet, HasWriteCause, WritesFiles};
-ghost use Rattle.tlut_cli.specs.FaultLine.{Reports, line_of};
-ghost use Rattle.tlut_cli.specs.Statuses.{status_of};
-ghost use Rattle.tlut_cli.specs.Run.Headline.{HasHeadline};
-ghost use Rattle.tlut_cli.specs.Run.Words.{RunWords};
-ghost use Rattle.tlut_cli.specs.declared.ends.outcome.Outcome.{Outcome as OutcomeValue};
+ghost use Rattle.cmd_base.specs.FaultLine.{Reports};
+ghost use Rattle.tlut_cli.specs.FaultLine.{line_of};
+ghost use Rattle.cmd_base.specs.Statuses.{status_of};
+ghost use Rattle.cmd_run.specs.Run.Headline.{HasHeadline};
+ghost use Rattle.cmd_run.specs.Run.Words.{RunWords};
+ghost use Rattle.cmd_base.specs.declared.outcome.Outcome.{Outcome as OutcomeValue};
 
-use crate::bits::job::bits_job;
-use crate::command::{Command, file_name, read_command};
-use crate::ends::fault_line::report;
-use crate::ends::outcome::{File, Outcome};
-use crate::ends::status::Status;
-use crate::generated::job::gen_job;
-use crate::map::job::map_job;
-use crate::repack::job::repack_job;
-use crate::run::job::run_job;
-use crate::spec::job::spec_job;
+use crate::command::{Command, file_name, read_command, report};
+use cmd_base::{File, Outcome, Status};
+use cmd_map::{map_job, spec_job};
+use cmd_pack::{bits_job, repack_job};
+use cmd_run::{gen_job, run_job};
 use std::alloc::Global;
 use tl_io::{ConfigPort, Shelf, Sink};
+
+// How a call ended, and the word that its fault line tells.
+#[derive(Drop)]
+struct Ended<'a> {
+    outcome: Outcome,
+    name: &'a str,
+}
 
 // Runs a command.
 fn run_command<S: Shelf, O: Sink, P: ConfigPort>(
@@ -34,9 +37,7 @@ fn run_command<S: Shelf, O: Sink, P: ConfigPort>(
     ports: &mut Vec<P>,
 ) -> Outcome
     requires { HasRange (length ports.old.items) command.now }
-    ensures ends { HasEnded (command_seen command.now) (S.seen shelf.old) (S.seen shelf.new) (outside (S.seen shelf.old).files (O.bytes out.old) (map P.port_seen ports.old.items)) (outside (S.seen shelf.new).files (O.bytes out.new) (map P.port_seen ports.new.items)) result }
-    ensures write_fault { result ≡ Outcome.WriteFault → HasCause (command_seen command.now) (S.seen shelf.old) (S.seen shelf.new) (O.faults out.old) (O.faults out.new) }
-    ensures files { HasFiles (command_seen command.now) (S.seen shelf.old) (S.seen shelf.new) }
+    ensures { HasEnded (command_seen command.now) (S.seen shelf.old) (S.seen shelf.new) (outside (S.seen shelf.old).files (O.bytes out.old) (map P.port_seen ports.old.items)) (outside (S.seen shelf.new).files (O.bytes out.new) (map P.port_seen ports.new.items)) (O.faults out.old) (O.faults out.new) result }
 {
     match command {
         Command::Run(words) => run_job(alloc, words, shelf, out, ports),
@@ -45,24 +46,6 @@ fn run_command<S: Shelf, O: Sink, P: ConfigPort>(
         Command::Bits(words) => bits_job::<S, O, P>(alloc, words, shelf, out),
         Command::Gen(words) => gen_job(alloc, words, out),
         Command::Repack(words) => repack_job(alloc, words, shelf, out),
-    }
-}
-
-// Runs the command of some words.
-fn run_words<S: Shelf, O: Sink, P: ConfigPort>(
-    alloc: Global,
-    words: &[String],
-    shelf: &mut S,
-    out: &mut O,
-    ports: &mut Vec<P>,
-) -> Outcome
-    ensures end { IsEnd (map string_bytes words.now) (S.seen shelf.old) (S.seen shelf.new) (outside (S.seen shelf.old).files (O.bytes out.old) (map P.port_seen ports.old.items)) (outside (S.seen shelf.new).files (O.bytes out.new) (map P.port_seen ports.new.items)) result }
-    ensures write_fault { result ≡ Outcome.WriteFault → HasWriteCause (map string_bytes words.now) (S.seen shelf.old) (S.seen shelf.new) (length ports.old.items) (O.faults out.old) (O.faults out.new) }
-    ensures files { ((S.seen shelf.new).files ≡ (S.seen shelf.old).files) ⊎ WritesFiles (length ports.old.items) (map string_bytes words.now) }
-{
-    match read_command(ports.len(), words) {
-        None => Outcome::Usage,
-        Some(command) => run_command(alloc, &command, shelf, out, ports),
     }
 }
 
@@ -82,23 +65,40 @@ fn told_file(outcome: &Outcome) -> Option<File>
     }
 }
 
-// The word that names a file.
-fn told_word(ports: usize, words: &[String], file: File) -> &str
-    ensures { result.now ≡ word_at (Some file) (command_of ports (map string_bytes words.now)) }
-{
-    match read_command(ports, words) {
-        None => "",
-        Some(command) => file_name(&command, file),
-    }
-}
-
 // The word that a fault line tells.
-fn fault_name<'a>(ports: usize, words: &'a [String], outcome: &Outcome) -> &'a str
-    ensures { result.now ≡ fault_word ports (map string_bytes words.now) outcome.now }
+fn fault_name<'a>(command: &Command<'a>, outcome: &Outcome) -> &'a str
+    ensures { result.now ≡ word_at (fault_file outcome.now) (Some (command_seen command.now)) }
 {
     match told_file(outcome) {
         None => "",
-        Some(file) => told_word(ports, words, file),
+        Some(file) => file_name(command, file),
+    }
+}
+
+// Runs the command of some words.
+fn run_words<'a, S: Shelf, O: Sink, P: ConfigPort>(
+    alloc: Global,
+    words: &'a [String],
+    shelf: &mut S,
+    out: &mut O,
+    ports: &mut Vec<P>,
+) -> Ended<'a>
+    ensures end { IsEnd (map string_bytes words.now) (S.seen shelf.old) (S.seen shelf.new) (outside (S.seen shelf.old).files (O.bytes out.old) (map P.port_seen ports.old.items)) (outside (S.seen shelf.new).files (O.bytes out.new) (map P.port_seen ports.new.items)) result.outcome }
+    ensures name { result.name.now ≡ fault_word (length ports.old.items) (map string_bytes words.now) result.outcome }
+    ensures write_fault { result.outcome ≡ Outcome.WriteFault → HasWriteCause (map string_bytes words.now) (S.seen shelf.old) (S.seen shelf.new) (length ports.old.items) (O.faults out.old) (O.faults out.new) }
+    ensures files { ((S.seen shelf.new).files ≡ (S.seen shelf.old).files) ⊎ WritesFiles (length ports.old.items) (map string_bytes words.now) }
+    ensures laws { HasWalkLaws (length ports.old.items) (map string_bytes words.now) }
+{
+    match read_command(ports.len(), words) {
+        None => Ended {
+            outcome: Outcome::Usage,
+            name: "",
+        },
+        Some(command) => {
+            let outcome = run_command(alloc, &command, shelf, out, ports);
+            let name = fault_name(&command, &outcome);
+            Ended { outcome, name }
+        }
     }
 }
 
@@ -163,12 +163,7 @@ pub fn tlut<S: Shelf, O: Sink, E: Sink>(
         × IsEnd (map string_bytes words.now) (S.seen shelf.old) (S.seen shelf.new) (outside (S.seen shelf.old).files (O.bytes out.old) (map (λ port. port_seen port) ports.old.items)) (outside (S.seen shelf.new).files (O.bytes out.new) (map (λ port. port_seen port) ports.new.items)) outcome
         × Reports (E.faults err.old) (E.faults err.new) (E.bytes err.old) (E.bytes err.new) (line_of (fault_word (length ports.old.items) (map string_bytes words.now) outcome) outcome) }
 {
-    let handed_in = ports.len();
-    let outcome = run_words(alloc, words, shelf, out, ports);
-    report(
-        err,
-        fault_name(handed_in, words, &outcome).as_bytes(),
-        &outcome,
-    );
-    outcome.status()
+    let ended = run_words(alloc, words, shelf, out, ports);
+    report(err, ended.name.as_bytes(), &ended.outcome);
+    ended.outcome.status()
 }

@@ -1,19 +1,16 @@
 //! The words of the command line.
 ghost use Rattle.std.specs.Prelude.{◌≡◌, ℕ, map, string_bytes, IfSome};
 ghost use Rattle.std.specs.Option.{option_map};
+ghost use Rattle.cmd_base.specs.FaultLine.{Reports};
 ghost use Rattle.tlut_cli.specs.Commands.{command_of, other_commands, walk_of, command_seen, HasRange};
+ghost use Rattle.tlut_cli.specs.FaultLine.{line_of};
 
-use crate::bits::words as bits_words;
-use crate::bits::words::{BitsWords, read_bits};
-use crate::ends::outcome::File;
-use crate::generated::words::{GenWords, read_gen};
-use crate::map::words::{MapWords, read_map};
-use crate::repack::words as repack_words;
-use crate::repack::words::{RepackWords, read_repack};
-use crate::run::words as run_words;
-use crate::run::words::{RunWords, read_run};
-use crate::spec::words::{SpecWords, read_spec};
-use crate::stations::words::source_name;
+use cmd_base::{File, Outcome};
+use cmd_map::{MapWords, SpecWords, read_map, read_spec};
+use cmd_pack::{BitsWords, RepackWords, bits_name, read_bits, read_repack};
+use cmd_run::{GenWords, RunWords, read_gen, read_run, run_name};
+use cmd_stations::source_name;
+use tl_io::Sink;
 
 /// A command with its words.
 #[derive(Clone, Copy)]
@@ -65,11 +62,32 @@ pub fn file_name<'a>(command: &Command<'a>, file: File) -> &'a str
     ensures { result.now ≡ (walk_of (command_seen command.now)).reading.word file }
 {
     match command {
-        Command::Run(words) => run_words::file_name(words, file),
+        Command::Run(words) => run_name(words, file),
         Command::Spec(words) => source_name(&words.source, file),
         Command::Map(words) => source_name(&words.source, file),
-        Command::Bits(words) => bits_words::file_name(words, file),
+        Command::Bits(words) => bits_name(words, file),
         Command::Gen(_) => "gen",
-        Command::Repack(words) => repack_words::file_name(words, file),
+        Command::Repack(words) => words.old,
     }
+}
+
+/// Puts the fault line of an outcome; that of words of no form lists the forms. A failing sink changes nothing else.
+pub fn report<E: Sink>(err: &mut E, name: &[u8], outcome: &Outcome)
+    ensures reports { Reports (E.faults err.old) (E.faults err.new) (E.bytes err.old) (E.bytes err.new) (line_of name.now outcome.now) }
+{
+    cmd_base::report(
+        err,
+        &[
+            b"tlut: usage: ",
+            b"run K NETLIST PARAMS SCRIPT PORTS SPARES",
+            b", spec K NETLIST PARAMS OUT",
+            b", map K NETLIST PARAMS TEMPLATE PACK",
+            b", bits PACK SCRIPT",
+            b", gen N SEED",
+            b", repack OLD NEW",
+            b"\n",
+        ],
+        name,
+        outcome,
+    );
 }

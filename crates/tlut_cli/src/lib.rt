@@ -1,31 +1,17 @@
 //! The command line: one call, [`tlut`], that runs the command that its words are.
 //!
-//! A *command* is its words and the files that they name. It walks them in the order of work, and each *station* refuses
-//! what it has to before the next one is reached. How the walk ends is an *outcome*: done, or a refusal of a file with the
-//! details of its fault line, or a fault of the outside. What the words and files deserve is the *verdict* (`specs/Walk.antt`,
-//! and each command's own walk), stated apart from the code.
+//! The commands stand in crates of their own, each with its words, its walk and its job; what they share is in `cmd_base`. Here
+//! is only the choice among them, and what a call says of itself, whatever the command.
 //!
-//! - `call.rt` has `tlut`, and `command.rt` the words of all commands.
-//! - `ends/` has what all commands share at their ends: outcomes, statuses, refusals, and the fault line.
-//! - `stations/` has the stations: files, the netlist, its parameters, the mapping, a script, a pack, and the files that are
-//!   written.
-//! - `run/`, `spec/`, `map/`, `bits/`, `generated/` and `repack/` are the commands: the words of each, its job made ready, and its
-//!   playing or its writing. A new command is a folder beside them, a form of `command.rt`, and an arm of `call.rt`.
+//! - `call.rt` has `tlut`, and the choice of a command's job.
+//! - `command.rt` has the forms of the words of all commands, and the fault line.
 //!
-//! The definitions of `specs/` lie in the same rooms.
+//! `specs/Commands.antt` has the forms and the walk of each command, and `specs/Call.antt` what each status means. A new command
+//! adds an entry to `command.rt`, to `specs/Commands.antt`, and to the choice in `call.rt` with its answer.
 #![tactic(auto)]
 
-mod bits;
 mod call;
 mod command;
-mod ends;
-mod generated;
-mod map;
-mod repack;
-mod run;
-mod spec;
-mod stations;
 
 pub use call::tlut;
-pub use ends::outcome::{File, Outcome};
-pub use ends::status::Status;
+pub use cmd_base::{File, Outcome, Status};

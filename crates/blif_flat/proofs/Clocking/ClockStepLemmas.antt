@@ -1,17 +1,20 @@
 -- The walk over the controls: what the net of one control says, and where the walk comes to.
 use Rattle.blif_flat.proofs.Common.{◌≡◌, ℕ, ◌+◌, ◌<◌, ◌≤◌, List, [], ◌∷◌, length, drop, drop_of_length-le, Option, Some, None, refl, sym, ap, ◌∙◌, subst, inl, inr, arith, slice_get, same_Some, slice_get_within, at_within, drop_get, Bool, true, false, Result, Ok, Err, ap₂, IfOk, IfErr, option_map, slice_get-map, OrMemory-map, suc, ltb, not, ◌||◌, ◌++◌, map, bytes_eq, filter, IsTrue, option_and_then, ltb-true, ltb-false, lt-ltb, le-ltb, or_parts, cases_Bool, both_ways, none-some, some_then, bytes_decides, list_any-append, list_any-position_none}
-use Rattle.blif_flat.specs.{LatchValue, ModelValue, LibraryValue, Path, model_at, inputs_of, LatchAt, input_net, latch_net, cover_net, Drives, IsDriven, IsRead, latch_control, Place, latch_at, is_cover, is_latch, Latch as LatchBody, FlatErr, ClockNotInput, Gate, Instance, places_at, AreInstances, paths_of, IsWritten, Clocks, free, no_input, second, same, IsControl, some_latch, no_latch, NetsValue, table_of, AreAllNets, IsGateAt, AreGatesAt, IsControlled, IsWrittenAt, input_at, IsKeptInput, IsSecond, IsMetInput, IsRefused, not_input, another, ControlNext, ControlFault, AreFree, IsControlSoFar, CameTo, OrMemory, IsClock, FlatNet, refusal_of, is_gate, data_of, ClockAmong, ClockData, outputs, here as clock_here, AreClockMarks, or_later, Tells, marked_name, clock_named, clock_fault, names_fault, place_of as index_place, has_name, listed, controls, FlatOrder, with_names, input_name, is_control, clock_test, TellsClocks}
+use Rattle.blif_flat.specs.{LatchValue, ModelValue, Path, model_at, inputs_of, LatchAt, input_net, latch_net, cover_net, Drives, IsDriven, IsRead, latch_control, Place, latch_at, is_cover, is_latch, Latch as LatchBody, FlatErr, ClockNotInput, Gate, Instance, places_at, AreInstances, paths_of, IsWritten, Clocks, free, no_input, second, same, IsControl, some_latch, no_latch, NetsValue, table_of, AreAllNets, IsGateAt, AreGatesAt, IsControlled, IsWrittenAt, input_at, IsKeptInput, IsSecond, IsMetInput, IsRefused, not_input, another, ControlNext, ControlFault, AreFree, IsControlSoFar, CameTo, OrMemory, IsClock, FlatNet, refusal_of, is_gate, data_of, ClockAmong, ClockData, outputs, here as clock_here, AreClockMarks, or_later, Tells, marked_name, clock_named, clock_fault, names_fault, place_of as index_place, has_name, listed, controls, FlatOrder, with_names, input_name, is_control, clock_test, TellsClocks}
+use Rattle.netlist.specs.LibraryValue.{LibraryValue}
 use Rattle.std.specs.List.{position_or_len}
 use Rattle.blif_flat.specs.ClockFaults.{stop, none, first as clock_first, later}
-use Rattle.blif_flat.specs.declared.flat.Net.TheVariants.{Input, Latch, Cover}
+use Rattle.netlist.specs.declared.flat.Net.TheVariants.{Input, Latch, Cover}
 use Rattle.blif_flat.proofs.Clocking.ControlLemmas.{clocks-one}
 use Rattle.blif_flat.proofs.Connections.NetCopyLemmas.{latch_of, cover_of, none_found, input_found, latch_found, cover_found}
-use Rattle.blif_flat.proofs.Connections.NetLemmas.{net_of_driver, one_net}
-use Rattle.blif_flat.proofs.Hierarchy.GateLemmas.{latch_at-some, HasPlace, has_place, flat_places, place_within, latch_place}
+use Rattle.netlist.proofs.NetLemmas.{net_of_driver, one_net}
+use Rattle.netlist.proofs.PlaceLemmas.{latch_at-some}
+use Rattle.blif_flat.proofs.Hierarchy.GateLemmas.{HasPlace, has_place, flat_places, place_within, latch_place}
 use Rattle.blif_flat.proofs.Hierarchy.InstanceRowLemmas.{paths_of-length}
-use Rattle.blif_flat.proofs.Hierarchy.OrderLemmas.{flat_all, order_first, order_places}
-use Rattle.blif_flat.proofs.Hierarchy.PlaceLemmas.{place_of, one_latch}
-use Rattle.blif_flat.proofs.Models.NameSetLemmas.{place_none, has_with_names}
+use Rattle.netlist.proofs.OrderLemmas.{flat_all}
+use Rattle.blif_flat.proofs.Hierarchy.OrderLemmas.{order_first, order_places}
+use Rattle.netlist.proofs.PlaceLemmas.{place_of, one_latch}
+use Rattle.tl_text.proofs.NameSetLemmas.{place_none, has_with_names}
 
 -- inputs by their numbers
 module _ (inputs : List (List ℕ)) (first : Option ℕ) (j : ℕ) where
@@ -259,8 +262,8 @@ same_tests : (f g : List ℕ → Bool) → ((x : List ℕ) → f x ≡ g x) → 
 same_tests f g h i x = h x i
 
 -- names that were added one by one are those that were given
-has_added : (empty given all names : List (List ℕ)) → empty ≡ [] → given ≡ names → all ≡ with_names empty given → (x : List ℕ) → has_name all x ≡ has_name names x
-has_added empty given all names a b e x = ap (λ ns. has_name ns x) (e ∙ ap₂ with_names a b) ∙ has_with_names [] names x
+has_added : (given all names : List (List ℕ)) → given ≡ names → all ≡ with_names [] given → (x : List ℕ) → has_name all x ≡ has_name names x
+has_added given all names b e x = ap (λ ns. has_name ns x) (e ∙ ap (with_names []) b) ∙ has_with_names [] names x
 
 -- a name that isn't among names and more has no place among the more
 pub none_behind : (names more : List (List ℕ)) (x : List ℕ) → has_name (names ++ more) x ≡ false → index_place more x ≡ None
@@ -292,12 +295,12 @@ module _ (m : ModelValue) where
       let found = some_then (ltb first (length (inputs_of m))) (Some first) place h in
       ap (λ p. ltb p (length m.inputs)) (sym (same_Some first place found.1)) ∙ place_among m.inputs (filter (λ name. not (has_name m.inputs name)) m.clocks) x
 
-  pub marked_inputs : (control : Option ℕ) (empty given clocks inputs : List (List ℕ)) → empty ≡ [] → given ≡ m.clocks → clocks ≡ with_names empty given → inputs ≡ inputs_of m
+  pub marked_inputs : (control : Option ℕ) (given clocks inputs : List (List ℕ)) → given ≡ m.clocks → clocks ≡ with_names [] given → inputs ≡ inputs_of m
       → map (λ name. has_name clocks name || is_control (option_and_then (slice_get inputs) control) name) inputs ≡ map (clock_test m (input_name m control)) (inputs_of m)
-  marked_inputs control empty given clocks inputs a b e f =
+  marked_inputs control given clocks inputs b e f =
       let same : (λ (name : List ℕ). has_name clocks name || is_control (input_name m control) name) ≡ clock_test m (input_name m control) =
       same_tests (λ name. has_name clocks name || is_control (input_name m control) name) (clock_test m (input_name m control))
-      (λ x. ap (λ t. t || is_control (input_name m control) x) (has_added empty given clocks m.clocks a b e x)) in
+      (λ x. ap (λ t. t || is_control (input_name m control) x) (has_added given clocks m.clocks b e x)) in
       ap (λ (xs : List (List ℕ)). map (λ name. has_name clocks name || is_control (option_and_then (slice_get xs) control) name) xs) f ∙ ap (λ (test : List ℕ → Bool). map test (inputs_of m)) same
 
 module _ (library : LibraryValue) (main : ModelValue) (at : model_at library [] ≡ Some main) where

@@ -1,17 +1,15 @@
 -- Where the walks of the clocks and of the data find no fault, every latch control has one main input as its net, and no clock net is data; at a sound library they find none.
-use Rattle.blif_flat.proofs.Common.{◌≡◌, ◌⊎◌, ℕ, List, [], ◌∷◌, Option, Some, None, refl, sym, ap, ◌∙◌, subst, inl, inr, option_and_then, none-some, same_Some, option_and_then_some, In, In-right, false, IsTrue, both_ways, cases_Bool, ap₂, subst₂, ◌++◌}
-use Rattle.blif_flat.specs.{Latch, Cover, Subckt, LatchValue, ModelValue, LibraryValue, CoverValue, Body, Path, model_at, body_at, LatchAt, CoverAt, Net, input_net, latch_net, cover_net, Drives, IsClock, IsDriven, Place, is_latch, FlatOrder, cover_in, latch_in, cover_at, latch_at, FlatErr, SecondClock, ClockNotInput, ClockAsData, Clocks, free, no_input, second, same, is_gate, data_of, ClockAmong, ClockData, outputs, here, data_inputs, IsData, cover_data, latch_data, IsSound, own_of, has_name, listed, controls, IsWritten}
+use Rattle.blif_flat.proofs.Common.{◌≡◌, ◌⊎◌, ℕ, List, [], ◌∷◌, Option, Some, None, refl, sym, ap, ◌∙◌, subst, inl, inr, option_and_then, none-some, same_Some, option_and_then_some, In, In-right, ap₂, subst₂, ◌++◌}
+use Rattle.blif_flat.specs.{Latch, Cover, Subckt, LatchValue, ModelValue, Body, Path, model_at, body_at, LatchAt, CoverAt, Net, input_net, Drives, IsClock, IsDriven, Place, is_latch, FlatOrder, cover_in, latch_in, cover_at, latch_at, FlatErr, SecondClock, ClockNotInput, ClockAsData, Clocks, free, no_input, second, same, is_gate, data_of, ClockAmong, ClockData, outputs, here, data_inputs, IsData, cover_data, latch_data, IsSound, IsWritten}
+use Rattle.netlist.specs.LibraryValue.{LibraryValue}
+use Rattle.netlist.specs.CoverValue.{CoverValue}
 use Rattle.blif_flat.specs.ClockFaults.{stop, none, first, later}
-use Rattle.blif_flat.proofs.Connections.NetLemmas.{one_net}
-use Rattle.blif_flat.proofs.Hierarchy.OrderLemmas.{flat_all, order_exists}
-use Rattle.blif_flat.proofs.Hierarchy.PlaceLemmas.{place_of, one_latch, has_latch, written_once}
-use Rattle.blif_flat.proofs.Models.NameLemmas.{Decided, same_name, Member, find_member, not_empty, same_first, same_rest}
-
--- the name of an input's net
-abbrev pub name_of : Net → List ℕ
-name_of (input_net name) = name
-name_of (latch_net path i) = []
-name_of (cover_net path i) = []
+use Rattle.netlist.proofs.NetLemmas.{one_net}
+use Rattle.netlist.proofs.OrderLemmas.{flat_all}
+use Rattle.netlist.proofs.PlaceLemmas.{place_of, one_latch}
+use Rattle.blif_flat.proofs.Hierarchy.PlaceLemmas.{written_once}
+use Rattle.netlist.proofs.NameLemmas.{not_empty, same_first, same_rest}
+use Rattle.netlist.proofs.ControlLemmas.{name_of}
 
 module _ (library : LibraryValue) where
   -- the net of a latch's control is a main input, and the one that was met
@@ -89,7 +87,6 @@ module _ (library : LibraryValue) where
         let y = under_net other j r own b too in
         ap name_of (one_net library driven t x.drives) ∙ same_Some x.name y.name (sym x.met ∙ y.met) ∙ ap name_of (one_net library driven y.drives u)
 
-module _ (library : LibraryValue) where
   -- the net of no name of a list is a clock
   pub among_none : {path : Path} {names : List (List ℕ)} {result : Option FlatErr} → ClockAmong library path names result → result ≡ None
       → (name net : List ℕ) → In names name → Drives library path name (input_net net) → IsClock library net → ⊥
@@ -131,7 +128,6 @@ module _ (library : LibraryValue) where
           among_none (gates_clear data_is refl (place_of path i) (flat_all library is_gate main gates at order path a.model i (Latch l) a.at a.is refl)) refl name net
           (subst (λ l. In l name) (sym (latch-data path i l a)) (inl e))
 
-module _ (library : LibraryValue) where
   -- what is found at a place stands there
   cover_body : (path : Path) (i : ℕ) (m : ModelValue) → model_at library path ≡ Some m → (b : Body) → body_at m i ≡ Some b → (c : CoverValue) → cover_in b ≡ Some c → CoverAt library path i c
   cover_body path i m at (Cover k) e c f = record { model = m; at = at; is = e ∙ ap (λ y. Some (Cover y)) (same_Some k c f) }
@@ -203,56 +199,6 @@ module _ (library : LibraryValue) where
     -- no F9
     pub sound-data : (main : ModelValue) → model_at library [] ≡ Some main → (places : List Place) (fault : FlatErr) → ClockData library main places (Some fault) → ⊥
     sound-data main at places fault d = no_data_fault main at fault d refl
-
--- Whether a net is a clock can be decided: the latches stand in a flat order.
-module _ (library : LibraryValue) (sound : IsSound library) where
-  -- the latch of a place is controlled by a main input
-  record Controls (name : List ℕ) (p : Place) : Type 0 where
-    latch : LatchValue
-    at : LatchAt library p.path p.command latch
-    control : List ℕ
-    is : latch.control ≡ Some control
-    drives : Drives library p.path control (input_net name)
-
-  module _ (name : List ℕ) (p : Place) where
-    same_control : (l : LatchValue) → LatchAt library p.path p.command l → (k : Controls name p) → l.control ≡ Some k.control
-    same_control l a k = ap (λ (y : LatchValue). y.control) (one_latch library p.path p.command l k.latch a k.at) ∙ k.is
-
-    by_control : (l : LatchValue) → LatchAt library p.path p.command l → (o : Option (List ℕ)) → l.control ≡ o → Decided (Controls name p)
-    by_control l a None e = inr (λ k. none-some k.control (sym e ∙ same_control l a k))
-    by_control l a (Some control) e =
-        let r = sound.control_input p.path p.command l control a e in
-        elim (same_name r.0 name) [
-          | inl q ↦ inl (record { latch = l; at = a; control = control; is = e; drives = subst (λ y. Drives library p.path control (input_net y)) q r.1 })
-          | inr o ↦ inr (λ k.
-              let same : k.control ≡ control = same_Some k.control control (sym (same_control l a k) ∙ e) in
-              o (ap name_of (one_net library sound.driven r.1 (subst (λ y. Drives library p.path y (input_net name)) same k.drives))))
-        ]
-
-    does_control : Decided (Controls name p)
-    does_control = elim (has_latch library p.path p.command) [
-      | inl l ↦ by_control l.0 l.1 (l.0).control refl
-      | inr o ↦ inr (λ k. o (k.latch, k.at))
-    ]
-
-  no_clock : (name : List ℕ) → has_name (sound.main).clocks name ≡ false → (latches : List Place) → FlatOrder library is_latch [] sound.main latches → (Member (Controls name) latches → ⊥) → IsClock library name → ⊥
-  no_clock name u latches f o (listed m at t) = both_ways (has_name (sound.main).clocks name) u (subst (λ y. IsTrue (has_name y.clocks name)) (same_Some m sound.main (sym at ∙ sound.at)) t)
-  no_clock name u latches f o (controls path i l control a e t) = o (record {
-    item = place_of path i;
-    member = flat_all library is_latch sound.main latches sound.at f path a.model i (Latch l) a.at a.is refl;
-    is = record { latch = l; at = a; control = control; is = e; drives = t };
-  })
-
-  pub is_clock : (name : List ℕ) → Decided (IsClock library name)
-  is_clock name =
-      let f = order_exists library (own_of is_latch) sound.driven.known sound.main (sound.driven.finite [] sound.main sound.at) [] sound.at in
-      elim (cases_Bool (has_name (sound.main).clocks name)) [
-        | inl t ↦ inl (listed sound.main sound.at t)
-        | inr u ↦ (elim (find_member (Controls name) f.0 (does_control name)) [
-          | inl g ↦ inl (controls (g.item).path (g.item).command (g.is).latch (g.is).control (g.is).at (g.is).is (g.is).drives)
-          | inr o ↦ inr (λ c. no_clock name u f.0 f.1 o c)
-        ])
-      ]
 
 -- The walks of the clocks and of the data have one result each.
 module _ (library : LibraryValue) (driven : IsDriven library) where

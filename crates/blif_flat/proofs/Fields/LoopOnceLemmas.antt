@@ -1,12 +1,13 @@
 -- What a walk meets again leads to itself, so a sound library has no loop; and a walk has one result.
-use Rattle.blif_flat.proofs.Common.{◌≡◌, List, [], ◌∷◌, ◌++◌, Option, Some, refl, sym, ◌∙◌, subst, inl, inr, none-some, In, ℕ, Bool, ap, ap₂, same_Some}
-use Rattle.blif_flat.specs.{LibraryValue, Place, reads_of, roots_of, LoopWalk, IsSound, Repeat, Meets, met, goes, MeetsAll, Body, ModelValue, Path, Net, is_cover, is_latch, own_of, FlatOrder}
-use Rattle.blif_flat.specs.DepthFirst.{none, first, later}
-use Rattle.blif_flat.proofs.Connections.NetLemmas.{same_nets}
-use Rattle.blif_flat.proofs.Hierarchy.OrderLemmas.{one_order}
-use Rattle.blif_flat.proofs.Models.NameLemmas.{not_empty, same_first, same_rest}
-use Rattle.blif_flat.proofs.Values.LoopLemmas.{reaches_depends, HasCover, read_cover, start_cover}
-use Rattle.blif_flat.proofs.Walks.PostLemmas.{Reaches, at_once, one_more}
+use Rattle.blif_flat.proofs.Common.{◌≡◌, List, [], ◌∷◌, ◌++◌, Option, Some, refl, sym, ◌∙◌, subst, inl, inr, none-some, In, ℕ, ap, ap₂, same_Some}
+use Rattle.netlist.specs.LibraryValue.{LibraryValue}
+use Rattle.blif_flat.specs.{Place, reads_of, roots_of, LoopWalk, IsSound, Repeat, Meets, met, goes, MeetsAll, ModelValue, Path, Net, is_cover, is_latch, FlatOrder}
+use Rattle.netlist.specs.DepthFirst.{none, first, later}
+use Rattle.netlist.proofs.NetLemmas.{same_nets}
+use Rattle.netlist.proofs.NameLemmas.{not_empty, same_first, same_rest}
+use Rattle.netlist.proofs.LoopLemmas.{reaches_depends, HasCover, read_cover, start_cover}
+use Rattle.netlist.proofs.PostLemmas.{Reaches, at_once, one_more}
+use Rattle.netlist.proofs.OrderLemmas.{order_once}
 
 module _ {N : Type 0} (next : N → List N) where
   module _ (P : N → Type 0) (closed : (n m : N) → P n → In (next n) m → P m) where
@@ -66,10 +67,6 @@ sound-loops library sound repeat w =
 
 -- Flat order is one, and so the walk of the covers has one result.
 module _ (library : LibraryValue) where
-  module _ (kind : Body → Bool) where
-    pub order_once : {path : Path} {m : ModelValue} {places others : List Place} → FlatOrder library kind path m places → FlatOrder library kind path m others → places ≡ others
-    order_once w v = one_order library (own_of kind) w v
-
   abbrev start_of : (Path → List ℕ → Option Net) → ModelValue → List Place → List Place → List Place
   start_of net main latches covers = roots_of library net main latches ++ covers
 
@@ -78,10 +75,10 @@ module _ (library : LibraryValue) where
     same_main = same_Some v.main w.main (sym v.at ∙ w.at)
 
     same_covers : v.covers ≡ w.covers
-    same_covers = order_once is_cover (subst (λ m. FlatOrder library is_cover [] m v.covers) same_main v.covers_are) w.covers_are
+    same_covers = order_once library is_cover (subst (λ m. FlatOrder library is_cover [] m v.covers) same_main v.covers_are) w.covers_are
 
     same_latches : v.latches ≡ w.latches
-    same_latches = order_once is_latch (subst (λ m. FlatOrder library is_latch [] m v.latches) same_main v.latches_are) w.latches_are
+    same_latches = order_once library is_latch (subst (λ m. FlatOrder library is_latch [] m v.latches) same_main v.latches_are) w.latches_are
 
     same_start : start_of v.net v.main v.latches v.covers ≡ start_of v.net w.main w.latches w.covers
     same_start = ap (λ m. start_of v.net m v.latches v.covers) same_main ∙ ap₂ (λ (l c : List Place). start_of v.net w.main l c) same_latches same_covers

@@ -1,11 +1,14 @@
 -- Gates: what stands at one stands at its place, and those that are listed row by row stand at the places of all instances in flat order.
 use Rattle.blif_flat.proofs.Common.{◌≡◌, ℕ, ◌<◌, List, length, Option, Some, None, refl, sym, ap, ap₂, ◌∙◌, arith, suc, ◌+◌, ◌≤◌, ◌^◌, Bool, [], ◌∷◌, ◌++◌, drop, subst, subst₂, inl, inr, append_assoc, slice_get, MatchOption, option_map, option_and_then, same_Some, slice_get_within, none-some, at_within, drop_past, cases_Bool, length-append, append-nil, In-get}
-use Rattle.blif_flat.specs.{LatchValue, LibraryValue, ModelValue, Body, Command, Path, model_at, LatchAt, Place, latch_at, own_places, is_latch, FlatOrder, latch_net, Gate, Instance, AreInstances, IsRow, paths_of, IsLight, IsGateAt, kind_test, AreGatesAt, body_in, numbered_body, place_body, gate_body, GateKind, model_places, places_at, with_commands, with_model, with_rows, most_weight, path_text, IsWritten, of_latch}
+use Rattle.blif_flat.specs.{LatchValue, ModelValue, Body, Command, Path, model_at, LatchAt, Place, latch_at, own_places, is_latch, FlatOrder, latch_net, Gate, Instance, AreInstances, IsRow, paths_of, IsLight, IsGateAt, kind_test, AreGatesAt, body_in, numbered_body, place_body, gate_body, GateKind, model_places, places_at, with_commands, with_model, with_rows, most_weight, path_text, IsWritten, of_latch}
+use Rattle.netlist.specs.LibraryValue.{LibraryValue}
 use Rattle.list_laws.proofs.TwoLists.{pushed_pair}
 use Rattle.blif_flat.proofs.Clocking.ControlLemmas.{is_latch_at}
 use Rattle.blif_flat.proofs.Hierarchy.InstanceRowLemmas.{paths_of-length, AreModelsOf, models_rest, models_of}
 use Rattle.blif_flat.proofs.Hierarchy.InstanceWeightLemmas.{light_commands, light_places}
-use Rattle.blif_flat.proofs.Hierarchy.OrderLemmas.{order_places, IsOfKind, flat_only, is_latch-some}
+use Rattle.blif_flat.proofs.Hierarchy.OrderLemmas.{order_places, is_latch-some}
+use Rattle.netlist.proofs.OrderLemmas.{IsOfKind, flat_only}
+use Rattle.netlist.proofs.PlaceLemmas.{latch_at-some}
 
 -- a row that has a path is there
 pub row_within : (rows : List Instance) (i : ℕ) (path : Path) → slice_get (paths_of rows) i ≡ Some path → i < length rows
@@ -33,10 +36,6 @@ module _ (library : LibraryValue) (rows : List Instance) (are : AreInstances lib
 pub found_by : {A B : Type 0} (f : A → B) (found : Option A) (o : Option B) → option_map f found ≡ o → MatchOption found (o ≡ None) (λ a. o ≡ Some (f a))
 found_by f None o e = sym e
 found_by f (Some a) o e = sym e
-
--- the latch of a place
-pub latch_at-some : (library : LibraryValue) (p : Place) (l : LatchValue) → LatchAt library p.path p.command l → latch_at library p ≡ Some l
-latch_at-some library p l a = rw (a.at, a.is) refl
 
 module _ (kind : Body → Bool) (paths : List Path) where
   module _ (row : ℕ) (path : Path) (at : slice_get paths row ≡ Some path) where

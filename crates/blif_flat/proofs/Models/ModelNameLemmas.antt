@@ -1,15 +1,8 @@
--- The names of a model, each once: they are all there, no more than the model holds, and each has a place of its own.
+-- The names of a model, each once: they are all there, and no more than the model holds.
 use Rattle.blif_flat.proofs.Common.{◌≡◌, ℕ, ◌+◌, ◌<◌, ◌≤◌, true, ltb, List, [], ◌∷◌, ◌++◌, length, get_or, drop, bytes_eq, Option, Some, None, refl, sym, ap, ◌∙◌, subst, inl, inr, arith, slice_get, cases_Bool, cond-true, cond-false, ltb-true, length-append, length-map, none-some, same_Some, cond_some, bytes_decides, In, at_within, find_at, drop_at}
 use Rattle.blif_flat.specs.{place_of, Body, Cover, Latch, Subckt, Command, Pair, ModelValue, has_name, control_names, body_names, commands_names, all_names, with_name, with_names, distinct_names, control_weight, body_weight, commands_weight, own_weight}
-use Rattle.std.proofs.Common.{find}
-use Rattle.std.specs.List.{position_or_len}
-use Rattle.blif_flat.proofs.Models.NameLemmas.{in_has}
-use Rattle.blif_flat.proofs.Models.NameSetLemmas.{has_with_names}
-
--- names are added in turn
-pub with_names-append : (names some more : List (List ℕ)) → with_names names (some ++ more) ≡ with_names (with_names names some) more
-with_names-append names [] more = refl
-with_names-append names (name ∷ some) more = with_names-append (with_name names name) some more
+use Rattle.tl_text.proofs.NameSetLemmas.{in_has, has_with_names, with_names-length}
+pub use Rattle.tl_text.proofs.NameSetLemmas.{with_names-append, place_is, name_place_within}
 
 -- those of the commands from a place on, and those of a model's ports and commands
 pub commands_split : (names : List (List ℕ)) (cs : List Command) (i : ℕ) (c : Command) → i < length cs → c ≡ get_or cs i c
@@ -20,18 +13,6 @@ pub model_split : (m : ModelValue) → with_names (with_names (with_names (with_
 model_split m =
     sym (with_names-append [] m.inputs (m.outputs ++ (m.clocks ++ commands_names m.commands)) ∙ with_names-append (with_names [] m.inputs) m.outputs (m.clocks ++ commands_names m.commands)
     ∙ with_names-append (with_names (with_names [] m.inputs) m.outputs) m.clocks (commands_names m.commands))
-
--- names are no more than those that were added
-with_name-length : (names : List (List ℕ)) (name : List ℕ) → length (with_name names name) ≤ length names + 1
-with_name-length names name = elim (cases_Bool (has_name names name)) [
-  | inl t ↦ rw t (let z : length names ≤ length names + 1 = omega arith in z)
-  | inr f ↦ rw f (let e : length (names ++ name ∷ []) ≡ length names + 1 = length-append names (name ∷ []) in let z : length (names ++ name ∷ []) ≤ length names + 1 = omega arith in z)
-]
-
-with_names-length : (names more : List (List ℕ)) → length (with_names names more) ≤ length names + length more
-with_names-length names [] = omega arith
-with_names-length names (name ∷ more) =
-    omega (arith, with_name-length names name, with_names-length (with_name names name) more)
 
 -- a model holds all its names
 control_names-length : (control : Option (List ℕ)) → length (control_names control) ≡ control_weight control
@@ -57,24 +38,3 @@ distinct_few m =
 -- and all its names are among them
 pub distinct_has : (m : ModelValue) (name : List ℕ) → In (all_names m) name → has_name (distinct_names m) name ≡ true
 distinct_has m name i = has_with_names [] (all_names m) name ∙ in_has (all_names m) name i
-
--- at the place of a name stands the name
-found_is : (name : List ℕ) (names : List (List ℕ)) (x : List ℕ) → find (bytes_eq name) names ≡ Some x → name ≡ x
-found_is name [] x e = absurd (none-some x e)
-found_is name (n ∷ ns) x e = elim (cases_Bool (bytes_eq name n)) [
-  | inl t ↦ (bytes_decides name n).0 t ∙ same_Some n x (sym (cond-true (bytes_eq name n) (Some n) (find (bytes_eq name) ns) t) ∙ e)
-  | inr f ↦ found_is name ns x (sym (cond-false (bytes_eq name n) (Some n) (find (bytes_eq name) ns) f) ∙ e)
-]
-
-pub name_place_within : (names : List (List ℕ)) (name : List ℕ) (p : ℕ) → place_of names name ≡ Some p → p < length names
-name_place_within names name p e =
-    let at = cond_some (ltb (position_or_len (bytes_eq name) names) (length names)) (position_or_len (bytes_eq name) names) p e in
-    let h : position_or_len (bytes_eq name) names < length names = ltb-true (position_or_len (bytes_eq name) names) (length names) at.0 in
-    subst (λ q. q < length names) at.1 h
-
-pub place_is : (names : List (List ℕ)) (name : List ℕ) (p : ℕ) → place_of names name ≡ Some p → slice_get names p ≡ Some name
-place_is names name p e =
-    let at = cond_some (ltb (position_or_len (bytes_eq name) names) (length names)) (position_or_len (bytes_eq name) names) p e in
-    let x = at_within names p (name_place_within names name p e) in
-    let found : find (bytes_eq name) names ≡ Some x.0 = find_at (bytes_eq name) names ∙ ap (slice_get names) at.1 ∙ x.1 in
-    x.1 ∙ ap Some (sym (found_is name names x.0 found))

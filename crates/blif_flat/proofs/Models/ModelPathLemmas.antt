@@ -1,24 +1,14 @@
 -- The models of a path by their numbers and by their names, and what the check of a line tells where they are being walked.
-use Rattle.blif_flat.proofs.Common.{◌≡◌, ℕ, zero, suc, ◌+◌, ◌<◌, true, false, ◌||◌, eqb, List, [], ◌∷◌, ◌++◌, reverse, bytes_eq, append_assoc, drop, get_or, length, Option, Some, None, refl, sym, ap, ◌∙◌, subst, inl, inr, ◌⊎◌, if◌then◌else◌, slice_get, cond-true, cond-false, false_from_ne_true, or_left, or_right, append-nil, reverse-append, none-some, same_Some, slice_get-get_or, bytes_decides, In, drop_get, same_or, in_reversed, reversed_in}
-use Rattle.blif_flat.specs.{place_of, AreOnce, SubcktValue, ModelValue, has_name, FlatErr, RecursiveModel, SubcktLine, chain_from, placed_fault, line_fault, formal_fault, unknown_formal, is_walked, IsTold, ports_fault, model_names, IsModelOf, Finds, with_numbered, models_at, edge_by, line_edge, with_name_of, with_model_name, names_at, IsPlacing}
+use Rattle.blif_flat.proofs.Common.{◌≡◌, ℕ, ◌+◌, ◌<◌, true, false, ◌||◌, eqb, List, [], ◌∷◌, ◌++◌, reverse, bytes_eq, append_assoc, drop, get_or, length, Option, Some, None, refl, sym, ap, ◌∙◌, subst, inl, inr, ◌⊎◌, if◌then◌else◌, slice_get, cond-true, cond-false, false_from_ne_true, or_left, or_right, append-nil, reverse-append, none-some, same_Some, slice_get-get_or, bytes_decides, In, drop_get, same_or, in_reversed, reversed_in}
+use Rattle.blif_flat.specs.{place_of, AreOnce, ModelValue, has_name, FlatErr, RecursiveModel, SubcktLine, chain_from, placed_fault, line_fault, formal_fault, unknown_formal, is_walked, IsTold, ports_fault, model_names, IsModelOf, Finds, with_numbered, models_at, edge_by, line_edge, with_name_of, with_model_name, names_at, IsPlacing}
+use Rattle.netlist.specs.SubcktValue.{SubcktValue}
 use Rattle.std.proofs.Common.{eqb-true, eq-eqb}
 use Rattle.depth_first.specs.Walk.{from_node}
 use Rattle.depth_first.specs.declared.edge.Edge.TheVariants.{Node}
-use Rattle.blif_flat.proofs.Models.NameSetLemmas.{no_match, finds}
+use Rattle.tl_text.proofs.NameSetLemmas.{no_match}
+use Rattle.blif_flat.proofs.Models.NameSetLemmas.{finds}
 use Rattle.blif_flat.proofs.Models.WalkedLemmas.{named_is}
-
--- models by their names
-name_at : (models : List ModelValue) (i : ℕ) (a : ModelValue) → slice_get models i ≡ Some a → In (model_names models) a.name
-name_at [] i a h = absurd (none-some a h)
-name_at (m ∷ ms) zero a h = inl (ap (λ (x : ModelValue). x.name) (sym (same_Some m a h)))
-name_at (m ∷ ms) (suc i) a h = inr (name_at ms i a h)
-
-pub same_number : (models : List ModelValue) (i j : ℕ) (a b : ModelValue) → AreOnce (model_names models) → slice_get models i ≡ Some a → slice_get models j ≡ Some b → a.name ≡ b.name → i ≡ j
-same_number [] i j a b once p q e = absurd (none-some a p)
-same_number (m ∷ ms) zero zero a b once p q e = refl
-same_number (m ∷ ms) zero (suc j) a b once p q e = absurd (once.0 (subst (In (model_names ms)) (sym e ∙ ap (λ (x : ModelValue). x.name) (sym (same_Some m a p))) (name_at ms j b q)))
-same_number (m ∷ ms) (suc i) zero a b once p q e = absurd (once.0 (subst (In (model_names ms)) (e ∙ ap (λ (x : ModelValue). x.name) (sym (same_Some m b q))) (name_at ms i a p)))
-same_number (m ∷ ms) (suc i) (suc j) a b once p q e = ap suc (same_number ms i j a b once.1 p q e)
+use Rattle.netlist.proofs.NameLemmas.{same_number}
 
 -- lists turned round
 pub reverse_more : {A : Type 0} (xs : List A) (x : A) → reverse (x ∷ xs) ≡ reverse xs ++ x ∷ []

@@ -1,76 +1,8 @@
--- Names of which none stands twice, added one by one, and found.
+-- The inputs, the ports and the models of a library, found by names of which none stands twice.
 use Rattle.blif_flat.proofs.Common.{◌≡◌, ℕ, suc, ◌+◌, ◌<◌, ◌≤◌, Bool, true, false, not, ◌||◌, ltb, List, [], ◌∷◌, ◌++◌, length, drop, filter, bytes_eq, Option, Some, None, is_some, refl, sym, ap, ◌∙◌, subst, inl, inr, arith, append_assoc, slice_get, ltb-true, cases_Bool, cond-true, cond-false, both_ways, ltb-false, length-map, append-nil, none-some, slice_get_past, bytes_decides, In, drop_past, at_within, list_any-append, list_any-position_none}
 use Rattle.blif_flat.specs.{place_of, ModelValue, input_ports, output_ports, clock_ports, has_name, is_input, inputs_of, model_named, IsWellFormedModel, AreOnce, with_name, with_names, ports_value, model_names, Finds}
 use Rattle.std.specs.List.{position_or_len}
-use Rattle.list_laws.proofs.FirstPlace.{position_none}
-
--- a name has a place exactly where it is among the names
-some_when : {A : Type 0} (o : Option A) (b : Bool) → (b ≡ false → o ≡ None) → (o ≡ None → b ≡ false) → is_some o ≡ b
-some_when None b f g = sym (g refl)
-some_when (Some x) true f g = refl
-some_when (Some x) false f g = absurd (none-some x (sym (f refl)))
-
-pub place_some : (names : List (List ℕ)) (name : List ℕ) → is_some (place_of names name) ≡ has_name names name
-place_some names name = some_when (place_of names name) (has_name names name) (position_none (bytes_eq name) names) (list_any-position_none (bytes_eq name) names)
-
-pub place_none : (names : List (List ℕ)) (name : List ℕ) → has_name names name ≡ false → place_of names name ≡ None
-place_none names name h = position_none (bytes_eq name) names h
-
--- two names that differ
-pub no_match : (a b : List ℕ) → (a ≡ b → ⊥) → bytes_eq a b ≡ false
-no_match a b differ = elim (cases_Bool (bytes_eq a b)) [ inl t ↦ absurd (differ ((bytes_decides a b).0 t)) | inr f ↦ f ]
-
-or_nothing : (b c : Bool) → c ≡ false → b || (c || false) ≡ b
-or_nothing true c h = refl
-or_nothing false c h = ap (λ d. d || false) h
-
-or_false : (b : Bool) → b || false ≡ b
-or_false true = refl
-or_false false = refl
-
--- one more name
-pub has_one_more : (names : List (List ℕ)) (n x : List ℕ) → has_name (names ++ n ∷ []) x ≡ (has_name names x || (bytes_eq x n || false))
-has_one_more names n x = list_any-append (bytes_eq x) names (n ∷ [])
-
--- names of which none stands twice, behind others
-once_names : (old index names : List (List ℕ)) → AreOnce names → ((x : List ℕ) → In names x → has_name index x ≡ has_name old x) → with_names index names ≡ index ++ filter (λ x. not (has_name old x)) names
-once_names old index [] once same = sym (append-nil index)
-once_names old index (n ∷ ns) once same = elim (cases_Bool (has_name old n)) [
-  | inl t ↦ ap (λ i. with_names i ns) (cond-true (has_name index n) index (index ++ n ∷ []) (same n (inl refl) ∙ t)) ∙ rw t (once_names old index ns once.1 (λ x i. same x (inr i)))
-  | inr f ↦ ap (λ i. with_names i ns) (cond-false (has_name index n) index (index ++ n ∷ []) (same n (inl refl) ∙ f))
-      ∙ once_names old (index ++ n ∷ []) ns once.1 (λ x i. has_one_more index n x ∙ or_nothing (has_name index x) (bytes_eq x n) (no_match x n (λ e. once.0 (subst (In ns) e i))) ∙ same x (inr i))
-      ∙ append_assoc index (n ∷ []) (filter (λ x. not (has_name old x)) ns) ∙ rw f refl
-]
-
-keeps_all : (names : List (List ℕ)) → filter (λ x. not (has_name [] x)) names ≡ names
-keeps_all [] = refl
-keeps_all (n ∷ ns) = ap (λ ms. n ∷ ms) (keeps_all ns)
-
-pub new_names : (names : List (List ℕ)) → AreOnce names → with_names [] names ≡ names
-new_names names once = once_names [] [] names once (λ x i. refl) ∙ keeps_all names
-
-pub more_names : (index names : List (List ℕ)) → AreOnce names → with_names index names ≡ index ++ filter (λ x. not (has_name index x)) names
-more_names index names once = once_names index index names once (λ x i. refl)
-
--- what is among names and more of them
-or_same : (a b : Bool) → (b ≡ true → a ≡ true) → a ≡ (a || b)
-or_same true b h = refl
-or_same false true h = h refl
-or_same false false h = refl
-
-has_with_name : (names : List (List ℕ)) (n x : List ℕ) → has_name (with_name names n) x ≡ (has_name names x || bytes_eq x n)
-has_with_name names n x = elim (cases_Bool (has_name names n)) [
-  | inl t ↦ ap (λ ms. has_name ms x) (cond-true (has_name names n) names (names ++ n ∷ []) t) ∙ or_same (has_name names x) (bytes_eq x n) (λ e. ap (has_name names) ((bytes_decides x n).0 e) ∙ t)
-  | inr f ↦ ap (λ ms. has_name ms x) (cond-false (has_name names n) names (names ++ n ∷ []) f) ∙ has_one_more names n x ∙ ap (λ b. has_name names x || b) (or_false (bytes_eq x n))
-]
-
-or_or : (a b c : Bool) → ((a || b) || c) ≡ (a || (b || c))
-or_or true b c = refl
-or_or false b c = refl
-
-pub has_with_names : (names more : List (List ℕ)) (x : List ℕ) → has_name (with_names names more) x ≡ (has_name names x || has_name more x)
-has_with_names names [] x = sym (or_false (has_name names x))
-has_with_names names (n ∷ more) x = has_with_names (with_name names n) more x ∙ ap (λ b. b || has_name more x) (has_with_name names n x) ∙ or_or (has_name names x) (bytes_eq x n) (has_name more x)
+pub use Rattle.tl_text.proofs.NameSetLemmas.{place_some, place_none, no_match, has_with_names, new_names, more_names}
 
 -- the inputs of a model
 filtered : (a cs : List (List ℕ)) (x : List ℕ) → has_name a x ≡ false → has_name (filter (λ y. not (has_name a y)) cs) x ≡ has_name cs x
@@ -123,10 +55,10 @@ pub few_model_names : (names : List (List ℕ)) (models : List ModelValue) (n : 
 few_model_names names models n e once few =
     let b : length (model_names models) ≡ length models = length-map models (λ (m : ModelValue). m.name) in omega (arith, ap length (same_model_names names models e once))
 
-pub ports_of_parts : (m : ModelValue) → IsWellFormedModel m → (none inputs both none' outputs given clocks given' : List (List ℕ))
-    → none ≡ [] → inputs ≡ with_names none given → both ≡ with_names inputs clocks → none' ≡ [] → outputs ≡ with_names none' given' → given ≡ m.inputs → clocks ≡ m.clocks → given' ≡ m.outputs
+pub ports_of_parts : (m : ModelValue) → IsWellFormedModel m → (inputs both outputs given clocks given' : List (List ℕ))
+    → inputs ≡ with_names [] given → both ≡ with_names inputs clocks → outputs ≡ with_names [] given' → given ≡ m.inputs → clocks ≡ m.clocks → given' ≡ m.outputs
     → record { inputs = both; outputs = outputs } ≡ ports_value m
-ports_of_parts m form none inputs both none' outputs given clocks given' a b d e f g h i =
+ports_of_parts m form inputs both outputs given clocks given' b d f g h i =
     let x : both ≡ with_names (with_names [] m.inputs) m.clocks = cc in
     let y : outputs ≡ with_names [] m.outputs = cc in
     ap (λ ns. record { inputs = ns; outputs = outputs }) x ∙ ap (λ ns. record { inputs = with_names (with_names [] m.inputs) m.clocks; outputs = ns }) y ∙ made_ports m form

@@ -1,43 +1,15 @@
 -- Loops of covers: none depends on itself exactly where the walk meets none again, and then they have an order in which each comes after those that it reads.
-use Rattle.blif_flat.proofs.Common.{◌≡◌, ℕ, List, [], ◌∷◌, Option, Some, None, refl, sym, ap, ◌∙◌, subst, inl, inr, ◌⊎◌, true, ◌++◌, In, both_ways, cases_Bool, false≢true, In-right, In-append}
-use Rattle.blif_flat.specs.{own_of, CoverValue, LibraryValue, ModelValue, Body, Cover, Latch, Subckt, LatchValue, Path, body_at, model_at, CoverAt, Net, input_net, latch_net, cover_net, Drives, main_input, latch_output, cover_output, from_inside, from_outside, Place, same_place, cover_at, latch_at, is_cover, is_latch, FlatOrder, IsDriven, AreNets, with_cover, covers_among, reads_in, reads_of, ReadsCover, Depends, direct, through, Ordered, latch_covers, all_latch_covers, roots_of, LoopWalk, IsWellFormed, Clocks, is_gate, ClockData, IsSound, IsClocked}
+use Rattle.blif_flat.proofs.Common.{◌≡◌, ℕ, List, [], ◌∷◌, Option, Some, None, refl, sym, ap, ◌∙◌, subst, inl, inr, ◌⊎◌, ◌++◌, In}
+use Rattle.netlist.specs.CoverValue.{CoverValue}
+use Rattle.netlist.specs.LibraryValue.{LibraryValue}
+use Rattle.blif_flat.specs.{ModelValue, Path, model_at, CoverAt, Net, input_net, latch_net, cover_net, Place, is_latch, FlatOrder, IsDriven, AreNets, with_cover, covers_among, reads_in, reads_of, ReadsCover, Depends, direct, through, LoopWalk, IsWellFormed, Clocks, is_gate, ClockData, IsSound, IsClocked}
 use Rattle.blif_flat.proofs.Clocking.ControlLemmas.{clocks-input, clocks-one, data-output, data-clock}
-use Rattle.blif_flat.proofs.Connections.NetLemmas.{same_nets}
-use Rattle.blif_flat.proofs.Hierarchy.OrderLemmas.{flat_all, order_exists, IsOfKind, flat_only}
-use Rattle.blif_flat.proofs.Hierarchy.PlaceLemmas.{cover_at-is, place_of, same_place-is, same_place-refl}
+use Rattle.netlist.proofs.PlaceLemmas.{cover_at-is}
 use Rattle.blif_flat.proofs.Models.DrivenLemmas.{walked_driven}
-use Rattle.blif_flat.proofs.Models.NameLemmas.{Decided}
-use Rattle.blif_flat.proofs.Walks.MeetLemmas.{meets_none, meets_clean}
-use Rattle.blif_flat.proofs.Walks.PostLemmas.{Reaches, at_once, further, acyclic}
+use Rattle.netlist.proofs.PostLemmas.{Reaches, at_once, further, acyclic}
+use Rattle.netlist.proofs.LoopLemmas.{HasCover, walk_ordered}
 
 module _ (library : LibraryValue) (net : Path → List ℕ → Option Net) (nets : AreNets library net) where
-  -- a name among several whose net is the cover's
-  record IsAmong (path : Path) (names : List (List ℕ)) (q : Place) : Type 0 where
-    name : List ℕ
-    member : In names name
-    is : net path name ≡ Some (cover_net q.path q.command)
-
-  later : (path : Path) (name : List ℕ) (names : List (List ℕ)) (q : Place) → IsAmong path names q → IsAmong path (name ∷ names) q
-  later path name names q a = record { name = a.name; member = inr a.member; is = a.is }
-
-  with_among : (path : Path) (name : List ℕ) (names : List (List ℕ)) (q : Place) (o : Option Net) → net path name ≡ o → (places : List Place) → (In places q → IsAmong path names q)
-      → In (with_cover o places) q → IsAmong path (name ∷ names) q
-  with_among path name names q None e places rest i = later path name names q (rest i)
-  with_among path name names q (Some (input_net own)) e places rest i = later path name names q (rest i)
-  with_among path name names q (Some (latch_net own k)) e places rest i = later path name names q (rest i)
-  with_among path name names q (Some (cover_net own k)) e places rest (inr i) = later path name names q (rest i)
-  with_among path name names q (Some (cover_net own k)) e places rest (inl s) =
-      record { name = name; member = inl refl; is = e ∙ ap (λ (p : Place). Some (cover_net p.path p.command)) (sym s) }
-
-  among : (path : Path) (names : List (List ℕ)) (q : Place) → In (covers_among (net path) names) q → IsAmong path names q
-  among path [] q i = absurd i
-  among path (name ∷ names) q i = with_among path name names q (net path name) refl (covers_among (net path) names) (among path names q) i
-
-  reads_cover : (p q : Place) (c : CoverValue) → CoverAt library p.path p.command c → In (reads_of library net p) q → ReadsCover library p q
-  reads_cover p q c a i =
-      let m : IsAmong p.path c.inputs q = among p.path c.inputs q (subst (λ o. In (reads_in (net p.path) o) q) (cover_at-is library p.path p.command c a) i) in
-      record { cover = c; is = a; name = m.name; input = m.member; drives = nets.drives p.path m.name (cover_net q.path q.command) m.is }
-
   -- and the other way
   with_there : (o : Option Net) (places : List Place) (q : Place) → o ≡ Some (cover_net q.path q.command) → In (with_cover o places) q
   with_there o places q e = subst (λ y. In (with_cover y places) q) (sym e) (inl refl)
@@ -62,157 +34,18 @@ module _ (library : LibraryValue) (net : Path → List ℕ → Option Net) (nets
   depends_reaches {p} {q} (direct r) = at_once (cover_reads p q r)
   depends_reaches {p} {q} (through m r d) = further m (cover_reads p m r) (depends_reaches d)
 
-  -- covers read only covers, so what is reached is depended on
-  module _ (cover_of : (p q : Place) → (c : CoverValue) × CoverAt library p.path p.command c → In (reads_of library net p) q → (d : CoverValue) × CoverAt library q.path q.command d) where
-    pub reaches_depends : {p q : Place} → (c : CoverValue) × CoverAt library p.path p.command c → Reaches (reads_of library net) p q → Depends library p q
-    reaches_depends {p} {q} h (at_once i) = direct (reads_cover p q h.0 h.1 i)
-    reaches_depends {p} {q} h (further m i r) = through m (reads_cover p m h.0 h.1 i) (reaches_depends (cover_of p m h i) r)
-
 -- a cover that depends on another is one
 pub depends_cover : (library : LibraryValue) {p q : Place} → Depends library p q → (c : CoverValue) × CoverAt library p.path p.command c
 depends_cover library (direct r) = (r.cover, r.is)
 depends_cover library (through m r d) = (r.cover, r.is)
 
--- whether a place stands in a list can be decided
-one_place : (p q : Place) → Decided (p ≡ q)
-one_place p q = elim (cases_Bool (same_place p q)) [
-  | inl t ↦ inl (same_place-is p q t)
-  | inr u ↦ inr (λ e. both_ways (same_place p q) u (subst (λ x. same_place p x ≡ true) e (same_place-refl p)))
-]
-
-pub has_cover_place : (ps : List Place) (p : Place) → In ps p ⊎ (In ps p → ⊥)
-has_cover_place [] p = inr (λ i. i)
-has_cover_place (q ∷ ps) p = elim (one_place p q) [
-  | inl e ↦ inl (inl e)
-  | inr n ↦ (elim (has_cover_place ps p) [ inl i ↦ inl (inr i) | inr o ↦ inr (λ h. elim h [ inl e ↦ n e | inr i ↦ o i ]) ])
-]
-
 module _ (library : LibraryValue) where
-  abbrev pub HasCover : Place → Type 0
-  HasCover p = (c : CoverValue) × CoverAt library p.path p.command c
-
-  -- the net of a cover has a cover
-  abbrev IsOfCover : Net → Type 0
-  IsOfCover (input_net name) = Unit {0}
-  IsOfCover (latch_net path i) = Unit {0}
-  IsOfCover (cover_net path i) = HasCover (place_of path i)
-
-  of_cover : {path : Path} {name : List ℕ} {e : Net} → Drives library path name e → IsOfCover e
-  of_cover (main_input p m q) = subst IsOfCover (sym q) tt
-  of_cover (latch_output i l a p q) = subst IsOfCover (sym q) tt
-  of_cover (cover_output i c a p q) = subst IsOfCover (sym q) (c, a)
-  of_cover (from_inside k pair a out p t) = of_cover t
-  of_cover (from_outside k outer pair a i p q t) = of_cover t
-
-  covers_with : (o : Option Net) (places : List Place) (q : Place) → ((e : Net) → o ≡ Some e → IsOfCover e) → (In places q → HasCover q) → In (with_cover o places) q → HasCover q
-  covers_with None places q h rest i = rest i
-  covers_with (Some (input_net name)) places q h rest i = rest i
-  covers_with (Some (latch_net path k)) places q h rest i = rest i
-  covers_with (Some (cover_net path k)) places q h rest (inl e) = subst HasCover (sym e) (h (cover_net path k) refl)
-  covers_with (Some (cover_net path k)) places q h rest (inr i) = rest i
-
-  module _ (net : Path → List ℕ → Option Net) (nets : AreNets library net) where
-    -- the covers among nets are covers, so those that are read are, and the roots
-    among_covers : (path : Path) (names : List (List ℕ)) (q : Place) → In (covers_among (net path) names) q → HasCover q
-    among_covers path [] q i = absurd i
-    among_covers path (name ∷ names) q i = covers_with (net path name) (covers_among (net path) names) q (λ e f. of_cover (nets.drives path name e f)) (among_covers path names q) i
-
-    in_covers : (path : Path) (o : Option CoverValue) (q : Place) → In (reads_in (net path) o) q → HasCover q
-    in_covers path None q i = absurd i
-    in_covers path (Some c) q i = among_covers path c.inputs q i
-
-    pub read_cover : (p q : Place) → HasCover p → In (reads_of library net p) q → HasCover q
-    read_cover p q h i = in_covers p.path (cover_at library p) q i
-
-    at_latch : (path : Path) (o : Option LatchValue) (q : Place) → In (latch_covers (net path) o) q → HasCover q
-    at_latch path None q i = absurd i
-    at_latch path (Some l) q i = among_covers path (l.input ∷ []) q i
-
-    at_latches : (latches : List Place) (q : Place) → In (all_latch_covers library net latches) q → HasCover q
-    at_latches [] q i = absurd i
-    at_latches (p ∷ latches) q i = elim (In-append (latch_covers (net p.path) (latch_at library p)) (all_latch_covers library net latches) q i) as (λ _. HasCover q) [
-      | inl j ↦ at_latch p.path (latch_at library p) q j
-      | inr j ↦ at_latches latches q j
-    ]
-
-    pub root_cover : (main : ModelValue) (latches : List Place) (q : Place) → In (roots_of library net main latches) q → HasCover q
-    root_cover main latches q i = elim (In-append (covers_among (net []) main.outputs) (all_latch_covers library net latches) q i) as (λ _. HasCover q) [
-      | inl j ↦ among_covers [] main.outputs q j
-      | inr j ↦ at_latches latches q j
-    ]
-
-  body_cover : (p : Place) (m : ModelValue) → model_at library p.path ≡ Some m → (b : Body) → body_at m p.command ≡ Some b → is_cover b ≡ true → HasCover p
-  body_cover p m at (Cover c) e t = (c, record { model = m; at = at; is = e })
-  body_cover p m at (Latch l) e t = absurd (false≢true t)
-  body_cover p m at (Subckt s) e t = absurd (false≢true t)
-
-  pub kind_cover : (p : Place) → IsOfKind library is_cover p → HasCover p
-  kind_cover p k = body_cover p k.model k.at k.body k.is k.kind_is
-
-  -- each node at which the walk begins is a cover
-  pub start_cover : {result : _} (w : LoopWalk library result) (p : Place) → In (roots_of library w.net w.main w.latches ++ w.covers) p → HasCover p
-  start_cover w p i = elim (In-append (roots_of library w.net w.main w.latches) w.covers p i) as (λ _. HasCover p) [
-    | inl j ↦ root_cover w.net w.nets w.main w.latches p j
-    | inr j ↦ kind_cover p (flat_only library is_cover w.main w.covers w.at w.covers_are p j)
-  ]
-
-  walk_ordered : (w : LoopWalk library None) → Ordered library w.net
-  walk_ordered w =
-      let r = meets_none (reads_of library w.net) has_cover_place HasCover (read_cover w.net w.nets) (roots_of library w.net w.main w.latches ++ w.covers) w.meets (start_cover w) in
-      record {
-        order = r.order;
-        after = r.after;
-        all = λ path i c a. r.all (place_of path i) (In-right (roots_of library w.net w.main w.latches) w.covers (place_of path i)
-            (flat_all library is_cover w.main w.covers w.at w.covers_are path a.model i (Cover c) a.at a.is refl));
-        only = r.only;
-      }
-
-  -- no F10, whatever function gives the nets
-  pub loops-ordered : LoopWalk library None → (net : Path → List ℕ → Option Net) → AreNets library net → Ordered library net
-  loops-ordered w net nets = subst (Ordered library) (same_nets library w.net net w.nets nets) (walk_ordered w)
-
   -- so no cover depends on itself
   pub walk_free : LoopWalk library None → (p : Place) → Depends library p p → ⊥
   walk_free w p d =
-      let ordered = walk_ordered w in
-      let h : HasCover p = depends_cover library d in
+      let ordered = walk_ordered library w in
+      let h : HasCover library p = depends_cover library d in
       acyclic (reads_of library w.net) ordered.order p ordered.after (ordered.all p.path p.command h.0 h.1) (depends_reaches library w.net w.nets d)
-
-module _ (library : LibraryValue) (driven : IsDriven library) (no_loop : (p : Place) → Depends library p p → ⊥) (main : ModelValue) (at : model_at library [] ≡ Some main)
-    (net : Path → List ℕ → Option Net) (nets : AreNets library net) where
-  module _ (covers : List Place) (covers_are : FlatOrder library is_cover [] main covers) where
-    stands : (p : Place) → HasCover library p → In covers p
-    stands p h = flat_all library is_cover main covers at covers_are p.path h.1.model p.command (Cover h.0) h.1.at h.1.is refl
-
-    cover_there : (p : Place) → In covers p → HasCover library p
-    cover_there p i = kind_cover library p (flat_only library is_cover main covers at covers_are p i)
-
-    starts_inside : (latches : List Place) (p : Place) → In (roots_of library net main latches ++ covers) p → In covers p
-    starts_inside latches p i = elim (In-append (roots_of library net main latches) covers p i) as (λ _. In covers p) [
-      | inl j ↦ stands p (root_cover library net nets main latches p j)
-      | inr j ↦ j
-    ]
-
-    walk_through : (latches : List Place) → FlatOrder library is_latch [] main latches → LoopWalk library None
-    walk_through latches latches_are = record {
-      main = main;
-      at = at;
-      covers = covers;
-      covers_are = covers_are;
-      latches = latches;
-      latches_are = latches_are;
-      net = net;
-      nets = nets;
-      meets = meets_clean (reads_of library net) covers (λ p q i j. stands q (read_cover library net nets p q (cover_there p i) j))
-          (λ p i r. no_loop p (reaches_depends library net nets (read_cover library net nets) (cover_there p i) r))
-          (roots_of library net main latches ++ covers) (starts_inside latches);
-    }
-
-  pub covers_ordered : Ordered library net
-  covers_ordered =
-      let c = order_exists library (own_of is_cover) driven.known main (driven.finite [] main at) [] at in
-      let l = order_exists library (own_of is_latch) driven.known main (driven.finite [] main at) [] at in
-      loops-ordered library (walk_through c.0 c.1 l.0 l.1) net nets
 
 -- A library at which no fault is found is sound.
 pub sound_of : (library : LibraryValue) → IsWellFormed library → (main : ModelValue) → model_at library [] ≡ Some main → IsDriven library

@@ -4,11 +4,11 @@ use Rattle.std.specs.Option.{option_and_then}
 use Rattle.blif_flat.specs.Circuits.{In, ModelValue, LibraryValue, Path, has_name, inputs_of, is_latch, LatchValue, LatchAt, Net, input_net, Drives, Place, FlatNet, FlatErr, SecondClock, ClockNotInput, ClockAsData}
 use Rattle.blif_flat.specs.ClockFaults.{Clocks}
 use Rattle.blif_flat.specs.DriverFaults.{or_later}
-use Rattle.blif_flat.specs.Flat.{IsControl, TellsClocks}
+use Rattle.netlist.specs.Flat.{IsControl, TellsClocks}
 use Rattle.blif_flat.specs.Steps.InstanceRows.{places_at}
 use Rattle.blif_flat.specs.Steps.NetTable.{NetsValue, table_of}
 use Rattle.blif_flat.specs.Written.{IsWritten}
-use Rattle.blif_flat.specs.declared.flat.Net.TheVariants.{Input, Latch, Cover}
+use Rattle.netlist.specs.declared.flat.Net.TheVariants.{Input, Latch, Cover}
 
 -- the name of an input's number
 abbrev pub input_name : ModelValue → Option ℕ → Option (List ℕ)

@@ -5,29 +5,29 @@ use Rattle.std.specs.List.{range_with_len}
 use Rattle.std.specs.Option.{option_and_then}
 use Rattle.depth_first.specs.DepthFirst.{PostsAll}
 use Rattle.depth_first.specs.Edges.{ways_from}
-use Rattle.depth_first.specs.Order.{IsAfter, IsSettled}
+use Rattle.depth_first.specs.Order.{IsSettled}
 use Rattle.depth_first.specs.Walk.{WalkValue, from_node}
 use Rattle.depth_first.specs.declared.edge.Edge.{Edge}
 use Rattle.depth_first.specs.declared.edge.Edge.TheVariants.{Node, Pass}
-use Rattle.blif_flat.specs.Circuits.{In, ModelValue, LibraryValue, Path, model_at, inputs_of, Drives, input_net, IsClock, Place, is_cover, is_latch, Body, LatchValue, CoverValue, cover_in, latch_in, FlatOrder, CoverAt, Net, cover_net, FlatCoverValue, FlatLatch, FlatNet, OutPort}
+use Rattle.blif_flat.specs.Circuits.{In, ModelValue, LibraryValue, Path, model_at, inputs_of, Drives, input_net, IsClock, Place, is_cover, is_latch, Body, LatchValue, CoverValue, cover_in, latch_in, FlatOrder, cover_net, FlatCoverValue, FlatLatch, FlatNet, OutPort}
 use Rattle.blif_flat.specs.ClockFaults.{is_gate, ClockData}
-use Rattle.blif_flat.specs.DepthFirst.{Repeat, MeetsAll}
-use Rattle.blif_flat.specs.Flat.{Places, TellsClocks, IsFlatCover, IsFlatLatch, AreNetsOf, cover_numbers, inputs_at}
+use Rattle.netlist.specs.DepthFirst.{Repeat, MeetsAll}
+use Rattle.netlist.specs.Flat.{Places, TellsClocks, IsFlatCover, IsFlatLatch, AreNetsOf, cover_numbers, inputs_at}
 use Rattle.blif_flat.specs.LoopFault.{AreWritten}
-use Rattle.blif_flat.specs.Loops.{reads_of}
-use Rattle.blif_flat.specs.Sound.{IsData}
+use Rattle.netlist.specs.Sound.{IsData}
 use Rattle.blif_flat.specs.Steps.ClockSteps.{input_name, IsControlled, clock_test}
 use Rattle.blif_flat.specs.Steps.InstanceRows.{places_at, number_or_zero, gate_body, AreInstances, paths_of, AreGatesAt}
 use Rattle.blif_flat.specs.Steps.NetTable.{NetsValue, table_of, AreAllNets}
-use Rattle.blif_flat.specs.Weight.{most_weight}
+use Rattle.netlist.specs.Weight.{most_weight}
 use Rattle.blif_flat.specs.Written.{IsWritten}
 use Rattle.blif_flat.specs.declared.clock.clock_check.ClockNets.{ClockNets}
 use Rattle.blif_flat.specs.declared.circuit.connect.Circuit.{Circuit}
 use Rattle.blif_flat.specs.declared.field.loops.Found.{Found}
 use Rattle.blif_flat.specs.declared.field.loops.Found.TheVariants.{Loop as found_loop, Order as found_order}
-use Rattle.blif_flat.specs.declared.flat.Net.TheVariants.{Input, Latch, Cover}
+use Rattle.netlist.specs.declared.flat.Net.TheVariants.{Input, Latch, Cover}
 use Rattle.blif_flat.specs.declared.circuit.instances.Gate.{Gate}
 use Rattle.blif_flat.specs.declared.circuit.instances.Instance.{Instance}
+use Rattle.netlist.specs.Flat.{latch_nets}
 
 -- the numbers of the inputs that aren't marked, counted on from n; a marked one has the number of the next one
 abbrev pub regular_numbers : ℕ → List Bool → List ℕ
@@ -150,21 +150,9 @@ pub record AreCounted (library : LibraryValue) (paths : List Path) (outputs : Li
   pub walked : AreWalked library main at outputs covers latches
   pub covers_at : at.covers ≡ places_at library is_cover paths
 
-abbrev pub latch_nets : List FlatLatch → List FlatNet
-latch_nets latches = map (λ (l : FlatLatch). l.input) latches
-
 -- the roots of the walk by their numbers
 abbrev pub root_numbers : List FlatNet → List FlatLatch → List ℕ
 root_numbers outputs latches = cover_numbers outputs ++ cover_numbers (latch_nets latches)
-
--- Orders of the covers in which each one stands behind those that it reads.
-
--- an order of all covers, in which each comes after those that it reads
-pub record Ordered (library : LibraryValue) (net : Path → List ℕ → Option Net) : Type 0 where
-  pub order : List Place
-  pub after : IsAfter (reads_of library net) order
-  pub all : (path : Path) (i : ℕ) (c : CoverValue) → CoverAt library path i c → In order (record { path = path; command = i })
-  pub only : (p : Place) → In order p → (c : CoverValue) × CoverAt library p.path p.command c
 
 -- The covers of a flat circuit as a graph to walk, and what the walk of its roots and then of all covers finds.
 

@@ -9,9 +9,10 @@ use Rattle.blif_flat.specs.DriverFaults.{or_later, model_fault}
 use Rattle.blif_flat.specs.Faults.{IsConnected}
 use Rattle.blif_flat.specs.Refusals.{refusal_of}
 use Rattle.blif_flat.specs.Steps.InstanceRows.{IsLight}
-use Rattle.blif_flat.specs.Steps.NameSets.{model_names, IsModelOf, ports_value}
+use Rattle.netlist.specs.Models.{model_names}
+use Rattle.blif_flat.specs.Steps.NameSets.{IsModelOf, ports_value}
 use Rattle.blif_flat.specs.Walk.{formal_fault, unknown_formal, SubcktLine, subckt_lines, line_fault}
-use Rattle.blif_flat.specs.Weight.{most_weight, own_weight, Weighs}
+use Rattle.netlist.specs.Weight.{most_weight, own_weight, Weighs}
 use Rattle.blif_flat.specs.declared.model.ports.Ports.{Ports}
 
 -- What an error of a stage tells.

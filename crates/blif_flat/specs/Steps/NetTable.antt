@@ -3,11 +3,11 @@ use Rattle.std.specs.Prelude.{◌≡◌, ℕ, ◌+◌, ◌<◌, ◌≤◌, Bool,
 use Rattle.std.specs.Option.{option_map, option_and_then}
 use Rattle.tl_text.specs.NameIndex.{place_of}
 use Rattle.blif_flat.specs.Circuits.{In, Pair, Body, Command, LatchValue, CoverValue, ModelValue, LibraryValue, Path, model_at, is_input, is_output, inputs_of, CoverAt, LatchAt, ConnectionAt, Net, Drives, is_cover, is_latch, Cover, Latch, Subckt, SubcktValue, subckts_of, FlatNet}
-use Rattle.blif_flat.specs.Flat.{Places, IsNetOf}
+use Rattle.netlist.specs.Flat.{Places, IsNetOf}
 use Rattle.blif_flat.specs.Steps.InstanceRows.{places_at, paths_of, gate_body}
 use Rattle.blif_flat.specs.Steps.NameSets.{all_names, with_names, ports_value}
-use Rattle.blif_flat.specs.Weight.{most_weight}
-use Rattle.blif_flat.specs.declared.flat.Net.TheVariants.{Input as InputNumber, Latch as LatchNumber, Cover as CoverNumber}
+use Rattle.netlist.specs.Weight.{most_weight}
+use Rattle.netlist.specs.declared.flat.Net.TheVariants.{Input as InputNumber, Latch as LatchNumber, Cover as CoverNumber}
 use Rattle.blif_flat.specs.declared.circuit.instances.Gate.{Gate}
 use Rattle.blif_flat.specs.declared.circuit.instances.Instance.{Instance}
 use Rattle.blif_flat.specs.declared.circuit.nets.Start.{Start}

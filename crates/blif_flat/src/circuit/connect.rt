@@ -6,7 +6,7 @@ use crate::circuit::instances::{Gate, GateKind, Instance, gates, instances};
 use crate::circuit::net_table::fill_nets;
 use crate::circuit::nets::{Nets, make_nets};
 use crate::model::ports::{ModelIndex, Ports};
-use blif_read::Library;
+use netlist::Library;
 use std::alloc::{AllocError, Global};
 
 /// The instances of a library in flat order, their covers and their latches, and the nets of all their names.

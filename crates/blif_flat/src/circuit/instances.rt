@@ -4,7 +4,7 @@ ghost use Rattle.std.specs.Option.{option_map};
 ghost use Rattle.blif_flat.specs.{ModelValue, subckts_of, with_subckt, model_names, place_of, AreInstances, IsLight, number_or_zero, with_entry, entries_from, paths_of, places_at, kind_test, AreGatesAt, with_commands, with_model, most_weight, body_at, Place, latch_at, IsGateAt, numbered_body, place_body, gate_body as body_of};
 
 use crate::model::ports::ModelIndex;
-use blif_read::{BlifModel, Body, Command, Latch, Library};
+use netlist::{BlifModel, Body, Command, Latch, Library};
 use std::alloc::{AllocError, Global};
 
 /// An instance of a model. The first instance is the main model's own.

@@ -1,13 +1,14 @@
 //! The nets of all instances: first their own covers and latches, then outputs from the inside out, then inputs from the outside in.
 ghost use Rattle.std.specs.Prelude.{◌≡◌, ◌++◌, List, [], map, slice_get, IfOk, OnOk, ◌<◌, ◌≤◌, length, None, MatchOption, ◌^◌, ◌∷◌};
 ghost use Rattle.std.specs.Option.{option_map, option_and_then};
-ghost use Rattle.blif_flat.specs.{SubcktValue, ModelValue, subckts_of, with_subckt, LibraryValue, IsNets, line_under, link_at, linked_out, linked_in, links_out, links_in, AreLinesOf, IsLink, most_weight, gate_body as body_of, output_of_cover as cover_output, output_of_latch as latch_output, with_named, with_covers, with_latches, with_inputs, IsWellFormed, IsDriven, ports_value, is_cover, is_latch, AreInstances, IsLight, paths_of, places_at, AreGatesAt, AreEmptyNets, AreAllNets};
+ghost use Rattle.netlist.specs.SubcktValue.{SubcktValue};
+ghost use Rattle.blif_flat.specs.{ModelValue, subckts_of, with_subckt, IsNets, line_under, link_at, linked_out, linked_in, links_out, links_in, AreLinesOf, IsLink, most_weight, gate_body as body_of, output_of_cover as cover_output, output_of_latch as latch_output, with_named, with_covers, with_latches, with_inputs, IsWellFormed, IsDriven, ports_value, is_cover, is_latch, AreInstances, IsLight, paths_of, places_at, AreGatesAt, AreEmptyNets, AreAllNets};
+ghost use Rattle.netlist.specs.LibraryValue.{LibraryValue};
 
 use crate::circuit::instances::{Gate, Instance, gate_body};
 use crate::circuit::nets::{Nets, pairs_in, pairs_out};
-use crate::flat::Net;
 use crate::model::ports::Ports;
-use blif_read::{BlifModel, Body, Command, Library, Pair, Subckt};
+use netlist::{BlifModel, Body, Command, Library, Net, Pair, Subckt};
 use std::alloc::{AllocError, Global};
 use std::marker::Model;
 use tl_text::Name;
@@ -20,7 +21,7 @@ pub(crate) struct SubcktLines<'a> {
 
 impl<'a> Model for SubcktLines<'a> {
     ghost use Rattle.std.specs.Prelude.{List, map};
-    ghost use Rattle.blif_read.specs.SubcktValue.{SubcktValue};
+    ghost use Rattle.netlist.specs.SubcktValue.{SubcktValue};
 
     ghost Value = { List (List SubcktValue) };
 

@@ -3,9 +3,8 @@ ghost use Rattle.std.specs.Prelude.{◌≡◌, ◌<◌, length, Some, ◌≤◌,
 ghost use Rattle.blif_flat.specs.{slot_number, table_of, with_slot, with_found, copied, pair_out, pairs_out, pair_in, pairs_in, IsNets, ModelValue, is_input, is_output, ports_value, with_names as with_all_names, body_names, commands_names, AreInstances, IsLight, paths_of, AreEmptyNets, distinct_names, name_count, starts_from, slot_count, most_weight};
 
 use crate::circuit::instances::Instance;
-use crate::flat::Net;
-use crate::model::ports::{Ports, add_once, with_names};
-use blif_read::{BlifModel, Body, Command, Cover, Latch, Library, Pair};
+use crate::model::ports::Ports;
+use netlist::{BlifModel, Body, Command, Cover, Latch, Library, Net, Pair};
 use std::alloc::{AllocError, Global};
 use std::marker::Model;
 use tl_text::NameIndex;
@@ -163,8 +162,8 @@ pub(crate) fn pairs_in(nets: &mut Nets, ports: &Ports, inner: u32, outer: u32, p
 fn with_cover(alloc: Global, index: NameIndex, cover: &Cover) -> Result<NameIndex, AllocError>
     ensures { IfOk result (λ all. all ≡ with_all_names index (body_names (Body.Cover cover.now))) }
 {
-    let mut all = with_names(alloc, index, &cover.inputs)?;
-    add_once(alloc, &mut all, cover.output.bytes())?;
+    let mut all = index.with_names(alloc, &cover.inputs)?;
+    all.add_once(alloc, cover.output.bytes())?;
     Ok(all)
 }
 
@@ -173,10 +172,10 @@ fn with_latch(alloc: Global, index: NameIndex, latch: &Latch) -> Result<NameInde
     ensures { IfOk result (λ all. all ≡ with_all_names index (body_names (Body.Latch latch.now))) }
 {
     let mut all = index;
-    add_once(alloc, &mut all, latch.input.bytes())?;
-    add_once(alloc, &mut all, latch.output.bytes())?;
+    all.add_once(alloc, latch.input.bytes())?;
+    all.add_once(alloc, latch.output.bytes())?;
     if let Some(control) = &latch.control {
-        add_once(alloc, &mut all, control.bytes())?;
+        all.add_once(alloc, control.bytes())?;
     }
     Ok(all)
 }
@@ -187,7 +186,7 @@ fn with_actuals(alloc: Global, index: NameIndex, pairs: &[Pair]) -> Result<NameI
 {
     let mut all = index;
     for pair in pairs {
-        add_once(alloc, &mut all, pair.actual.bytes())?;
+        all.add_once(alloc, pair.actual.bytes())?;
     }
     Ok(all)
 }
@@ -222,9 +221,9 @@ fn with_commands(
 fn distinct_names(alloc: Global, model: &BlifModel) -> Result<NameIndex, AllocError>
     ensures { IfOk result (λ all. all ≡ distinct_names model.now) }
 {
-    let inputs = with_names(alloc, NameIndex::new(alloc), &model.inputs)?;
-    let outputs = with_names(alloc, inputs, &model.outputs)?;
-    let ports = with_names(alloc, outputs, &model.clocks)?;
+    let inputs = NameIndex::of(alloc, &model.inputs)?;
+    let outputs = inputs.with_names(alloc, &model.outputs)?;
+    let ports = outputs.with_names(alloc, &model.clocks)?;
     with_commands(alloc, ports, &model.commands)
 }
 

@@ -7,9 +7,8 @@ use crate::circuit::instances::{Gate, GateKind, Instance, gate_body, gates};
 use crate::circuit::nets::Nets;
 use crate::clock::clocks::clock_marks;
 use crate::clock::controls::check_controls;
-use crate::flat::Net;
 use crate::flat_err::FlatErr;
-use blif_read::{BlifModel, Body, Library};
+use netlist::{BlifModel, Body, Library, Net};
 use std::alloc::Global;
 use tl_text::Name;
 

@@ -3,8 +3,8 @@ ghost use Rattle.std.specs.Prelude.{◌≡◌, ◌<◌, ℕ, ◌++◌, ◌||◌,
 ghost use Rattle.std.specs.Option.{option_and_then};
 ghost use Rattle.blif_flat.specs.{has_name, inputs_of, ports_value, input_name, is_control as is_control_of, clock_test};
 
-use crate::model::ports::{Ports, is_among, with_names};
-use blif_read::BlifModel;
+use crate::model::ports::Ports;
+use netlist::BlifModel;
 use std::alloc::{AllocError, Global};
 use tl_text::{Name, NameIndex};
 
@@ -87,7 +87,7 @@ fn marks_of(
     let mut marks = Vec::new(alloc);
     for input in inputs {
         let name = input.bytes();
-        marks.push(is_among(clocks, name) || is_control(inputs, control, name))?;
+        marks.push(clocks.has(name) || is_control(inputs, control, name))?;
     }
     Ok(marks)
 }
@@ -104,6 +104,6 @@ pub(crate) fn clock_marks(
     requires within { (j : ℕ) → control ≡ Some j → j < length inputs.now }
     ensures { IfOk result (λ marks. marks.items ≡ map (clock_test model.now (input_name model.now control)) (inputs_of model.now)) }
 {
-    let clocks = with_names(alloc, NameIndex::new(alloc), &model.clocks)?;
+    let clocks = NameIndex::of(alloc, &model.clocks)?;
     marks_of(alloc, &clocks, inputs, control)
 }

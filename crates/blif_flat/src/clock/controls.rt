@@ -5,9 +5,8 @@ ghost use Rattle.blif_flat.specs.{OrMemory, ModelValue, LatchValue, refusal_of, 
 use crate::circuit::instances::{Gate, Instance, gate_at, gate_latch};
 use crate::circuit::nets::Nets;
 use crate::field::written::{write_net, written_cover};
-use crate::flat::Net;
 use crate::flat_err::FlatErr;
-use blif_read::Library;
+use netlist::{Library, Net};
 use std::alloc::{AllocError, Global};
 use tl_text::Name;
 

@@ -7,9 +7,8 @@ use crate::clock::clock_check::ClockNets;
 use crate::field::flat_gates::{flat_covers, flat_latches, regular_numbers};
 use crate::field::flat_ports::{clock_names, flat_outputs, most_underscores, regular_inputs};
 use crate::field::loops::cover_order;
-use crate::flat::Flat;
 use crate::flat_err::FlatErr;
-use blif_read::{BlifModel, Library};
+use netlist::{BlifModel, Flat, Library};
 use std::alloc::{AllocError, Global};
 use tl_text::Name;
 

@@ -5,8 +5,7 @@ ghost use Rattle.blif_flat.specs.{number_or_zero, IsNets, regular_numbers as num
 
 use crate::circuit::instances::{Gate, Instance, gate_body};
 use crate::circuit::nets::Nets;
-use crate::flat::{FlatCover, FlatLatch, Net};
-use blif_read::{Body, Latch, Library};
+use netlist::{Body, FlatCover, FlatLatch, Latch, Library, Net};
 use std::alloc::{AllocError, Global};
 use tl_text::Name;
 

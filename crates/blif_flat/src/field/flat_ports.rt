@@ -6,8 +6,7 @@ use crate::circuit::instances::Instance;
 use crate::circuit::nets::Nets;
 use crate::clock::clocks::copies;
 use crate::field::flat_gates::net_at;
-use crate::flat::OutPort;
-use blif_read::{BlifModel, Library};
+use netlist::{BlifModel, Library, OutPort};
 use std::alloc::{AllocError, Global};
 use tl_text::Name;
 

@@ -5,10 +5,9 @@ ghost use Rattle.blif_flat.specs.{inputs_at, edge_of, InRange, IsReady, Searched
 
 use crate::circuit::instances::{Gate, Instance};
 use crate::field::written::written_cover;
-use crate::flat::{FlatCover, FlatLatch, Net, OutPort};
 use crate::flat_err::FlatErr;
-use blif_read::Library;
 use depth_first::{Edge, End, Successors, Walk};
+use netlist::{FlatCover, FlatLatch, Library, Net, OutPort};
 use std::alloc::{AllocError, Global};
 use tl_fault::{Name, Names};
 

@@ -2,11 +2,12 @@
 //! the driver.
 ghost use Rattle.std.specs.Prelude.{◌≡◌, ◌<◌, ◌∷◌, ◌++◌, [], length, decimal, Some, slice_get, IfOk, OnOk};
 ghost use Rattle.std.specs.Option.{option_and_then};
-ghost use Rattle.blif_flat.specs.{Path, body_at, cover_in, is_cover, CoverAt, cover_net, CoverValue, path_text, IsWritten, paths_of, AreInstances, places_at, AreGatesAt, IsWrittenAt, AreUnder, output_or, output_at as output_at_of};
+ghost use Rattle.blif_flat.specs.{Path, body_at, cover_in, is_cover, CoverAt, cover_net, path_text, IsWritten, paths_of, AreInstances, places_at, AreGatesAt, IsWrittenAt, AreUnder, output_or, output_at as output_at_of};
+ghost use Rattle.netlist.specs.CoverValue.{CoverValue};
 
 use crate::circuit::instances::{Gate, Instance};
-use blif_read::{BlifModel, Body, Library};
 use itoa::Buffer;
+use netlist::{BlifModel, Body, Library};
 use std::alloc::{AllocError, Global};
 use tl_text::Name;
 

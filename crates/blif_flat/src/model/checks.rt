@@ -7,7 +7,7 @@ use crate::model::drivers::check_drivers;
 use crate::model::ports::{ModelIndex, Ports};
 use crate::model::walk::walk_models;
 use crate::model::weight::check_weight;
-use blif_read::Library;
+use netlist::Library;
 use std::alloc::Global;
 
 /// Walks the models from the main one, weighs the main model, and looks at the drivers of the walked models. The index and

@@ -2,7 +2,7 @@
 ghost use Rattle.std.specs.Prelude.{◌≡◌, false, [], ◌∷◌, ◌++◌, OnOk, OnErr};
 ghost use Rattle.blif_flat.specs.{has_name};
 
-use crate::model::ports::{Ports, is_among};
+use crate::model::ports::Ports;
 use std::alloc::{AllocError, Global};
 use std::marker::Model;
 use tl_text::NameIndex;
@@ -38,7 +38,7 @@ impl<'a> Driven<'a> {
         ensures { result ≡ has_name self.now name.now }
     {
         let ports = self.ports;
-        ports.is_input(name) || is_among(&self.others, name)
+        ports.is_input(name) || self.others.has(name)
     }
 
     /// Adds a name that isn't among them at the end, and copies its bytes. `Err` comes only for want of memory, and adds

@@ -1,11 +1,12 @@
 //! The names that are driven twice, and those that are read and aren't driven.
 ghost use Rattle.std.specs.Prelude.{◌≡◌, ℕ, List, [], ◌∷◌, ◌++◌, map, None, slice_get, MatchOption, MatchResult};
-ghost use Rattle.blif_flat.specs.{ModelValue, LibraryValue, Memory, model_named, has_name, ports_value, model_names, output_actuals, input_actuals, driven_pairs, read_pairs, with_control, drives, reads, all_drives, twice_in, twice_fault, undriven_in, undriven_fault, model_fault, models_fault, Tells, Adds, ArePortsOf, AreOf, fault_of, models_at};
+ghost use Rattle.blif_flat.specs.{ModelValue, Memory, model_named, has_name, ports_value, model_names, output_actuals, input_actuals, driven_pairs, read_pairs, with_control, drives, reads, all_drives, twice_in, twice_fault, undriven_in, undriven_fault, model_fault, models_fault, Tells, Adds, ArePortsOf, AreOf, fault_of, models_at};
+ghost use Rattle.netlist.specs.LibraryValue.{LibraryValue};
 
 use crate::flat_err::FlatErr;
 use crate::model::driven::Driven;
 use crate::model::ports::{ModelIndex, Ports};
-use blif_read::{BlifModel, Body, Latch, Library, Pair, Subckt};
+use netlist::{BlifModel, Body, Latch, Library, Pair, Subckt};
 use std::alloc::Global;
 use tl_text::Name;
 

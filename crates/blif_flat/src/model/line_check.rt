@@ -5,9 +5,9 @@ ghost use Rattle.depth_first.specs.Walk.{from_node};
 ghost use Rattle.blif_flat.specs.{UnknownModel as unknown_model_of, UnknownFormal as unknown_formal_of, Unconnected as unconnected_of, IsTold, ports_value, foreign_formal, open_among, ports_fault, AreOnce, ModelValue, RecursiveModel as recursive_model_of, model_names, with_name_of, names_at, IsPlacing, line_fault};
 
 use crate::flat_err::FlatErr;
-use crate::model::ports::{ModelIndex, Ports, formal_index, is_among};
-use blif_read::{BlifModel, Pair, Subckt};
+use crate::model::ports::{ModelIndex, Ports, formal_index};
 use depth_first::Walk;
+use netlist::{BlifModel, Pair, Subckt};
 use std::alloc::{AllocError, Global};
 use tl_fault::Names;
 use tl_text::{Name, NameIndex};
@@ -86,7 +86,7 @@ fn check_inputs(
     ensures err { IfErr result (λ e. IsTold e (option_map (λ name. unconnected_of model.now line name) (open_among index.now names.now))) }
 {
     for name in names {
-        if !is_among(index, name.bytes()) {
+        if !index.has(name.bytes()) {
             return Err(unconnected(alloc, model, line, name)?);
         }
     }

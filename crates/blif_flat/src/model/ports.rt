@@ -1,50 +1,18 @@
-//! Names without repeats, the ports of the models and the models themselves, each found by its hash.
-ghost use Rattle.std.specs.Prelude.{◌≡◌, [], IfOk, OnOk, ◌++◌, ◌∷◌, map, ℕ, ◌<◌, ◌^◌, List, length, IfSome};
-ghost use Rattle.blif_flat.specs.{formals, has_name, with_name, with_names as with_all_names, In, place_of, ModelValue, IsWellFormedModel, is_input as input_of, is_output as output_of, ports_value, AreOnce, model_names, Finds};
+//! The formals of connections, the ports of the models and the models themselves, each found by its hash.
+ghost use Rattle.std.specs.Prelude.{◌≡◌, [], IfOk, map, ℕ, ◌<◌, ◌^◌, List, length, IfSome};
+ghost use Rattle.blif_flat.specs.{formals, has_name, with_names, In, place_of, ModelValue, IsWellFormedModel, is_input as input_of, is_output as output_of, ports_value, AreOnce, model_names, Finds};
 
-use blif_read::{BlifModel, Pair};
+use netlist::{BlifModel, Pair};
 use std::alloc::{AllocError, Global};
-use tl_text::{Name, NameIndex};
-
-/// Is the name among them?
-pub(crate) fn is_among(index: &NameIndex, name: &[u8]) -> bool
-    ensures { result ≡ has_name index.now name.now }
-{
-    index.place(name).is_some()
-}
-
-/// Adds a name, unless it is among them.
-pub(crate) fn add_once(alloc: Global, index: &mut NameIndex, name: &[u8]) -> Result<(), AllocError>
-    ensures { OnOk result (index.new ≡ with_name index.old name.now) }
-{
-    if is_among(index, name) {
-        return Ok(());
-    }
-    index.add(alloc, name)
-}
-
-/// The names and those of a list, each unless it is among those before.
-pub(crate) fn with_names(
-    alloc: Global,
-    index: NameIndex,
-    names: &[Name],
-) -> Result<NameIndex, AllocError>
-    ensures { IfOk result (λ all. all ≡ with_all_names index names.now) }
-{
-    let mut all = index;
-    for name in names {
-        add_once(alloc, &mut all, name.bytes())?;
-    }
-    Ok(all)
-}
+use tl_text::NameIndex;
 
 /// The formals of connections.
 pub(crate) fn formal_index(alloc: Global, pairs: &[Pair]) -> Result<NameIndex, AllocError>
-    ensures { IfOk result (λ all. all ≡ with_all_names [] (formals pairs.now)) }
+    ensures { IfOk result (λ all. all ≡ with_names [] (formals pairs.now)) }
 {
     let mut all = NameIndex::new(alloc);
     for pair in pairs {
-        add_once(alloc, &mut all, pair.formal.bytes())?;
+        all.add_once(alloc, pair.formal.bytes())?;
     }
     Ok(all)
 }
@@ -64,9 +32,9 @@ impl Ports {
         requires { IsWellFormedModel model.now }
         ensures { IfOk result (λ ports. ports ≡ ports_value model.now) }
     {
-        let inputs = with_names(alloc, NameIndex::new(alloc), &model.inputs)?;
-        let inputs = with_names(alloc, inputs, &model.clocks)?;
-        let outputs = with_names(alloc, NameIndex::new(alloc), &model.outputs)?;
+        let inputs = NameIndex::of(alloc, &model.inputs)?;
+        let inputs = inputs.with_names(alloc, &model.clocks)?;
+        let outputs = NameIndex::of(alloc, &model.outputs)?;
         Ok(Ports { inputs, outputs })
     }
 
@@ -75,7 +43,7 @@ impl Ports {
         ensures among { result ≡ has_name self.now.inputs name.now }
         ensures model { (m : ModelValue) → self.now ≡ ports_value m → result ≡ input_of m name.now }
     {
-        is_among(&self.inputs, name)
+        self.inputs.has(name)
     }
 
     /// The place of a name among the inputs, counted from 0; `None` where it isn't one.
@@ -89,7 +57,7 @@ impl Ports {
     pub(crate) fn has_output(&self, name: &[u8]) -> bool
         ensures { result ≡ has_name self.now.outputs name.now }
     {
-        is_among(&self.outputs, name)
+        self.outputs.has(name)
     }
 
     /// Is the name an output that is no input?
@@ -129,7 +97,7 @@ impl ModelIndex {
     {
         let mut names = NameIndex::new(alloc);
         for model in models {
-            add_once(alloc, &mut names, model.name.bytes())?;
+            names.add_once(alloc, model.name.bytes())?;
         }
         Ok(ModelIndex { names })
     }

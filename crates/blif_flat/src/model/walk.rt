@@ -6,8 +6,8 @@ ghost use Rattle.blif_flat.specs.{AreOnce, refusal_of, ports_value, model_names,
 use crate::flat_err::FlatErr;
 use crate::model::line_check::check_line;
 use crate::model::ports::{ModelIndex, Ports};
-use blif_read::{BlifModel, Body, Command, Library, Subckt};
 use depth_first::{Edge, Successors, Walk};
+use netlist::{BlifModel, Body, Command, Library, Subckt};
 use std::alloc::{AllocError, Global};
 
 // The edge of a line that has a fault.

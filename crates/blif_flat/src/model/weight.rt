@@ -4,7 +4,7 @@ ghost use Rattle.blif_flat.specs.{In, OrMemory, ModelValue, most_weight, body_we
 
 use crate::flat_err::FlatErr;
 use crate::model::ports::ModelIndex;
-use blif_read::{BlifModel, Body, Command, Library};
+use netlist::{BlifModel, Body, Command, Library};
 use std::alloc::{AllocError, Global};
 
 // The greatest weight that is flattened, 2^22.

@@ -1,12 +1,8 @@
 //! A small graph by hand, and a large one that a linear search for pairs would not finish.
-ghost use Rattle.std.specs.Prelude.{◌≡◌, ◌<◌};
-ghost use Rattle.aig_core.specs.Aig.{IsAnd};
 
-use aig_core::{AigErr, Graph, Kind, Lit, Pair, Steps, lit_value};
+use aig_core::{AigErr, Graph, Kind, Lit, Pair, lit_value};
 use std::alloc::{AllocError, Global};
-use std::marker::Brand;
 use std::process::Abort;
-use std::sync::ledger::{Blank, Ledger};
 use std::test::Fail;
 
 // The product of two literals by their numbers.
@@ -31,23 +27,6 @@ fn value(
     Ok(lit_value(&values, Lit(lit)))
 }
 
-fn pair_with<L: Ledger>(graph: &Graph, n: u32, blank: Blank) -> Pair
-    requires name { blank.name ≡ L.name }
-    requires parts { blank.parts ≡ L.parts }
-    requires some { 0 < L.parts }
-    requires node { IsAnd graph.now n }
-{
-    let mut steps = Steps::<L>::start(blank);
-    graph.node(n, &mut steps)
-}
-
-// The pair of a node, read with a counter of its own.
-fn pair_at(graph: &Graph, n: u32) -> Pair
-    requires { IsAnd graph.now n }
-{
-    pair_with::<Brand>(graph, n, Blank::new(1))
-}
-
 // A graph of two inputs a and b and a parameter p.
 fn two_inputs(rt: &impl Abort, alloc: Global) -> Result<Graph, AllocError> {
     let kinds = vec![in alloc; Kind::Regular, Kind::Regular, Kind::Parameter]?;
@@ -55,9 +34,9 @@ fn two_inputs(rt: &impl Abort, alloc: Global) -> Result<Graph, AllocError> {
     Graph::make(alloc, kinds, 3)
 }
 
-/// What a graph tells of itself, and a multiplexer: the parameter p chooses a where it is 1, else b.
+/// What a graph tells of itself.
 #[test]
-fn small_graphs(rt: HostRuntime) -> Result<(), Fail> {
+fn tells_its_parts(rt: HostRuntime) -> Result<(), Fail> {
     let mut graph = two_inputs(&rt, rt.alloc())?;
     assert_eq!(rt; product(&rt, &mut graph, 7, 2)?, 8);
     assert_eq!(rt; graph.sources(), 3);
@@ -65,12 +44,18 @@ fn small_graphs(rt: HostRuntime) -> Result<(), Fail> {
     assert_eq!(rt; graph.kind(2), Kind::Regular);
     assert_eq!(rt; graph.kind(3), Kind::Parameter);
     assert_eq!(rt;
-        pair_at(&graph, 4),
+        graph.pair_at(4),
         Pair {
             x: Lit(2),
             y: Lit(7)
         }
     );
+    Ok(())
+}
+
+/// A multiplexer: the parameter p chooses a where it is 1, else b.
+#[test]
+fn multiplexer(rt: HostRuntime) -> Result<(), Fail> {
     let mut graph = two_inputs(&rt, rt.alloc())?;
     assert_eq!(rt; product(&rt, &mut graph, 6, 2)?, 8);
     assert_eq!(rt; product(&rt, &mut graph, 4, 7)?, 10);

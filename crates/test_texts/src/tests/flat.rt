@@ -1,6 +1,7 @@
 //! The covers of flat circuits in the order in which they are evaluated, and the numbers of their models and commands.
-use blif_flat::{Flat, FlatErr, flatten};
+use blif_flat::{FlatErr, flatten};
 use blif_read::read;
+use netlist::Flat;
 use std::alloc::{AllocError, Global};
 use std::process::Abort;
 use std::test::Fail;

@@ -3,7 +3,8 @@ use Rattle.aig_core.specs.Aig.{Aig, first_and}
 use Rattle.aig_build.specs.BalancedMade.{balanced_and}
 use Rattle.aig_build.specs.CoverGraph.{Literals}
 use Rattle.aig_build.specs.CoverMade.{rows_made}
-use Rattle.aig_build.proofs.BalancedLemmas.{balanced-grows, full_weaker, length-Extends}
+use Rattle.aig_core.proofs.GrowthLemmas.{length-Extends}
+use Rattle.aig_build.proofs.BalancedLemmas.{balanced-grows, full_weaker}
 use Rattle.aig_build.proofs.cover.make_into.Goals as goal
 
 pub returns-in_err-make_rows-clause-full : goal.returns-in_err-make_rows-clause-full

@@ -1,5 +1,5 @@
 use Rattle.std.proofs.Common.{◌≡◌, ◌≤◌, ◌∙◌, ap, drop, length, rules, subst, List}
-use Rattle.blif_read.specs.CoverValue.{RowValue}
+use Rattle.netlist.specs.CoverValue.{RowValue}
 use Rattle.aig_core.specs.declared.lit.Lit.{Lit}
 use Rattle.aig_core.specs.Aig.{Aig, first_and}
 use Rattle.aig_core.specs.And.{Answer, with_pairs}

@@ -1,6 +1,6 @@
 use Rattle.std.proofs.Common.{◌<◌, length, arith}
 use Rattle.list_laws.proofs.Items.{member_at}
-use Rattle.run_text.specs.declared.params.Param.{Param}
+use Rattle.param_list.specs.declared.params.Param.{Param}
 use Rattle.aig_build.proofs.net_lits.set_param_lits.Goals as goal
 
 pub bounds-lits-param : goal.bounds-lits-param

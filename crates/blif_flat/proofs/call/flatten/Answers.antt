@@ -1,7 +1,7 @@
 use Rattle.tl_fault.proofs.PassedOn.{passed_on}
 use Rattle.blif_flat.proofs.Faults.FaultOnceLemmas.{loop_refused, all_sound, none_stands}
 use Rattle.blif_flat.proofs.Fields.AssembleLemmas.{flat_bounds}
-use Rattle.blif_flat.proofs.Values.EvaluateLemmas.{flat_evaluates, flat_cycles}
+use Rattle.netlist.proofs.EvaluateLemmas.{flat_evaluates, flat_cycles}
 use Rattle.blif_flat.proofs.call.flatten.Goals as goal
 
 pub assemble-requires-clause-short : goal.assemble-requires-clause-short

@@ -5,7 +5,7 @@ use Rattle.list_laws.proofs.Members.{In-get_or}
 use Rattle.tl_piece.proofs.PieceLemmas.{stops_longer}
 use Rattle.tl_piece.proofs.AddLemmas.{stopped}
 use Rattle.ppc_pack.specs.declared.pack.PackParam.{PackParam}
-use Rattle.ppc_pack.specs.declared.pack.TheConstants.{MOST_NAME_BYTES}
+use Rattle.tl_text.specs.declared.limits.TheConstants.{MOST_NAME_BYTES}
 use Rattle.ppc_file.specs.Bytes.{param_bytes}
 use Rattle.ppc_file.proofs.AddedLemmas.{added_more, added_stop}
 use Rattle.ppc_file.proofs.add_parts.add_params.Goals as goal

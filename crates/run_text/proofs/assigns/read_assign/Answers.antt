@@ -1,7 +1,7 @@
 use Rattle.std.proofs.Common.{◌≡◌, ℕ, true, false, List, Some, is_some, sym, ap, ◌∙◌}
 use Rattle.std.specs.Option.{option_map}
-use Rattle.blif_flat.specs.Models.{has_name}
-use Rattle.blif_flat.proofs.Models.NameSetLemmas.{place_some, place_none}
+use Rattle.tl_text.specs.NameSets.{has_name}
+use Rattle.tl_text.proofs.NameSetLemmas.{place_some, place_none}
 use Rattle.tl_text.specs.NameIndex.{place_of}
 use Rattle.run_text.specs.ScriptText.{assigned}
 use Rattle.run_text.specs.declared.script_err.ScriptErr.TheVariants.{NotParameter, RepeatedInSet}
@@ -14,18 +14,18 @@ returns-in_default c =
     let none : has_name c.args.params.now c.args.setting.now.name ≡ false = sym (place_some c.args.params.now c.args.setting.now.name) ∙ ap is_some found in
     λ rest. no_parameter c.args.params.now c.args.number c.args.seen.now c.args.setting.now rest none ∙ ap (λ (n : List ℕ). Some (NotParameter c.args.number n)) (sym (c.in_ok-make.ensures ∙ c.bytes-name.ensures))
 
-pub returns-then-is_among : goal.returns-then-is_among
-returns-then-is_among c =
+pub returns-then-has : goal.returns-then-has
+returns-then-has c =
     let found = ap (place_of c.args.params.now) (sym c.bytes-name.ensures) ∙ sym c.place.ensures ∙ c.in-Some.is in
     let some : has_name c.args.params.now c.args.setting.now.name ≡ true = sym (place_some c.args.params.now c.args.setting.now.name) ∙ ap is_some found in
-    let earlier : has_name c.args.seen.now c.args.setting.now.name ≡ true = ap (has_name c.args.seen.now) (sym c.bytes-name.ensures) ∙ sym c.is_among.ensures ∙ c.if-is_among.true in
+    let earlier : has_name c.args.seen.now c.args.setting.now.name ≡ true = ap (has_name c.args.seen.now) (sym c.bytes-name.ensures) ∙ sym c.has.ensures ∙ c.if-has.true in
     λ rest. repeated c.args.params.now c.args.number c.args.seen.now c.args.setting.now rest some earlier ∙ ap (λ (n : List ℕ). Some (RepeatedInSet c.args.number n)) (sym (c.in_ok-make-2.ensures ∙ c.bytes-name.ensures))
 
 pub returns : goal.returns
 returns c =
     let found = ap (place_of c.args.params.now) (sym c.bytes-name.ensures) ∙ sym c.place.ensures ∙ c.in-Some.is in
     let some : has_name c.args.params.now c.args.setting.now.name ≡ true = sym (place_some c.args.params.now c.args.setting.now.name) ∙ ap is_some found in
-    let earlier : has_name c.args.seen.now c.args.setting.now.name ≡ false = ap (has_name c.args.seen.now) (sym c.bytes-name.ensures) ∙ sym c.is_among.ensures ∙ c.if-is_among.false in (
+    let earlier : has_name c.args.seen.now c.args.setting.now.name ≡ false = ap (has_name c.args.seen.now) (sym c.bytes-name.ensures) ∙ sym c.has.ensures ∙ c.if-has.false in (
       ap (option_map (assigned c.args.setting.now.bit)) found,
       place_none c.args.seen.now c.args.setting.now.name earlier,
       λ rest. passed c.args.params.now c.args.number c.args.seen.now c.args.setting.now rest some earlier,

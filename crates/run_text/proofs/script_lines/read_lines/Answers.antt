@@ -1,6 +1,6 @@
 use Rattle.std.proofs.Common.{◌≡◌, ℕ, List, [], length, ap, ◌∙◌, arith}
-use Rattle.blif_flat.specs.Steps.NameSets.{with_names}
-use Rattle.blif_flat.proofs.Models.NameSetLemmas.{new_names}
+use Rattle.tl_text.specs.NameSets.{with_names}
+use Rattle.tl_text.proofs.NameSetLemmas.{new_names}
 use Rattle.run_text.specs.NamesValue.{NamesValue}
 use Rattle.run_text.proofs.script_lines.read_lines.Goals as goal
 

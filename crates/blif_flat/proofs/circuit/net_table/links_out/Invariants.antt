@@ -1,5 +1,6 @@
 use Rattle.blif_flat.proofs.Common.{◌≡◌, length}
-use Rattle.blif_flat.specs.{LibraryValue, IsNets, links_out, AreLinesOf}
+use Rattle.netlist.specs.LibraryValue.{LibraryValue}
+use Rattle.blif_flat.specs.{IsNets, links_out, AreLinesOf}
 use Rattle.blif_flat.proofs.circuit.net_table.links_out.Given as goal
 
 abbrev pub invariant-loop-left : goal.invariant-loop-left

@@ -7,7 +7,7 @@ pub returns : goal.returns
 returns c =
     let m : ModelValue = c.args.model.now in
     let inputs : c.in_ok-inputs.inputs ≡ with_names [] m.inputs =
-    c.in_ok-inputs.ensures ∙ ap (λ names. with_names names c.deref.result.now) c.new.ensures ∙ ap (with_names []) (c.deref.ensures.value ∙ ap (λ (x : ModelValue). x.inputs) c.model.view_is) in
+    c.in_ok-inputs.ensures ∙ ap (with_names []) (c.deref.ensures.value ∙ ap (λ (x : ModelValue). x.inputs) c.model.view_is) in
     let outputs : c.in_ok-outputs.outputs ≡ with_names (with_names [] m.inputs) m.outputs =
     c.in_ok-outputs.ensures ∙ ap (λ names. with_names names c.deref-2.result.now) inputs ∙ ap (with_names (with_names [] m.inputs)) (c.deref-2.ensures.value ∙ ap (λ (x : ModelValue). x.outputs) c.model.view_is) in
     let ports : c.in_ok-ports.ports ≡ with_names (with_names (with_names [] m.inputs) m.outputs) m.clocks =

@@ -6,7 +6,8 @@ use Rattle.aig_core.specs.Value.{xor}
 use Rattle.spec_core.specs.Device.{DeviceValue}
 use Rattle.spec_core.specs.Differences.{config_bit, differs_at, write_of}
 use Rattle.spec_core.specs.Sweep.{bits_under}
-use Rattle.spec_core.proofs.WriteLemmas.{length-written, written-push, writes_few, one_more, test_differs}
+use Rattle.tl_io.proofs.BitLemmas.{length-written}
+use Rattle.spec_core.proofs.WriteLemmas.{written-push, writes_few, one_more, test_differs}
 use Rattle.spec_core.proofs.device.Device.write_differing.Goals as goal
 use Rattle.spec_core.proofs.device.Device.write_differing.Goals.{then-index-bit, else-index-bit}
 

@@ -5,7 +5,8 @@ use Rattle.spec_core.specs.Device.{writes_where}
 use Rattle.spec_core.specs.Differences.{config_bit, write_of}
 use Rattle.spec_core.specs.Sweep.{EvaluationValue, bits_under}
 use Rattle.spec_core.proofs.MarkLemmas.{unmarked}
-use Rattle.spec_core.proofs.WriteLemmas.{length-written, written-push, writes_few, least_written, fewer_left, none_written}
+use Rattle.tl_io.proofs.BitLemmas.{length-written}
+use Rattle.spec_core.proofs.WriteLemmas.{written-push, writes_few, least_written, fewer_left, none_written}
 use Rattle.spec_core.proofs.ChangeLemmas.{length-bits_under, addresses_only}
 use Rattle.spec_core.proofs.device.Device.write_marked.Goals as goal
 

@@ -4,4 +4,4 @@ use Rattle.blif_flat.proofs.Models.NameSetLemmas.{has_inputs}
 use Rattle.blif_flat.proofs.model.ports.Ports.is_input.Goals as goal
 
 pub returns-clause-model : goal.returns-clause-model
-returns-clause-model c m e = c.is_among.ensures ∙ ap (λ (p : Ports). has_name p.inputs c.args.name.now) e ∙ has_inputs m c.args.name.now
+returns-clause-model c m e = c.has.ensures ∙ ap (λ (p : Ports). has_name p.inputs c.args.name.now) e ∙ has_inputs m c.args.name.now

@@ -5,8 +5,8 @@ use Rattle.blif_flat.proofs.model.ports.Ports.make.Goals as goal
 
 pub returns : goal.returns
 returns c =
-    ports_of_parts c.args.model.now c.requires c.new.result c.in_ok-inputs.inputs c.in_ok-inputs-2.inputs c.new-2.result c.in_ok-outputs.outputs c.deref.result.now c.deref-2.result.now c.deref-3.result.now
-    c.new.ensures c.in_ok-inputs.ensures c.in_ok-inputs-2.ensures c.new-2.ensures c.in_ok-outputs.ensures
+    ports_of_parts c.args.model.now c.requires c.in_ok-inputs.inputs c.in_ok-inputs-2.inputs c.in_ok-outputs.outputs c.deref.result.now c.deref-2.result.now c.deref-3.result.now
+    c.in_ok-inputs.ensures c.in_ok-inputs-2.ensures c.in_ok-outputs.ensures
     (c.deref.ensures.value ∙ ap (λ (m : ModelValue). m.inputs) c.model.view_is)
     (c.deref-2.ensures.value ∙ ap (λ (m : ModelValue). m.clocks) c.model.view_is)
     (c.deref-3.ensures.value ∙ ap (λ (m : ModelValue). m.outputs) c.model.view_is)

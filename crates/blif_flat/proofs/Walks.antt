@@ -1,3 +1,0 @@
--- Walks and orders of nodes.
-pub mod MeetLemmas
-pub mod PostLemmas

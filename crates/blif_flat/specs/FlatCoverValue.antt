@@ -1,8 +1,0 @@
--- A cover of a flat circuit as plain lists.
-use Rattle.std.specs.Prelude.{ℕ, List}
-use Rattle.blif_flat.specs.declared.flat.Net.{Net}
-
-pub record FlatCoverValue : Type 0 where
-  pub model : ℕ
-  pub command : ℕ
-  pub inputs : List Net

@@ -1,0 +1,98 @@
+-- Why a job was not begun, seen from an earlier state of the shelf, and from a reading of more files.
+use Rattle.std.proofs.Common.{◌≡◌, ℕ, ◌≤◌, false, take, Option, ap, ◌∙◌, arith}
+use Rattle.tl_fault.specs.RefusalValue.{RefusalValue}
+use Rattle.tl_io.specs.Causes.{Rose}
+use Rattle.tl_io.specs.Shelf.{Files, ShelfSeen}
+use Rattle.cmd_base.specs.Outside.{Outside}
+use Rattle.cmd_base.specs.Walk.{Reading, Walk}
+use Rattle.cmd_base.specs.Refusals.{too_long}
+use Rattle.cmd_base.specs.Ends.{Told, IsTooLongAt, IsRefusedAt, IsFaultAt, Explains, Ends}
+use Rattle.cmd_base.specs.declared.outcome.File.{File}
+use Rattle.cmd_base.specs.declared.outcome.Outcome.{Outcome}
+use Rattle.cmd_base.specs.declared.outcome.Outcome.TheVariants as outcome
+
+-- a count that rose from a later one rose
+pub Rose_from : (first mid last : ℕ) → first ≤ mid → Rose mid last → Rose first last
+Rose_from first mid last h r = omega arith
+
+-- What explains an outcome from a later state of the shelf does from an earlier one.
+module _ (reading : Reading) (old mid new : ShelfSeen) (later : old.read_faults ≤ mid.read_faults) (same : mid.files ≡ old.files) where
+  long_from : (f : File) → IsTooLongAt reading mid new f → IsTooLongAt reading old new f
+  long_from f h = record { given = h.given; is_read = h.is_read; is = λ files told. h.is files (same ∙ told); settled = λ files told. h.settled files (same ∙ told) }
+
+  refused_from : (f : File) (r : RefusalValue) → IsRefusedAt reading mid new f r → IsRefusedAt reading old new f r
+  refused_from f r h = record { given = h.given; is = λ files told. h.is files (same ∙ told); settled = λ files told. h.settled files (same ∙ told) }
+
+  fault_from : (f : File) → IsFaultAt reading mid new f → IsFaultAt reading old new f
+  fault_from f h = record {
+    given = h.given;
+    is_read = h.is_read;
+    fault = record { rose = Rose_from old.read_faults mid.read_faults new.read_faults later h.fault.rose; rose_since = h.fault.rose_since; told = h.fault.told };
+    reached = λ files told. h.reached files (same ∙ told);
+  }
+
+  pub Explains_from : (o : Outcome) → Explains reading mid new o → Explains reading old new o
+  Explains_from (outcome.TooLong f) h = long_from f h
+  Explains_from (outcome.Refused f r) h = refused_from f r h
+  Explains_from (outcome.ReadFault f) h = fault_from f h
+  Explains_from outcome.Memory h = h
+  Explains_from outcome.Done h = h
+  Explains_from outcome.Usage h = h
+  Explains_from outcome.WriteFault h = h
+  Explains_from outcome.PortFault h = h
+
+-- A job that was not begun leaves what is outside as it was.
+module _ (walk : Walk) (old new : ShelfSeen) (before after : Outside) (same : after ≡ before) (not_writing : walk.WritesFiles → new.is_writing ≡ false) where
+  pub explained_ends : (o : Outcome) → Explains walk.reading old new o → Ends walk old new before after o
+  explained_ends (outcome.TooLong f) h = (h, same)
+  explained_ends (outcome.Refused f r) h = (h, same)
+  explained_ends (outcome.ReadFault f) h = (h, same)
+  explained_ends outcome.Memory h = (same, not_writing)
+  explained_ends outcome.Done h = absurd h
+  explained_ends outcome.Usage h = absurd h
+  explained_ends outcome.WriteFault h = absurd h
+  explained_ends outcome.PortFault h = absurd h
+
+-- a reading is part of another: its files have the same words there, and what ends it ends the other
+pub record IsPart (part whole : Reading) (told : Option Files) : Type 0 where
+  pub read : (f : File) → part.IsRead f → whole.IsRead f
+  pub word : (f : File) → part.IsRead f → part.word f ≡ whole.word f
+  pub given : (f : File) (n : ℕ) → part.HasGiven f n → whole.HasGiven f n
+  pub reaches : Told told (λ files. (f : File) → part.IsRead f → part.Reaches files f → whole.Reaches files f)
+  pub refused : Told told (λ files. (f : File) (r : RefusalValue) → part.IsRefused files f r → whole.IsRefused files f r)
+  pub settled : Told told (λ files. (f : File) (r : RefusalValue) → part.IsSettled files → part.IsRefused files f r → whole.IsSettled files)
+
+-- What explains an outcome by a part explains it by the whole.
+module _ (part whole : Reading) (old new : ShelfSeen) (is_part : IsPart part whole old.files) where
+  long_lift : (f : File) → IsTooLongAt part old new f → IsTooLongAt whole old new f
+  long_lift f h = record {
+    given = h.given;
+    is_read = is_part.read f h.is_read;
+    is = λ files told. is_part.refused files told f too_long (h.is files told);
+    settled = λ files told. is_part.settled files told f too_long (h.settled files told) (h.is files told);
+  }
+
+  refused_lift : (f : File) (r : RefusalValue) → IsRefusedAt part old new f r → IsRefusedAt whole old new f r
+  refused_lift f r h = record {
+    given = is_part.given f new.given h.given;
+    is = λ files told. is_part.refused files told f r (h.is files told);
+    settled = λ files told. is_part.settled files told f r (h.settled files told) (h.is files told);
+  }
+
+  fault_lift : (f : File) → IsFaultAt part old new f → IsFaultAt whole old new f
+  fault_lift f h = record {
+    given = is_part.given f new.given h.given;
+    is_read = is_part.read f h.is_read;
+    fault = record { rose = h.fault.rose; rose_since = h.fault.rose_since; told = h.fault.told ∙ ap (λ name. take 4096 name) (is_part.word f h.is_read) };
+    reached = λ files told. is_part.reaches files told f h.is_read (h.reached files told);
+  }
+
+  pub Explains_lift : (o : Outcome) → Explains part old new o → Explains whole old new o
+  Explains_lift (outcome.TooLong f) h = long_lift f h
+  Explains_lift (outcome.Refused f r) h = refused_lift f r h
+  Explains_lift (outcome.ReadFault f) h = fault_lift f h
+  Explains_lift outcome.Memory h = h
+  Explains_lift outcome.Done h = h
+  Explains_lift outcome.Usage h = h
+  Explains_lift outcome.WriteFault h = h
+  Explains_lift outcome.PortFault h = h

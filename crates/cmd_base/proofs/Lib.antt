@@ -1,0 +1,3 @@
+pub mod PutLemmas
+mod SpacedLemmas
+pub mod EndLemmas

@@ -1,0 +1,47 @@
+-- What a job that writes files makes of what is outside: first its files, in their order, and then its line.
+use Rattle.std.specs.Prelude.{◌≡◌, ◌≤◌, ◌⊎◌, ℕ, List, [], ◌∷◌, ◌++◌, length, take, Option}
+use Rattle.tl_io.specs.Content.{extended}
+use Rattle.tl_io.specs.Shelf.{Files, with_file}
+use Rattle.cmd_base.specs.Outside.{Outside}
+
+-- a file's name and its bytes
+pub record FileText : Type 0 where
+  pub name : List ℕ
+  pub bytes : List ℕ
+
+-- the files, with these put there one after the other
+abbrev pub with_texts : Option Files → List FileText → Option Files
+with_texts files [] = files
+with_texts files (text ∷ texts) = with_texts (with_file files text.name text.bytes) texts
+
+-- a file has a prefix of its bytes, or is as before; all others are as before
+abbrev pub HasPrefix : FileText → Option Files → Option Files → Type 0
+HasPrefix text old new = (new ≡ old) ⊎ ((n : ℕ) × (n ≤ length text.bytes) × (new ≡ with_file old text.name (take n text.bytes)))
+
+module _ (texts : List FileText) (line : List ℕ) (old new : Outside) where
+  -- the files have their bytes, and the line was put
+  pub record AreWritten : Type 0 where
+    pub files : new.files ≡ with_texts old.files texts
+    pub bytes : new.bytes ≡ extended old.bytes line
+    pub ports : new.ports ≡ old.ports
+
+  -- a fault of writing in a file: those before it are whole, those after it as they were, and no byte of the line was put
+  pub record IsCutInFile : Type 0 where
+    pub before : List FileText
+    pub cut : FileText
+    pub after : List FileText
+    pub split : texts ≡ before ++ cut ∷ after
+    pub files : HasPrefix cut (with_texts old.files before) new.files
+    pub bytes : new.bytes ≡ old.bytes
+    pub ports : new.ports ≡ old.ports
+
+  -- a fault of writing in the line: all files are whole, and a prefix of the line stands
+  pub record IsCutInLine : Type 0 where
+    pub part : ℕ
+    pub within : part ≤ length line
+    pub files : new.files ≡ with_texts old.files texts
+    pub bytes : new.bytes ≡ extended old.bytes (take part line)
+    pub ports : new.ports ≡ old.ports
+
+  abbrev pub IsCut : Type 0
+  IsCut = IsCutInFile ⊎ IsCutInLine

@@ -1,0 +1,58 @@
+//! How a call ends.
+ghost use Rattle.std.specs.Prelude.{◌≡◌};
+ghost use Rattle.cmd_base.specs.Statuses.{refusal_status as status_of_refusal, status_of};
+
+use crate::status::Status;
+use tl_fault::Refusal;
+
+/// A file that a job reads.
+#[derive(Clone, Copy, Debug, PartialEq, Eq)]
+pub enum File {
+    Netlist,
+    Params,
+    Script,
+    Pack,
+}
+
+/// How a call ends.
+#[derive(Debug, Drop)]
+pub enum Outcome {
+    Done,
+    Usage,
+    /// L1: the file has more bytes than one of its kind may have, a text 2^26 and a pack 2^29.
+    TooLong(File),
+    /// The file, or the circuit that a netlist denotes, is refused for another reason.
+    Refused(File, Refusal),
+    ReadFault(File),
+    WriteFault,
+    PortFault,
+    Memory,
+}
+
+// The status of a refusal: a limit, or a text that is refused.
+fn refusal_status(refusal: &Refusal) -> Status
+    ensures { result ≡ status_of_refusal refusal.now }
+{
+    if refusal.is_limit() {
+        return Status::Limit;
+    }
+    Status::Refused
+}
+
+impl Outcome {
+    /// The status that the program ends with.
+    pub fn status(&self) -> Status
+        ensures { result ≡ status_of self.now }
+    {
+        match self {
+            Outcome::Done => Status::Done,
+            Outcome::Usage => Status::Usage,
+            Outcome::TooLong(_) => Status::Limit,
+            Outcome::Refused(_, refusal) => refusal_status(refusal),
+            Outcome::ReadFault(_) => Status::ReadFault,
+            Outcome::WriteFault => Status::WriteFault,
+            Outcome::PortFault => Status::PortFault,
+            Outcome::Memory => Status::Memory,
+        }
+    }
+}

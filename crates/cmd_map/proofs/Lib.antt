@@ -1,0 +1,4 @@
+mod MachineReplayLemmas
+mod SpecLemmas
+mod MapLemmas
+pub mod SourceWalkLemmas

@@ -1,0 +1,93 @@
+-- The pack of a source circuit's tables is played as their machine plays it.
+use Rattle.std.proofs.Common.{◌≡◌, ℕ, Bool, List, [], ◌∷◌, ◌++◌, refl, sym, ap, ◌∙◌, subst, inl, inr}
+use Rattle.list_laws.specs.Members.{In}
+use Rattle.list_laws.proofs.Members.{In-left, In-push, In-pushed}
+use Rattle.aig_core.specs.Aig.{Aig}
+use Rattle.aig_core.specs.Roots.{roots_of}
+use Rattle.cover_pick.specs.Template.{TemplateValue}
+use Rattle.cover_pick.specs.Mapping.{IsMapping}
+use Rattle.ppc_pack.specs.Pack.{PackValue, IsConf}
+use Rattle.ppc_file.specs.PackFile.{IsPackFile, AreSame}
+use Rattle.bit_fun.specs.PackOf.{BitsMade, IsPackOf}
+use Rattle.bit_fun.proofs.PackLemmas.{has_one_pack}
+use Rattle.run_text.specs.EventValue.{EventValue, Set, Cycle, Upset, Scrub, Image}
+use Rattle.run_core.specs.Events.{MachineValue}
+use Rattle.run_core.specs.EventLines.{event_line, host_line}
+use Rattle.run_core.specs.Fits.{IsOfHost}
+use Rattle.spec_core.specs.Specialiser.{SpecialiserValue}
+use Rattle.cmd_stations.specs.declared.source.Source.{Source}
+use Rattle.cmd_stations.specs.Mapped.{IsMapped}
+use Rattle.cmd_stations.specs.Tunable.{IsTunable}
+use Rattle.cmd_stations.specs.Machine.{Job}
+use Rattle.cmd_stations.specs.Machine.{IsStart, Stage, AreSteps, none as no_step, more as one_more}
+use Rattle.cmd_stations.specs.Host.{IsHostStart, AreHostSteps, none, more}
+use Rattle.cmd_map.specs.Map.Replay.{ReplaysMachine}
+use Rattle.cmd_stations.proofs.GraphLemmas.{same_graph}
+use Rattle.cmd_stations.proofs.ShowLemmas.{pack_inits}
+use Rattle.cmd_stations.proofs.ReplayLemmas.{same_packs_replay, same_both, file_same, pack_at}
+use Rattle.cmd_stations.specs.Packs.{present_bytes}
+
+-- the packs of a source circuit's tables are the same
+tunable_same : (source : Source) (k : ℕ) (template : TemplateValue) (p q : PackValue) → IsMapped source k template → IsTunable source template p → IsTunable source template q → AreSame p q
+tunable_same source k template p q mapped a b =
+    let list = source.params.list in
+    let here = same_graph source a.one_graph mapped.graph a.graph mapped.roots a.roots mapped.is_graph a.is_graph in
+    let there = same_graph source a.one_graph b.graph a.graph b.roots a.roots b.is_graph a.is_graph in
+    let other : IsPackOf a.graph template.luts list q = subst (λ (g : Aig). IsPackOf g template.luts list q) there b.pack_is in
+    let one = has_one_pack a.graph template.luts list (record {
+      k = k;
+      roots = roots_of mapped.roots;
+      bits = template.bits;
+      mapping = subst (λ (g : Aig). IsMapping g k (roots_of mapped.roots) template.luts template.bits) here mapped.chosen.mapping;
+    }) in
+    let made : a.pack_is.made ≡ other.made = one.only a.pack_is.made other.made a.pack_is.makes other.makes in
+    record {
+      params = a.pack_is.params_are ∙ sym other.params_are;
+      kinds = a.pack_is.kinds ∙ sym other.kinds;
+      pairs = a.pack_is.pairs ∙ (ap (λ (m : BitsMade). m.pairs) made ∙ sym other.pairs);
+      bits = a.pack_is.bits ∙ (ap (λ (m : BitsMade). m.bits) made ∙ sym other.bits);
+    }
+
+-- the host of a machine at the start is one of its pack
+machine_host : (job : Job) (m : MachineValue) → IsStart job m → IsHostStart m.host.pack m.host
+machine_host job m start =
+    let inits = pack_inits start.pack.graph job.template.luts job.source.params.list m.host.pack start.pack.pack_is in
+    record {
+      pack = refl;
+      one_config = start.one_config;
+      params = start.params ∙ sym inits;
+      config = subst (λ (vs : List Bool). IsConf m.host.pack vs m.host.state.config) (sym inits) start.config;
+    }
+
+-- an event of the host has the host's line
+line_of_host : (event : EventValue) (m : MachineValue) → IsOfHost event → event_line event m ≡ host_line event m.host
+line_of_host (Set assigns) m of_host = refl
+line_of_host (Cycle values) m of_host = absurd of_host
+line_of_host (Upset address) m of_host = refl
+line_of_host Scrub m of_host = refl
+line_of_host Image m of_host = refl
+
+-- so a machine plays such events as its host does
+host_steps : {old stage : Stage} {events : List EventValue} {lines : List (List ℕ)} → AreSteps old events lines stage → ((event : EventValue) → In events event → IsOfHost event) → AreHostSteps old.machine.host events lines stage.machine.host
+host_steps no_step of_host = none
+host_steps {old} (one_more {events = events} {lines = lines} {mid = mid} {new = new} event steps step) of_host =
+    let here = of_host event (In-pushed events event) in
+    let before = host_steps steps (λ e i. of_host e (In-left events (event ∷ []) e i)) in
+    subst (λ line. AreHostSteps old.machine.host (events ++ event ∷ []) (lines ++ line ∷ []) new.machine.host) (sym (line_of_host event new.machine here))
+    (more event before (record { of_host = here; played = step.played.host; steady = step.steady }))
+
+-- and all events that a host plays are such
+steps_of_host : {h k : SpecialiserValue} {events : List EventValue} {lines : List (List ℕ)} → AreHostSteps h events lines k → (event : EventValue) → In events event → IsOfHost event
+steps_of_host none event i = absurd i
+steps_of_host (more {events = events} last steps step) event i = elim (In-push events last event i) [ inl before ↦ steps_of_host steps event before | inr is ↦ subst (λ e. IsOfHost e) (sym is) step.of_host ]
+
+-- A pack of a source circuit's tables, whose file in version 2 is its own, replays on their machine.
+pub replays_machine : (source : Source) (k : ℕ) (template : TemplateValue) (pack : PackValue) → IsMapped source k template → IsTunable source template pack → IsPackFile (present_bytes pack) pack → ReplaysMachine source template pack
+replays_machine source k template pack mapped tunable file = record {
+  file = file;
+  lines = λ files name p at has h end events lines here steps script m start ports machine_lines stage come.
+      let first : AreSame p pack = file_same (present_bytes pack) p pack (pack_at files name (present_bytes pack) p at has) file in
+      let second : AreSame pack m.host.pack = tunable_same source k template pack m.host.pack mapped tunable start.pack in
+      (same_packs_replay p m.host.pack (same_both p m.host.pack pack first second)).are h m.host here (machine_host (record { source = source; template = template; events = script }) m start) events lines machine_lines end stage.machine.host
+      steps (host_steps come.steps (steps_of_host steps));
+}

@@ -1,0 +1,62 @@
+-- A job of `map`: a source circuit that is mapped is accepted, and its written template and pack are the verdict's, whole or cut off.
+use Rattle.std.proofs.Common.{◌≡◌, ◌≤◌, List, [], ◌∷◌, ℕ, Option, Some, sym, subst}
+use Rattle.tl_text.specs.declared.logical_lines.TheConstants.{MOST_BYTES}
+use Rattle.tl_io.specs.Port.{PortSeen}
+use Rattle.tl_io.specs.Shelf.{Files, ShelfSeen}
+use Rattle.ppc_file.specs.PackFile.{IsPackFile}
+use Rattle.blif_write.specs.PlainNetlist.{netlist_text}
+use Rattle.cmd_base.specs.Outside.{outside}
+use Rattle.cmd_base.specs.Writing.{FileText, AreWritten, IsCut}
+use Rattle.cmd_base.specs.Ends.{Told, IsBegun, IsBegunFrom, Ends}
+use Rattle.cmd_base.specs.declared.outcome.Outcome.TheVariants as outcome
+use Rattle.cmd_stations.specs.declared.mapped.MappedSource.{MappedSource}
+use Rattle.cmd_stations.specs.Mapped.{template_header}
+use Rattle.cmd_stations.specs.Tables.{AreMade, ComesPast}
+use Rattle.cmd_stations.specs.Written.{IsTuned, template_of}
+use Rattle.cmd_map.specs.Map.Words.{MapWords}
+use Rattle.cmd_map.specs.Map.Verdict.{HasMap, map_walk}
+use Rattle.cmd_map.proofs.MachineReplayLemmas.{replays_machine}
+use Rattle.cmd_stations.specs.Packs.{present_bytes}
+
+map_begun : (files : Files) (words : MapWords) (m : MappedSource) → ComesPast files words.source m → IsBegun (map_walk words) files
+map_begun files words m past = record { accepted = record { source = m.source; template = m.tables.template; has = past.has }; settled = past.settled }
+
+-- what is written
+abbrev texts : MappedSource → List ℕ → List ℕ → List FileText
+texts m template pack = record { name = template; bytes = netlist_text (template_of m.source m.tables.template) } ∷ record { name = pack; bytes = present_bytes m.tables.pack } ∷ []
+
+-- a job that came past its mapping, and wrote
+module _ (m : MappedSource) (made : AreMade m.source m.tables) (means : IsTuned m.source m.tables.template m.tables.pack (template_of m.source m.tables.template))
+    (file : IsPackFile (present_bytes m.tables.pack) m.tables.pack) (words : MapWords) (old mid new : ShelfSeen) (same : mid.files ≡ old.files) (few : mid.given ≤ MOST_BYTES) (given : new.given ≡ mid.given) (comes : Told old.files (λ files. ComesPast files words.source m))
+    (before after : Option (List ℕ)) (ports : List PortSeen) where
+  begun_from : IsBegunFrom (map_walk words) old new
+  begun_from = record { given = subst (λ n. n ≤ MOST_BYTES) (sym given) few; begun = λ files told. map_begun files words m (comes files told) }
+
+  has_map : (files : Files) → old.files ≡ Some files → (P : List FileText → List ℕ → Type 0) → P (texts m words.template words.pack) (template_header m.tables.template) → HasMap files words P
+  has_map files told P ends =
+      record {
+        source = m.source;
+        template = m.tables.template;
+        mapped = (comes files told).has;
+        pack = m.tables.pack;
+        tunable = made.tunable;
+        ends = ends;
+        means = means;
+        replays = replays_machine m.source words.source.k m.tables.template m.tables.pack (comes files told).has.mapped made.tunable file;
+      }
+
+  pub map_done : AreWritten (texts m words.template words.pack) (template_header m.tables.template) (outside mid.files before ports) (outside new.files after ports)
+      → Ends (map_walk words) old new (outside old.files before ports) (outside new.files after ports) outcome.Done
+  map_done all = (
+    begun_from,
+    λ files told. has_map files told (λ ts line. AreWritten ts line (outside old.files before ports) (outside new.files after ports))
+        (subst (λ fs. AreWritten (texts m words.template words.pack) (template_header m.tables.template) (outside fs before ports) (outside new.files after ports)) same all),
+  )
+
+  pub map_cut : IsCut (texts m words.template words.pack) (template_header m.tables.template) (outside mid.files before ports) (outside new.files after ports)
+      → Ends (map_walk words) old new (outside old.files before ports) (outside new.files after ports) outcome.WriteFault
+  map_cut part = (
+    begun_from,
+    λ files told. has_map files told (λ ts line. IsCut ts line (outside old.files before ports) (outside new.files after ports))
+        (subst (λ fs. IsCut (texts m words.template words.pack) (template_header m.tables.template) (outside fs before ports) (outside new.files after ports)) same part),
+  )

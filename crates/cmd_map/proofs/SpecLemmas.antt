@@ -1,0 +1,75 @@
+-- A job of `spec`: a source circuit that is mapped is accepted, and its written netlist is the verdict's, whole or cut off.
+use Rattle.std.proofs.Common.{◌≡◌, ◌≤◌, Bool, List, [], ◌∷◌, ℕ, length, Option, Some, sym, subst}
+use Rattle.std.proofs.lemmas.List.{length-map}
+use Rattle.tl_text.specs.declared.logical_lines.TheConstants.{MOST_BYTES}
+use Rattle.tl_io.specs.Port.{PortSeen}
+use Rattle.tl_io.specs.Shelf.{Files, ShelfSeen}
+use Rattle.aig_core.specs.Aig.{Aig}
+use Rattle.param_list.specs.declared.params.Param.{Param}
+use Rattle.param_list.specs.Parameters.{param_inits}
+use Rattle.ppc_pack.specs.Pack.{IsConf}
+use Rattle.bit_fun.specs.Configuration.{IsConfiguration}
+use Rattle.blif_write.specs.PlainNetlist.{netlist_text}
+use Rattle.cmd_base.specs.Outside.{outside}
+use Rattle.cmd_base.specs.Writing.{FileText, AreWritten, IsCut}
+use Rattle.cmd_base.specs.Ends.{Told, IsBegun, IsBegunFrom, Ends}
+use Rattle.cmd_base.specs.declared.outcome.Outcome.TheVariants as outcome
+use Rattle.cmd_stations.specs.declared.mapped.MappedSource.{MappedSource}
+use Rattle.cmd_stations.specs.Mapped.{template_header}
+use Rattle.cmd_stations.specs.Tables.{AreMade, ComesPast}
+use Rattle.cmd_stations.specs.Written.{RunsAs, specialised_of}
+use Rattle.cmd_map.specs.Spec.Words.{SpecWords}
+use Rattle.cmd_map.specs.Spec.Verdict.{HasSpec, spec_walk}
+use Rattle.cmd_stations.proofs.GraphLemmas.{same_graph}
+use Rattle.cmd_stations.proofs.InitLemmas.{init_params}
+
+spec_begun : (files : Files) (words : SpecWords) (m : MappedSource) → ComesPast files words.source m → IsBegun (spec_walk words) files
+spec_begun files words m past = record { accepted = record { source = m.source; template = m.tables.template; has = past.has }; settled = past.settled }
+
+-- what is written under a configuration of the listed values
+module _ (m : MappedSource) (made : AreMade m.source m.tables) (config : List Bool) (conf : IsConf m.tables.pack (param_inits m.source.params.list) config) where
+  abbrev texts : List ℕ → List FileText
+  texts name = record { name = name; bytes = netlist_text (specialised_of m.source m.tables.template config) } ∷ []
+
+  -- it is the configuration specialised from scratch
+  config_is : (files : Files) (words : SpecWords) (past : ComesPast files words.source m) → IsConfiguration past.has.mapped.graph m.tables.template.luts (param_inits m.source.params.list) config
+  config_is files words past =
+      subst (λ (g : Aig). IsConfiguration g m.tables.template.luts (param_inits m.source.params.list) config)
+      (same_graph m.source made.tunable.one_graph made.tunable.graph past.has.mapped.graph made.tunable.roots past.has.mapped.roots made.tunable.is_graph past.has.mapped.is_graph)
+      (made.tunable.configurations.is (param_inits m.source.params.list) config (init_params m.source m.tables.template m.tables.pack made.tunable) conf)
+
+  -- a job that came past its mapping, and wrote
+  module _ (means : (params : List Bool) → length params ≡ length m.source.params.list → IsConf m.tables.pack params config → RunsAs m.source params (specialised_of m.source m.tables.template config))
+      (words : SpecWords) (old mid new : ShelfSeen) (same : mid.files ≡ old.files) (few : mid.given ≤ MOST_BYTES) (given : new.given ≡ mid.given) (comes : Told old.files (λ files. ComesPast files words.source m))
+      (before after : Option (List ℕ)) (ports : List PortSeen) where
+    begun_from : IsBegunFrom (spec_walk words) old new
+    begun_from = record { given = subst (λ n. n ≤ MOST_BYTES) (sym given) few; begun = λ files told. spec_begun files words m (comes files told) }
+
+    has_spec : (files : Files) → old.files ≡ Some files → (P : List FileText → List ℕ → Type 0) → P (texts words.out) (template_header m.tables.template) → HasSpec files words P
+    has_spec files told P ends =
+        let past = comes files told in
+        record {
+          source = m.source;
+          template = m.tables.template;
+          mapped = past.has;
+          config = config;
+          is_config = config_is files words past;
+          ends = ends;
+          means = means (param_inits m.source.params.list) (length-map m.source.params.list (λ (p : Param). p.init)) conf;
+        }
+
+    pub spec_done : AreWritten (texts words.out) (template_header m.tables.template) (outside mid.files before ports) (outside new.files after ports)
+        → Ends (spec_walk words) old new (outside old.files before ports) (outside new.files after ports) outcome.Done
+    spec_done all = (
+      begun_from,
+      λ files told. has_spec files told (λ ts line. AreWritten ts line (outside old.files before ports) (outside new.files after ports))
+          (subst (λ fs. AreWritten (texts words.out) (template_header m.tables.template) (outside fs before ports) (outside new.files after ports)) same all),
+    )
+
+    pub spec_cut : IsCut (texts words.out) (template_header m.tables.template) (outside mid.files before ports) (outside new.files after ports)
+        → Ends (spec_walk words) old new (outside old.files before ports) (outside new.files after ports) outcome.WriteFault
+    spec_cut part = (
+      begun_from,
+      λ files told. has_spec files told (λ ts line. IsCut ts line (outside old.files before ports) (outside new.files after ports))
+          (subst (λ fs. IsCut (texts words.out) (template_header m.tables.template) (outside fs before ports) (outside new.files after ports)) same part),
+    )

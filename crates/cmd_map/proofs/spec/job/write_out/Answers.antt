@@ -1,0 +1,25 @@
+use Rattle.std.proofs.Common.{[], ◌∷◌, refl}
+use Rattle.blif_write.specs.PlainNetlist.{netlist_text}
+use Rattle.run_core.proofs.TableLemmas.{tables_within_bits}
+use Rattle.cmd_base.specs.Writing.{FileText}
+use Rattle.cmd_stations.specs.Mapped.{template_header}
+use Rattle.cmd_stations.specs.Written.{specialised_of}
+use Rattle.cmd_stations.proofs.WriteAllLemmas.{cut_in_file, line_ends}
+use Rattle.cmd_map.proofs.spec.job.write_out.Goals as goal
+
+pub returns-in-Err-clause-ends : goal.returns-in-Err-clause-ends
+returns-in-Err-clause-ends g c ports =
+    let m = c.args.draft.now.mapped in
+    let text : FileText = record { name = c.args.name.now; bytes = netlist_text (specialised_of m.source m.tables.template c.args.config.now) } in
+    cut_in_file [] text [] (template_header m.tables.template) (g.S.Shelf.seen c.args.shelf.now).files (g.S.Shelf.seen c.args.shelf.now).files (g.S.Shelf.seen c.write_specialised.new.shelf).files (g.O.Sink.bytes c.args.out.now) ports refl
+    c.in-Err.ensures.written
+
+pub returns-in-Ok-clause-ends : goal.returns-in-Ok-clause-ends
+returns-in-Ok-clause-ends g c ports =
+    let m = c.args.draft.now.mapped in
+    let text : FileText = record { name = c.args.name.now; bytes = netlist_text (specialised_of m.source m.tables.template c.args.config.now) } in
+    line_ends (text ∷ []) (template_header m.tables.template) (g.S.Shelf.seen c.args.shelf.now).files (g.S.Shelf.seen c.write_specialised.new.shelf).files (g.O.Sink.bytes c.args.out.now) (g.O.Sink.bytes c.put_template_header.new.out) ports
+    c.put_template_header.result c.in-Ok.ensures.written c.put_template_header.ensures.grown
+
+pub put_template_header-requires : goal.put_template_header-requires
+put_template_header-requires g c = tables_within_bits c.args.draft.now.mapped.tables.template c.args.draft.now.mapped.tables.shape c.requires.made.playable

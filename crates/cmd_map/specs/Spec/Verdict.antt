@@ -1,0 +1,37 @@
+-- The walk of `spec`.
+use Rattle.std.specs.Prelude.{ℕ, Bool, List, [], ◌∷◌}
+use Rattle.tl_io.specs.Shelf.{Files}
+use Rattle.cover_pick.specs.Template.{TemplateValue}
+use Rattle.bit_fun.specs.Configuration.{IsConfiguration}
+use Rattle.param_list.specs.Parameters.{param_inits}
+use Rattle.blif_write.specs.PlainNetlist.{netlist_text}
+use Rattle.cmd_base.specs.Walk.{Walk}
+use Rattle.cmd_base.specs.Writing.{FileText, AreWritten, IsCut}
+use Rattle.cmd_stations.specs.declared.source.Source.{Source}
+use Rattle.cmd_stations.specs.Mapped.{template_header}
+use Rattle.cmd_stations.specs.Source.{HasMapped, IsMappedFrom}
+use Rattle.cmd_stations.specs.Settled.{source_reading}
+use Rattle.cmd_stations.specs.Written.{RunsAs, specialised_of}
+use Rattle.cmd_map.specs.Spec.Words.{SpecWords}
+
+-- The source circuit that the files hold was mapped. The file has the netlist of its tables under the configuration of the listed values, specialised from scratch; read again, it runs as the source circuit under these values.
+pub record HasSpec (files : Files) (words : SpecWords) (Ends : List FileText → List ℕ → Type 0) : Type 0 where
+  pub source : Source
+  pub template : TemplateValue
+  pub mapped : HasMapped files words.source source template
+  pub config : List Bool
+  pub is_config : IsConfiguration mapped.mapped.graph template.luts (param_inits source.params.list) config
+  pub ends : Ends (record { name = words.out; bytes = netlist_text (specialised_of source template config) } ∷ []) (template_header template)
+  pub means : RunsAs source (param_inits source.params.list) (specialised_of source template config)
+
+abbrev pub spec_walk : SpecWords → Walk
+spec_walk words = record {
+  reading = source_reading words.source;
+  IsAccepted = λ files. IsMappedFrom files words.source;
+  IsDone = λ files old new. HasSpec files words (λ texts line. AreWritten texts line old new);
+  IsCutOff = λ files old new. HasSpec files words (λ texts line. IsCut texts line old new);
+  IsLost = λ files old new. ⊥;
+  Shows = λ files old new. Unit {0};
+  WritesFiles = Unit {0};
+  HasPortFault = λ old new. ⊥;
+}

@@ -1,0 +1,91 @@
+//! The command `spec`.
+ghost use Rattle.std.specs.Prelude.{◌≡◌, ◌⊎◌, [], ◌∷◌, Bool, List, length, IfOk, OnErr};
+ghost use Rattle.tl_io.specs.Causes.{Rose};
+ghost use Rattle.tl_io.specs.Port.{PortSeen};
+ghost use Rattle.param_list.specs.Parameters.{param_inits};
+ghost use Rattle.ppc_pack.specs.Pack.{IsConf};
+ghost use Rattle.blif_write.specs.PlainNetlist.{netlist_text};
+ghost use Rattle.cmd_base.specs.Outside.{outside};
+ghost use Rattle.cmd_base.specs.Ends.{Ends};
+ghost use Rattle.cmd_base.specs.WalkLaws.{HasLaws};
+ghost use Rattle.cmd_stations.specs.Words.{IsTableSize};
+ghost use Rattle.cmd_stations.specs.Mapped.{template_header};
+ghost use Rattle.cmd_stations.specs.Written.{RunsAs, specialised_of};
+ghost use Rattle.cmd_stations.specs.FileWrites.{WritesAll};
+ghost use Rattle.cmd_stations.specs.Drafts.{IsDraft};
+ghost use Rattle.cmd_map.specs.Spec.Words.{spec_seen};
+ghost use Rattle.cmd_map.specs.Spec.Verdict.{spec_walk};
+
+use crate::spec::words::SpecWords;
+use cmd_base::Outcome;
+use cmd_stations::{Draft, put_template_header, read_draft, write_specialised};
+use run_text::Param;
+use std::alloc::{AllocError, Global};
+use tl_io::{Failed, Shelf, Sink};
+
+// The listed values of parameters.
+fn listed_values(alloc: Global, params: &[Param]) -> Result<Vec<bool>, AllocError>
+    ensures { IfOk result (λ values. values.items ≡ param_inits params.now) }
+{
+    let mut values = Vec::with_capacity(alloc, params.len())?;
+    for param in params {
+        values.push(param.init)?;
+    }
+    Ok(values)
+}
+
+// The configuration of the listed values.
+fn listed_config(alloc: Global, draft: &Draft) -> Result<Vec<bool>, AllocError>
+    requires { IsDraft draft.now }
+    ensures { IfOk result (λ config. IsConf draft.now.mapped.tables.pack (param_inits draft.now.mapped.source.params.list) config.items) }
+{
+    let values = listed_values(alloc, &draft.mapped.source.params.list)?;
+    let config = draft.mapped.tables.pack.conf(alloc, &values)?;
+    Ok(config)
+}
+
+// Writes the specialised netlist, and puts the header line.
+fn write_out<S: Shelf, O: Sink>(
+    draft: &mut Draft,
+    config: &[bool],
+    name: &str,
+    shelf: &mut S,
+    out: &mut O,
+) -> Result<(), Failed>
+    requires { IsDraft draft.old }
+    ensures ends { (ports : List PortSeen) → WritesAll (record { name = name.now; bytes = netlist_text (specialised_of draft.old.mapped.source draft.old.mapped.tables.template config.now) } ∷ []) (template_header draft.old.mapped.tables.template) (outside (S.seen shelf.old).files (O.bytes out.old) ports) (outside (S.seen shelf.new).files (O.bytes out.new) ports) result }
+    ensures cause { OnErr result (Rose (O.faults out.old) (O.faults out.new) ⊎ Rose (S.seen shelf.old).write_faults (S.seen shelf.new).write_faults) }
+    ensures given { (S.seen shelf.new).given ≡ (S.seen shelf.old).given }
+    ensures means { (params : List Bool) → length params ≡ length draft.old.mapped.source.params.list → IsConf draft.old.mapped.tables.pack params config.now → RunsAs draft.old.mapped.source params (specialised_of draft.old.mapped.source draft.old.mapped.tables.template config.now) }
+{
+    match write_specialised(draft, config, name, shelf) {
+        Ok(()) => put_template_header(&draft.mapped.tables.template, &mut draft.buf, out),
+        Err(failed) => Err(failed),
+    }
+}
+
+/// Runs the command: maps a source circuit, and writes its tables under the configuration of the listed values.
+pub fn spec_job<S: Shelf, O: Sink>(
+    alloc: Global,
+    words: &SpecWords,
+    shelf: &mut S,
+    out: &mut O,
+) -> Outcome
+    requires { IsTableSize words.now.source.k }
+    ensures ends { (ports : List PortSeen) → Ends (spec_walk (spec_seen words.now)) (S.seen shelf.old) (S.seen shelf.new) (outside (S.seen shelf.old).files (O.bytes out.old) ports) (outside (S.seen shelf.new).files (O.bytes out.new) ports) result }
+    ensures write_fault { result ≡ Outcome.WriteFault → Rose (O.faults out.old) (O.faults out.new) ⊎ Rose (S.seen shelf.old).write_faults (S.seen shelf.new).write_faults }
+    ensures laws { HasLaws (spec_walk (spec_seen words.now)) }
+{
+    let mut draft = match read_draft(alloc, &words.source, shelf) {
+        Ok(draft) => draft,
+        Err(outcome) => return outcome,
+    };
+    let config = match listed_config(alloc, &draft) {
+        Ok(config) => config,
+        Err(_) => return Outcome::Memory,
+    };
+    match write_out(&mut draft, &config, words.out, shelf, out) {
+        Ok(()) => Outcome::Done,
+        Err(_) => Outcome::WriteFault,
+    }
+}

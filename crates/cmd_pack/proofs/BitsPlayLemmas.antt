@@ -1,0 +1,147 @@
+-- The playing of a script on a pack: what can be played, what stands behind some events, and how it ends at the next one.
+use Rattle.std.proofs.Common.{◌≡◌, ℕ, ◌+◌, ◌≤◌, List, [], ◌∷◌, ◌++◌, length, take, Option, Result, Ok, Err, refl, sym, ap, ◌∙◌, subst, inr, append_assoc, arith}
+use Rattle.std.specs.List.{concat}
+use Rattle.std.proofs.lemmas.List.{length-map}
+use Rattle.std.proofs.lemmas.Option.{none-some}
+use Rattle.list_laws.specs.Members.{In}
+use Rattle.tl_io.specs.Assigns.{AreAssigned}
+use Rattle.tl_io.specs.Causes.{Rose}
+use Rattle.tl_io.specs.Content.{extended}
+use Rattle.tl_io.specs.Port.{PortSeen}
+use Rattle.tl_io.specs.Shelf.{Files}
+use Rattle.tl_io.proofs.ContentLemmas.{extended_none}
+use Rattle.ppc_pack.specs.declared.pack.PackParam.{PackParam}
+use Rattle.ppc_pack.specs.Pack.{PackValue}
+use Rattle.run_text.specs.EventValue.{EventValue, Set, Cycle, Upset, Scrub, Image, event_values}
+use Rattle.run_text.specs.Fits.{Fits}
+use Rattle.port_bank.specs.Bank.{BankSeen}
+use Rattle.run_core.specs.declared.step_err.StepErr.{StepErr}
+use Rattle.run_core.specs.declared.step_err.StepErr.TheVariants.{WriteFault, PortFault}
+use Rattle.run_core.specs.EventLines.{host_line}
+use Rattle.run_core.specs.Ends.{IsPut, HasSinkCause, HasPlaces}
+use Rattle.run_core.specs.Fits.{FitsPack, IsOfHost}
+use Rattle.spec_core.specs.Specialiser.{SpecialiserValue}
+use Rattle.cmd_base.specs.Outside.{outside}
+use Rattle.cmd_pack.specs.declared.bits.prepare.ReadyScript.{ReadyScript}
+use Rattle.cmd_stations.specs.Packs.{HasPack, IsPackSettled, pack_names}
+use Rattle.cmd_stations.specs.Script.{HasScript, IsScriptSettled}
+use Rattle.cmd_base.specs.Ends.{IsBegun}
+use Rattle.cmd_stations.specs.Script.{IsSplit}
+use Rattle.cmd_pack.specs.Bits.Words.{BitsWords}
+use Rattle.cmd_stations.specs.Host.{IsHostStep, AreHostSteps, none, more}
+use Rattle.cmd_pack.specs.Bits.Verdict.{pack_header, HasBits, bits_walk}
+use Rattle.cmd_pack.specs.Bits.Ready.{CanPlay, IsReady, IsReadyFor, AreAllStepped, AreCut, EventsEnd, PlayEnd}
+use Rattle.cmd_stations.proofs.EventLemmas.{put_then, one_line}
+use Rattle.cmd_pack.proofs.BitsWalkLemmas.{names_settled}
+
+-- an event that a script may have on a pack alone is of the host, and can be played on the pack
+fits_host : (pack : PackValue) (event : EventValue) → Fits (pack_names pack) event → FitsPack pack event × IsOfHost event
+fits_host pack (Set assigns) fits = (subst (λ n. AreAssigned n assigns) (length-map pack.params (λ (p : PackParam). p.name)) fits, tt)
+fits_host pack (Cycle values) fits = absurd (none-some (length values) fits)
+fits_host pack (Upset address) fits = (fits, tt)
+fits_host pack Scrub fits = (tt, tt)
+fits_host pack Image fits = (tt, tt)
+
+-- so a script that is ready on a pack can be played
+pub can_play : (pack : PackValue) (events : List EventValue) (ready : ReadyScript) → IsReady pack events ready → ((event : EventValue) → In events event → Fits (pack_names pack) event) → CanPlay ready.host.pack (event_values ready.events.items)
+can_play pack events ready is fit =
+    subst (λ (p : PackValue). CanPlay p (event_values ready.events.items)) (sym is.start.pack) (subst (λ es. CanPlay pack es) (sym is.are) (record {
+      fits = λ event i. (fits_host pack event (fit event i)).0;
+      of_host = λ event i. (fits_host pack event (fit event i)).1;
+    }))
+
+-- and what its files say
+pub ready_for : (files : Files) (words : BitsWords) (pack : PackValue) (events : List EventValue) (ready : ReadyScript) → IsReady pack events ready → HasPack files words.pack pack → IsPackSettled files words.pack
+    → HasScript files words.script (pack_names pack) events → IsScriptSettled files words.script (pack_names pack) → IsReadyFor files words ready
+ready_for files words pack events ready is there settled script script_settled = record {
+  pack = pack;
+  is_job = record { pack = there; script = subst (λ es. HasScript files words.script (pack_names pack) es) (sym is.are) script };
+  start = is.start;
+  settled = record { pack = settled; script = names_settled words pack files there settled script_settled };
+}
+
+-- events were played one after the other, and the output grew by their lines
+pub record HaveCome (old : SpecialiserValue) (events : List EventValue) (before : Option (List ℕ)) (new : SpecialiserValue) (after : Option (List ℕ)) : Type 0 where
+  pub lines : List (List ℕ)
+  pub steps : AreHostSteps old events lines new
+  pub bytes : after ≡ extended before (concat lines)
+
+pub come_none : (old : SpecialiserValue) (before : Option (List ℕ)) → HaveCome old [] before old before
+come_none old before = record { lines = []; steps = none; bytes = sym (extended_none before) }
+
+pub come_more : (old mid new : SpecialiserValue) (events : List EventValue) (event : EventValue) (first before after : Option (List ℕ)) → HaveCome old events first mid before → IsHostStep event mid new → after ≡ extended before (host_line event new)
+    → HaveCome old (events ++ event ∷ []) first new after
+come_more old mid new events event first before after come step put =
+    let line = host_line event new in
+    record {
+      lines = come.lines ++ line ∷ [];
+      steps = more event come.steps step;
+      bytes = put_then first before after (concat come.lines) line come.bytes put ∙ ap (λ l. extended first l) (one_line come.lines line);
+    }
+
+pub come_all : (old new : SpecialiserValue) (events : List EventValue) (before after : Option (List ℕ)) → HaveCome old events before new after → AreAllStepped old events before after
+come_all old new events before after come = record { lines = come.lines; end = new; steps = come.steps; bytes = come.bytes }
+
+-- Where no port serves, an event that ended early ended by a fault of writing.
+module _ (ports later : BankSeen) (none_serves : length ports.serving ≡ 0) where
+  lost_none : {A : Type 0} → HasPlaces ports later (Err PortFault) → A
+  lost_none places = let lost : length later.serving + 1 ≡ length ports.serving = places.serving in absurd (omega arith)
+
+  pub events_cut : (old mid new : SpecialiserValue) (all events : List EventValue) (event : EventValue) (first before after : Option (List ℕ)) (error : StepErr) → IsSplit all events event → HaveCome old events first mid before
+      → IsHostStep event mid new → IsPut (host_line event new) before after (Err error) → HasPlaces ports later (Err error) → AreCut old all first after
+  events_cut old mid new all events event first before after WriteFault split come step put places = record {
+    first = events;
+    event = event;
+    split = split;
+    lines = come.lines;
+    mid = mid;
+    steps = come.steps;
+    end = new;
+    step = step;
+    part = put.0;
+    within = put.1;
+    bytes = put_then first before after (concat come.lines) (take put.0 (host_line event new)) come.bytes put.2;
+  }
+  events_cut old mid new all events event first before after PortFault split come step put places = lost_none places
+
+  pub fault_rose : (before now : ℕ) (error : StepErr) → HasSinkCause before now (Err error) → HasPlaces ports later (Err error) → (before ≤ now) × Rose before now
+  fault_rose before now WriteFault cause places = cause
+  fault_rose before now PortFault cause places = lost_none places
+
+-- how a script ends behind its header
+pub play_end : {E : Type 0} (h : SpecialiserValue) (events : List EventValue) (before headed after : Option (List ℕ)) (r : Result Unit E) → headed ≡ extended before (pack_header h.pack) → EventsEnd h events headed after r
+    → (files : Option Files) (ports : List PortSeen) → PlayEnd h events (outside files before ports) (outside files after ports) r
+play_end h events before headed after (Ok done) header end files ports = record {
+  lines = end.lines;
+  end = end.end;
+  steps = end.steps;
+  bytes = put_then before headed after (pack_header h.pack) (concat end.lines) header end.bytes;
+  files = refl;
+  ports = refl;
+}
+play_end h events before headed after (Err e) header cut files ports =
+    let part = take cut.part (host_line cut.event cut.end) in
+    inr (record {
+      before = cut.first;
+      event = cut.event;
+      split = cut.split;
+      lines = cut.lines;
+      mid = cut.mid;
+      steps = cut.steps;
+      end = cut.end;
+      step = cut.step;
+      part = cut.part;
+      within = cut.within;
+      bytes = put_then before headed after (pack_header h.pack) (concat cut.lines ++ part) header cut.bytes
+          ∙ ap (λ l. extended before l) (sym (append_assoc (pack_header h.pack) (concat cut.lines) part));
+      files = refl;
+      ports = refl;
+    })
+
+-- a job that was made ready is begun, and ends as its playing does
+module _ (files : Files) (words : BitsWords) (ready : ReadyScript) (is : IsReadyFor files words ready) where
+  pub ready_begun : IsBegun (bits_walk words) files
+  ready_begun = record { accepted = record { pack = is.pack; events = event_values ready.events.items; is = is.is_job }; settled = is.settled }
+
+  pub ready_bits : (Ends : SpecialiserValue → List EventValue → Type 0) → Ends ready.host (event_values ready.events.items) → HasBits files words Ends
+  ready_bits Ends ends = record { pack = is.pack; events = event_values ready.events.items; is_job = is.is_job; host = ready.host; start = is.start; ends = ends }

@@ -1,0 +1,5 @@
+mod BitsWalkLemmas
+mod BitsPlayLemmas
+mod FileReplayLemmas
+mod RepackLemmas
+pub mod PackLaws

@@ -1,0 +1,86 @@
+use Rattle.std.proofs.Common.{◌≡◌, ◌≤◌, List, take, refl, sym, ◌∙◌, subst, arith}
+use Rattle.std.proofs.lemmas.List.{take_all}
+use Rattle.list_laws.proofs.Items.{member_at}
+use Rattle.list_laws.proofs.Members.{In-map}
+use Rattle.run_text.specs.declared.event.Event.{Event}
+use Rattle.run_text.specs.EventValue.{event_value, event_values}
+use Rattle.ppc_pack.specs.Pack.{PackValue}
+use Rattle.port_bank.specs.Seen.{bank_seen}
+use Rattle.run_core.specs.Fits.{FitsPack}
+use Rattle.cmd_stations.specs.Host.{IsHostStep}
+use Rattle.cmd_base.proofs.EndLemmas.{Rose_from}
+use Rattle.cmd_stations.proofs.EventLemmas.{split_at, one_more}
+use Rattle.cmd_pack.proofs.BitsPlayLemmas.{HaveCome, come_none, come_more, come_all, events_cut, fault_rose}
+use Rattle.cmd_pack.proofs.bits.play.play_with.Goals as goal
+
+pub loop-event-init : goal.loop-event-init
+loop-event-init g c = record {
+  pack = refl;
+  no_ports = c.requires.no_ports;
+  come = come_none c.args.host.now (g.O.Sink.bytes c.args.out.now);
+  later = omega arith;
+}
+
+pub step-requires-clause-fits : goal.step-requires-clause-fits
+step-requires-clause-fits g c =
+    let event = event_value c.event-item.result in
+    let member = member_at c.args.events.now c.loop-event.event-index c.event-item.result c.loop-event-test.true c.event-item.is in
+    subst (λ (p : PackValue). FitsPack p event) (sym c.loop-event.invariant.pack) (c.requires.can_play.fits event (In-map event_value c.args.events.now c.event-item.result member))
+
+pub step-requires-clause-host : goal.step-requires-clause-host
+step-requires-clause-host g c =
+    let event = event_value c.event-item.result in
+    let member = member_at c.args.events.now c.loop-event.event-index c.event-item.result c.loop-event-test.true c.event-item.is in
+    c.requires.can_play.of_host event (In-map event_value c.args.events.now c.event-item.result member)
+
+pub returns-in-Err-clause-ends : goal.returns-in-Err-clause-ends
+returns-in-Err-clause-ends g c =
+    let events = c.args.events.now in
+    let i = c.loop-event.event-index in
+    let item = c.event-item.result in
+    let ends = c.in-Err.ensures in
+    let member = member_at events i item c.loop-event-test.true c.event-item.is in
+    let of_host = c.requires.can_play.of_host (event_value item) (In-map event_value events item member) in
+    events_cut (bank_seen g.P.ConfigPort.port_seen c.loop-event.bank) (bank_seen g.P.ConfigPort.port_seen c.step.new.bank) c.loop-event.invariant.no_ports c.args.host.now c.loop-event.host c.step.new.self (event_values events)
+    (event_values (take i events)) (event_value item) (g.O.Sink.bytes c.args.out.now) (g.O.Sink.bytes c.loop-event.out) (g.O.Sink.bytes c.step.new.out) c.in-Err.field-0 (split_at events i item c.loop-event-test.true c.event-item.is)
+    c.loop-event.invariant.come (record { of_host = of_host; played = ends.played; steady = ends.steady }) ends.put ends.places
+
+pub returns-in-Err-clause-cause : goal.returns-in-Err-clause-cause
+returns-in-Err-clause-cause g c =
+    let first = g.O.Sink.faults c.args.out.now in
+    let mid = g.O.Sink.faults c.loop-event.out in
+    let last = g.O.Sink.faults c.step.new.out in
+    let later : first ≤ mid = c.loop-event.invariant.later in
+    let rose = fault_rose (bank_seen g.P.ConfigPort.port_seen c.loop-event.bank) (bank_seen g.P.ConfigPort.port_seen c.step.new.bank) c.loop-event.invariant.no_ports mid last c.in-Err.field-0 c.in-Err.ensures.cause c.in-Err.ensures.places in
+    let then : mid ≤ last = rose.0 in
+    record { later = omega (arith, later, then); failed = Rose_from first mid last later rose.1 }
+
+pub loop-event-preserved : goal.loop-event-preserved
+loop-event-preserved g c =
+    let events = c.args.events.now in
+    let i = c.loop-event.event-index in
+    let item = c.event-item.result in
+    let first = g.O.Sink.bytes c.args.out.now in
+    let before = g.O.Sink.bytes c.loop-event.out in
+    let after = g.O.Sink.bytes c.step.new.out in
+    let ends = c.in-Ok.ensures in
+    let member = member_at events i item c.loop-event-test.true c.event-item.is in
+    let of_host = c.requires.can_play.of_host (event_value item) (In-map event_value events item member) in
+    let step : IsHostStep (event_value item) c.loop-event.host c.step.new.self = record { of_host = of_host; played = ends.played; steady = ends.steady } in
+    let later : g.O.Sink.faults c.args.out.now ≤ g.O.Sink.faults c.loop-event.out = c.loop-event.invariant.later in
+    let last : g.O.Sink.faults c.loop-event.out ≤ g.O.Sink.faults c.step.new.out = ends.cause in
+    record {
+      pack = ends.played.pack ∙ c.loop-event.invariant.pack;
+      no_ports = ends.places.serving ∙ c.loop-event.invariant.no_ports;
+      come = subst (λ es. HaveCome c.args.host.now es first c.step.new.self after) (sym (one_more events i item c.loop-event-test.true c.event-item.is))
+          (come_more c.args.host.now c.loop-event.host c.step.new.self (event_values (take i events)) (event_value item) first before after c.loop-event.invariant.come step ends.put);
+      later = omega (arith, later, last);
+    }
+
+pub returns-clause-ends : goal.returns-clause-ends
+returns-clause-ends g c =
+    let events = c.args.events.now in
+    let first = g.O.Sink.bytes c.args.out.now in
+    let after = g.O.Sink.bytes c.loop-event.out in
+    let whole : take c.loop-event.event-index events ≡ events = take_all c.loop-event.event-index events c.loop-event-test.false in
+    come_all c.args.host.now c.loop-event.host (event_values events) first after (subst (λ (es : List Event). HaveCome c.args.host.now (event_values es) first c.loop-event.host after) whole c.loop-event.invariant.come)

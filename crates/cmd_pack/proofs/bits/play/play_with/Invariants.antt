@@ -1,0 +1,13 @@
+use Rattle.std.proofs.Common.{◌≡◌, ◌≤◌, length, take}
+use Rattle.run_text.specs.EventValue.{event_values}
+use Rattle.port_bank.specs.Seen.{bank_seen}
+use Rattle.cmd_pack.proofs.BitsPlayLemmas.{HaveCome}
+use Rattle.cmd_pack.proofs.bits.play.play_with.Given as goal
+
+abbrev pub invariant-loop-event : goal.invariant-loop-event
+invariant-loop-event g l = record {
+  pack : l.host.pack ≡ l.initial.host.pack;
+  no_ports : length (bank_seen g.P.ConfigPort.port_seen l.bank).serving ≡ 0;
+  come : HaveCome l.initial.host (event_values (take l.event-index l.events)) (g.O.Sink.bytes l.initial.out) l.host (g.O.Sink.bytes l.out);
+  later : g.O.Sink.faults l.initial.out ≤ g.O.Sink.faults l.out;
+}

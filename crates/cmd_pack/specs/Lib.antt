@@ -1,0 +1,4 @@
+-- What public clauses say: of the command `bits`,
+pub mod Bits
+-- and of `repack`.
+pub mod Repack

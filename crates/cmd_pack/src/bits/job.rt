@@ -1,0 +1,40 @@
+//! The command `bits`.
+ghost use Rattle.std.specs.Prelude.{◌≡◌, List};
+ghost use Rattle.tl_io.specs.Causes.{Rose};
+ghost use Rattle.tl_io.specs.Port.{PortSeen};
+ghost use Rattle.cmd_base.specs.Outside.{outside};
+ghost use Rattle.cmd_base.specs.Ends.{Ends};
+ghost use Rattle.cmd_base.specs.WalkLaws.{HasLaws};
+ghost use Rattle.cmd_pack.specs.Bits.Words.{bits_seen};
+ghost use Rattle.cmd_pack.specs.Bits.Verdict.{bits_walk};
+
+use crate::bits::play::play;
+use crate::bits::prepare::prepare;
+use crate::bits::words::BitsWords;
+use cmd_base::Outcome;
+use port_bank::PortBank;
+use std::alloc::Global;
+use tl_io::{ConfigPort, Shelf, Sink};
+
+/// Runs the command: plays a script of the host on a pack, over an empty bank of ports of a type.
+pub fn bits_job<S: Shelf, O: Sink, P: ConfigPort>(
+    alloc: Global,
+    words: &BitsWords,
+    shelf: &mut S,
+    out: &mut O,
+) -> Outcome
+    ensures ends { (ports : List PortSeen) → Ends (bits_walk (bits_seen words.now)) (S.seen shelf.old) (S.seen shelf.new) (outside (S.seen shelf.old).files (O.bytes out.old) ports) (outside (S.seen shelf.new).files (O.bytes out.new) ports) result }
+    ensures write_fault { result ≡ Outcome.WriteFault → Rose (O.faults out.old) (O.faults out.new) }
+    ensures files { (S.seen shelf.new).files ≡ (S.seen shelf.old).files }
+    ensures laws { HasLaws (bits_walk (bits_seen words.now)) }
+{
+    let mut ready = match prepare(alloc, words, shelf) {
+        Ok(ready) => ready,
+        Err(outcome) => return outcome,
+    };
+    let mut bank = PortBank::make(Vec::<P>::new(alloc), 0, 0);
+    match play(&mut ready, out, &mut bank) {
+        Ok(()) => Outcome::Done,
+        Err(_) => Outcome::WriteFault,
+    }
+}

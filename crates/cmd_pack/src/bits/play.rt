@@ -1,0 +1,78 @@
+//! The playing of a script on a pack.
+ghost use Rattle.std.specs.Prelude.{◌≡◌, ◌<◌, length, Option, List};
+ghost use Rattle.tl_io.specs.Causes.{HasCause};
+ghost use Rattle.tl_io.specs.Port.{PortSeen};
+ghost use Rattle.tl_io.specs.Shelf.{Files};
+ghost use Rattle.run_text.specs.EventValue.{event_values};
+ghost use Rattle.port_bank.specs.Seen.{bank_seen};
+ghost use Rattle.cmd_base.specs.Outside.{outside};
+ghost use Rattle.cmd_pack.specs.Bits.Ready.{CanPlay, EventsEnd, PlayEnd};
+
+use crate::bits::prepare::ReadyScript;
+use aig_core::Steps;
+use port_bank::PortBank;
+use run_core::Host;
+use run_text::{Event, put_bits_header};
+use std::marker::Brand;
+use std::sync::ledger::{Blank, Ledger};
+use tl_io::{ConfigPort, Failed, Sink};
+
+// Plays events over a bank in which no port serves, with a counter of the steps that their changes of parameters take.
+fn play_with<O: Sink, P: ConfigPort, L: Ledger>(
+    host: &mut Host,
+    events: &[Event],
+    out: &mut O,
+    bank: &mut PortBank<P>,
+    blank: Blank,
+) -> Result<(), Failed>
+    requires name { blank.name ≡ L.name }
+    requires parts { blank.parts ≡ L.parts }
+    requires some { 0 < L.parts }
+    requires can_play { CanPlay host.old.pack (event_values events.now) }
+    requires no_ports { length (bank_seen P.port_seen bank.old).serving ≡ 0 }
+    ensures ends { EventsEnd host.old (event_values events.now) (O.bytes out.old) (O.bytes out.new) result }
+    ensures cause { HasCause (O.faults out.old) (O.faults out.new) result }
+{
+    let mut steps = Steps::<L>::start(blank);
+    for event in events {
+        match host.step(event, out, bank, &mut steps) {
+            Ok(()) => {}
+            Err(_) => return Err(Failed),
+        }
+    }
+    Ok(())
+}
+
+// Plays events over a bank in which no port serves.
+fn play_events<O: Sink, P: ConfigPort>(
+    host: &mut Host,
+    events: &[Event],
+    out: &mut O,
+    bank: &mut PortBank<P>,
+) -> Result<(), Failed>
+    requires can_play { CanPlay host.old.pack (event_values events.now) }
+    requires no_ports { length (bank_seen P.port_seen bank.old).serving ≡ 0 }
+    ensures ends { EventsEnd host.old (event_values events.now) (O.bytes out.old) (O.bytes out.new) result }
+    ensures cause { HasCause (O.faults out.old) (O.faults out.new) result }
+{
+    play_with::<O, P, Brand>(host, events, out, bank, Blank::new(1))
+}
+
+/// Plays a script: puts the header, and then plays each event and puts its line, over a bank in which no port serves.
+///
+/// # Errors
+/// `Failed` only where the count of `out` rose.
+pub fn play<O: Sink, P: ConfigPort>(
+    ready: &mut ReadyScript,
+    out: &mut O,
+    bank: &mut PortBank<P>,
+) -> Result<(), Failed>
+    requires can_play { CanPlay ready.old.host.pack (event_values ready.old.events.items) }
+    requires bits { ready.old.bits ≡ length ready.old.host.pack.bits }
+    requires no_ports { length (bank_seen P.port_seen bank.old).serving ≡ 0 }
+    ensures ends { (files : Option Files) (ports : List PortSeen) → PlayEnd ready.old.host (event_values ready.old.events.items) (outside files (O.bytes out.old) ports) (outside files (O.bytes out.new) ports) result }
+    ensures cause { HasCause (O.faults out.old) (O.faults out.new) result }
+{
+    put_bits_header(ready.bits, &mut ready.buf, out)?;
+    play_events(&mut ready.host, &ready.events, out, bank)
+}

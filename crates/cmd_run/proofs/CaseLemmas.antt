@@ -1,0 +1,147 @@
+-- The texts of a case as files: what they are read as, and what stops their walk.
+use Rattle.std.proofs.Common.{◌≡◌, ℕ, ◌<◌, ◌≤◌, List, length, Some, Result, Ok, Err, codes, refl, sym, ap, ◌∙◌, subst, arith}
+use Rattle.std.specs.Cmp.Lexicographic.{nat_list_cmp_total}
+use Rattle.std.specs.FinMap.{insert, empty, get-insert}
+use Rattle.std.specs.Prelude.{IfOk, IfErr}
+use Rattle.std.proofs.lemmas.Option.{same_Some}
+use Rattle.tl_text.specs.declared.logical_lines.TheConstants.{MOST_BYTES}
+use Rattle.tl_io.specs.Shelf.{Files, ShelfSeen}
+use Rattle.gen_case.specs.Case.{CaseValue, IsShort}
+use Rattle.gen_case.specs.Lines.{text_of}
+use Rattle.gen_case.specs.Netlist.{netlist_lines}
+use Rattle.gen_case.specs.Script.{all_params, script_lines}
+use Rattle.run_text.specs.NamesValue.{NamesValue}
+use Rattle.param_list.specs.ParamsText.{IsParamsText, HasOneReading}
+use Rattle.run_text.specs.ScriptText as script_text
+use Rattle.cmd_stations.specs.Stops.{Stops, outcome_at}
+use Rattle.cmd_base.specs.Ends.{Told, Explains}
+use Rattle.cmd_base.specs.Refusals.{most_bytes}
+use Rattle.cmd_base.specs.declared.outcome.File.TheVariants as file
+use Rattle.cmd_base.specs.declared.outcome.Outcome.{Outcome}
+use Rattle.cmd_base.specs.declared.outcome.Outcome.TheVariants as outcome
+use Rattle.cmd_stations.specs.declared.stop.Stop.{Stop}
+use Rattle.cmd_run.specs.declared.gen_command.words.GenWords.{GenWords}
+use Rattle.cmd_run.specs.declared.run.prepare.Ready.{Ready}
+use Rattle.cmd_stations.specs.declared.netlist_text.Netlist.{Netlist as NetlistValue}
+use Rattle.cmd_stations.specs.declared.source.Source.{Source}
+use Rattle.cmd_stations.specs.Texts.{HasText, IsNetlistText, NetlistRefusal, IsParamsRefusal, IsScriptRefusal}
+use Rattle.cmd_stations.specs.Mapped.{IsUnmapped}
+use Rattle.cmd_stations.specs.Script.{script_reading}
+use Rattle.cmd_stations.specs.Settled.{IsTextSettled, IsMappingSettled, source_reading}
+use Rattle.cmd_stations.specs.Tables.{ComesFrom, ComesWith}
+use Rattle.cmd_run.specs.Run.Job.{run_reading}
+use Rattle.cmd_run.specs.Run.Ready.{IsReadyFor}
+use Rattle.cmd_run.specs.GenCommand.Case.{case_words, case_files}
+use Rattle.cmd_run.specs.GenCommand.Texts.{shelf_of, HaveSource, HaveCase}
+use Rattle.cmd_run.specs.GenCommand.Verdict.{gen_reading}
+use Rattle.cmd_stations.proofs.StationLemmas.{text_settles, list_settles, netlist_explains, params_explains, map_explains, script_explains}
+
+-- What is so of some files is told by a shelf that has them.
+module _ (files : Files) where
+  pub told_of : (P : Files → Type 0) → P files → Told (shelf_of files).files P
+  told_of P here others told = subst P (same_Some files others told) here
+
+  nothing_given : (most : ℕ) → (shelf_of files).given ≤ most
+  nothing_given most = omega arith
+
+  -- a netlist's text that stops the walk
+  pub netlist_stops : (netlist params : List ℕ) (s : Stop) → HaveSource files netlist params → Stops (NetlistRefusal netlist) s → Stops (λ _. IsTextSettled netlist) s
+      → Explains (source_reading case_words.source) (shelf_of files) (shelf_of files) (outcome_at file.Netlist s)
+  netlist_stops netlist params s have refused settled =
+      netlist_explains case_words.source (shelf_of files) (shelf_of files) netlist s (nothing_given (most_bytes file.Netlist)) (told_of (λ fs. HasText fs case_words.source.netlist netlist) have.has_netlist) refused settled
+
+  -- the walk comes past a netlist's text
+  netlist_comes : (netlist params : List ℕ) (n : NetlistValue) → HaveSource files netlist params → IsNetlistText netlist n → IsTextSettled netlist → ComesFrom files case_words.source n
+  netlist_comes netlist params n have is settled = record {
+    netlist = record { text = netlist; there = have.has_netlist; is = is };
+    settled = text_settles files case_words.source netlist have.has_netlist settled;
+  }
+
+  -- a text of its parameters that stops it
+  pub params_stop : (netlist params : List ℕ) (n : NetlistValue) (s : Stop) → HaveSource files netlist params → IsNetlistText netlist n → IsTextSettled netlist → HasOneReading n.flat params → Stops (IsParamsRefusal n.flat params) s
+      → Explains (source_reading case_words.source) (shelf_of files) (shelf_of files) (outcome_at file.Params s)
+  params_stop netlist params n s have is settled one refused =
+      params_explains case_words.source (shelf_of files) (shelf_of files) n (told_of (λ fs. ComesFrom fs case_words.source n) (netlist_comes netlist params n have is settled)) params s
+      (nothing_given (most_bytes file.Params)) (told_of (λ fs. HasText fs case_words.source.params params) have.has_params) one refused
+
+  -- the walk comes past both
+  pub source_comes : (netlist params : List ℕ) (source : Source) → HaveSource files netlist params → IsNetlistText netlist source.netlist → IsTextSettled netlist → IsParamsText source.netlist.flat params source.params.list
+      → HasOneReading source.netlist.flat params → ComesWith files case_words.source source
+  source_comes netlist params source have is settled listed one =
+      let past = netlist_comes netlist params source.netlist have is settled in
+      record {
+        has = record { netlist = past.netlist; params = record { text = params; there = have.has_params; is = listed } };
+        netlist = past.settled;
+        params = list_settles files case_words.source source.netlist params have.has_params one;
+      }
+
+  -- a mapping that stops it
+  pub mapping_stops : (source : Source) (s : Stop) → ComesWith files case_words.source source → Stops (IsUnmapped source case_words.source.k) s → Stops (λ _. IsMappingSettled source case_words.source.k) s
+      → Explains (source_reading case_words.source) (shelf_of files) (shelf_of files) (outcome_at file.Netlist s)
+  mapping_stops source s comes refused settled =
+      map_explains case_words.source (shelf_of files) (shelf_of files) source s (nothing_given (most_bytes file.Netlist)) (told_of (λ fs. ComesWith fs case_words.source source) comes) refused settled
+
+  -- a script that stops it
+  pub script_stops : (script : List ℕ) (names : NamesValue) (s : Stop) → HasText files case_words.script script → script_text.HasOneReading names script → Stops (IsScriptRefusal names script) s
+      → Explains (script_reading case_words.script names) (shelf_of files) (shelf_of files) (outcome_at file.Script s)
+  script_stops script names s there one refused =
+      script_explains case_words.script names (shelf_of files) (shelf_of files) script s (nothing_given (most_bytes file.Script)) (told_of (λ fs. HasText fs case_words.script script) there) one refused
+
+module _ (words : GenWords) where
+  abbrev netlist_text : List ℕ
+  netlist_text = text_of (netlist_lines words.digits)
+
+  abbrev params_text : List ℕ
+  params_text = text_of (all_params words.digits words.seed)
+
+  abbrev script_text_of : List ℕ
+  script_text_of = text_of (script_lines words.digits words.seed)
+
+  abbrev first : Files
+  first = insert empty (codes "netlist") netlist_text
+
+  abbrev second : Files
+  second = insert first (codes "params") params_text
+
+  -- The generated texts are the files of the case.
+  pub have_case : (made : CaseValue) (netlist params script : List ℕ) → netlist ≡ made.netlist → params ≡ made.params → script ≡ made.script → made.netlist ≡ netlist_text → made.params ≡ params_text → made.script ≡ script_text_of → IsShort made
+      → HaveCase (case_files words) netlist params script
+  have_case made netlist params script n p s netlist_is params_are script_is short = record {
+    source = record {
+      has_netlist = record {
+        is = get-insert nat_list_cmp_total second (codes "script") script_text_of (codes "netlist") ∙ get-insert nat_list_cmp_total first (codes "params") params_text (codes "netlist")
+            ∙ get-insert nat_list_cmp_total empty (codes "netlist") netlist_text (codes "netlist") ∙ ap Some (sym (n ∙ netlist_is));
+        short = subst (λ (text : List ℕ). length text ≤ MOST_BYTES) (sym n) short.netlist;
+      };
+      has_params = record {
+        is = get-insert nat_list_cmp_total second (codes "script") script_text_of (codes "params") ∙ get-insert nat_list_cmp_total first (codes "params") params_text (codes "params") ∙ ap Some (sym (p ∙ params_are));
+        short = subst (λ (text : List ℕ). length text ≤ MOST_BYTES) (sym p) short.params;
+      };
+    };
+    has_script = record {
+      is = get-insert nat_list_cmp_total second (codes "script") script_text_of (codes "script") ∙ ap Some (sym (s ∙ script_is));
+      short = subst (λ (text : List ℕ). length text ≤ MOST_BYTES) (sym s) short.script;
+    };
+  }
+
+  -- As no byte of them was given and no read failed, a refusal alone can stop the walk, or want of memory.
+  pub case_explains : (o : Outcome) → Explains (run_reading case_words) (shelf_of (case_files words)) (shelf_of (case_files words)) o → (old new : ShelfSeen) → Explains (gen_reading words) old new o
+  case_explains (outcome.TooLong f) h old new = let past : most_bytes f < 0 = h.given in absurd (omega arith)
+  case_explains (outcome.Refused f r) h old new = record { given = tt; is = λ files told. h.is (case_files words) refl; settled = λ files told. h.settled (case_files words) refl }
+  case_explains (outcome.ReadFault f) h old new = let rose : 1 ≤ 0 = h.fault.rose in absurd (omega arith)
+  case_explains outcome.Memory h old new = tt
+  case_explains outcome.Done h old new = absurd h
+  case_explains outcome.Usage h old new = absurd h
+  case_explains outcome.WriteFault h old new = absurd h
+  case_explains outcome.PortFault h old new = absurd h
+
+  -- So what is ready for these texts is the job of the case, and what stops them stops it.
+  module _ (netlist params script : List ℕ) (have : HaveCase (case_files words) netlist params script) where
+    pub case_ready : (result : Result Ready Outcome) → IfOk result (λ r. (files : Files) → HaveCase files netlist params script → IsReadyFor files case_words r) → IfOk result (IsReadyFor (case_files words) case_words)
+    case_ready (Ok ready) is = is (case_files words) have
+    case_ready (Err o) is = tt
+
+    pub case_stopped : (result : Result Ready Outcome) → IfErr result (λ o. (files : Files) → HaveCase files netlist params script → Explains (run_reading case_words) (shelf_of files) (shelf_of files) o)
+        → IfErr result (λ o. (old new : ShelfSeen) → Explains (gen_reading words) old new o)
+    case_stopped (Ok ready) stops = tt
+    case_stopped (Err o) stops = case_explains o (stops (case_files words) have)

@@ -1,0 +1,93 @@
+-- A job that is done shows its source circuit, mapped with the least depth.
+use Rattle.std.proofs.Common.{◌≡◌, ℕ, ◌≤◌, Bool, List, ◌∷◌, length, Ok, refl, sym, ap, ◌∙◌, subst}
+use Rattle.std.specs.List.{concat}
+use Rattle.list_laws.specs.Members.{In}
+use Rattle.tl_io.specs.Content.{extended}
+use Rattle.tl_io.specs.Shelf.{Files}
+use Rattle.aig_core.specs.Aig.{Aig}
+use Rattle.cover_pick.specs.Template.{TemplateValue}
+use Rattle.ppc_pack.specs.Pack.{IsConf}
+use Rattle.port_bank.specs.Bank.{BankSeen}
+use Rattle.run_text.specs.EventValue.{EventValue}
+use Rattle.run_text.specs.Lines.{header_line}
+use Rattle.run_text.proofs.FitLemmas.{events_fit}
+use Rattle.run_core.specs.Events.{MachineValue}
+use Rattle.run_core.specs.Fits.{FitsShape}
+use Rattle.cmd_stations.specs.declared.source.Source.{Source}
+use Rattle.cmd_base.specs.Outside.{Outside}
+use Rattle.cmd_stations.specs.Script.{names_of, HasScript}
+use Rattle.cmd_stations.specs.SourceCircuit.{shape_of}
+use Rattle.cmd_run.specs.Run.Words.{RunWords}
+use Rattle.cmd_stations.specs.Machine.{Job}
+use Rattle.cmd_run.specs.Run.Job.{IsJob}
+use Rattle.cmd_stations.specs.Machine.{IsStart, Stage, HasCome}
+use Rattle.cmd_run.specs.Run.Bank.{bank_of}
+use Rattle.cmd_run.specs.Run.Ends.{HasRun}
+use Rattle.cmd_run.specs.Run.Headline.{IsNoUpset, ShowsSource, HasHeadline}
+use Rattle.cmd_stations.proofs.GraphLemmas.{same_graph}
+use Rattle.cmd_run.proofs.LeastLemmas.{least_mapping}
+use Rattle.cmd_run.proofs.KeptLemmas.{IsKept, init_count, shape_fits}
+use Rattle.cmd_stations.proofs.InitLemmas.{init_params}
+use Rattle.cmd_run.proofs.ShownLemmas.{shown_of, all_shown}
+
+-- the events of a script fit the circuit's tables
+script_fits : (files : Files) (name : List ℕ) (source : Source) (bits : ℕ) (events : List EventValue) → HasScript files name (names_of source bits) events → (event : EventValue) → In events event → FitsShape (shape_of source) event
+script_fits files name source bits events script event i = shape_fits source bits event (events_fit (names_of source bits) _ events script.is.are event i)
+
+-- a machine at the start
+start_kept : (files : Files) (run : RunWords) (job : Job) (m : MachineValue) (bank : BankSeen) → IsJob files run job → (s : IsStart job m) → IsKept job.source job.template m.host.pack s.pack (record { machine = m; bank = bank })
+start_kept files run job m bank is s = record {
+  pack_is = refl;
+  template_is = s.template;
+  shape_is = s.shape;
+  params = ap length s.params ∙ init_params job.source job.template m.host.pack s.pack;
+  states = init_count job.source m.sim.states is.mapped.has.netlist.is.flat s.states;
+  right = subst (λ (ps : List Bool). IsConf m.host.pack ps m.host.state.config) (sym s.params) s.config;
+}
+
+shows_source : (files : Files) (run : RunWords) (job : Job) (m : MachineValue) (ports : BankSeen) (lines : List (List ℕ)) (stage : Stage) → IsJob files run job → (s : IsStart job m) → HasCome m ports job.events lines stage
+    → ((event : EventValue) → In job.events event → IsNoUpset event) → ShowsSource job.source s.pack.graph job.template.luts job.events lines ports stage.bank
+shows_source files run job m ports lines stage is s come calm =
+    let first : Stage = record { machine = m; bank = come.loaded } in
+    let fits = script_fits files run.script job.source job.template.bits job.events is.script in
+    record {
+      first = shown_of first;
+      is_first = record {
+        params = s.params;
+        states = s.states;
+        config = m.host.state.config;
+        is = s.pack.configurations.is _ m.host.state.config (init_params job.source job.template m.host.pack s.pack) s.config;
+        load = come.load.plays;
+      };
+      end = shown_of stage;
+      all = (all_shown job.source job.template m.host.pack s.pack s.one_config (start_kept files run job m come.loaded is s) come.steps calm fits).all;
+      bank = refl;
+    }
+
+-- a job of `run` that is done
+pub run_headline : (files : Files) (run : RunWords) (old new : Outside) → 2 ≤ run.source.k → HasRun files run old new (Ok tt) → HasHeadline files run old new
+run_headline files run old new size done =
+    let job = done.job in
+    let mapped = done.is_job.mapped.mapped in
+    let start = done.start in
+    let end = done.ends in
+    let graph : start.pack.graph ≡ mapped.graph = same_graph job.source start.pack.one_graph start.pack.graph mapped.graph start.pack.roots mapped.roots start.pack.is_graph mapped.is_graph in
+    record {
+      source = job.source;
+      has = done.is_job.mapped.has;
+      graph = mapped.graph;
+      roots = mapped.roots;
+      is_graph = mapped.is_graph;
+      tables = job.template.luts;
+      bits = job.template.bits;
+      depth = job.template.depth;
+      mapping = least_mapping job.source run.source.k job.template size mapped;
+      events = job.events;
+      script = done.is_job.script;
+      lines = end.lines;
+      bytes = end.bytes ∙ ap (λ (t : TemplateValue). extended old.bytes (concat (header_line (length t.luts) t.bits t.depth ∷ end.lines))) start.template;
+      last = end.stage.bank;
+      ports = end.ports;
+      shows = λ calm. subst (λ (g : Aig). ShowsSource job.source g job.template.luts job.events end.lines (bank_of run.ports old.ports) end.stage.bank) graph
+          (shows_source files run job done.machine (bank_of run.ports old.ports) end.lines end.stage done.is_job start end.come calm);
+    }

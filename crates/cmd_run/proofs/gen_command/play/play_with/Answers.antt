@@ -1,0 +1,71 @@
+use Rattle.std.proofs.Common.{◌≡◌, ◌+◌, List, take, refl, sym, ◌∙◌, subst}
+use Rattle.std.proofs.lemmas.List.{take_all}
+use Rattle.list_laws.proofs.Items.{member_at}
+use Rattle.list_laws.proofs.Members.{In-map}
+use Rattle.run_text.specs.declared.event.Event.{Event}
+use Rattle.run_text.specs.EventValue.{event_value, event_values}
+use Rattle.lut_sim.specs.declared.shape.Shape.{Shape}
+use Rattle.ppc_pack.specs.Pack.{PackValue}
+use Rattle.run_core.specs.Fits.{FitsPack, FitsShape}
+use Rattle.cmd_run.specs.GenCommand.Totals.{writes_of, output_of, Totals, none, more}
+use Rattle.cmd_stations.proofs.EventLemmas.{split_at, one_more}
+use Rattle.cmd_run.proofs.GenLemmas.{total_more}
+use Rattle.cmd_run.proofs.gen_command.play.play_with.Goals as goal
+
+pub loop-event-init : goal.loop-event-init
+loop-event-init g c = record { pack = refl; shape = refl; totals = none }
+
+pub play-requires-clause-pack : goal.play-requires-clause-pack
+play-requires-clause-pack g c =
+    let event = event_value c.event-item.result in
+    let member = member_at c.args.events.now c.loop-event.event-index c.event-item.result c.loop-event-test.true c.event-item.is in
+    subst (λ (p : PackValue). FitsPack p event) (sym c.loop-event.invariant.pack) (c.requires.can_play.pack event (In-map event_value c.args.events.now c.event-item.result member))
+
+pub play-requires-clause-shape : goal.play-requires-clause-shape
+play-requires-clause-shape g c =
+    let event = event_value c.event-item.result in
+    let member = member_at c.args.events.now c.loop-event.event-index c.event-item.result c.loop-event-test.true c.event-item.is in
+    subst (λ (s : Shape). FitsShape s event) (sym c.loop-event.invariant.shape) (c.requires.can_play.shape event (In-map event_value c.args.events.now c.event-item.result member))
+
+pub loop-event-preserved : goal.loop-event-preserved
+loop-event-preserved g c =
+    let events = c.args.events.now in
+    let i = c.loop-event.event-index in
+    let item = c.event-item.result in
+    let played = c.play.ensures.played in
+    let old = c.loop-event.totals in
+    let new = c.in_ok-totals.totals in
+    record {
+      pack = played.host.pack ∙ c.loop-event.invariant.pack;
+      shape = played.shape ∙ c.loop-event.invariant.shape;
+      totals = subst (λ es. Totals c.args.machine.now es new.writes new.total c.play.new.self) (sym (one_more events i item c.loop-event-test.true c.event-item.is))
+          (total_more c.args.machine.now c.loop-event.machine c.play.new.self (event_values (take i events)) (event_value item) old.writes old.total new.writes new.total c.loop-event.invariant.totals played
+          c.in_ok-totals.ensures.writes c.in_ok-totals.ensures.total);
+    }
+
+pub returns-clause-totals : goal.returns-clause-totals
+returns-clause-totals g c =
+    let events = c.args.events.now in
+    let totals = c.loop-event.totals in
+    let whole : take c.loop-event.event-index events ≡ events = take_all c.loop-event.event-index events c.loop-event-test.false in
+    subst (λ (es : List Event). Totals c.args.machine.now (event_values es) totals.writes totals.total c.loop-event.machine) whole c.loop-event.invariant.totals
+
+pub returns-in_err-totals-clause-over : goal.returns-in_err-totals-clause-over
+returns-in_err-totals-clause-over g c =
+    let events = c.args.events.now in
+    let i = c.loop-event.event-index in
+    let item = c.event-item.result in
+    let old = c.loop-event.totals in
+    let new = c.play.new.self in
+    rw c.from_residual.ensures (
+    record {
+      before = event_values (take i events);
+      event = event_value item;
+      split = split_at events i item c.loop-event-test.true c.event-item.is;
+      writes = old.writes + writes_of (event_value item) new;
+      total = old.total + output_of (event_value item) new;
+      new = new;
+      totals = more (event_value item) c.loop-event.invariant.totals c.play.ensures.played;
+      over = c.in_err-totals.ensures.over;
+    }
+    )

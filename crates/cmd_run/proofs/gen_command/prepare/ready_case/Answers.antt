@@ -1,0 +1,33 @@
+use Rattle.run_text.specs.EventValue.{event_values}
+use Rattle.cmd_stations.specs.Source.{HasMapped}
+use Rattle.cmd_stations.specs.Settled.{IsSourceSettled}
+use Rattle.cmd_run.specs.GenCommand.Case.{case_words}
+use Rattle.cmd_run.specs.GenCommand.Texts.{shelf_of}
+use Rattle.cmd_run.proofs.CaseLemmas.{told_of}
+use Rattle.cmd_run.proofs.RunEndLemmas.{source_to_run, script_to_run}
+use Rattle.cmd_run.proofs.ReadyLemmas.{ready_for}
+use Rattle.cmd_run.proofs.StartLemmas.{can_play}
+use Rattle.cmd_run.proofs.gen_command.prepare.ready_case.Goals as goal
+
+pub returns-in-Err-clause-err : goal.returns-in-Err-clause-err
+returns-in-Err-clause-err c files have = source_to_run case_words (shelf_of files) (shelf_of files) c.in-Err.outcome (c.in-Err.ensures.err files have.source)
+
+pub returns-in-Err-case_events-clause-err : goal.returns-in-Err-case_events-clause-err
+returns-in-Err-case_events-clause-err c files have =
+    let mapped = c.in-Ok.mapped in
+    let past = c.in-Ok.ensures.comes files have.source in
+    script_to_run case_words (shelf_of files) (shelf_of files) c.in-Err-case_events.outcome mapped.source mapped.tables.template
+    (told_of files (λ others. HasMapped others case_words.source mapped.source mapped.tables.template × IsSourceSettled others case_words.source) (past.has, past.settled))
+    (c.in-Err-case_events.ensures.err files have.has_script)
+
+pub returns-in-Ok-start_machine-clause-ready : goal.returns-in-Ok-start_machine-clause-ready
+returns-in-Ok-start_machine-clause-ready c =
+    let mapped = c.in-Ok.mapped in
+    let events = event_values c.in-Ok-case_events.events.items in
+    can_play (record { source = mapped.source; template = mapped.tables.template; events = events }) c.in-Ok-start_machine.machine (c.in-Ok-start_machine.ensures.start events)
+    c.in-Ok.ensures.tables.mapped.chosen.mapping.sum c.in-Ok-case_events.ensures.fit
+
+pub returns-in-Ok-start_machine-clause-prepared : goal.returns-in-Ok-start_machine-clause-prepared
+returns-in-Ok-start_machine-clause-prepared c files have =
+    ready_for files case_words c.in-Ok.mapped (record { machine = c.in-Ok-start_machine.machine; events = c.in-Ok-case_events.events }) (c.in-Ok.ensures.comes files have.source)
+    (c.in-Ok-case_events.ensures.script files have.has_script) (c.in-Ok-case_events.ensures.settled files have.has_script) c.in-Ok-start_machine.ensures

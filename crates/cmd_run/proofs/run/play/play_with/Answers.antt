@@ -1,0 +1,85 @@
+use Rattle.std.proofs.Common.{◌≡◌, ◌≤◌, List, take, refl, sym, ◌∙◌, subst, arith}
+use Rattle.std.proofs.lemmas.List.{take_all}
+use Rattle.std.proofs.lemmas.Result.{err_from_is_err_and}
+use Rattle.list_laws.proofs.Items.{member_at}
+use Rattle.list_laws.proofs.Members.{In-map}
+use Rattle.run_text.specs.declared.event.Event.{Event}
+use Rattle.run_text.specs.EventValue.{event_value, event_values}
+use Rattle.lut_sim.specs.declared.shape.Shape.{Shape}
+use Rattle.ppc_pack.specs.Pack.{PackValue}
+use Rattle.port_bank.specs.Seen.{bank_seen}
+use Rattle.run_core.specs.Fits.{FitsPack, FitsShape}
+use Rattle.cmd_stations.specs.Machine.{Stage}
+use Rattle.cmd_stations.proofs.EventLemmas.{split_at, one_more}
+use Rattle.cmd_run.proofs.PlayLemmas.{HaveCome, come_none, come_more, come_all, whole_step, events_end}
+use Rattle.cmd_run.proofs.run.play.play_with.Goals as goal
+
+pub loop-event-init : goal.loop-event-init
+loop-event-init g c = record {
+  pack = refl;
+  shape = refl;
+  holds = c.requires.holds;
+  come = come_none (record { machine = c.args.machine.now; bank = bank_seen g.P.ConfigPort.port_seen c.args.bank.now }) (g.O.Sink.bytes c.args.out.now);
+  later = omega arith;
+}
+
+pub step-requires-clause-pack : goal.step-requires-clause-pack
+step-requires-clause-pack g c =
+    let event = event_value c.event-item.result in
+    let member = member_at c.args.events.now c.loop-event.event-index c.event-item.result c.loop-event-test.true c.event-item.is in
+    subst (λ (p : PackValue). FitsPack p event) (sym c.loop-event.invariant.pack) (c.requires.can_play.pack event (In-map event_value c.args.events.now c.event-item.result member))
+
+pub step-requires-clause-shape : goal.step-requires-clause-shape
+step-requires-clause-shape g c =
+    let event = event_value c.event-item.result in
+    let member = member_at c.args.events.now c.loop-event.event-index c.event-item.result c.loop-event-test.true c.event-item.is in
+    subst (λ (s : Shape). FitsShape s event) (sym c.loop-event.invariant.shape) (c.requires.can_play.shape event (In-map event_value c.args.events.now c.event-item.result member))
+
+pub returns-in_err-step-clause-ends : goal.returns-in_err-step-clause-ends
+returns-in_err-step-clause-ends g c =
+    let p = err_from_is_err_and c.from_residual.result c.from_residual.ensures.1 in
+    let events = c.args.events.now in
+    let i = c.loop-event.event-index in
+    let item = c.event-item.result in
+    let start : Stage = record { machine = c.args.machine.now; bank = bank_seen g.P.ConfigPort.port_seen c.args.bank.now } in
+    let mid : Stage = record { machine = c.loop-event.machine; bank = bank_seen g.P.ConfigPort.port_seen c.loop-event.bank } in
+    let new : Stage = record { machine = c.step.new.self; bank = bank_seen g.P.ConfigPort.port_seen c.step.new.bank } in
+    let ends = c.in_err-step.ensures in
+    rw (p.1, p.2) (events_end start mid new (event_values events) (event_values (take i events)) (event_value item) (g.O.Sink.bytes c.args.out.now) (g.O.Sink.bytes c.loop-event.out) (g.O.Sink.bytes c.step.new.out) c.in_err-step.field-0.0
+    (split_at events i item c.loop-event-test.true c.event-item.is) c.loop-event.invariant.come
+    (record { played = ends.played; steady = ends.steady; sent = ends.sent; put = ends.put; moved = ends.moved; places = ends.places; held = c.loop-event.invariant.holds; holds = ends.holds }))
+
+pub loop-event-preserved : goal.loop-event-preserved
+loop-event-preserved g c =
+    let events = c.args.events.now in
+    let i = c.loop-event.event-index in
+    let item = c.event-item.result in
+    let start : Stage = record { machine = c.args.machine.now; bank = bank_seen g.P.ConfigPort.port_seen c.args.bank.now } in
+    let mid : Stage = record { machine = c.loop-event.machine; bank = bank_seen g.P.ConfigPort.port_seen c.loop-event.bank } in
+    let new : Stage = record { machine = c.step.new.self; bank = bank_seen g.P.ConfigPort.port_seen c.step.new.bank } in
+    let first = g.O.Sink.bytes c.args.out.now in
+    let before = g.O.Sink.bytes c.loop-event.out in
+    let after = g.O.Sink.bytes c.step.new.out in
+    let ends = c.in_ok-step.ensures in
+    let step = whole_step (event_value item) mid new before after
+    (record { played = ends.played; steady = ends.steady; sent = ends.sent; put = ends.put; moved = ends.moved; places = ends.places; held = c.loop-event.invariant.holds; holds = ends.holds }) in
+    let later : g.O.Sink.faults c.args.out.now ≤ g.O.Sink.faults c.loop-event.out = c.loop-event.invariant.later in
+    let last : g.O.Sink.faults c.loop-event.out ≤ g.O.Sink.faults c.step.new.out = ends.cause in
+    record {
+      pack = ends.played.host.pack ∙ c.loop-event.invariant.pack;
+      shape = ends.played.shape ∙ c.loop-event.invariant.shape;
+      holds = ends.holds c.loop-event.invariant.holds;
+      come = subst (λ es. HaveCome start es first new after) (sym (one_more events i item c.loop-event-test.true c.event-item.is))
+          (come_more start mid new (event_values (take i events)) (event_value item) first before after c.loop-event.invariant.come step ends.put);
+      later = omega (arith, later, last);
+    }
+
+pub returns-clause-ends : goal.returns-clause-ends
+returns-clause-ends g c =
+    let start : Stage = record { machine = c.args.machine.now; bank = bank_seen g.P.ConfigPort.port_seen c.args.bank.now } in
+    let now : Stage = record { machine = c.loop-event.machine; bank = bank_seen g.P.ConfigPort.port_seen c.loop-event.bank } in
+    let events = c.args.events.now in
+    let first = g.O.Sink.bytes c.args.out.now in
+    let after = g.O.Sink.bytes c.loop-event.out in
+    let whole : take c.loop-event.event-index events ≡ events = take_all c.loop-event.event-index events c.loop-event-test.false in
+    come_all start now (event_values events) first after (subst (λ (es : List Event). HaveCome start (event_values es) first now after) whole c.loop-event.invariant.come)

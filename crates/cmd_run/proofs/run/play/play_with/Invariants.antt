@@ -1,0 +1,16 @@
+use Rattle.std.proofs.Common.{◌≡◌, ◌≤◌, take}
+use Rattle.run_text.specs.EventValue.{event_values}
+use Rattle.port_bank.specs.Image.{Holds}
+use Rattle.port_bank.specs.Seen.{bank_seen}
+use Rattle.cmd_run.proofs.PlayLemmas.{HaveCome}
+use Rattle.cmd_run.proofs.run.play.play_with.Given as goal
+
+abbrev pub invariant-loop-event : goal.invariant-loop-event
+invariant-loop-event g l = record {
+  pack : l.machine.host.pack ≡ l.initial.machine.host.pack;
+  shape : l.machine.sim.shape ≡ l.initial.machine.sim.shape;
+  holds : Holds l.machine.host.state.config (bank_seen g.P.ConfigPort.port_seen l.bank);
+  come : HaveCome (record { machine = l.initial.machine; bank = bank_seen g.P.ConfigPort.port_seen l.initial.bank }) (event_values (take l.event-index l.events)) (g.O.Sink.bytes l.initial.out)
+      (record { machine = l.machine; bank = bank_seen g.P.ConfigPort.port_seen l.bank }) (g.O.Sink.bytes l.out);
+  later : g.O.Sink.faults l.initial.out ≤ g.O.Sink.faults l.out;
+}

@@ -1,0 +1,78 @@
+-- The walk of `gen`: that of `run` over the generated texts.
+use Rattle.std.specs.Prelude.{◌≡◌, ◌≤◌, ℕ, List, [], ◌∷◌, length, take, codes, decimal}
+use Rattle.std.specs.List.{concat}
+use Rattle.tl_io.specs.Content.{extended}
+use Rattle.run_core.specs.Events.{MachineValue}
+use Rattle.cover_pick.specs.Template.{TemplateValue}
+use Rattle.cmd_base.specs.Walk.{Reading, Walk}
+use Rattle.cmd_base.specs.Outside.{Outside}
+use Rattle.cmd_base.specs.declared.outcome.File.TheVariants.{Netlist}
+use Rattle.cmd_run.specs.declared.gen_command.words.GenWords.{GenWords}
+use Rattle.cmd_stations.specs.Mapped.{template_header}
+use Rattle.cmd_stations.specs.Machine.{Job}
+use Rattle.cmd_run.specs.Run.Job.{IsJob, IsRefused, IsSettled}
+use Rattle.cmd_stations.specs.Machine.{IsStart}
+use Rattle.cmd_run.specs.Run.Verdict.{HasJob}
+use Rattle.cmd_run.specs.GenCommand.Case.{case_words, case_files}
+use Rattle.cmd_run.specs.GenCommand.Totals.{Totals}
+
+-- the lines that are printed
+abbrev pub first_line : GenWords → List ℕ
+first_line words = concat (codes "gen " ∷ decimal words.digits ∷ codes " " ∷ decimal words.seed ∷ codes "\n" ∷ [])
+
+abbrev pub last_line : ℕ → ℕ → List ℕ
+last_line writes total = concat (codes "rounds 100 writes " ∷ decimal writes ∷ codes " total " ∷ decimal total ∷ codes "\n" ∷ [])
+
+abbrev pub gen_text : GenWords → TemplateValue → ℕ → ℕ → List ℕ
+gen_text words template writes total = concat (first_line words ∷ template_header template ∷ last_line writes total ∷ [])
+
+-- the generated texts are a job, whose machine was played from the start on, and this is so of the text that tells its totals
+pub record HasGen (words : GenWords) (Ends : List ℕ → Type 0) : Type 0 where
+  pub job : Job
+  pub is_job : IsJob (case_files words) case_words job
+  pub machine : MachineValue
+  pub start : IsStart job machine
+  pub writes : ℕ
+  pub total : ℕ
+  pub end : MachineValue
+  pub totals : Totals machine job.events writes total end
+  pub ends : Ends (gen_text words job.template writes total)
+
+module _ (old new : Outside) (text : List ℕ) where
+  -- the text was put
+  pub record IsTold : Type 0 where
+    pub bytes : new.bytes ≡ extended old.bytes text
+    pub files : new.files ≡ old.files
+    pub ports : new.ports ≡ old.ports
+
+  -- a prefix of it
+  pub record IsPartTold : Type 0 where
+    pub part : ℕ
+    pub within : part ≤ length text
+    pub bytes : new.bytes ≡ extended old.bytes (take part text)
+    pub files : new.files ≡ old.files
+    pub ports : new.ports ≡ old.ports
+
+-- no file is read, and a refusal's file is told as `gen`
+abbrev pub gen_reading : GenWords → Reading
+gen_reading words = record {
+  IsRead = λ file. ⊥;
+  word = λ file. codes "gen";
+  last = Netlist;
+  HasGiven = λ file given. Unit {0};
+  Reaches = λ files file. ⊥;
+  IsRefused = λ files file refusal. IsRefused (case_files words) case_words file refusal;
+  IsSettled = λ files. IsSettled (case_files words) case_words;
+}
+
+abbrev pub gen_walk : GenWords → Walk
+gen_walk words = record {
+  reading = gen_reading words;
+  IsAccepted = λ files. HasJob (case_files words) case_words;
+  IsDone = λ files old new. HasGen words (IsTold old new);
+  IsCutOff = λ files old new. HasGen words (IsPartTold old new);
+  IsLost = λ files old new. ⊥;
+  Shows = λ files old new. Unit {0};
+  WritesFiles = ⊥;
+  HasPortFault = λ old new. ⊥;
+}

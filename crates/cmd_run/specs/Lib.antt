@@ -1,0 +1,4 @@
+-- What public clauses say: of the command `run`,
+pub mod Run
+-- and of `gen`.
+pub mod GenCommand

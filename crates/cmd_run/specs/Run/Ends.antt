@@ -1,0 +1,102 @@
+-- How a job of `run` ends: what stands in the output and in the ports.
+use Rattle.std.specs.Prelude.{◌≡◌, ◌≤◌, ◌⊎◌, ℕ, ◌+◌, List, ◌∷◌, ◌++◌, length, take, Result, Ok, Err}
+use Rattle.std.specs.List.{concat}
+use Rattle.list_laws.specs.Members.{In}
+use Rattle.tl_io.specs.Causes.{Rose}
+use Rattle.tl_io.specs.Content.{extended}
+use Rattle.tl_io.specs.Port.{PortSeen}
+use Rattle.tl_io.specs.Shelf.{Files}
+use Rattle.tl_io.specs.Writes.{writes_from}
+use Rattle.run_text.specs.EventValue.{EventValue}
+use Rattle.port_bank.specs.Bank.{BankSeen, all_ports}
+use Rattle.port_bank.specs.Moves.{LosesPlace}
+use Rattle.run_core.specs.declared.step_err.StepErr.{StepErr}
+use Rattle.run_core.specs.declared.step_err.StepErr.TheVariants.{WriteFault, PortFault}
+use Rattle.run_core.specs.Events.{MachineValue, IsPlayed}
+use Rattle.run_core.specs.EventLines.{event_line}
+use Rattle.run_core.specs.Sends.{LosesRegion, HasLost}
+use Rattle.cmd_base.specs.Outside.{Outside}
+use Rattle.cmd_run.specs.declared.run.words.PortCounts.{PortCounts}
+use Rattle.cmd_run.specs.Run.Words.{RunWords}
+use Rattle.cmd_stations.specs.Machine.{Job}
+use Rattle.cmd_run.specs.Run.Job.{IsJob}
+use Rattle.cmd_stations.specs.Machine.{IsStart, machine_header, Stage, IsStep, HasCome}
+use Rattle.cmd_run.specs.Run.Bank.{bank_of}
+use Rattle.cmd_stations.specs.Script.{IsSplit}
+
+module _ (counts : PortCounts) (m : MachineValue) (events : List EventValue) (old new : Outside) where
+  -- The ports were loaded, each event was played and its writes were sent, and the output grew by the header and a line an event.
+  pub record IsAllPlayed : Type 0 where
+    pub lines : List (List ℕ)
+    pub stage : Stage
+    pub come : HasCome m (bank_of counts old.ports) events lines stage
+    pub bytes : new.bytes ≡ extended old.bytes (concat (machine_header m ∷ lines))
+    pub ports : new.ports ≡ all_ports stage.bank
+
+  -- a fault of writing in the header: a prefix of it stands, and nothing was sent
+  pub record IsCutInHeader : Type 0 where
+    pub part : ℕ
+    pub within : part ≤ length (machine_header m)
+    pub bytes : new.bytes ≡ extended old.bytes (take part (machine_header m))
+    pub ports : new.ports ≡ old.ports
+
+  -- a fault of writing in an event's line: the lines before it stand whole, and a prefix of it; its own writes were sent
+  pub record IsCutInLine : Type 0 where
+    pub before : List EventValue
+    pub event : EventValue
+    pub split : IsSplit events before event
+    pub lines : List (List ℕ)
+    pub mid : Stage
+    pub come : HasCome m (bank_of counts old.ports) before lines mid
+    pub stage : Stage
+    pub step : IsStep event mid stage
+    pub part : ℕ
+    pub within : part ≤ length (event_line event stage.machine)
+    pub bytes : new.bytes ≡ extended old.bytes (concat (machine_header m ∷ lines) ++ take part (event_line event stage.machine))
+    pub ports : new.ports ≡ all_ports stage.bank
+
+  -- a fault of the ports in the full load: the header stands alone
+  pub record IsLostInLoad : Type 0 where
+    pub bank : BankSeen
+    pub load : LosesRegion m.host.state.config (writes_from 0 m.host.state.config) (bank_of counts old.ports) bank
+    pub place : LosesPlace (bank_of counts old.ports) bank
+    pub bytes : new.bytes ≡ extended old.bytes (machine_header m)
+    pub ports : new.ports ≡ all_ports bank
+
+  -- a fault of the ports in the send of an event, which was played: the lines before it stand, and no byte of its own
+  pub record IsLostInEvent : Type 0 where
+    pub before : List EventValue
+    pub event : EventValue
+    pub split : IsSplit events before event
+    pub lines : List (List ℕ)
+    pub mid : Stage
+    pub come : HasCome m (bank_of counts old.ports) before lines mid
+    pub next : MachineValue
+    pub played : IsPlayed event mid.machine next
+    pub bank : BankSeen
+    pub lost : HasLost event next.host mid.bank bank
+    pub place : LosesPlace mid.bank bank
+    pub bytes : new.bytes ≡ extended old.bytes (concat (machine_header m ∷ lines))
+    pub ports : new.ports ≡ all_ports bank
+
+  abbrev pub IsPlayEnd : Result Unit StepErr → Type 0
+  IsPlayEnd (Ok done) = IsAllPlayed
+  IsPlayEnd (Err WriteFault) = IsCutInHeader ⊎ IsCutInLine
+  IsPlayEnd (Err PortFault) = IsLostInLoad ⊎ IsLostInEvent
+
+-- the files hold a job, its machine stands at the start, and this is so of its playing
+pub record HasRun (files : Files) (words : RunWords) (old new : Outside) (result : Result Unit StepErr) : Type 0 where
+  pub job : Job
+  pub is_job : IsJob files words job
+  pub machine : MachineValue
+  pub start : IsStart job machine
+  pub kept : new.files ≡ old.files
+  pub ends : IsPlayEnd words.ports machine job.events old new result
+
+-- all the spares failed and one port more: they stand at the end of the list, each with a count of faults that rose since it was handed in
+pub record HaveFailed (counts : PortCounts) (old new : List PortSeen) : Type 0 where
+  pub others : List PortSeen
+  pub failed : List PortSeen
+  pub are : new ≡ others ++ failed
+  pub many : length failed ≡ counts.spares + 1
+  pub cause : (port : PortSeen) → In failed port → (before : PortSeen) × In (take (counts.serving + counts.spares) old) before × Rose before.faults port.faults

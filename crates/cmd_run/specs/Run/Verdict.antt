@@ -1,0 +1,27 @@
+-- The walk of `run`.
+use Rattle.std.specs.Prelude.{Ok, Err}
+use Rattle.tl_io.specs.Shelf.{Files}
+use Rattle.run_core.specs.declared.step_err.StepErr.TheVariants.{WriteFault, PortFault}
+use Rattle.cmd_base.specs.Walk.{Walk}
+use Rattle.cmd_run.specs.Run.Words.{RunWords}
+use Rattle.cmd_stations.specs.Machine.{Job}
+use Rattle.cmd_run.specs.Run.Job.{IsJob, run_reading}
+use Rattle.cmd_run.specs.Run.Ends.{HasRun, HaveFailed}
+use Rattle.cmd_run.specs.Run.Headline.{HasHeadline}
+
+-- the files hold an accepted job of `run`
+pub record HasJob (files : Files) (words : RunWords) : Type 0 where
+  pub job : Job
+  pub is : IsJob files words job
+
+abbrev pub run_walk : RunWords → Walk
+run_walk words = record {
+  reading = run_reading words;
+  IsAccepted = λ files. HasJob files words;
+  IsDone = λ files old new. HasRun files words old new (Ok tt);
+  IsCutOff = λ files old new. HasRun files words old new (Err WriteFault);
+  IsLost = λ files old new. HasRun files words old new (Err PortFault);
+  Shows = λ files old new. HasHeadline files words old new;
+  WritesFiles = ⊥;
+  HasPortFault = λ old new. HaveFailed words.ports old.ports new.ports;
+}

@@ -1,0 +1,39 @@
+-- The words of `run`.
+use Rattle.std.specs.Prelude.{ℕ, ◌+◌, ◌≤◌, nat_le, if◌then◌else◌, List, [], ◌∷◌, codes, bytes_eq, Option, Some, None}
+use Rattle.tl_text.specs.Decimal.{decimal_of}
+use Rattle.cmd_run.specs.declared.run.words.PortCounts.{PortCounts}
+use Rattle.cmd_run.specs.declared.run.words.RunWords.{RunWords as RunWordsRead}
+use Rattle.cmd_stations.specs.Words.{SourceWords, k_of, source_seen}
+
+-- the source circuit, the word that names the script, and the ports
+pub record RunWords : Type 0 where
+  pub source : SourceWords
+  pub script : List ℕ
+  pub ports : PortCounts
+
+-- two numbers of ports, not more in all than are handed in
+abbrev pub counts_of : ℕ → Option ℕ → Option ℕ → Option PortCounts
+counts_of ports None spares = None
+counts_of ports (Some serving) None = None
+counts_of ports (Some serving) (Some spares) = if nat_le (serving + spares) ports then Some (record { serving = serving; spares = spares }) else None
+
+abbrev pub run_words : List ℕ → List ℕ → List ℕ → Option ℕ → Option PortCounts → Option RunWords
+run_words netlist params script None counts = None
+run_words netlist params script (Some k) None = None
+run_words netlist params script (Some k) (Some counts) = Some (record { source = record { k = k; netlist = netlist; params = params }; script = script; ports = counts })
+
+-- the words `run K NETLIST PARAMS SCRIPT PORTS SPARES`
+abbrev pub run_of : ℕ → List (List ℕ) → Option RunWords
+run_of ports (command ∷ k ∷ netlist ∷ params ∷ script ∷ serving ∷ spares ∷ []) =
+    if bytes_eq command (codes "run") then run_words netlist params script (k_of k) (counts_of ports (decimal_of serving) (decimal_of spares)) else None
+run_of ports words = None
+
+-- words as they are read
+abbrev pub run_seen : RunWordsRead → RunWords
+run_seen words = record { source = source_seen words.source; script = words.script.now; ports = words.ports }
+
+-- the size of the tables is 2 to 6, and there are so many ports
+pub record IsInRange (ports : ℕ) (words : RunWordsRead) : Type 0 where
+  pub least : 2 ≤ words.source.k
+  pub most : words.source.k ≤ 6
+  pub within : words.ports.serving + words.ports.spares ≤ ports

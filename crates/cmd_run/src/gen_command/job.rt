@@ -1,0 +1,70 @@
+//! The command `gen`.
+ghost use Rattle.std.specs.Prelude.{◌≡◌, [], ◌∷◌, List};
+ghost use Rattle.std.specs.List.{concat};
+ghost use Rattle.tl_io.specs.Causes.{HasCause, Rose};
+ghost use Rattle.tl_io.specs.Content.{Puts};
+ghost use Rattle.tl_io.specs.Port.{PortSeen};
+ghost use Rattle.tl_io.specs.Shelf.{ShelfSeen};
+ghost use Rattle.cmd_base.specs.Outside.{outside};
+ghost use Rattle.cmd_base.specs.Ends.{Ends};
+ghost use Rattle.cmd_base.specs.WalkLaws.{HasLaws};
+ghost use Rattle.cmd_stations.specs.Machine.{machine_header};
+ghost use Rattle.cmd_run.specs.GenCommand.Words.{HasDigits};
+ghost use Rattle.cmd_run.specs.GenCommand.Verdict.{gen_walk};
+
+use crate::gen_command::lines::{first_line, last_line};
+use crate::gen_command::play::play_case;
+use crate::gen_command::prepare::prepare_case;
+use crate::gen_command::words::GenWords;
+use cmd_base::Outcome;
+use run_core::{Machine, StepErr};
+use std::alloc::Global;
+use tl_io::Sink;
+
+// Puts a line, the header line of a machine, and another line.
+fn put_lines<O: Sink>(
+    machine: &mut Machine,
+    first: &str,
+    last: &str,
+    out: &mut O,
+) -> Result<(), StepErr>
+    ensures cause { HasCause (O.faults out.old) (O.faults out.new) result }
+    ensures grown { Puts (O.bytes out.old) (O.bytes out.new) (concat (first.now ∷ machine_header machine.old ∷ last.now ∷ [])) result }
+{
+    out.put(first.as_bytes())?;
+    machine.header(out)?;
+    out.put(last.as_bytes())?;
+    Ok(())
+}
+
+/// Runs the command: maps a generated multiplier, plays its hundred rounds, and tells what they add up to.
+///
+/// All memory is taken before the first byte of `out`. Totals that don't fit their types are answered as want of memory; a
+/// generated case never comes to them.
+pub fn gen_job<O: Sink>(alloc: Global, words: &GenWords, out: &mut O) -> Outcome
+    requires { HasDigits words.now }
+    ensures ends { (old : ShelfSeen) (ports : List PortSeen) → Ends (gen_walk words.now) old old (outside old.files (O.bytes out.old) ports) (outside old.files (O.bytes out.new) ports) result }
+    ensures write_fault { result ≡ Outcome.WriteFault → Rose (O.faults out.old) (O.faults out.new) }
+    ensures laws { HasLaws (gen_walk words.now) }
+{
+    let mut ready = match prepare_case(alloc, words) {
+        Ok(ready) => ready,
+        Err(outcome) => return outcome,
+    };
+    let totals = match play_case(&mut ready) {
+        Some(totals) => totals,
+        None => return Outcome::Memory,
+    };
+    let first = match first_line(alloc, words) {
+        Ok(line) => line,
+        Err(_) => return Outcome::Memory,
+    };
+    let last = match last_line(alloc, totals) {
+        Ok(line) => line,
+        Err(_) => return Outcome::Memory,
+    };
+    match put_lines(&mut ready.machine, first.as_str(), last.as_str(), out) {
+        Ok(()) => Outcome::Done,
+        Err(_) => Outcome::WriteFault,
+    }
+}

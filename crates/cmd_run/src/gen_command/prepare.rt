@@ -1,0 +1,134 @@
+//! The generated case, made ready to be played: its texts are read as those of the files of `run` are.
+ghost use Rattle.std.specs.Prelude.{◌≡◌, ◌≤◌, length, IfOk, IfErr, OnOk};
+ghost use Rattle.list_laws.specs.Members.{In};
+ghost use Rattle.tl_text.specs.declared.logical_lines.TheConstants.{MOST_BYTES};
+ghost use Rattle.tl_io.specs.Shelf.{Files, ShelfSeen};
+ghost use Rattle.run_text.specs.EventValue.{EventValue, event_values};
+ghost use Rattle.run_text.specs.Fits.{Fits};
+ghost use Rattle.cmd_base.specs.Ends.{Explains};
+ghost use Rattle.cmd_stations.specs.Texts.{HasText};
+ghost use Rattle.cmd_stations.specs.Script.{names_of, HasScript, IsScriptSettled, script_reading};
+ghost use Rattle.cmd_stations.specs.Settled.{source_reading};
+ghost use Rattle.cmd_stations.specs.Tables.{IsReadSource, AreMade, AreTables, ComesWith, ComesPast};
+ghost use Rattle.cmd_run.specs.Run.Job.{run_reading};
+ghost use Rattle.cmd_run.specs.Run.Ready.{CanPlay, IsReadyFor};
+ghost use Rattle.cmd_run.specs.GenCommand.Words.{HasDigits};
+ghost use Rattle.cmd_run.specs.GenCommand.Case.{case_words, case_files};
+ghost use Rattle.cmd_run.specs.GenCommand.Texts.{shelf_of, HaveSource, HaveCase};
+ghost use Rattle.cmd_run.specs.GenCommand.Verdict.{gen_reading};
+
+use crate::gen_command::words::GenWords;
+use crate::run::prepare::{Ready, script_names, start_machine};
+use cmd_base::{File, Outcome};
+use cmd_stations::{MappedSource, Source, list_events, list_params, map_source, read_netlist};
+use gen_case::multiplier;
+use run_text::Event;
+use std::alloc::Global;
+
+// The most inputs that a table may have.
+const TABLE_SIZE: u8 = 4;
+
+// The source circuit of a case's texts.
+fn read_case(alloc: Global, netlist_text: &[u8], params_text: &[u8]) -> Result<Source, Outcome>
+    requires netlist { length netlist_text.now ≤ MOST_BYTES }
+    requires params { length params_text.now ≤ MOST_BYTES }
+    ensures read { IfOk result IsReadSource }
+    ensures comes { IfOk result (λ source. (files : Files) → HaveSource files netlist_text.now params_text.now → ComesWith files case_words.source source) }
+    ensures err { IfErr result (λ o. (files : Files) → HaveSource files netlist_text.now params_text.now → Explains (source_reading case_words.source) (shelf_of files) (shelf_of files) o) }
+{
+    let netlist = match read_netlist(alloc, netlist_text) {
+        Ok(netlist) => netlist,
+        Err(stop) => return Err(stop.at(File::Netlist)),
+    };
+    match list_params(alloc, params_text, &netlist) {
+        Ok(params) => Ok(Source { netlist, params }),
+        Err(stop) => Err(stop.at(File::Params)),
+    }
+}
+
+// The source circuit of a case's texts, mapped.
+fn map_case(alloc: Global, netlist_text: &[u8], params_text: &[u8]) -> Result<MappedSource, Outcome>
+    requires netlist { length netlist_text.now ≤ MOST_BYTES }
+    requires params { length params_text.now ≤ MOST_BYTES }
+    ensures read { IfOk result (λ m. IsReadSource m.source) }
+    ensures tables { IfOk result (λ m. AreTables m.source 4 m.tables) }
+    ensures comes { IfOk result (λ m. (files : Files) → HaveSource files netlist_text.now params_text.now → ComesPast files case_words.source m) }
+    ensures err { IfErr result (λ o. (files : Files) → HaveSource files netlist_text.now params_text.now → Explains (source_reading case_words.source) (shelf_of files) (shelf_of files) o) }
+{
+    let source = match read_case(alloc, netlist_text, params_text) {
+        Ok(source) => source,
+        Err(outcome) => return Err(outcome),
+    };
+    match map_source(alloc, &source, TABLE_SIZE) {
+        Ok(tables) => Ok(MappedSource { source, tables }),
+        Err(stop) => Err(stop.at(File::Netlist)),
+    }
+}
+
+// The events of a case's script.
+fn case_events(
+    alloc: Global,
+    script_text: &[u8],
+    mapped: &MappedSource,
+) -> Result<Vec<Event>, Outcome>
+    requires short { length script_text.now ≤ MOST_BYTES }
+    requires read { IsReadSource mapped.now.source }
+    requires tables { AreMade mapped.now.source mapped.now.tables }
+    ensures script { IfOk result (λ events. (files : Files) → HasText files case_words.script script_text.now → HasScript files case_words.script (names_of mapped.now.source mapped.now.tables.template.bits) (event_values events.items)) }
+    ensures fit { IfOk result (λ events. (event : EventValue) → In (event_values events.items) event → Fits (names_of mapped.now.source mapped.now.tables.template.bits) event) }
+    ensures settled { OnOk result ((files : Files) → HasText files case_words.script script_text.now → IsScriptSettled files case_words.script (names_of mapped.now.source mapped.now.tables.template.bits)) }
+    ensures err { IfErr result (λ o. (files : Files) → HasText files case_words.script script_text.now → Explains (script_reading case_words.script (names_of mapped.now.source mapped.now.tables.template.bits)) (shelf_of files) (shelf_of files) o) }
+{
+    let names = match script_names(alloc, mapped) {
+        Ok(names) => names,
+        Err(_) => return Err(Outcome::Memory),
+    };
+    match list_events(alloc, script_text, &names) {
+        Ok(events) => Ok(events),
+        Err(stop) => Err(stop.at(File::Script)),
+    }
+}
+
+// The job of a case's texts.
+fn ready_case(
+    alloc: Global,
+    netlist_text: &[u8],
+    params_text: &[u8],
+    script_text: &[u8],
+) -> Result<Ready, Outcome>
+    requires netlist { length netlist_text.now ≤ MOST_BYTES }
+    requires params { length params_text.now ≤ MOST_BYTES }
+    requires script { length script_text.now ≤ MOST_BYTES }
+    ensures ready { IfOk result (λ r. CanPlay (event_values r.events.items) r.machine) }
+    ensures prepared { IfOk result (λ r. (files : Files) → HaveCase files netlist_text.now params_text.now script_text.now → IsReadyFor files case_words r) }
+    ensures err { IfErr result (λ o. (files : Files) → HaveCase files netlist_text.now params_text.now script_text.now → Explains (run_reading case_words) (shelf_of files) (shelf_of files) o) }
+{
+    let mapped = match map_case(alloc, netlist_text, params_text) {
+        Ok(mapped) => mapped,
+        Err(outcome) => return Err(outcome),
+    };
+    let events = match case_events(alloc, script_text, &mapped) {
+        Ok(events) => events,
+        Err(outcome) => return Err(outcome),
+    };
+    match start_machine(alloc, mapped) {
+        Ok(machine) => Ok(Ready { machine, events }),
+        Err(_) => Err(Outcome::Memory),
+    }
+}
+
+/// Generates the case of some words, reads and maps it, and takes all the memory that its events need.
+///
+/// # Errors
+/// The outcome of the command: the first refusal of the texts, or want of memory.
+pub fn prepare_case(alloc: Global, words: &GenWords) -> Result<Ready, Outcome>
+    requires { HasDigits words.now }
+    ensures ready { IfOk result (λ r. CanPlay (event_values r.events.items) r.machine) }
+    ensures prepared { IfOk result (IsReadyFor (case_files words.now) case_words) }
+    ensures err { IfErr result (λ o. (old new : ShelfSeen) → Explains (gen_reading words.now) old new o) }
+{
+    match multiplier(alloc, words.digits, words.seed) {
+        Ok(case) => ready_case(alloc, &case.netlist, &case.params, &case.script),
+        Err(_) => Err(Outcome::Memory),
+    }
+}

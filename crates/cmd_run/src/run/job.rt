@@ -1,0 +1,41 @@
+//! The command `run`.
+ghost use Rattle.std.specs.Prelude.{◌≡◌, ◌≤◌, ◌+◌, length, map};
+ghost use Rattle.tl_io.specs.Causes.{Rose};
+ghost use Rattle.cmd_base.specs.Outside.{outside};
+ghost use Rattle.cmd_base.specs.Ends.{Ends};
+ghost use Rattle.cmd_base.specs.WalkLaws.{HasLaws};
+ghost use Rattle.cmd_run.specs.Run.Words.{run_seen, IsInRange};
+ghost use Rattle.cmd_run.specs.Run.Verdict.{run_walk};
+
+use crate::run::play::play;
+use crate::run::prepare::prepare;
+use crate::run::words::RunWords;
+use cmd_base::Outcome;
+use run_core::StepErr;
+use std::alloc::Global;
+use tl_io::{ConfigPort, Shelf, Sink};
+
+/// Runs the command: maps a source circuit, and plays a script on it.
+pub fn run_job<S: Shelf, O: Sink, P: ConfigPort>(
+    alloc: Global,
+    words: &RunWords,
+    shelf: &mut S,
+    out: &mut O,
+    ports: &mut Vec<P>,
+) -> Outcome
+    requires { IsInRange (length ports.old.items) words.now }
+    ensures ends { Ends (run_walk (run_seen words.now)) (S.seen shelf.old) (S.seen shelf.new) (outside (S.seen shelf.old).files (O.bytes out.old) (map P.port_seen ports.old.items)) (outside (S.seen shelf.new).files (O.bytes out.new) (map P.port_seen ports.new.items)) result }
+    ensures write_fault { result ≡ Outcome.WriteFault → Rose (O.faults out.old) (O.faults out.new) }
+    ensures files { (S.seen shelf.new).files ≡ (S.seen shelf.old).files }
+    ensures laws { HasLaws (run_walk (run_seen words.now)) }
+{
+    let mut ready = match prepare(alloc, words, shelf) {
+        Ok(ready) => ready,
+        Err(outcome) => return outcome,
+    };
+    match play(alloc, &mut ready, words.ports, out, ports) {
+        Ok(()) => Outcome::Done,
+        Err(StepErr::WriteFault) => Outcome::WriteFault,
+        Err(StepErr::PortFault) => Outcome::PortFault,
+    }
+}

@@ -1,0 +1,102 @@
+//! The playing of a job.
+ghost use Rattle.std.specs.Prelude.{◌≡◌, ◌≤◌, ◌<◌, ◌+◌, length, map, Option, Err};
+ghost use Rattle.tl_io.specs.Causes.{Rose};
+ghost use Rattle.tl_io.specs.Shelf.{Files};
+ghost use Rattle.run_text.specs.EventValue.{event_values};
+ghost use Rattle.port_bank.specs.Image.{Holds};
+ghost use Rattle.port_bank.specs.Seen.{bank_seen};
+ghost use Rattle.cmd_base.specs.Outside.{outside};
+ghost use Rattle.cmd_run.specs.Run.Ends.{IsPlayEnd, HaveFailed};
+ghost use Rattle.cmd_run.specs.Run.Ready.{CanPlay, EventsEnd, RunEnd};
+
+use crate::run::prepare::Ready;
+use crate::run::words::PortCounts;
+use aig_core::Steps;
+use port_bank::PortBank;
+use run_core::{Machine, StepErr};
+use run_text::Event;
+use std::alloc::Global;
+use std::marker::Brand;
+use std::mem;
+use std::sync::ledger::{Blank, Ledger};
+use tl_io::{ConfigPort, Sink};
+
+// Plays events, with a counter of the steps that their changes of parameters take.
+fn play_with<O: Sink, P: ConfigPort, L: Ledger>(
+    machine: &mut Machine,
+    events: &[Event],
+    out: &mut O,
+    bank: &mut PortBank<P>,
+    blank: Blank,
+) -> Result<(), StepErr>
+    requires name { blank.name ≡ L.name }
+    requires parts { blank.parts ≡ L.parts }
+    requires some { 0 < L.parts }
+    requires can_play { CanPlay (event_values events.now) machine.old }
+    requires holds { Holds machine.old.host.state.config (bank_seen P.port_seen bank.old) }
+    ensures ends { EventsEnd (record { machine = machine.old; bank = bank_seen P.port_seen bank.old }) (event_values events.now) (O.bytes out.old) (O.bytes out.new) (bank_seen P.port_seen bank.new) result }
+    ensures later { O.faults out.old ≤ O.faults out.new }
+    ensures cause { result ≡ Err StepErr.WriteFault → Rose (O.faults out.old) (O.faults out.new) }
+{
+    let mut steps = Steps::<L>::start(blank);
+    for event in events {
+        machine.step(event, out, bank, &mut steps)?;
+    }
+    Ok(())
+}
+
+// Plays events.
+fn play_events<O: Sink, P: ConfigPort>(
+    machine: &mut Machine,
+    events: &[Event],
+    out: &mut O,
+    bank: &mut PortBank<P>,
+) -> Result<(), StepErr>
+    requires can_play { CanPlay (event_values events.now) machine.old }
+    requires holds { Holds machine.old.host.state.config (bank_seen P.port_seen bank.old) }
+    ensures ends { EventsEnd (record { machine = machine.old; bank = bank_seen P.port_seen bank.old }) (event_values events.now) (O.bytes out.old) (O.bytes out.new) (bank_seen P.port_seen bank.new) result }
+    ensures later { O.faults out.old ≤ O.faults out.new }
+    ensures cause { result ≡ Err StepErr.WriteFault → Rose (O.faults out.old) (O.faults out.new) }
+{
+    play_with::<O, P, Brand>(machine, events, out, bank, Blank::new(1))
+}
+
+// Puts the header, loads the ports, and plays events.
+fn play_all<O: Sink, P: ConfigPort>(
+    machine: &mut Machine,
+    events: &[Event],
+    out: &mut O,
+    bank: &mut PortBank<P>,
+) -> Result<(), StepErr>
+    requires can_play { CanPlay (event_values events.now) machine.old }
+    ensures ends { RunEnd machine.old (event_values events.now) (bank_seen P.port_seen bank.old) (O.bytes out.old) (O.bytes out.new) (bank_seen P.port_seen bank.new) result }
+    ensures cause { result ≡ Err StepErr.WriteFault → Rose (O.faults out.old) (O.faults out.new) }
+{
+    machine.header(out)?;
+    machine.load(bank)?;
+    play_events(machine, events, out, bank)
+}
+
+/// Plays a job: puts its header, loads the ports that serve, and plays each event, sends its writes and puts its line.
+///
+/// # Errors
+/// `WriteFault` only where the count of `out` rose, `PortFault` only where all the spares failed and one port more.
+pub fn play<O: Sink, P: ConfigPort>(
+    alloc: Global,
+    ready: &mut Ready,
+    counts: PortCounts,
+    out: &mut O,
+    ports: &mut Vec<P>,
+) -> Result<(), StepErr>
+    requires can_play { CanPlay (event_values ready.old.events.items) ready.old.machine }
+    requires within { counts.serving + counts.spares ≤ length ports.old.items }
+    ensures ends { (files : Option Files) → IsPlayEnd counts ready.old.machine (event_values ready.old.events.items) (outside files (O.bytes out.old) (map P.port_seen ports.old.items)) (outside files (O.bytes out.new) (map P.port_seen ports.new.items)) result }
+    ensures cause { result ≡ Err StepErr.WriteFault → Rose (O.faults out.old) (O.faults out.new) }
+    ensures failed { result ≡ Err StepErr.PortFault → HaveFailed counts (map P.port_seen ports.old.items) (map P.port_seen ports.new.items) }
+{
+    let handed_in = mem::replace(ports, Vec::new(alloc));
+    let mut bank = PortBank::make(handed_in, counts.serving, counts.spares);
+    let result = play_all(&mut ready.machine, &ready.events, out, &mut bank);
+    *ports = bank.release();
+    result
+}

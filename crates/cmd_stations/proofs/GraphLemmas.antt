@@ -1,0 +1,149 @@
+-- A graph has one template, or is refused for one reason.
+use Rattle.std.proofs.Common.{◌≡◌, ℕ, ◌<◌, ◌≤◌, List, length, Some, sym, ap, ◌∙◌, subst, arith}
+use Rattle.aig_build.specs.declared.TheConstants.{MOST_NODES}
+use Rattle.aig_build.specs.CoverGraph.{Literals}
+use Rattle.aig_build.specs.NetlistGraph.{IsGraphOf, HasTooManyNodes, HasOneGraph}
+use Rattle.std.proofs.Math.Path.{fun_ext}
+use Rattle.std.proofs.lemmas.Option.{same_Some, none-some}
+use Rattle.aig_core.specs.Aig.{Aig, node_count}
+use Rattle.aig_core.specs.Roots.{RootsValue, roots_of}
+use Rattle.cut_enum.specs.Limits.{IsLimit}
+use Rattle.cut_enum.specs.Table.{AreRows}
+use Rattle.cut_enum.specs.Refusals.{refusal_of as cut_refusal}
+use Rattle.cut_enum.specs.declared.table.CutErr.{CutErr}
+use Rattle.depth_label.specs.Label.{LabelsValue, label_of, AreLabelled, HasOneLabelling}
+use Rattle.cover_pick.specs.Template.{TemplateValue, IsTemplate, IsTooMuch}
+use Rattle.cover_pick.specs.Work.{IsLight}
+use Rattle.cover_pick.specs.Refusals.{refusal_of as pick_refusal}
+use Rattle.cover_pick.specs.declared.lut.PickErr.{PickErr}
+use Rattle.cover_pick.specs.declared.lut.PickErr.TheVariants as pick_err
+use Rattle.tl_fault.specs.RefusalValue.{RefusalValue}
+use Rattle.cmd_stations.specs.declared.source.Source.{Source}
+use Rattle.cmd_stations.specs.Mapped.{IsChosen, IsUnchosen, cuts, work, IsMapped, IsUnmappedGraph, IsUnmapped, too_many, unchosen}
+use Rattle.cmd_stations.specs.Settled.{IsGraphSettled, IsMappingSettled}
+use Rattle.cmd_stations.proofs.InputLemmas.{same_parts}
+
+-- what the enumeration says of limits
+module _ (g : Aig) (k : ℕ) (roots : RootsValue)
+    (once : (e f : CutErr) → IsLimit g k e → IsLimit g k f → e ≡ f)
+    (excluded : (e : CutErr) (rows : List (List (List ℕ))) → IsLimit g k e → AreRows g k (node_count g) rows → ⊥) where
+  limit_refused : (e : CutErr) (r s : RefusalValue) → IsLimit g k e → IsUnchosen g k roots r → IsUnchosen g k roots s → r ≡ s
+  limit_refused e r s l (cuts d m is) (cuts d2 m2 is2) = same_Some r s (sym is ∙ (ap (λ x. cut_refusal x) (once d d2 m m2) ∙ is2))
+  limit_refused e r s l (work o is) other = absurd (excluded e o.rows l o.labelled.rows_are)
+  limit_refused e r s l one (work o is) = absurd (excluded e o.rows l o.labelled.rows_are)
+
+  -- A graph with too many cuts is settled.
+  pub limit_settled : (e : CutErr) → IsLimit g k e → IsGraphSettled g k roots
+  limit_settled e l = record {
+    one_template = λ t u c d. absurd (excluded e c.rows l c.labelled.rows_are);
+    not_both = λ t r c u. excluded e c.rows l c.labelled.rows_are;
+    one_refusal = λ r s u v. limit_refused e r s l u v;
+  }
+
+  -- what the enumeration, the labels and the choice say of the graph's one table
+  module _ (rows : List (List (List ℕ))) (are : AreRows g k (node_count g) rows)
+      (one_table : (some other : List (List (List ℕ))) → AreRows g k (node_count g) some → AreRows g k (node_count g) other → some ≡ other)
+      (labels : LabelsValue) (labelled : AreLabelled g rows labels) (one : HasOneLabelling g rows)
+      (same_template : (t u : TemplateValue) → IsTemplate g rows (label_of labels) roots t → IsTemplate g rows (label_of labels) roots u → t ≡ u)
+      (apart : (t : TemplateValue) → IsTemplate g rows (label_of labels) roots t → IsLight g t.luts → IsTooMuch g rows (label_of labels) (roots_of roots) → ⊥) where
+    labels_here : (other : LabelsValue) → AreLabelled g rows other → label_of other ≡ label_of labels
+    labels_here other w = fun_ext (λ n. one.once other labels w labelled n)
+
+    template_here : (some : List (List (List ℕ))) (other : LabelsValue) (t : TemplateValue) → AreRows g k (node_count g) some → AreLabelled g some other → IsTemplate g some (label_of other) roots t → IsTemplate g rows (label_of labels) roots t
+    template_here some other t a w is =
+        let same : some ≡ rows = one_table some rows a are in
+        subst (λ label. IsTemplate g rows label roots t) (labels_here other (subst (λ rs. AreLabelled g rs other) same w)) (subst (λ rs. IsTemplate g rs (label_of other) roots t) same is)
+
+    much_here : (some : List (List (List ℕ))) (other : LabelsValue) → AreRows g k (node_count g) some → AreLabelled g some other → IsTooMuch g some (label_of other) (roots_of roots) → IsTooMuch g rows (label_of labels) (roots_of roots)
+    much_here some other a w is =
+        let same : some ≡ rows = one_table some rows a are in
+        subst (λ label. IsTooMuch g rows label (roots_of roots)) (labels_here other (subst (λ rs. AreLabelled g rs other) same w)) (subst (λ rs. IsTooMuch g rs (label_of other) (roots_of roots)) same is)
+
+    -- A graph with a table is settled.
+    pub table_settled : IsGraphSettled g k roots
+    table_settled = record {
+      one_template = λ t u c d. same_template t u (chosen_here t c) (chosen_here u d);
+      not_both = λ t r c u. chosen_or t r c.rows c.labels c.labelled.rows_are c.labelled.labels_are c.chosen c.light u;
+      one_refusal = table_refused;
+    }
+      where
+        chosen_here : (t : TemplateValue) → IsChosen g k roots t → IsTemplate g rows (label_of labels) roots t
+        chosen_here t c = template_here c.rows c.labels t c.labelled.rows_are c.labelled.labels_are c.chosen
+
+        chosen_or : (t : TemplateValue) (r : RefusalValue) (some : List (List (List ℕ))) (other : LabelsValue) → AreRows g k (node_count g) some → AreLabelled g some other → IsTemplate g some (label_of other) roots t → IsLight g t.luts
+            → IsUnchosen g k roots r → ⊥
+        chosen_or t r some other a w is light (cuts e l told) = excluded e some l a
+        chosen_or t r some other a w is light (work o told) = apart t (template_here some other t a w is) light (much_here o.rows o.labels o.labelled.rows_are o.labelled.labels_are o.too_much)
+
+        table_refused : (r s : RefusalValue) → IsUnchosen g k roots r → IsUnchosen g k roots s → r ≡ s
+        table_refused r s (cuts e l told) other = absurd (excluded e rows l are)
+        table_refused r s one_ (cuts e l told) = absurd (excluded e rows l are)
+        table_refused r s (work o told) (work p told2) = same_Some r s (sym told ∙ told2)
+
+-- the choice's one refusal
+pub work_is : (e : PickErr) (r : RefusalValue) → pick_refusal e ≡ Some r → pick_refusal pick_err.Work ≡ Some r
+work_is pick_err.Work r is = is
+work_is pick_err.Memory r is = absurd (none-some r is)
+
+-- the graph of a source circuit is the only one
+module _ (source : Source) (one : HasOneGraph source.netlist.library source.netlist.flat source.params.list) where
+  abbrev pub IsGraph : Aig → RootsValue → Type 0
+  IsGraph g roots = IsGraphOf source.netlist.library source.netlist.flat source.params.list g roots
+
+  pub same_graph : (g h : Aig) (roots others : RootsValue) → IsGraph g roots → IsGraph h others → g ≡ h
+  same_graph g h roots others a b =
+      let made : a.made ≡ b.made = one.only a.made b.made a.are_made b.are_made in
+      let kinds : g.kinds ≡ h.kinds = a.kinds ∙ sym b.kinds in
+      let pairs : g.pairs ≡ h.pairs = a.pairs ∙ ap (λ (m : Literals). m.pairs) made ∙ sym b.pairs in
+      let max : g.max ≡ h.max = a.max ∙ sym b.max in
+      ap (λ ks. record { kinds = ks; pairs = g.pairs; max = g.max }) kinds ∙ ap (λ ps. record { kinds = h.kinds; pairs = ps; max = g.max }) pairs ∙ ap (λ n. record { kinds = h.kinds; pairs = h.pairs; max = n }) max
+
+  same_roots : (g h : Aig) (roots others : RootsValue) → IsGraph g roots → IsGraph h others → roots ≡ others
+  same_roots g h roots others a b =
+      let made : a.made ≡ b.made = one.only a.made b.made a.are_made b.are_made in
+      let parts = same_parts roots.outputs others.outputs roots.next others.next (a.outputs ∙ sym b.outputs) (a.literals ∙ ap (λ (m : Literals). m.lits) made ∙ sym b.literals) in
+      ap (λ o. record { outputs = o; next = roots.next }) parts.0 ∙ ap (λ n. record { outputs = others.outputs; next = n }) parts.1
+
+  -- it has too many nodes or it doesn't
+  few_or_many : (g : Aig) (roots : RootsValue) → IsGraph g roots → length g.pairs ≤ MOST_NODES → HasTooManyNodes source.netlist.library source.netlist.flat source.params.list → ⊥
+  few_or_many g roots a few over =
+      let made : a.made ≡ over.made = one.only a.made over.made a.are_made over.are_made in
+      let count : length g.pairs ≡ length over.made.pairs = ap length (a.pairs ∙ ap (λ (m : Literals). m.pairs) made) in
+      let many : MOST_NODES < length over.made.pairs = over.many in
+      omega arith
+
+  -- A source circuit with too many nodes is settled.
+  pub full_settled : (k : ℕ) → HasTooManyNodes source.netlist.library source.netlist.flat source.params.list → IsMappingSettled source k
+  full_settled k over = record {
+    one_template = λ t u m n. absurd (few_or_many m.graph m.roots m.is_graph m.nodes over);
+    not_both = λ t r m u. few_or_many m.graph m.roots m.is_graph m.nodes over;
+    one_refusal = once;
+  }
+    where
+      once : (r s : RefusalValue) → IsUnmapped source k r → IsUnmapped source k s → r ≡ s
+      once r s (too_many h e) (too_many h2 e2) = same_Some r s (sym e ∙ e2)
+      once r s (unchosen u) other = absurd (few_or_many u.graph u.roots u.is_graph u.nodes over)
+      once r s some (unchosen u) = absurd (few_or_many u.graph u.roots u.is_graph u.nodes over)
+
+  -- So is one whose graph is settled.
+  pub mapping_settled : (k : ℕ) (g : Aig) (roots : RootsValue) → IsGraph g roots → length g.pairs ≤ MOST_NODES → IsGraphSettled g k roots → IsMappingSettled source k
+  mapping_settled k g roots is few graph = record {
+    one_template = λ t u m n. graph.one_template t u (chosen_here m.graph m.roots t m.is_graph m.chosen) (chosen_here n.graph n.roots u n.is_graph n.chosen);
+    not_both = mapped_or;
+    one_refusal = once;
+  }
+    where
+      chosen_here : (h : Aig) (others : RootsValue) (t : TemplateValue) → IsGraph h others → IsChosen h k others t → IsChosen g k roots t
+      chosen_here h others t a c = subst (λ x. IsChosen g k x t) (same_roots h g others roots a is) (subst (λ x. IsChosen x k others t) (same_graph h g others roots a is) c)
+
+      refused_here : (r : RefusalValue) → IsUnmappedGraph source k r → IsUnchosen g k roots r
+      refused_here r u = subst (λ x. IsUnchosen g k x r) (same_roots u.graph g u.roots roots u.is_graph is) (subst (λ x. IsUnchosen x k u.roots r) (same_graph u.graph g u.roots roots u.is_graph is) u.unchosen)
+
+      mapped_or : (t : TemplateValue) (r : RefusalValue) → IsMapped source k t → IsUnmapped source k r → ⊥
+      mapped_or t r m (too_many over e) = few_or_many g roots is few over
+      mapped_or t r m (unchosen u) = graph.not_both t r (chosen_here m.graph m.roots t m.is_graph m.chosen) (refused_here r u)
+
+      once : (r s : RefusalValue) → IsUnmapped source k r → IsUnmapped source k s → r ≡ s
+      once r s (too_many over e) other = absurd (few_or_many g roots is few over)
+      once r s some (too_many over e) = absurd (few_or_many g roots is few over)
+      once r s (unchosen u) (unchosen v) = graph.one_refusal r s (refused_here r u) (refused_here s v)

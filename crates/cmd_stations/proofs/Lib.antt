@@ -1,0 +1,24 @@
+-- of texts and files, and of the stops at them,
+mod StopLemmas
+mod FileLemmas
+mod TextLemmas
+pub mod OnceLemmas
+pub mod ClashLemmas
+pub mod RefusedLemmas
+pub mod StationLemmas
+-- of the graph and the tables of a source circuit,
+pub mod GraphLemmas
+mod InputLemmas
+mod SourceLemmas
+pub mod ShowLemmas
+pub mod InitLemmas
+-- of what is written,
+pub mod WriteLemmas
+pub mod WriteAllLemmas
+mod WrittenTableLemmas
+mod WrittenCycleLemmas
+-- and of packs and their hosts.
+pub mod EventLemmas
+pub mod PackLemmas
+mod AlikeLemmas
+pub mod ReplayLemmas

@@ -1,0 +1,85 @@
+-- Hosts that start on the same pack are alike, and a file is of one pack.
+use Rattle.std.proofs.Common.{◌≡◌, ℕ, Bool, List, length, Some, sym, ap, ◌∙◌, subst, inr, refl}
+use Rattle.std.specs.FinMap.{get}
+use Rattle.std.proofs.lemmas.List.{length-map}
+use Rattle.std.proofs.lemmas.Option.{same_Some}
+use Rattle.tl_io.specs.Shelf.{Files}
+use Rattle.aig_core.specs.Aig.{Aig}
+use Rattle.aig_core.specs.Value.{FitsGraph}
+use Rattle.aig_core.specs.declared.lit.Kind.{Kind}
+use Rattle.aig_core.specs.declared.lit.Lit.{Lit}
+use Rattle.aig_core.specs.declared.lit.Pair.{Pair}
+use Rattle.ppc_pack.specs.declared.pack.PackParam.{PackParam}
+use Rattle.ppc_pack.specs.Pack.{PackValue, IsConf, inits_of}
+use Rattle.ppc_file.specs.PackFile.{IsPackFile, AreSame}
+use Rattle.ppc_file.proofs.OneReading.{one_reading}
+use Rattle.spec_core.specs.Specialiser.{SpecialiserValue}
+use Rattle.cmd_stations.specs.Packs.{HasPack, present_bytes}
+use Rattle.cmd_stations.specs.Host.{IsHostStart}
+use Rattle.cmd_stations.specs.Replay.{SamePacksReplay}
+use Rattle.cmd_stations.proofs.AlikeLemmas.{AreAlike, StandAlike, same_conf, come_alike}
+
+-- the same parameters, graph and bits, but for the graph's room
+abbrev roomed : PackValue → ℕ → PackValue
+roomed p n = record { params = p.params; graph = record { kinds = p.graph.kinds; pairs = p.graph.pairs; max = n }; bits = p.bits }
+
+roomed_is : (p q : PackValue) → AreSame p q → roomed p q.graph.max ≡ q
+roomed_is p q same =
+    ap (λ (ps : List PackParam). let r : PackValue = record { params = ps; graph = record { kinds = p.graph.kinds; pairs = p.graph.pairs; max = q.graph.max }; bits = p.bits } in r) same.params
+    ∙ ap (λ (ks : List Kind). let r : PackValue = record { params = q.params; graph = record { kinds = ks; pairs = p.graph.pairs; max = q.graph.max }; bits = p.bits } in r) same.kinds
+    ∙ ap (λ (ps : List Pair). let r : PackValue = record { params = q.params; graph = record { kinds = q.graph.kinds; pairs = ps; max = q.graph.max }; bits = p.bits } in r) same.pairs
+    ∙ ap (λ (ls : List Lit). let r : PackValue = record { params = q.params; graph = q.graph; bits = ls } in r) same.bits
+
+-- the room doesn't matter to the values
+fits_roomed : (g : Aig) (n : ℕ) (sources values : List Bool) → FitsGraph g sources values → FitsGraph (record { kinds = g.kinds; pairs = g.pairs; max = n }) sources values
+fits_roomed g n sources values fits = record {
+  given = fits.given;
+  count = fits.count;
+  constant = fits.constant;
+  source = fits.source;
+  node = λ m p is. fits.node m p (record { above = is.above; is = is.is });
+}
+
+-- so packs that are the same are alike
+pub same_alike : (p q : PackValue) → AreSame p q → AreAlike p q
+same_alike p q same = record {
+  count = ap length same.params;
+  conf = λ params config len is.
+      subst (λ (r : PackValue). IsConf r params config) (roomed_is p q same) (record { values = is.values; fits = fits_roomed p.graph q.graph.max params is.values is.fits; are = is.are });
+}
+
+-- hosts that start on them stand alike
+pub start_alike : (p q : PackValue) (alike : AreAlike p q) → inits_of p.params ≡ inits_of q.params → (h k : SpecialiserValue) → IsHostStart p h → (there : IsHostStart q k) → StandAlike p q alike there.one_config h k
+start_alike p q alike inits h k here there =
+    let params : h.state.params ≡ k.state.params = here.params ∙ (inits ∙ sym there.params) in
+    let long : length (inits_of q.params) ≡ length q.params = length-map q.params (λ (x : PackParam). x.init) in
+    record {
+      pack = here.pack;
+      other = there.pack;
+      params = params;
+      config = same_conf p q alike there.one_config p q (inits_of p.params) (inits_of q.params) h.state.config k.state.config refl refl inits long here.config there.config;
+      count = ap length there.params ∙ long;
+    }
+
+-- and so they put the same lines
+pub same_packs_replay : SamePacksReplay
+same_packs_replay p q same = record {
+  are = λ h k here there events lines others end last steps again.
+      (come_alike p q (same_alike p q same) there.one_config (start_alike p q (same_alike p q same) (ap inits_of same.params) h k here there) steps again refl).lines_are;
+}
+
+-- packs that are the same as one are the same as each other
+pub same_both : (p q r : PackValue) → AreSame p r → AreSame r q → AreSame p q
+same_both p q r a b = record { params = a.params ∙ b.params; kinds = a.kinds ∙ b.kinds; pairs = a.pairs ∙ b.pairs; bits = a.bits ∙ b.bits }
+
+-- the pack of a file
+pub file_same : (bytes : List ℕ) (p q : PackValue) → IsPackFile bytes p → IsPackFile bytes q → AreSame p q
+file_same bytes p q a b = (one_reading bytes).one_pack p q a b
+
+-- the file in version 2 of the pack of a file is a file of that pack
+pub repacked : (bytes : List ℕ) (pack : PackValue) → IsPackFile bytes pack → IsPackFile (present_bytes pack) pack
+repacked bytes pack is = record { is_pack = is.is_pack; normal = is.normal; spelled = inr refl }
+
+-- the pack of a file with these bytes
+pub pack_at : (files : Files) (name bytes : List ℕ) (p : PackValue) → get files name ≡ Some bytes → HasPack files name p → IsPackFile bytes p
+pack_at files name bytes p at has = subst (λ bs. IsPackFile bs p) (same_Some has.bytes bytes (sym has.there.is ∙ at)) has.is

@@ -1,0 +1,131 @@
+-- The tables of a source circuit's graph, under the configuration of any values of the parameters, play the source circuit's cycles.
+use Rattle.std.proofs.Common.{◌≡◌, ℕ, ◌+◌, Bool, List, ◌∷◌, ◌++◌, length, map, sym, ap, ◌∙◌, subst, subst₂, arith}
+use Rattle.std.proofs.lemmas.List.{length-map, length-append}
+use Rattle.std.proofs.lemmas.Simd.{map-map}
+use Rattle.list_laws.specs.Members.{In}
+use Rattle.list_laws.proofs.Members.{In-left, In-right}
+use Rattle.tl_text.specs.Once.{AreOnce}
+use Rattle.netlist.specs.LibraryValue.{LibraryValue}
+use Rattle.netlist.specs.declared.flat.FlatLatch.{FlatLatch}
+use Rattle.netlist.specs.declared.flat.Net.{Net}
+use Rattle.netlist.specs.declared.flat.OutPort.{OutPort}
+use Rattle.netlist.specs.FlatValue.{FlatValue}
+use Rattle.netlist.specs.Runs.{IsCycle}
+use Rattle.param_list.specs.declared.params.Param.{Param}
+use Rattle.param_list.specs.Parameters.{param_inits}
+use Rattle.param_list.proofs.RegularLemmas.{is_split}
+use Rattle.aig_core.specs.declared.lit.Lit.{Lit}
+use Rattle.aig_core.specs.declared.lit.Pair.{Pair}
+use Rattle.aig_core.specs.Aig.{Aig, first_and, AreNormal}
+use Rattle.aig_core.specs.Roots.{roots_of, lits_of}
+use Rattle.aig_core.specs.Value.{value_of, HasOneFit}
+use Rattle.aig_core.proofs.FitLemmas.{one_fit}
+use Rattle.aig_build.specs.CoverGraph.{Literals}
+use Rattle.aig_build.specs.NetlistGraph.{MakesAll, none, more, input_names}
+use Rattle.aig_build.specs.NetlistCycle.{source_values, literal_values}
+use Rattle.cover_pick.specs.declared.lut.Lut.{Lut}
+use Rattle.cover_pick.specs.Template.{TemplateValue}
+use Rattle.lut_sim.specs.Cycle.{FitsTables}
+use Rattle.ppc_pack.specs.Pack.{PackValue, inits_of}
+use Rattle.bit_fun.specs.Configuration.{IsMapped}
+use Rattle.bit_fun.specs.Lawful.{IsLawful}
+use Rattle.bit_fun.specs.PackLaw.{HasConfigurations}
+use Rattle.bit_fun.specs.PackOf.{pack_param, IsPackOf}
+use Rattle.bit_fun.proofs.PackLemmas.{pack_made}
+use Rattle.cmd_stations.specs.declared.source.Source.{Source}
+use Rattle.cmd_stations.specs.SourceCircuit.{width_of, shape_of}
+use Rattle.cmd_stations.specs.Tables.{HasTables, IsReadSource}
+use Rattle.cmd_stations.specs.Tunable.{HasSourceTables}
+use Rattle.cmd_stations.proofs.InputLemmas.{input_at, parts_are}
+use Rattle.cmd_stations.proofs.SourceLemmas.{source_shape, source_params, source_values_are, source_values_count}
+
+-- the inputs of a source circuit that was read stand once
+names_once : (source : Source) → IsReadSource source → AreOnce (input_names source.netlist.flat source.params.list)
+names_once source read = (is_split source.netlist.flat source.params.list read.netlist.bounds.inputs_once read.params).once
+
+-- its tables map its graph
+pub tables_mapped : (source : Source) (g : Aig) (t : TemplateValue) → HasTables source g t → IsMapped g t.luts
+tables_mapped source g t h = record { k = h.k; roots = roots_of h.roots; bits = t.bits; mapping = h.chosen.mapping }
+
+-- the template's outputs and next states are among the roots
+pub outputs_among : (source : Source) (g : Aig) (t : TemplateValue) (h : HasTables source g t) (l : ℕ) → In (lits_of t.outputs) l → In (roots_of h.roots) l
+outputs_among source g t h l i = In-left (lits_of h.roots.outputs) (lits_of h.roots.next) l (subst (λ ls. In (lits_of ls) l) h.chosen.chosen.outputs i)
+
+pub next_among : (source : Source) (g : Aig) (t : TemplateValue) (h : HasTables source g t) (l : ℕ) → In (lits_of t.next) l → In (roots_of h.roots) l
+next_among source g t h l i = In-right (lits_of h.roots.outputs) (lits_of h.roots.next) l (subst (λ ls. In (lits_of ls) l) h.chosen.chosen.next i)
+
+-- there is a literal for each net that is made
+made_count : (library : LibraryValue) (flat : FlatValue) (params : List Param) {pairs : List Pair} {nets : List Net} {made : Literals} → MakesAll library flat params pairs nets made → length made.lits ≡ length nets
+made_count library flat params (none no_nets is) = ap (λ (m : Literals). length m.lits) is ∙ sym (ap (λ (ns : List Net). length ns) no_nets)
+made_count library flat params {nets = nets} {made = made} (more net rest this others are one all is) =
+    let later : length others.lits ≡ length rest = made_count library flat params all in
+    let here : length made.lits ≡ length (record { 0 = this.lit } ∷ others.lits) = ap (λ (m : Literals). length m.lits) is in
+    let there : length nets ≡ length (net ∷ rest) = ap (λ (ns : List Net). length ns) are in
+    omega arith
+
+-- so there is a next state for each latch
+pub next_count : (source : Source) (g : Aig) (t : TemplateValue) → HasTables source g t → length t.next ≡ length source.netlist.flat.latches
+next_count source g t h =
+    let flat = source.netlist.flat in
+    let made = h.is_graph.made in
+    let outs = map (λ (o : OutPort). o.net) flat.outputs in
+    let ins = map (λ (l : FlatLatch). l.input) flat.latches in
+    let a : length made.lits ≡ length (outs ++ ins) = made_count source.netlist.library flat source.params.list h.is_graph.are_made in
+    let b : length (outs ++ ins) ≡ length outs + length ins = length-append outs ins in
+    let c : length outs ≡ length flat.outputs = length-map flat.outputs (λ (o : OutPort). o.net) in
+    let d : length ins ≡ length flat.latches = length-map flat.latches (λ (l : FlatLatch). l.input) in
+    let e : length (h.roots.outputs ++ h.roots.next) ≡ length made.lits = ap (λ (ls : List Lit). length ls) h.is_graph.literals in
+    let f : length (h.roots.outputs ++ h.roots.next) ≡ length h.roots.outputs + length h.roots.next = length-append h.roots.outputs h.roots.next in
+    let k : length h.roots.outputs ≡ length flat.outputs = h.is_graph.outputs in
+    let n : length t.next ≡ length h.roots.next = ap (λ (ls : List Lit). length ls) h.chosen.chosen.next in
+    omega arith
+
+-- the pack of tables has the parameters of the list, and a bit of it for each bit of the template
+pub pack_params : (g : Aig) (luts : List Lut) (list : List Param) (pack : PackValue) → IsPackOf g luts list pack → length pack.params ≡ length list
+pack_params g luts list pack is = ap length is.params_are ∙ length-map list pack_param
+
+pub pack_inits : (g : Aig) (luts : List Lut) (list : List Param) (pack : PackValue) → IsPackOf g luts list pack → inits_of pack.params ≡ param_inits list
+pack_inits g luts list pack is = ap inits_of is.params_are ∙ map-map (λ p. p.init) pack_param list
+
+pub pack_bits : (source : Source) (g : Aig) (t : TemplateValue) (pack : PackValue) → HasTables source g t → IsPackOf g t.luts source.params.list pack → length pack.bits ≡ t.bits
+pack_bits source g t pack h is =
+    let list = source.params.list in
+    ap length is.bits ∙ (pack_made g t.luts list (param_inits list) is.made (tables_mapped source g t h) (source_params source g h.is_graph.kinds) (length-map list (λ (p : Param). p.init)) is.makes).count ∙ sym h.chosen.mapping.sum
+
+-- a cycle of the tables is the source circuit's, under any values of the parameters
+module _ (source : Source) (read : IsReadSource source) (g : Aig) (normal : AreNormal (first_and g) g.pairs) (t : TemplateValue) (h : HasTables source g t) where
+  -- the values of the sources, and of the graph
+  abbrev sources : (List ℕ → Bool) → List Bool → List Bool
+  sources x s = source_values source.netlist.flat source.params.list x s
+
+  values_in : (x : List ℕ → Bool) (s : List Bool) → length s ≡ length source.netlist.flat.latches → HasOneFit g (sources x s)
+  values_in x s states = one_fit g (sources x s) normal (source_values_count source g x s h.is_graph.kinds states)
+
+  cycle_in : (x : List ℕ → Bool) (s : List Bool) → (states : length s ≡ length source.netlist.flat.latches)
+      → IsCycle source.netlist.library x s (literal_values (values_in x s states).values h.roots.outputs) (literal_values (values_in x s states).values h.roots.next)
+  cycle_in x s states = h.cycles.is_cycle x s (values_in x s states).values states (values_in x s states).fits
+
+  table_values : (params config values s : List Bool) → IsLawful g t.luts params config → length params ≡ length source.params.list → length values ≡ width_of source → (states : length s ≡ length source.netlist.flat.latches)
+      → FitsTables t.luts (shape_of source) config values s (value_of (values_in (input_at source params values) s states).values)
+  table_values params config values s law params_len len states =
+      let x = input_at source params values in
+      law (shape_of source) values s (sources x s) (values_in x s states).values (source_shape source g h.is_graph.kinds) (source_values_are source params values s (names_once source read) params_len len states)
+      (values_in x s states).fits
+
+  pub tables_play : (pack : PackValue) → IsPackOf g t.luts source.params.list pack → HasConfigurations g t.luts pack → HasSourceTables source t pack
+  tables_play pack is conf = record {
+    cycles = λ params config values s outputs next params_len is_conf len states only.
+        let x = input_at source params values in
+        let parts = parts_are source (names_once source read) params values params_len len in
+        let graph : List Bool = (values_in x s states).values in
+        let law : IsLawful g t.luts params config = conf.law params config (params_len ∙ sym (pack_params g t.luts source.params.list pack is)) is_conf in
+        let fits = table_values params config values s law params_len len states in
+        let outputs_are : outputs ≡ literal_values graph h.roots.outputs = only.outputs_are (value_of graph) fits ∙ ap (λ ls. literal_values graph ls) h.chosen.chosen.outputs in
+        let next_are : next ≡ literal_values graph h.roots.next = only.next_are (value_of graph) fits ∙ ap (λ ls. literal_values graph ls) h.chosen.chosen.next in
+        record {
+          x = x;
+          regular = parts.0;
+          parameters = parts.1;
+          cycle = subst₂ (IsCycle source.netlist.library x s) (sym outputs_are) (sym next_are) (cycle_in x s states);
+        };
+  }

@@ -1,0 +1,9 @@
+use Rattle.std.proofs.Common.{sym, subst}
+use Rattle.cmd_stations.specs.declared.mapped.MappedSource.{MappedSource}
+use Rattle.cmd_stations.specs.Words.{source_seen}
+use Rattle.cmd_stations.specs.Tables.{ComesPast}
+use Rattle.cmd_stations.proofs.drafts.read_draft.Goals as goal
+
+pub returns-in-Ok-make_draft-clause-comes : goal.returns-in-Ok-make_draft-clause-comes
+returns-in-Ok-make_draft-clause-comes g c files told =
+    subst (λ (m : MappedSource). ComesPast files (source_seen c.args.words.now) m) (sym c.in-Ok-make_draft.ensures.mapped) (c.in-Ok.ensures.comes files told)

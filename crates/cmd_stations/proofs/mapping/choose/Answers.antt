@@ -1,0 +1,51 @@
+use Rattle.aig_core.specs.Roots.{roots_of}
+use Rattle.cut_enum.specs.Limits.{IsLimit}
+use Rattle.cut_enum.specs.Refusals.{refusal_of as cut_refusal}
+use Rattle.depth_label.specs.Label.{label_of}
+use Rattle.cover_pick.specs.Refusals.{refusal_of as pick_refusal}
+use Rattle.cover_pick.specs.Template.{IsTooMuch}
+use Rattle.cmd_stations.specs.Mapped.{IsUnchosen, cuts, work}
+use Rattle.cmd_stations.specs.Settled.{IsGraphSettled}
+use Rattle.cmd_stations.proofs.StopLemmas.{passed_stop, passed_settled, settled_anyway}
+use Rattle.cmd_stations.proofs.GraphLemmas.{limit_settled, table_settled, work_is}
+use Rattle.cmd_stations.proofs.mapping.choose.Goals as goal
+
+pub returns-in_err-table-clause-err : goal.returns-in_err-table-clause-err
+returns-in_err-table-clause-err c =
+    passed_stop cut_refusal (IsLimit c.args.graph.now c.args.k) (IsUnchosen c.args.graph.now c.args.k c.args.roots.now) c.from_residual.result c.in_err-table.field-0.0 c.in_err-table.ensures.err c.from_residual.ensures.1
+    (λ r told limit. cuts c.in_err-table.field-0.0 limit told)
+
+pub returns-in_err-table-clause-settled : goal.returns-in_err-table-clause-settled
+returns-in_err-table-clause-settled c =
+    passed_settled cut_refusal (IsLimit c.args.graph.now c.args.k) (IsGraphSettled c.args.graph.now c.args.k c.args.roots.now) c.from_residual.result c.in_err-table.field-0.0 c.in_err-table.ensures.err c.from_residual.ensures.1
+    (λ r told limit. limit_settled c.args.graph.now c.args.k c.args.roots.now c.enumerate.ensures.once c.enumerate.ensures.excluded c.in_err-table.field-0.0 limit)
+
+pub returns-in_err-template-clause-err : goal.returns-in_err-template-clause-err
+returns-in_err-template-clause-err c =
+    passed_stop pick_refusal (λ _. IsTooMuch c.args.graph.now c.in_ok-table.table (label_of c.in_ok-labels.labels) (roots_of c.args.roots.now)) (IsUnchosen c.args.graph.now c.args.k c.args.roots.now)
+    c.from_residual-in_err-template.result c.in_err-template.field-0.0 c.in_err-template.ensures.work c.from_residual-in_err-template.ensures.1
+    (λ r told much. work
+    (record { rows = c.in_ok-table.table; labels = c.in_ok-labels.labels; labelled = record { rows_are = c.in_ok-table.ensures.ok; labels_are = c.in_ok-labels.ensures.ok }; too_much = much })
+    (work_is c.in_err-template.field-0.0 r told))
+
+pub returns-in_err-template-clause-settled : goal.returns-in_err-template-clause-settled
+returns-in_err-template-clause-settled c =
+    settled_anyway c.from_residual-in_err-template.result
+    (table_settled c.args.graph.now c.args.k c.args.roots.now c.enumerate.ensures.once c.enumerate.ensures.excluded c.in_ok-table.table c.in_ok-table.ensures.ok c.enumerate.ensures.one_table
+    c.in_ok-labels.labels c.in_ok-labels.ensures.ok c.labels.ensures.once c.pick.ensures.once c.pick.ensures.excluded)
+
+pub returns-clause-chosen : goal.returns-clause-chosen
+returns-clause-chosen c = record {
+  rows = c.in_ok-table.table;
+  labels = c.in_ok-labels.labels;
+  labelled = record { rows_are = c.in_ok-table.ensures.ok; labels_are = c.in_ok-labels.ensures.ok };
+  chosen = c.in_ok-template.ensures.template;
+  mapping = c.in_ok-template.ensures.mapping c.args.k c.in_ok-table.ensures.ok;
+  least = c.in_ok-template.ensures.least c.args.k c.in_ok-table.ensures.ok;
+  light = c.in_ok-template.ensures.light;
+}
+
+pub returns-clause-settled : goal.returns-clause-settled
+returns-clause-settled c =
+    table_settled c.args.graph.now c.args.k c.args.roots.now c.enumerate.ensures.once c.enumerate.ensures.excluded c.in_ok-table.table c.in_ok-table.ensures.ok c.enumerate.ensures.one_table
+    c.in_ok-labels.labels c.in_ok-labels.ensures.ok c.labels.ensures.once c.pick.ensures.once c.pick.ensures.excluded

@@ -1,0 +1,72 @@
+-- The machine of a job with its ports: at the start, and behind events.
+use Rattle.std.specs.Prelude.{◌≡◌, ℕ, ◌+◌, Bool, List, [], ◌∷◌, ◌++◌, length, Ok}
+use Rattle.tl_io.specs.Writes.{writes_from}
+use Rattle.ppc_pack.specs.Pack.{IsConf, HasOneConf}
+use Rattle.run_text.specs.EventValue.{EventValue}
+use Rattle.param_list.specs.Parameters.{param_inits}
+use Rattle.port_bank.specs.Bank.{BankSeen}
+use Rattle.port_bank.specs.Image.{Holds}
+use Rattle.port_bank.specs.Moves.{MovesWithCause, KeepsPlaces}
+use Rattle.port_bank.specs.Send.{Plays}
+use Rattle.run_core.specs.Events.{MachineValue, IsPlayed, IsSteady}
+use Rattle.run_core.specs.EventLines.{event_line}
+use Rattle.run_core.specs.Sends.{HasSent}
+use Rattle.cmd_stations.specs.Mapped.{template_header}
+use Rattle.cmd_stations.specs.SourceCircuit.{shape_of}
+use Rattle.cmd_stations.specs.Tunable.{IsTunable}
+use Rattle.cmd_stations.specs.SourceCycle.{AreInits}
+use Rattle.cover_pick.specs.Template.{TemplateValue}
+use Rattle.cmd_stations.specs.declared.source.Source.{Source}
+
+-- a job: a source circuit, the template that it is mapped to, and the events of a script
+pub record Job : Type 0 where
+  pub source : Source
+  pub template : TemplateValue
+  pub events : List EventValue
+
+-- the machine at the start: under any values of the parameters there is one configuration; they have their listed values, with their configuration, and the latches their inits
+pub record IsStart (job : Job) (m : MachineValue) : Type 0 where
+  pub pack : IsTunable job.source job.template m.host.pack
+  pub one_config : (given : List Bool) → length given ≡ length m.host.pack.params → HasOneConf m.host.pack given
+  pub params : m.host.state.params ≡ param_inits job.source.params.list
+  pub config : IsConf m.host.pack (param_inits job.source.params.list) m.host.state.config
+  pub template : m.sim.template ≡ job.template
+  pub shape : m.sim.shape ≡ shape_of job.source
+  pub states : AreInits job.source m.sim.states
+
+-- the header line: the numbers of the template
+abbrev pub machine_header : MachineValue → List ℕ
+machine_header m = template_header m.sim.template
+
+-- a machine with its ports
+pub record Stage : Type 0 where
+  pub machine : MachineValue
+  pub bank : BankSeen
+
+-- the whole configuration was written to the ports, and they hold it
+pub record IsLoaded (config : List Bool) (old new : BankSeen) : Type 0 where
+  pub plays : Plays config (writes_from 0 config) old new (Ok tt)
+  pub moved : MovesWithCause old new
+  pub places : KeepsPlaces old new
+  pub holds : Holds config new
+
+-- an event was played, all its writes were sent, and the ports hold the configuration behind it
+pub record IsStep (event : EventValue) (old new : Stage) : Type 0 where
+  pub played : IsPlayed event old.machine new.machine
+  pub steady : IsSteady event old.machine.host new.machine.host
+  pub sent : HasSent event new.machine.host old.bank new.bank
+  pub moved : MovesWithCause old.bank new.bank
+  pub places : KeepsPlaces old.bank new.bank
+  pub holds : Holds new.machine.host.state.config new.bank
+
+-- some events one after the other, with their lines
+pub data AreSteps (old : Stage) : List EventValue → List (List ℕ) → Stage → Type 0 where
+  none : AreSteps old [] [] old
+  more : {events : List EventValue} {lines : List (List ℕ)} {mid new : Stage} (event : EventValue) → AreSteps old events lines mid → IsStep event mid new
+      → AreSteps old (events ++ event ∷ []) (lines ++ event_line event new.machine ∷ []) new
+
+-- the full load of the ports, and then some events
+pub record HasCome (m : MachineValue) (ports : BankSeen) (events : List EventValue) (lines : List (List ℕ)) (stage : Stage) : Type 0 where
+  pub loaded : BankSeen
+  pub load : IsLoaded m.host.state.config ports loaded
+  pub steps : AreSteps (record { machine = m; bank = loaded }) events lines stage

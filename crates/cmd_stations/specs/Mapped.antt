@@ -1,0 +1,73 @@
+-- The template of a graph, and what a graph is refused for.
+use Rattle.std.specs.Prelude.{◌≡◌, ℕ, ◌≤◌, List, length, Some}
+use Rattle.aig_build.specs.declared.TheConstants.{MOST_NODES}
+use Rattle.aig_build.specs.declared.build_err.BuildErr.TheVariants.{TooManyNodes}
+use Rattle.aig_build.specs.NetlistGraph.{IsGraphOf, HasTooManyNodes}
+use Rattle.aig_build.specs.Refusals.{refusal_of as build_refusal}
+use Rattle.aig_core.specs.Aig.{Aig, node_count}
+use Rattle.aig_core.specs.Roots.{RootsValue, roots_of}
+use Rattle.cut_enum.specs.Table.{AreRows}
+use Rattle.cut_enum.specs.Limits.{IsLimit}
+use Rattle.cut_enum.specs.Refusals.{refusal_of as cut_refusal}
+use Rattle.cut_enum.specs.declared.table.CutErr.{CutErr}
+use Rattle.depth_label.specs.Label.{LabelsValue, AreLabelled, label_of}
+use Rattle.cover_pick.specs.Template.{TemplateValue, IsTemplate, IsTooMuch}
+use Rattle.cover_pick.specs.Mapping.{IsMapping, IsLeast}
+use Rattle.cover_pick.specs.Work.{IsLight}
+use Rattle.cover_pick.specs.Refusals.{refusal_of as pick_refusal}
+use Rattle.cover_pick.specs.declared.lut.PickErr.TheVariants.{Work}
+use Rattle.run_text.specs.Lines.{header_line}
+use Rattle.tl_fault.specs.RefusalValue.{RefusalValue}
+use Rattle.cmd_stations.specs.declared.source.Source.{Source}
+
+-- the minimal cuts of all nodes of a graph and their labels, within the limits
+pub record IsLabelled (g : Aig) (k : ℕ) (rows : List (List (List ℕ))) (labels : LabelsValue) : Type 0 where
+  pub rows_are : AreRows g k (node_count g) rows
+  pub labels_are : AreLabelled g rows labels
+
+-- the chosen template of a graph: a mapping of it, of the least depth
+pub record IsChosen (g : Aig) (k : ℕ) (roots : RootsValue) (t : TemplateValue) : Type 0 where
+  pub rows : List (List (List ℕ))
+  pub labels : LabelsValue
+  pub labelled : IsLabelled g k rows labels
+  pub chosen : IsTemplate g rows (label_of labels) roots t
+  pub mapping : IsMapping g k (roots_of roots) t.luts t.bits
+  pub least : IsLeast g k (roots_of roots) t.luts t.depth
+  pub light : IsLight g t.luts
+
+-- its header line: how many tables there are, how many bits they have, and how deep they stand
+abbrev pub template_header : TemplateValue → List ℕ
+template_header t = header_line (length t.luts) t.bits t.depth
+
+-- the work of the chosen tables is too much
+pub record IsOverworked (g : Aig) (k : ℕ) (roots : RootsValue) : Type 0 where
+  pub rows : List (List (List ℕ))
+  pub labels : LabelsValue
+  pub labelled : IsLabelled g k rows labels
+  pub too_much : IsTooMuch g rows (label_of labels) (roots_of roots)
+
+-- what a graph is refused for when it is mapped: too many cuts, else too much work
+pub data IsUnchosen (g : Aig) (k : ℕ) (roots : RootsValue) (refusal : RefusalValue) : Type 0 where
+  cuts : (e : CutErr) → IsLimit g k e → cut_refusal e ≡ Some refusal → IsUnchosen g k roots refusal
+  work : IsOverworked g k roots → pick_refusal Work ≡ Some refusal → IsUnchosen g k roots refusal
+
+-- the template of a source circuit: that chosen for its graph, which has no more AND nodes than it may
+pub record IsMapped (source : Source) (k : ℕ) (t : TemplateValue) : Type 0 where
+  pub graph : Aig
+  pub roots : RootsValue
+  pub is_graph : IsGraphOf source.netlist.library source.netlist.flat source.params.list graph roots
+  pub nodes : length graph.pairs ≤ MOST_NODES
+  pub chosen : IsChosen graph k roots t
+
+-- what its graph is refused for, when there are no too many nodes
+pub record IsUnmappedGraph (source : Source) (k : ℕ) (refusal : RefusalValue) : Type 0 where
+  pub graph : Aig
+  pub roots : RootsValue
+  pub is_graph : IsGraphOf source.netlist.library source.netlist.flat source.params.list graph roots
+  pub nodes : length graph.pairs ≤ MOST_NODES
+  pub unchosen : IsUnchosen graph k roots refusal
+
+-- what a source circuit is refused for when it is mapped: too many AND nodes, else what its graph is refused for
+pub data IsUnmapped (source : Source) (k : ℕ) (refusal : RefusalValue) : Type 0 where
+  too_many : HasTooManyNodes source.netlist.library source.netlist.flat source.params.list → build_refusal TooManyNodes ≡ Some refusal → IsUnmapped source k refusal
+  unchosen : IsUnmappedGraph source k refusal → IsUnmapped source k refusal

@@ -1,0 +1,73 @@
+-- What the calls below say of a job: each of its files says one thing, or is refused for one reason.
+use Rattle.std.specs.Prelude.{◌≡◌, ℕ, ◌≤◌, List, []}
+use Rattle.tl_fault.specs.RefusalValue.{RefusalValue}
+use Rattle.tl_io.specs.Shelf.{Files}
+use Rattle.aig_core.specs.Aig.{Aig}
+use Rattle.aig_core.specs.Roots.{RootsValue}
+use Rattle.cover_pick.specs.Template.{TemplateValue}
+use Rattle.param_list.specs.ParamsText.{HasOneReading}
+use Rattle.cmd_base.specs.Walk.{Reading}
+use Rattle.cmd_base.specs.Refusals.{most_bytes}
+use Rattle.cmd_base.specs.declared.outcome.File.{File}
+use Rattle.cmd_base.specs.declared.outcome.File.TheVariants.{Netlist, Params, Script, Pack}
+use Rattle.cmd_stations.specs.declared.netlist_text.Netlist.{Netlist as NetlistValue}
+use Rattle.cmd_stations.specs.declared.source.Source.{Source}
+use Rattle.cmd_stations.specs.Words.{SourceWords}
+use Rattle.cmd_stations.specs.Texts.{HasText, IsNetlistText, NetlistRefusal}
+use Rattle.cmd_stations.specs.Mapped.{IsChosen, IsUnchosen, IsMapped, IsUnmapped}
+use Rattle.cmd_stations.specs.Source.{HasNetlist, HasSource, ReachesSource, IsSourceRefused}
+
+-- a netlist's text
+pub record IsTextSettled (text : List ℕ) : Type 0 where
+  pub one_netlist : (n m : NetlistValue) → IsNetlistText text n → IsNetlistText text m → n ≡ m
+  pub not_both : (n : NetlistValue) (r : RefusalValue) → IsNetlistText text n → NetlistRefusal text r → ⊥
+  pub one_refusal : (r s : RefusalValue) → NetlistRefusal text r → NetlistRefusal text s → r ≡ s
+
+-- a graph that is mapped
+pub record IsGraphSettled (g : Aig) (k : ℕ) (roots : RootsValue) : Type 0 where
+  pub one_template : (t u : TemplateValue) → IsChosen g k roots t → IsChosen g k roots u → t ≡ u
+  pub not_both : (t : TemplateValue) (r : RefusalValue) → IsChosen g k roots t → IsUnchosen g k roots r → ⊥
+  pub one_refusal : (r s : RefusalValue) → IsUnchosen g k roots r → IsUnchosen g k roots s → r ≡ s
+
+-- a source circuit that is mapped
+pub record IsMappingSettled (source : Source) (k : ℕ) : Type 0 where
+  pub one_template : (t u : TemplateValue) → IsMapped source k t → IsMapped source k u → t ≡ u
+  pub not_both : (t : TemplateValue) (r : RefusalValue) → IsMapped source k t → IsUnmapped source k r → ⊥
+  pub one_refusal : (r s : RefusalValue) → IsUnmapped source k r → IsUnmapped source k s → r ≡ s
+
+-- the netlist that files hold
+abbrev pub IsNetlistSettled : Files → SourceWords → Type 0
+IsNetlistSettled files words = (text : List ℕ) → HasText files words.netlist text → IsTextSettled text
+
+-- its parameters for a netlist
+abbrev pub AreParamsSettled : Files → SourceWords → NetlistValue → Type 0
+AreParamsSettled files words n = (text : List ℕ) → HasText files words.params text → HasOneReading n.flat text
+
+-- the source circuit that files hold, mapped, as far as its walk comes
+pub record IsSourceSettled (files : Files) (words : SourceWords) : Type 0 where
+  pub netlist : IsNetlistSettled files words
+  pub params : (n : NetlistValue) → HasNetlist files words n → AreParamsSettled files words n
+  pub mapping : (source : Source) → HasSource files words source → IsMappingSettled source words.k
+
+-- its files, and the word that names each; it has no script and no pack
+abbrev pub IsOfSource : File → Type 0
+IsOfSource Netlist = Unit {0}
+IsOfSource Params = Unit {0}
+IsOfSource Script = ⊥
+IsOfSource Pack = ⊥
+
+abbrev pub source_word : SourceWords → File → List ℕ
+source_word words Netlist = words.netlist
+source_word words file = words.params
+
+-- how its files are read
+abbrev pub source_reading : SourceWords → Reading
+source_reading words = record {
+  IsRead = IsOfSource;
+  word = source_word words;
+  last = Params;
+  HasGiven = λ file given. given ≤ most_bytes file;
+  Reaches = λ files file. ReachesSource files words file;
+  IsRefused = λ files file refusal. IsSourceRefused files words file refusal;
+  IsSettled = λ files. IsSourceSettled files words;
+}

@@ -1,0 +1,21 @@
+-- A clock cycle of a source circuit: of its library, under values of its parameters.
+use Rattle.std.specs.Prelude.{◌≡◌, ℕ, Bool, List, map}
+use Rattle.netlist.specs.LibraryValue.{ModelValue}
+use Rattle.netlist.specs.Places.{Place}
+use Rattle.netlist.specs.Runs.{AreLatches, inits_of, IsCycle}
+use Rattle.param_list.specs.Parameters.{regular_names, param_names}
+use Rattle.cmd_stations.specs.declared.source.Source.{Source}
+
+-- from latch states, under values of the regular inputs and of the parameters: the outputs and the next states of the library's cycle
+pub record IsSourceCycle (source : Source) (params values states outputs next : List Bool) : Type 0 where
+  pub x : List ℕ → Bool
+  pub regular : map x (regular_names source.netlist.flat source.params.list) ≡ values
+  pub parameters : map x (param_names source.params.list) ≡ params
+  pub cycle : IsCycle source.netlist.library x states outputs next
+
+-- the latches' inits
+pub record AreInits (source : Source) (states : List Bool) : Type 0 where
+  pub main : ModelValue
+  pub latches : List Place
+  pub are_latches : AreLatches source.netlist.library main latches
+  pub are : states ≡ inits_of source.netlist.library latches

@@ -1,0 +1,28 @@
+-- The configuration bits of a source circuit's tables as functions of its parameters.
+use Rattle.std.specs.Prelude.{◌≡◌, Bool, List, length}
+use Rattle.aig_core.specs.Aig.{Aig}
+use Rattle.aig_core.specs.Roots.{RootsValue}
+use Rattle.aig_build.specs.NetlistGraph.{IsGraphOf, HasOneGraph}
+use Rattle.cover_pick.specs.Template.{TemplateValue}
+use Rattle.ppc_pack.specs.Pack.{PackValue, IsConf}
+use Rattle.bit_fun.specs.PackOf.{IsPackOf}
+use Rattle.bit_fun.specs.PackLaw.{HasConfigurations}
+use Rattle.lut_sim.specs.Cycle.{IsOnlyTableCycle}
+use Rattle.cmd_stations.specs.declared.source.Source.{Source}
+use Rattle.cmd_stations.specs.SourceCircuit.{width_of, shape_of}
+use Rattle.cmd_stations.specs.SourceCycle.{IsSourceCycle}
+
+-- Where no bit stands upset, the tables are the source circuit: under the configuration of any values of the parameters, a cycle of the tables, from any states, is the source circuit's under these values.
+pub record HasSourceTables (source : Source) (template : TemplateValue) (pack : PackValue) : Type 0 where
+  pub cycles : (params config values states outputs next : List Bool) → length params ≡ length source.params.list → IsConf pack params config → length values ≡ width_of source → length states ≡ length source.netlist.flat.latches
+      → IsOnlyTableCycle template (shape_of source) config values states outputs next → IsSourceCycle source params values states outputs next
+
+-- the bits of a template as functions of the parameters, in one pack over the source circuit's one graph: its configurations are the template's, and its tables are the source circuit
+pub record IsTunable (source : Source) (template : TemplateValue) (pack : PackValue) : Type 0 where
+  pub graph : Aig
+  pub roots : RootsValue
+  pub is_graph : IsGraphOf source.netlist.library source.netlist.flat source.params.list graph roots
+  pub one_graph : HasOneGraph source.netlist.library source.netlist.flat source.params.list
+  pub pack_is : IsPackOf graph template.luts source.params.list pack
+  pub configurations : HasConfigurations graph template.luts pack
+  pub tables : HasSourceTables source template pack

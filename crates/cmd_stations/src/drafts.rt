@@ -1,0 +1,80 @@
+//! A mapped source circuit that is ready to be written.
+ghost use Rattle.std.specs.Prelude.{◌≡◌, ◌≤◌, false, IfOk, IfErr, OnOk};
+ghost use Rattle.tl_text.specs.declared.logical_lines.TheConstants.{MOST_BYTES};
+ghost use Rattle.blif_write.specs.Writable.{CanBeNamed};
+ghost use Rattle.cmd_base.specs.Ends.{Told, Explains};
+ghost use Rattle.cmd_stations.specs.Words.{source_seen};
+ghost use Rattle.cmd_stations.specs.Settled.{source_reading};
+ghost use Rattle.cmd_stations.specs.Tables.{IsReadSource, AreTables, ComesPast};
+ghost use Rattle.cmd_stations.specs.Drafts.{IsDraft};
+
+use crate::mapped::{MappedSource, read_mapped};
+use crate::source::Source;
+use crate::words::SourceWords;
+use cmd_base::Outcome;
+use run_text::{LineBuf, regular};
+use std::alloc::{AllocError, Global};
+use tl_io::Shelf;
+
+/// A mapped source circuit, with all that its files and its line need: the places of its regular inputs, and a buffer.
+#[derive(Drop)]
+pub struct Draft {
+    pub mapped: MappedSource,
+    pub regular: Vec<u32>,
+    pub buf: LineBuf,
+}
+
+// The places of the regular inputs of a source circuit.
+fn regular_places(alloc: Global, source: &Source) -> Result<Vec<u32>, AllocError>
+    requires { IsReadSource source.now }
+    ensures { IfOk result (λ places. CanBeNamed source.now.netlist.flat source.now.params.list places.items) }
+{
+    let places = regular(alloc, &source.netlist.flat, &source.params)?;
+    Ok(places)
+}
+
+// The draft of a mapped source circuit.
+fn make_draft(alloc: Global, mapped: MappedSource) -> Result<Draft, AllocError>
+    requires { IsReadSource mapped.source }
+    ensures mapped { IfOk result (λ d. d.mapped ≡ mapped) }
+    ensures named { IfOk result (λ d. CanBeNamed mapped.source.netlist.flat mapped.source.params.list d.regular.items) }
+{
+    let regular = regular_places(alloc, &mapped.source)?;
+    let buf = LineBuf::make(alloc)?;
+    Ok(Draft {
+        mapped,
+        regular,
+        buf,
+    })
+}
+
+/// Reads a source circuit, maps it, and takes what its files and its line need.
+///
+/// # Errors
+/// The outcome of a command whose walk ends there.
+pub fn read_draft<S: Shelf>(
+    alloc: Global,
+    words: &SourceWords,
+    shelf: &mut S,
+) -> Result<Draft, Outcome>
+    requires least { 2 ≤ words.now.k }
+    requires most { words.now.k ≤ 6 }
+    ensures draft { IfOk result IsDraft }
+    ensures tables { IfOk result (λ d. AreTables d.mapped.source words.now.k d.mapped.tables) }
+    ensures comes { IfOk result (λ d. Told (S.seen shelf.old).files (λ files. ComesPast files (source_seen words.now) d.mapped)) }
+    ensures given { OnOk result ((S.seen shelf.new).given ≤ MOST_BYTES) }
+    ensures err { IfErr result (Explains (source_reading (source_seen words.now)) (S.seen shelf.old) (S.seen shelf.new)) }
+    ensures later { (S.seen shelf.old).read_faults ≤ (S.seen shelf.new).read_faults }
+    ensures files { (S.seen shelf.new).files ≡ (S.seen shelf.old).files }
+    ensures write_faults { (S.seen shelf.new).write_faults ≡ (S.seen shelf.old).write_faults }
+    ensures not_writing { (S.seen shelf.new).is_writing ≡ false }
+{
+    let mapped = match read_mapped(alloc, words, shelf) {
+        Ok(mapped) => mapped,
+        Err(outcome) => return Err(outcome),
+    };
+    match make_draft(alloc, mapped) {
+        Ok(draft) => Ok(draft),
+        Err(_) => Err(Outcome::Memory),
+    }
+}

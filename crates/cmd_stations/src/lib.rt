@@ -1,0 +1,47 @@
+//! The stations that commands share, in the order of work: each reads a file or makes something of what was read, and refuses
+//! what it has to before the next one is reached.
+//!
+//! A *source circuit* is a netlist under its parameters. It is *mapped* to tables, whose bits are a *pack*; a *draft* is a mapped
+//! source circuit that is ready to be written. A *stop* is why a text isn't read, or a source circuit isn't mapped; at a file it
+//! is an outcome.
+//!
+//! - From a netlist to its mapping: `files.rt`, `netlist_text.rt`, `params.rt`, `mapping.rt`, `mapped.rt`, and `words.rt`, the words
+//!   that name them.
+//! - What is written of it: `drafts.rt`, `netlist_files.rt`, `pack_files.rt`, and `header.rt`, its line.
+//! - What is played: `packs.rt` and `script.rt`.
+//!
+//! The definitions of `specs/` bear the same names; `Machine.antt` and `Host.antt` say what the events of a script do to a
+//! machine and to its host.
+#![tactic(auto)]
+
+mod drafts;
+mod files;
+mod header;
+mod mapped;
+mod mapping;
+mod netlist_files;
+mod netlist_text;
+mod pack_files;
+mod packs;
+mod params;
+mod script;
+mod source;
+mod stop;
+mod tables;
+mod words;
+
+pub use drafts::{Draft, read_draft};
+pub use files::read_file;
+pub use header::put_template_header;
+pub use mapped::{MappedSource, read_mapped};
+pub use mapping::map_source;
+pub use netlist_files::{write_specialised, write_template};
+pub use netlist_text::{Netlist, read_netlist};
+pub use pack_files::write_pack;
+pub use packs::{bit_count, is_pack_file, read_pack, script_names};
+pub use params::{list_params, read_source};
+pub use script::{list_events, parameter_names, read_script_file};
+pub use source::Source;
+pub use stop::Stop;
+pub use tables::Tables;
+pub use words::{SourceWords, read_source_words, source_name, table_size};

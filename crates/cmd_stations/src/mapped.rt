@@ -1,0 +1,55 @@
+//! The source circuit that files hold, mapped to tables.
+ghost use Rattle.std.specs.Prelude.{◌≡◌, ◌≤◌, false, IfOk, IfErr, OnOk};
+ghost use Rattle.tl_text.specs.declared.logical_lines.TheConstants.{MOST_BYTES};
+ghost use Rattle.tl_io.specs.Shelf.{Files};
+ghost use Rattle.cmd_base.specs.Ends.{Told, Explains};
+ghost use Rattle.cmd_stations.specs.Words.{source_seen};
+ghost use Rattle.cmd_stations.specs.Settled.{source_reading};
+ghost use Rattle.cmd_stations.specs.Tables.{IsReadSource, AreTables, ComesPast};
+
+use crate::mapping::map_source;
+use crate::params::read_source;
+use crate::source::Source;
+use crate::tables::Tables;
+use crate::words::SourceWords;
+use cmd_base::{File, Outcome};
+use std::alloc::Global;
+use tl_io::Shelf;
+
+/// A source circuit with its tables.
+#[derive(Drop)]
+pub struct MappedSource {
+    pub source: Source,
+    pub tables: Tables,
+}
+
+/// Reads a source circuit, and maps it.
+///
+/// # Errors
+/// The outcome of a command whose walk ends there.
+pub fn read_mapped<S: Shelf>(
+    alloc: Global,
+    words: &SourceWords,
+    shelf: &mut S,
+) -> Result<MappedSource, Outcome>
+    requires least { 2 ≤ words.now.k }
+    requires most { words.now.k ≤ 6 }
+    ensures read { IfOk result (λ m. IsReadSource m.source) }
+    ensures tables { IfOk result (λ m. AreTables m.source words.now.k m.tables) }
+    ensures comes { IfOk result (λ m. Told (S.seen shelf.old).files (λ files. ComesPast files (source_seen words.now) m)) }
+    ensures given { OnOk result ((S.seen shelf.new).given ≤ MOST_BYTES) }
+    ensures err { IfErr result (Explains (source_reading (source_seen words.now)) (S.seen shelf.old) (S.seen shelf.new)) }
+    ensures later { (S.seen shelf.old).read_faults ≤ (S.seen shelf.new).read_faults }
+    ensures files { (S.seen shelf.new).files ≡ (S.seen shelf.old).files }
+    ensures write_faults { (S.seen shelf.new).write_faults ≡ (S.seen shelf.old).write_faults }
+    ensures not_writing { (S.seen shelf.new).is_writing ≡ false }
+{
+    let source = match read_source(alloc, words, shelf) {
+        Ok(source) => source,
+        Err(outcome) => return Err(outcome),
+    };
+    match map_source(alloc, &source, words.k) {
+        Ok(tables) => Ok(MappedSource { source, tables }),
+        Err(stop) => Err(stop.at(File::Netlist)),
+    }
+}

@@ -1,0 +1,115 @@
+//! The mapping of a source circuit to tables.
+ghost use Rattle.std.specs.Prelude.{◌≡◌, ◌≤◌, length, IfOk, IfErr, MatchResult};
+ghost use Rattle.tl_fault.specs.OrMemory.{OrMemory};
+ghost use Rattle.aig_core.specs.Aig.{first_and, AreNormal};
+ghost use Rattle.aig_core.specs.Roots.{AreRoots, roots_of};
+ghost use Rattle.aig_build.specs.declared.TheConstants.{MOST_NODES};
+ghost use Rattle.aig_build.specs.NetlistGraph.{IsGraphOf, HasTooManyNodes, HasOneGraph, source_kinds};
+ghost use Rattle.aig_build.specs.NetlistCycle.{HasSourceCycles};
+ghost use Rattle.aig_build.specs.Refusals.{refusal_of};
+ghost use Rattle.cover_pick.specs.Template.{TemplateValue};
+ghost use Rattle.lut_sim.specs.Playable.{IsPlayable};
+ghost use Rattle.cmd_stations.specs.Stops.{Stops};
+ghost use Rattle.cmd_stations.specs.SourceCircuit.{shape_of};
+ghost use Rattle.cmd_stations.specs.Mapped.{IsChosen, IsUnchosen, IsUnmapped};
+ghost use Rattle.cmd_stations.specs.Settled.{IsGraphSettled, IsMappingSettled};
+ghost use Rattle.cmd_stations.specs.Tables.{HasTables, IsReadSource, AreMade, AreTables};
+
+use crate::source::Source;
+use crate::stop::Stop;
+use crate::tables::Tables;
+use aig_build::{BuildErr, build};
+use aig_core::{Graph, Roots};
+use bit_fun::functions;
+use cover_pick::{Template, pick};
+use cut_enum::enumerate;
+use depth_label::labels;
+use lut_sim::Shape;
+use std::alloc::{AllocError, Global};
+
+// The chosen template of a graph.
+fn choose(alloc: Global, graph: &Graph, roots: &Roots, k: u8) -> Result<Template, Stop>
+    requires least { 2 ≤ k }
+    requires most { k ≤ 6 }
+    requires roots { AreRoots graph.now (roots_of roots.now) }
+    ensures chosen { IfOk result (λ t. IsChosen graph.now k roots.now t) }
+    ensures err { IfErr result (Stops (IsUnchosen graph.now k roots.now)) }
+    ensures settled { MatchResult result (λ _. IsGraphSettled graph.now k roots.now) (Stops (λ _. IsGraphSettled graph.now k roots.now)) }
+{
+    let table = enumerate(alloc, graph, k)?;
+    let labels = labels(alloc, graph, &table)?;
+    let template = pick(alloc, graph, roots, &table, &labels)?;
+    Ok(template)
+}
+
+// The shape of a graph's sources: the latches and the parameters, and what is left.
+fn source_shape(graph: &Graph, source: &Source) -> Shape
+    requires { graph.now.kinds ≡ source_kinds source.now.netlist.flat source.now.params.list }
+    ensures value { result ≡ shape_of source.now }
+
+    // A template of the graph can be played.
+    ensures playable { (t : TemplateValue) → HasTables source.now graph.now t → IsPlayable t result }
+{
+    let sources = graph.sources();
+    let params = source.params.list.len() as u32;
+    let latches = source.netlist.flat.latches.len() as u32;
+    Shape::new(sources - params - latches, params, latches)
+}
+
+// The tables of a graph by its template.
+fn tabulate(
+    alloc: Global,
+    source: &Source,
+    graph: &Graph,
+    template: Template,
+) -> Result<Tables, AllocError>
+    requires read { IsReadSource source.now }
+    requires normal { AreNormal (first_and graph.now) graph.now.pairs }
+    requires tables { HasTables source.now graph.now template }
+    requires nodes { length graph.now.pairs ≤ MOST_NODES }
+    ensures template { IfOk result (λ t. t.template ≡ template) }
+    ensures made { IfOk result (AreMade source.now) }
+{
+    let pack = functions(alloc, graph, &template, &source.params)?;
+    let shape = source_shape(graph, source);
+    Ok(Tables {
+        template,
+        pack,
+        shape,
+    })
+}
+
+// The graph of a source circuit, and its roots.
+fn source_graph(alloc: Global, source: &Source) -> Result<(Graph, Roots), BuildErr>
+    requires read { IsReadSource source.now }
+    ensures graph { IfOk result (λ made. IsGraphOf source.now.netlist.library source.now.netlist.flat source.now.params.list made.0 made.1) }
+    ensures lits { IfOk result (λ made. AreRoots made.0 (roots_of made.1)) }
+    ensures cycles { IfOk result (λ made. HasSourceCycles source.now.netlist.library source.now.netlist.flat source.now.params.list made.0 made.1) }
+    ensures nodes { IfOk result (λ made. length made.0.pairs ≤ MOST_NODES) }
+    ensures normal { IfOk result (λ made. AreNormal (first_and made.0) made.0.pairs) }
+    ensures err { IfErr result (OrMemory refusal_of (λ e. HasTooManyNodes source.now.netlist.library source.now.netlist.flat source.now.params.list)) }
+    ensures one { HasOneGraph source.now.netlist.library source.now.netlist.flat source.now.params.list }
+{
+    let netlist = &source.netlist;
+    let (graph, roots) = build(alloc, &netlist.library, &netlist.flat, &source.params)?;
+    let _count = graph.len();
+    Ok((graph, roots))
+}
+
+/// Maps a source circuit to tables of at most `k` inputs, with the least depth.
+///
+/// # Errors
+/// `Refused` for the first limit that its graph is over; `Memory` where there is none.
+pub fn map_source(alloc: Global, source: &Source, k: u8) -> Result<Tables, Stop>
+    requires least { 2 ≤ k }
+    requires most { k ≤ 6 }
+    requires read { IsReadSource source.now }
+    ensures tables { IfOk result (AreTables source.now k) }
+    ensures err { IfErr result (Stops (IsUnmapped source.now k)) }
+    ensures settled { MatchResult result (λ _. IsMappingSettled source.now k) (Stops (λ _. IsMappingSettled source.now k)) }
+{
+    let (graph, roots) = source_graph(alloc, source)?;
+    let template = choose(alloc, &graph, &roots, k)?;
+    let tables = tabulate(alloc, source, &graph, template)?;
+    Ok(tables)
+}

@@ -1,0 +1,92 @@
+//! The files of the two netlists of a source circuit.
+ghost use Rattle.std.specs.Prelude.{◌≡◌, Bool, List, length};
+ghost use Rattle.tl_io.specs.Causes.{HasCause};
+ghost use Rattle.tl_io.specs.Content.{Puts};
+ghost use Rattle.ppc_pack.specs.Pack.{IsConf};
+ghost use Rattle.blif_write.specs.PlainNetlist.{netlist_text};
+ghost use Rattle.cmd_stations.specs.Written.{RunsAs, IsTuned, specialised_of, template_of};
+ghost use Rattle.cmd_stations.specs.FileWrites.{WritesFile};
+ghost use Rattle.cmd_stations.specs.Drafts.{IsDraft};
+
+use crate::drafts::Draft;
+use blif_write::{specialised, template};
+use tl_io::{Failed, FileSink, Shelf, Sink};
+
+// Puts the netlist of the tables under a configuration.
+fn put_specialised<O: Sink>(draft: &Draft, config: &[bool], out: &mut O) -> Result<(), Failed>
+    requires { IsDraft draft.now }
+    ensures cause { HasCause (O.faults out.old) (O.faults out.new) result }
+    ensures grown { Puts (O.bytes out.old) (O.bytes out.new) (netlist_text (specialised_of draft.now.mapped.source draft.now.mapped.tables.template config.now)) result }
+    ensures through { O.through out.new ≡ O.through out.old }
+    ensures others { O.others out.new ≡ O.others out.old }
+{
+    let mapped = &draft.mapped;
+    specialised(
+        &mapped.source.netlist.flat,
+        &mapped.source.params,
+        &draft.regular,
+        &mapped.tables.template,
+        config,
+        out,
+    )
+}
+
+// Puts the netlist of the tables with their bits as inputs.
+fn put_template<O: Sink>(draft: &Draft, out: &mut O) -> Result<(), Failed>
+    requires { IsDraft draft.now }
+    ensures cause { HasCause (O.faults out.old) (O.faults out.new) result }
+    ensures grown { Puts (O.bytes out.old) (O.bytes out.new) (netlist_text (template_of draft.now.mapped.source draft.now.mapped.tables.template)) result }
+    ensures through { O.through out.new ≡ O.through out.old }
+    ensures others { O.others out.new ≡ O.others out.old }
+{
+    let mapped = &draft.mapped;
+    template(
+        &mapped.source.netlist.flat,
+        &mapped.source.params,
+        &draft.regular,
+        &mapped.tables.template,
+        out,
+    )
+}
+
+/// Writes the file of the netlist of the tables under a configuration.
+///
+/// Under that of values of the parameters, whatever is answered, the netlist runs as the source circuit under these.
+///
+/// # Errors
+/// `Failed` only where the count of write faults rose: then the file has a prefix of its bytes, or is as before.
+pub fn write_specialised<S: Shelf>(
+    draft: &Draft,
+    config: &[bool],
+    name: &str,
+    shelf: &mut S,
+) -> Result<(), Failed>
+    requires { IsDraft draft.now }
+    ensures cause { HasCause (S.seen shelf.old).write_faults (S.seen shelf.new).write_faults result }
+    ensures written { WritesFile (record { name = name.now; bytes = netlist_text (specialised_of draft.now.mapped.source draft.now.mapped.tables.template config.now) }) (S.seen shelf.old).files (S.seen shelf.new).files result }
+    ensures given { (S.seen shelf.new).given ≡ (S.seen shelf.old).given }
+    ensures means { (params : List Bool) → length params ≡ length draft.now.mapped.source.params.list → IsConf draft.now.mapped.tables.pack params config.now → RunsAs draft.now.mapped.source params (specialised_of draft.now.mapped.source draft.now.mapped.tables.template config.now) }
+{
+    shelf.begin_write(name)?;
+    let mut file = FileSink::over(shelf);
+    put_specialised(draft, config, &mut file)
+}
+
+/// Writes the file of the netlist of the tables with their bits as inputs.
+///
+/// Whatever is answered, the netlist is the source circuit wherever these inputs have the configuration of values of the
+/// parameters.
+///
+/// # Errors
+/// `Failed` only where the count of write faults rose: then the file has a prefix of its bytes, or is as before.
+pub fn write_template<S: Shelf>(draft: &Draft, name: &str, shelf: &mut S) -> Result<(), Failed>
+    requires { IsDraft draft.now }
+    ensures cause { HasCause (S.seen shelf.old).write_faults (S.seen shelf.new).write_faults result }
+    ensures written { WritesFile (record { name = name.now; bytes = netlist_text (template_of draft.now.mapped.source draft.now.mapped.tables.template) }) (S.seen shelf.old).files (S.seen shelf.new).files result }
+    ensures given { (S.seen shelf.new).given ≡ (S.seen shelf.old).given }
+    ensures means { IsTuned draft.now.mapped.source draft.now.mapped.tables.template draft.now.mapped.tables.pack (template_of draft.now.mapped.source draft.now.mapped.tables.template) }
+{
+    shelf.begin_write(name)?;
+    let mut file = FileSink::over(shelf);
+    put_template(draft, &mut file)
+}

@@ -1,0 +1,35 @@
+//! The netlist that a text denotes.
+ghost use Rattle.std.specs.Prelude.{◌≡◌, ◌≤◌, length, IfOk, IfErr, MatchResult};
+ghost use Rattle.tl_text.specs.declared.logical_lines.TheConstants.{MOST_BYTES};
+ghost use Rattle.cmd_stations.specs.Texts.{IsNetlistText, NetlistRefusal};
+ghost use Rattle.cmd_stations.specs.ReadNetlist.{IsReadNetlist};
+ghost use Rattle.cmd_stations.specs.Settled.{IsTextSettled};
+ghost use Rattle.cmd_stations.specs.Stops.{Stops};
+
+use crate::stop::Stop;
+use blif_flat::{Flat, flatten};
+use blif_read::{Library, read};
+use std::alloc::Global;
+
+/// A netlist: the library that a text denotes, and its flat circuit.
+#[derive(Drop)]
+pub struct Netlist {
+    pub library: Library,
+    pub flat: Flat,
+}
+
+/// The netlist that a text denotes.
+///
+/// # Errors
+/// `Refused` with the first refusal of the text, else with that of its library; `Memory` where there is none.
+pub fn read_netlist(alloc: Global, text: &[u8]) -> Result<Netlist, Stop>
+    requires { length text.now ≤ MOST_BYTES }
+    ensures ok { IfOk result (λ n. IsNetlistText text.now n) }
+    ensures read { IfOk result IsReadNetlist }
+    ensures err { IfErr result (Stops (NetlistRefusal text.now)) }
+    ensures settled { MatchResult result (λ _. IsTextSettled text.now) (Stops (λ _. IsTextSettled text.now)) }
+{
+    let library = read(alloc, text)?;
+    let flat = flatten(alloc, &library)?;
+    Ok(Netlist { library, flat })
+}

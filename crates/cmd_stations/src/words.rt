@@ -1,0 +1,47 @@
+//! The words that name a source circuit.
+ghost use Rattle.std.specs.Prelude.{◌≡◌, ◌≤◌, IfSome};
+ghost use Rattle.std.specs.Option.{option_map};
+ghost use Rattle.cmd_stations.specs.Settled.{source_word};
+ghost use Rattle.cmd_stations.specs.Words.{k_of, source_words, source_seen, IsTableSize};
+
+use cmd_base::File;
+
+/// The words that name a source circuit's files, and the size of its tables.
+#[derive(Clone, Copy)]
+pub struct SourceWords<'a> {
+    pub k: u8,
+    pub netlist: &'a str,
+    pub params: &'a str,
+}
+
+/// The number of a table's inputs, 2 to 6.
+pub fn table_size(word: &str) -> Option<u8>
+    ensures value { result ≡ k_of word.now }
+    ensures range { IfSome result (λ k. (2 ≤ k) × (k ≤ 6)) }
+{
+    match word.as_bytes() {
+        [digit] if b'2' <= *digit && *digit <= b'6' => Some(*digit - b'0'),
+        _ => None,
+    }
+}
+
+/// The words of a source circuit; `None` exactly where the first isn't a number from 2 to 6.
+pub fn read_source_words<'a>(k: &str, netlist: &'a str, params: &'a str) -> Option<SourceWords<'a>>
+    ensures value { option_map (λ w. source_seen w) result ≡ source_words (k_of k.now) netlist.now params.now }
+    ensures range { IfSome result (λ w. IsTableSize w.k) }
+{
+    match table_size(k) {
+        Some(k) => Some(SourceWords { k, netlist, params }),
+        None => None,
+    }
+}
+
+/// The word that names a file of a source circuit.
+pub fn source_name<'a>(words: &SourceWords<'a>, file: File) -> &'a str
+    ensures { result.now ≡ source_word (source_seen words.now) file }
+{
+    match file {
+        File::Netlist => words.netlist,
+        File::Params | File::Script | File::Pack => words.params,
+    }
+}

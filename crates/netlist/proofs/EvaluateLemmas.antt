@@ -1,0 +1,275 @@
+-- Evaluating a flat circuit in its order gives each cover the value of any map that fits, by the numbers of the nets.
+use Rattle.netlist.proofs.Common.{◌≡◌, ℕ, Bool, false, List, [], ◌∷◌, map, Some, refl, sym, ap, ap₂, ◌∙◌, subst, inl, inr, unwrap_or, ◌<◌, eqb, length, replicate, Option, ◌⊎◌, arith, slice_set, slice_get, option_and_then, In, both_ways, cases_Bool, length-set, length-replicate, same_Some, slice_get_within, at_within, set_here, set_other, zero, suc, true, subst₂, option_map, cond-true, cond-false, length-map, none-some, slice_get-map, In-left, In-right, In-get, AreApart, reversed_in, nodes_done}
+use Rattle.netlist.specs.CoverValue.{CoverValue}
+use Rattle.netlist.specs.{cover_value, ModelValue, Path, body_at, CoverAt, input_net, latch_net, cover_net, Place, cover_in, FlatNet, Fits, an_input, a_latch, a_cover, IsNetOf, AreNetsOf, cover_numbers, IsFlat, reads_at, inputs_at, IsFlatCover, net_value, AreGiven, cover_behind, value_of, gate_value, evaluated, flat_values, Evaluates, same_place, latch_at, is_latch, FlatOrder, OutPort, FlatLatch, flat_roots, IsFlatLatch, init_state, inits_of, state_of, next_state, next_states, IsCycle, stops, steps, IsRun, flat_outputs, flat_next, flat_inits, run_outputs, run_states, input_values, HasCycles, IsSound, latch_nets}
+use Rattle.netlist.specs.LibraryValue.{LibraryValue}
+use Rattle.std.proofs.Common.{eqb-true, eq-eqb}
+use Rattle.std.proofs.lemmas.Simd.{map-map}
+use Rattle.netlist.specs.Flat.{Places, none, more}
+use Rattle.netlist.specs.FlatCoverValue.{FlatCoverValue}
+use Rattle.netlist.specs.FlatValue.{FlatValue}
+use Rattle.netlist.specs.Runs.{Runs}
+use Rattle.netlist.specs.declared.flat.Net.TheVariants.{Input, Latch, Cover}
+use Rattle.netlist.proofs.OrderLemmas.{order_once, places_apart}
+use Rattle.netlist.proofs.RegularLemmas.{regular}
+use Rattle.netlist.proofs.PlaceLemmas.{latch_at-some, cover_at-is, same_place-is, same_place-refl}
+use Rattle.netlist.proofs.LawLemmas.{IsDriverValue, driven_value, sound_law}
+use Rattle.netlist.proofs.PostLemmas.{nodes_after, IsForward, reversed_forward}
+
+-- the value of the cover at a place is known
+abbrev pub IsKnown : LibraryValue → Places → (Path → List ℕ → Bool) → List Bool → ℕ → Type 0
+IsKnown library at value values j = (p : Place) (c : CoverValue) → slice_get at.covers j ≡ Some p → CoverAt library p.path p.command c → slice_get values j ≡ Some (value p.path c.output)
+
+-- the cover of a net, and those of others, among them all
+pub cover_first : (net : FlatNet) (nets : List FlatNet) (m : ℕ) → In (cover_numbers (net ∷ [])) m → In (cover_numbers (net ∷ nets)) m
+cover_first (Input j) nets m i = absurd i
+cover_first (Latch j) nets m i = absurd i
+cover_first (Cover j) nets m (inl e) = inl e
+cover_first (Cover j) nets m (inr i) = absurd i
+
+pub cover_later : (net : FlatNet) (nets : List FlatNet) (m : ℕ) → In (cover_numbers nets) m → In (cover_numbers (net ∷ nets)) m
+cover_later (Input j) nets m i = i
+cover_later (Latch j) nets m i = i
+cover_later (Cover j) nets m i = inr i
+
+module _ (library : LibraryValue) (flat : FlatValue) (f : IsFlat library flat) (x : List ℕ → Bool) (s : Path → ℕ → Bool) (xs ss : List Bool) (value : Path → List ℕ → Bool)
+    (given : AreGiven flat f.at x s xs ss) (fits : Fits library x s value) where
+  pub number_value : (values : List Bool) (path : Path) (name : List ℕ) (number : FlatNet) → IsNetOf library f.at path name number
+      → ((m : ℕ) → In (cover_numbers (number ∷ [])) m → IsKnown library f.at value values m) → net_value xs ss values number ≡ value path name
+  number_value values path name number o known =
+      let driven : IsDriverValue library s value o.net (value path name) = driven_value library x s value fits o.drives in
+      elim o.numbered [
+        | an_input own j e g q ↦ (
+            let d : IsDriverValue library s value (input_net own) (value path name) = subst (λ y. IsDriverValue library s value y (value path name)) e driven in
+            let h : slice_get flat.inputs j ≡ Some own = subst (λ l. slice_get l j ≡ Some own) f.places g in
+            let r = regular library flat f j own h in
+            ap (net_value xs ss values) q ∙ ap (λ y. unwrap_or y false) (given.inputs j own h) ∙ sym (fits.inputs own r.input r.off) ∙ sym d)
+        | a_latch p j e g q ↦ (
+            let d : IsDriverValue library s value (latch_net p.path p.command) (value path name) = subst (λ y. IsDriverValue library s value y (value path name)) e driven in
+            ap (net_value xs ss values) q ∙ ap (λ y. unwrap_or y false) (given.latches j p g) ∙ sym d)
+        | a_cover p j e g q ↦ (
+            let d : IsDriverValue library s value (cover_net p.path p.command) (value path name) = subst (λ y. IsDriverValue library s value y (value path name)) e driven in
+            let k : IsKnown library f.at value values j = known j (subst (λ y. In (cover_numbers (y ∷ [])) j) (sym q) (inl refl)) in
+            ap (net_value xs ss values) q ∙ ap (λ y. unwrap_or y false) (k p d.cover g d.at) ∙ sym d.is)
+      ]
+
+  pub numbers_value : (values : List Bool) (path : Path) {names : List (List ℕ)} {numbers : List FlatNet} → AreNetsOf library f.at path names numbers
+      → ((m : ℕ) → In (cover_numbers numbers) m → IsKnown library f.at value values m) → map (net_value xs ss values) numbers ≡ map (value path) names
+  numbers_value values path none known = refl
+  numbers_value values path (more name names number numbers o os) known =
+      ap₂ (λ (b : Bool) (bs : List Bool). b ∷ bs)
+      (number_value values path name number o (λ m i. known m (cover_first number numbers m i)))
+      (numbers_value values path os (λ m i. known m (cover_later number numbers m i)))
+
+-- the cover behind a flat one is the one of its place
+pub behind_is : (library : LibraryValue) (at : Places) (p : Place) (c : FlatCoverValue) (i : IsFlatCover library at p c) → cover_behind library c ≡ Some i.cover
+behind_is library at p c i =
+    ap₂ (λ (o : Option ModelValue) (n : ℕ). option_and_then (λ (m : ModelValue). option_and_then cover_in (body_at m n)) o) i.model i.command
+    ∙ cover_at-is library p.path p.command i.cover i.is
+
+done_next : (j k : ℕ) (ks done : List ℕ) → In done j ⊎ In (k ∷ ks) j → In (k ∷ done) j ⊎ In ks j
+done_next j k ks done (inl i) = inl (inr i)
+done_next j k ks done (inr (inl e)) = inl (inl e)
+done_next j k ks done (inr (inr i)) = inr i
+
+module _ (library : LibraryValue) (flat : FlatValue) (f : IsFlat library flat) (x : List ℕ → Bool) (s : Path → ℕ → Bool) (xs ss : List Bool) (value : Path → List ℕ → Bool)
+    (given : AreGiven flat f.at x s xs ss) (fits : Fits library x s value) where
+  -- the value written for a cover whose inputs are known
+  gate_at : (values : List Bool) (k : ℕ) → ((m : ℕ) → In (reads_at flat k) m → IsKnown library f.at value values m) → (p : Place) (c : CoverValue) (flat_cover : FlatCoverValue)
+      → slice_get (f.at).covers k ≡ Some p → CoverAt library p.path p.command c → slice_get flat.covers k ≡ Some flat_cover → gate_value library (slice_get flat.covers k) xs ss values ≡ value p.path c.output
+  gate_at values k known p c flat_cover g a e =
+      let i : IsFlatCover library f.at p flat_cover = f.covers k p flat_cover g e in
+      let same : i.cover ≡ c = same_Some i.cover c (sym (cover_at-is library p.path p.command i.cover i.is) ∙ cover_at-is library p.path p.command c a) in
+      ap (λ o. gate_value library o xs ss values) e
+      ∙ ap (λ o. value_of o (map (net_value xs ss values) flat_cover.inputs)) (behind_is library f.at p flat_cover i)
+      ∙ ap (cover_value i.cover) (numbers_value library flat f x s xs ss value given fits values p.path i.inputs
+      (λ m j. known m (subst (λ o. In (cover_numbers (inputs_at o)) m) (sym e) j)))
+      ∙ sym (fits.covers p.path p.command i.cover i.is)
+      ∙ ap (λ (y : CoverValue). value p.path y.output) same
+
+  now_known : (values : List Bool) (k : ℕ) → length values ≡ length flat.covers → ((m : ℕ) → In (reads_at flat k) m → IsKnown library f.at value values m)
+      → IsKnown library f.at value (slice_set values k (gate_value library (slice_get flat.covers k) xs ss values)) k
+  now_known values k len known p c g a =
+      let within : k < length (f.at).covers = slice_get_within (f.at).covers k p g in
+      let here : k < length flat.covers = omega arith in
+      let flat_cover = at_within flat.covers k here in
+      set_here values k (gate_value library (slice_get flat.covers k) xs ss values) (let l : k < length values = omega arith in l)
+      ∙ ap Some (gate_at values k known p c flat_cover.0 g a flat_cover.1)
+
+  still_known : (values : List Bool) (k : ℕ) (b : Bool) (j : ℕ) → IsKnown library f.at value (slice_set values k b) k → IsKnown library f.at value values j → IsKnown library f.at value (slice_set values k b) j
+  still_known values k b j new old = elim (cases_Bool (eqb j k)) [
+    | inl t ↦ subst (λ y. IsKnown library f.at value (slice_set values k b) y) (sym (eqb-true j k t)) new
+    | inr u ↦ λ p c g a. set_other values k j b (λ e. both_ways (eqb j k) u (eq-eqb j k e)) ∙ old p c g a
+  ]
+
+  evaluated_known : (ks done : List ℕ) (values : List Bool) → IsForward (reads_at flat) done ks → length values ≡ length flat.covers → ((j : ℕ) → In done j → IsKnown library f.at value values j)
+      → (j : ℕ) → In done j ⊎ In ks j → IsKnown library f.at value (evaluated library flat xs ss ks values) j
+  evaluated_known [] done values order len known j (inl i) = known j i
+  evaluated_known [] done values order len known j (inr i) = absurd i
+  evaluated_known (k ∷ ks) done values order len known j i =
+      let b : Bool = gate_value library (slice_get flat.covers k) xs ss values in
+      let new : IsKnown library f.at value (slice_set values k b) k = now_known values k len (λ m q. known m (order.0 m q)) in
+      evaluated_known ks (k ∷ done) (slice_set values k b) order.1 (length-set values k b ∙ len)
+      (λ m q. elim q [ inl e ↦ subst (λ y. IsKnown library f.at value (slice_set values k b) y) (sym e) new | inr r ↦ still_known values k b m new (known m r) ])
+      j (done_next j k ks done i)
+
+-- the cover of a net's number
+number_cover : (number : FlatNet) (m : ℕ) → In (cover_numbers (number ∷ [])) m → number ≡ Cover m
+number_cover (Input j) m i = absurd i
+number_cover (Latch j) m i = absurd i
+number_cover (Cover j) m (inl e) = ap Cover (sym e)
+number_cover (Cover j) m (inr i) = absurd i
+
+pub flat_evaluates : (library : LibraryValue) (flat : FlatValue) (f : IsFlat library flat) → Evaluates library flat f.at
+flat_evaluates library flat f = record {
+  each = λ x s xs ss value given fits k i p c g a.
+      evaluated_known library flat f x s xs ss value given fits flat.order [] (replicate (length flat.covers) false)
+      (reversed_forward (reads_at flat) flat.order (nodes_after (reads_at flat) f.order tt)) (length-replicate (length flat.covers) false) (λ j q. absurd q) k (inr i) p c g a;
+  names = λ x s xs ss value given fits path name net number drives numbered among.
+      number_value library flat f x s xs ss value given fits (flat_values library flat xs ss) path name number (record { net = net; drives = drives; numbered = numbered })
+      (λ m i. evaluated_known library flat f x s xs ss value given fits flat.order [] (replicate (length flat.covers) false)
+      (reversed_forward (reads_at flat) flat.order (nodes_after (reads_at flat) f.order tt)) (length-replicate (length flat.covers) false) (λ j q. absurd q) m (inr (among m (number_cover number m i))));
+}
+
+-- The flat circuit's cycle is the cycle of its hierarchy.
+
+-- each latch has the state that stands at its place
+state_at : (places : List Place) (states : List Bool) (j : ℕ) (p : Place) → AreApart places → length states ≡ length places → slice_get places j ≡ Some p → slice_get states j ≡ Some (state_of places states p.path p.command)
+state_at [] states j p apart n e = absurd (none-some p e)
+state_at (q ∷ places) [] j p apart n e = absurd (omega arith)
+state_at (q ∷ places) (b ∷ states) zero p apart n e =
+    let same : q ≡ p = same_Some q p e in
+    ap Some (sym (cond-true (same_place p q) b (state_of places states p.path p.command) (subst (λ y. same_place p y ≡ true) (sym same) (same_place-refl p))))
+state_at (q ∷ places) (b ∷ states) (suc j) p apart n e =
+    elim (cases_Bool (same_place p q)) [
+      | inl t ↦ absurd (apart.0 (subst (In places) (same_place-is p q t) (In-get places j p e)))
+      | inr f ↦ state_at places states j p apart.1 (omega (arith, n)) e ∙ ap Some (sym (cond-false (same_place p q) b (state_of places states p.path p.command) f))
+    ]
+
+module _ (library : LibraryValue) (flat : FlatValue) (f : IsFlat library flat) (x : List ℕ → Bool) (s outputs next : List Bool) (c : IsCycle library x s outputs next) where
+  abbrev xs : List Bool
+  xs = input_values flat x
+
+  abbrev values : List Bool
+  values = flat_values library flat xs s
+
+  abbrev state : Path → ℕ → Bool
+  state = state_of (f.at).latches s
+
+  main_same : c.main ≡ f.main
+  main_same = same_Some c.main f.main (sym (c.are_latches).at ∙ f.is_main)
+
+  latches_same : c.latches ≡ (f.at).latches
+  latches_same = order_once library is_latch (subst (λ m. FlatOrder library is_latch [] m c.latches) main_same (c.are_latches).order) f.latches_order
+
+  fits : Fits library x state c.value
+  fits = subst (λ l. Fits library x (state_of l s) c.value) latches_same c.fits
+
+  given : AreGiven flat f.at x state xs s
+  given = record {
+    inputs = λ j name e. slice_get-map x flat.inputs j ∙ ap (option_map x) e;
+    latches = λ j p e. state_at (f.at).latches s j p (places_apart library is_latch f.latches_order) (c.states ∙ ap length latches_same) e;
+  }
+
+  root_known : (m : ℕ) → In (flat_roots flat) m → IsKnown library f.at c.value values m
+  root_known m i = (flat_evaluates library flat f).each x state xs s c.value given fits m (reversed_in flat.order m (nodes_done (reads_at flat) f.order m i))
+
+  outputs_same : outputs ≡ flat_outputs library flat xs s
+  outputs_same =
+      c.outputs_are ∙ ap (λ (m : ModelValue). map (c.value []) m.outputs) main_same
+      ∙ sym (numbers_value library flat f x state xs s c.value given fits values [] f.outputs (λ m i. root_known m (In-left (cover_numbers (map (λ (o : OutPort). o.net) flat.outputs)) (cover_numbers (latch_nets flat.latches)) m i)))
+      ∙ map-map (net_value xs s values) (λ (o : OutPort). o.net) flat.outputs
+
+  next_at : (ps : List Place) (ls : List FlatLatch) → length ls ≡ length ps → ((k : ℕ) (p : Place) (l : FlatLatch) → slice_get ps k ≡ Some p → slice_get ls k ≡ Some l → IsFlatLatch library f.at p l)
+      → ((m : ℕ) → In (cover_numbers (latch_nets ls)) m → IsKnown library f.at c.value values m)
+      → map (λ (p : Place). next_state (c.value p.path) (latch_at library p)) ps ≡ map (λ (l : FlatLatch). net_value xs s values l.input) ls
+  next_at [] [] e are known = refl
+  next_at [] (l ∷ ls) e are known = absurd (omega arith)
+  next_at (p ∷ ps) [] e are known = absurd (omega arith)
+  next_at (p ∷ ps) (l ∷ ls) e are known =
+      let i : IsFlatLatch library f.at p l = are 0 p l refl refl in
+      ap₂ (λ (b : Bool) (bs : List Bool). b ∷ bs)
+      (ap (next_state (c.value p.path)) (latch_at-some library p i.latch i.is)
+      ∙ sym (number_value library flat f x state xs s c.value given fits values p.path (i.latch).input l.input i.input (λ k j. known k (cover_first l.input (latch_nets ls) k j))))
+      (next_at ps ls (omega (arith, e)) (λ k q r a b. are (suc k) q r a b) (λ k j. known k (cover_later l.input (latch_nets ls) k j)))
+
+  next_same : next ≡ flat_next library flat xs s
+  next_same =
+      c.next_are ∙ ap (map (λ (p : Place). next_state (c.value p.path) (latch_at library p))) latches_same
+      ∙ next_at (f.at).latches flat.latches f.latch_count f.latches (λ m i. root_known m (In-right (cover_numbers (map (λ (o : OutPort). o.net) flat.outputs)) (cover_numbers (latch_nets flat.latches)) m i))
+
+module _ (library : LibraryValue) (flat : FlatValue) (f : IsFlat library flat) where
+  -- the flat latches' inits are the latches'
+  inits_at : (ps : List Place) (ls : List FlatLatch) → length ls ≡ length ps → ((k : ℕ) (p : Place) (l : FlatLatch) → slice_get ps k ≡ Some p → slice_get ls k ≡ Some l → IsFlatLatch library f.at p l)
+      → inits_of library ps ≡ map (λ (l : FlatLatch). l.init) ls
+  inits_at [] [] e are = refl
+  inits_at [] (l ∷ ls) e are = absurd (omega arith)
+  inits_at (p ∷ ps) [] e are = absurd (omega arith)
+  inits_at (p ∷ ps) (l ∷ ls) e are =
+      let i : IsFlatLatch library f.at p l = are 0 p l refl refl in
+      ap₂ (λ (b : Bool) (bs : List Bool). b ∷ bs) (ap init_state (latch_at-some library p i.latch i.is) ∙ sym i.init) (inits_at ps ls (omega (arith, e)) (λ k q r a b. are (suc k) q r a b))
+
+  runs_outputs : {s : List Bool} {xs : List (List ℕ → Bool)} {outputs states : List (List Bool)} → Runs library s xs outputs states → outputs ≡ run_outputs library flat s (map (input_values flat) xs)
+  runs_outputs stops = refl
+  runs_outputs {s} (steps x xs outputs next all_outputs states c r) =
+      ap₂ (λ (b : List Bool) (bs : List (List Bool)). b ∷ bs) (outputs_same library flat f x s outputs next c)
+      (runs_outputs r ∙ ap (λ n. run_outputs library flat n (map (input_values flat) xs)) (next_same library flat f x s outputs next c))
+
+  runs_states : {s : List Bool} {xs : List (List ℕ → Bool)} {outputs states : List (List Bool)} → Runs library s xs outputs states → states ≡ run_states library flat s (map (input_values flat) xs)
+  runs_states stops = refl
+  runs_states {s} (steps x xs outputs next all_outputs states c r) =
+      ap₂ (λ (b : List Bool) (bs : List (List Bool)). b ∷ bs) (next_same library flat f x s outputs next c)
+      (runs_states r ∙ ap (λ n. run_states library flat n (map (input_values flat) xs)) (next_same library flat f x s outputs next c))
+
+  run_inits : {xs : List (List ℕ → Bool)} {outputs states : List (List Bool)} → (r : IsRun library xs outputs states) → inits_of library r.latches ≡ flat_inits flat
+  run_inits r =
+      let m : r.main ≡ f.main = same_Some r.main f.main (sym (r.are_latches).at ∙ f.is_main) in
+      let l : r.latches ≡ (f.at).latches = order_once library is_latch (subst (λ y. FlatOrder library is_latch [] y r.latches) m (r.are_latches).order) f.latches_order in
+      ap (inits_of library) l ∙ inits_at (f.at).latches flat.latches f.latch_count f.latches
+
+  -- in a sound library the flat circuit's cycle is one of the library
+  module _ (sound : IsSound library) where
+    cycle_exists : (x : List ℕ → Bool) (s : List Bool) → length s ≡ length flat.latches → IsCycle library x s (flat_outputs library flat (input_values flat x) s) (flat_next library flat (input_values flat x) s)
+    cycle_exists x s e =
+        let places : List Place = (f.at).latches in
+        let fit = (sound_law library sound).exists x (state_of places s) in
+        let outputs : List Bool = map (fit.value []) (f.main).outputs in
+        let next : List Bool = next_states library fit.value places in
+        let c : IsCycle library x s outputs next = record {
+          main = f.main;
+          latches = places;
+          are_latches = record { at = f.is_main; order = f.latches_order };
+          states = e ∙ f.latch_count;
+          value = fit.value;
+          fits = fit.fits;
+          outputs_are = refl;
+          next_are = refl;
+        } in
+        subst₂ (IsCycle library x s) (outputs_same library flat f x s outputs next c) (next_same library flat f x s outputs next c) c
+
+    runs_exist : (s : List Bool) (xs : List (List ℕ → Bool)) → length s ≡ length flat.latches
+        → Runs library s xs (run_outputs library flat s (map (input_values flat) xs)) (run_states library flat s (map (input_values flat) xs))
+    runs_exist s [] e = stops
+    runs_exist s (x ∷ xs) e =
+        let next : List Bool = flat_next library flat (input_values flat x) s in
+        steps x xs (flat_outputs library flat (input_values flat x) s) next (run_outputs library flat next (map (input_values flat) xs)) (run_states library flat next (map (input_values flat) xs))
+        (cycle_exists x s e) (runs_exist next xs (length-map flat.latches (λ (l : FlatLatch). net_value (input_values flat x) s (flat_values library flat (input_values flat x) s) l.input)))
+
+    run_exists : (xs : List (List ℕ → Bool)) → IsRun library xs (run_outputs library flat (flat_inits flat) (map (input_values flat) xs)) (run_states library flat (flat_inits flat) (map (input_values flat) xs))
+    run_exists xs = record {
+      main = f.main;
+      latches = (f.at).latches;
+      are_latches = record { at = f.is_main; order = f.latches_order };
+      runs = subst (λ s. Runs library s xs (run_outputs library flat (flat_inits flat) (map (input_values flat) xs)) (run_states library flat (flat_inits flat) (map (input_values flat) xs)))
+          (sym (inits_at (f.at).latches flat.latches f.latch_count f.latches)) (runs_exist (flat_inits flat) xs (length-map flat.latches (λ (l : FlatLatch). l.init)));
+    }
+
+    pub flat_cycles : HasCycles library flat
+    flat_cycles = record {
+      is_cycle = cycle_exists;
+      outputs = λ x s outputs next c. outputs_same library flat f x s outputs next c;
+      states = λ x s outputs next c. next_same library flat f x s outputs next c;
+      is_run = run_exists;
+      all_outputs = λ xs outputs states r. runs_outputs r.runs ∙ ap (λ s. run_outputs library flat s (map (input_values flat) xs)) (run_inits r);
+      all_states = λ xs outputs states r. runs_states r.runs ∙ ap (λ s. run_states library flat s (map (input_values flat) xs)) (run_inits r);
+    }

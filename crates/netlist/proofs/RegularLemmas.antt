@@ -1,0 +1,30 @@
+-- The inputs of a flat circuit are main inputs, and no clock nets.
+use Rattle.netlist.proofs.Common.{◌≡◌, ℕ, Bool, not, List, [], ◌∷◌, Some, ◌∙◌, subst, filter, slice_get, or_left, not-true, In, choose, In-get, ◌≤◌, ◌++◌, ◌<◌}
+use Rattle.netlist.specs.LibraryValue.{LibraryValue}
+use Rattle.netlist.specs.{has_name, IsMainInput, IsClock, IsFlat, AreOnce}
+use Rattle.netlist.specs.FlatValue.{FlatValue}
+use Rattle.tl_text.proofs.NameSetLemmas.{in_has}
+pub use Rattle.list_laws.proofs.Members.{In-filter}
+use Rattle.list_laws.proofs.Members.{In-filter}
+
+pub record IsRegular (library : LibraryValue) (name : List ℕ) : Type 0 where
+  pub input : IsMainInput library name
+  pub off : IsClock library name → ⊥
+
+pub regular : (library : LibraryValue) (flat : FlatValue) (f : IsFlat library flat) (j : ℕ) (name : List ℕ) → slice_get flat.inputs j ≡ Some name → IsRegular library name
+regular library flat f j name e =
+    let i : In flat.inputs name = In-get flat.inputs j name e in
+    let r = In-filter (λ y. not (f.test y)) (f.main).inputs name (subst (λ l. In l name) f.inputs i) in
+    record {
+      input = record { model = f.main; at = f.is_main; is = or_left (has_name (f.main).inputs name) (has_name (f.main).clocks name) (in_has (f.main).inputs name r.0) };
+      off = (f.tells).no name (not-true (f.test name) r.1);
+    }
+
+-- The bounds of the flat circuit of a light library.
+
+-- a filtered list has no name twice where the list has none
+pub filtered_once : (test : List ℕ → Bool) (names : List (List ℕ)) → AreOnce names → AreOnce (filter test names)
+filtered_once test [] once = tt
+filtered_once test (name ∷ names) once =
+    let rest : AreOnce (filter test names) = filtered_once test names once.1 in
+    choose (λ l. AreOnce l) (test name) (name ∷ filter test names) (filter test names) (λ t. (λ (i : In (filter test names) name). once.0 (In-filter test names name i).0, rest)) (λ u. rest)

@@ -1,0 +1,4 @@
+-- Worked examples.
+mod FlatExamples
+mod LoopExamples
+mod RunExamples

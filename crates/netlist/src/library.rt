@@ -1,0 +1,42 @@
+//! A model and a library of models.
+use crate::command::Command;
+use std::marker::Model;
+use tl_text::Name;
+
+/// A model: a circuit with ports.
+#[derive(Drop)]
+pub struct BlifModel {
+    pub name: Name,
+    /// The number of the logical line of its `.model`, counted from 1.
+    pub line: u32,
+    /// The names of its `.inputs` lines in order, each once.
+    pub inputs: Vec<Name>,
+    /// The names of its `.outputs` lines in order, each once.
+    pub outputs: Vec<Name>,
+    /// The names of its `.clock` lines in order, each once.
+    pub clocks: Vec<Name>,
+    /// Its commands in the order of their lines.
+    pub commands: Vec<Command>,
+}
+
+impl Model for BlifModel {
+    ghost use Rattle.netlist.specs.LibraryValue.{ModelValue};
+
+    ghost Value = { ModelValue };
+
+    ghost view = { λ m. record { name = m.name; line = m.line; inputs = m.inputs.items; outputs = m.outputs.items; clocks = m.clocks.items; commands = m.commands.items } };
+}
+
+/// The models of a text. The first one is the main model.
+#[derive(Drop)]
+pub struct Library {
+    pub models: Vec<BlifModel>,
+}
+
+impl Model for Library {
+    ghost use Rattle.netlist.specs.LibraryValue.{LibraryValue};
+
+    ghost Value = { LibraryValue };
+
+    ghost view = { λ l. record { models = l.models.items } };
+}

@@ -1,0 +1,11 @@
+use Rattle.std.proofs.Common.{◌≡◌, map}
+use Rattle.tl_text.specs.LineValue.{words_line}
+use Rattle.param_list.specs.Parameters.{param_names}
+use Rattle.param_list.proofs.ReadLemmas.{AreRead}
+use Rattle.param_list.proofs.param_lines.read_each.Given as goal
+
+abbrev pub invariant-loop-line : goal.invariant-loop-line
+invariant-loop-line l = record {
+  read : AreRead l.inputs l.clocks (map (words_line l.text) l.lines) l.line-index l.params.items;
+  seen : l.seen ≡ param_names l.params.items;
+}

@@ -1,0 +1,7 @@
+use Rattle.std.proofs.Common.{◌≡◌, take}
+use Rattle.param_list.specs.Marks.{marks_of}
+use Rattle.param_list.specs.Parameters.{param_names}
+use Rattle.param_list.proofs.regular_inputs.marks.Given as goal
+
+abbrev pub invariant-loop-param : goal.invariant-loop-param
+invariant-loop-param l = l.marks.items ≡ marks_of l.inputs (param_names (take l.param-index l.params))

@@ -1,0 +1,90 @@
+-- A parameter list as a text: what its lines say, and its refusal, that of the first line that has one.
+use Rattle.std.specs.Prelude.{◌≡◌, ℕ, ◌<◌, Bool, not, ◌||◌, nat_lt, nat_le, if◌then◌else◌, List, [], ◌∷◌, ◌++◌, length, map, take, Option, Some, None, Ok, Err, slice_get}
+use Rattle.std.specs.Option.{option_and_then}
+use Rattle.tl_text.specs.Decimal.{bit_of}
+use Rattle.tl_text.specs.LineValue.{LineValue, WordsLine, words_line}
+use Rattle.tl_text.specs.Lines.{lines_of}
+use Rattle.tl_text.specs.declared.text_err.TextErr.TheVariants as text_err
+use Rattle.netlist.specs.FlatValue.{FlatValue}
+use Rattle.netlist.specs.Models.{has_name}
+use Rattle.param_list.specs.declared.params.Param.{Param}
+use Rattle.tl_text.specs.declared.limits.TheConstants.{MOST_PARAMETERS, MOST_NAME_BYTES}
+use Rattle.param_list.specs.declared.par_err.ParErr.{ParErr}
+use Rattle.param_list.specs.declared.par_err.ParErr.TheVariants.{BadByte, TrailingSlash, Malformed, Parameters, NotInput, IsClock, Repeated}
+
+-- what a line says: a name and its value at the start
+pub record Entry : Type 0 where
+  pub name : List ℕ
+  pub init : Bool
+
+abbrev pub entry_with : List ℕ → Option Bool → Option Entry
+entry_with name None = None
+entry_with name (Some init) = Some (record { name = name; init = init })
+
+-- a line says it by two tokens, a name and `0` or `1`
+abbrev pub entry_of : List (List ℕ) → Option Entry
+entry_of [] = None
+entry_of (name ∷ []) = None
+entry_of (name ∷ bit ∷ []) = entry_with name (bit_of bit)
+entry_of (name ∷ bit ∷ third ∷ others) = None
+
+-- the names that some lines say
+abbrev pub with_name : Option Entry → List (List ℕ) → List (List ℕ)
+with_name None names = names
+with_name (Some entry) names = entry.name ∷ names
+
+abbrev pub names_said : List WordsLine → List (List ℕ)
+names_said [] = []
+names_said (line ∷ lines) = with_name (entry_of line.words) (names_said lines)
+
+-- the refusal of a line by what it says, where the circuit has these inputs and clock nets and the lines before it say these names
+abbrev pub entry_refusal : List (List ℕ) → List (List ℕ) → List (List ℕ) → ℕ → Option Entry → Option ParErr
+entry_refusal inputs clocks earlier number None = Some (Malformed number)
+entry_refusal inputs clocks earlier number (Some entry) =
+    if nat_lt MOST_NAME_BYTES (length entry.name) || nat_le MOST_PARAMETERS (length earlier) then Some (Parameters number)
+    else if not (has_name (inputs ++ clocks) entry.name) then Some (NotInput number entry.name)
+    else if has_name clocks entry.name then Some (IsClock number entry.name)
+    else if has_name earlier entry.name then Some (Repeated number entry.name)
+    else None
+
+abbrev pub line_refusal : List (List ℕ) → List (List ℕ) → List (List ℕ) → WordsLine → Option ParErr
+line_refusal inputs clocks earlier line = entry_refusal inputs clocks earlier line.number (entry_of line.words)
+
+-- the refusal of the line at a place
+abbrev pub refusal_at : List (List ℕ) → List (List ℕ) → List WordsLine → ℕ → Option ParErr
+refusal_at inputs clocks lines i = option_and_then (line_refusal inputs clocks (names_said (take i lines))) (slice_get lines i)
+
+-- the first line that has a refusal
+pub record IsFirstRefusal (inputs clocks : List (List ℕ)) (lines : List WordsLine) (e : ParErr) : Type 0 where
+  pub place : ℕ
+  pub is : refusal_at inputs clocks lines place ≡ Some e
+  pub none_before : (i : ℕ) → i < place → refusal_at inputs clocks lines i ≡ None
+
+-- the parameter of a line: its name, the place of the input of this name, and its value
+pub record IsParamOf (inputs : List (List ℕ)) (line : WordsLine) (p : Param) : Type 0 where
+  pub says : entry_of line.words ≡ Some (record { name = p.name; init = p.init })
+  pub input : slice_get inputs p.input ≡ Some p.name
+
+-- the parameters of lines without a refusal, line by line
+pub record AreParamsOf (inputs clocks : List (List ℕ)) (lines : List WordsLine) (params : List Param) : Type 0 where
+  pub no_refusal : (i : ℕ) → refusal_at inputs clocks lines i ≡ None
+  pub count : length params ≡ length lines
+  pub each : (i : ℕ) (line : WordsLine) (p : Param) → slice_get lines i ≡ Some line → slice_get params i ≡ Some p → IsParamOf inputs line p
+
+-- a text is a list of these parameters
+pub record IsParamsText (flat : FlatValue) (text : List ℕ) (params : List Param) : Type 0 where
+  pub lines : List LineValue
+  pub lines_are : lines_of text ≡ Ok lines
+  pub are : AreParamsOf flat.inputs flat.clocks (map (words_line text) lines) params
+
+-- a text is refused: as its lines are, else at the first line that has a refusal
+pub data IsParamsFault (flat : FlatValue) (text : List ℕ) (e : ParErr) : Type 0 where
+  bad_byte : (line : ℕ) → lines_of text ≡ Err (text_err.BadByte line) → e ≡ BadByte line → IsParamsFault flat text e
+  trailing_slash : (line : ℕ) → lines_of text ≡ Err (text_err.TrailingSlash line) → e ≡ TrailingSlash line → IsParamsFault flat text e
+  at_line : (lines : List LineValue) → lines_of text ≡ Ok lines → IsFirstRefusal flat.inputs flat.clocks (map (words_line text) lines) e → IsParamsFault flat text e
+
+-- a text is one list of parameters at most, or has one refusal at most, and never both
+pub record HasOneReading (flat : FlatValue) (text : List ℕ) : Type 0 where
+  pub one_list : (params others : List Param) → IsParamsText flat text params → IsParamsText flat text others → params ≡ others
+  pub one_fault : (e f : ParErr) → IsParamsFault flat text e → IsParamsFault flat text f → e ≡ f
+  pub not_both : (params : List Param) (e : ParErr) → IsParamsText flat text params → IsParamsFault flat text e → ⊥

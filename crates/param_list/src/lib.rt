@@ -1,0 +1,20 @@
+//! Parameters: the inputs of a circuit that change seldom, and the lists that name them.
+//!
+//! [`read_params`] reads a parameter list, a line for each [`Param`], or answers the text's first refusal
+//! (`specs/ParamsText.antt`). The parameters are inputs of a flat circuit, each once (`specs/Parameters.antt`), and [`regular`]
+//! gives the places of the inputs that are left.
+//!
+//! - `params.rt` has `read_params` and its types, and `par_err.rt` the refusals.
+//! - `param_line.rt` reads a line, and `param_lines.rt` all lines of a text.
+//! - `regular_inputs.rt` has `regular`.
+#![tactic(auto)]
+
+mod par_err;
+mod param_line;
+mod param_lines;
+mod params;
+mod regular_inputs;
+
+pub use par_err::ParErr;
+pub use params::{Param, Params, read_params};
+pub use regular_inputs::regular;

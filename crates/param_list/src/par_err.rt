@@ -1,0 +1,89 @@
+//! Why a text is no parameter list.
+use std::alloc::{AllocError, AllocFailed};
+use tl_fault::{Details, Name, Refusal};
+use tl_text::TextErr;
+
+/// Why a text is no parameter list. Each number is that of a logical line, but for the first two that of a physical one;
+/// lines are counted from 1.
+#[derive(Debug, Drop, thiserror::Error)]
+pub enum ParErr {
+    /// T1: a byte that no line may have.
+    #[error("bad byte in line {0}")]
+    BadByte(u32),
+    /// T2: a token ends in `\`.
+    #[error("trailing backslash in line {0}")]
+    TrailingSlash(u32),
+    /// P1: the line isn't a name and `0` or `1`.
+    #[error("malformed line {0}")]
+    Malformed(u32),
+    /// L8: the name is too long, or there are too many parameters.
+    #[error("too many parameters in line {0}")]
+    Parameters(u32),
+    /// P2: the name isn't an input of the main model.
+    #[error("no input in line {0}")]
+    NotInput(u32, Name),
+    /// P3: the name is a clock net.
+    #[error("a clock in line {0}")]
+    IsClock(u32, Name),
+    /// P4: the name stood earlier.
+    #[error("a name repeated in line {0}")]
+    Repeated(u32, Name),
+    /// There is no memory.
+    #[error("out of memory")]
+    Memory,
+}
+
+impl<T: Drop> From<AllocFailed<T>> for ParErr {
+    ghost use Rattle.std.specs.Prelude.{◌≡◌};
+    ghost use Rattle.param_list.specs.declared.par_err.ParErr.TheVariants.{Memory};
+
+    ghost from_gives = { λ _ e. e ≡ Memory };
+
+    fn from(_: AllocFailed<T>) -> ParErr {
+        ParErr::Memory
+    }
+}
+
+impl From<AllocError> for ParErr {
+    ghost use Rattle.std.specs.Prelude.{◌≡◌};
+    ghost use Rattle.param_list.specs.declared.par_err.ParErr.TheVariants.{Memory};
+
+    ghost from_gives = { λ _ e. e ≡ Memory };
+
+    fn from(_: AllocError) -> ParErr {
+        ParErr::Memory
+    }
+}
+
+impl ParErr {
+    ghost use Rattle.std.specs.Prelude.{◌≡◌};
+    ghost use Rattle.param_list.specs.Refusals.{refusal_of};
+
+    /// What the refusal tells; none for want of memory.
+    pub fn refusal(self) -> Option<Refusal>
+        ensures { result ≡ refusal_of self }
+    {
+        match self {
+            ParErr::BadByte(line) => TextErr::BadByte(line).refusal(),
+            ParErr::TrailingSlash(line) => TextErr::TrailingSlash(line).refusal(),
+            ParErr::Malformed(line) => Some(Refusal::new("P1", "Malformed", Details::Line(line))),
+            ParErr::Parameters(line) => Some(Refusal::new("L8", "Parameters", Details::Line(line))),
+            ParErr::NotInput(line, name) => Some(Refusal::new(
+                "P2",
+                "NotInput",
+                Details::Named(line, name),
+            )),
+            ParErr::IsClock(line, name) => Some(Refusal::new(
+                "P3",
+                "IsClock",
+                Details::Named(line, name),
+            )),
+            ParErr::Repeated(line, name) => Some(Refusal::new(
+                "P4",
+                "Repeated",
+                Details::Named(line, name),
+            )),
+            ParErr::Memory => None,
+        }
+    }
+}

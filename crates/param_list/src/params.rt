@@ -1,0 +1,93 @@
+//! Parameter lists.
+ghost use Rattle.std.specs.Prelude.{◌≡◌, ◌<◌, ◌≤◌, ◌^◌, length, Ok, IfOk, IfErr};
+ghost use Rattle.tl_fault.specs.OrMemory.{OrMemory};
+ghost use Rattle.tl_text.specs.Once.{AreOnce};
+ghost use Rattle.tl_text.specs.Clean.{AreCleanIn};
+ghost use Rattle.tl_text.specs.LineValue.{AreLinesIn};
+ghost use Rattle.tl_text.specs.Lines.{lines_of};
+ghost use Rattle.netlist.specs.FlatValue.{FlatValue};
+ghost use Rattle.tl_text.specs.declared.logical_lines.TheConstants.{MOST_BYTES};
+ghost use Rattle.param_list.specs.Parameters.{AreParameters};
+ghost use Rattle.param_list.specs.ParamsText.{IsParamsText, IsParamsFault, HasOneReading};
+ghost use Rattle.param_list.specs.LinesErr.{par_err};
+ghost use Rattle.param_list.specs.Refusals.{refusal_of};
+
+use crate::par_err::ParErr;
+use crate::param_lines::read_lines;
+use netlist::Flat;
+use std::alloc::Global;
+use std::marker::Model;
+use tl_text::{Line, Name, TextErr, lines};
+
+/// A parameter: an input that changes seldom.
+#[derive(Debug, Drop)]
+pub struct Param {
+    pub name: Name,
+    /// Its place in [`Flat::inputs`], counted from 0.
+    pub input: u32,
+    /// Its value at the start.
+    pub init: bool,
+}
+
+/// The parameters in the order of their list.
+#[derive(Drop)]
+pub struct Params {
+    pub list: Vec<Param>,
+}
+
+impl Model for Params {
+    ghost use Rattle.param_list.specs.Parameters.{ParamsValue};
+
+    ghost Value = { ParamsValue };
+
+    ghost view = { λ p. record { list = p.list.items } };
+}
+
+// A refusal of a text's lines as one of a parameter list.
+fn lines_err(error: TextErr) -> ParErr
+    ensures { result ≡ par_err error }
+{
+    match error {
+        TextErr::BadByte(line) => ParErr::BadByte(line),
+        TextErr::TrailingSlash(line) => ParErr::TrailingSlash(line),
+        TextErr::Memory => ParErr::Memory,
+    }
+}
+
+// The lines of a text.
+fn text_lines(alloc: Global, text: &[u8]) -> Result<Vec<Line>, ParErr>
+    requires { length text.now ≤ MOST_BYTES }
+    ensures lines { IfOk result (λ found. lines_of text.now ≡ Ok found.items) }
+    ensures within { IfOk result (λ found. AreLinesIn text.now found.items) }
+    ensures clean { IfOk result (λ found. AreCleanIn text.now found.items) }
+    ensures fault { IfErr result (OrMemory refusal_of (λ e. (flat : FlatValue) → IsParamsFault flat text.now e)) }
+{
+    match lines(alloc, text) {
+        Ok(found) => Ok(found),
+        Err(error) => Err(lines_err(error)),
+    }
+}
+
+/// The parameters that a list names, for a flat circuit: a line for each, with the name of an input and its value at the start,
+/// `0` or `1`. The names of the inputs differ, and there are fewer than 2^32.
+///
+/// It takes time and memory linear in the text and in the names of the circuit's inputs and clock nets, on average over the
+/// hashes.
+///
+/// # Errors
+/// The text's first refusal, by `specs/ParamsText.antt`: T1 and T2 of its physical lines, else the first of P1, L8, P2, P3 and
+/// P4 of the first logical line that has one; `Memory` where there is none. A text has one list of parameters at most, or has
+/// one refusal at most, and never both.
+pub fn read_params(alloc: Global, text: &[u8], flat: &Flat) -> Result<Params, ParErr>
+    requires short { length text.now ≤ MOST_BYTES }
+    requires few { length flat.now.inputs < 2 ^ 32 }
+    requires once { AreOnce flat.now.inputs }
+    ensures params { IfOk result (λ params. IsParamsText flat.now text.now params.list) }
+    ensures are { IfOk result (λ params. AreParameters flat.now params.list) }
+    ensures fault { IfErr result (OrMemory refusal_of (IsParamsFault flat.now text.now)) }
+    ensures one_reading { HasOneReading flat.now text.now }
+{
+    let found = text_lines(alloc, text)?;
+    let list = read_lines(alloc, text, &found, flat)?;
+    Ok(Params { list })
+}

@@ -1,6 +1,0 @@
-use Rattle.std.proofs.Common.{◌∙◌, ap, is_some}
-use Rattle.blif_flat.proofs.Models.NameSetLemmas.{place_some}
-use Rattle.run_text.proofs.name_index.is_among.Goals as goal
-
-pub returns : goal.returns
-returns c = c.is_some.ensures ∙ ap is_some c.place.ensures ∙ place_some c.args.index.now c.args.name.now

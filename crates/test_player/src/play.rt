@@ -1,0 +1,158 @@
+//! Runs a job over objects in memory.
+use crate::scene::{File, HandedIn, Job, find};
+use crate::stop::Stop;
+use std::alloc::{AllocError, Global};
+use tl_io::{ConfigPort, MemPort, MemShelf, MemSink};
+
+// The most bytes that a read gives, the room beside what is wanted, and the most writes of a port that are told.
+const PIECE: usize = 7;
+
+const ROOM: usize = 10_000;
+
+const TOLD_WRITES: usize = 1_000;
+
+/// A program over objects in memory.
+pub trait Program {
+    /// Runs a job, and answers its exit status.
+    fn run(
+        &self,
+        alloc: Global,
+        words: &[String],
+        shelf: &mut MemShelf,
+        out: &mut MemSink,
+        err: &mut MemSink,
+        ports: &mut Vec<Box<dyn ConfigPort>>,
+    ) -> u8;
+}
+
+/// The calls of the shelf and of both outputs that fail.
+#[derive(Clone, Copy)]
+pub struct Fails<'a> {
+    pub shelf: &'a [u64],
+    pub out: &'a [u64],
+    pub err: &'a [u64],
+}
+
+/// What a call left.
+#[derive(Drop)]
+pub struct Ran {
+    pub status: u8,
+    pub out: MemSink,
+    pub err: MemSink,
+    /// A line for each port in their order: its number among those that were handed in, the writes that it took, and its
+    /// faults if there are any.
+    pub ports: String,
+    pub files: Vec<File>,
+}
+
+// Puts the files on a shelf, each with room for what it must have behind the job.
+fn shelf_of(
+    alloc: Global,
+    files: &[File],
+    job: &Job,
+    fails: &[u64],
+) -> Result<MemShelf, AllocError> {
+    let mut shelf = MemShelf::make(alloc, PIECE, fails)?;
+    for file in files {
+        let wanted = match find(job.wanted.files.as_slice(), file.name.as_str()) {
+            Some(wanted) => wanted.bytes.len(),
+            None => 0,
+        };
+        let room = wanted.saturating_add(ROOM);
+        shelf.add(file.name.as_str(), file.bytes.as_slice(), room)?;
+    }
+    Ok(shelf)
+}
+
+// A port whose log begins with its number, written before the job: so a port is known again, wherever it stands.
+fn numbered(alloc: Global, number: u32, port: &HandedIn) -> Result<MemPort, AllocError> {
+    let mut fails = Vec::new(alloc);
+    for call in &port.fails {
+        fails.push(call.saturating_add(1))?;
+    }
+    let mut made = MemPort::make(alloc, port.room.saturating_add(1), &fails)?;
+    let _ = made.write(number, true);
+    Ok(made)
+}
+
+// Tells a port.
+fn put_port<P: ConfigPort>(text: &mut String, port: &P) -> Result<(), AllocError> {
+    if let Some(first) = port.logged(0) {
+        let number = first.address;
+        write!(text, "{number}:")?;
+    }
+    for i in 1..TOLD_WRITES {
+        let Some(write) = port.logged(i) else {
+            break;
+        };
+        let address = write.address;
+        let bit = u8::from(write.bit);
+        write!(text, " {address}={bit}")?;
+    }
+    match port.faults() {
+        0 => text.push_str("\n"),
+        1 => text.push_str(" (1 fault)\n"),
+        faults => write!(text, " ({faults} faults)\n"),
+    }
+}
+
+// Tells ports in their order.
+fn told<P: ConfigPort>(alloc: Global, ports: &[P]) -> Result<String, AllocError> {
+    let mut text = String::new(alloc);
+    for port in ports {
+        put_port(&mut text, port)?;
+    }
+    Ok(text)
+}
+
+// The files behind a job.
+fn files_of(alloc: Global, shelf: &MemShelf, before: &[File]) -> Result<Vec<File>, AllocError> {
+    let mut files = Vec::new(alloc);
+    for file in before {
+        let name = file.name.as_str();
+        let bytes = shelf.file(name).unwrap_or(&[]);
+        files.push(File {
+            name: String::from_str(alloc, name)?,
+            bytes: Vec::from_slice(alloc, bytes)?,
+        })?;
+    }
+    Ok(files)
+}
+
+/// The lines of ports that were handed in and took nothing.
+pub fn untouched(alloc: Global, ports: usize) -> Result<String, AllocError> {
+    let mut text = String::new(alloc);
+    for number in 0..ports {
+        write!(text, "{number}:\n")?;
+    }
+    Ok(text)
+}
+
+/// Runs a job's words on files.
+pub fn run<P: Program>(
+    alloc: Global,
+    program: &P,
+    files: &[File],
+    job: &Job,
+    words: &[String],
+    fails: &Fails,
+) -> Result<Ran, Stop> {
+    let mut shelf = shelf_of(alloc, files, job, fails.shelf)?;
+    let wanted = &job.wanted;
+    let mut out = MemSink::make(alloc, wanted.out.len().saturating_add(ROOM), fails.out)?;
+    let mut err = MemSink::make(alloc, wanted.err.len().saturating_add(ROOM), fails.err)?;
+    let mut ports: Vec<Box<dyn ConfigPort>> = Vec::new(alloc);
+    for (number, port) in (0..u32::MAX).zip(&job.ports) {
+        ports.push(Box::new(alloc, numbered(alloc, number, port)?)?)?;
+    }
+    let status = program.run(alloc, words, &mut shelf, &mut out, &mut err, &mut ports);
+    let ports = told(alloc, &ports)?;
+    let files = files_of(alloc, &shelf, files)?;
+    Ok(Ran {
+        status,
+        out,
+        err,
+        ports,
+        files,
+    })
+}

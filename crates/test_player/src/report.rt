@@ -1,0 +1,146 @@
+//! Plays all rows of some texts, and says what became of them.
+use crate::heading::{Row, Text};
+use crate::play::Program;
+use crate::row::play_row;
+use crate::stop::Stop;
+use std::alloc::Global;
+use std::rt::Env;
+use std::{env, io, str};
+use tl_io::{Shelf, slurp};
+
+// The most bytes of a text.
+const MOST_BYTES: u64 = 1_000_000;
+
+/// What became of all rows.
+#[derive(Drop)]
+struct Report {
+    /// The lines that are printed.
+    lines: String,
+    played: u64,
+    told_apart: u64,
+    differ: u64,
+}
+
+impl Report {
+    // Takes a row in, with what differs.
+    fn add(&mut self, name: &str, row: &Row, differences: &str) -> Result<(), Stop> {
+        self.played = self.played.wrapping_add(1);
+        let number = row.number;
+        let title = row.title;
+        if row.is_spoilt && !differences.is_empty() {
+            self.told_apart = self.told_apart.wrapping_add(1);
+            write!(
+                self.lines,
+                "{name}:{number}: {title}: is told apart\n{differences}"
+            )?;
+        } else if row.is_spoilt {
+            self.differ = self.differ.wrapping_add(1);
+            write!(self.lines, "{name}:{number}: {title}: IS NOT TOLD APART\n")?;
+        } else if !differences.is_empty() {
+            self.differ = self.differ.wrapping_add(1);
+            write!(
+                self.lines,
+                "{name}:{number}: {title}: DIFFERS\n{differences}"
+            )?;
+        }
+        Ok(())
+    }
+
+    // Plays the rows of a text.
+    fn add_text<P: Program>(
+        &mut self,
+        alloc: Global,
+        program: &P,
+        name: &str,
+        text: &str,
+    ) -> Result<(), Stop> {
+        let text = Text::read(alloc, text)?;
+        for row in &text.rows {
+            let differences = play_row(alloc, program, &text.common, row)?;
+            self.add(name, row, differences.as_str())?;
+        }
+        Ok(())
+    }
+}
+
+// Plays the rows of a file.
+fn add_file<S: Shelf, P: Program>(
+    alloc: Global,
+    shelf: &mut S,
+    program: &P,
+    report: &mut Report,
+    name: &str,
+) -> Result<(), Stop> {
+    let Ok(bytes) = slurp(alloc, shelf, name, MOST_BYTES) else {
+        return Err(Stop::Unread(0, "the text can't be read"));
+    };
+    match str::from_utf8(bytes.as_slice()) {
+        Ok(text) => report.add_text(alloc, program, name, text),
+        Err(_) => Err(Stop::Unread(0, "the text isn't UTF-8")),
+    }
+}
+
+// The line that says what became of all rows.
+fn add_total(report: &mut Report) -> Result<(), Stop> {
+    let Report {
+        played,
+        told_apart,
+        differ,
+        ..
+    } = *report;
+    if differ == 0 {
+        write!(
+            report.lines,
+            "{played} rows were played: {told_apart} spoilt ones were told apart, and the others left what they must\n"
+        )?;
+    } else {
+        write!(
+            report.lines,
+            "{played} rows were played: {differ} OTHERWISE THAN THEY MUST\n"
+        )?;
+    }
+    Ok(())
+}
+
+// Plays the rows of the texts of the words behind the program's name.
+fn played<R: Env + AllocGlobal, S: Shelf, P: Program>(
+    rt: &R,
+    shelf: &mut S,
+    program: &P,
+) -> io::Result<Report> {
+    let mut report = Report {
+        lines: String::new(rt.alloc()),
+        played: 0,
+        told_apart: 0,
+        differ: 0,
+    };
+    for name in env::args(rt)?.skip(1) {
+        match add_file(rt.alloc(), shelf, program, &mut report, name.as_str()) {
+            Ok(()) => {}
+            Err(Stop::Unread(line, why)) => {
+                report.differ = report.differ.wrapping_add(1);
+                write!(report.lines, "{name}:{line}: {why}\n")?;
+            }
+            Err(Stop::Memory) => return Err(io::Error::from(io::ErrorKind::OutOfMemory)),
+        }
+    }
+    Ok(report)
+}
+
+/// Plays the rows of the texts whose names are the words behind the program's name, and says what became of them: a line and
+/// what differs for each row that differs or is spoilt, and a last line with their counts.
+///
+/// # Errors
+///
+/// Where the words can't be had, and where memory doesn't suffice. A text that can't be read is told in the report.
+pub fn report_of<R: Env + AllocGlobal, S: Shelf, P: Program>(
+    rt: &R,
+    shelf: &mut S,
+    program: &P,
+) -> io::Result<String> {
+    let mut report = played(rt, shelf, program)?;
+    if add_total(&mut report).is_err() {
+        return Err(io::Error::from(io::ErrorKind::OutOfMemory));
+    }
+    Ok(report.lines)
+}

@@ -1,0 +1,300 @@
+//! Reads a row's headings, and plays its jobs one after another on the same files.
+use crate::heading::{Heading, Row};
+use crate::number::{Counter, bounds};
+use crate::part::{Kind, line_of, text_of};
+use crate::play::Program;
+use crate::scene::{Calls, File, HandedIn, Job};
+use crate::stop::Stop;
+use crate::turn::run_job;
+use std::alloc::Global;
+use tl_text::decimal;
+
+// The room of a port for which no heading gives another one.
+const PORT_ROOM: usize = 100;
+
+const UNREAD: Stop = Stop::Unread(0, "a heading that can't be read");
+
+// A row while it is played: the files as they lie there now, the next job, and what differed so far.
+#[derive(Drop)]
+struct Scene<'a, P: Program> {
+    alloc: Global,
+    program: &'a P,
+    counters: &'a [Counter<'a>],
+    files: Vec<File>,
+    job: Job,
+    differences: String,
+}
+
+// A number below 2^32.
+fn number(word: &str) -> Result<u32, Stop> {
+    let number = decimal(word.as_bytes()).ok_or(UNREAD)?;
+    u32::try_from(number).ok().ok_or(UNREAD)
+}
+
+fn numbers(alloc: Global, words: &str) -> Result<Vec<u64>, Stop> {
+    let mut numbers = Vec::new(alloc);
+    for word in words.split(' ') {
+        numbers.push(decimal(word.as_bytes()).ok_or(UNREAD)?)?;
+    }
+    Ok(numbers)
+}
+
+fn calls(alloc: Global, words: &str) -> Result<Calls, Stop> {
+    if words == "in turn" {
+        return Ok(Calls::InTurn);
+    }
+    Ok(Calls::These(numbers(alloc, words)?))
+}
+
+fn string(bytes: Vec<u8>) -> Result<String, Stop> {
+    String::from_utf8(bytes).ok().ok_or(UNREAD)
+}
+
+// The words of a command line: what stands between single blanks, two quotes being the empty word.
+fn words_of(alloc: Global, line: &str) -> Result<Vec<String>, Stop> {
+    let mut words = Vec::new(alloc);
+    for word in line.split(' ').skip(1) {
+        let text = if word == "\"\"" { "" } else { word };
+        words.push(string(line_of(alloc, Kind::Plain, text, &[])?)?)?;
+    }
+    Ok(words)
+}
+
+// Puts a file in the place of one of its name, or behind the others.
+fn put_file(files: &mut Vec<File>, file: File) -> Result<(), Stop> {
+    for old in files.iter_mut() {
+        if old.name.as_str() == file.name.as_str() {
+            old.bytes = file.bytes;
+            return Ok(());
+        }
+    }
+    files.push(file)?;
+    Ok(())
+}
+
+impl<P: Program> Scene<'_, P> {
+    // The bytes of a heading's text, by the options behind a name or a word.
+    fn bytes(&self, options: &str, heading: &Heading) -> Result<Vec<u8>, Stop> {
+        let (kind, first) = match options.strip_prefix("hex") {
+            Some(first) => (Kind::Hex, first),
+            None => match options.strip_prefix("made") {
+                Some(first) => (Kind::Made, first),
+                None => (Kind::Plain, options),
+            },
+        };
+        let mut bytes = text_of(self.alloc, kind, heading.text.as_slice(), self.counters)?;
+        if let Some(count) = first.strip_prefix(" first ") {
+            let count = number(count)?;
+            bytes.truncate(count as usize);
+        } else if !first.is_empty() {
+            return Err(UNREAD);
+        }
+        Ok(bytes)
+    }
+
+    // The file of a heading: a name, and options.
+    fn file(&self, rest: &str, heading: &Heading) -> Result<File, Stop> {
+        let (name, options) = rest.split_once(' ').unwrap_or((rest, ""));
+        let name = String::from_str(self.alloc, name)?;
+        let bytes = self.bytes(options, heading)?;
+        Ok(File { name, bytes })
+    }
+
+    // Runs the job that was read, if there is one, and begins the next one.
+    fn finish(&mut self) -> Result<(), Stop> {
+        let job = std::mem::replace(&mut self.job, Job::new(self.alloc));
+        for file in &job.wanted.files {
+            if crate::scene::find(self.files.as_slice(), file.name.as_str()).is_none() {
+                let name = file.name.clone()?;
+                let bytes = Vec::new(self.alloc);
+                self.files.push(File { name, bytes })?;
+            }
+        }
+        for words in &job.words {
+            let (ran, text) = run_job(
+                self.alloc,
+                self.program,
+                self.files.as_slice(),
+                &job,
+                words.as_slice(),
+            )?;
+            self.files = ran.files;
+            self.differences.push_str(text.as_str())?;
+        }
+        Ok(())
+    }
+
+    // Begins what the next job has outside.
+    fn prepare(&mut self) -> Result<(), Stop> {
+        if self.job.words.is_empty() {
+            return Ok(());
+        }
+        self.finish()
+    }
+
+    // The room of a port, or its calls that fail.
+    fn port(&mut self, rest: &str) -> Result<(), Stop> {
+        let (word, rest) = rest.split_once(' ').ok_or(UNREAD)?;
+        let (kind, value) = rest.split_once(' ').ok_or(UNREAD)?;
+        let place = number(word)? as usize;
+        let port = self.job.ports.get_mut(place).ok_or(UNREAD)?;
+        match kind {
+            "room" => port.room = number(value)? as usize,
+            "fails" => port.fails = numbers(self.alloc, value)?,
+            _ => return Err(UNREAD),
+        }
+        Ok(())
+    }
+
+    fn ports(&mut self, rest: &str) -> Result<(), Stop> {
+        self.prepare()?;
+        for _ in 0..number(rest)? {
+            let fails = Vec::new(self.alloc);
+            let room = PORT_ROOM;
+            self.job.ports.push(HandedIn { room, fails })?;
+        }
+        Ok(())
+    }
+
+    // What a job has outside. Answers whether the heading tells it.
+    fn outside(&mut self, word: &str, rest: &str, heading: &Heading) -> Result<bool, Stop> {
+        match (word, rest.strip_prefix("fails ")) {
+            ("shelf", Some(words)) => {
+                self.prepare()?;
+                self.job.shelf = calls(self.alloc, words)?;
+            }
+            ("out", Some(words)) => {
+                self.prepare()?;
+                self.job.out = calls(self.alloc, words)?;
+            }
+            ("err", Some(words)) => {
+                self.prepare()?;
+                self.job.err = calls(self.alloc, words)?;
+            }
+            ("file", None) => {
+                self.prepare()?;
+                let file = self.file(rest, heading)?;
+                put_file(&mut self.files, file)?;
+            }
+            ("ports", None) => self.ports(rest)?,
+            ("port", None) => self.port(rest)?,
+            _ => return Ok(false),
+        }
+        Ok(true)
+    }
+
+    // What a job must leave.
+    fn wanted(&mut self, word: &str, rest: &str, heading: &Heading) -> Result<(), Stop> {
+        if self.job.words.is_empty() {
+            return Err(UNREAD);
+        }
+        match word {
+            "also" => {
+                let line = rest.strip_prefix("$ tlut").ok_or(UNREAD)?;
+                self.job.words.push(words_of(self.alloc, line)?)?;
+            }
+            "out" => self.job.wanted.out = self.bytes(rest, heading)?,
+            "err" if rest.is_empty() || rest == "made" => {
+                self.job.wanted.err = self.bytes(rest, heading)?;
+            }
+            "err" => self.job.wanted.err = text_of(self.alloc, Kind::Plain, &[rest], &[])?,
+            "status" => {
+                self.job.wanted.status = u8::try_from(number(rest)?).ok().ok_or(UNREAD)?;
+            }
+            "left" => {
+                let file = self.file(rest, heading)?;
+                self.job.wanted.files.push(file)?;
+            }
+            "log" => {
+                self.job.wanted.ports.extend_from_slice(rest.as_bytes())?;
+                self.job.wanted.ports.push(b'\n')?;
+            }
+            _ => return Err(UNREAD),
+        }
+        Ok(())
+    }
+
+    // Takes a heading in.
+    fn take(&mut self, line: &str, heading: &Heading) -> Result<(), Stop> {
+        if let Some(words) = line.strip_prefix("$ tlut") {
+            self.prepare()?;
+            self.job.words.push(words_of(self.alloc, words)?)?;
+            self.job.wanted.out = self.bytes("", heading)?;
+            return Ok(());
+        }
+        let (word, rest) = line.split_once(' ').unwrap_or((line, ""));
+        if word == "each" || self.outside(word, rest, heading)? {
+            return Ok(());
+        }
+        self.wanted(word, rest, heading)
+    }
+
+    fn take_heading(&mut self, heading: &Heading) -> Result<(), Stop> {
+        if self.counters.is_empty() {
+            return self.take(heading.line, heading);
+        }
+        let line = string(line_of(self.alloc, Kind::Filled, heading.line, self.counters)?)?;
+        self.take(line.as_str(), heading)
+    }
+}
+
+// Plays a row once, and tells what differs.
+fn play_once<P: Program>(
+    alloc: Global,
+    program: &P,
+    common: &[Heading],
+    row: &Row,
+    counters: &[Counter],
+) -> Result<String, Stop> {
+    let mut scene = Scene {
+        alloc,
+        program,
+        counters,
+        files: Vec::new(alloc),
+        job: Job::new(alloc),
+        differences: String::new(alloc),
+    };
+    for heading in common.iter().chain(row.headings.iter()) {
+        if let Err(stop) = scene.take_heading(heading) {
+            return Err(stop.at(heading.number));
+        }
+    }
+    if scene.job.words.is_empty() {
+        return Err(Stop::Unread(row.number, "a row without a job"));
+    }
+    if let Err(stop) = scene.finish() {
+        return Err(stop.at(row.number));
+    }
+    Ok(scene.differences)
+}
+
+// The counter of a row that is played once for each of its values, with the bounds.
+fn counter_of<'a>(alloc: Global, row: &Row<'a>) -> Result<Option<(&'a str, i64, i64)>, Stop> {
+    for heading in &row.headings {
+        if let Some(rest) = heading.line.strip_prefix("each ") {
+            let (name, range) = rest.split_once(' ').ok_or(UNREAD)?;
+            let (first, last) = bounds(alloc, range, &[])?;
+            return Ok(Some((name, first, last)));
+        }
+    }
+    Ok(None)
+}
+
+/// Plays a row, and tells what differs: nothing where it leaves what it must.
+pub fn play_row<P: Program>(
+    alloc: Global,
+    program: &P,
+    common: &[Heading],
+    row: &Row,
+) -> Result<String, Stop> {
+    let Some((name, first, last)) = counter_of(alloc, row)? else {
+        return play_once(alloc, program, common, row, &[]);
+    };
+    for value in first..last.saturating_add(1) {
+        let differences = play_once(alloc, program, common, row, &[Counter { name, value }])?;
+        if !differences.is_empty() {
+            return Ok(differences);
+        }
+    }
+    Ok(String::new(alloc))
+}

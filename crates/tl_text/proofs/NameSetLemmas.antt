@@ -1,0 +1,145 @@
+-- Names as sets: whether a name is among them, its place, and names added one by one.
+use Rattle.std.proofs.Common.{◌≡◌, ℕ, ◌+◌, ◌<◌, ◌≤◌, Bool, true, false, not, ◌||◌, ltb, List, [], ◌∷◌, ◌++◌, length, is_some, Option, Some, None, refl, sym, ap, ◌∙◌, subst, inl, inr, arith, append_assoc, append-nil, length-append}
+use Rattle.std.specs.Prelude.{filter, slice_get, bytes_eq}
+use Rattle.std.specs.List.{position_or_len}
+use Rattle.std.proofs.Common.{find}
+use Rattle.std.proofs.lemmas.Bool.{cases_Bool, or_cases, or_left, or_right, cond-true, cond-false, ltb-true, false≢true}
+use Rattle.std.proofs.lemmas.Option.{none-some, same_Some, cond_some}
+use Rattle.std.proofs.lemmas.List.Folds.{find_at, list_any-append}
+use lib.Pointwise.{bytes_decides}
+use Rattle.list_laws.specs.Members.{In}
+use Rattle.list_laws.proofs.Apart.{AreApart, apart_once}
+use Rattle.list_laws.proofs.FirstPlace.{position_none, list_any-position_none}
+use Rattle.list_laws.proofs.Places.{at_within}
+use Rattle.tl_text.specs.NameIndex.{place_of}
+use Rattle.tl_text.specs.NameSets.{has_name, with_name, with_names}
+use Rattle.tl_text.specs.Once.{AreOnce}
+
+-- the test of names says whether a name is a member
+pub has_in : (names : List (List ℕ)) (name : List ℕ) → has_name names name ≡ true → In names name
+has_in [] name t = absurd (false≢true t)
+has_in (n ∷ names) name t = elim (or_cases (bytes_eq name n) (has_name names name) t) [ inl e ↦ inl ((bytes_decides name n).0 e) | inr h ↦ inr (has_in names name h) ]
+
+pub in_has : (names : List (List ℕ)) (name : List ℕ) → In names name → has_name names name ≡ true
+in_has [] name i = absurd i
+in_has (n ∷ names) name (inl e) = or_left (bytes_eq name n) (has_name names name) ((bytes_decides name n).1 e)
+in_has (n ∷ names) name (inr i) = or_right (bytes_eq name n) (has_name names name) (in_has names name i)
+
+-- names of which none stands twice are a list in which nothing does
+pub names_apart : (names : List (List ℕ)) → AreOnce names → AreApart names
+names_apart [] once = tt
+names_apart (name ∷ names) once = (once.0, names_apart names once.1)
+
+pub apart_names : (names : List (List ℕ)) → AreApart names → AreOnce names
+apart_names [] apart = tt
+apart_names (name ∷ names) apart = (apart.0, apart_names names apart.1)
+
+-- so a name has one place
+pub one_place : (names : List (List ℕ)) (i j : ℕ) (name : List ℕ) → AreOnce names → slice_get names i ≡ Some name → slice_get names j ≡ Some name → i ≡ j
+one_place names i j name once = apart_once names i j name (names_apart names once)
+
+-- a name has a place exactly where it is among the names
+some_when : {A : Type 0} (o : Option A) (b : Bool) → (b ≡ false → o ≡ None) → (o ≡ None → b ≡ false) → is_some o ≡ b
+some_when None b f g = sym (g refl)
+some_when (Some x) true f g = refl
+some_when (Some x) false f g = absurd (none-some x (sym (f refl)))
+
+pub place_some : (names : List (List ℕ)) (name : List ℕ) → is_some (place_of names name) ≡ has_name names name
+place_some names name = some_when (place_of names name) (has_name names name) (position_none (bytes_eq name) names) (list_any-position_none (bytes_eq name) names)
+
+pub place_none : (names : List (List ℕ)) (name : List ℕ) → has_name names name ≡ false → place_of names name ≡ None
+place_none names name h = position_none (bytes_eq name) names h
+
+-- at the place of a name stands the name
+found_is : (name : List ℕ) (names : List (List ℕ)) (x : List ℕ) → find (bytes_eq name) names ≡ Some x → name ≡ x
+found_is name [] x e = absurd (none-some x e)
+found_is name (n ∷ ns) x e = elim (cases_Bool (bytes_eq name n)) [
+  | inl t ↦ (bytes_decides name n).0 t ∙ same_Some n x (sym (cond-true (bytes_eq name n) (Some n) (find (bytes_eq name) ns) t) ∙ e)
+  | inr f ↦ found_is name ns x (sym (cond-false (bytes_eq name n) (Some n) (find (bytes_eq name) ns) f) ∙ e)
+]
+
+pub name_place_within : (names : List (List ℕ)) (name : List ℕ) (p : ℕ) → place_of names name ≡ Some p → p < length names
+name_place_within names name p e =
+    let at = cond_some (ltb (position_or_len (bytes_eq name) names) (length names)) (position_or_len (bytes_eq name) names) p e in
+    let h : position_or_len (bytes_eq name) names < length names = ltb-true (position_or_len (bytes_eq name) names) (length names) at.0 in
+    subst (λ q. q < length names) at.1 h
+
+pub place_is : (names : List (List ℕ)) (name : List ℕ) (p : ℕ) → place_of names name ≡ Some p → slice_get names p ≡ Some name
+place_is names name p e =
+    let at = cond_some (ltb (position_or_len (bytes_eq name) names) (length names)) (position_or_len (bytes_eq name) names) p e in
+    let x = at_within names p (name_place_within names name p e) in
+    let found : find (bytes_eq name) names ≡ Some x.0 = find_at (bytes_eq name) names ∙ ap (slice_get names) at.1 ∙ x.1 in
+    x.1 ∙ ap Some (sym (found_is name names x.0 found))
+
+-- two names that differ
+pub no_match : (a b : List ℕ) → (a ≡ b → ⊥) → bytes_eq a b ≡ false
+no_match a b differ = elim (cases_Bool (bytes_eq a b)) [ inl t ↦ absurd (differ ((bytes_decides a b).0 t)) | inr f ↦ f ]
+
+or_nothing : (b c : Bool) → c ≡ false → b || (c || false) ≡ b
+or_nothing true c h = refl
+or_nothing false c h = ap (λ d. d || false) h
+
+or_false : (b : Bool) → b || false ≡ b
+or_false true = refl
+or_false false = refl
+
+-- one more name
+pub has_one_more : (names : List (List ℕ)) (n x : List ℕ) → has_name (names ++ n ∷ []) x ≡ (has_name names x || (bytes_eq x n || false))
+has_one_more names n x = list_any-append (bytes_eq x) names (n ∷ [])
+
+-- names of which none stands twice, behind others
+once_names : (old index names : List (List ℕ)) → AreOnce names → ((x : List ℕ) → In names x → has_name index x ≡ has_name old x) → with_names index names ≡ index ++ filter (λ x. not (has_name old x)) names
+once_names old index [] once same = sym (append-nil index)
+once_names old index (n ∷ ns) once same = elim (cases_Bool (has_name old n)) [
+  | inl t ↦ ap (λ i. with_names i ns) (cond-true (has_name index n) index (index ++ n ∷ []) (same n (inl refl) ∙ t)) ∙ rw t (once_names old index ns once.1 (λ x i. same x (inr i)))
+  | inr f ↦ ap (λ i. with_names i ns) (cond-false (has_name index n) index (index ++ n ∷ []) (same n (inl refl) ∙ f))
+      ∙ once_names old (index ++ n ∷ []) ns once.1 (λ x i. has_one_more index n x ∙ or_nothing (has_name index x) (bytes_eq x n) (no_match x n (λ e. once.0 (subst (In ns) e i))) ∙ same x (inr i))
+      ∙ append_assoc index (n ∷ []) (filter (λ x. not (has_name old x)) ns) ∙ rw f refl
+]
+
+keeps_all : (names : List (List ℕ)) → filter (λ x. not (has_name [] x)) names ≡ names
+keeps_all [] = refl
+keeps_all (n ∷ ns) = ap (λ ms. n ∷ ms) (keeps_all ns)
+
+pub new_names : (names : List (List ℕ)) → AreOnce names → with_names [] names ≡ names
+new_names names once = once_names [] [] names once (λ x i. refl) ∙ keeps_all names
+
+pub more_names : (index names : List (List ℕ)) → AreOnce names → with_names index names ≡ index ++ filter (λ x. not (has_name index x)) names
+more_names index names once = once_names index index names once (λ x i. refl)
+
+-- what is among names and more of them
+or_same : (a b : Bool) → (b ≡ true → a ≡ true) → a ≡ (a || b)
+or_same true b h = refl
+or_same false true h = h refl
+or_same false false h = refl
+
+has_with_name : (names : List (List ℕ)) (n x : List ℕ) → has_name (with_name names n) x ≡ (has_name names x || bytes_eq x n)
+has_with_name names n x = elim (cases_Bool (has_name names n)) [
+  | inl t ↦ ap (λ ms. has_name ms x) (cond-true (has_name names n) names (names ++ n ∷ []) t) ∙ or_same (has_name names x) (bytes_eq x n) (λ e. ap (has_name names) ((bytes_decides x n).0 e) ∙ t)
+  | inr f ↦ ap (λ ms. has_name ms x) (cond-false (has_name names n) names (names ++ n ∷ []) f) ∙ has_one_more names n x ∙ ap (λ b. has_name names x || b) (or_false (bytes_eq x n))
+]
+
+or_or : (a b c : Bool) → ((a || b) || c) ≡ (a || (b || c))
+or_or true b c = refl
+or_or false b c = refl
+
+pub has_with_names : (names more : List (List ℕ)) (x : List ℕ) → has_name (with_names names more) x ≡ (has_name names x || has_name more x)
+has_with_names names [] x = sym (or_false (has_name names x))
+has_with_names names (n ∷ more) x = has_with_names (with_name names n) more x ∙ ap (λ b. b || has_name more x) (has_with_name names n x) ∙ or_or (has_name names x) (bytes_eq x n) (has_name more x)
+
+-- names are added in turn
+pub with_names-append : (names some more : List (List ℕ)) → with_names names (some ++ more) ≡ with_names (with_names names some) more
+with_names-append names [] more = refl
+with_names-append names (name ∷ some) more = with_names-append (with_name names name) some more
+
+-- and are no more than those that were added
+with_name-length : (names : List (List ℕ)) (name : List ℕ) → length (with_name names name) ≤ length names + 1
+with_name-length names name = elim (cases_Bool (has_name names name)) [
+  | inl t ↦ rw t (let z : length names ≤ length names + 1 = omega arith in z)
+  | inr f ↦ rw f (let e : length (names ++ name ∷ []) ≡ length names + 1 = length-append names (name ∷ []) in let z : length (names ++ name ∷ []) ≤ length names + 1 = omega arith in z)
+]
+
+pub with_names-length : (names more : List (List ℕ)) → length (with_names names more) ≤ length names + length more
+with_names-length names [] = omega arith
+with_names-length names (name ∷ more) =
+    omega (arith, with_name-length names name, with_names-length (with_name names name) more)

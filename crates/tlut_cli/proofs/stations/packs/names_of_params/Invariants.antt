@@ -1,6 +1,0 @@
-use Rattle.std.proofs.Common.{◌≡◌, ◌++◌, drop, map}
-use Rattle.ppc_pack.specs.declared.pack.PackParam.{PackParam}
-use Rattle.tlut_cli.proofs.stations.packs.names_of_params.Given as goal
-
-abbrev pub invariant-loop-param : goal.invariant-loop-param
-invariant-loop-param l = l.names.items ++ map (λ (p : PackParam). p.name) (drop l.param-index l.params) ≡ map (λ (p : PackParam). p.name) l.params

@@ -1,9 +1,0 @@
--- The command `run`: a source circuit is mapped, and a script is played on it.
-pub mod Words
-pub mod Job
-pub mod Machine
-pub mod Ends
-pub mod Verdict
-pub mod Headline
--- What only bodies are compared with.
-pub mod Ready
