@@ -4,8 +4,8 @@
 Outside the gate.
 
     python3 tools/designs.py write ROOM           writes the netlists and lists of parameters into the folder ROOM
-    python3 tools/designs.py time [PROGRAM] [K]   runs the built program stage_bench on them and on the examples, after
-                                                  `rt run` in crates/stage_bench has built it, with tables of K inputs (4);
+    python3 tools/designs.py time [PROGRAM] [K]   runs `stages` of the built program bench_mapping on them and on the examples,
+                                                  after `rt run` in crates/bench_mapping has built it, with tables of K inputs (4);
                                                   ABC's time stands beside, where `berkeley-abc` or `abc` is there
 
 The multiplier has two factors of 16 bits and no parameters. The filter has 8 taps of 8 bits, whose coefficients are
@@ -22,7 +22,7 @@ import tempfile
 
 TOP = os.path.dirname(os.path.dirname(os.path.abspath(__file__)))
 EXAMPLES = f"{TOP}/crates/tlut_examples/data"
-PROGRAM = f"{TOP}/crates/stage_bench/out/stage_bench"
+PROGRAM = f"{TOP}/crates/bench_mapping/out/bench_mapping"
 STAGES = ["read", "flatten", "graph", "cuts", "labels", "cover", "functions", "cycles", "changes"]
 EVENTS = 1000
 RUNS = 80
@@ -177,7 +177,7 @@ def stages(program, k, files):
     """The counts of each stage, and the least of its times in some runs, in microseconds."""
     least = {}
     for _ in range(RUNS):
-        words = [program, str(k), *files, str(EVENTS), str(EVENTS)]
+        words = [program, "stages", str(k), *files, str(EVENTS), str(EVENTS)]
         ran = subprocess.run(words, capture_output=True, text=True, check=True)
         for line in ran.stdout.splitlines():
             stage, rest = line.split(": ", 1)

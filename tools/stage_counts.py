@@ -1,7 +1,7 @@
 #!/usr/bin/env python3
-"""Compares what the built program stage_bench counts at each stage with a model in Python of the stages' rules.
+"""Compares what the built program bench_mapping counts at each stage with a model in Python of the stages' rules.
 
-Outside the gate: `python3 tools/stage_counts.py [PROGRAM]`, after `rt run` in crates/stage_bench has built it. Its netlists
+Outside the gate: `python3 tools/stage_counts.py [PROGRAM]`, after `rt run` in crates/bench_mapping has built it. Its netlists
 are the designs of tools/designs.py and the examples, with tables of 2 and of 4 inputs. The last line is `N passed, M failed`,
 and the exit status is 1 where M isn't 0.
 """
@@ -220,7 +220,7 @@ def main():
     with tempfile.TemporaryDirectory() as room:
         for name, files in write(room).items():
             for k in (2, 4):
-                ran = subprocess.run([program, str(k), *files, str(EVENTS), str(EVENTS), "counts"], capture_output=True, text=True, check=False)
+                ran = subprocess.run([program, "stages", str(k), *files, str(EVENTS), str(EVENTS), "counts"], capture_output=True, text=True, check=False)
                 wanted = expected(files, k)
                 same = ran.returncode == 0 and ran.stdout == wanted
                 passed, failed = passed + same, failed + (not same)

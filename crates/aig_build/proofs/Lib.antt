@@ -1,11 +1,11 @@
-pub mod BalancedLemmas
-pub mod CoverLemmas
-pub mod AgainLemmas
-pub mod CoverNodeLemmas
-pub mod SignalLemmas
-pub mod SourceLemmas
-pub mod OnlyLemmas
-pub mod NetValueLemmas
-pub mod HoldLemmas
-pub mod NetlistLemmas
+mod BalancedLemmas
+mod CoverLemmas
+mod AgainLemmas
+mod CoverNodeLemmas
+mod SignalLemmas
+mod SourceLemmas
+mod OnlyLemmas
+mod NetValueLemmas
+mod HoldLemmas
+mod NetlistLemmas
 mod NetlistExample

@@ -7,7 +7,7 @@ use Rattle.std.proofs.lemmas.List.{length-map, length-replicate, length-append}
 use Rattle.std.proofs.lemmas.Option.{none-some, same_Some, slice_get_within, slice_get-map}
 use Rattle.list_laws.specs.Members.{In}
 use Rattle.list_laws.proofs.Members.{In-map, In-filter, from_map, place_in}
-use Rattle.list_laws.proofs.Places.{at_within, get_left, set_here, set_other, set_length, same_or, replicate_at}
+use Rattle.list_laws.proofs.Places.{at_within, get_left, set_here, set_other, set_length, same_or, replicate_at, same_list}
 use Rattle.list_laws.proofs.TwoLists.{get_right}
 use Rattle.tl_text.specs.Once.{AreOnce}
 use Rattle.tl_text.proofs.NameSetLemmas.{has_in, in_has, names_apart as once_apart}
@@ -21,16 +21,6 @@ use Rattle.aig_core.specs.declared.lit.Lit.{Lit}
 use Rattle.aig_build.specs.NetlistGraph.{input_names, IsSourceLiteral, an_input, a_latch}
 use Rattle.aig_build.specs.Walked.{NetLitsValue, no_lit, net_lit, marked, index_behind, regular_lits, regular_next, with_param_lits, marks_of, start_nets}
 use Rattle.aig_build.proofs.SignalLemmas.{AreSourced}
-
--- two lists that are alike at each place
-alike : {A : Type 0} (xs ys : List A) → length xs ≡ length ys → ((i : ℕ) (x : A) → slice_get ys i ≡ Some x → slice_get xs i ≡ Some x) → xs ≡ ys
-alike [] [] n same = refl
-alike [] (y ∷ ys) n same = absurd (omega arith)
-alike (x ∷ xs) [] n same = absurd (omega arith)
-alike (x ∷ xs) (y ∷ ys) n same =
-    let m : suc (length xs) ≡ suc (length ys) = n in
-    let e : x ≡ y = same_Some x y (same 0 y refl) in
-    ap (λ z. z ∷ xs) e ∙ ap (λ zs. y ∷ zs) (alike xs ys (omega arith) (λ i z f. same (suc i) z f))
 
 -- the marks
 pub length-marked : (marks : List Bool) (ps : List Param) → length (marked marks ps) ≡ length marks
@@ -152,7 +142,8 @@ module _ (flat : FlatValue) (params : List Param) (once : AreOnce flat.inputs) (
 
   -- the marks are at the parameters
   pub marks_are : marked (replicate (length flat.inputs) false) params ≡ map is_param flat.inputs
-  marks_are = alike (marked none params) (map is_param flat.inputs) (length-marked none params ∙ length-replicate (length flat.inputs) false ∙ sym (length-map flat.inputs is_param)) each
+  marks_are = same_list (marked none params) (map is_param flat.inputs) (length-marked none params ∙ length-replicate (length flat.inputs) false ∙ sym (length-map flat.inputs is_param))
+      (λ i a b here there. same_Some a b (sym here ∙ each i b there))
     where
       none : List Bool
       none = replicate (length flat.inputs) false

@@ -7,8 +7,10 @@ ghost use Rattle.netlist.specs.WellFormed.{IsWellFormed};
 ghost use Rattle.netlist.specs.declared.flat.OutPort.{OutPort as OutPortValue};
 ghost use Rattle.netlist.specs.declared.flat.FlatLatch.{FlatLatch as FlatLatchValue};
 ghost use Rattle.netlist.specs.Bounds.{IsWithinBounds};
+ghost use Rattle.netlist.specs.Flat.{IsFlat};
 ghost use Rattle.netlist.specs.FlatCycle.{HasCycles};
 ghost use Rattle.netlist.specs.Flattened.{HasValues};
+ghost use Rattle.netlist.specs.Sound.{IsSound};
 ghost use Rattle.param_list.specs.Parameters.{AreParameters};
 ghost use Rattle.aig_core.specs.declared.lit.Kind.TheVariants.{Regular, Parameter};
 ghost use Rattle.aig_core.specs.Aig.{IsLit, first_and};
@@ -25,7 +27,7 @@ use crate::build_err::BuildErr;
 use crate::cover::{Scratch, make_into};
 use crate::net_lits::{NetLits, fill, start};
 use aig_core::{AigErr, Graph, Kind, Lit, Roots};
-use netlist::{Flat, FlatLatch, Library, OutPort};
+use netlist::{Flat, FlatLatch, Library, OutPort, flat_law};
 use param_list::Params;
 use std::alloc::{AllocError, Global};
 
@@ -202,10 +204,9 @@ pub fn build(
     flat: &Flat,
     params: &Params,
 ) -> Result<(Graph, Roots), BuildErr>
-    requires formed { IsWellFormed library.now }
+    requires sound { IsSound library.now }
+    requires flat { IsFlat library.now flat.now }
     requires bounds { IsWithinBounds library.now flat.now }
-    requires values { HasValues library.now flat.now }
-    requires cycles { HasCycles library.now flat.now }
     requires params { AreParameters flat.now params.now.list }
     ensures graph { IfOk result (λ made. IsGraphOf library.now flat.now params.now.list made.0 made.1) }
     ensures lits { IfOk result (λ made. AreRoots made.0 (roots_of made.1)) }
@@ -213,6 +214,7 @@ pub fn build(
     ensures err { IfErr result (OrMemory refusal_of (λ e. HasTooManyNodes library.now flat.now params.now.list)) }
     ensures one { HasOneGraph library.now flat.now params.now.list }
 {
+    flat_law(library, flat);
     match make_netlist(alloc, library, flat, params) {
         Ok(made) => Ok(made),
         Err(AigErr::Full) => Err(BuildErr::TooManyNodes),

@@ -37,10 +37,9 @@ AreNormal-push first pairs q are fresh normal = record {
   once = λ i j p h k. once_push pairs q i j p fresh are.once (get_pushed pairs q i p h) (get_pushed pairs q j p k);
 }
 
-pub Keeps-push : (kinds : List Kind) (pairs keys : List Pair) (max : ℕ) (q : Pair) → Keeps kinds pairs keys max → (length pairs ≡ max → ⊥) → position (is_pair q.x.0 q.y.0) pairs ≡ None → IsNormal (1 + length kinds + length pairs) q → Keeps kinds (pairs ++ q ∷ []) (keys ++ q ∷ []) max
-Keeps-push kinds pairs keys max q keeps room fresh normal = record {
+pub Keeps-push : (kinds : List Kind) (pairs : List Pair) (max : ℕ) (q : Pair) → Keeps kinds pairs max → (length pairs ≡ max → ⊥) → position (is_pair q.x.0 q.y.0) pairs ≡ None → IsNormal (1 + length kinds + length pairs) q → Keeps kinds (pairs ++ q ∷ []) max
+Keeps-push kinds pairs max q keeps room fresh normal = record {
   room = omega (arith, keeps.room, length-append pairs (q ∷ []));
   small = keeps.small;
-  index = ap (λ ps. ps ++ q ∷ []) keeps.index;
   normal = AreNormal-push (1 + length kinds) pairs q keeps.normal fresh normal;
 }

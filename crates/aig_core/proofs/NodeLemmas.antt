@@ -1,6 +1,6 @@
 -- The nodes of a graph: the sources stand before the AND nodes, and each of these has a pair, which is normal.
-use Rattle.std.proofs.Common.{◌≡◌, ℕ, ◌+◌, ◌-◌, ◌<◌, ◌≤◌, length, get_or, subst, arith}
-use Rattle.std.proofs.lemmas.Option.{slice_get-get_or, slice_get_within}
+use Rattle.std.proofs.Common.{◌≡◌, ℕ, ◌+◌, ◌-◌, ◌<◌, ◌≤◌, length, get_or, sym, ◌∙◌, subst, arith}
+use Rattle.std.proofs.lemmas.Option.{slice_get-get_or, slice_get_within, same_Some}
 use Rattle.aig_core.specs.declared.lit.Kind.{Kind}
 use Rattle.aig_core.specs.declared.lit.Pair.{Pair}
 use Rattle.aig_core.specs.Aig.{Aig, IsNode, IsNormal, IsSource, AreNormal, first_and, node_count}
@@ -10,6 +10,10 @@ pub source_below : (g : Aig) (kind : Kind) (n : ℕ) → IsSource g kind n → n
 source_below g kind n s =
     let a : 1 ≤ n = s.above in
     let b : n - 1 < length g.kinds = slice_get_within g.kinds (n - 1) kind s.is in omega arith
+
+-- a node has one pair
+pub same_pair : (g : Aig) (p q : Pair) (n : ℕ) → IsNode g p n → IsNode g q n → p ≡ q
+same_pair g p q n a b = same_Some p q (sym a.is ∙ b.is)
 
 -- the pair of an AND node of a graph is normal
 pub node_normal : (g : Aig) (n : ℕ) (p : Pair) → AreNormal (first_and g) g.pairs → IsNode g p n → IsNormal n p

@@ -1,5 +1,7 @@
 -- The values of a graph's nodes as a relation: when a list of values fits a graph, and the value of a literal under it.
 use Rattle.std.specs.Prelude.{◌≡◌, ℕ, ◌-◌, ◌/◌, ◌%◌, ◌<◌, ◌≤◌, Bool, true, false, ◌&&◌, not, ◌==◌, List, length, take, slice_index_or}
+-- the value of a node, where a list has those of all nodes by their indices
+pub use Rattle.list_laws.specs.Digits.{bit_in as node_value}
 use Rattle.aig_core.specs.declared.lit.Pair.{Pair}
 use Rattle.aig_core.specs.Aig.{Aig, first_and, node_count, IsNode}
 
@@ -10,10 +12,6 @@ xor false b = b
 -- the value of a literal from that of its node: a complement flips it
 abbrev pub in_phase : ℕ → Bool → Bool
 in_phase lit b = xor b ((lit % 2) == 1)
-
--- the value of a node, where a list has those of all nodes by their indices
-abbrev pub node_value : List Bool → ℕ → Bool
-node_value values n = slice_index_or values n false
 
 -- the value of a literal under the values of the nodes
 abbrev pub value_of : List Bool → ℕ → Bool

@@ -1,4 +1,4 @@
-//! The graph: a vector of pairs, and a hashed index beside it.
+//! The graph: its sources, and its pairs as a hashed set in the order in which they were made.
 ghost use Rattle.std.specs.Prelude.{◌≡◌, ℕ, ◌+◌, ◌-◌, ◌*◌, ◌/◌, ◌^◌, ◌<◌, ◌≤◌, ◌↔◌, [], ◌∷◌, ◌++◌, length, Bool, List, Some, None, slice_get, vec_len, IfOk, OnErr, OnOk, position};
 ghost use Rattle.aig_core.specs.And.{is_pair};
 
@@ -20,8 +20,7 @@ pub enum AigErr {
 #[derive(Drop)]
 pub struct Graph {
     kinds: Vec<Kind>,
-    pairs: Vec<Pair>,
-    index: IndexSet<Pair>,
+    pairs: IndexSet<Pair>,
     max: u32,
 }
 
@@ -31,11 +30,11 @@ impl Model for Graph {
 
     ghost Value = { Aig };
 
-    ghost view = { λ g. record { kinds = g.kinds.items; pairs = g.pairs.items; max = g.max } };
+    ghost view = { λ g. record { kinds = g.kinds.items; pairs = g.pairs.keys; max = g.max } };
 
     ghost use Rattle.aig_core.specs.Keeps.{Keeps};
 
-    ghost invariant = { λ g. Keeps g.kinds.items g.pairs.items g.index.keys g.max };
+    ghost invariant = { λ g. Keeps g.kinds.items g.pairs.keys g.max };
 }
 
 impl<T: Drop> From<AllocFailed<T>> for AigErr {
@@ -50,26 +49,19 @@ impl<T: Drop> From<AllocFailed<T>> for AigErr {
 }
 
 // The place of a pair, by its hash.
-fn place_of(index: &IndexSet<Pair>, pair: Pair) -> Option<usize>
-    ensures { result ≡ position (is_pair pair.x.0 pair.y.0) index.now.keys }
+fn place_of(pairs: &IndexSet<Pair>, pair: Pair) -> Option<usize>
+    ensures { result ≡ position (is_pair pair.x.0 pair.y.0) pairs.now.keys }
 {
-    index.get_index_of(&pair)
+    pairs.get_index_of(&pair)
 }
 
-// A new pair at the end of both.
-fn push_both(
-    pairs: &mut Vec<Pair>,
-    index: &mut IndexSet<Pair>,
-    pair: Pair,
-) -> Result<(), AllocError>
-    requires { position (is_pair pair.x.0 pair.y.0) index.old.keys ≡ None }
-    ensures pairs { OnOk result (pairs.new.items ≡ pairs.old.items ++ pair ∷ []) }
-    ensures keys { OnOk result (index.new.keys ≡ index.old.keys ++ pair ∷ []) }
-    ensures err { OnErr result ((pairs.new.items ≡ pairs.old.items) × (index.new.keys ≡ index.old.keys)) }
+// A new pair at the end.
+fn push_new(pairs: &mut IndexSet<Pair>, pair: Pair) -> Result<(), AllocError>
+    requires { position (is_pair pair.x.0 pair.y.0) pairs.old.keys ≡ None }
+    ensures keys { OnOk result (pairs.new.keys ≡ pairs.old.keys ++ pair ∷ []) }
+    ensures err { OnErr result (pairs.new.keys ≡ pairs.old.keys) }
 {
-    pairs.reserve(1)?;
-    index.insert_full(pair)?;
-    let _done = pairs.push(pair);
+    pairs.insert_full(pair)?;
     Ok(())
 }
 
@@ -98,8 +90,7 @@ impl Graph {
     {
         Ok(Graph {
             kinds,
-            pairs: Vec::new(alloc),
-            index: IndexSet::new(alloc),
+            pairs: IndexSet::new(alloc),
             max,
         })
     }
@@ -185,14 +176,14 @@ impl Graph {
             x: Lit(x),
             y: Lit(y),
         };
-        match place_of(&self.index, pair) {
+        match place_of(&self.pairs, pair) {
             Some(i) => Ok(Lit(2 * (first + i as u32))),
             None => {
                 let i = self.pairs.len() as u32;
                 if i == self.max {
                     return Err(AigErr::Full);
                 }
-                push_both(&mut self.pairs, &mut self.index, pair)?;
+                push_new(&mut self.pairs, pair)?;
                 Ok(Lit(2 * (first + i)))
             }
         }
@@ -204,7 +195,7 @@ impl Graph {
         ensures pair { pair_of self.now n ≡ Some result }
         ensures normal { IsNormal n result }
     {
-        self.pairs[n as usize - 1 - self.kinds.len()]
+        self.pairs.as_slice()[n as usize - 1 - self.kinds.len()]
     }
 
     /// The pair of an AND node. It takes no memory, constant time, and counts as a step.
@@ -240,7 +231,7 @@ impl Graph {
         let mut values = Vec::with_capacity(alloc, 1 + self.kinds.len() + self.pairs.len())?;
         values.push(false)?;
         values.extend_from_slice(sources)?;
-        for pair in &self.pairs {
+        for pair in self.pairs.as_slice() {
             let x = lit_value(&values, pair.x);
             let y = lit_value(&values, pair.y);
             values.push(x && y)?;

@@ -8,8 +8,8 @@
 //! node. An AND node is the pair of the literals whose product it is, its fan-ins.
 //!
 //! What every graph keeps (`specs/Keeps.antt`): the fan-ins of an AND node are literals of two different nodes, both
-//! below it and neither the constant, in ascending order; no pair stands twice; the hashed index that finds the node
-//! of a pair has the same pairs as the vector, in the same order.
+//! below it and neither the constant, in ascending order; no pair stands twice. The pairs stand in one
+//! hashed set that keeps their order, so a node is found by its pair, and a pair by its node.
 //!
 //! `specs/Aig.antt` has the graph, and `specs/And.antt` the product of two literals. `specs/Value.antt` has the values of
 //! the nodes, as a relation: a list of values *fits* a graph where the constant is 0, each source has its value, and each

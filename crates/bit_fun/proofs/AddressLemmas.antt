@@ -55,17 +55,6 @@ base_from off [] t h i = elim i [ ]
 base_from off (u ∷ ts) t h (inl e) = subst (λ (x : Lut). off ≤ x.base) (sym e) (let b : u.base ≡ off = h.0 in omega arith)
 base_from off (u ∷ ts) t h (inr i) = let l : off + 2 ^ length u.leaves ≤ t.base = base_from (off + 2 ^ length u.leaves) ts t h.1 i in omega arith
 
--- a table's addresses are among all
-pub base_room : (off : ℕ) (ts : List Lut) (t : Lut) → HaveBases off ts → In ts t → t.base + 2 ^ length t.leaves ≤ off + bits_of ts
-base_room off [] t h i = elim i [ ]
-base_room off (u ∷ ts) t h (inl e) =
-    let s : bits_of (u ∷ ts) ≡ 2 ^ length u.leaves + bits_of ts = sum_by-cons (λ (x : Lut). 2 ^ length x.leaves) u ts in
-    let b : u.base ≡ off = h.0 in
-    subst (λ (x : Lut). x.base + 2 ^ length x.leaves ≤ off + bits_of (u ∷ ts)) (sym e) (omega arith)
-base_room off (u ∷ ts) t h (inr i) =
-    let s : bits_of (u ∷ ts) ≡ 2 ^ length u.leaves + bits_of ts = sum_by-cons (λ (x : Lut). 2 ^ length x.leaves) u ts in
-    let l : t.base + 2 ^ length t.leaves ≤ off + 2 ^ length u.leaves + bits_of ts = base_room (off + 2 ^ length u.leaves) ts t h.1 i in omega arith
-
 -- the table that has an address
 pub record HasAddress (ts : List Lut) (b : ℕ) : Type 0 where
   pub table : Lut

@@ -7,7 +7,7 @@ use Rattle.list_laws.specs.Members.{In}
 use Rattle.list_laws.specs.Digits.{digit}
 use Rattle.list_laws.specs.Order.{IsAscending}
 use Rattle.list_laws.proofs.FirstPlace.{position_is, position_none}
-use Rattle.list_laws.proofs.Members.{In-get_or, place_in}
+use Rattle.list_laws.proofs.Members.{In-get_or, place_in, in_or}
 use Rattle.aig_core.specs.declared.lit.Kind.TheVariants.{Parameter}
 use Rattle.aig_core.specs.Aig.{Aig, first_and, IsSource, IsNormal, AreNormal}
 use Rattle.aig_core.specs.Value.{in_phase, node_value, FitsGraph}
@@ -79,18 +79,6 @@ walk_is g params leaves v sources n bit normal are have (node p x y out is bx by
     let b : p.y.0 / 2 < n = a.below in
     e ∙ cone_product g leaves v sources n p x y fuel (no_place leaves n out) is.above is.is (omega arith) b
     (λ f l. walk_is g params leaves v sources (p.x.0 / 2) x normal are have bx f l) (λ f l. walk_is g params leaves v sources (p.y.0 / 2) y normal are have by f l) h
-
--- is a number in a list
-pub in_or : (leaves : List ℕ) (n : ℕ) → In leaves n ⊎ (In leaves n → ⊥)
-in_or [] n = inr (λ i. i)
-in_or (l ∷ ls) n = elim (cases_Bool (eqb l n)) [
-  | inl t ↦ inl (inl (sym (eqb-true l n t)))
-  | inr f ↦ elim (in_or ls n) [ inl i ↦ inl (inr i) | inr o ↦ inr (λ i. either (both_ways (eqb l n) f) o i) ]
-]
-  where
-    either : ((eqb l n ≡ true) → ⊥) → (In ls n → ⊥) → (n ≡ l) ⊎ In ls n → ⊥
-    either a b (inl e) = a (eq-eqb l n (sym e))
-    either a b (inr i) = b i
 
 -- a blocked node has a bit
 pub record HasBit (g : Aig) (params : List Bool) (leaves : List ℕ) (v n : ℕ) : Type 0 where

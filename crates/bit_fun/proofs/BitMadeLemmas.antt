@@ -10,10 +10,10 @@ use Rattle.aig_core.specs.And.{with_pairs}
 use Rattle.cover_pick.specs.declared.lut.Lut.{Lut}
 use Rattle.cover_pick.specs.Work.{IsTableWork, IsWork}
 use Rattle.bit_fun.specs.PackOf.{MakesNode, MakesTable, done, more, MakesTables, none, tables}
-use Rattle.bit_fun.specs.Pass.{PassValue, lit_of, fan_in, pass_over, with_leaves, HaveSourceLits, HaveLeafLits, IsMadeOver, IsTableIn, IsConeOrder, IsBetween, IsBitMade, AreBitsMade, AreTablesMadeTo}
+use Rattle.bit_fun.specs.ConeFunctions.{PassValue, lit_of, fan_in, pass_over, with_leaves, HaveSourceLits, HaveLeafLits, IsMadeOver, IsTableIn, IsConeOrder, IsBetween, IsBitMade, AreBitsMade, AreTablesMadeTo}
 use Rattle.bit_fun.proofs.BitLemmas.{AreLeaves}
 use Rattle.bit_fun.proofs.ConeMakesLemmas.{IsPassed, IsVisited, visit_makes}
-use Rattle.bit_fun.proofs.PassLemmas.{leaves_set, sources_stay}
+use Rattle.bit_fun.proofs.ConeFunctionLemmas.{leaves_set, sources_stay}
 
 -- a table's leaves
 pub leaves_in : (g : Aig) (t : Lut) → IsTableIn g t → AreLeaves g t.leaves

@@ -4,7 +4,7 @@ use Rattle.std.proofs.Math.ListN.{length-set}
 use Rattle.std.proofs.lemmas.Bool.{true≢false}
 use Rattle.std.proofs.lemmas.Option.{slice_get_within}
 use Rattle.list_laws.specs.Members.{In}
-use Rattle.list_laws.proofs.Members.{In-get, place_in}
+use Rattle.list_laws.proofs.Members.{In-get, place_in, in_or}
 use Rattle.list_laws.proofs.Places.{same_or}
 use Rattle.aig_core.specs.declared.lit.Kind.TheVariants.{Parameter}
 use Rattle.aig_core.specs.declared.lit.Lit.{Lit}
@@ -15,13 +15,13 @@ use Rattle.aig_core.proofs.NodeLemmas.{node_normal}
 use Rattle.aig_core.proofs.GrowthLemmas.{Extends, Extends-refl, Extends-trans, and_grows}
 use Rattle.cover_pick.specs.Cone.{is_stop}
 use Rattle.cover_pick.specs.Work.{IsInner}
-use Rattle.cover_pick.proofs.WorkLaws.{stop_inner, inner_stop, node_inside}
+use Rattle.cover_pick.proofs.WorkLemmas.{stop_inner, inner_stop, node_inside}
 use Rattle.cut_enum.specs.Cuts.{Blocks, member, constant as blocks_constant, parameter as blocks_parameter, fan_ins}
 use Rattle.depth_first.specs.DepthFirst.{Posts, skips, posts}
 use Rattle.bit_fun.specs.Parameters.{IsParam}
 use Rattle.bit_fun.specs.PackOf.{phase_literal, MakesNode, leaf, constant, parameter, node}
-use Rattle.bit_fun.specs.Pass.{cone_next, Visits, passed, walked, PassValue, lit_of, fan_in, with_made, made_node, pass_over, HaveSourceLits, HaveLeafLits}
-use Rattle.bit_fun.proofs.BitLemmas.{AreLeaves, in_or}
+use Rattle.bit_fun.specs.ConeFunctions.{cone_next, Visits, passed, walked, PassValue, lit_of, fan_in, with_made, made_node, pass_over, HaveSourceLits, HaveLeafLits}
+use Rattle.bit_fun.proofs.BitLemmas.{AreLeaves}
 use Rattle.bit_fun.proofs.ConeWalkLemmas.{VisitsBoth, visits_both}
 use Rattle.bit_fun.proofs.MakesLemmas.{makes_once, node_grows, node_again}
 

@@ -8,7 +8,7 @@ use Rattle.aig_core.specs.Aig.{Aig, first_and, node_count, pair_of, IsNode, IsNo
 use Rattle.aig_core.proofs.NodeLemmas.{node_normal, node_at}
 use Rattle.cover_pick.specs.Cone.{is_stop}
 use Rattle.cover_pick.specs.Work.{IsInner, Path, here as path_here, left as path_left, right as path_right, IsCone}
-use Rattle.cover_pick.proofs.WorkLaws.{stop_inner}
+use Rattle.cover_pick.proofs.WorkLemmas.{stop_inner}
 use Rattle.depth_first.specs.declared.edge.Edge.{Edge}
 use Rattle.depth_first.specs.declared.edge.Edge.TheVariants.{Node, Pass}
 use Rattle.depth_first.specs.DepthFirst.{Way, leads, stops, nodes_of, Posts, PostsAll, none, more}
@@ -17,7 +17,7 @@ use Rattle.depth_first.specs.Order.{IsAfter}
 use Rattle.depth_first.specs.Reach.{Reaches, here, through}
 use Rattle.depth_first.proofs.FallLemmas.{LeadsBelow}
 use Rattle.list_laws.proofs.Apart.{AreApart, apart_short}
-use Rattle.bit_fun.specs.Pass.{fan_in_edges, cone_edges, cone_next, Visits, passed, walked}
+use Rattle.bit_fun.specs.ConeFunctions.{fan_in_edges, cone_edges, cone_next, Visits, passed, walked}
 
 -- the edges of an AND node
 edges_of_node : (S : Type 0) (g : Aig) (leaves : List ℕ) (n : ℕ) (p : Pair) → IsNode g p n → cone_edges {S = S} g leaves n ≡ fan_in_edges {S = S} g leaves (Some p)

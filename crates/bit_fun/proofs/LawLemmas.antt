@@ -20,7 +20,7 @@ use Rattle.bit_fun.specs.Parameters.{param_count}
 use Rattle.bit_fun.specs.BitFunction.{NodeBit, IsBit}
 use Rattle.bit_fun.specs.Configuration.{IsMapped, IsConfiguration}
 use Rattle.bit_fun.specs.Lawful.{IsLawful}
-use Rattle.bit_fun.proofs.AddressLemmas.{base_room}
+use Rattle.cover_pick.proofs.BitsLemmas.{base_within}
 use Rattle.bit_fun.proofs.BitLemmas.{AreDigits, fits_bit}
 use Rattle.bit_fun.proofs.ConfigurationLemmas.{table_blocks, bits_agree}
 use Rattle.bit_fun.proofs.ParamLemmas.{HaveParams, HaveParams-shape}
@@ -97,7 +97,7 @@ configuration_lawful g luts params config normal m len is shape inputs states so
       let at : IsBit g luts params (address (value_of values) t) (value_of values t.lit.0) =
       table_value g m.k luts params sources values t fits (HaveParams-shape g shape inputs params states sources has all) len i ((m.mapping).table t i) in
       let before : address (value_of values) t < t.base + 2 ^ length t.leaves = address_before (value_of values) t in
-      let room : t.base + 2 ^ length t.leaves ≤ 0 + bits_of luts = base_room 0 luts t (m.mapping).bases i in
+      let room : t.base + 2 ^ length t.leaves ≤ 0 + bits_of luts = base_within 0 luts t (m.mapping).bases i in
       bits_agree g m.k m.roots m.bits luts params (address (value_of values) t) _ _ normal m.mapping at (is.each (address (value_of values) t) (omega arith));
 }
   where

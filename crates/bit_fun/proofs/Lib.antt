@@ -1,19 +1,19 @@
-pub mod AddressLemmas
-pub mod BitExample
-pub mod BitLemmas
-pub mod BitMadeLemmas
-pub mod ConeMakesLemmas
-pub mod ConeOrderLemmas
-pub mod ConeWalkLemmas
-pub mod ConfigurationLemmas
-pub mod LawLemmas
-pub mod MadeLemmas
-pub mod MadeBitLemmas
-pub mod MakesLemmas
-pub mod PackExample
-pub mod PackKeptLemmas
+mod AddressLemmas
+mod BitExample
+mod BitLemmas
+mod BitMadeLemmas
+mod ConeMakesLemmas
+mod ConeOrderLemmas
+mod ConeWalkLemmas
+mod ConfigurationLemmas
+mod LawLemmas
+mod MadeLemmas
+mod MadeBitLemmas
+mod MakesLemmas
+mod PackExample
+mod PackKeptLemmas
 pub mod PackLemmas
-pub mod ParamLemmas
-pub mod PassLemmas
-pub mod SourceLitLemmas
-pub mod WalkLemmas
+mod ParamLemmas
+mod ConeFunctionLemmas
+mod SourceLitLemmas
+mod WalkLemmas

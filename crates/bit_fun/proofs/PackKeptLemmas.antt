@@ -13,6 +13,7 @@ use Rattle.aig_core.specs.Aig.{Aig, first_and, node_count}
 use Rattle.cover_pick.specs.declared.lut.Lut.{Lut}
 use Rattle.cover_pick.specs.Mapping.{IsTableOf, source, free, node, bits_of}
 use Rattle.cover_pick.specs.Work.{IsTableWork, IsWork, IsLight}
+use Rattle.cover_pick.proofs.BitsLemmas.{bits_worked}
 use Rattle.param_list.specs.declared.params.Param.{Param}
 use Rattle.param_list.specs.Parameters.{AreNamed, param_names}
 use Rattle.ppc_pack.specs.declared.pack.PackParam.{PackParam}
@@ -20,7 +21,7 @@ use Rattle.ppc_pack.specs.Pack.{IsPack}
 use Rattle.bit_fun.specs.Parameters.{param_count}
 use Rattle.bit_fun.specs.Configuration.{IsMapped}
 use Rattle.bit_fun.specs.PackOf.{pack_param, MakesTables, IsPackOf}
-use Rattle.bit_fun.specs.Pass.{lit_of, HaveSourceLits, IsTableIn, IsBetween, AreTablesMadeTo}
+use Rattle.bit_fun.specs.ConeFunctions.{lit_of, HaveSourceLits, IsTableIn, IsBetween, AreTablesMadeTo}
 use Rattle.bit_fun.proofs.BitLemmas.{AreLeaves}
 use Rattle.bit_fun.proofs.BitMadeLemmas.{tables_done}
 use Rattle.bit_fun.proofs.ConfigurationLemmas.{table_leaves, table_blocks}
@@ -43,19 +44,6 @@ table_in g luts t m i =
     let is : IsTableOf g m.k t = (m.mapping).table t i in
     let are : AreLeaves g t.leaves = table_leaves g m.k t is in
     record { ascending = are.ascending; kinds = are.kinds; blocks = table_blocks g m.k t is; inside = table_inside g m.k t is }
-
--- the bits are no more than the work
-bits_within : (g : Aig) (luts : List Lut) (work : ℕ) → IsWork g luts work → bits_of luts ≤ work
-bits_within g [] work is = omega arith
-bits_within g (t ∷ ts) work is =
-    let one : IsTableWork g t is.0 = is.2 in
-    let rest : bits_of ts ≤ is.1 = bits_within g ts is.1 is.3 in
-    let sum : bits_of (t ∷ ts) ≡ 2 ^ length t.leaves + bits_of ts = sum_by-cons (λ (u : Lut). 2 ^ length u.leaves) t ts in
-    let least : 2 ^ length t.leaves * 1 ≤ 2 ^ length t.leaves * (1 + length one.cone) = mul-le-mul_left (2 ^ length t.leaves) (omega arith) in
-    let same : 2 ^ length t.leaves * 1 ≡ 2 ^ length t.leaves = mul-one (2 ^ length t.leaves) in
-    let work_is : is.0 ≡ 2 ^ length t.leaves * (1 + length one.cone) = one.work_is in
-    let all : work ≡ is.0 + is.1 = is.4 in
-    omega arith
 
 -- what holds of each parameter of a list holds of each of the pack
 each_param : (P : PackParam → Type 0) (list : List Param) → ((p : Param) → In list p → P (pack_param p)) → (p : PackParam) → In (map pack_param list) p → P p
@@ -100,7 +88,7 @@ pack_kept g luts list old new lits bits m light count named kinds none max made 
     let new_kinds : new.kinds ≡ replicate (length list) Parameter = is.kinds in
     let sources : length new.kinds ≡ length list = ap length new_kinds ∙ length-replicate (length list) Parameter in
     let room : length new.pairs + made.work ≤ old.max = made.room in
-    let fits : bits_of luts ≤ light.work = bits_within g luts light.work light.is in
+    let fits : bits_of luts ≤ light.work = bits_worked g luts light.work light.is in
     let low : light.work ≤ 33554432 = light.light in
     let bits_len : length bits ≡ bits_of luts = all.count in
     let few : length list ≤ 65535 = named.few in

@@ -34,7 +34,7 @@ pub has_one_pack : (g : Aig) (luts : List Lut) (params : List Param) → IsMappe
 has_one_pack g luts params m = record { only = λ made other a b. tables_once g (1 + length params) [] luts made other (λ t i. table_leaves g m.k t ((m.mapping).table t i)) a b }
 
 -- a pack has as many parameters as the list
-params_len : (g : Aig) (luts : List Lut) (list : List Param) (pack : PackValue) → IsPackOf g luts list pack → length pack.params ≡ length list
+pub params_len : (g : Aig) (luts : List Lut) (list : List Param) (pack : PackValue) → IsPackOf g luts list pack → length pack.params ≡ length list
 params_len g luts list pack is = ap length is.params_are ∙ length-map list pack_param
 
 -- what was made for its bits

@@ -11,7 +11,7 @@ use Rattle.aig_core.specs.declared.lit.Kind.TheVariants.{Regular, Parameter}
 use Rattle.aig_core.specs.declared.lit.Lit.{Lit}
 use Rattle.aig_core.specs.Aig.{Aig, node_count}
 use Rattle.bit_fun.specs.Parameters.{param_count}
-use Rattle.bit_fun.specs.Pass.{lit_of, HaveSourceLits, HaveSourceLitsTo}
+use Rattle.bit_fun.specs.ConeFunctions.{lit_of, HaveSourceLits, HaveSourceLitsTo}
 use Rattle.bit_fun.proofs.ConeMakesLemmas.{lit_other, lit_here}
 use Rattle.bit_fun.proofs.ParamLemmas.{regular_no_parameter, place_below}
 

@@ -7,4 +7,4 @@ pub mod PackOf
 pub mod PackLaw
 -- What only bodies are compared with.
 pub mod Walk
-pub mod Pass
+pub mod ConeFunctions

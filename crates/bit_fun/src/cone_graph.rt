@@ -2,7 +2,7 @@
 ghost use Rattle.std.specs.Prelude.{◌≡◌, ◌<◌, OnOk};
 ghost use Rattle.aig_core.specs.Aig.{first_and, node_count, AreNormal};
 ghost use Rattle.cover_pick.specs.Cone.{is_stop as ends_way};
-ghost use Rattle.bit_fun.specs.Pass.{cone_edge, IsConeOrder};
+ghost use Rattle.bit_fun.specs.ConeFunctions.{cone_edge, IsConeOrder};
 
 use aig_core::Graph;
 use depth_first::{Edge, Successors, Walk};
@@ -36,7 +36,7 @@ fn edge(graph: &Graph, leaves: &[u32], n: u32) -> Edge<()>
 
 impl Successors for Cone<'_> {
     ghost use Rattle.cover_pick.specs.Work.{IsInner};
-    ghost use Rattle.bit_fun.specs.Pass.{cone_edges};
+    ghost use Rattle.bit_fun.specs.ConeFunctions.{cone_edges};
 
     type Stop = ();
 

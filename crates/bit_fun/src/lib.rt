@@ -35,11 +35,12 @@
 //!
 //! # The files
 //!
-//! `cone_graph` has a table's cone as a graph to walk, `pass` the pass over its order, and `pack_of` the pack.
+//! `cone_graph` has a table's cone as a graph to walk, `cone_functions` the functions of its nodes, made by one pass over its
+//! order, and `template_functions` those of all tables, the pack.
 #![tactic(auto)]
 
+mod cone_functions;
 mod cone_graph;
-mod pack_of;
-mod pass;
+mod template_functions;
 
-pub use pack_of::functions;
+pub use template_functions::functions;

@@ -1,9 +1,9 @@
-pub mod Common
-pub mod Models
-pub mod Hierarchy
-pub mod Connections
-pub mod Clocking
-pub mod Values
-pub mod Fields
-pub mod Faults
+mod Common
+mod Models
+mod Hierarchy
+mod Connections
+mod Clocking
+mod Values
+mod Fields
+mod Faults
 mod Worked

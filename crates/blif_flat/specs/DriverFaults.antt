@@ -1,11 +1,7 @@
 -- The refusals of drivers: within each walked model the names that are driven twice, then those that are read and aren't driven.
 use Rattle.std.specs.Prelude.{ℕ, if◌then◌else◌, List, [], ◌∷◌, ◌++◌, Option, Some, None}
+use Rattle.std.specs.Option.{option_or as or_later, option_to_list as control_names}
 use Rattle.blif_flat.specs.Circuits.{model_named, has_name, is_input, is_output, inputs_of, Body, Cover, Latch, Subckt, Command, Pair, ModelValue, LibraryValue, FlatErr, DoublyDriven, Undriven}
-
--- the first of two refusals
-abbrev pub or_later : Option FlatErr → Option FlatErr → Option FlatErr
-or_later (Some e) later = Some e
-or_later None later = later
 
 -- the actuals of the output connections, and those of the input connections, in the order of the line
 abbrev pub output_actuals : ModelValue → List Pair → List (List ℕ)
@@ -31,13 +27,9 @@ drives library (Latch l) = l.output ∷ []
 drives library (Subckt s) = driven_pairs (model_named library.models s.model) s.pairs
 
 -- and those that it reads
-abbrev pub with_control : Option (List ℕ) → List (List ℕ)
-with_control None = []
-with_control (Some name) = name ∷ []
-
 abbrev pub reads : LibraryValue → Body → List (List ℕ)
 reads library (Cover c) = c.inputs
-reads library (Latch l) = l.input ∷ with_control l.control
+reads library (Latch l) = l.input ∷ control_names l.control
 reads library (Subckt s) = read_pairs (model_named library.models s.model) s.pairs
 
 abbrev pub all_drives : LibraryValue → List Command → List (List ℕ)

@@ -8,7 +8,7 @@ pub mod ClockFaults
 pub mod LoopFault
 pub mod Faults
 pub mod Circuits
-pub mod Steps
+pub mod Bodies
 pub use Rattle.netlist.specs.LibraryValue.{ModelValue, LibraryValue, input_ports, output_ports, clock_ports}
 pub use Rattle.netlist.specs.CoverValue.{RowValue, CoverValue, allows, matches, some_row, cover_value}
 pub use Rattle.netlist.specs.SubcktValue.{SubcktValue, formals}
@@ -33,6 +33,7 @@ pub use Rattle.netlist.specs.Flattened.{HasValues, HasOneFlat}
 pub use Rattle.netlist.specs.FlatCycle.{flat_outputs, flat_next, flat_inits, run_outputs, run_states, input_values, HasCycles}
 pub use Rattle.netlist.specs.Bounds.{IsThere, StandsBefore, IsWithinBounds}
 pub use Rattle.netlist.specs.CoverWalk.{latch_covers, all_latch_covers, roots_of, LoopWalk, Ordered}
+pub use Rattle.std.specs.Option.{option_or as or_later, option_to_list as control_names}
 pub use Rattle.tl_text.specs.NameSets.{has_name}
 pub use Rattle.netlist.specs.declared.cell.Cell.TheVariants.{Zero}
 pub use Rattle.list_laws.specs.Members.{In}
@@ -46,12 +47,12 @@ pub use Written.*
 pub use ClockFaults.*
 pub use LoopFault.*
 pub use Faults.*
-pub use Steps.ClockSteps.*
-pub use Steps.FieldSteps.*
-pub use Steps.InstanceRows.*
-pub use Steps.ModelSteps.*
-pub use Steps.NameSets.*
-pub use Steps.NetTable.*
+pub use Bodies.ClockSteps.*
+pub use Bodies.FieldSteps.*
+pub use Bodies.InstanceRows.*
+pub use Bodies.ModelSteps.*
+pub use Bodies.NameSets.*
+pub use Bodies.NetTable.*
 pub use Rattle.blif_flat.specs.declared.circuit.instances.Instance.{Instance}
 pub use Rattle.blif_flat.specs.declared.circuit.instances.Gate.{Gate}
 pub use Rattle.blif_flat.specs.declared.circuit.instances.GateKind.{GateKind}

@@ -42,7 +42,7 @@ fn main_ports(ports: &[Ports]) -> &Ports
 /// names that fit them, and those of the names that a net drives are the only ones. The flat circuit's fields are those of the library's hierarchical names,
 /// and a sound library has one such circuit at most; evaluating its covers in its order gives these values, and
 /// so the outputs and the next states of each cycle, and of each run from the latches' inits. Its lists are short, and its
-/// nets and its order are in range (`specs/Bounds.antt`).
+/// nets and its order are in range (`netlist/specs/Bounds.antt`).
 ///
 /// It takes time linear in the library's bytes and in the bytes of the names of all instances, on average over the hashes,
 /// and keeps each of its stacks in memory.

@@ -8,6 +8,7 @@ use Rattle.tl_text.specs.declared.token.Token.{Token}
 use Rattle.tl_text.specs.LineValue.{LineValue, token_bytes, words_line}
 use Rattle.tl_text.specs.Clean.{IsClean, AreCleanIn}
 use Rattle.tl_text.proofs.PlaceLemmas.{lines_clean}
+use Rattle.tl_text.proofs.WrittenLineLemmas.{last_later}
 use Rattle.blif_read.specs.declared.keyword.Keyword.{Keyword}
 use Rattle.blif_read.specs.declared.keyword.Keyword.TheVariants as keyword
 use Rattle.netlist.specs.declared.command.Body.TheVariants.{Cover, Latch, Subckt}
@@ -94,19 +95,13 @@ latch_clean words l (whole control init w c i) clean =
     (all l.input (inl refl), all l.output (inr (inl refl)), control_clean control l c (all control (inr (inr (inr (inl refl))))))
 
 -- the parts of a connection
-last_behind : (front back : List ℕ) → 0 < length back → get_or (front ++ back) (length (front ++ back) - 1) 0 ≡ get_or back (length back - 1) 0
-last_behind front back some =
-    let l : length (front ++ back) ≡ length front + length back = length-append front back in
-    let e : length (front ++ back) - 1 ≡ length front + (length back - 1) = omega arith in
-    ap (λ i. get_or (front ++ back) i 0) e ∙ get_or-append-add front back (length back - 1) 0
-
 pair_clean : (pair : Pair) → IsConnection pair → IsClean (connection_token pair) → IsCleanPair pair
 pair_clean pair is clean =
     let front : (b : ℕ) → In pair.formal b → In (connection_token pair) b = λ b i. In-left pair.formal (61 ∷ pair.actual) b i in
     let back : (b : ℕ) → In pair.actual b → In (connection_token pair) b = λ b i. In-right pair.formal (61 ∷ pair.actual) b (inr i) in
     let some : 0 < length pair.actual = is.actual in
     let last : get_or (connection_token pair) (length (connection_token pair) - 1) 0 ≡ get_or pair.actual (length pair.actual - 1) 0
-    = last_behind pair.formal (61 ∷ pair.actual) (omega arith) ∙ last_behind (61 ∷ []) pair.actual some in
+    = last_later pair.formal (61 ∷ pair.actual) (omega arith) ∙ last_later (61 ∷ []) pair.actual some in
     record {
       formal = record { some = is.formal; no_blank = λ b i. clean.bytes.no_blank b (front b i); no_bad = λ b i. clean.bytes.no_bad b (front b i); no_comment = λ b i. clean.bytes.no_comment b (front b i) };
       actual = record {

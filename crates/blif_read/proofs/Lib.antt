@@ -1,19 +1,18 @@
-pub mod ErrLemmas
-pub mod FaultLemmas
-pub mod OnceLemmas
-pub mod FormedLemmas
-pub mod NamedLemmas
+mod FaultLemmas
+mod OnceLemmas
+mod FormedLemmas
+mod NamedLemmas
 pub mod PortLemmas
-pub mod EndsLemmas
-pub mod DenotedLemmas
-pub mod FitsLemmas
-pub mod BodyPortLemmas
-pub mod StepLemmas
-pub mod CompleteLemmas
-pub mod WellFormedLemmas
-pub mod SizeLemmas
-pub mod SmallLemmas
-pub mod CleanLemmas
-pub mod TextLemmas
-pub mod ReadExamples
-pub mod ReaderLemmas
+mod EndsLemmas
+mod DenotedLemmas
+mod FitsLemmas
+mod BodyPortLemmas
+mod StepLemmas
+mod CompleteLemmas
+mod WellFormedLemmas
+mod SizeLemmas
+mod SmallLemmas
+mod CleanLemmas
+mod TextLemmas
+mod ReadExamples
+mod ReaderLemmas

@@ -1,5 +1,6 @@
 -- The refusal of a line in its place: the first of the table's order.
 use Rattle.std.specs.Prelude.{ℕ, ◌+◌, ◌==◌, Bool, true, false, not, ◌||◌, if◌then◌else◌, List, [], ◌∷◌, ◌++◌, length, take, drop, codes, bytes_eq, Option, Some, None, position}
+pub use Rattle.std.specs.Option.{option_or as or_later}
 pub use Rattle.tl_text.specs.NameSets.{has_name as has}
 use Rattle.blif_read.specs.declared.blif_err.BlifErr.{BlifErr}
 use Rattle.blif_read.specs.declared.blif_err.BlifErr.TheVariants.{NotCommand, Unsupported, OutsideModel, Arity, BadRow, MixedRows, BadLatch, LatchKind, DuplicateModel, DuplicatePort, BadConnection}
@@ -8,11 +9,6 @@ use Rattle.blif_read.specs.declared.keyword.Keyword.TheVariants.{Model, Inputs, 
 use Rattle.netlist.specs.declared.subckt.Pair.{Pair}
 use Rattle.blif_read.specs.Statement.{StatementValue}
 use Rattle.blif_read.specs.Context.{Context, CoverPlace, RowRead, row_of}
-
--- the first of two refusals
-abbrev pub or_later : Option BlifErr → Option BlifErr → Option BlifErr
-or_later (Some e) later = Some e
-or_later None later = later
 
 -- B9: a model of this name began earlier
 abbrev pub model_fault : ℕ → List (List ℕ) → List (List ℕ) → Option BlifErr

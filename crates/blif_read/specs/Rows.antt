@@ -1,5 +1,6 @@
 -- The rows of a cover, by their lines (BLIF manual of 1992).
-use Rattle.std.specs.Prelude.{◌≡◌, ℕ, ◌<◌, Bool, true, false, List, [], ◌∷◌, length, map, codes}
+use Rattle.std.specs.Prelude.{◌≡◌, ℕ, ◌<◌, Bool, List, [], ◌∷◌, length, map}
+pub use Rattle.list_laws.specs.Digits.{digit_text as output_token}
 use Rattle.netlist.specs.declared.cell.Cell.{Cell}
 use Rattle.netlist.specs.declared.cell.Cell.TheVariants.{Zero, One, Any}
 use Rattle.blif_read.specs.declared.keyword.Keyword.TheVariants.{Plain}
@@ -11,11 +12,6 @@ abbrev pub cell_character : Cell → ℕ
 cell_character Zero = 48
 cell_character One = 49
 cell_character Any = 45
-
--- the output character of a row, as a token
-abbrev pub output_token : Bool → List ℕ
-output_token true = codes "1"
-output_token false = codes "0"
 
 -- A line is a row of a cover of so many inputs with this output: without inputs the output character alone, else one character an input before it.
 pub data IsRow (inputs : ℕ) (value : Bool) (s : StatementValue) (row : RowValue) : Type 0 where

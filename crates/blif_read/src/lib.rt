@@ -12,7 +12,7 @@
 //!
 //! What a text denotes is a relation (`specs/Denotes.antt`), with no order of reading; its refusal is the first one of a
 //! table (`specs/LineFault.antt`, `specs/ReadFault.antt`). A text has one or the other, never both, and it denotes at
-//! most one library, which is well formed (`specs/WellFormed.antt`).
+//! most one library, which is well formed (`netlist/specs/WellFormed.antt`).
 //!
 //! - `read_text.rt` has `read`; `reader.rt` the one pass over the lines, and `open_model.rt` the model that is open in it.
 //! - `statement.rt`, `row_line.rt`, `latch_line.rt`, `connections.rt` and `port_list.rt` each read one kind of line.

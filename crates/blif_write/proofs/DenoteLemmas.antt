@@ -6,7 +6,7 @@ use Rattle.std.proofs.lemmas.Slice.Eq.{bytes_eq-Decides}
 use Rattle.std.proofs.lemmas.Bool.{ne_eqb}
 use Rattle.list_laws.specs.Members.{In}
 use Rattle.list_laws.proofs.Members.{In-append, In-get_or}
-use Rattle.tl_text.specs.LineValue.{LineValue, WordsLine, words_line}
+use Rattle.tl_text.specs.LineValue.{LineValue, words_line}
 use Rattle.tl_text.specs.Lines.{is_bad}
 use Rattle.tl_text.specs.Tokens.{is_blank}
 use Rattle.tl_text.specs.Clean.{IsClean}
@@ -24,21 +24,16 @@ use Rattle.blif_read.specs.Latches.{Starts, one, zero_, Controls, nil, net, IsLa
 use Rattle.blif_read.specs.Denotes.{names_in, port_names, IsCoverLine, AreCommands, IsModel, AreLibrary, Denotes}
 use Rattle.netlist.specs.HasCleanNames.{IsCleanBody}
 use Rattle.blif_read.specs.Denotes as denotes
+use Rattle.blif_read.proofs.PortLemmas.{names_in-append}
 use Rattle.blif_write.specs.PlainNetlist.{PlainNetlist, IsPlain, all_inputs, control_words, latch_line, row_line, cover_lines, netlist_lines, netlist_text, read_control, read_latch, latch_commands, cover_commands, model_of, library_of}
-use Rattle.tl_text.proofs.WrittenLineLemmas.{IsCleanLine as IsWritable, AreCleanLines as AreWritable, numbered, ReadsAgain, reads_again}
+use Rattle.tl_text.proofs.WrittenLineLemmas.{IsCleanLine as IsWritable, AreCleanLines as AreWritable, numbered, numbered-append, ReadsAgain, reads_again}
 
 -- statements of lines, the first of which has this number
 abbrev statements_of : ℕ → List (List (List ℕ)) → List StatementValue
 statements_of number lines = map statement_of (numbered number lines)
 
-numbered_append : (number : ℕ) (xs ys : List (List (List ℕ))) → numbered number (xs ++ ys) ≡ numbered number xs ++ numbered (number + length xs) ys
-numbered_append number [] ys = let e : number ≡ number + 0 = omega arith in ap (λ (k : ℕ). numbered k ys) e
-numbered_append number (x ∷ xs) ys =
-    let e : suc number + length xs ≡ number + length (x ∷ xs) = omega arith in
-    ap (λ (t : List WordsLine). record { number = number; words = x } ∷ t) (numbered_append (suc number) xs ys ∙ ap (λ (k : ℕ). numbered (suc number) xs ++ numbered k ys) e)
-
 statements_append : (number : ℕ) (xs ys : List (List (List ℕ))) → statements_of number (xs ++ ys) ≡ statements_of number xs ++ statements_of (number + length xs) ys
-statements_append number xs ys = ap (map statement_of) (numbered_append number xs ys) ∙ map-append statement_of (numbered number xs) (numbered (number + length xs) ys)
+statements_append number xs ys = ap (map statement_of) (numbered-append number xs ys) ∙ map-append statement_of (numbered number xs) (numbered (number + length xs) ys)
 
 -- rows
 row_is : (inputs number : ℕ) (value : Bool) (cells : List Cell) → value ≡ true → length cells ≡ inputs → IsRow inputs value (statement_at number (row_line cells)) (record { cells = cells })
@@ -130,11 +125,6 @@ commands_are n h =
     (inputs_are 2 n.inputs ((codes ".outputs" ∷ n.outputs) ∷ (map latch_line n.latches ++ (flat_map cover_lines n.covers ++ (codes ".end" ∷ []) ∷ []))) _ all)
 
 -- ports
-names_append : (p : Ports) (xs ys : List StatementValue) → names_in p (xs ++ ys) ≡ names_in p xs ++ names_in p ys
-names_append p [] ys = refl
-names_append p (x ∷ xs) ys =
-    ap (λ (t : List (List ℕ)). port_names p x.keyword x.arguments ++ t) (names_append p xs ys) ∙ sym (append_assoc (port_names p x.keyword x.arguments) (names_in p xs) (names_in p ys))
-
 no_port : (p : Ports) (k : Ports → List (List ℕ)) → k input_ports ≡ [] → k output_ports ≡ [] → k clock_ports ≡ [] → k p ≡ []
 no_port input_ports k i o c = i
 no_port output_ports k i o c = o
@@ -147,7 +137,7 @@ row_portless p number (One ∷ cells) = no_port p (λ q. names_in q (statement_a
 row_portless p number (Any ∷ cells) = no_port p (λ q. names_in q (statement_at number (row_line (Any ∷ cells)) ∷ [])) refl refl refl
 
 first_portless : (p : Ports) (s : StatementValue) (ss : List StatementValue) → names_in p (s ∷ []) ≡ [] → names_in p (s ∷ ss) ≡ names_in p ss
-first_portless p s ss h = names_append p (s ∷ []) ss ∙ ap (λ (t : List (List ℕ)). t ++ names_in p ss) h
+first_portless p s ss h = names_in-append p (s ∷ []) ss ∙ ap (λ (t : List (List ℕ)). t ++ names_in p ss) h
 
 rows_portless : (p : Ports) (number : ℕ) (rows : List RowValue) (lines : List (List (List ℕ))) → ((k : ℕ) → names_in p (statements_of k lines) ≡ []) → names_in p (statements_of number (map (λ row. row_line row.cells) rows ++ lines)) ≡ []
 rows_portless p number [] lines rest = rest number
@@ -203,7 +193,7 @@ ports_are : (n : PlainNetlist) (p : Ports) → ports_of p (model_of n) ≡ names
 ports_are n p =
     let behind_inputs : List (List (List ℕ)) = (codes ".outputs" ∷ n.outputs) ∷ (map latch_line n.latches ++ (flat_map cover_lines n.covers ++ (codes ".end" ∷ []) ∷ [])) in
     let inputs : List (List (List ℕ)) = map (λ (names : List (List ℕ)). codes ".inputs" ∷ names) n.inputs in
-    sym (ap (names_in p) (statements_append 2 inputs behind_inputs) ∙ names_append p (statements_of 2 inputs) (statements_of (2 + length inputs) behind_inputs)
+    sym (ap (names_in p) (statements_append 2 inputs behind_inputs) ∙ names_in-append p (statements_of 2 inputs) (statements_of (2 + length inputs) behind_inputs)
     ∙ ap (λ (t : List (List ℕ)). t ++ names_in p (statements_of (2 + length inputs) behind_inputs)) (inputs_named p 2 n.inputs)
     ∙ ap (λ (t : List (List ℕ)). own_ports p n.inputs ++ t) (outputs_named p (2 + length inputs) n.outputs (map latch_line n.latches ++ (flat_map cover_lines n.covers ++ (codes ".end" ∷ []) ∷ []))
     (λ k. latches_portless p k n.latches (flat_map cover_lines n.covers ++ (codes ".end" ∷ []) ∷ []) (λ j. covers_portless p j n.covers)))

@@ -1,12 +1,12 @@
 -- The names of a written netlist's parts: of which kind they are, and that each stands once.
-use Rattle.std.proofs.Common.{◌≡◌, ℕ, zero, suc, ◌+◌, ◌^◌, ◌<◌, ◌≤◌, Bool, true, false, not, cond, eqb, ◌&&◌, ◌||◌, nat_lt, List, [], ◌∷◌, ◌++◌, length, map, filter, replicate, slice_get, bytes_eq, Option, Some, refl, sym, ap, subst, ◌∙◌, inl, inr, arith, decimal}
+use Rattle.std.proofs.Common.{◌≡◌, ℕ, zero, suc, ◌+◌, ◌^◌, ◌<◌, ◌≤◌, Bool, true, false, not, cond, eqb, ◌&&◌, ◌||◌, nat_lt, List, [], ◌∷◌, ◌++◌, length, map, replicate, slice_get, bytes_eq, Option, Some, refl, sym, ap, subst, ◌∙◌, inl, inr, arith, decimal}
 use Rattle.std.proofs.lemmas.Slice.Eq.{bytes_eq-Decides}
 use Rattle.std.proofs.lemmas.Bool.{ne_eqb, ltb-true, or_from}
 use Rattle.std.proofs.lemmas.Fmt.{decimal-digits_of, decimal_digit}
 use Rattle.std.proofs.lemmas.Int.Digits.{all_below_base_digits_of}
 use Rattle.std.specs.Int.Digits.{digits_of, AllBelowBase}
 use Rattle.list_laws.specs.Members.{In}
-use Rattle.list_laws.proofs.Members.{In-append, In-filter, from_map}
+use Rattle.list_laws.proofs.Members.{In-append, from_map}
 use Rattle.tl_text.specs.Lines.{is_bad}
 use Rattle.tl_text.specs.Tokens.{is_blank}
 use Rattle.tl_text.specs.Clean.{IsClean}
@@ -57,20 +57,6 @@ repeated_even (suc count) letter rest h k b (inr i) = repeated_even count letter
 
 pub own_clean : (g : Naming) (letter number : ℕ) → is_odd letter ≡ false → number < 2 ^ 64 → IsClean (own_name g letter number)
 own_clean g letter number h small = even_clean (own_name g letter number) (omega arith) (repeated_even (suc g.under) letter (decimal number) h (number_even number small))
-
--- lists without repeats
-pub once_both : (xs ys : List (List ℕ)) → AreOnce xs → AreOnce ys → ((name : List ℕ) → In xs name → In ys name → ⊥) → AreOnce (xs ++ ys)
-once_both [] ys h k apart = k
-once_both (x ∷ xs) ys h k apart =
-    (λ i. elim (In-append xs ys x i) [ inl j ↦ h.0 j | inr j ↦ apart x (inl refl) j ], once_both xs ys h.1 k (λ name i j. apart name (inr i) j))
-
-once_kept : (test : List ℕ → Bool) (x : List ℕ) (xs : List (List ℕ)) (b : Bool) → AreOnce (x ∷ xs) → AreOnce (filter test xs) → AreOnce (cond b (x ∷ filter test xs) (filter test xs))
-once_kept test x xs true h k = (λ i. h.0 (In-filter test xs x i).0, k)
-once_kept test x xs false h k = k
-
-pub once_filter : (test : List ℕ → Bool) (xs : List (List ℕ)) → AreOnce xs → AreOnce (filter test xs)
-once_filter test [] h = tt
-once_filter test (x ∷ xs) h = once_kept test x xs (test x) h (once_filter test xs h.1)
 
 -- latches
 pub latch_output : (g : Naming) (control : Option (List ℕ)) (ordinal : ℕ) (ls : List FlatLatch) (nexts : List Lit) (name : List ℕ) → In (map (λ (l : LatchValue). l.output) (written_latches g control ordinal ls nexts)) name

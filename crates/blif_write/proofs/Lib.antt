@@ -1,22 +1,23 @@
 -- What the bodies put.
-pub mod RowLemmas
-pub mod NameLemmas
-pub mod TableLemmas
-pub mod PairLemmas
-pub mod NetlistLemmas
+mod RowLemmas
+mod NameLemmas
+mod TableLemmas
+mod PairLemmas
+mod NetlistLemmas
 -- The text is read again.
-pub mod DenoteLemmas
+mod DenoteLemmas
 -- One model as a library.
-pub mod PlainLemmas
-pub mod PlainCycleLemmas
-pub mod PlainSoundLemmas
+mod PlainLemmas
+mod PlainCycleLemmas
+mod PlainSoundLemmas
 -- The netlists of tables.
-pub mod RowValueLemmas
+mod RowValueLemmas
 pub mod OwnNameLemmas
-pub mod TableCycleLemmas
-pub mod DrivenLemmas
-pub mod PartLemmas
-pub mod OrderlyLemmas
+mod TableCycleLemmas
+mod DrivenLemmas
+mod PartLemmas
+mod OrderlyLemmas
+mod InputLemmas
 pub mod MeaningLemmas
 pub mod PortLemmas
-pub mod WrittenExamples
+mod WrittenExamples

@@ -24,14 +24,16 @@ use Rattle.cover_pick.specs.Template.{TemplateValue}
 use Rattle.blif_write.specs.PlainNetlist.{netlist_text, library_of}
 use Rattle.blif_write.specs.OwnNames.{Naming, naming_of, bit_name}
 use Rattle.blif_write.specs.Netlists.{digit_cell, digit_cells, leaf_names, bit_names, chosen_cells, fixed_table, tunable_table, written_latches, specialised_netlist, template_netlist}
-use Rattle.blif_write.specs.Meaning.{HasPorts, AreTablesOf, Means, input_bits}
+use Rattle.blif_write.specs.Meaning.{HasPorts, AreTablesOf, Means, free_control, all_bit_names, input_bits}
 use Rattle.blif_write.proofs.DenoteLemmas.{denotes_plain}
-use Rattle.blif_write.proofs.PlainCycleLemmas.{IsPlainCycle, plain_cycle, plain_inits}
+use Rattle.blif_write.proofs.InputLemmas.{bits_in_order, inputs_again}
+use Rattle.netlist.proofs.LawLemmas.{sound_law}
+use Rattle.blif_write.proofs.PlainCycleLemmas.{IsPlainCycle, plain_cycle, plain_inits, plain_has_cycle, plain_has_run}
 use Rattle.blif_write.proofs.PlainSoundLemmas.{IsOrderly, plain_sound}
-use Rattle.blif_write.proofs.RowValueLemmas.{of_range, in_range}
+use Rattle.list_laws.proofs.Ranges.{of_range, in_range}
 use Rattle.blif_write.proofs.OwnNameLemmas.{own_number}
 use Rattle.blif_write.proofs.TableCycleLemmas.{in_all, table_cycle, fixed_valued, tunable_valued}
-use Rattle.blif_write.proofs.DrivenLemmas.{once_both}
+use Rattle.tl_text.proofs.NameSetLemmas.{once_both}
 use Rattle.blif_write.proofs.PartLemmas.{AreCovers}
 use Rattle.blif_write.proofs.OrderlyLemmas.{orderly}
 
@@ -133,6 +135,10 @@ inits_are g control ordinal [] nexts same = refl
 inits_are g control ordinal (l ∷ ls) [] same = absurd (omega (arith, same))
 inits_are g control ordinal (l ∷ ls) (next ∷ nexts) same = ap (λ (t : List Bool). l.init ∷ t) (inits_are g control (suc ordinal) ls nexts (omega (arith, same)))
 
+latch_count : (g : Naming) (control : Option (List ℕ)) (ordinal : ℕ) (ls : List FlatLatch) (nexts : List Lit) → length nexts ≡ length ls → length (written_latches g control ordinal ls nexts) ≡ length ls
+latch_count g control ordinal ls nexts same =
+    sym (length-map (written_latches g control ordinal ls nexts) (λ (l : LatchValue). l.init)) ∙ ap length (inits_are g control ordinal ls nexts same) ∙ length-map ls (λ (l : FlatLatch). l.init)
+
 module _ (flat : FlatValue) (params : List Param) (t : TemplateValue) (ports : HasPorts flat) (are : AreTablesOf flat params t) where
   abbrev g : Naming
   g = naming_of flat params
@@ -149,23 +155,31 @@ module _ (flat : FlatValue) (params : List Param) (t : TemplateValue) (ports : H
   pub template_denotes : Denotes (netlist_text (template_netlist flat params t)) (library_of (template_netlist flat params t))
   template_denotes = denotes_plain (template_netlist flat params t) template_orderly.plain
 
-  pub specialised_means : (config : List Bool) → Means flat params t (specialised_netlist flat params t config) (λ x. config)
+  pub specialised_means : (config : List Bool) → Means flat params t (specialised_netlist flat params t config) [] (λ x. config)
   specialised_means config = record {
     sound = plain_sound (specialised_netlist flat params t config) (specialised_orderly config);
+    inputs = inputs_again flat params t [] (map (fixed_table g config) t.luts) ports are.roots.next (λ name i. elim i [ ]);
     cycles = λ x s outputs next c.
         let p : IsPlainCycle (specialised_netlist flat params t config) x s outputs next = plain_cycle (specialised_netlist flat params t config) x s outputs next c in
         table_cycle flat params t [] (map (fixed_table g config) t.luts) ports are x s p.value p.fits config outputs next p.outputs_are p.next_are
         (λ u i. fixed_valued flat params t [] (map (fixed_table g config) t.luts) ports are x s p.value p.fits config u (In-map (fixed_table g config) t.luts u i));
+    has_cycle = λ x s len. plain_has_cycle (specialised_netlist flat params t config) (sound_law (library_of (specialised_netlist flat params t config)) (plain_sound (specialised_netlist flat params t config) (specialised_orderly config))) x s (len ∙ sym (latch_count g flat.control 0 flat.latches t.next are.roots.next));
+    has_run = λ xs. plain_has_run (specialised_netlist flat params t config) (sound_law (library_of (specialised_netlist flat params t config)) (plain_sound (specialised_netlist flat params t config) (specialised_orderly config))) xs;
     starts = λ main latches h. plain_inits (specialised_netlist flat params t config) main latches h ∙ inits_are g flat.control 0 flat.latches t.next are.roots.next;
   }
 
-  pub template_means : Means flat params t (template_netlist flat params t) (input_bits g t.bits)
+  pub template_means : Means flat params t (template_netlist flat params t) (all_bit_names g t.bits) (input_bits g t.bits)
   template_means = record {
     sound = plain_sound (template_netlist flat params t) template_orderly;
+    inputs = λ again h.
+        inputs_again flat params t (map (bit_names g) t.luts) (map (tunable_table g) t.luts) ports are.roots.next (tunable_covers g t.luts t.bits are.playable.bases are.playable.sum are.few_bits).bits_own again h
+        ∙ ap (λ (bits : List (List ℕ)). g.regular ++ (free_control flat.control ++ bits)) (bits_in_order g 0 t.luts are.playable.bases ∙ ap (λ (count : ℕ). map (bit_name g) (range_with_len 0 count)) (sym are.playable.sum));
     cycles = λ x s outputs next c.
         let p : IsPlainCycle (template_netlist flat params t) x s outputs next = plain_cycle (template_netlist flat params t) x s outputs next c in
         table_cycle flat params t (map (bit_names g) t.luts) (map (tunable_table g) t.luts) ports are x s p.value p.fits (input_bits g t.bits x) outputs next p.outputs_are p.next_are
         (λ u i. tunable_valued flat params t (map (bit_names g) t.luts) (map (tunable_table g) t.luts) ports are x s p.value p.fits u i (In-map (tunable_table g) t.luts u i)
         (λ b low high. in_all (bit_names g) t.luts u (bit_name g b) i (In-map (bit_name g) (range_with_len u.base (2 ^ length u.leaves)) b (in_range u.base (2 ^ length u.leaves) b low high))));
+    has_cycle = λ x s len. plain_has_cycle (template_netlist flat params t) (sound_law (library_of (template_netlist flat params t)) (plain_sound (template_netlist flat params t) (template_orderly))) x s (len ∙ sym (latch_count g flat.control 0 flat.latches t.next are.roots.next));
+    has_run = λ xs. plain_has_run (template_netlist flat params t) (sound_law (library_of (template_netlist flat params t)) (plain_sound (template_netlist flat params t) (template_orderly))) xs;
     starts = λ main latches h. plain_inits (template_netlist flat params t) main latches h ∙ inits_are g flat.control 0 flat.latches t.next are.roots.next;
   }

@@ -1,6 +1,6 @@
 -- The names: own names are no output's, the places of the regular inputs, and the bytes of names behind blanks.
 use Rattle.std.proofs.Common.{◌≡◌, ℕ, zero, suc, ◌+◌, ◌-◌, ◌/◌, ◌<◌, ◌≤◌, leb, Bool, true, false, cond, ◌&&◌, List, [], ◌∷◌, ◌++◌, length, map, replicate, get_or, Some, bytes_eq, decimal, refl, sym, ap, subst, ◌∙◌, inl, inr, arith}
-use Rattle.std.specs.List.{flat_map, filter, slice_get}
+use Rattle.std.specs.List.{flat_map, slice_get}
 use lib.Pointwise.{bytes_decides}
 use Rattle.std.proofs.lemmas.List.{length-map, get_or-map, get_or_read}
 use Rattle.std.proofs.lemmas.List.Folds.{flat_map-map}
@@ -63,14 +63,6 @@ pub placed_count : (inputs : List (List ℕ)) (regular : List ℕ) (names : List
     → length regular ≡ length names
 placed_count inputs regular names e =
     sym (length-map regular (slice_get inputs)) ∙ ap length e ∙ length-map names (λ (name : List ℕ). Some name)
-
-pub fewer : {X : Type 0} (test : X → Bool) (xs : List X) → length (filter test xs) ≤ length xs
-fewer test [] = omega arith
-fewer test (x ∷ xs) = by_test (test x) (fewer test xs)
-  where
-    by_test : (b : Bool) → length (filter test xs) ≤ length xs → length (cond b (x ∷ filter test xs) (filter test xs)) ≤ suc (length xs)
-    by_test true h = omega arith
-    by_test false h = omega arith
 
 -- the name of a regular input, by its place
 pub name_at : (inputs : List (List ℕ)) (regular : List ℕ) (k : ℕ) (name : List ℕ) → k < length regular → get_or regular k 0 < length inputs → name ≡ get_or inputs (get_or regular k 0) name

@@ -2,13 +2,14 @@
 use Rattle.std.proofs.Common.{◌≡◌, ◌⊎◌, ℕ, suc, ◌+◌, ◌-◌, ◌*◌, ◌/◌, ◌%◌, ◌^◌, ◌<◌, ◌≤◌, Bool, true, false, cond, eqb, nat_le, IsTrue, List, [], ◌∷◌, ◌++◌, length, map, get_or, slice_get, bytes_eq, Some, refl, sym, ap, subst, ◌∙◌, inl, inr, arith}
 use Rattle.std.specs.List.{flat_map}
 use Rattle.std.proofs.lemmas.List.{map-append}
-use Rattle.std.proofs.lemmas.Bool.{leb-true, le-leb}
+use Rattle.std.proofs.lemmas.Bool.{leb-true, le-leb, and_parts}
 use Rattle.std.proofs.lemmas.Option.{same_Some}
 use Rattle.std.proofs.lemmas.Slice.Eq.{bytes_eq-Decides}
 use Rattle.list_laws.specs.Members.{In}
 use Rattle.list_laws.proofs.Members.{In-append, In-left, In-right, In-get, In-get_or, In-map, from_map}
 use Rattle.tl_text.specs.Clean.{IsClean}
 use Rattle.tl_text.specs.Once.{AreOnce}
+use Rattle.tl_text.proofs.NameSetLemmas.{once_both}
 use Rattle.netlist.specs.declared.command.Body.TheVariants.{Cover, Latch}
 use Rattle.netlist.specs.declared.latch.Latch.{Latch as LatchValue}
 use Rattle.netlist.specs.CoverValue.{CoverValue}
@@ -28,11 +29,11 @@ use Rattle.blif_write.specs.Netlists.{leaf_names, wire_of, wires, written_latche
 use Rattle.blif_write.specs.Meaning.{HasPorts, AreTablesOf}
 use Rattle.blif_write.proofs.PlainCycleLemmas.{IsControlName}
 use Rattle.blif_write.proofs.PlainSoundLemmas.{body_output, command_outputs, IsOrderly}
-use Rattle.blif_write.proofs.RowValueLemmas.{both_true, not_true}
+use Rattle.blif_write.proofs.RowValueLemmas.{not_true}
 use Rattle.blif_write.proofs.OwnNameLemmas.{own_under, no_port_name, own_letter, own_number, plain_even, table_literal}
 use Rattle.blif_write.proofs.TableCycleLemmas.{regular_parts, name_input, latch_named, latch_written}
 use Rattle.blif_write.proofs.PartLemmas.{AreCovers, in_lits, outputs_clean, latch_next, later_wire, latch_outputs_are, cover_outputs_are, table_outputs_are, rank_in, rank_of, rank_there, in_control, control_once, regular_once, wire_formed, in_lines, control_named_in}
-use Rattle.blif_write.proofs.DrivenLemmas.{own_clean, once_both, latch_output, latches_once, table_names, tables_once, IsWire, wires_there, wires_once}
+use Rattle.blif_write.proofs.DrivenLemmas.{own_clean, latch_output, latches_once, table_names, tables_once, IsWire, wires_there, wires_once}
 
 module _ (flat : FlatValue) (params : List Param) (t : TemplateValue) (bits : List (List (List ℕ))) (table : Lut → CoverValue) (ports : HasPorts flat) (are : AreTablesOf flat params t)
     (covers : AreCovers (naming_of flat params) t.luts bits table) where
@@ -168,7 +169,7 @@ module _ (flat : FlatValue) (params : List Param) (t : TemplateValue) (bits : Li
 
   lit_by : (l : ℕ) (b : Bool) → is_plain g.shape l ≡ b → IsTrue b ⊎ HasLut t.luts l → LitIs l
   lit_by l true e h =
-      let p : (eqb (l % 2) 0 ≡ true) × (is_regular g.shape (l / 2) ≡ true) = both_true (eqb (l % 2) 0) (is_regular g.shape (l / 2)) e in
+      let p : (eqb (l % 2) 0 ≡ true) × (is_regular g.shape (l / 2) ≡ true) = and_parts (eqb (l % 2) 0) (is_regular g.shape (l / 2)) e in
       source_is l (l / 2) p.1 (ap (λ (k : Bool). cond k (source_name g (l / 2)) (table_name g l)) e)
   lit_by l false e (inl h) = absurd (let w : false ≡ true = h in let wrong : ⊥ = cc in wrong)
   lit_by l false e (inr h) = of_table h.table h.in' h.is e (table_literal g l e ∙ ap (table_name g) (sym h.is))

@@ -1,7 +1,7 @@
 -- The wires and the latches of two lists, front by front.
-use Rattle.std.proofs.Common.{◌≡◌, ℕ, suc, ◌+◌, ◌<◌, ◌≤◌, List, [], ◌∷◌, ◌++◌, length, map, take, drop, get_or, Option, refl, sym, ap, ◌∙◌, arith, append_assoc, append-nil, length-take}
+use Rattle.std.proofs.Common.{◌≡◌, ℕ, suc, ◌+◌, ◌<◌, ◌≤◌, List, [], ◌∷◌, ◌++◌, length, map, take, get_or, Option, refl, sym, ap, ◌∙◌, arith, append_assoc, append-nil, length-take}
 use Rattle.std.specs.List.{flat_map}
-use Rattle.std.proofs.lemmas.List.{take_more, take_all, take-append-drop, map-append}
+use Rattle.std.proofs.lemmas.List.{take_more, take_all, map-append}
 use Rattle.std.proofs.lemmas.List.Concat.{flat_map-append}
 use Rattle.netlist.specs.declared.flat.OutPort.{OutPort}
 use Rattle.netlist.specs.declared.flat.FlatLatch.{FlatLatch}
@@ -47,14 +47,6 @@ wire_next g os lits i o lit e h =
     ∙ ap (λ (ps : List OutPort). wires_text (wires g ps (take i lits ++ get_or lits i lit ∷ []))) (sym (take_more os i o h))
     ∙ ap (λ (ls : List Lit). wires_text (wires g (take (i + 1) os) ls)) (sym (take_more lits i lit k))
 
-pub wires_all : (g : Naming) (os : List OutPort) (lits : List Lit) (i : ℕ) → length lits ≡ length os → i ≤ length os
-    → wires_before g os lits i ++ wires_text (wires g (drop i os) (drop i lits)) ≡ wires_text (wires g os lits)
-wires_all g os lits i e h =
-    let s : length (take i lits) ≡ length (take i os) = omega (arith, length-take i lits, length-take i os) in
-    joined (wires g (take i os) (take i lits)) (wires g (drop i os) (drop i lits)) ∙ ap wires_text (sym (wires_split g (take i os) (drop i os) (take i lits) (drop i lits) s))
-    ∙ ap (λ (ps : List OutPort). wires_text (wires g ps (take i lits ++ drop i lits))) (take-append-drop i os)
-    ∙ ap (λ (ls : List Lit). wires_text (wires g os ls)) (take-append-drop i lits)
-
 -- latches
 latches_split : (g : Naming) (control : Option (List ℕ)) (from at : ℕ) (ls more : List FlatLatch) (nexts others : List Lit) → length nexts ≡ length ls → at ≡ from + length ls
     → written_latches g control from (ls ++ more) (nexts ++ others) ≡ written_latches g control from ls nexts ++ written_latches g control at more others
@@ -87,16 +79,6 @@ latch_next g control ls nexts i l next e h =
     ∙ ap latches_text (sym (latches_split g control 0 i (take i ls) (get_or ls i l ∷ []) (take i nexts) (get_or nexts i next ∷ []) (same_length nexts ls i e h) at))
     ∙ ap (λ (ks : List FlatLatch). latches_text (written_latches g control 0 ks (take i nexts ++ get_or nexts i next ∷ []))) (sym (take_more ls i l h))
     ∙ ap (λ (ns : List Lit). latches_text (written_latches g control 0 (take (i + 1) ls) ns)) (sym (take_more nexts i next k))
-
-pub latches_all : (g : Naming) (control : Option (List ℕ)) (ls : List FlatLatch) (nexts : List Lit) (i : ℕ) → length nexts ≡ length ls → i ≤ length ls
-    → latches_before g control ls nexts i ++ latches_text (written_latches g control i (drop i ls) (drop i nexts)) ≡ latches_text (written_latches g control 0 ls nexts)
-latches_all g control ls nexts i e h =
-    let s : length (take i nexts) ≡ length (take i ls) = omega (arith, length-take i nexts, length-take i ls) in
-    let at : i ≡ 0 + length (take i ls) = omega (arith, length-take i ls) in
-    joined_latches (written_latches g control 0 (take i ls) (take i nexts)) (written_latches g control i (drop i ls) (drop i nexts))
-    ∙ ap latches_text (sym (latches_split g control 0 i (take i ls) (drop i ls) (take i nexts) (drop i nexts) s at))
-    ∙ ap (λ (ks : List FlatLatch). latches_text (written_latches g control 0 ks (take i nexts ++ drop i nexts))) (take-append-drop i ls)
-    ∙ ap (λ (ns : List Lit). latches_text (written_latches g control 0 ls ns)) (take-append-drop i nexts)
 
 pub wires_whole : (g : Naming) (os : List OutPort) (lits : List Lit) (i : ℕ) → length lits ≡ length os → length os ≤ i → wires_before g os lits i ≡ wires_text (wires g os lits)
 wires_whole g os lits i e h =

@@ -21,7 +21,8 @@ use Rattle.blif_write.specs.OwnNames.{Naming, table_name, literal_name, bit_name
 use Rattle.blif_write.specs.Netlists.{wire_of, clock_of, control_names, wire, wires, written_latches, leaf_names}
 use Rattle.blif_write.proofs.PlainSoundLemmas.{body_output}
 use Rattle.blif_write.proofs.OwnNameLemmas.{own_number}
-use Rattle.blif_write.proofs.DrivenLemmas.{once_filter, table_names}
+use Rattle.tl_text.proofs.NameSetLemmas.{once_filter}
+use Rattle.blif_write.proofs.DrivenLemmas.{table_names}
 use Rattle.std.proofs.lemmas.List.{map-append}
 use Rattle.tl_text.specs.Clean.{IsClean}
 use Rattle.aig_core.specs.declared.lit.Lit.{Lit}

@@ -1,5 +1,5 @@
 -- A clock cycle of a netlist without hierarchy, over the names of its one instance.
-use Rattle.std.proofs.Common.{◌≡◌, ℕ, zero, suc, ◌+◌, ◌<◌, Bool, true, false, cond, ◌||◌, IsTrue, List, [], ◌∷◌, ◌++◌, length, map, slice_get, slice_index_or, bytes_eq, Option, Some, refl, sym, ap, subst, ◌∙◌, inl, inr, arith, append-nil}
+use Rattle.std.proofs.Common.{◌≡◌, ℕ, zero, suc, ◌+◌, ◌<◌, Bool, true, false, cond, ◌||◌, IsTrue, List, [], ◌∷◌, ◌++◌, length, map, slice_get, slice_index_or, Option, Some, refl, sym, ap, subst, ◌∙◌, arith, append-nil}
 use Rattle.std.specs.Option.{option_and_then}
 use Rattle.std.proofs.lemmas.Bool.{eq-eqb, ne_eqb}
 use Rattle.std.proofs.lemmas.Option.{slice_get_within}
@@ -16,7 +16,9 @@ use Rattle.netlist.specs.Instances.{CoverAt, LatchAt, IsMainInput}
 use Rattle.netlist.specs.Nets.{Net, input_net, latch_net, cover_net, Drives, main_input, latch_output, cover_output, from_inside, from_outside, IsClock, listed, controls}
 use Rattle.netlist.specs.Places.{Place, latch_at, latch_in, is_latch, own_places, FlatOrder, FlatUnder, flat, none, more}
 use Rattle.netlist.specs.Cycle.{Fits}
-use Rattle.netlist.specs.Runs.{AreLatches, init_state, inits_of, state_of, next_state, next_states, IsCycle}
+use Rattle.netlist.specs.Law.{HasOneCycle}
+use Rattle.netlist.specs.Runs.{AreLatches, init_state, inits_of, state_of, next_state, next_states, IsCycle, HasACycle, HasARun}
+use Rattle.netlist.proofs.RunLemmas.{cycle_there, run_there}
 use Rattle.blif_write.specs.PlainNetlist.{PlainNetlist, all_inputs, read_control, read_latch, latch_commands, cover_commands, model_of, library_of}
 use Rattle.blif_write.proofs.PlainLemmas.{no_subckts, only_top, latch_there, cover_at_top, latch_at_top, no_connection}
 
@@ -166,3 +168,10 @@ plain_cycle n x s outputs next c =
       outputs_are = c.outputs_are ∙ ap (λ (m : ModelValue). map (c.value []) m.outputs) are.0;
       next_are = c.next_are ∙ ap (next_states (library_of n) c.value) are.1 ∙ next_there n c.value n.latches 0 (λ j l e. let z : j ≡ 0 + j = omega arith in subst (λ (k : ℕ). slice_get n.latches k ≡ Some l) z e);
     }
+
+-- where values of all names fit, there are cycles and runs
+pub plain_has_cycle : (n : PlainNetlist) → HasOneCycle (library_of n) → (x : List ℕ → Bool) (s : List Bool) → length s ≡ length n.latches → HasACycle (library_of n) x s
+plain_has_cycle n law x s len = cycle_there (library_of n) law (model_of n) (places_from 0 (length n.latches)) (places_are_latches n) x s (len ∙ sym (length_places 0 (length n.latches)))
+
+pub plain_has_run : (n : PlainNetlist) → HasOneCycle (library_of n) → (xs : List (List ℕ → Bool)) → HasARun (library_of n) xs
+plain_has_run n law = run_there (library_of n) law (model_of n) (places_from 0 (length n.latches)) (places_are_latches n)

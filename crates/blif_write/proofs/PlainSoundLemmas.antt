@@ -1,13 +1,11 @@
 -- A netlist without hierarchy is sound where each name that is read has one driver, and its covers can be put in order.
-use Rattle.std.proofs.Common.{◌≡◌, ℕ, zero, suc, ◌<◌, Bool, true, false, not, ◌||◌, ◌&&◌, IsTrue, List, [], ◌∷◌, ◌++◌, length, map, slice_get, bytes_eq, Some, refl, sym, ap, subst, ◌∙◌, inl, inr, arith}
-use Rattle.std.specs.List.{list_any}
+use Rattle.std.proofs.Common.{◌≡◌, ℕ, zero, suc, ◌<◌, Bool, true, false, not, ◌||◌, ◌&&◌, IsTrue, List, [], ◌∷◌, ◌++◌, length, map, slice_get, Some, refl, sym, ap, subst, ◌∙◌, inl, inr, arith}
 use Rattle.std.specs.Option.{option_map}
-use Rattle.std.proofs.lemmas.Slice.Eq.{bytes_eq-Decides}
 use Rattle.std.proofs.lemmas.Option.{none-some, same_Some, slice_get-map}
 use Rattle.list_laws.specs.Members.{In}
 use Rattle.list_laws.proofs.Members.{In-get, In-append, In-left, In-right, place_in}
 use Rattle.tl_text.specs.Once.{AreOnce}
-use Rattle.tl_text.proofs.NameSetLemmas.{one_place}
+use Rattle.tl_text.proofs.NameSetLemmas.{one_place, has_in}
 use Rattle.netlist.specs.declared.command.Body.{Body}
 use Rattle.netlist.specs.declared.command.Body.TheVariants.{Cover, Latch, Subckt}
 use Rattle.netlist.specs.declared.command.Command.{Command}
@@ -79,14 +77,6 @@ data Drivers (n : PlainNetlist) (name : List ℕ) (driver : Driver) : Type 0 whe
   a_latch : (i : ℕ) (l : LatchValue) → slice_get (bodies_of n) i ≡ Some (Latch l) → slice_get (command_outputs n) i ≡ Some name → driver ≡ by_latch i → Drivers n name driver
   a_cover : (i : ℕ) (c : CoverValue) → slice_get (bodies_of n) i ≡ Some (Cover c) → slice_get (command_outputs n) i ≡ Some name → driver ≡ by_cover i → Drivers n name driver
 
-there_by : (name other : List ℕ) (names : List (List ℕ)) (is : Bool) → bytes_eq name other ≡ is → (is || list_any (bytes_eq name) names) ≡ true → (list_any (bytes_eq name) names ≡ true → In names name) → In (other ∷ names) name
-there_by name other names true e h later = inl ((bytes_eq-Decides name other).0 e)
-there_by name other names false e h later = inr (later h)
-
-pub there_has : (names : List (List ℕ)) (name : List ℕ) → IsTrue (has_name names name) → In names name
-there_has [] name h = absurd (let t : false ≡ true = h in let wrong : ⊥ = cc in wrong)
-there_has (other ∷ names) name h = there_by name other names (bytes_eq name other) refl h (there_has names name)
-
 or_false : (b : Bool) → (b || false) ≡ true → b ≡ true
 or_false true h = refl
 or_false false h = h
@@ -124,7 +114,7 @@ no_subckt_body (l ∷ ls) cs (suc i) s e = no_subckt_body ls cs i s e
 driver_there : (n : PlainNetlist) (path : Path) (name : List ℕ) (driver : Driver) → IsDriver (library_of n) path name driver → Drivers n name driver
 driver_there n path name driver (input at t e) =
     let top : at.model ≡ model_of n = (only_top n path at.model at.at).1 in
-    an_input (there_has (all_inputs n) name (or_false (has_name (all_inputs n) name) (subst (λ (m : ModelValue). IsTrue (is_input m name)) top t))) e
+    an_input (has_in (all_inputs n) name (or_false (has_name (all_inputs n) name) (subst (λ (m : ModelValue). IsTrue (is_input m name)) top t))) e
 driver_there n path name driver (latch i l at o e) =
     let b : slice_get (bodies_of n) i ≡ Some (Latch l) = latch_body n path i l at in a_latch i l b (output_at n i (Latch l) b ∙ ap Some (sym o)) e
 driver_there n path name driver (cover i c at o e) =
@@ -272,7 +262,7 @@ read_there n h path name (latch_control i l at e) =
 read_there n h path name (input_actual k pair at t e) = absurd (no_connection n path k pair at)
 read_there n h path name (model_output m at o) =
     let top : (path ≡ []) × (m ≡ model_of n) = only_top n path m at in
-    (top.0, (h.outputs name (there_has n.outputs name (and_right (not (is_input (model_of n) name)) (has_name n.outputs name) (subst (λ (k : ModelValue). IsTrue (is_output k name)) top.1 o)))).0)
+    (top.0, (h.outputs name (has_in n.outputs name (and_right (not (is_input (model_of n) name)) (has_name n.outputs name) (subst (λ (k : ModelValue). IsTrue (is_output k name)) top.1 o)))).0)
 
 plain_driven : (n : PlainNetlist) → IsOrderly n → IsDriven (library_of n)
 plain_driven n h = record {

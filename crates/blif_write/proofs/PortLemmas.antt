@@ -1,23 +1,29 @@
 -- The flat circuit of a sound library has ports as they are written.
-use Rattle.std.proofs.Common.{◌≡◌, ◌⊎◌, ℕ, ◌≤◌, Bool, true, false, not, ◌||◌, List, [], ◌∷◌, ◌++◌, Option, Some, refl, sym, ap, subst, ◌∙◌, inl, inr, arith}
-use Rattle.std.proofs.lemmas.Option.{none-some, same_Some}
+use Rattle.std.proofs.Common.{◌≡◌, ◌⊎◌, ℕ, ◌<◌, ◌≤◌, Bool, true, false, not, ◌||◌, List, [], ◌∷◌, ◌++◌, length, slice_get, Option, Some, is_some, refl, sym, ap, subst, ◌∙◌, inl, inr, arith}
+use Rattle.std.proofs.lemmas.Option.{none-some, same_Some, slice_get_within}
 use Rattle.list_laws.specs.Members.{In}
-use Rattle.list_laws.proofs.Members.{In-get, In-left, In-right, In-map, In-filter}
+use Rattle.list_laws.proofs.Places.{at_within}
+use Rattle.list_laws.proofs.Members.{place_in, In-get, In-left, In-right, In-map, In-filter}
 use Rattle.tl_text.specs.Clean.{IsClean}
 use Rattle.tl_text.specs.Once.{AreOnce}
 use Rattle.netlist.specs.LibraryValue.{ModelValue, LibraryValue, input_ports, output_ports, clock_ports}
 use Rattle.netlist.specs.HasCleanNames.{HasCleanNames}
+use Rattle.netlist.specs.declared.latch.Latch.{Latch as LatchValue}
+use Rattle.netlist.specs.declared.command.Body.TheVariants.{Latch}
+use Rattle.netlist.specs.declared.flat.FlatLatch.{FlatLatch}
 use Rattle.netlist.specs.declared.flat.OutPort.{OutPort}
 use Rattle.netlist.specs.FlatValue.{FlatValue}
-use Rattle.netlist.specs.Flat.{underscores, most_underscores, IsControl, some_latch, no_latch, IsFlat}
+use Rattle.netlist.specs.Flat.{underscores, most_underscores, IsControl, some_latch, no_latch, IsFlatLatch, IsFlat}
+use Rattle.netlist.specs.Places.{is_latch}
 use Rattle.netlist.specs.Models.{Path, has_name}
 use Rattle.netlist.specs.Instances.{IsMainInput}
 use Rattle.netlist.specs.Nets.{Net, input_net, Drives, main_input, latch_output, cover_output, from_inside, from_outside, IsClock, controls}
 use Rattle.netlist.specs.Sound.{IsSound}
+use Rattle.netlist.proofs.OrderLemmas.{flat_all}
+use Rattle.netlist.proofs.PlaceLemmas.{place_of, one_latch}
 use Rattle.blif_write.specs.Meaning.{IsPortName, HasPorts}
 use Rattle.blif_write.proofs.PlainCycleLemmas.{net_name, is_input_net}
-use Rattle.blif_write.proofs.PlainSoundLemmas.{there_has}
-use Rattle.blif_write.proofs.DrivenLemmas.{once_filter}
+use Rattle.tl_text.proofs.NameSetLemmas.{once_filter, has_in}
 
 few_underscores : (names : List (List ℕ)) (name : List ℕ) → In names name → underscores name ≤ most_underscores names
 few_underscores [] name i = elim i [ ]
@@ -74,9 +80,20 @@ module _ (library : LibraryValue) (flat : FlatValue) (sound : IsSound library) (
       let m : IsMainInput library name = (control_by flat.control name fields.control e).0 in
       let same : m.model ≡ main = same_Some m.model main (sym m.at ∙ fields.is_main) in
       elim (by_either (has_name m.model.inputs name) (has_name m.model.clocks name) m.is) [
-        | inl h ↦ port name (inl (subst (λ (k : ModelValue). In k.inputs name) same (there_has m.model.inputs name h)))
-        | inr h ↦ port name (inr (inl (subst (λ (k : ModelValue). In k.clocks name) same (there_has m.model.clocks name h))))
+        | inl h ↦ port name (inl (subst (λ (k : ModelValue). In k.inputs name) same (has_in m.model.inputs name h)))
+        | inr h ↦ port name (inr (inl (subst (λ (k : ModelValue). In k.clocks name) same (has_in m.model.clocks name h))))
       ]
+
+  -- and a latch has it
+  clocked_by : (control : Option (List ℕ)) (name : List ℕ) → IsControl library control → control ≡ Some name → (l : FlatLatch) × In flat.latches l × (l.clocked ≡ true)
+  clocked_by control name (some_latch path i l own net at is d e) same =
+      let p : (k : ℕ) × (slice_get fields.at.latches k ≡ Some (place_of path i)) =
+      place_in fields.at.latches (place_of path i) (flat_all library is_latch main fields.at.latches fields.is_main fields.latches_order path at.model i (Latch l) at.at at.is refl) in
+      let small : p.0 < length flat.latches = let s : p.0 < length fields.at.latches = slice_get_within fields.at.latches p.0 (place_of path i) p.1 in omega (arith, s, fields.latch_count) in
+      let f : (k : FlatLatch) × (slice_get flat.latches p.0 ≡ Some k) = at_within flat.latches p.0 small in
+      let written : IsFlatLatch library fields.at (place_of path i) f.0 = fields.latches p.0 (place_of path i) f.0 p.1 f.1 in
+      (f.0, In-get flat.latches p.0 f.0 f.1, written.clocked ∙ ap is_some (ap (λ (m : LatchValue). m.control) (one_latch library path i written.latch l written.is at) ∙ is))
+  clocked_by control name (no_latch h e) same = absurd (none-some name (sym e ∙ same))
 
   pub ports_there : HasPorts flat
   ports_there = record {
@@ -91,4 +108,5 @@ module _ (library : LibraryValue) (flat : FlatValue) (sound : IsSound library) (
         let c : IsMainInput library name × IsClock library name = control_by flat.control name fields.control e in
         let top : main ≡ sound.main = same_Some main sound.main (sym fields.is_main ∙ sound.at) in
         sound.no_clock_output name name (subst (λ (k : ModelValue). In k.outputs name) top (subst (In main.outputs) same (output_in o i))) (main_input refl c.0 refl) c.1;
+    clocked = λ name e. clocked_by flat.control name fields.control e;
   }

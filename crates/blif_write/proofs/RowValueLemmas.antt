@@ -1,14 +1,15 @@
 -- The rows of a table have the value of the bit that its leaves' values ask for.
-use Rattle.std.proofs.Common.{◌≡◌, ◌⊎◌, ℕ, zero, suc, ◌+◌, ◌-◌, ◌*◌, ◌/◌, ◌%◌, ◌^◌, ◌<◌, ◌≤◌, Bool, true, false, cond, eqb, ◌&&◌, ◌||◌, List, [], ◌∷◌, ◌++◌, length, map, filter, replicate, get_or, slice_index_or, refl, sym, ap, subst, ◌∙◌, inl, inr, arith}
+use Rattle.std.proofs.Common.{◌≡◌, ◌⊎◌, ℕ, zero, suc, ◌+◌, ◌-◌, ◌*◌, ◌/◌, ◌%◌, ◌^◌, ◌<◌, ◌≤◌, Bool, true, false, eqb, ◌&&◌, ◌||◌, List, [], ◌∷◌, ◌++◌, length, map, filter, replicate, get_or, slice_index_or, refl, sym, ap, ◌∙◌, inl, inr, arith}
 use Rattle.std.specs.List.{range_with_len}
 use Rattle.std.proofs.Math.Nat.{pow-succ', div-div-eq-div-mul}
-use Rattle.std.proofs.lemmas.Bool.{eq-eqb, cases_Bool}
+use Rattle.std.proofs.lemmas.Bool.{eq-eqb, cases_Bool, and_parts, and_from, eqb-true}
 use Rattle.std.proofs.lemmas.Bool.Decides.{Decides-eqb}
 use Rattle.std.proofs.lemmas.List.FromFn.{length-map-range_with_len}
 use Rattle.list_laws.specs.Members.{In}
 use Rattle.list_laws.specs.Digits.{bit_value, number, digit}
 use Rattle.list_laws.proofs.Digits.{number-small, lowest, half}
 use Rattle.list_laws.proofs.Members.{In-map, In-filter, from_map, in_filter}
+use Rattle.list_laws.proofs.Ranges.{in_range, of_range}
 use Rattle.netlist.specs.declared.cell.Cell.{Cell}
 use Rattle.netlist.specs.declared.cell.Cell.TheVariants.{One, Any}
 use Rattle.netlist.specs.CoverValue.{RowValue, allows, matches, some_row}
@@ -32,15 +33,6 @@ cells_from (suc leaves) place v =
 digits_are : (leaves v : ℕ) → digit_cells leaves v ≡ cells_of leaves v
 digits_are leaves v = let e : v / 1 ≡ v = omega arith in cells_from leaves 0 v ∙ ap (cells_of leaves) e
 
--- booleans
-pub both_true : (a b : Bool) → (a && b) ≡ true → (a ≡ true) × (b ≡ true)
-both_true true b h = (refl, h)
-both_true false b h = absurd (let wrong : ⊥ = cc in wrong)
-
-true_both : (a b : Bool) → a ≡ true → b ≡ true → (a && b) ≡ true
-true_both true b h k = k
-true_both false b h k = absurd (let wrong : ⊥ = cc in wrong)
-
 pub not_true : (b : Bool) → (b ≡ true → ⊥) → b ≡ false
 not_true true h = absurd (h refl)
 not_true false h = refl
@@ -62,21 +54,18 @@ two_digits_by v false e = inr (let some : v % 2 ≡ 0 → ⊥ = λ z. let t : eq
 two_digits : (v : ℕ) → (v % 2 ≡ 0) ⊎ (v % 2 ≡ 1)
 two_digits v = two_digits_by v (eqb (v % 2) 0) refl
 
-eqb_same : (m n : ℕ) → eqb m n ≡ true → m ≡ n
-eqb_same m n h = (Decides-eqb m n).0 h
-
 even_rest : (v : ℕ) → (v % 2 ≡ 1 → ⊥) → 0 ≡ v % 2
 even_rest v h = elim (two_digits v) [ inl e ↦ sym e | inr e ↦ absurd (h e) ]
 
 digit_value : (v : ℕ) (b : Bool) → b ≡ eqb (v % 2) 1 → bit_value b ≡ v % 2
-digit_value v true h = elim (cases_Bool (eqb (v % 2) 1)) [ inl t ↦ sym (eqb_same (v % 2) 1 t) | inr f ↦ absurd (let wrong : ⊥ = cc in wrong) ]
+digit_value v true h = elim (cases_Bool (eqb (v % 2) 1)) [ inl t ↦ sym (eqb-true (v % 2) 1 t) | inr f ↦ absurd (let wrong : ⊥ = cc in wrong) ]
 digit_value v false h = elim (cases_Bool (eqb (v % 2) 1)) [ inl t ↦ absurd (let wrong : ⊥ = cc in wrong) | inr f ↦ even_rest v (λ e. let t : eqb (v % 2) 1 ≡ true = eq-eqb (v % 2) 1 e in let wrong : ⊥ = cc in wrong) ]
 
 pub matches_number : (v : ℕ) (ins : List Bool) → v < 2 ^ length ins → matches (cells_of (length ins) v) ins ≡ true → number ins ≡ v
 matches_number v [] small h = omega (arith, small)
 matches_number v (b ∷ bs) small h =
     let p : 2 ^ length (b ∷ bs) ≡ 2 * 2 ^ length bs = pow-succ' 2 (length bs) in
-    let parts : (allows (digit_cell (eqb (v % 2) 1)) b ≡ true) × (matches (cells_of (length bs) (v / 2)) bs ≡ true) = both_true (allows (digit_cell (eqb (v % 2) 1)) b) (matches (cells_of (length bs) (v / 2)) bs) h in
+    let parts : (allows (digit_cell (eqb (v % 2) 1)) b ≡ true) × (matches (cells_of (length bs) (v / 2)) bs ≡ true) = and_parts (allows (digit_cell (eqb (v % 2) 1)) b) (matches (cells_of (length bs) (v / 2)) bs) h in
     let low : bit_value b ≡ v % 2 = digit_value v b (allowed (eqb (v % 2) 1) b parts.0) in
     let high : number bs ≡ v / 2 = matches_number (v / 2) bs (omega (arith, small, p)) parts.1 in
     omega (arith, low, high)
@@ -84,7 +73,7 @@ matches_number v (b ∷ bs) small h =
 pub matches_own : (ins : List Bool) → matches (cells_of (length ins) (number ins)) ins ≡ true
 matches_own [] = refl
 matches_own (b ∷ bs) =
-    true_both (allows (digit_cell (eqb (number (b ∷ bs) % 2) 1)) b) (matches (cells_of (length bs) (number (b ∷ bs) / 2)) bs)
+    and_from (allows (digit_cell (eqb (number (b ∷ bs) % 2) 1)) b) (matches (cells_of (length bs) (number (b ∷ bs) / 2)) bs)
     (ap (λ (d : Bool). allows (digit_cell d) b) (lowest b (number bs)) ∙ allows_own b)
     (ap (λ (k : ℕ). matches (cells_of (length bs) k) bs) (half b (number bs)) ∙ matches_own bs)
 
@@ -101,22 +90,6 @@ row_matches (r ∷ rows) row ins (inr i) h = ap (λ (t : Bool). matches r.cells 
 no_row_matches : (rows : List RowValue) (ins : List Bool) → ((row : RowValue) → In rows row → matches row.cells ins ≡ false) → some_row rows ins ≡ false
 no_row_matches [] ins h = refl
 no_row_matches (r ∷ rows) ins h = ap (λ (t : Bool). t || some_row rows ins) (h r (inl refl)) ∙ no_row_matches rows ins (λ q i. h q (inr i))
-
--- numbers in a range
-in_range_by : (a n v : ℕ) → a ≤ v → (b : Bool) → eqb v a ≡ b → (a + 1 ≤ v → In (range_with_len (a + 1) n) v) → In (range_with_len a (suc n)) v
-in_range_by a n v low true e later = inl ((Decides-eqb v a).0 e)
-in_range_by a n v low false e later =
-    let other : v ≡ a → ⊥ = λ z. let t : eqb v a ≡ true = eq-eqb v a z in let wrong : ⊥ = cc in wrong in
-    inr (later (omega (arith, low, other)))
-
-pub in_range : (a n v : ℕ) → a ≤ v → v < a + n → In (range_with_len a n) v
-in_range a zero v low high = absurd (omega (arith, low, high))
-in_range a (suc n) v low high = in_range_by a n v low (eqb v a) refl (λ more. in_range (a + 1) n v more (omega (arith, high)))
-
-pub of_range : (a n v : ℕ) → In (range_with_len a n) v → (a ≤ v) × (v < a + n)
-of_range a zero v i = elim i [ ]
-of_range a (suc n) v (inl e) = (omega (arith, e), omega (arith, e))
-of_range a (suc n) v (inr i) = let r : (a + 1 ≤ v) × (v < a + 1 + n) = of_range (a + 1) n v i in (omega (arith, r.0), omega (arith, r.1))
 
 -- the rows of a table with fixed bits
 digits_match : (v : ℕ) (ins : List Bool) → matches (digit_cells (length ins) v) ins ≡ matches (cells_of (length ins) v) ins
@@ -182,7 +155,7 @@ tunable_by ins bits true count e =
     let small : number ins < 2 ^ length ins = number-small ins in
     let make : ℕ → RowValue = λ v. record { cells = digit_cells (length ins) v ++ chosen_cells (2 ^ length ins) v } in
     row_matches (tunable_rows (length ins)) (make (number ins)) (ins ++ bits) (In-map make (range_with_len 0 (2 ^ length ins)) (number ins) (in_range 0 (2 ^ length ins) (number ins) (omega arith) (omega (arith, small))))
-    (row_value ins bits (number ins) count small ∙ true_both (matches (cells_of (length ins) (number ins)) ins) (get_or bits (number ins) false) (matches_own ins) e)
+    (row_value ins bits (number ins) count small ∙ and_from (matches (cells_of (length ins) (number ins)) ins) (get_or bits (number ins) false) (matches_own ins) e)
 tunable_by ins bits false count e =
     let make : ℕ → RowValue = λ v. record { cells = digit_cells (length ins) v ++ chosen_cells (2 ^ length ins) v } in
     no_row_matches (tunable_rows (length ins)) (ins ++ bits) (λ row i.
@@ -191,7 +164,7 @@ tunable_by ins bits false count e =
     let below : at.0 < 2 ^ length ins = omega (arith, small.1) in
     not_true (matches row.cells (ins ++ bits)) (λ h.
     let parts : (matches (cells_of (length ins) at.0) ins ≡ true) × (get_or bits at.0 false ≡ true) =
-    both_true (matches (cells_of (length ins) at.0) ins) (get_or bits at.0 false) (sym (row_value ins bits at.0 count below) ∙ ap (λ (r : RowValue). matches r.cells (ins ++ bits)) (sym at.2) ∙ h) in
+    and_parts (matches (cells_of (length ins) at.0) ins) (get_or bits at.0 false) (sym (row_value ins bits at.0 count below) ∙ ap (λ (r : RowValue). matches r.cells (ins ++ bits)) (sym at.2) ∙ h) in
     let same : number ins ≡ at.0 = matches_number at.0 ins below parts.0 in
     let t : get_or bits (number ins) false ≡ true = ap (λ (k : ℕ). get_or bits k false) same ∙ parts.1 in
     let wrong : ⊥ = cc in wrong))

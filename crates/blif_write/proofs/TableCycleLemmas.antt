@@ -2,8 +2,7 @@
 use Rattle.std.proofs.Common.{◌≡◌, ◌⊎◌, ℕ, zero, suc, ◌+◌, ◌-◌, ◌*◌, ◌^◌, ◌<◌, ◌≤◌, Bool, true, false, cond, ◌&&◌, ◌||◌, nat_le, nat_lt, not, List, [], ◌∷◌, ◌++◌, length, map, get_or, slice_get, slice_index_or, bytes_eq, codes, Option, Some, None, refl, sym, ap, subst, ◌∙◌, inl, inr, arith}
 use Rattle.std.specs.List.{flat_map, range_with_len}
 use Rattle.std.proofs.lemmas.List.{map-append, length-map, get_or-map}
-use Rattle.std.proofs.lemmas.List.Sums.{sum_by-cons}
-use Rattle.std.proofs.lemmas.Bool.{leb-true, le-leb, ltb-true}
+use Rattle.std.proofs.lemmas.Bool.{leb-true, le-leb, ltb-true, and_parts}
 use Rattle.std.proofs.lemmas.List.FromFn.{get_or-map-range_with_len, length-map-range_with_len}
 use Rattle.std.proofs.lemmas.Slice.Eq.{bytes_eq-Decides}
 use Rattle.std.proofs.lemmas.Option.{none-some}
@@ -23,7 +22,8 @@ use Rattle.aig_core.specs.declared.lit.Lit.{Lit}
 use Rattle.aig_core.specs.Roots.{lits_of}
 use Rattle.cover_pick.specs.declared.lut.Lut.{Lut}
 use Rattle.cover_pick.specs.Template.{TemplateValue}
-use Rattle.cover_pick.specs.Mapping.{HaveBases, bits_of}
+use Rattle.cover_pick.specs.Mapping.{bits_of}
+use Rattle.cover_pick.proofs.BitsLemmas.{base_within}
 use Rattle.lut_sim.specs.declared.shape.Shape.{Shape}
 use Rattle.lut_sim.specs.Sources.{last_source, is_regular, source_value}
 use Rattle.lut_sim.specs.Cycle.{leaf_values, address, IsTableCycle}
@@ -32,7 +32,7 @@ use Rattle.blif_write.specs.OwnNames.{Naming, naming_of, table_name, latch_name,
 use Rattle.blif_write.specs.Netlists.{leaf_names, bit_names, fixed_rows, tunable_rows, fixed_table, tunable_table, wire_of, wire, wires, clock_of, written_latch, written_latches, control_names, with_tables}
 use Rattle.blif_write.specs.Meaning.{HasPorts, AreTablesOf, input_bits}
 use Rattle.blif_write.proofs.PlainCycleLemmas.{IsControlName, PlainFits}
-use Rattle.blif_write.proofs.RowValueLemmas.{both_true, not_true, fixed_value, tunable_value}
+use Rattle.blif_write.proofs.RowValueLemmas.{not_true, fixed_value, tunable_value}
 use Rattle.blif_write.proofs.OwnNameLemmas.{no_port_name, source_literal, table_literal}
 
 -- the latches of a written netlist
@@ -102,25 +102,12 @@ in_all f [] x y i j = elim i [ ]
 in_all f (z ∷ xs) x y (inl e) j = In-left (f z) (flat_map (λ t. t) (map f xs)) y (subst (λ k. In (f k) y) e j)
 in_all f (z ∷ xs) x y (inr i) j = In-right (f z) (flat_map (λ t. t) (map f xs)) y (in_all f xs x y i j)
 
--- a table's bits are among the circuit's
-pub base_within : (b : ℕ) (luts : List Lut) (u : Lut) → HaveBases b luts → In luts u → u.base + 2 ^ length u.leaves ≤ b + bits_of luts
-base_within b [] u h i = elim i [ ]
-base_within b (t ∷ ts) u h (inl e) =
-    let base : u.base ≡ b = ap (λ (k : Lut). k.base) e ∙ h.0 in
-    let size : 2 ^ length u.leaves ≡ 2 ^ length t.leaves = ap (λ (k : Lut). 2 ^ length k.leaves) e in
-    let sum : bits_of (t ∷ ts) ≡ 2 ^ length t.leaves + bits_of ts = sum_by-cons (λ (k : Lut). 2 ^ length k.leaves) t ts in
-    omega (arith, base, size, sum)
-base_within b (t ∷ ts) u h (inr i) =
-    let later : u.base + 2 ^ length u.leaves ≤ b + 2 ^ length t.leaves + bits_of ts = base_within (b + 2 ^ length t.leaves) ts u h.1 i in
-    let sum : bits_of (t ∷ ts) ≡ 2 ^ length t.leaves + bits_of ts = sum_by-cons (λ (k : Lut). 2 ^ length k.leaves) t ts in
-    omega (arith, later, sum)
-
 -- the sources
 parts_by : (shape : Shape) (n : ℕ) (first : Bool) → (nat_le 1 n && nat_le n shape.regular) ≡ first → (first || (nat_lt (shape.regular + shape.params) n && nat_le n (last_source shape))) ≡ true
     → ((1 ≤ n) × (n ≤ shape.regular)) ⊎ ((shape.regular + shape.params < n) × (n ≤ last_source shape))
-parts_by shape n true e h = let p : (nat_le 1 n ≡ true) × (nat_le n shape.regular ≡ true) = both_true (nat_le 1 n) (nat_le n shape.regular) e in inl (leb-true 1 n p.0, leb-true n shape.regular p.1)
+parts_by shape n true e h = let p : (nat_le 1 n ≡ true) × (nat_le n shape.regular ≡ true) = and_parts (nat_le 1 n) (nat_le n shape.regular) e in inl (leb-true 1 n p.0, leb-true n shape.regular p.1)
 parts_by shape n false e h =
-    let p : (nat_lt (shape.regular + shape.params) n ≡ true) × (nat_le n (last_source shape) ≡ true) = both_true (nat_lt (shape.regular + shape.params) n) (nat_le n (last_source shape)) h in
+    let p : (nat_lt (shape.regular + shape.params) n ≡ true) × (nat_le n (last_source shape) ≡ true) = and_parts (nat_lt (shape.regular + shape.params) n) (nat_le n (last_source shape)) h in
     inr (ltb-true (shape.regular + shape.params) n p.0, leb-true n (last_source shape) p.1)
 
 pub regular_parts : (shape : Shape) (n : ℕ) → is_regular shape n ≡ true → ((1 ≤ n) × (n ≤ shape.regular)) ⊎ ((shape.regular + shape.params < n) × (n ≤ last_source shape))

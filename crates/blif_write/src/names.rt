@@ -1,16 +1,15 @@
 //! The names in a written netlist.
 ghost use Rattle.std.specs.Prelude.{◌≡◌, ◌-◌, ◌/◌, ◌≤◌, ◌&&◌, [], IsTrue, nat_le, bytes_eq, slice_index_or};
-ghost use Rattle.tl_io.specs.Causes.{HasCause};
-ghost use Rattle.tl_piece.specs.Pieces.{AddsOrStops};
+ghost use Rattle.tl_piece.specs.Added.{IsAdded};
 ghost use Rattle.netlist.specs.Flat.{underscores};
 ghost use Rattle.lut_sim.specs.Sources.{is_regular, is_plain};
 ghost use Rattle.blif_write.specs.OwnNames.{own_name, source_name, literal_name};
 
 use aig_core::Lit;
-use lut_sim::Shape;
+use lut_sim::{Shape, is_plain as is_plain_literal};
 use std::marker::Model;
-use tl_io::{Failed, Sink};
-use tl_piece::Piece;
+use tl_io::Sink;
+use tl_piece::Writer;
 use tl_text::Name;
 
 /// What names are made from: the most underscores that a port's name begins with, the inputs and the places of the regular
@@ -35,34 +34,14 @@ impl<'a> Model for Names<'a> {
     ghost invariant = { λ n. ((i : ℕ) → In n.regular.now i → i < length n.inputs.now) × (n.shape.regular ≡ length n.regular.now) };
 }
 
-// Is this the positive literal of a regular source?
-fn is_plain_literal(shape: &Shape, lit: u64) -> bool
-    ensures { result ≡ is_plain shape.now lit }
-{
-    let n = lit / 2;
-    let regular = shape.regular as u64;
-    let before_latches = regular + shape.params as u64;
-    let last = before_latches + shape.latches as u64;
-    lit % 2 == 0 && ((1 <= n && n <= regular) || (before_latches < n && n <= last))
-}
-
 impl<'a> Names<'a> {
     /// Adds an own name: one underscore more than any port's name begins with, a letter and a number.
-    pub(crate) fn add_own<O: Sink>(
-        &self,
-        letter: u8,
-        number: u64,
-        piece: &mut Piece,
-        out: &mut O,
-    ) -> Result<(), Failed>
-        ensures cause { HasCause (O.faults out.old) (O.faults out.new) result }
-        ensures grown { AddsOrStops (O.bytes out.old) piece.old (own_name self.now letter number) (O.bytes out.new) piece.new result }
-        ensures through { O.through out.new ≡ O.through out.old }
-        ensures others { O.others out.new ≡ O.others out.old }
+    pub(crate) fn add_own<O: Sink>(&self, letter: u8, number: u64, writer: &mut Writer<'_, O>)
+        ensures { IsAdded O.seen writer.old (own_name self.now letter number) writer.new }
     {
-        piece.add_repeated(b'_', self.under as usize + 1, out)?;
-        piece.add_byte(letter, out)?;
-        piece.add_number(number, out)
+        writer.add_repeated(b'_', self.under as usize + 1);
+        writer.add_byte(letter);
+        writer.add_number(number);
     }
 
     // Is this the positive literal of a regular input?
@@ -84,36 +63,27 @@ impl<'a> Names<'a> {
     }
 
     // Adds the name of a regular source.
-    fn add_source<O: Sink>(&self, n: u64, piece: &mut Piece, out: &mut O) -> Result<(), Failed>
+    fn add_source<O: Sink>(&self, n: u64, writer: &mut Writer<'_, O>)
         requires { IsTrue (is_regular self.now.shape n) }
-        ensures cause { HasCause (O.faults out.old) (O.faults out.new) result }
-        ensures grown { AddsOrStops (O.bytes out.old) piece.old (source_name self.now n) (O.bytes out.new) piece.new result }
-        ensures through { O.through out.new ≡ O.through out.old }
-        ensures others { O.others out.new ≡ O.others out.old }
+        ensures { IsAdded O.seen writer.old (source_name self.now n) writer.new }
     {
         if n <= self.shape.regular as u64 {
-            return piece.add_text(self.input(n as u32), out);
+            writer.add_text(self.input(n as u32));
+            return;
         }
         let before_latches = self.shape.regular as u64 + self.shape.params as u64;
-        self.add_own(b'l', n - 1 - before_latches, piece, out)
+        self.add_own(b'l', n - 1 - before_latches, writer);
     }
 
     /// Adds the name of a literal: its source's where it is the positive one of a regular source, else its table's.
-    pub(crate) fn add_literal<O: Sink>(
-        &self,
-        lit: u64,
-        piece: &mut Piece,
-        out: &mut O,
-    ) -> Result<(), Failed>
-        ensures cause { HasCause (O.faults out.old) (O.faults out.new) result }
-        ensures grown { AddsOrStops (O.bytes out.old) piece.old (literal_name self.now lit) (O.bytes out.new) piece.new result }
-        ensures through { O.through out.new ≡ O.through out.old }
-        ensures others { O.others out.new ≡ O.others out.old }
+    pub(crate) fn add_literal<O: Sink>(&self, lit: u64, writer: &mut Writer<'_, O>)
+        ensures { IsAdded O.seen writer.old (literal_name self.now lit) writer.new }
     {
         if is_plain_literal(&self.shape, lit) {
-            return self.add_source(lit / 2, piece, out);
+            self.add_source(lit / 2, writer);
+            return;
         }
-        self.add_own(b'n', lit, piece, out)
+        self.add_own(b'n', lit, writer);
     }
 
     /// Has this root's literal this name, which is an output's?

@@ -1,70 +1,54 @@
 //! The rows of a table.
 ghost use Rattle.std.specs.Prelude.{◌≡◌, ◌≤◌, ◌<◌, ◌+◌, ◌^◌, ◌++◌, [], if◌then◌else◌, false, map, slice_index_or};
 ghost use Rattle.std.specs.List.{flat_map};
-ghost use Rattle.tl_io.specs.Causes.{HasCause};
-ghost use Rattle.tl_piece.specs.Pieces.{AddsOrStops};
+ghost use Rattle.tl_piece.specs.Added.{IsAdded};
 ghost use Rattle.list_laws.specs.Digits.{digit};
+ghost use Rattle.cut_enum.specs.declared.limits.TheConstants.{MOST_LEAVES};
 ghost use Rattle.blif_read.specs.Rows.{cell_character};
 ghost use Rattle.blif_write.specs.PlainNetlist.{row_line, line_text};
 ghost use Rattle.blif_write.specs.Netlists.{digit_cell, digit_cells, chosen_cells, fixed_rows, tunable_rows};
 
-use tl_io::{Failed, Sink};
-use tl_piece::Piece;
+use tl_io::Sink;
+use tl_piece::Writer;
 
 /// How many bits a table has.
 pub(crate) fn bit_count(leaves: usize) -> usize
-    requires { leaves ≤ 6 }
+    requires { leaves ≤ MOST_LEAVES }
     ensures value { result ≡ 2 ^ leaves }
-    ensures few { result ≤ 64 }
+    ensures few { result ≤ 2 ^ MOST_LEAVES }
 {
     1 << leaves
 }
 
 // The character of a binary digit of v.
 fn digit_character(v: usize, place: usize) -> u8
-    requires { place < 6 }
+    requires { place < MOST_LEAVES }
     ensures { result ≡ cell_character (digit_cell (digit v place)) }
 {
     if (v >> place) % 2 == 1 { b'1' } else { b'0' }
 }
 
 // Adds the binary digits of v, leaf 0 the lowest.
-fn add_digits<O: Sink>(
-    leaves: usize,
-    v: usize,
-    piece: &mut Piece,
-    out: &mut O,
-) -> Result<(), Failed>
-    requires few { leaves ≤ 6 }
-    ensures cause { HasCause (O.faults out.old) (O.faults out.new) result }
-    ensures grown { AddsOrStops (O.bytes out.old) piece.old (map cell_character (digit_cells leaves v)) (O.bytes out.new) piece.new result }
-    ensures through { O.through out.new ≡ O.through out.old }
-    ensures others { O.others out.new ≡ O.others out.old }
+fn add_digits<O: Sink>(leaves: usize, v: usize, writer: &mut Writer<'_, O>)
+    requires few { leaves ≤ MOST_LEAVES }
+    ensures { IsAdded O.seen writer.old (map cell_character (digit_cells leaves v)) writer.new }
 {
     for place in 0..leaves {
-        piece.add_byte(digit_character(v, place), out)?;
+        writer.add_byte(digit_character(v, place));
     }
-    Ok(())
 }
 
 // Adds the row of the leaf values v.
-fn add_fixed_row<O: Sink>(
-    leaves: usize,
-    v: usize,
-    piece: &mut Piece,
-    out: &mut O,
-) -> Result<(), Failed>
-    requires few { leaves ≤ 6 }
-    ensures cause { HasCause (O.faults out.old) (O.faults out.new) result }
-    ensures grown { AddsOrStops (O.bytes out.old) piece.old (line_text (row_line (digit_cells leaves v))) (O.bytes out.new) piece.new result }
-    ensures through { O.through out.new ≡ O.through out.old }
-    ensures others { O.others out.new ≡ O.others out.old }
+fn add_fixed_row<O: Sink>(leaves: usize, v: usize, writer: &mut Writer<'_, O>)
+    requires few { leaves ≤ MOST_LEAVES }
+    ensures { IsAdded O.seen writer.old (line_text (row_line (digit_cells leaves v))) writer.new }
 {
     if leaves == 0 {
-        return piece.add_text(b"1\n", out);
+        writer.add_text(b"1\n");
+        return;
     }
-    add_digits(leaves, v, piece, out)?;
-    piece.add_text(b" 1\n", out)
+    add_digits(leaves, v, writer);
+    writer.add_text(b" 1\n");
 }
 
 // The bit at an address, and false past the end.
@@ -75,23 +59,12 @@ fn bit_at(config: &[bool], address: usize) -> bool
 }
 
 // Adds the row of the leaf values v if their bit is 1.
-fn add_fixed_row_if<O: Sink>(
-    bit: bool,
-    leaves: usize,
-    v: usize,
-    piece: &mut Piece,
-    out: &mut O,
-) -> Result<(), Failed>
-    requires few { leaves ≤ 6 }
-    ensures cause { HasCause (O.faults out.old) (O.faults out.new) result }
-    ensures grown { AddsOrStops (O.bytes out.old) piece.old (if bit then line_text (row_line (digit_cells leaves v)) else []) (O.bytes out.new) piece.new result }
-    ensures through { O.through out.new ≡ O.through out.old }
-    ensures others { O.others out.new ≡ O.others out.old }
+fn add_fixed_row_if<O: Sink>(bit: bool, leaves: usize, v: usize, writer: &mut Writer<'_, O>)
+    requires few { leaves ≤ MOST_LEAVES }
+    ensures { IsAdded O.seen writer.old (if bit then line_text (row_line (digit_cells leaves v)) else []) writer.new }
 {
     if bit {
-        add_fixed_row(leaves, v, piece, out)
-    } else {
-        Ok(())
+        add_fixed_row(leaves, v, writer);
     }
 }
 
@@ -100,58 +73,37 @@ pub(crate) fn add_fixed_rows<O: Sink>(
     config: &[bool],
     base: usize,
     leaves: usize,
-    piece: &mut Piece,
-    out: &mut O,
-) -> Result<(), Failed>
-    requires few { leaves ≤ 6 }
+    writer: &mut Writer<'_, O>,
+)
+    requires few { leaves ≤ MOST_LEAVES }
     requires base { base < 2 ^ 32 }
-    ensures cause { HasCause (O.faults out.old) (O.faults out.new) result }
-    ensures grown { AddsOrStops (O.bytes out.old) piece.old (flat_map line_text (map (λ row. row_line row.cells) (fixed_rows config.now base leaves))) (O.bytes out.new) piece.new result }
-    ensures through { O.through out.new ≡ O.through out.old }
-    ensures others { O.others out.new ≡ O.others out.old }
+    ensures { IsAdded O.seen writer.old (flat_map line_text (map (λ row. row_line row.cells) (fixed_rows config.now base leaves))) writer.new }
 {
     for v in 0..bit_count(leaves) {
-        add_fixed_row_if(bit_at(config, base + v), leaves, v, piece, out)?;
+        add_fixed_row_if(bit_at(config, base + v), leaves, v, writer);
     }
-    Ok(())
 }
 
 // Adds the row that asks for the leaf values v and for bit v.
-fn add_tunable_row<O: Sink>(
-    leaves: usize,
-    v: usize,
-    piece: &mut Piece,
-    out: &mut O,
-) -> Result<(), Failed>
-    requires few { leaves ≤ 6 }
+fn add_tunable_row<O: Sink>(leaves: usize, v: usize, writer: &mut Writer<'_, O>)
+    requires few { leaves ≤ MOST_LEAVES }
     requires there { v < 2 ^ leaves }
-    ensures cause { HasCause (O.faults out.old) (O.faults out.new) result }
-    ensures grown { AddsOrStops (O.bytes out.old) piece.old (line_text (row_line (digit_cells leaves v ++ chosen_cells (2 ^ leaves) v))) (O.bytes out.new) piece.new result }
-    ensures through { O.through out.new ≡ O.through out.old }
-    ensures others { O.others out.new ≡ O.others out.old }
+    ensures { IsAdded O.seen writer.old (line_text (row_line (digit_cells leaves v ++ chosen_cells (2 ^ leaves) v))) writer.new }
 {
     let bits = bit_count(leaves);
-    add_digits(leaves, v, piece, out)?;
-    piece.add_repeated(b'-', v, out)?;
-    piece.add_byte(b'1', out)?;
-    piece.add_repeated(b'-', bits - 1 - v, out)?;
-    piece.add_text(b" 1\n", out)
+    add_digits(leaves, v, writer);
+    writer.add_repeated(b'-', v);
+    writer.add_byte(b'1');
+    writer.add_repeated(b'-', bits - 1 - v);
+    writer.add_text(b" 1\n");
 }
 
 /// Adds a row for each leaf values, ascending, which asks for the bit of these values.
-pub(crate) fn add_tunable_rows<O: Sink>(
-    leaves: usize,
-    piece: &mut Piece,
-    out: &mut O,
-) -> Result<(), Failed>
-    requires few { leaves ≤ 6 }
-    ensures cause { HasCause (O.faults out.old) (O.faults out.new) result }
-    ensures grown { AddsOrStops (O.bytes out.old) piece.old (flat_map line_text (map (λ row. row_line row.cells) (tunable_rows leaves))) (O.bytes out.new) piece.new result }
-    ensures through { O.through out.new ≡ O.through out.old }
-    ensures others { O.others out.new ≡ O.others out.old }
+pub(crate) fn add_tunable_rows<O: Sink>(leaves: usize, writer: &mut Writer<'_, O>)
+    requires few { leaves ≤ MOST_LEAVES }
+    ensures { IsAdded O.seen writer.old (flat_map line_text (map (λ row. row_line row.cells) (tunable_rows leaves))) writer.new }
 {
     for v in 0..bit_count(leaves) {
-        add_tunable_row(leaves, v, piece, out)?;
+        add_tunable_row(leaves, v, writer);
     }
-    Ok(())
 }

@@ -1,19 +1,15 @@
 //! The words of a line.
-ghost use Rattle.std.specs.Prelude.{◌≡◌, ◌∷◌};
-ghost use Rattle.tl_io.specs.Causes.{HasCause};
-ghost use Rattle.tl_piece.specs.Pieces.{AddsOrStops};
+ghost use Rattle.std.specs.Prelude.{◌∷◌};
+ghost use Rattle.tl_piece.specs.Added.{IsAdded};
 
-use tl_io::{Failed, Sink};
-use tl_piece::Piece;
+use tl_io::Sink;
+use tl_piece::Writer;
 use tl_text::Name;
 
 /// Adds a name behind a blank.
-pub(crate) fn add_word<O: Sink>(name: &Name, piece: &mut Piece, out: &mut O) -> Result<(), Failed>
-    ensures cause { HasCause (O.faults out.old) (O.faults out.new) result }
-    ensures grown { AddsOrStops (O.bytes out.old) piece.old (32 ∷ name.now) (O.bytes out.new) piece.new result }
-    ensures through { O.through out.new ≡ O.through out.old }
-    ensures others { O.others out.new ≡ O.others out.old }
+pub(crate) fn add_word<O: Sink>(name: &Name, writer: &mut Writer<'_, O>)
+    ensures { IsAdded O.seen writer.old (32 ∷ name.now) writer.new }
 {
-    piece.add_byte(b' ', out)?;
-    piece.add_text(name.bytes(), out)
+    writer.add_byte(b' ');
+    writer.add_text(name.bytes());
 }

@@ -2,20 +2,19 @@
 ghost use Rattle.std.specs.Prelude.{◌≡◌, ◌≤◌, List, ◌∷◌, [], ◌++◌, map, codes};
 ghost use Rattle.std.specs.List.{flat_map};
 ghost use Rattle.list_laws.specs.Members.{In};
+ghost use Rattle.tl_io.specs.Sink.{IsPut};
+ghost use Rattle.tl_piece.specs.Added.{IsAdded};
 ghost use Rattle.netlist.specs.Flat.{underscores};
-ghost use Rattle.param_list.specs.declared.params.Param.{Param};
-ghost use Rattle.tl_io.specs.Content.{Puts};
-ghost use Rattle.tl_io.specs.Causes.{HasCause};
-ghost use Rattle.tl_piece.specs.Pieces.{AddsOrStops};
-ghost use Rattle.blif_write.specs.OwnNames.{naming_of};
-ghost use Rattle.blif_write.specs.PlainNetlist.{line_text, words_text, latch_line, cover_lines, netlist_text};
 ghost use Rattle.netlist.specs.LibraryValue.{LibraryValue};
 ghost use Rattle.netlist.specs.HasCleanNames.{HasCleanNames};
-ghost use Rattle.blif_read.specs.Denotes.{Denotes};
 ghost use Rattle.netlist.specs.Flat.{IsFlat};
 ghost use Rattle.netlist.specs.Sound.{IsSound};
+ghost use Rattle.blif_read.specs.Denotes.{Denotes};
+ghost use Rattle.param_list.specs.declared.params.Param.{Param};
+ghost use Rattle.blif_write.specs.OwnNames.{naming_of};
+ghost use Rattle.blif_write.specs.PlainNetlist.{line_text, words_text, latch_line, cover_lines, netlist_text};
 ghost use Rattle.blif_write.specs.PlainNetlist.{library_of};
-ghost use Rattle.blif_write.specs.Meaning.{HasPorts, AreTablesOf, Means, input_bits};
+ghost use Rattle.blif_write.specs.Meaning.{HasPorts, AreTablesOf, Means, all_bit_names, input_bits};
 ghost use Rattle.blif_write.specs.Writable.{CanBeNamed, AreRootsOf};
 ghost use Rattle.blif_write.specs.Netlists.{control_names, bit_names, fixed_table, tunable_table, wires, written_latches, specialised_netlist, template_netlist};
 
@@ -29,36 +28,25 @@ use lut_sim::Shape;
 use netlist::{Flat, OutPort};
 use param_list::Params;
 use tl_io::{Failed, Sink};
-use tl_piece::Piece;
+use tl_piece::{Piece, Writer};
 use tl_text::Name;
 
 // Adds the names of the regular inputs, each behind a blank.
-fn add_regular<O: Sink>(names: &Names, piece: &mut Piece, out: &mut O) -> Result<(), Failed>
-    ensures cause { HasCause (O.faults out.old) (O.faults out.new) result }
-    ensures grown { AddsOrStops (O.bytes out.old) piece.old (words_text names.now.regular) (O.bytes out.new) piece.new result }
-    ensures through { O.through out.new ≡ O.through out.old }
-    ensures others { O.others out.new ≡ O.others out.old }
+fn add_regular<O: Sink>(names: &Names, writer: &mut Writer<'_, O>)
+    ensures { IsAdded O.seen writer.old (words_text names.now.regular) writer.new }
 {
     for place in names.regular {
-        add_word(&names.inputs[*place as usize], piece, out)?;
+        add_word(&names.inputs[*place as usize], writer);
     }
-    Ok(())
 }
 
 // Adds the net of the latch controls, where there is one, behind a blank.
-fn add_control_net<O: Sink>(
-    control: &Option<Name>,
-    piece: &mut Piece,
-    out: &mut O,
-) -> Result<(), Failed>
-    ensures cause { HasCause (O.faults out.old) (O.faults out.new) result }
-    ensures grown { AddsOrStops (O.bytes out.old) piece.old (words_text (control_names control.now)) (O.bytes out.new) piece.new result }
-    ensures through { O.through out.new ≡ O.through out.old }
-    ensures others { O.others out.new ≡ O.others out.old }
+fn add_control_net<O: Sink>(control: &Option<Name>, writer: &mut Writer<'_, O>)
+    ensures { IsAdded O.seen writer.old (words_text (control_names control.now)) writer.new }
 {
     match control {
-        Some(name) => add_word(name, piece, out),
-        None => Ok(()),
+        Some(name) => add_word(name, writer),
+        None => {}
     }
 }
 
@@ -67,49 +55,34 @@ fn add_head<O: Sink>(
     names: &Names,
     model: &Name,
     control: &Option<Name>,
-    piece: &mut Piece,
-    out: &mut O,
-) -> Result<(), Failed>
-    ensures cause { HasCause (O.faults out.old) (O.faults out.new) result }
-    ensures grown { AddsOrStops (O.bytes out.old) piece.old (line_text (codes ".model" ∷ model.now ∷ []) ++ line_text (codes ".inputs" ∷ (names.now.regular ++ control_names control.now))) (O.bytes out.new) piece.new result }
-    ensures through { O.through out.new ≡ O.through out.old }
-    ensures others { O.others out.new ≡ O.others out.old }
+    writer: &mut Writer<'_, O>,
+)
+    ensures { IsAdded O.seen writer.old (line_text (codes ".model" ∷ model.now ∷ []) ++ line_text (codes ".inputs" ∷ (names.now.regular ++ control_names control.now))) writer.new }
 {
-    piece.add_text(b".model", out)?;
-    add_word(model, piece, out)?;
-    piece.add_text(b"\n.inputs", out)?;
-    add_regular(names, piece, out)?;
-    add_control_net(control, piece, out)?;
-    piece.add_byte(b'\n', out)
+    writer.add_text(b".model");
+    add_word(model, writer);
+    writer.add_text(b"\n.inputs");
+    add_regular(names, writer);
+    add_control_net(control, writer);
+    writer.add_byte(b'\n');
 }
 
 // Adds the names of the outputs, each behind a blank.
-fn add_output_names<O: Sink>(
-    outputs: &[OutPort],
-    piece: &mut Piece,
-    out: &mut O,
-) -> Result<(), Failed>
-    ensures cause { HasCause (O.faults out.old) (O.faults out.new) result }
-    ensures grown { AddsOrStops (O.bytes out.old) piece.old (words_text (map (λ (o : OutPort). o.name) outputs.now)) (O.bytes out.new) piece.new result }
-    ensures through { O.through out.new ≡ O.through out.old }
-    ensures others { O.others out.new ≡ O.others out.old }
+fn add_output_names<O: Sink>(outputs: &[OutPort], writer: &mut Writer<'_, O>)
+    ensures { IsAdded O.seen writer.old (words_text (map (λ (o : OutPort). o.name) outputs.now)) writer.new }
 {
     for output in outputs {
-        add_word(&output.name, piece, out)?;
+        add_word(&output.name, writer);
     }
-    Ok(())
 }
 
 // Adds the line of the outputs.
-fn add_outputs<O: Sink>(outputs: &[OutPort], piece: &mut Piece, out: &mut O) -> Result<(), Failed>
-    ensures cause { HasCause (O.faults out.old) (O.faults out.new) result }
-    ensures grown { AddsOrStops (O.bytes out.old) piece.old (line_text (codes ".outputs" ∷ map (λ (o : OutPort). o.name) outputs.now)) (O.bytes out.new) piece.new result }
-    ensures through { O.through out.new ≡ O.through out.old }
-    ensures others { O.others out.new ≡ O.others out.old }
+fn add_outputs<O: Sink>(outputs: &[OutPort], writer: &mut Writer<'_, O>)
+    ensures { IsAdded O.seen writer.old (line_text (codes ".outputs" ∷ map (λ (o : OutPort). o.name) outputs.now)) writer.new }
 {
-    piece.add_text(b".outputs", out)?;
-    add_output_names(outputs, piece, out)?;
-    piece.add_byte(b'\n', out)
+    writer.add_text(b".outputs");
+    add_output_names(outputs, writer);
+    writer.add_byte(b'\n');
 }
 
 // What the names are made from.
@@ -130,28 +103,17 @@ fn names_of<'a>(flat: &'a Flat, params: &Params, regular: &'a [u32]) -> Names<'a
 }
 
 // Adds the head of the netlist of a circuit.
-fn add_flat_head<O: Sink>(
-    names: &Names,
-    flat: &Flat,
-    piece: &mut Piece,
-    out: &mut O,
-) -> Result<(), Failed>
-    ensures cause { HasCause (O.faults out.old) (O.faults out.new) result }
-    ensures grown { AddsOrStops (O.bytes out.old) piece.old (line_text (codes ".model" ∷ flat.now.model ∷ []) ++ line_text (codes ".inputs" ∷ (names.now.regular ++ control_names flat.now.control))) (O.bytes out.new) piece.new result }
-    ensures through { O.through out.new ≡ O.through out.old }
-    ensures others { O.others out.new ≡ O.others out.old }
+fn add_flat_head<O: Sink>(names: &Names, flat: &Flat, writer: &mut Writer<'_, O>)
+    ensures { IsAdded O.seen writer.old (line_text (codes ".model" ∷ flat.now.model ∷ []) ++ line_text (codes ".inputs" ∷ (names.now.regular ++ control_names flat.now.control))) writer.new }
 {
-    add_head(names, &flat.model, &flat.control, piece, out)
+    add_head(names, &flat.model, &flat.control, writer);
 }
 
 // Adds the line of the outputs of a circuit.
-fn add_flat_outputs<O: Sink>(flat: &Flat, piece: &mut Piece, out: &mut O) -> Result<(), Failed>
-    ensures cause { HasCause (O.faults out.old) (O.faults out.new) result }
-    ensures grown { AddsOrStops (O.bytes out.old) piece.old (line_text (codes ".outputs" ∷ map (λ (o : OutPort). o.name) flat.now.outputs)) (O.bytes out.new) piece.new result }
-    ensures through { O.through out.new ≡ O.through out.old }
-    ensures others { O.others out.new ≡ O.others out.old }
+fn add_flat_outputs<O: Sink>(flat: &Flat, writer: &mut Writer<'_, O>)
+    ensures { IsAdded O.seen writer.old (line_text (codes ".outputs" ∷ map (λ (o : OutPort). o.name) flat.now.outputs)) writer.new }
 {
-    add_outputs(&flat.outputs, piece, out)
+    add_outputs(&flat.outputs, writer);
 }
 
 // Adds the lines of a circuit's latches.
@@ -159,23 +121,12 @@ fn add_flat_latches<O: Sink>(
     names: &Names,
     flat: &Flat,
     template: &Template,
-    piece: &mut Piece,
-    out: &mut O,
-) -> Result<(), Failed>
+    writer: &mut Writer<'_, O>,
+)
     requires made { AreRootsOf flat.now template.now }
-    ensures cause { HasCause (O.faults out.old) (O.faults out.new) result }
-    ensures grown { AddsOrStops (O.bytes out.old) piece.old (flat_map line_text (map latch_line (written_latches names.now flat.now.control 0 flat.now.latches template.now.next))) (O.bytes out.new) piece.new result }
-    ensures through { O.through out.new ≡ O.through out.old }
-    ensures others { O.others out.new ≡ O.others out.old }
+    ensures { IsAdded O.seen writer.old (flat_map line_text (map latch_line (written_latches names.now flat.now.control 0 flat.now.latches template.now.next))) writer.new }
 {
-    add_latches(
-        names,
-        &flat.control,
-        &flat.latches,
-        &template.next,
-        piece,
-        out,
-    )
+    add_latches(names, &flat.control, &flat.latches, &template.next, writer);
 }
 
 // Adds a circuit's wires.
@@ -183,47 +134,27 @@ fn add_flat_wires<O: Sink>(
     names: &Names,
     flat: &Flat,
     template: &Template,
-    piece: &mut Piece,
-    out: &mut O,
-) -> Result<(), Failed>
+    writer: &mut Writer<'_, O>,
+)
     requires made { AreRootsOf flat.now template.now }
     requires under { (o : OutPort) → In flat.now.outputs o → underscores o.name ≤ names.now.under }
-    ensures cause { HasCause (O.faults out.old) (O.faults out.new) result }
-    ensures grown { AddsOrStops (O.bytes out.old) piece.old (flat_map line_text (flat_map cover_lines (wires names.now flat.now.outputs template.now.outputs))) (O.bytes out.new) piece.new result }
-    ensures through { O.through out.new ≡ O.through out.old }
-    ensures others { O.others out.new ≡ O.others out.old }
+    ensures { IsAdded O.seen writer.old (flat_map line_text (flat_map cover_lines (wires names.now flat.now.outputs template.now.outputs))) writer.new }
 {
-    add_wires(names, &flat.outputs, &template.outputs, piece, out)
+    add_wires(names, &flat.outputs, &template.outputs, writer);
 }
 
 // Adds the lines of a template's bits as inputs.
-fn add_template_bits<O: Sink>(
-    names: &Names,
-    template: &Template,
-    piece: &mut Piece,
-    out: &mut O,
-) -> Result<(), Failed>
-    ensures cause { HasCause (O.faults out.old) (O.faults out.new) result }
-    ensures grown { AddsOrStops (O.bytes out.old) piece.old (flat_map line_text (map (λ bits. codes ".inputs" ∷ bits) (map (bit_names names.now) template.now.luts))) (O.bytes out.new) piece.new result }
-    ensures through { O.through out.new ≡ O.through out.old }
-    ensures others { O.others out.new ≡ O.others out.old }
+fn add_template_bits<O: Sink>(names: &Names, template: &Template, writer: &mut Writer<'_, O>)
+    ensures { IsAdded O.seen writer.old (flat_map line_text (map (λ bits. codes ".inputs" ∷ bits) (map (bit_names names.now) template.now.luts))) writer.new }
 {
-    add_bit_lines(names, &template.luts, piece, out)
+    add_bit_lines(names, &template.luts, writer);
 }
 
 // Adds a template's tables, with their bits as inputs.
-fn add_template_tables<O: Sink>(
-    names: &Names,
-    template: &Template,
-    piece: &mut Piece,
-    out: &mut O,
-) -> Result<(), Failed>
-    ensures cause { HasCause (O.faults out.old) (O.faults out.new) result }
-    ensures grown { AddsOrStops (O.bytes out.old) piece.old (flat_map line_text (flat_map cover_lines (map (tunable_table names.now) template.now.luts))) (O.bytes out.new) piece.new result }
-    ensures through { O.through out.new ≡ O.through out.old }
-    ensures others { O.others out.new ≡ O.others out.old }
+fn add_template_tables<O: Sink>(names: &Names, template: &Template, writer: &mut Writer<'_, O>)
+    ensures { IsAdded O.seen writer.old (flat_map line_text (flat_map cover_lines (map (tunable_table names.now) template.now.luts))) writer.new }
 {
-    add_tunable_tables(names, &template.luts, piece, out)
+    add_tunable_tables(names, &template.luts, writer);
 }
 
 // Adds a template's tables, with the bits of a configuration.
@@ -231,15 +162,11 @@ fn add_configured_tables<O: Sink>(
     names: &Names,
     config: &[bool],
     template: &Template,
-    piece: &mut Piece,
-    out: &mut O,
-) -> Result<(), Failed>
-    ensures cause { HasCause (O.faults out.old) (O.faults out.new) result }
-    ensures grown { AddsOrStops (O.bytes out.old) piece.old (flat_map line_text (flat_map cover_lines (map (fixed_table names.now config.now) template.now.luts))) (O.bytes out.new) piece.new result }
-    ensures through { O.through out.new ≡ O.through out.old }
-    ensures others { O.others out.new ≡ O.others out.old }
+    writer: &mut Writer<'_, O>,
+)
+    ensures { IsAdded O.seen writer.old (flat_map line_text (flat_map cover_lines (map (fixed_table names.now config.now) template.now.luts))) writer.new }
 {
-    add_fixed_tables(names, config, &template.luts, piece, out)
+    add_fixed_tables(names, config, &template.luts, writer);
 }
 
 // Adds the lines of the template.
@@ -247,23 +174,19 @@ fn add_template<O: Sink>(
     names: &Names,
     flat: &Flat,
     template: &Template,
-    piece: &mut Piece,
-    out: &mut O,
-) -> Result<(), Failed>
+    writer: &mut Writer<'_, O>,
+)
     requires made { AreRootsOf flat.now template.now }
     requires under { (o : OutPort) → In flat.now.outputs o → underscores o.name ≤ names.now.under }
-    ensures cause { HasCause (O.faults out.old) (O.faults out.new) result }
-    ensures grown { (params : List Param) → names.now ≡ naming_of flat.now params → AddsOrStops (O.bytes out.old) piece.old (netlist_text (template_netlist flat.now params template.now)) (O.bytes out.new) piece.new result }
-    ensures through { O.through out.new ≡ O.through out.old }
-    ensures others { O.others out.new ≡ O.others out.old }
+    ensures { (params : List Param) → names.now ≡ naming_of flat.now params → IsAdded O.seen writer.old (netlist_text (template_netlist flat.now params template.now)) writer.new }
 {
-    add_flat_head(names, flat, piece, out)?;
-    add_template_bits(names, template, piece, out)?;
-    add_flat_outputs(flat, piece, out)?;
-    add_flat_latches(names, flat, template, piece, out)?;
-    add_template_tables(names, template, piece, out)?;
-    add_flat_wires(names, flat, template, piece, out)?;
-    piece.add_text(b".end\n", out)
+    add_flat_head(names, flat, writer);
+    add_template_bits(names, template, writer);
+    add_flat_outputs(flat, writer);
+    add_flat_latches(names, flat, template, writer);
+    add_template_tables(names, template, writer);
+    add_flat_wires(names, flat, template, writer);
+    writer.add_text(b".end\n");
 }
 
 // Adds the lines of the specialised netlist.
@@ -272,22 +195,18 @@ fn add_specialised<O: Sink>(
     flat: &Flat,
     template: &Template,
     config: &[bool],
-    piece: &mut Piece,
-    out: &mut O,
-) -> Result<(), Failed>
+    writer: &mut Writer<'_, O>,
+)
     requires made { AreRootsOf flat.now template.now }
     requires under { (o : OutPort) → In flat.now.outputs o → underscores o.name ≤ names.now.under }
-    ensures cause { HasCause (O.faults out.old) (O.faults out.new) result }
-    ensures grown { (params : List Param) → names.now ≡ naming_of flat.now params → AddsOrStops (O.bytes out.old) piece.old (netlist_text (specialised_netlist flat.now params template.now config.now)) (O.bytes out.new) piece.new result }
-    ensures through { O.through out.new ≡ O.through out.old }
-    ensures others { O.others out.new ≡ O.others out.old }
+    ensures { (params : List Param) → names.now ≡ naming_of flat.now params → IsAdded O.seen writer.old (netlist_text (specialised_netlist flat.now params template.now config.now)) writer.new }
 {
-    add_flat_head(names, flat, piece, out)?;
-    add_flat_outputs(flat, piece, out)?;
-    add_flat_latches(names, flat, template, piece, out)?;
-    add_configured_tables(names, config, template, piece, out)?;
-    add_flat_wires(names, flat, template, piece, out)?;
-    piece.add_text(b".end\n", out)
+    add_flat_head(names, flat, writer);
+    add_flat_outputs(flat, writer);
+    add_flat_latches(names, flat, template, writer);
+    add_configured_tables(names, config, template, writer);
+    add_flat_wires(names, flat, template, writer);
+    writer.add_text(b".end\n");
 }
 
 /// Writes the netlist of the tables with each of their bits as an input: the source circuit's tables for every configuration.
@@ -311,18 +230,16 @@ pub fn template<O: Sink>(
 ) -> Result<(), Failed>
     requires named { CanBeNamed flat.now params.now.list regular.now }
     requires made { AreRootsOf flat.now template.now }
-    ensures cause { HasCause (O.faults out.old) (O.faults out.new) result }
-    ensures grown { Puts (O.bytes out.old) (O.bytes out.new) (netlist_text (template_netlist flat.now params.now.list template.now)) result }
+    ensures put { IsPut (O.seen out.old) (netlist_text (template_netlist flat.now params.now.list template.now)) (O.seen out.new) result }
     ensures denotes { HasPorts flat.now → AreTablesOf flat.now params.now.list template.now → Denotes (netlist_text (template_netlist flat.now params.now.list template.now)) (library_of (template_netlist flat.now params.now.list template.now)) }
-    ensures means { HasPorts flat.now → AreTablesOf flat.now params.now.list template.now → Means flat.now params.now.list template.now (template_netlist flat.now params.now.list template.now) (input_bits (naming_of flat.now params.now.list) template.now.bits) }
+    ensures means { HasPorts flat.now → AreTablesOf flat.now params.now.list template.now → Means flat.now params.now.list template.now (template_netlist flat.now params.now.list template.now) (all_bit_names (naming_of flat.now params.now.list) template.now.bits) (input_bits (naming_of flat.now params.now.list) template.now.bits) }
     ensures ports { (library : LibraryValue) → IsSound library → HasCleanNames library → IsFlat library flat.now → HasPorts flat.now }
-    ensures through { O.through out.new ≡ O.through out.old }
-    ensures others { O.others out.new ≡ O.others out.old }
 {
     let names = names_of(flat, params, regular);
     let mut piece = Piece::new();
-    add_template(&names, flat, template, &mut piece, out)?;
-    piece.flush(out)
+    let mut writer = Writer::over(out, &mut piece);
+    add_template(&names, flat, template, &mut writer);
+    writer.finish()
 }
 
 /// Writes the netlist of the tables with the bits of a configuration: the source circuit under the parameters' values that the
@@ -347,16 +264,14 @@ pub fn specialised<O: Sink>(
 ) -> Result<(), Failed>
     requires named { CanBeNamed flat.now params.now.list regular.now }
     requires made { AreRootsOf flat.now template.now }
-    ensures cause { HasCause (O.faults out.old) (O.faults out.new) result }
-    ensures grown { Puts (O.bytes out.old) (O.bytes out.new) (netlist_text (specialised_netlist flat.now params.now.list template.now config.now)) result }
+    ensures put { IsPut (O.seen out.old) (netlist_text (specialised_netlist flat.now params.now.list template.now config.now)) (O.seen out.new) result }
     ensures denotes { HasPorts flat.now → AreTablesOf flat.now params.now.list template.now → Denotes (netlist_text (specialised_netlist flat.now params.now.list template.now config.now)) (library_of (specialised_netlist flat.now params.now.list template.now config.now)) }
-    ensures means { HasPorts flat.now → AreTablesOf flat.now params.now.list template.now → Means flat.now params.now.list template.now (specialised_netlist flat.now params.now.list template.now config.now) (λ x. config.now) }
+    ensures means { HasPorts flat.now → AreTablesOf flat.now params.now.list template.now → Means flat.now params.now.list template.now (specialised_netlist flat.now params.now.list template.now config.now) [] (λ x. config.now) }
     ensures ports { (library : LibraryValue) → IsSound library → HasCleanNames library → IsFlat library flat.now → HasPorts flat.now }
-    ensures through { O.through out.new ≡ O.through out.old }
-    ensures others { O.others out.new ≡ O.others out.old }
 {
     let names = names_of(flat, params, regular);
     let mut piece = Piece::new();
-    add_specialised(&names, flat, template, config, &mut piece, out)?;
-    piece.flush(out)
+    let mut writer = Writer::over(out, &mut piece);
+    add_specialised(&names, flat, template, config, &mut writer);
+    writer.finish()
 }

@@ -1,17 +1,17 @@
-pub mod PathLemmas
-pub mod PathPlaces
-pub mod StampLemmas
-pub mod StepLemmas
-pub mod InTurnLemmas
-pub mod FaultLemmas
-pub mod LeastLemmas
-pub mod CheckLemmas
-pub mod ReadLemmas
-pub mod LineLemmas
-pub mod OnceLemmas
-pub mod WriteLemmas
-pub mod NumberLemmas
-pub mod RoundTrip
-pub mod CertExample
-pub mod TextExample
-pub mod FormedLemmas
+mod PathLemmas
+mod PathPlaces
+mod StampLemmas
+mod StepLemmas
+mod InTurnLemmas
+mod FaultLemmas
+mod LeastLemmas
+mod CheckLemmas
+mod ReadLemmas
+mod LineLemmas
+mod OnceLemmas
+mod WriteLemmas
+mod NumberLemmas
+mod RoundTrip
+mod CertExample
+mod TextExample
+mod FormedLemmas

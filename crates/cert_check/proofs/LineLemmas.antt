@@ -16,7 +16,7 @@ use Rattle.cert_check.specs.Reading.{IsMisfit, IsMalformed}
 use Rattle.cert_check.specs.Refusals.{refusal_of}
 use Rattle.cert_check.specs.declared.cert_err.CertErr.{CertErr}
 use Rattle.cert_check.specs.declared.cert_err.CertErr.TheVariants.{Malformed}
-use Rattle.cert_check.proofs.ReadLemmas.{take_get}
+use Rattle.list_laws.proofs.Places.{take_get}
 
 -- one more line
 said_push : (lines : List WordsLine) (others : List SaidLine) (line : WordsLine) (said : SaidLine) → AreSaid lines others → line.number ≡ said.number → said_of line.words ≡ Some said.saying → AreSaid (lines ++ line ∷ []) (others ++ said ∷ [])

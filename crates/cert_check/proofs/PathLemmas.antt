@@ -5,27 +5,11 @@ use Rattle.aig_core.specs.Aig.{Aig, first_and, IsNode, IsNormal, AreNormal, IsSo
 use Rattle.aig_core.specs.declared.lit.Kind.{Kind}
 use Rattle.aig_core.specs.declared.lit.Kind.TheVariants.{Regular, Parameter}
 use Rattle.aig_core.specs.declared.lit.Pair.{Pair}
+use Rattle.aig_core.proofs.NodeLemmas.{source_below, same_pair}
 use Rattle.list_laws.specs.Members.{In}
 use Rattle.cut_enum.specs.Cuts.{Blocks, member, constant, parameter, fan_ins}
+use Rattle.cut_enum.proofs.BlockLemmas.{regular_blocked}
 use Rattle.cert_check.specs.Paths.{IsFanIn, first, second, Climbs, IsPath}
-
--- no source is an AND node
-pub source_below : (g : Aig) (kind : Kind) (n : ℕ) → IsSource g kind n → n < first_and g
-source_below g kind n s = let k : n - 1 < length g.kinds = slice_get_within g.kinds (n - 1) kind s.is in let a : 1 ≤ n = s.above in omega arith
-
--- a node has one pair
-pub same_pair : (g : Aig) (p q : Pair) (n : ℕ) → IsNode g p n → IsNode g q n → p ≡ q
-same_pair g p q n a b = same_Some p q (sym a.is ∙ b.is)
-
-other_kind : Regular ≡ Parameter → ⊥
-other_kind h = cc
-
--- a set blocks a regular source only as a member
-pub regular_blocked : (g : Aig) (c : List ℕ) {n : ℕ} → IsSource g Regular n → Blocks g c n → In c n
-regular_blocked g c s (member i) = i
-regular_blocked g c {n} s (constant e) = absurd (let a : 1 ≤ n = s.above in omega arith)
-regular_blocked g c {n} s (parameter t) = absurd (other_kind (same_Some Regular Parameter (sym s.is ∙ t.is)))
-regular_blocked g c {n} s (fan_ins p is x y) = absurd (let a : n < first_and g = source_below g Regular n s in let b : first_and g ≤ n = is.above in omega arith)
 
 -- a node with a fan-in has a pair
 fan_in_above : (g : Aig) (m n : ℕ) → IsFanIn g m n → first_and g ≤ n

@@ -3,16 +3,10 @@ use Rattle.std.proofs.Common.{◌≡◌, ℕ, zero, suc, ◌+◌, ◌≤◌, Lis
 use Rattle.std.specs.Prelude.{slice_get}
 use Rattle.std.proofs.lemmas.List.{take_all, take-append-drop, map-append}
 use Rattle.std.proofs.lemmas.Option.{none-some, same_Some}
-use Rattle.list_laws.proofs.Places.{drop_get}
+use Rattle.list_laws.proofs.Places.{drop_get, take_get}
 use Rattle.tl_text.specs.LineValue.{token_bytes}
 use Rattle.tl_text.specs.declared.token.Token.{Token}
 use Rattle.cert_check.specs.CertText.{number_of, in_front, numbers_of}
-
--- one more element is taken
-pub take_get : {A : Type 0} (xs : List A) (i : ℕ) (x : A) → slice_get xs i ≡ Some x → take (i + 1) xs ≡ take i xs ++ x ∷ []
-take_get [] i x e = absurd (none-some x e)
-take_get (y ∷ ys) zero x e = ap (λ z. z ∷ []) (same_Some y x e)
-take_get (y ∷ ys) (suc i) x e = let n : suc i + 1 ≡ suc (i + 1) = omega arith in subst (λ m. take m (y ∷ ys) ≡ y ∷ (take i ys ++ x ∷ [])) (sym n) (ap (λ l. y ∷ l) (take_get ys i x e))
 
 -- numbers
 abbrev joined : Option (List ℕ) → Option (List ℕ) → Option (List ℕ)

@@ -11,7 +11,7 @@ use Rattle.cert_check.specs.CertificateValue.{PathValue, StepValue, CertificateV
 use Rattle.cert_check.specs.CertText.{Saying, says_depth, says_claim, says_path, number_of, in_front, numbers_of, saying_by, path_with, said_of, SaidLine, path_said, steps_said, AreSaid, AreLinesOf}
 use Rattle.cert_check.specs.WrittenText.{saying_words, cert_lines, cert_text, bare_path, bare_step, IsWritablePath, IsWritableStep, IsWritable, ReadsBack}
 use Rattle.cert_check.proofs.FormedLemmas.{IsReadable}
-use Rattle.tl_text.proofs.WrittenLineLemmas.{IsCleanLine, AreCleanLines, numbered, ReadsAgain, reads_again}
+use Rattle.tl_text.proofs.WrittenLineLemmas.{IsCleanLine, AreCleanLines, numbered, ReadsAgain, reads_again, numbered-append}
 use Rattle.cert_check.proofs.NumberLemmas.{plain_clean, tested_plain, number_back, number_clean}
 
 -- each is said by its words
@@ -103,10 +103,6 @@ placed_paths n (p ∷ ps) = record { line = n; nodes = p.nodes } ∷ placed_path
 abbrev placed_steps : ℕ → List StepValue → List StepValue
 placed_steps n [] = []
 placed_steps n (s ∷ ss) = record { line = n; node = s.node; claim = s.claim; paths = placed_paths (suc n) s.paths } ∷ placed_steps (suc n + length s.paths) ss
-
-numbered-append : (n : ℕ) (xs ys : List (List (List ℕ))) → numbered n (xs ++ ys) ≡ numbered n xs ++ numbered (n + length xs) ys
-numbered-append n [] ys = ap (λ k. numbered k ys) (let e : n ≡ n + 0 = omega arith in e)
-numbered-append n (x ∷ xs) ys = ap (λ l. record { number = n; words = x } ∷ l) (numbered-append (suc n) xs ys ∙ ap (λ k. numbered (suc n) xs ++ numbered k ys) (let e : suc n + length xs ≡ n + suc (length xs) = omega arith in e))
 
 said_append : (ks ls : List WordsLine) (xs ys : List SaidLine) → AreSaid ks xs → AreSaid ls ys → AreSaid (ks ++ ls) (xs ++ ys)
 said_append [] ls [] ys a b = b

@@ -16,11 +16,6 @@ use Rattle.cert_check.specs.Stamps.{IsPathTaken, IsPathFault}
 use Rattle.cert_check.specs.declared.cert_err.CertErr.{CertErr}
 use Rattle.cert_check.proofs.StampLemmas.{AreStampsOf, no_stamps, stamps_more, all_stand, nodes_pass, path_stops}
 
--- what holds of the error that a `?` passes on
-pub passed_err : {T E : Type 0} (r : Result T E) (e : E) (P : E → Type 0) → IsErrAnd r (λ y. y ≡ e) → P e → IfErr r P
-passed_err (Ok x) e P is p = tt
-passed_err (Err y) e P is p = subst P (sym is) p
-
 -- an element before a place is one of the elements before it
 get_taken : {A : Type 0} (xs : List A) (i j : ℕ) (x : A) → i < j → slice_get xs i ≡ Some x → In (take j xs) x
 get_taken [] i j x l e = absurd (none-some x e)

@@ -1,23 +1,12 @@
 -- The parts of a certificate's text.
-use Rattle.std.proofs.Common.{◌≡◌, ℕ, ◌+◌, ◌<◌, List, [], ◌∷◌, ◌++◌, length, get_or, take, map, codes, decimal, Option, refl, sym, ap, ◌∙◌, subst, append_assoc, append-nil}
+use Rattle.std.proofs.Common.{◌≡◌, ℕ, ◌+◌, List, [], ◌∷◌, ◌++◌, map, codes, decimal, refl, sym, ap, ◌∙◌, append_assoc, append-nil}
 use Rattle.std.specs.List.{flat_map}
 use Rattle.std.proofs.lemmas.List.{map-append}
 use Rattle.std.proofs.lemmas.List.Concat.{flat_map-append}
-use Rattle.tl_piece.specs.Pieces.{Adds, Stops}
-use Rattle.tl_piece.proofs.PieceLemmas.{adds_part, stops_part}
 use Rattle.cert_check.specs.CertificateValue.{PathValue, StepValue, CertificateValue}
 use Rattle.cert_check.specs.CertText.{says_depth, says_path, SaidLine, path_said, step_said, steps_said}
 use Rattle.cert_check.specs.WrittenText.{saying_words, words_text, line_text, cert_text}
 use Rattle.cert_check.specs.Writing.{number_text, path_text, claim_text, step_text}
-
--- a loop over parts adds the next one, or stops there
-pub adds_item : {X : Type 0} {old mid new : Option (List ℕ)} {waiting between left : List ℕ} (f : X → List ℕ) (xs : List X) (i : ℕ) (x : X) → i < length xs → x ≡ get_or xs i x
-    → Adds old waiting (flat_map f (take i xs)) mid between → Adds mid between (f x) new left → Adds old waiting (flat_map f (take (i + 1) xs)) new left
-adds_item {mid = mid} {new = new} {between = between} {left = left} f xs i x within is a b = adds_part f xs i x within a (subst (λ y. Adds mid between (f y) new left) is b)
-
-pub stops_item : {X : Type 0} {old mid new : Option (List ℕ)} {waiting between : List ℕ} (f : X → List ℕ) (xs : List X) (i : ℕ) (x : X) → i < length xs → x ≡ get_or xs i x
-    → Adds old waiting (flat_map f (take i xs)) mid between → Stops mid between (f x) new → Stops old waiting (flat_map f xs) new
-stops_item {mid = mid} {new = new} {between = between} f xs i x within is a s = stops_part f xs i x within a (subst (λ y. Stops mid between (f y) new) is s)
 
 -- the words of numbers
 numbers_text : (ns : List ℕ) → flat_map number_text ns ≡ words_text (map decimal ns)

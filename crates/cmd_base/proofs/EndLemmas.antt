@@ -1,12 +1,15 @@
 -- Why a job was not begun, seen from an earlier state of the shelf, and from a reading of more files.
-use Rattle.std.proofs.Common.{◌≡◌, ℕ, ◌≤◌, false, take, Option, ap, ◌∙◌, arith}
+use Rattle.std.proofs.Common.{◌≡◌, ℕ, ◌≤◌, false, take, List, Option, ap, sym, ◌∙◌, subst, arith}
 use Rattle.tl_fault.specs.RefusalValue.{RefusalValue}
 use Rattle.tl_io.specs.Causes.{Rose}
+use Rattle.tl_io.specs.Port.{PortSeen}
 use Rattle.tl_io.specs.Shelf.{Files, ShelfSeen}
-use Rattle.cmd_base.specs.Outside.{Outside}
+use Rattle.tl_io.specs.Sink.{SinkSeen}
+use Rattle.tl_io.specs.declared.told_name.TheConstants.{NAME_ROOM}
+use Rattle.cmd_base.specs.Outside.{Outside, outside}
 use Rattle.cmd_base.specs.Walk.{Reading, Walk}
 use Rattle.cmd_base.specs.Refusals.{too_long}
-use Rattle.cmd_base.specs.Ends.{Told, IsTooLongAt, IsRefusedAt, IsFaultAt, Explains, Ends}
+use Rattle.cmd_base.specs.Ends.{InFiles, IsTooLongAt, IsRefusedAt, IsFaultAt, Explains, Ends}
 use Rattle.cmd_base.specs.declared.outcome.File.{File}
 use Rattle.cmd_base.specs.declared.outcome.Outcome.{Outcome}
 use Rattle.cmd_base.specs.declared.outcome.Outcome.TheVariants as outcome
@@ -17,18 +20,21 @@ Rose_from first mid last h r = omega arith
 
 -- What explains an outcome from a later state of the shelf does from an earlier one.
 module _ (reading : Reading) (old mid new : ShelfSeen) (later : old.read_faults ≤ mid.read_faults) (same : mid.files ≡ old.files) where
+  here : (files : Files) → reading.HasFiles old.files files → reading.HasFiles mid.files files
+  here files has = subst (λ told. reading.HasFiles told files) (sym same) has
+
   long_from : (f : File) → IsTooLongAt reading mid new f → IsTooLongAt reading old new f
-  long_from f h = record { given = h.given; is_read = h.is_read; is = λ files told. h.is files (same ∙ told); settled = λ files told. h.settled files (same ∙ told) }
+  long_from f h = record { given = h.given; is_read = h.is_read; is = λ files has. h.is files (here files has); settled = λ files has. h.settled files (here files has) }
 
   refused_from : (f : File) (r : RefusalValue) → IsRefusedAt reading mid new f r → IsRefusedAt reading old new f r
-  refused_from f r h = record { given = h.given; is = λ files told. h.is files (same ∙ told); settled = λ files told. h.settled files (same ∙ told) }
+  refused_from f r h = record { given = h.given; is_read = h.is_read; not_long = h.not_long; is = λ files has. h.is files (here files has); settled = λ files has. h.settled files (here files has) }
 
   fault_from : (f : File) → IsFaultAt reading mid new f → IsFaultAt reading old new f
   fault_from f h = record {
     given = h.given;
     is_read = h.is_read;
     fault = record { rose = Rose_from old.read_faults mid.read_faults new.read_faults later h.fault.rose; rose_since = h.fault.rose_since; told = h.fault.told };
-    reached = λ files told. h.reached files (same ∙ told);
+    reached = λ files has. h.reached files (here files has);
   }
 
   pub Explains_from : (o : Outcome) → Explains reading mid new o → Explains reading old new o
@@ -40,6 +46,11 @@ module _ (reading : Reading) (old mid new : ShelfSeen) (later : old.read_faults 
   Explains_from outcome.Usage h = h
   Explains_from outcome.WriteFault h = h
   Explains_from outcome.PortFault h = h
+
+-- Where a shelf was read alone, what is outside is as it was.
+pub only_read : (old new : ShelfSeen) (out : SinkSeen) (ports : List PortSeen) → new.files ≡ old.files → new.write_faults ≡ old.write_faults → outside new out ports ≡ outside old out ports
+only_read old new out ports files faults =
+    ap (λ told. let w : Outside = record (outside new out ports) { files = told } in w) files ∙ ap (λ n. let w : Outside = record (outside old out ports) { file_faults = n } in w) faults
 
 -- A job that was not begun leaves what is outside as it was.
 module _ (walk : Walk) (old new : ShelfSeen) (before after : Outside) (same : after ≡ before) (not_writing : walk.WritesFiles → new.is_writing ≡ false) where
@@ -58,9 +69,10 @@ pub record IsPart (part whole : Reading) (told : Option Files) : Type 0 where
   pub read : (f : File) → part.IsRead f → whole.IsRead f
   pub word : (f : File) → part.IsRead f → part.word f ≡ whole.word f
   pub given : (f : File) (n : ℕ) → part.HasGiven f n → whole.HasGiven f n
-  pub reaches : Told told (λ files. (f : File) → part.IsRead f → part.Reaches files f → whole.Reaches files f)
-  pub refused : Told told (λ files. (f : File) (r : RefusalValue) → part.IsRefused files f r → whole.IsRefused files f r)
-  pub settled : Told told (λ files. (f : File) (r : RefusalValue) → part.IsSettled files → part.IsRefused files f r → whole.IsSettled files)
+  pub files : InFiles whole told (λ files. part.HasFiles told files)
+  pub reaches : InFiles whole told (λ files. (f : File) → part.IsRead f → part.Reaches files f → whole.Reaches files f)
+  pub refused : InFiles whole told (λ files. (f : File) (r : RefusalValue) → part.IsRefused files f r → whole.IsRefused files f r)
+  pub settled : InFiles whole told (λ files. (f : File) (r : RefusalValue) → part.IsSettled files → part.IsRefused files f r → whole.IsSettled files)
 
 -- What explains an outcome by a part explains it by the whole.
 module _ (part whole : Reading) (old new : ShelfSeen) (is_part : IsPart part whole old.files) where
@@ -68,23 +80,25 @@ module _ (part whole : Reading) (old new : ShelfSeen) (is_part : IsPart part who
   long_lift f h = record {
     given = h.given;
     is_read = is_part.read f h.is_read;
-    is = λ files told. is_part.refused files told f too_long (h.is files told);
-    settled = λ files told. is_part.settled files told f too_long (h.settled files told) (h.is files told);
+    is = λ files has. is_part.refused files has f too_long (h.is files (is_part.files files has));
+    settled = λ files has. is_part.settled files has f too_long (h.settled files (is_part.files files has)) (h.is files (is_part.files files has));
   }
 
   refused_lift : (f : File) (r : RefusalValue) → IsRefusedAt part old new f r → IsRefusedAt whole old new f r
   refused_lift f r h = record {
     given = is_part.given f new.given h.given;
-    is = λ files told. is_part.refused files told f r (h.is files told);
-    settled = λ files told. is_part.settled files told f r (h.settled files told) (h.is files told);
+    is_read = is_part.read f h.is_read;
+    not_long = h.not_long;
+    is = λ files has. is_part.refused files has f r (h.is files (is_part.files files has));
+    settled = λ files has. is_part.settled files has f r (h.settled files (is_part.files files has)) (h.is files (is_part.files files has));
   }
 
   fault_lift : (f : File) → IsFaultAt part old new f → IsFaultAt whole old new f
   fault_lift f h = record {
     given = is_part.given f new.given h.given;
     is_read = is_part.read f h.is_read;
-    fault = record { rose = h.fault.rose; rose_since = h.fault.rose_since; told = h.fault.told ∙ ap (λ name. take 4096 name) (is_part.word f h.is_read) };
-    reached = λ files told. is_part.reaches files told f h.is_read (h.reached files told);
+    fault = record { rose = h.fault.rose; rose_since = h.fault.rose_since; told = h.fault.told ∙ ap (λ name. take NAME_ROOM name) (is_part.word f h.is_read) };
+    reached = λ files has. is_part.reaches files has f h.is_read (h.reached files (is_part.files files has));
   }
 
   pub Explains_lift : (o : Outcome) → Explains part old new o → Explains whole old new o

@@ -1,3 +1,3 @@
-pub mod PutLemmas
+mod PutLemmas
 mod SpacedLemmas
 pub mod EndLemmas

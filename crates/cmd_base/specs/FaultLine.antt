@@ -1,8 +1,9 @@
 -- The line on the error output.
-use Rattle.std.specs.Prelude.{◌≡◌, ℕ, ◌≤◌, ◌⊎◌, take, length, codes, [], ◌∷◌, ◌++◌, List, Option}
+use Rattle.std.specs.Prelude.{◌≡◌, ℕ, ◌≤◌, ◌⊎◌, take, length, codes, [], ◌∷◌, ◌++◌, List}
 use Rattle.std.specs.List.{concat}
 use Rattle.tl_io.specs.Causes.{Rose}
 use Rattle.tl_io.specs.Content.{extended}
+use Rattle.tl_io.specs.Sink.{SinkSeen}
 use Rattle.tl_fault.specs.RefusalValue.{RefusalValue}
 use Rattle.tl_fault.specs.Refusals.{details_words, spaced}
 use Rattle.cmd_base.specs.Refusals.{too_long}
@@ -33,6 +34,6 @@ line_of usage name outcome.PortFault = concat (codes "tlut: port failed\n" ∷ [
 line_of usage name outcome.Memory = concat (codes "tlut: out of memory\n" ∷ [])
 
 -- the line was appended, or the count of faults rose and a prefix of it was
-abbrev pub Reports : ℕ → ℕ → Option (List ℕ) → Option (List ℕ) → List ℕ → Type 0
-Reports before now old new line =
-    (new ≡ extended old line) ⊎ (Rose before now × ((n : ℕ) × (n ≤ length line) × (new ≡ extended old (take n line))))
+abbrev pub Reports : SinkSeen → SinkSeen → List ℕ → Type 0
+Reports old new line =
+    (new.bytes ≡ extended old.bytes line) ⊎ (Rose old.faults new.faults × ((n : ℕ) × (n ≤ length line) × (new.bytes ≡ extended old.bytes (take n line))))

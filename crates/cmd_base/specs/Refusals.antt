@@ -1,5 +1,6 @@
 -- The refusals of the command line itself.
-use Rattle.std.specs.Prelude.{ℕ, ◌^◌, codes}
+use Rattle.std.specs.Prelude.{ℕ, codes}
+use Rattle.tl_text.specs.declared.limits.TheConstants.{MOST_PACK_BYTES}
 use Rattle.tl_text.specs.declared.logical_lines.TheConstants.{MOST_BYTES}
 use Rattle.tl_fault.specs.RefusalValue.{RefusalValue, refusal}
 use Rattle.tl_fault.specs.declared.refusal.Details.TheVariants.{Nothing}
@@ -11,7 +12,7 @@ abbrev pub most_bytes : File → ℕ
 most_bytes Netlist = MOST_BYTES
 most_bytes Params = MOST_BYTES
 most_bytes Script = MOST_BYTES
-most_bytes Pack = 2 ^ 29
+most_bytes Pack = MOST_PACK_BYTES
 
 -- a file has too many bytes
 abbrev pub too_long : RefusalValue

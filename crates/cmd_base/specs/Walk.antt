@@ -1,5 +1,5 @@
 -- The walk of a command through its files, in the order of work, as each command defines it: the first refusal, or the accepted job and what becomes of it.
-use Rattle.std.specs.Prelude.{ℕ, List}
+use Rattle.std.specs.Prelude.{ℕ, List, Option}
 use Rattle.tl_fault.specs.RefusalValue.{RefusalValue}
 use Rattle.tl_io.specs.Shelf.{Files}
 use Rattle.cmd_base.specs.Outside.{Outside}
@@ -7,6 +7,8 @@ use Rattle.cmd_base.specs.declared.outcome.File.{File}
 
 -- how files are read, one after the other: by a station, or by all the stations of a command
 pub record Reading : Type 1 where
+  -- the files in which it reads, where a shelf tells these or none
+  pub HasFiles : Option Files → Files → Type 0
   -- a file is one of those that are read, and the word that names it
   pub IsRead : File → Type 0
   pub word : File → List ℕ
@@ -33,5 +35,6 @@ pub record Walk : Type 1 where
   pub Shows : Files → Outside → Outside → Type 0
   -- its order of work writes files
   pub WritesFiles : Type 0
-  -- the cause of a fault of the ports
+  -- what becomes of the ports, whatever the files are, and the cause of a fault of the ports
+  pub KeepsPorts : Outside → Outside → Type 0
   pub HasPortFault : Outside → Outside → Type 0

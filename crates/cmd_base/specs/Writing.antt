@@ -1,5 +1,6 @@
 -- What a job that writes files makes of what is outside: first its files, in their order, and then its line.
 use Rattle.std.specs.Prelude.{◌≡◌, ◌≤◌, ◌⊎◌, ℕ, List, [], ◌∷◌, ◌++◌, length, take, Option}
+use Rattle.tl_io.specs.Causes.{Rose}
 use Rattle.tl_io.specs.Content.{extended}
 use Rattle.tl_io.specs.Shelf.{Files, with_file}
 use Rattle.cmd_base.specs.Outside.{Outside}
@@ -25,22 +26,25 @@ module _ (texts : List FileText) (line : List ℕ) (old new : Outside) where
     pub bytes : new.bytes ≡ extended old.bytes line
     pub ports : new.ports ≡ old.ports
 
-  -- a fault of writing in a file: those before it are whole, those after it as they were, and no byte of the line was put
+  -- a fault of writing in a file, of which the shelf's count rose: those before it are whole, those after it as they were, and the output was not called
   pub record IsCutInFile : Type 0 where
     pub before : List FileText
     pub cut : FileText
     pub after : List FileText
     pub split : texts ≡ before ++ cut ∷ after
     pub files : HasPrefix cut (with_texts old.files before) new.files
+    pub cause : Rose old.file_faults new.file_faults
     pub bytes : new.bytes ≡ old.bytes
+    pub put_faults : new.put_faults ≡ old.put_faults
     pub ports : new.ports ≡ old.ports
 
-  -- a fault of writing in the line: all files are whole, and a prefix of the line stands
+  -- a fault of writing in the line, of which the output's count rose: all files are whole, and a prefix of the line stands
   pub record IsCutInLine : Type 0 where
     pub part : ℕ
     pub within : part ≤ length line
     pub files : new.files ≡ with_texts old.files texts
     pub bytes : new.bytes ≡ extended old.bytes (take part line)
+    pub cause : Rose old.put_faults new.put_faults
     pub ports : new.ports ≡ old.ports
 
   abbrev pub IsCut : Type 0

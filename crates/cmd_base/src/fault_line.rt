@@ -1,8 +1,7 @@
 //! The line on the error output.
-ghost use Rattle.std.specs.Prelude.{◌≡◌, ◌≤◌, ℕ, [], ◌∷◌, List, map, codes, decimal};
+ghost use Rattle.std.specs.Prelude.{[], ◌∷◌, map, codes, decimal};
 ghost use Rattle.std.specs.List.{concat};
-ghost use Rattle.tl_io.specs.Causes.{HasCause, Rose};
-ghost use Rattle.tl_io.specs.Content.{Puts};
+ghost use Rattle.tl_io.specs.Sink.{IsPut};
 ghost use Rattle.tl_fault.specs.Refusals.{details_words, spaced};
 ghost use Rattle.cmd_base.specs.FaultLine.{Reports, line_of, head_line, refusal_line, plain_line};
 
@@ -14,8 +13,7 @@ use tl_io::{Failed, Sink};
 
 // Puts the pieces one after another, up to the first that fails.
 fn put_all<S: Sink>(sink: &mut S, pieces: &[&[u8]]) -> Result<(), Failed>
-    ensures cause { HasCause (S.faults sink.old) (S.faults sink.new) result }
-    ensures grown { Puts (S.bytes sink.old) (S.bytes sink.new) (concat (map (λ piece. piece.now) pieces.now)) result }
+    ensures { IsPut (S.seen sink.old) (concat (map (λ piece. piece.now) pieces.now)) (S.seen sink.new) result }
 {
     for piece in pieces {
         sink.put(piece)?;
@@ -25,16 +23,14 @@ fn put_all<S: Sink>(sink: &mut S, pieces: &[&[u8]]) -> Result<(), Failed>
 
 // Puts a line of a file's name and a word.
 fn put_plain<E: Sink>(err: &mut E, name: &[u8], word: &[u8]) -> Result<(), Failed>
-    ensures cause { HasCause (E.faults err.old) (E.faults err.new) result }
-    ensures grown { Puts (E.bytes err.old) (E.bytes err.new) (plain_line name.now word.now) result }
+    ensures { IsPut (E.seen err.old) (plain_line name.now word.now) (E.seen err.new) result }
 {
     put_all(err, &[b"tlut: ", name, word, b"\n"])
 }
 
 // Puts words, each after a blank.
 fn put_words<E: Sink>(err: &mut E, words: &[&[u8]]) -> Result<(), Failed>
-    ensures cause { HasCause (E.faults err.old) (E.faults err.new) result }
-    ensures grown { Puts (E.bytes err.old) (E.bytes err.new) (spaced (map (λ word. word.now) words.now)) result }
+    ensures { IsPut (E.seen err.old) (spaced (map (λ word. word.now) words.now)) (E.seen err.new) result }
 {
     for word in words {
         put_all(err, &[b" ", word])?;
@@ -44,8 +40,7 @@ fn put_words<E: Sink>(err: &mut E, words: &[&[u8]]) -> Result<(), Failed>
 
 // Puts names, each after a blank.
 fn put_names<E: Sink>(err: &mut E, names: &[Name]) -> Result<(), Failed>
-    ensures cause { HasCause (E.faults err.old) (E.faults err.new) result }
-    ensures grown { Puts (E.bytes err.old) (E.bytes err.new) (spaced names.now) result }
+    ensures { IsPut (E.seen err.old) (spaced names.now) (E.seen err.new) result }
 {
     for name in names {
         put_all(err, &[b" ", name.bytes()])?;
@@ -55,8 +50,7 @@ fn put_names<E: Sink>(err: &mut E, names: &[Name]) -> Result<(), Failed>
 
 // Puts a line's number, a word and another number.
 fn put_counted<E: Sink>(err: &mut E, line: u32, word: &[u8], count: u32) -> Result<(), Failed>
-    ensures cause { HasCause (E.faults err.old) (E.faults err.new) result }
-    ensures grown { Puts (E.bytes err.old) (E.bytes err.new) (spaced (codes "line" ∷ decimal line ∷ word.now ∷ decimal count ∷ [])) result }
+    ensures { IsPut (E.seen err.old) (spaced (codes "line" ∷ decimal line ∷ word.now ∷ decimal count ∷ [])) (E.seen err.new) result }
 {
     let mut first = Buffer::new();
     let mut second = Buffer::new();
@@ -67,8 +61,7 @@ fn put_counted<E: Sink>(err: &mut E, line: u32, word: &[u8], count: u32) -> Resu
 
 // Puts the details of a refusal.
 fn put_details<E: Sink>(err: &mut E, details: &Details) -> Result<(), Failed>
-    ensures cause { HasCause (E.faults err.old) (E.faults err.new) result }
-    ensures grown { Puts (E.bytes err.old) (E.bytes err.new) (spaced (details_words details.now)) result }
+    ensures { IsPut (E.seen err.old) (spaced (details_words details.now)) (E.seen err.new) result }
 {
     let mut digits = Buffer::new();
     match details {
@@ -99,32 +92,28 @@ fn put_title<'a, E: Sink>(
     code: &'a [u8],
     word: &'a [u8],
 ) -> Result<(), Failed>
-    ensures cause { HasCause (E.faults err.old) (E.faults err.new) result }
-    ensures grown { Puts (E.bytes err.old) (E.bytes err.new) (head_line name.now code.now word.now) result }
+    ensures { IsPut (E.seen err.old) (head_line name.now code.now word.now) (E.seen err.new) result }
 {
     put_all(err, &[b"tlut: ", name, b": ", code, b" ", word])
 }
 
 // Puts a file's name, and the code and the word of a refusal.
 fn put_head<E: Sink>(err: &mut E, name: &[u8], refusal: &Refusal) -> Result<(), Failed>
-    ensures cause { HasCause (E.faults err.old) (E.faults err.new) result }
-    ensures grown { Puts (E.bytes err.old) (E.bytes err.new) (head_line name.now refusal.now.code refusal.now.word) result }
+    ensures { IsPut (E.seen err.old) (head_line name.now refusal.now.code refusal.now.word) (E.seen err.new) result }
 {
     put_title(err, name, refusal.code.as_bytes(), refusal.word.as_bytes())
 }
 
 // Puts what a refusal tells behind its word.
 fn put_told<E: Sink>(err: &mut E, refusal: &Refusal) -> Result<(), Failed>
-    ensures cause { HasCause (E.faults err.old) (E.faults err.new) result }
-    ensures grown { Puts (E.bytes err.old) (E.bytes err.new) (spaced (details_words refusal.now.details)) result }
+    ensures { IsPut (E.seen err.old) (spaced (details_words refusal.now.details)) (E.seen err.new) result }
 {
     put_details(err, &refusal.details)
 }
 
 // Puts the line of a refusal in the file of this name.
 fn put_refusal<E: Sink>(err: &mut E, name: &[u8], refusal: &Refusal) -> Result<(), Failed>
-    ensures cause { HasCause (E.faults err.old) (E.faults err.new) result }
-    ensures grown { Puts (E.bytes err.old) (E.bytes err.new) (refusal_line name.now refusal.now) result }
+    ensures { IsPut (E.seen err.old) (refusal_line name.now refusal.now) (E.seen err.new) result }
 {
     put_head(err, name, refusal)?;
     put_told(err, refusal)?;
@@ -138,8 +127,7 @@ fn put_outcome<E: Sink>(
     name: &[u8],
     outcome: &Outcome,
 ) -> Result<(), Failed>
-    ensures cause { HasCause (E.faults err.old) (E.faults err.new) result }
-    ensures grown { Puts (E.bytes err.old) (E.bytes err.new) (line_of (map (λ piece. piece.now) usage.now) name.now outcome.now) result }
+    ensures { IsPut (E.seen err.old) (line_of (map (λ piece. piece.now) usage.now) name.now outcome.now) (E.seen err.new) result }
 {
     match outcome {
         Outcome::Done => put_all(err, &[]),
@@ -156,7 +144,7 @@ fn put_outcome<E: Sink>(
 /// Puts the fault line of an outcome; that of words of no form has the pieces of the usage. A failing sink changes nothing else.
 #[tactic(auto, using(crate::proofs::PutLemmas::reports))]
 pub fn report<E: Sink>(err: &mut E, usage: &[&[u8]], name: &[u8], outcome: &Outcome)
-    ensures reports { Reports (E.faults err.old) (E.faults err.new) (E.bytes err.old) (E.bytes err.new) (line_of (map (λ piece. piece.now) usage.now) name.now outcome.now) }
+    ensures reports { Reports (E.seen err.old) (E.seen err.new) (line_of (map (λ piece. piece.now) usage.now) name.now outcome.now) }
 {
     let _ = put_outcome(err, usage, name, outcome);
 }

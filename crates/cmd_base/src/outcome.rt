@@ -19,7 +19,7 @@ pub enum File {
 pub enum Outcome {
     Done,
     Usage,
-    /// L1: the file has more bytes than one of its kind may have, a text 2^26 and a pack 2^29.
+    /// L1: the file has more bytes than one of its kind may have, a text `MOST_BYTES` and a pack `MOST_PACK_BYTES`.
     TooLong(File),
     /// The file, or the circuit that a netlist denotes, is refused for another reason.
     Refused(File, Refusal),

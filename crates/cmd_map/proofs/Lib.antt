@@ -1,4 +1,4 @@
 mod MachineReplayLemmas
 mod SpecLemmas
 mod MapLemmas
-pub mod SourceWalkLemmas
+mod SourceWalkLemmas

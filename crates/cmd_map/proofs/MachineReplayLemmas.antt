@@ -1,7 +1,6 @@
 -- The pack of a source circuit's tables is played as their machine plays it.
-use Rattle.std.proofs.Common.{◌≡◌, ℕ, Bool, List, [], ◌∷◌, ◌++◌, refl, sym, ap, ◌∙◌, subst, inl, inr}
+use Rattle.std.proofs.Common.{◌≡◌, ℕ, Bool, List, ◌∷◌, refl, sym, ap, ◌∙◌, subst, inl, inr}
 use Rattle.list_laws.specs.Members.{In}
-use Rattle.list_laws.proofs.Members.{In-left, In-push, In-pushed}
 use Rattle.aig_core.specs.Aig.{Aig}
 use Rattle.aig_core.specs.Roots.{roots_of}
 use Rattle.cover_pick.specs.Template.{TemplateValue}
@@ -16,7 +15,7 @@ use Rattle.run_core.specs.EventLines.{event_line, host_line}
 use Rattle.run_core.specs.Fits.{IsOfHost}
 use Rattle.spec_core.specs.Specialiser.{SpecialiserValue}
 use Rattle.cmd_stations.specs.declared.source.Source.{Source}
-use Rattle.cmd_stations.specs.Mapped.{IsMapped}
+use Rattle.cmd_stations.specs.Mapped.{IsLeastMapping, IsMapped}
 use Rattle.cmd_stations.specs.Tunable.{IsTunable}
 use Rattle.cmd_stations.specs.Machine.{Job}
 use Rattle.cmd_stations.specs.Machine.{IsStart, Stage, AreSteps, none as no_step, more as one_more}
@@ -28,8 +27,8 @@ use Rattle.cmd_stations.proofs.ReplayLemmas.{same_packs_replay, same_both, file_
 use Rattle.cmd_stations.specs.Packs.{present_bytes}
 
 -- the packs of a source circuit's tables are the same
-tunable_same : (source : Source) (k : ℕ) (template : TemplateValue) (p q : PackValue) → IsMapped source k template → IsTunable source template p → IsTunable source template q → AreSame p q
-tunable_same source k template p q mapped a b =
+tunable_same : (source : Source) (k : ℕ) (template : TemplateValue) (p q : PackValue) (m : IsMapped source k template) → IsLeastMapping m.graph k m.roots template → IsTunable source template p → IsTunable source template q → AreSame p q
+tunable_same source k template p q mapped least a b =
     let list = source.params.list in
     let here = same_graph source a.one_graph mapped.graph a.graph mapped.roots a.roots mapped.is_graph a.is_graph in
     let there = same_graph source a.one_graph b.graph a.graph b.roots a.roots b.is_graph a.is_graph in
@@ -38,7 +37,7 @@ tunable_same source k template p q mapped a b =
       k = k;
       roots = roots_of mapped.roots;
       bits = template.bits;
-      mapping = subst (λ (g : Aig). IsMapping g k (roots_of mapped.roots) template.luts template.bits) here mapped.chosen.mapping;
+      mapping = subst (λ (g : Aig). IsMapping g k (roots_of mapped.roots) template.luts template.bits) here least.mapping;
     }) in
     let made : a.pack_is.made ≡ other.made = one.only a.pack_is.made other.made a.pack_is.makes other.makes in
     record {
@@ -70,24 +69,25 @@ line_of_host Image m of_host = refl
 -- so a machine plays such events as its host does
 host_steps : {old stage : Stage} {events : List EventValue} {lines : List (List ℕ)} → AreSteps old events lines stage → ((event : EventValue) → In events event → IsOfHost event) → AreHostSteps old.machine.host events lines stage.machine.host
 host_steps no_step of_host = none
-host_steps {old} (one_more {events = events} {lines = lines} {mid = mid} {new = new} event steps step) of_host =
-    let here = of_host event (In-pushed events event) in
-    let before = host_steps steps (λ e i. of_host e (In-left events (event ∷ []) e i)) in
-    subst (λ line. AreHostSteps old.machine.host (events ++ event ∷ []) (lines ++ line ∷ []) new.machine.host) (sym (line_of_host event new.machine here))
-    (more event before (record { of_host = here; played = step.played.host; steady = step.steady }))
+host_steps {old} {stage} (one_more {events = events} {lines = lines} event mid step rest) of_host =
+    let here = of_host event (inl refl) in
+    let later = host_steps rest (λ e i. of_host e (inr i)) in
+    subst (λ line. AreHostSteps old.machine.host (event ∷ events) (line ∷ lines) stage.machine.host) (sym (line_of_host event mid.machine here))
+    (more event mid.machine.host (record { of_host = here; played = step.played.host; steady = step.steady }) later)
 
 -- and all events that a host plays are such
 steps_of_host : {h k : SpecialiserValue} {events : List EventValue} {lines : List (List ℕ)} → AreHostSteps h events lines k → (event : EventValue) → In events event → IsOfHost event
 steps_of_host none event i = absurd i
-steps_of_host (more {events = events} last steps step) event i = elim (In-push events last event i) [ inl before ↦ steps_of_host steps event before | inr is ↦ subst (λ e. IsOfHost e) (sym is) step.of_host ]
+steps_of_host (more first mid step rest) event (inl is) = subst (λ e. IsOfHost e) (sym is) step.of_host
+steps_of_host (more first mid step rest) event (inr i) = steps_of_host rest event i
 
 -- A pack of a source circuit's tables, whose file in version 2 is its own, replays on their machine.
-pub replays_machine : (source : Source) (k : ℕ) (template : TemplateValue) (pack : PackValue) → IsMapped source k template → IsTunable source template pack → IsPackFile (present_bytes pack) pack → ReplaysMachine source template pack
-replays_machine source k template pack mapped tunable file = record {
+pub replays_machine : (source : Source) (k : ℕ) (template : TemplateValue) (pack : PackValue) (m : IsMapped source k template) → IsLeastMapping m.graph k m.roots template → IsTunable source template pack → IsPackFile (present_bytes pack) pack → ReplaysMachine source template pack
+replays_machine source k template pack mapped least tunable file = record {
   file = file;
   lines = λ files name p at has h end events lines here steps script m start ports machine_lines stage come.
       let first : AreSame p pack = file_same (present_bytes pack) p pack (pack_at files name (present_bytes pack) p at has) file in
-      let second : AreSame pack m.host.pack = tunable_same source k template pack m.host.pack mapped tunable start.pack in
+      let second : AreSame pack m.host.pack = tunable_same source k template pack m.host.pack mapped least tunable start.pack in
       (same_packs_replay p m.host.pack (same_both p m.host.pack pack first second)).are h m.host here (machine_host (record { source = source; template = template; events = script }) m start) events lines machine_lines end stage.machine.host
       steps (host_steps come.steps (steps_of_host steps));
 }

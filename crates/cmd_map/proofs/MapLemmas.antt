@@ -1,9 +1,9 @@
 -- A job of `map`: a source circuit that is mapped is accepted, and its written template and pack are the verdict's, whole or cut off.
-use Rattle.std.proofs.Common.{◌≡◌, ◌≤◌, List, [], ◌∷◌, ℕ, Option, Some, sym, subst}
+use Rattle.std.proofs.Common.{◌≡◌, ◌≤◌, List, [], ◌∷◌, ℕ, Some, refl, sym, subst}
 use Rattle.tl_text.specs.declared.logical_lines.TheConstants.{MOST_BYTES}
 use Rattle.tl_io.specs.Port.{PortSeen}
 use Rattle.tl_io.specs.Shelf.{Files, ShelfSeen}
-use Rattle.ppc_file.specs.PackFile.{IsPackFile}
+use Rattle.tl_io.specs.Sink.{SinkSeen}
 use Rattle.blif_write.specs.PlainNetlist.{netlist_text}
 use Rattle.cmd_base.specs.Outside.{outside}
 use Rattle.cmd_base.specs.Writing.{FileText, AreWritten, IsCut}
@@ -13,8 +13,10 @@ use Rattle.cmd_stations.specs.declared.mapped.MappedSource.{MappedSource}
 use Rattle.cmd_stations.specs.Mapped.{template_header}
 use Rattle.cmd_stations.specs.Tables.{AreMade, ComesPast}
 use Rattle.cmd_stations.specs.Written.{IsTuned, template_of}
+use Rattle.cmd_stations.proofs.WriteAllLemmas.{cut_cause}
 use Rattle.cmd_map.specs.Map.Words.{MapWords}
 use Rattle.cmd_map.specs.Map.Verdict.{HasMap, map_walk}
+use Rattle.cmd_stations.proofs.OnceLemmas.{least_mapped}
 use Rattle.cmd_map.proofs.MachineReplayLemmas.{replays_machine}
 use Rattle.cmd_stations.specs.Packs.{present_bytes}
 
@@ -27,36 +29,42 @@ texts m template pack = record { name = template; bytes = netlist_text (template
 
 -- a job that came past its mapping, and wrote
 module _ (m : MappedSource) (made : AreMade m.source m.tables) (means : IsTuned m.source m.tables.template m.tables.pack (template_of m.source m.tables.template))
-    (file : IsPackFile (present_bytes m.tables.pack) m.tables.pack) (words : MapWords) (old mid new : ShelfSeen) (same : mid.files ≡ old.files) (few : mid.given ≤ MOST_BYTES) (given : new.given ≡ mid.given) (comes : Told old.files (λ files. ComesPast files words.source m))
-    (before after : Option (List ℕ)) (ports : List PortSeen) where
+    (words : MapWords) (old mid new : ShelfSeen) (same : (out : SinkSeen) (ports : List PortSeen) → outside mid out ports ≡ outside old out ports) (few : mid.given ≤ MOST_BYTES) (given : new.given ≡ mid.given) (comes : Told old.files (λ files. ComesPast files words.source m))
+    (before after : SinkSeen) (ports : List PortSeen) where
   begun_from : IsBegunFrom (map_walk words) old new
   begun_from = record { given = subst (λ n. n ≤ MOST_BYTES) (sym given) few; begun = λ files told. map_begun files words m (comes files told) }
 
   has_map : (files : Files) → old.files ≡ Some files → (P : List FileText → List ℕ → Type 0) → P (texts m words.template words.pack) (template_header m.tables.template) → HasMap files words P
   has_map files told P ends =
+      let past = comes files told in
+      let law = least_mapped files words.source m.source m.tables.template past.settled past.has in
       record {
         source = m.source;
         template = m.tables.template;
-        mapped = (comes files told).has;
+        mapped = past.has;
+        law = law;
         pack = m.tables.pack;
         tunable = made.tunable;
         ends = ends;
         means = means;
-        replays = replays_machine m.source words.source.k m.tables.template m.tables.pack (comes files told).has.mapped made.tunable file;
+        replays = replays_machine m.source words.source.k m.tables.template m.tables.pack past.has.mapped law.least made.tunable made.file;
       }
 
-  pub map_done : AreWritten (texts m words.template words.pack) (template_header m.tables.template) (outside mid.files before ports) (outside new.files after ports)
-      → Ends (map_walk words) old new (outside old.files before ports) (outside new.files after ports) outcome.Done
+  pub map_done : AreWritten (texts m words.template words.pack) (template_header m.tables.template) (outside mid before ports) (outside new after ports)
+      → Ends (map_walk words) old new (outside old before ports) (outside new after ports) outcome.Done
   map_done all = (
     begun_from,
-    λ files told. has_map files told (λ ts line. AreWritten ts line (outside old.files before ports) (outside new.files after ports))
-        (subst (λ fs. AreWritten (texts m words.template words.pack) (template_header m.tables.template) (outside fs before ports) (outside new.files after ports)) same all),
+    λ files told. has_map files told (λ ts line. AreWritten ts line (outside old before ports) (outside new after ports))
+        (subst (λ w. AreWritten (texts m words.template words.pack) (template_header m.tables.template) w (outside new after ports)) (same before ports) all),
+    refl,
   )
 
-  pub map_cut : IsCut (texts m words.template words.pack) (template_header m.tables.template) (outside mid.files before ports) (outside new.files after ports)
-      → Ends (map_walk words) old new (outside old.files before ports) (outside new.files after ports) outcome.WriteFault
-  map_cut part = (
-    begun_from,
-    λ files told. has_map files told (λ ts line. IsCut ts line (outside old.files before ports) (outside new.files after ports))
-        (subst (λ fs. IsCut (texts m words.template words.pack) (template_header m.tables.template) (outside fs before ports) (outside new.files after ports)) same part),
-  )
+  pub map_cut : IsCut (texts m words.template words.pack) (template_header m.tables.template) (outside mid before ports) (outside new after ports)
+      → Ends (map_walk words) old new (outside old before ports) (outside new after ports) outcome.WriteFault
+  map_cut part =
+      let cut = subst (λ w. IsCut (texts m words.template words.pack) (template_header m.tables.template) w (outside new after ports)) (same before ports) part in (
+        begun_from,
+        λ files told. has_map files told (λ ts line. IsCut ts line (outside old before ports) (outside new after ports)) cut,
+        refl,
+        cut_cause (map_walk words) (texts m words.template words.pack) (template_header m.tables.template) (outside old before ports) (outside new after ports) tt cut,
+      )

@@ -1,9 +1,10 @@
 -- A job of `spec`: a source circuit that is mapped is accepted, and its written netlist is the verdict's, whole or cut off.
-use Rattle.std.proofs.Common.{◌≡◌, ◌≤◌, Bool, List, [], ◌∷◌, ℕ, length, Option, Some, sym, subst}
+use Rattle.std.proofs.Common.{◌≡◌, ◌≤◌, Bool, List, [], ◌∷◌, ℕ, length, Some, refl, sym, subst}
 use Rattle.std.proofs.lemmas.List.{length-map}
 use Rattle.tl_text.specs.declared.logical_lines.TheConstants.{MOST_BYTES}
 use Rattle.tl_io.specs.Port.{PortSeen}
 use Rattle.tl_io.specs.Shelf.{Files, ShelfSeen}
+use Rattle.tl_io.specs.Sink.{SinkSeen}
 use Rattle.aig_core.specs.Aig.{Aig}
 use Rattle.param_list.specs.declared.params.Param.{Param}
 use Rattle.param_list.specs.Parameters.{param_inits}
@@ -18,8 +19,10 @@ use Rattle.cmd_stations.specs.declared.mapped.MappedSource.{MappedSource}
 use Rattle.cmd_stations.specs.Mapped.{template_header}
 use Rattle.cmd_stations.specs.Tables.{AreMade, ComesPast}
 use Rattle.cmd_stations.specs.Written.{RunsAs, specialised_of}
+use Rattle.cmd_stations.proofs.WriteAllLemmas.{cut_cause}
 use Rattle.cmd_map.specs.Spec.Words.{SpecWords}
 use Rattle.cmd_map.specs.Spec.Verdict.{HasSpec, spec_walk}
+use Rattle.cmd_stations.proofs.OnceLemmas.{least_mapped}
 use Rattle.cmd_stations.proofs.GraphLemmas.{same_graph}
 use Rattle.cmd_stations.proofs.InitLemmas.{init_params}
 
@@ -40,8 +43,8 @@ module _ (m : MappedSource) (made : AreMade m.source m.tables) (config : List Bo
 
   -- a job that came past its mapping, and wrote
   module _ (means : (params : List Bool) → length params ≡ length m.source.params.list → IsConf m.tables.pack params config → RunsAs m.source params (specialised_of m.source m.tables.template config))
-      (words : SpecWords) (old mid new : ShelfSeen) (same : mid.files ≡ old.files) (few : mid.given ≤ MOST_BYTES) (given : new.given ≡ mid.given) (comes : Told old.files (λ files. ComesPast files words.source m))
-      (before after : Option (List ℕ)) (ports : List PortSeen) where
+      (words : SpecWords) (old mid new : ShelfSeen) (same : (out : SinkSeen) (ports : List PortSeen) → outside mid out ports ≡ outside old out ports) (few : mid.given ≤ MOST_BYTES) (given : new.given ≡ mid.given) (comes : Told old.files (λ files. ComesPast files words.source m))
+      (before after : SinkSeen) (ports : List PortSeen) where
     begun_from : IsBegunFrom (spec_walk words) old new
     begun_from = record { given = subst (λ n. n ≤ MOST_BYTES) (sym given) few; begun = λ files told. spec_begun files words m (comes files told) }
 
@@ -52,24 +55,28 @@ module _ (m : MappedSource) (made : AreMade m.source m.tables) (config : List Bo
           source = m.source;
           template = m.tables.template;
           mapped = past.has;
+          law = least_mapped files words.source m.source m.tables.template past.settled past.has;
           config = config;
           is_config = config_is files words past;
           ends = ends;
           means = means (param_inits m.source.params.list) (length-map m.source.params.list (λ (p : Param). p.init)) conf;
         }
 
-    pub spec_done : AreWritten (texts words.out) (template_header m.tables.template) (outside mid.files before ports) (outside new.files after ports)
-        → Ends (spec_walk words) old new (outside old.files before ports) (outside new.files after ports) outcome.Done
+    pub spec_done : AreWritten (texts words.out) (template_header m.tables.template) (outside mid before ports) (outside new after ports)
+        → Ends (spec_walk words) old new (outside old before ports) (outside new after ports) outcome.Done
     spec_done all = (
       begun_from,
-      λ files told. has_spec files told (λ ts line. AreWritten ts line (outside old.files before ports) (outside new.files after ports))
-          (subst (λ fs. AreWritten (texts words.out) (template_header m.tables.template) (outside fs before ports) (outside new.files after ports)) same all),
+      λ files told. has_spec files told (λ ts line. AreWritten ts line (outside old before ports) (outside new after ports))
+          (subst (λ w. AreWritten (texts words.out) (template_header m.tables.template) w (outside new after ports)) (same before ports) all),
+      refl,
     )
 
-    pub spec_cut : IsCut (texts words.out) (template_header m.tables.template) (outside mid.files before ports) (outside new.files after ports)
-        → Ends (spec_walk words) old new (outside old.files before ports) (outside new.files after ports) outcome.WriteFault
-    spec_cut part = (
-      begun_from,
-      λ files told. has_spec files told (λ ts line. IsCut ts line (outside old.files before ports) (outside new.files after ports))
-          (subst (λ fs. IsCut (texts words.out) (template_header m.tables.template) (outside fs before ports) (outside new.files after ports)) same part),
-    )
+    pub spec_cut : IsCut (texts words.out) (template_header m.tables.template) (outside mid before ports) (outside new after ports)
+        → Ends (spec_walk words) old new (outside old before ports) (outside new after ports) outcome.WriteFault
+    spec_cut part =
+        let cut = subst (λ w. IsCut (texts words.out) (template_header m.tables.template) w (outside new after ports)) (same before ports) part in (
+          begun_from,
+          λ files told. has_spec files told (λ ts line. IsCut ts line (outside old before ports) (outside new after ports)) cut,
+          refl,
+          cut_cause (spec_walk words) (texts words.out) (template_header m.tables.template) (outside old before ports) (outside new after ports) tt cut,
+        )

@@ -1,5 +1,5 @@
 -- The playing of a script on a pack: what can be played, what stands behind some events, and how it ends at the next one.
-use Rattle.std.proofs.Common.{◌≡◌, ℕ, ◌+◌, ◌≤◌, List, [], ◌∷◌, ◌++◌, length, take, Option, Result, Ok, Err, refl, sym, ap, ◌∙◌, subst, inr, append_assoc, arith}
+use Rattle.std.proofs.Common.{◌≡◌, ℕ, ◌+◌, ◌≤◌, List, [], ◌∷◌, ◌++◌, length, take, Option, Result, Ok, Err, OnErr, refl, sym, ap, ◌∙◌, subst, inl, inr, append_assoc, arith}
 use Rattle.std.specs.List.{concat}
 use Rattle.std.proofs.lemmas.List.{length-map}
 use Rattle.std.proofs.lemmas.Option.{none-some}
@@ -8,7 +8,8 @@ use Rattle.tl_io.specs.Assigns.{AreAssigned}
 use Rattle.tl_io.specs.Causes.{Rose}
 use Rattle.tl_io.specs.Content.{extended}
 use Rattle.tl_io.specs.Port.{PortSeen}
-use Rattle.tl_io.specs.Shelf.{Files}
+use Rattle.tl_io.specs.Shelf.{Files, ShelfSeen}
+use Rattle.tl_io.specs.Sink.{SinkSeen}
 use Rattle.tl_io.proofs.ContentLemmas.{extended_none}
 use Rattle.ppc_pack.specs.declared.pack.PackParam.{PackParam}
 use Rattle.ppc_pack.specs.Pack.{PackValue}
@@ -18,20 +19,22 @@ use Rattle.port_bank.specs.Bank.{BankSeen}
 use Rattle.run_core.specs.declared.step_err.StepErr.{StepErr}
 use Rattle.run_core.specs.declared.step_err.StepErr.TheVariants.{WriteFault, PortFault}
 use Rattle.run_core.specs.EventLines.{host_line}
-use Rattle.run_core.specs.Ends.{IsPut, HasSinkCause, HasPlaces}
+use Rattle.run_core.specs.Ends.{HasLine, HasSinkCause, HasPlaces}
 use Rattle.run_core.specs.Fits.{FitsPack, IsOfHost}
 use Rattle.spec_core.specs.Specialiser.{SpecialiserValue}
-use Rattle.cmd_base.specs.Outside.{outside}
+use Rattle.cmd_base.specs.Outside.{Outside, outside}
 use Rattle.cmd_pack.specs.declared.bits.prepare.ReadyScript.{ReadyScript}
 use Rattle.cmd_stations.specs.Packs.{HasPack, IsPackSettled, pack_names}
 use Rattle.cmd_stations.specs.Script.{HasScript, IsScriptSettled}
 use Rattle.cmd_base.specs.Ends.{IsBegun}
+use Rattle.cmd_base.proofs.EndLemmas.{Rose_from}
 use Rattle.cmd_stations.specs.Script.{IsSplit}
 use Rattle.cmd_pack.specs.Bits.Words.{BitsWords}
-use Rattle.cmd_stations.specs.Host.{IsHostStep, AreHostSteps, none, more}
-use Rattle.cmd_pack.specs.Bits.Verdict.{pack_header, HasBits, bits_walk}
+use Rattle.cmd_stations.specs.Host.{IsHostStep, AreHostSteps, none}
+use Rattle.cmd_pack.specs.Bits.Verdict.{pack_header, AreLinesCut, HasBits, bits_walk}
 use Rattle.cmd_pack.specs.Bits.Ready.{CanPlay, IsReady, IsReadyFor, AreAllStepped, AreCut, EventsEnd, PlayEnd}
 use Rattle.cmd_stations.proofs.EventLemmas.{put_then, one_line}
+use Rattle.cmd_stations.proofs.StepLemmas.{then_host_step}
 use Rattle.cmd_pack.proofs.BitsWalkLemmas.{names_settled}
 
 -- an event that a script may have on a pack alone is of the host, and can be played on the pack
@@ -75,7 +78,7 @@ come_more old mid new events event first before after come step put =
     let line = host_line event new in
     record {
       lines = come.lines ++ line ∷ [];
-      steps = more event come.steps step;
+      steps = then_host_step event come.steps step;
       bytes = put_then first before after (concat come.lines) line come.bytes put ∙ ap (λ l. extended first l) (one_line come.lines line);
     }
 
@@ -88,7 +91,7 @@ module _ (ports later : BankSeen) (none_serves : length ports.serving ≡ 0) whe
   lost_none places = let lost : length later.serving + 1 ≡ length ports.serving = places.serving in absurd (omega arith)
 
   pub events_cut : (old mid new : SpecialiserValue) (all events : List EventValue) (event : EventValue) (first before after : Option (List ℕ)) (error : StepErr) → IsSplit all events event → HaveCome old events first mid before
-      → IsHostStep event mid new → IsPut (host_line event new) before after (Err error) → HasPlaces ports later (Err error) → AreCut old all first after
+      → IsHostStep event mid new → HasLine (host_line event new) before after (Err error) → HasPlaces ports later (Err error) → AreCut old all first after
   events_cut old mid new all events event first before after WriteFault split come step put places = record {
     first = events;
     event = event;
@@ -108,18 +111,23 @@ module _ (ports later : BankSeen) (none_serves : length ports.serving ≡ 0) whe
   fault_rose before now WriteFault cause places = cause
   fault_rose before now PortFault cause places = lost_none places
 
+-- a count that rose behind a fault rose from an earlier one
+pub rose_later : {E : Type 0} (first mid last : ℕ) (r : Result Unit E) → first ≤ mid → OnErr r (Rose mid last) → OnErr r (Rose first last)
+rose_later first mid last (Ok done) le h = tt
+rose_later first mid last (Err e) le h = Rose_from first mid last le h
+
 -- how a script ends behind its header
-pub play_end : {E : Type 0} (h : SpecialiserValue) (events : List EventValue) (before headed after : Option (List ℕ)) (r : Result Unit E) → headed ≡ extended before (pack_header h.pack) → EventsEnd h events headed after r
-    → (files : Option Files) (ports : List PortSeen) → PlayEnd h events (outside files before ports) (outside files after ports) r
-play_end h events before headed after (Ok done) header end files ports = record {
+pub play_end : {E : Type 0} (h : SpecialiserValue) (events : List EventValue) (before headed after : SinkSeen) (r : Result Unit E) → headed.bytes ≡ extended before.bytes (pack_header h.pack) → EventsEnd h events headed.bytes after.bytes r
+    → OnErr r (Rose before.faults after.faults) → (shelf : ShelfSeen) (ports : List PortSeen) → PlayEnd h events (outside shelf before ports) (outside shelf after ports) r
+play_end h events before headed after (Ok done) header end rose shelf ports = record {
   lines = end.lines;
   end = end.end;
   steps = end.steps;
-  bytes = put_then before headed after (pack_header h.pack) (concat end.lines) header end.bytes;
+  bytes = put_then before.bytes headed.bytes after.bytes (pack_header h.pack) (concat end.lines) header end.bytes;
   files = refl;
   ports = refl;
 }
-play_end h events before headed after (Err e) header cut files ports =
+play_end h events before headed after (Err e) header cut rose shelf ports =
     let part = take cut.part (host_line cut.event cut.end) in
     inr (record {
       before = cut.first;
@@ -132,11 +140,17 @@ play_end h events before headed after (Err e) header cut files ports =
       step = cut.step;
       part = cut.part;
       within = cut.within;
-      bytes = put_then before headed after (pack_header h.pack) (concat cut.lines ++ part) header cut.bytes
-          ∙ ap (λ l. extended before l) (sym (append_assoc (pack_header h.pack) (concat cut.lines) part));
+      bytes = put_then before.bytes headed.bytes after.bytes (pack_header h.pack) (concat cut.lines ++ part) header cut.bytes
+          ∙ ap (λ l. extended before.bytes l) (sym (append_assoc (pack_header h.pack) (concat cut.lines) part));
+      cause = rose;
       files = refl;
       ports = refl;
     })
+
+-- a script that was cut off has the cause of its fault
+pub cut_cause : (h : SpecialiserValue) (events : List EventValue) (old new : Outside) → AreLinesCut h events old new → Rose old.put_faults new.put_faults
+cut_cause h events old new (inl cut) = cut.cause
+cut_cause h events old new (inr cut) = cut.cause
 
 -- a job that was made ready is begun, and ends as its playing does
 module _ (files : Files) (words : BitsWords) (ready : ReadyScript) (is : IsReadyFor files words ready) where

@@ -43,6 +43,7 @@ pack_part words told = record {
   read = is_read;
   word = same_word;
   given = λ f n h. h;
+  files = λ files told. told;
   reaches = λ files told f h reached. reaches files f h;
   refused = λ files told f r refused. job.IsBitsRefused.pack refused;
   settled = λ files told f r settled refused. record { pack = settled; script = λ pack there. absurd (pack_or_not files words.pack settled pack f r there refused) };
@@ -80,6 +81,7 @@ module _ (words : BitsWords) (pack : PackValue) where
     read = is_read;
     word = same_word;
     given = λ f n h. h;
+    files = λ files told. told;
     reaches = λ files told f h reached. reaches files f h (comes files told).0;
     refused = λ files told f r refused. job.IsBitsRefused.script pack (comes files told).0 refused;
     settled = λ files told f r settled refused. record { pack = (comes files told).1; script = names_settled files (comes files told).0 (comes files told).1 settled };

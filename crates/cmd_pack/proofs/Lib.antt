@@ -2,4 +2,4 @@ mod BitsWalkLemmas
 mod BitsPlayLemmas
 mod FileReplayLemmas
 mod RepackLemmas
-pub mod PackLaws
+mod PackWalkLemmas

@@ -1,7 +1,7 @@
 -- The texts of a case as files: what they are read as, and what stops their walk.
 use Rattle.std.proofs.Common.{◌≡◌, ℕ, ◌<◌, ◌≤◌, List, length, Some, Result, Ok, Err, codes, refl, sym, ap, ◌∙◌, subst, arith}
 use Rattle.std.specs.Cmp.Lexicographic.{nat_list_cmp_total}
-use Rattle.std.specs.FinMap.{insert, empty, get-insert}
+use Rattle.std.specs.FinMap.{get, insert, empty, get-insert}
 use Rattle.std.specs.Prelude.{IfOk, IfErr}
 use Rattle.std.proofs.lemmas.Option.{same_Some}
 use Rattle.tl_text.specs.declared.logical_lines.TheConstants.{MOST_BYTES}
@@ -29,7 +29,7 @@ use Rattle.cmd_stations.specs.Mapped.{IsUnmapped}
 use Rattle.cmd_stations.specs.Script.{script_reading}
 use Rattle.cmd_stations.specs.Settled.{IsTextSettled, IsMappingSettled, source_reading}
 use Rattle.cmd_stations.specs.Tables.{ComesFrom, ComesWith}
-use Rattle.cmd_run.specs.Run.Job.{run_reading}
+use Rattle.cmd_run.specs.Run.Job.{IsRefused, IsSettled, run_reading}
 use Rattle.cmd_run.specs.Run.Ready.{IsReadyFor}
 use Rattle.cmd_run.specs.GenCommand.Case.{case_words, case_files}
 use Rattle.cmd_run.specs.GenCommand.Texts.{shelf_of, HaveSource, HaveCase}
@@ -104,13 +104,17 @@ module _ (words : GenWords) where
   second = insert first (codes "params") params_text
 
   -- The generated texts are the files of the case.
+  pub netlist_there : get (case_files words) (codes "netlist") ≡ Some (text_of (netlist_lines words.digits))
+  netlist_there =
+      get-insert nat_list_cmp_total second (codes "script") script_text_of (codes "netlist") ∙ get-insert nat_list_cmp_total first (codes "params") params_text (codes "netlist")
+      ∙ get-insert nat_list_cmp_total empty (codes "netlist") netlist_text (codes "netlist")
+
   pub have_case : (made : CaseValue) (netlist params script : List ℕ) → netlist ≡ made.netlist → params ≡ made.params → script ≡ made.script → made.netlist ≡ netlist_text → made.params ≡ params_text → made.script ≡ script_text_of → IsShort made
       → HaveCase (case_files words) netlist params script
   have_case made netlist params script n p s netlist_is params_are script_is short = record {
     source = record {
       has_netlist = record {
-        is = get-insert nat_list_cmp_total second (codes "script") script_text_of (codes "netlist") ∙ get-insert nat_list_cmp_total first (codes "params") params_text (codes "netlist")
-            ∙ get-insert nat_list_cmp_total empty (codes "netlist") netlist_text (codes "netlist") ∙ ap Some (sym (n ∙ netlist_is));
+        is = netlist_there ∙ ap Some (sym (n ∙ netlist_is));
         short = subst (λ (text : List ℕ). length text ≤ MOST_BYTES) (sym n) short.netlist;
       };
       has_params = record {
@@ -127,7 +131,13 @@ module _ (words : GenWords) where
   -- As no byte of them was given and no read failed, a refusal alone can stop the walk, or want of memory.
   pub case_explains : (o : Outcome) → Explains (run_reading case_words) (shelf_of (case_files words)) (shelf_of (case_files words)) o → (old new : ShelfSeen) → Explains (gen_reading words) old new o
   case_explains (outcome.TooLong f) h old new = let past : most_bytes f < 0 = h.given in absurd (omega arith)
-  case_explains (outcome.Refused f r) h old new = record { given = tt; is = λ files told. h.is (case_files words) refl; settled = λ files told. h.settled (case_files words) refl }
+  case_explains (outcome.Refused f r) h old new = record {
+    given = tt;
+    is_read = h.is_read;
+    not_long = h.not_long;
+    is = λ files has. subst (λ fs. IsRefused fs case_words f r) (sym has) (h.is (case_files words) refl);
+    settled = λ files has. subst (λ fs. IsSettled fs case_words) (sym has) (h.settled (case_files words) refl);
+  }
   case_explains (outcome.ReadFault f) h old new = let rose : 1 ≤ 0 = h.fault.rose in absurd (omega arith)
   case_explains outcome.Memory h old new = tt
   case_explains outcome.Done h old new = absurd h

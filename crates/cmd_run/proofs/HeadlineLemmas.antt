@@ -1,5 +1,5 @@
 -- A job that is done shows its source circuit, mapped with the least depth.
-use Rattle.std.proofs.Common.{◌≡◌, ℕ, ◌≤◌, Bool, List, ◌∷◌, length, Ok, refl, sym, ap, ◌∙◌, subst}
+use Rattle.std.proofs.Common.{◌≡◌, ℕ, Bool, List, ◌∷◌, length, Ok, refl, sym, ap, ◌∙◌, subst}
 use Rattle.std.specs.List.{concat}
 use Rattle.list_laws.specs.Members.{In}
 use Rattle.tl_io.specs.Content.{extended}
@@ -9,7 +9,7 @@ use Rattle.cover_pick.specs.Template.{TemplateValue}
 use Rattle.ppc_pack.specs.Pack.{IsConf}
 use Rattle.port_bank.specs.Bank.{BankSeen}
 use Rattle.run_text.specs.EventValue.{EventValue}
-use Rattle.run_text.specs.Lines.{header_line}
+use Rattle.cmd_stations.specs.Mapped.{template_header}
 use Rattle.run_text.proofs.FitLemmas.{events_fit}
 use Rattle.run_core.specs.Events.{MachineValue}
 use Rattle.run_core.specs.Fits.{FitsShape}
@@ -25,7 +25,6 @@ use Rattle.cmd_run.specs.Run.Bank.{bank_of}
 use Rattle.cmd_run.specs.Run.Ends.{HasRun}
 use Rattle.cmd_run.specs.Run.Headline.{IsNoUpset, ShowsSource, HasHeadline}
 use Rattle.cmd_stations.proofs.GraphLemmas.{same_graph}
-use Rattle.cmd_run.proofs.LeastLemmas.{least_mapping}
 use Rattle.cmd_run.proofs.KeptLemmas.{IsKept, init_count, shape_fits}
 use Rattle.cmd_stations.proofs.InitLemmas.{init_params}
 use Rattle.cmd_run.proofs.ShownLemmas.{shown_of, all_shown}
@@ -46,7 +45,7 @@ start_kept files run job m bank is s = record {
 }
 
 shows_source : (files : Files) (run : RunWords) (job : Job) (m : MachineValue) (ports : BankSeen) (lines : List (List ℕ)) (stage : Stage) → IsJob files run job → (s : IsStart job m) → HasCome m ports job.events lines stage
-    → ((event : EventValue) → In job.events event → IsNoUpset event) → ShowsSource job.source s.pack.graph job.template.luts job.events lines ports stage.bank
+    → ((event : EventValue) → In job.events event → IsNoUpset event) → ShowsSource job.source s.pack.graph job.template job.events lines ports stage.bank
 shows_source files run job m ports lines stage is s come calm =
     let first : Stage = record { machine = m; bank = come.loaded } in
     let fits = script_fits files run.script job.source job.template.bits job.events is.script in
@@ -65,29 +64,22 @@ shows_source files run job m ports lines stage is s come calm =
     }
 
 -- a job of `run` that is done
-pub run_headline : (files : Files) (run : RunWords) (old new : Outside) → 2 ≤ run.source.k → HasRun files run old new (Ok tt) → HasHeadline files run old new
-run_headline files run old new size done =
+pub run_headline : (files : Files) (run : RunWords) (old new : Outside) → HasRun files run old new (Ok tt) → HasHeadline files run old new
+run_headline files run old new done =
     let job = done.job in
     let mapped = done.is_job.mapped.mapped in
     let start = done.start in
     let end = done.ends in
     let graph : start.pack.graph ≡ mapped.graph = same_graph job.source start.pack.one_graph start.pack.graph mapped.graph start.pack.roots mapped.roots start.pack.is_graph mapped.is_graph in
     record {
-      source = job.source;
-      has = done.is_job.mapped.has;
-      graph = mapped.graph;
-      roots = mapped.roots;
-      is_graph = mapped.is_graph;
-      tables = job.template.luts;
-      bits = job.template.bits;
-      depth = job.template.depth;
-      mapping = least_mapping job.source run.source.k job.template size mapped;
-      events = job.events;
-      script = done.is_job.script;
+      job = job;
+      is_job = done.is_job;
+      sound = done.law.sound;
+      least = done.law.least;
       lines = end.lines;
-      bytes = end.bytes ∙ ap (λ (t : TemplateValue). extended old.bytes (concat (header_line (length t.luts) t.bits t.depth ∷ end.lines))) start.template;
+      bytes = end.bytes ∙ ap (λ (t : TemplateValue). extended old.bytes (concat (template_header t ∷ end.lines))) start.template;
       last = end.stage.bank;
       ports = end.ports;
-      shows = λ calm. subst (λ (g : Aig). ShowsSource job.source g job.template.luts job.events end.lines (bank_of run.ports old.ports) end.stage.bank) graph
+      shows = λ calm. subst (λ (g : Aig). ShowsSource job.source g job.template job.events end.lines (bank_of run.ports old.ports) end.stage.bank) graph
           (shows_source files run job done.machine (bank_of run.ports old.ports) end.lines end.stage done.is_job start end.come calm);
     }

@@ -69,17 +69,23 @@ module _ (source : Source) (template : TemplateValue) (pack : PackValue) (tunabl
   conf_out : (new : Stage) → new.machine.host.pack ≡ pack → IsRight new.machine.host → IsConf pack new.machine.host.state.params new.machine.host.state.config
   conf_out new same right = subst (λ (p : PackValue). IsConf p new.machine.host.state.params new.machine.host.state.config) same right
 
-  -- a cycle is the source circuit's
-  pub cycle_is : (values : List Bool) (old new : Stage) → FitsShape (shape_of source) (Cycle values) → IsKept old → IsStep (Cycle values) old new
-      → IsSourceCycle source old.machine.host.state.params values old.machine.sim.states new.machine.sim.outputs new.machine.sim.states
-  cycle_is values old new fits kept step =
+  -- a cycle plays the tables under this configuration
+  pub plays_tables : (values : List Bool) (old new : Stage) → IsKept old → IsStep (Cycle values) old new
+      → IsOnlyTableCycle template (shape_of source) old.machine.host.state.config values old.machine.sim.states new.machine.sim.outputs new.machine.sim.states
+  plays_tables values old new kept step =
       let config = old.machine.host.state.config in
       let states = old.machine.sim.states in
       let outputs = new.machine.sim.outputs in
       let next = new.machine.sim.states in
-      tunable.tables.cycles old.machine.host.state.params config values states outputs next (kept.params ∙ param_count source template pack tunable) kept.right fits kept.states
-      (subst (λ (t : TemplateValue). IsOnlyTableCycle t (shape_of source) config values states outputs next) kept.template_is
-      (subst (λ (s : Shape). IsOnlyTableCycle old.machine.sim.template s config values states outputs next) kept.shape_is step.played.one))
+      subst (λ (t : TemplateValue). IsOnlyTableCycle t (shape_of source) config values states outputs next) kept.template_is
+      (subst (λ (s : Shape). IsOnlyTableCycle old.machine.sim.template s config values states outputs next) kept.shape_is step.played.one)
+
+  -- and is the source circuit's
+  pub cycle_is : (values : List Bool) (old new : Stage) → FitsShape (shape_of source) (Cycle values) → IsKept old → IsStep (Cycle values) old new
+      → IsSourceCycle source old.machine.host.state.params values old.machine.sim.states new.machine.sim.outputs new.machine.sim.states
+  cycle_is values old new fits kept step =
+      tunable.tables.cycles old.machine.host.state.params old.machine.host.state.config values old.machine.sim.states new.machine.sim.outputs new.machine.sim.states
+      (kept.params ∙ param_count source template pack tunable) kept.right fits kept.states (plays_tables values old new kept step)
 
   -- what does not depend on the event
   with_rest : (event : EventValue) (old new : Stage) → IsKept old → IsStep event old new → length new.machine.host.state.params ≡ length old.machine.host.state.params → length new.machine.sim.states ≡ length old.machine.sim.states

@@ -6,13 +6,15 @@ mod StartLemmas
 mod PlayLemmas
 mod PortLemmas
 mod RunLemmas
-pub mod WalkLemmas
+mod WalkLemmas
 -- what it shows,
-mod LeastLemmas
 mod ShownLemmas
 mod HeadlineLemmas
 -- and of `gen`.
 mod NumberLemmas
 mod CaseLemmas
+mod CaseTextLemmas
+mod CaseSizeLemmas
 mod GenLemmas
-pub mod GenLaws
+mod TotalLemmas
+mod GenWalkLemmas

@@ -3,27 +3,29 @@ use Rattle.std.proofs.Common.{◌≡◌, ℕ, ◌+◌, List, [], ◌∷◌, ◌+
 use Rattle.std.specs.List.{concat}
 use Rattle.std.proofs.lemmas.List.{take-append-drop}
 use Rattle.std.proofs.Math.Seq.{take-add}
+use Rattle.tl_io.specs.Causes.{Rose}
 use Rattle.tl_io.specs.Content.{extended}
 use Rattle.tl_io.specs.Port.{PortSeen}
-use Rattle.tl_io.specs.Shelf.{Files}
+use Rattle.tl_io.specs.Shelf.{ShelfSeen}
+use Rattle.tl_io.specs.Sink.{SinkSeen}
 use Rattle.tl_io.proofs.ContentLemmas.{extended_none}
 use Rattle.run_text.specs.EventValue.{EventValue}
 use Rattle.port_bank.specs.Bank.{BankSeen, all_ports}
 use Rattle.port_bank.specs.Image.{Holds}
-use Rattle.port_bank.specs.Moves.{MovesWithCause}
 use Rattle.run_core.specs.declared.step_err.StepErr.{StepErr}
 use Rattle.run_core.specs.declared.step_err.StepErr.TheVariants.{WriteFault, PortFault}
 use Rattle.run_core.specs.Events.{MachineValue, IsPlayed, IsSteady}
 use Rattle.run_core.specs.EventLines.{event_line}
-use Rattle.run_core.specs.Ends.{IsSent, IsPut, HasPlaces, StillHolds}
+use Rattle.run_core.specs.Ends.{IsSent, HasLine, LeavesPorts, HasPlaces, StillHolds}
 use Rattle.cmd_base.specs.Outside.{outside}
+use Rattle.cmd_stations.specs.Machine.{machine_header, Stage, IsStep, AreSteps, none}
+use Rattle.cmd_stations.specs.Script.{IsSplit}
+use Rattle.cmd_stations.proofs.EventLemmas.{put_then, one_line}
+use Rattle.cmd_stations.proofs.StepLemmas.{then_step}
 use Rattle.cmd_run.specs.declared.run.words.PortCounts.{PortCounts}
 use Rattle.cmd_run.specs.Run.Bank.{bank_of}
-use Rattle.cmd_stations.specs.Machine.{machine_header, Stage, IsStep, AreSteps, none, more}
-use Rattle.cmd_stations.specs.Script.{IsSplit}
 use Rattle.cmd_run.specs.Run.Ends.{IsPlayEnd}
 use Rattle.cmd_run.specs.Run.Ready.{AreAllStepped, EventsEnd, RunEnd}
-use Rattle.cmd_stations.proofs.EventLemmas.{put_then, one_line}
 
 -- events were played one after the other, and the output grew by their lines
 pub record HaveCome (old : Stage) (events : List EventValue) (before : Option (List ℕ)) (new : Stage) (after : Option (List ℕ)) : Type 0 where
@@ -40,7 +42,7 @@ come_more old mid new events event first before after come step put =
     let line = event_line event new.machine in
     record {
       lines = come.lines ++ line ∷ [];
-      steps = more event come.steps step;
+      steps = then_step event come.steps step;
       bytes = put_then first before after (concat come.lines) line come.bytes put ∙ ap (λ l. extended first l) (one_line come.lines line);
     }
 
@@ -52,8 +54,8 @@ pub record IsStepEnd (event : EventValue) (old new : Stage) (before after : Opti
   pub played : IsPlayed event old.machine new.machine
   pub steady : IsSteady event old.machine.host new.machine.host
   pub sent : IsSent event new.machine.host old.bank new.bank result
-  pub put : IsPut (event_line event new.machine) before after result
-  pub moved : MovesWithCause old.bank new.bank
+  pub put : HasLine (event_line event new.machine) before after result
+  pub left : LeavesPorts old.bank new.bank result
   pub places : HasPlaces old.bank new.bank result
   pub held : Holds old.machine.host.state.config old.bank
   pub holds : StillHolds old.machine.host new.machine.host old.bank new.bank result
@@ -63,7 +65,7 @@ whole_step event old new before after end = record {
   played = end.played;
   steady = end.steady;
   sent = end.sent;
-  moved = end.moved;
+  becomes = end.left;
   places = end.places;
   holds = end.holds end.held;
 }
@@ -81,7 +83,7 @@ events_end old mid new all events event first before after WriteFault split come
       mid = mid;
       steps = come.steps;
       stage = new;
-      step = record { played = end.played; steady = end.steady; sent = end.sent; moved = end.moved; places = end.places; holds = end.holds end.held };
+      step = record { played = end.played; steady = end.steady; sent = end.sent; becomes = end.left; places = end.places; holds = end.holds end.held };
       part = part;
       within = end.put.1;
       bytes = put_then first before after (concat come.lines) (take part (event_line event new.machine)) come.bytes end.put.2;
@@ -97,7 +99,7 @@ events_end old mid new all events event first before after PortFault split come 
   next = new.machine;
   played = end.played;
   lost = end.sent;
-  moved = end.moved;
+  short = end.left;
   place = end.places;
   bytes = end.put ∙ come.bytes;
 }
@@ -112,22 +114,23 @@ all_handed_in counts ports =
     ∙ (ap (λ l. l ++ rest) (sym (take-add counts.serving counts.spares ports)) ∙ take-append-drop (counts.serving + counts.spares) ports))
 
 -- a job's end, seen from the ports that were handed in
-pub play_end : (counts : PortCounts) (m : MachineValue) (events : List EventValue) (before after : Option (List ℕ)) (old new : List PortSeen) (bank : BankSeen) (result : Result Unit StepErr) → new ≡ all_ports bank →
-    RunEnd m events (bank_of counts old) before after bank result → (files : Option Files) → IsPlayEnd counts m events (outside files before old) (outside files after new) result
-play_end counts m events before after old new bank (Ok done) are end files = record {
+pub play_end : (counts : PortCounts) (m : MachineValue) (events : List EventValue) (before after : SinkSeen) (old new : List PortSeen) (bank : BankSeen) (result : Result Unit StepErr) → new ≡ all_ports bank →
+    RunEnd m events (bank_of counts old) before.bytes after.bytes bank result → (result ≡ Err WriteFault → Rose before.faults after.faults) → (shelf : ShelfSeen) → IsPlayEnd counts m events (outside shelf before old) (outside shelf after new) result
+play_end counts m events before after old new bank (Ok done) are end cause shelf = record {
   lines = end.rest.lines;
   stage = end.rest.stage;
   come = record { loaded = end.loaded; load = end.load; steps = end.rest.steps };
-  bytes = put_then before end.headed after (machine_header m) (concat end.rest.lines) end.header end.rest.bytes;
+  bytes = put_then before.bytes end.headed after.bytes (machine_header m) (concat end.rest.lines) end.header end.rest.bytes;
   ports = are ∙ ap all_ports end.rest.bank;
 }
-play_end counts m events before after old new bank (Err WriteFault) are (inl cut) files = inl (record {
+play_end counts m events before after old new bank (Err WriteFault) are (inl cut) cause shelf = inl (record {
   part = cut.part;
   within = cut.within;
   bytes = cut.bytes;
+  cause = cause refl;
   ports = are ∙ (ap all_ports cut.bank ∙ all_handed_in counts old);
 })
-play_end counts m events before after old new bank (Err WriteFault) are (inr end) files =
+play_end counts m events before after old new bank (Err WriteFault) are (inr end) cause shelf =
     let cut = end.rest in
     let part = take cut.part (event_line cut.event cut.stage.machine) in
     inr (record {
@@ -141,12 +144,13 @@ play_end counts m events before after old new bank (Err WriteFault) are (inr end
       step = cut.step;
       part = cut.part;
       within = cut.within;
-      bytes = put_then before end.headed after (machine_header m) (concat cut.lines ++ part) end.header cut.bytes
-          ∙ ap (λ l. extended before l) (sym (append_assoc (machine_header m) (concat cut.lines) part));
+      bytes = put_then before.bytes end.headed after.bytes (machine_header m) (concat cut.lines ++ part) end.header cut.bytes
+          ∙ ap (λ l. extended before.bytes l) (sym (append_assoc (machine_header m) (concat cut.lines) part));
+      cause = cause refl;
       ports = are ∙ ap all_ports cut.bank;
     })
-play_end counts m events before after old new bank (Err PortFault) are (inl lost) files = inl (record { bank = bank; load = lost.load; place = lost.place; bytes = lost.bytes; ports = are })
-play_end counts m events before after old new bank (Err PortFault) are (inr end) files =
+play_end counts m events before after old new bank (Err PortFault) are (inl lost) cause shelf = inl (record { bank = bank; load = lost.load; place = lost.place; bytes = lost.bytes; ports = are })
+play_end counts m events before after old new bank (Err PortFault) are (inr end) cause shelf =
     let lost = end.rest in
     inr (record {
       before = lost.first;
@@ -160,6 +164,6 @@ play_end counts m events before after old new bank (Err PortFault) are (inr end)
       bank = bank;
       lost = lost.lost;
       place = lost.place;
-      bytes = put_then before end.headed after (machine_header m) (concat lost.lines) end.header lost.bytes;
+      bytes = put_then before.bytes end.headed after.bytes (machine_header m) (concat lost.lines) end.header lost.bytes;
       ports = are;
     })

@@ -23,6 +23,7 @@ source_part words told = record {
   read = is_read;
   word = same_word;
   given = λ f n h. h;
+  files = λ files told. told;
   reaches = λ files told f h reached. reached;
   refused = λ files told f r refused. job.IsRefused.source refused;
   settled = λ files told f r settled refused. record { source = settled; script = λ source template past. absurd (source_or_not files words.source settled source template f r past refused) };
@@ -56,6 +57,7 @@ module _ (words : RunWords) (source : Source) (template : TemplateValue) where
     read = is_read;
     word = same_word;
     given = λ f n h. h;
+    files = λ files told. told;
     reaches = λ files told f h reached. reaches files f h (comes files told).0;
     refused = λ files told f r refused. job.IsRefused.script source template (comes files told).0 refused;
     settled = λ files told f r settled refused. record { source = (comes files told).1; script = names_settled files (comes files told).0 (comes files told).1 settled };

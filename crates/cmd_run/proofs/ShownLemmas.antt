@@ -1,8 +1,7 @@
 -- The events of a script without upsets show the source circuit.
-use Rattle.std.proofs.Common.{◌≡◌, ℕ, Bool, false, cond, List, [], ◌∷◌, length, map, filter, Ok, refl, sym, ap, ◌∙◌, subst}
+use Rattle.std.proofs.Common.{◌≡◌, ℕ, Bool, false, cond, List, [], ◌∷◌, length, map, filter, Ok, refl, sym, ap, ◌∙◌, subst, inl, inr}
 use Rattle.std.specs.List.{range_with_len}
 use Rattle.list_laws.specs.Members.{In}
-use Rattle.list_laws.proofs.Members.{In-left, In-pushed}
 use Rattle.tl_io.specs.Assigns.{assigned}
 use Rattle.tl_io.specs.Port.{PortSeen}
 use Rattle.tl_io.specs.declared.Write.{Write}
@@ -24,7 +23,7 @@ use Rattle.cmd_stations.specs.SourceCircuit.{shape_of}
 use Rattle.cmd_stations.specs.Tunable.{IsTunable}
 use Rattle.cmd_run.specs.Run.Headline.{IsNoUpset, Shown, Shows, ShowsSet, ShowsCycle, ShowsScrub, ShowsImage, ShowAll, none, more}
 use Rattle.cmd_stations.specs.Machine.{Stage, IsStep, AreSteps, none as no_step, more as one_more}
-use Rattle.cmd_run.proofs.KeptLemmas.{IsKept, same_config, cycle_is, step_keeps}
+use Rattle.cmd_run.proofs.KeptLemmas.{IsKept, same_config, plays_tables, cycle_is, step_keeps}
 
 -- where nothing passes a test, nothing is left
 filter_none : {A : Type 0} (test : A → Bool) (xs : List A) → ((x : A) → test x ≡ false) → filter test xs ≡ []
@@ -76,7 +75,7 @@ module _ (source : Source) (template : TemplateValue) (pack : PackValue) (tunabl
       (subst (λ (q : PackValue). IsConf q old.machine.host.state.params config) same is) kept.right
 
   shows_set : (assigns : _) (old new : Stage) → IsHere old → IsHere new → IsStep (Set assigns) old new
-      → ShowsSet source tunable.graph template.luts (assigned old.machine.host.state.params assigns) (shown_of old) (event_line (Set assigns) new.machine) (shown_of new)
+      → ShowsSet source tunable.graph template (assigned old.machine.host.state.params assigns) (shown_of old) (event_line (Set assigns) new.machine) (shown_of new)
   shows_set assigns old new kept later step =
       let set = step.played.host.is in
       let to_is : set.to ≡ new.machine.host.state.config = is_config new old.machine.host.pack set.to later kept.pack_is set.after in
@@ -92,16 +91,19 @@ module _ (source : Source) (template : TemplateValue) (pack : PackValue) (tunabl
       }
 
   shows_cycle : (values : List Bool) (old new : Stage) → FitsShape (shape_of source) (Cycle values) → IsHere old → IsStep (Cycle values) old new
-      → ShowsCycle source tunable.graph template.luts values (shown_of old) (event_line (Cycle values) new.machine) (shown_of new)
+      → ShowsCycle source tunable.graph template values (shown_of old) (event_line (Cycle values) new.machine) (shown_of new)
   shows_cycle values old new fits kept step = record {
     outputs = new.machine.sim.outputs;
+    config = old.machine.host.state.config;
+    is = tunable.configurations.is old.machine.host.state.params old.machine.host.state.config kept.params kept.right;
+    plays = plays_tables source template pack tunable values old new kept step;
     cycle = cycle_is source template pack tunable values old new fits kept step;
     line_is = refl;
     params = ap (λ (h : SpecialiserValue). h.state.params) step.played.host.is;
     bank = step.sent;
   }
 
-  shows_scrub : (old new : Stage) → IsHere old → IsStep Scrub old new → ShowsScrub source tunable.graph template.luts (shown_of old) (event_line Scrub new.machine) (shown_of new)
+  shows_scrub : (old new : Stage) → IsHere old → IsStep Scrub old new → ShowsScrub source tunable.graph template (shown_of old) (event_line Scrub new.machine) (shown_of new)
   shows_scrub old new kept step =
       let scrub = step.played.host.is in
       let right_is : scrub.right ≡ old.machine.host.state.config = is_config old old.machine.host.pack scrub.right kept kept.pack_is scrub.conf in
@@ -113,7 +115,7 @@ module _ (source : Source) (template : TemplateValue) (pack : PackValue) (tunabl
             (none_played new.machine.host.state.config old.bank new.bank (subst (λ (ws : List Write). Plays new.machine.host.state.config ws old.bank new.bank (Ok tt)) nothing step.sent));
       }
 
-  shows_image : (old new : Stage) → IsHere old → IsStep Image old new → ShowsImage source tunable.graph template.luts (shown_of old) (event_line Image new.machine) (shown_of new)
+  shows_image : (old new : Stage) → IsHere old → IsStep Image old new → ShowsImage source tunable.graph template (shown_of old) (event_line Image new.machine) (shown_of new)
   shows_image old new kept step = record {
     config = old.machine.host.state.config;
     is = tunable.configurations.is old.machine.host.state.params old.machine.host.state.config kept.params kept.right;
@@ -122,7 +124,7 @@ module _ (source : Source) (template : TemplateValue) (pack : PackValue) (tunabl
   }
 
   shows : (event : EventValue) (old new : Stage) → IsNoUpset event → FitsShape (shape_of source) event → IsHere old → IsHere new → IsStep event old new
-      → Shows source tunable.graph template.luts event (shown_of old) (event_line event new.machine) (shown_of new)
+      → Shows source tunable.graph template event (shown_of old) (event_line event new.machine) (shown_of new)
   shows (Set assigns) old new calm fits kept later step = shows_set assigns old new kept later step
   shows (Cycle values) old new calm fits kept later step = shows_cycle values old new fits kept step
   shows (Upset address) old new calm fits kept later step = absurd calm
@@ -132,14 +134,14 @@ module _ (source : Source) (template : TemplateValue) (pack : PackValue) (tunabl
   -- all events of a script, from a stage on which no bit stands upset
   pub record AreShown (old : Stage) (events : List EventValue) (lines : List (List ℕ)) (new : Stage) : Type 0 where
     pub kept : IsHere new
-    pub all : ShowAll source tunable.graph template.luts (shown_of old) events lines (shown_of new)
+    pub all : ShowAll source tunable.graph template (shown_of old) events lines (shown_of new)
 
   pub all_shown : {old new : Stage} {events : List EventValue} {lines : List (List ℕ)} → IsHere old → AreSteps old events lines new → ((e : EventValue) → In events e → IsNoUpset e)
       → ((e : EventValue) → In events e → FitsShape (shape_of source) e) → AreShown old events lines new
   all_shown kept no_step calm fits = record { kept = kept; all = none }
-  all_shown kept (one_more {events = events} {mid = mid} {new = new} event steps step) calm fits =
-      let before = all_shown kept steps (λ e i. calm e (In-left events (event ∷ []) e i)) (λ e i. fits e (In-left events (event ∷ []) e i)) in
-      let calm_here = calm event (In-pushed events event) in
-      let fits_here = fits event (In-pushed events event) in
-      let later = step_keeps source template pack tunable event mid new calm_here fits_here before.kept step in
-      record { kept = later; all = more event (event_line event new.machine) before.all (shows event mid new calm_here fits_here before.kept later step) }
+  all_shown {old} kept (one_more event mid step rest) calm fits =
+      let calm_here = calm event (inl refl) in
+      let fits_here = fits event (inl refl) in
+      let here = step_keeps source template pack tunable event old mid calm_here fits_here kept step in
+      let later = all_shown here rest (λ e i. calm e (inr i)) (λ e i. fits e (inr i)) in
+      record { kept = later.kept; all = more event (event_line event mid.machine) (shown_of mid) (shows event old mid calm_here fits_here kept here step) later.all }

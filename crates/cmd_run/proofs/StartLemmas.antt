@@ -1,10 +1,9 @@
 -- The machine at the start: its latches have the inits of a source circuit that was read, and it can play each event that its script may name.
-use Rattle.std.proofs.Common.{◌≡◌, ℕ, ◌<◌, Bool, List, length, map, sym, ap, ◌∙◌, subst}
+use Rattle.std.proofs.Common.{◌≡◌, ℕ, ◌<◌, Bool, List, length, sym, ap, ◌∙◌, subst}
 use Rattle.std.proofs.lemmas.List.{length-map}
 use Rattle.list_laws.specs.Members.{In}
 use Rattle.tl_io.specs.Assigns.{AreAssigned}
 use Rattle.netlist.specs.FlatCycle.{flat_inits}
-use Rattle.netlist.specs.Runs.{inits_of}
 use Rattle.param_list.specs.declared.params.Param.{Param}
 use Rattle.run_text.specs.EventValue.{EventValue, Set, Cycle, Upset, Scrub, Image}
 use Rattle.run_text.specs.Fits.{Fits}
@@ -58,7 +57,7 @@ module _ (job : Job) (m : MachineValue) (start : IsStart job m) where
   start_params : length m.host.pack.params ≡ length job.source.params.list
   start_params = ap length start.pack.pack_is.params_are ∙ length-map job.source.params.list pack_param
 
-  start_bits : length m.host.pack.bits ≡ bits_of job.template.luts
+  pub start_bits : length m.host.pack.bits ≡ bits_of job.template.luts
   start_bits =
       let inits : List Bool = param_inits job.source.params.list in
       let lits : List ℕ = lits_of m.host.pack.bits in

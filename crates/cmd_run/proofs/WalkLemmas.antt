@@ -1,5 +1,5 @@
 -- The laws of the walk of `run`.
-use Rattle.std.proofs.Common.{◌≡◌, ℕ, subst}
+use Rattle.std.proofs.Common.{◌≡◌, subst}
 use Rattle.tl_fault.specs.RefusalValue.{RefusalValue}
 use Rattle.tl_io.specs.Shelf.{Files}
 use Rattle.cover_pick.specs.Template.{TemplateValue}
@@ -7,8 +7,7 @@ use Rattle.cmd_base.specs.declared.outcome.File.{File}
 use Rattle.cmd_stations.specs.declared.source.Source.{Source}
 use Rattle.cmd_stations.specs.Source.{HasMapped}
 use Rattle.cmd_stations.specs.Script.{names_of, IsScriptRefused}
-use Rattle.cmd_run.specs.declared.run.words.RunWords.{RunWords as RunWordsRead}
-use Rattle.cmd_run.specs.Run.Words.{RunWords, run_seen, IsInRange}
+use Rattle.cmd_run.specs.Run.Words.{RunWords}
 use Rattle.cmd_run.specs.Run.Job.{IsRefused, IsSettled}
 use Rattle.cmd_run.specs.Run.Job as job
 use Rattle.cmd_run.specs.Run.Verdict.{HasJob, run_walk}
@@ -40,9 +39,9 @@ module _ (files : Files) (words : RunWords) (settled : IsSettled files words) wh
   job_refused_once f e r s (job.IsRefused.script source template past one) (job.IsRefused.script again other_template has other) =
       events_refused_once files words.script (names_of again other_template.bits) f e r s (settled.script again other_template has) (refused_there source again template other_template f r past has one) other
 
-pub run_laws : (ports : ℕ) (words : RunWordsRead) → IsInRange ports words → HasLaws (run_walk (run_seen words))
-run_laws ports words range = record {
-  not_both = λ files settled has f r refused. job_or_not files (run_seen words) settled has f r refused;
-  one_refusal = λ files settled f e r s one other. job_refused_once files (run_seen words) settled f e r s one other;
-  shows = λ files old new done. run_headline files (run_seen words) old new range.least done;
+pub run_laws : (words : RunWords) → HasLaws (run_walk words)
+run_laws words = record {
+  not_both = λ files settled has f r refused. job_or_not files words settled has f r refused;
+  one_refusal = λ files settled f e r s one other. job_refused_once files words settled f e r s one other;
+  shows = λ files old new done. run_headline files words old new done;
 }

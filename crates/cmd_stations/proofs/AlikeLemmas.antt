@@ -1,6 +1,5 @@
 -- Hosts of packs with the same configurations put the same lines for the same events.
-use Rattle.std.proofs.Common.{◌≡◌, ℕ, ◌+◌, Bool, not, List, [], ◌∷◌, ◌++◌, length, get_or, refl, sym, ap, ◌∙◌, subst, arith}
-use Rattle.std.proofs.lemmas.List.{length_push}
+use Rattle.std.proofs.Common.{◌≡◌, ℕ, ◌+◌, Bool, not, List, [], ◌∷◌, length, get_or, drop, refl, sym, ap, ◌∙◌, subst, arith}
 use Rattle.tl_io.specs.declared.Assign.{Assign}
 use Rattle.tl_io.specs.declared.Write.{Write}
 use Rattle.tl_io.specs.Assigns.{assigned}
@@ -15,27 +14,11 @@ use Rattle.spec_core.specs.Differences.{config_bit, differences, write_of}
 use Rattle.spec_core.specs.Specialiser.{SpecialiserValue}
 use Rattle.spec_core.proofs.AssignLemmas.{length-assigned}
 use Rattle.cmd_stations.specs.Host.{AreHostSteps, none, more}
-use Rattle.cmd_stations.proofs.InputLemmas.{same_parts}
 
 -- packs with as many parameters, and a configuration of one is one of the other
 pub record AreAlike (p q : PackValue) : Type 0 where
   pub count : length p.params ≡ length q.params
   pub conf : (params config : List Bool) → length params ≡ length p.params → IsConf p params config → IsConf q params config
-
--- two lists that end alike
-same_push : {A : Type 0} (xs ys : List A) (x y : A) → xs ++ x ∷ [] ≡ ys ++ y ∷ [] → (xs ≡ ys) × (x ≡ y)
-same_push xs ys x y same =
-    let a : length (xs ++ x ∷ []) ≡ length xs + 1 = length_push xs x in
-    let b : length (ys ++ y ∷ []) ≡ length ys + 1 = length_push ys y in
-    let c : length (xs ++ x ∷ []) ≡ length (ys ++ y ∷ []) = ap length same in
-    let parts = same_parts xs ys (x ∷ []) (y ∷ []) (omega arith) same in
-    (parts.0, ap (λ l. get_or l 0 x) parts.1)
-
-ends_not : {A : Type 0} (xs : List A) (x : A) → xs ++ x ∷ [] ≡ [] → ⊥
-ends_not xs x e =
-    let a : length (xs ++ x ∷ []) ≡ length xs + 1 = length_push xs x in
-    let b : length (xs ++ x ∷ []) ≡ 0 = ap length e in
-    omega arith
 
 module _ (p q : PackValue) (alike : AreAlike p q) (one : (given : List Bool) → length given ≡ length q.params → HasOneConf q given) where
   -- hosts of the two packs in the same state
@@ -116,19 +99,17 @@ module _ (p q : PackValue) (alike : AreAlike p q) (one : (given : List Bool) →
     pub lines_are : lines ≡ others
     pub stand : StandAlike h k
 
-  next_line : (lines others : List (List ℕ)) (a b : List ℕ) → lines ≡ others → a ≡ b → lines ++ a ∷ [] ≡ others ++ b ∷ []
-  next_line lines others a b same line = ap (λ (ls : List (List ℕ)). ls ++ a ∷ []) same ∙ ap (λ (l : List ℕ). others ++ l ∷ []) line
-
   pub come_alike : {h k new last : SpecialiserValue} {events others : List EventValue} {lines other_lines : List (List ℕ)} → StandAlike h k → AreHostSteps h events lines new → AreHostSteps k others other_lines last → events ≡ others
       → ComeAlike lines other_lines new last
   come_alike stand none none same = record { lines_are = refl; stand = stand }
-  come_alike stand none (more {events = before} event steps step) same = absurd (ends_not before event (sym same))
-  come_alike stand (more {events = before} event steps step) none same = absurd (ends_not before event same)
-  come_alike stand (more {events = first} {lines = lines} {mid = mid} {new = new} event steps step) (more {events = second} {lines = others} {mid = mid2} {new = last} other steps2 step2) same =
-      let parts = same_push first second event other same in
-      let before = come_alike stand steps steps2 parts.0 in
-      let next = play_alike mid mid2 new last before.stand event step.of_host step.played (subst (λ e. IsHostPlayed e mid2 last) (sym parts.1) step2.played) in
+  come_alike stand none (more {events = others} other mid2 step2 rest2) same = absurd (let count : length {A = EventValue} [] ≡ length (other ∷ others) = ap length same in omega (arith, count))
+  come_alike stand (more {events = events} event mid step rest) none same = absurd (let count : length (event ∷ events) ≡ length {A = EventValue} [] = ap length same in omega (arith, count))
+  come_alike {h} {k} stand (more {events = events} {lines = lines} event mid step rest) (more {events = others} {lines = other_lines} other mid2 step2 rest2) same =
+      let event_is : event ≡ other = ap (λ (es : List EventValue). get_or es 0 event) same in
+      let events_are : events ≡ others = ap (drop 1) same in
+      let next = play_alike h k mid mid2 stand event step.of_host step.played (subst (λ e. IsHostPlayed e k mid2) (sym event_is) step2.played) in
+      let later = come_alike next.stand rest rest2 events_are in
       record {
-        lines_are = next_line lines others (host_line event new) (host_line other last) before.lines_are (next.line ∙ ap (λ e. host_line e last) parts.1);
-        stand = next.stand;
+        lines_are = ap (λ (ls : List (List ℕ)). host_line event mid ∷ ls) later.lines_are ∙ ap (λ (line : List ℕ). line ∷ other_lines) (next.line ∙ ap (λ e. host_line e mid2) event_is);
+        stand = later.stand;
       }

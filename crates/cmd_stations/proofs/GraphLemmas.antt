@@ -12,6 +12,7 @@ use Rattle.cut_enum.specs.Table.{AreRows}
 use Rattle.cut_enum.specs.Refusals.{refusal_of as cut_refusal}
 use Rattle.cut_enum.specs.declared.table.CutErr.{CutErr}
 use Rattle.depth_label.specs.Label.{LabelsValue, label_of, AreLabelled, HasOneLabelling}
+use Rattle.cover_pick.specs.Mapping.{IsMapping, IsLeast}
 use Rattle.cover_pick.specs.Template.{TemplateValue, IsTemplate, IsTooMuch}
 use Rattle.cover_pick.specs.Work.{IsLight}
 use Rattle.cover_pick.specs.Refusals.{refusal_of as pick_refusal}
@@ -19,8 +20,11 @@ use Rattle.cover_pick.specs.declared.lut.PickErr.{PickErr}
 use Rattle.cover_pick.specs.declared.lut.PickErr.TheVariants as pick_err
 use Rattle.tl_fault.specs.RefusalValue.{RefusalValue}
 use Rattle.cmd_stations.specs.declared.source.Source.{Source}
-use Rattle.cmd_stations.specs.Mapped.{IsChosen, IsUnchosen, cuts, work, IsMapped, IsUnmappedGraph, IsUnmapped, too_many, unchosen}
+use Rattle.cmd_stations.specs.Mapped.{IsChosen, IsUnchosen, cuts, work, IsLeastMapping, IsMapped, IsUnmappedGraph, IsUnmapped, too_many, unchosen}
 use Rattle.cmd_stations.specs.Settled.{IsGraphSettled, IsMappingSettled}
+use Rattle.cmd_stations.specs.Tables.{AreMade, AreTables}
+use Rattle.cmd_stations.specs.declared.tables.Tables.{Tables}
+use Rattle.cmd_stations.proofs.LeastLemmas.{least_mapping}
 use Rattle.cmd_stations.proofs.InputLemmas.{same_parts}
 
 -- what the enumeration says of limits
@@ -35,6 +39,7 @@ module _ (g : Aig) (k : ℕ) (roots : RootsValue)
   -- A graph with too many cuts is settled.
   pub limit_settled : (e : CutErr) → IsLimit g k e → IsGraphSettled g k roots
   limit_settled e l = record {
+    maps = λ t c. absurd (excluded e c.rows l c.labelled.rows_are);
     one_template = λ t u c d. absurd (excluded e c.rows l c.labelled.rows_are);
     not_both = λ t r c u. excluded e c.rows l c.labelled.rows_are;
     one_refusal = λ r s u v. limit_refused e r s l u v;
@@ -45,7 +50,9 @@ module _ (g : Aig) (k : ℕ) (roots : RootsValue)
       (one_table : (some other : List (List (List ℕ))) → AreRows g k (node_count g) some → AreRows g k (node_count g) other → some ≡ other)
       (labels : LabelsValue) (labelled : AreLabelled g rows labels) (one : HasOneLabelling g rows)
       (same_template : (t u : TemplateValue) → IsTemplate g rows (label_of labels) roots t → IsTemplate g rows (label_of labels) roots u → t ≡ u)
-      (apart : (t : TemplateValue) → IsTemplate g rows (label_of labels) roots t → IsLight g t.luts → IsTooMuch g rows (label_of labels) (roots_of roots) → ⊥) where
+      (apart : (t : TemplateValue) → IsTemplate g rows (label_of labels) roots t → IsLight g t.luts → IsTooMuch g rows (label_of labels) (roots_of roots) → ⊥)
+      (big : 2 ≤ k) (mapping : (t : TemplateValue) → IsTemplate g rows (label_of labels) roots t → IsMapping g k (roots_of roots) t.luts t.bits)
+      (least : (t : TemplateValue) → IsTemplate g rows (label_of labels) roots t → IsLeast g k (roots_of roots) t.luts t.depth) where
     labels_here : (other : LabelsValue) → AreLabelled g rows other → label_of other ≡ label_of labels
     labels_here other w = fun_ext (λ n. one.once other labels w labelled n)
 
@@ -62,6 +69,7 @@ module _ (g : Aig) (k : ℕ) (roots : RootsValue)
     -- A graph with a table is settled.
     pub table_settled : IsGraphSettled g k roots
     table_settled = record {
+      maps = λ t c. least_mapping g k roots t big (mapping t (chosen_here t c)) (least t (chosen_here t c));
       one_template = λ t u c d. same_template t u (chosen_here t c) (chosen_here u d);
       not_both = λ t r c u. chosen_or t r c.rows c.labels c.labelled.rows_are c.labelled.labels_are c.chosen c.light u;
       one_refusal = table_refused;
@@ -115,6 +123,7 @@ module _ (source : Source) (one : HasOneGraph source.netlist.library source.netl
   -- A source circuit with too many nodes is settled.
   pub full_settled : (k : ℕ) → HasTooManyNodes source.netlist.library source.netlist.flat source.params.list → IsMappingSettled source k
   full_settled k over = record {
+    maps = λ t m. absurd (few_or_many m.graph m.roots m.is_graph m.nodes over);
     one_template = λ t u m n. absurd (few_or_many m.graph m.roots m.is_graph m.nodes over);
     not_both = λ t r m u. few_or_many m.graph m.roots m.is_graph m.nodes over;
     one_refusal = once;
@@ -128,6 +137,9 @@ module _ (source : Source) (one : HasOneGraph source.netlist.library source.netl
   -- So is one whose graph is settled.
   pub mapping_settled : (k : ℕ) (g : Aig) (roots : RootsValue) → IsGraph g roots → length g.pairs ≤ MOST_NODES → IsGraphSettled g k roots → IsMappingSettled source k
   mapping_settled k g roots is few graph = record {
+    maps = λ t m.
+        subst (λ x. IsLeastMapping x k m.roots t) (same_graph g m.graph roots m.roots is m.is_graph)
+        (subst (λ x. IsLeastMapping g k x t) (same_roots g m.graph roots m.roots is m.is_graph) (graph.maps t (chosen_here m.graph m.roots t m.is_graph m.chosen)));
     one_template = λ t u m n. graph.one_template t u (chosen_here m.graph m.roots t m.is_graph m.chosen) (chosen_here n.graph n.roots u n.is_graph n.chosen);
     not_both = mapped_or;
     one_refusal = once;
@@ -147,3 +159,10 @@ module _ (source : Source) (one : HasOneGraph source.netlist.library source.netl
       once r s (too_many over e) other = absurd (few_or_many g roots is few over)
       once r s some (too_many over e) = absurd (few_or_many g roots is few over)
       once r s (unchosen u) (unchosen v) = graph.one_refusal r s (refused_here r u) (refused_here s v)
+
+-- tables by the template that was chosen
+pub tables_as : (source : Source) (k : ℕ) (t : Tables) (template : TemplateValue) → t.template ≡ template → (m : IsMapped source k template) → IsLeastMapping m.graph k m.roots template → AreMade source t → AreTables source k t
+tables_as source k t template same m least made =
+    let both : (mapped : IsMapped source k t.template) × IsLeastMapping mapped.graph k mapped.roots t.template =
+    subst (λ x. (mapped : IsMapped source k x) × IsLeastMapping mapped.graph k mapped.roots x) (sym same) (m, least) in
+    record { mapped = both.0; least = both.1; made = made }

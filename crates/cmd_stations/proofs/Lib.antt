@@ -2,23 +2,26 @@
 mod StopLemmas
 mod FileLemmas
 mod TextLemmas
+mod LengthLemmas
 pub mod OnceLemmas
 pub mod ClashLemmas
 pub mod RefusedLemmas
 pub mod StationLemmas
 -- of the graph and the tables of a source circuit,
+mod LeastLemmas
 pub mod GraphLemmas
 mod InputLemmas
 mod SourceLemmas
 pub mod ShowLemmas
 pub mod InitLemmas
 -- of what is written,
-pub mod WriteLemmas
+mod WriteLemmas
 pub mod WriteAllLemmas
 mod WrittenTableLemmas
 mod WrittenCycleLemmas
 -- and of packs and their hosts.
 pub mod EventLemmas
+pub mod StepLemmas
 pub mod PackLemmas
 mod AlikeLemmas
 pub mod ReplayLemmas

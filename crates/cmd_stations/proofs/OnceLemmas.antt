@@ -9,7 +9,7 @@ use Rattle.cmd_stations.specs.declared.source.Source.{Source}
 use Rattle.cmd_stations.specs.Words.{SourceWords}
 use Rattle.cmd_stations.specs.Texts.{IsNetlistText}
 use Rattle.cmd_stations.specs.Mapped.{IsMapped}
-use Rattle.cmd_stations.specs.Source.{HasNetlist, HasParams, HasSource, HasMapped}
+use Rattle.cmd_stations.specs.Source.{HasNetlist, HasParams, HasSource, HasMapped, IsLeastMapped}
 use Rattle.cmd_stations.specs.Settled.{IsNetlistSettled, AreParamsSettled, IsSourceSettled}
 use Rattle.cmd_stations.proofs.FileLemmas.{text_once}
 
@@ -38,3 +38,10 @@ settled_once files words a b settled x y = source_once files words a b settled.n
 pub template_once : (files : Files) (words : SourceWords) (a b : Source) (t u : TemplateValue) → IsSourceSettled files words → HasMapped files words a t → HasMapped files words b u → t ≡ u
 template_once files words a b t u settled x y =
     (settled.mapping b y.has).one_template t u (subst (λ s. IsMapped s words.k t) (settled_once files words a b settled x.has y.has) x.mapped) y.mapped
+
+-- a source circuit that files hold is sound, and its template maps it with the least depth
+pub least_mapped : (files : Files) (words : SourceWords) (source : Source) (template : TemplateValue) → IsSourceSettled files words → (has : HasMapped files words source template) → IsLeastMapped files words source template has
+least_mapped files words source template settled has = record {
+  sound = (settled.netlist has.has.netlist.text has.has.netlist.there).sound source.netlist has.has.netlist.is;
+  least = (settled.mapping source has.has).maps template has.mapped;
+}

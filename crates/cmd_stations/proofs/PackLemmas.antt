@@ -1,5 +1,5 @@
 -- The pack of a file: it is read or refused, for one reason, and the packs of one file are the same but for the room of their graphs.
-use Rattle.std.proofs.Common.{◌≡◌, ℕ, ◌≤◌, List, refl, sym, ap, ◌∙◌, subst}
+use Rattle.std.proofs.Common.{◌≡◌, ℕ, ◌≤◌, List, length, Some, refl, sym, ap, ◌∙◌, subst}
 use Rattle.std.proofs.lemmas.Option.{same_Some}
 use Rattle.tl_fault.specs.RefusalValue.{RefusalValue}
 use Rattle.tl_io.specs.Shelf.{Files, ShelfSeen}
@@ -20,8 +20,16 @@ use Rattle.cmd_stations.specs.declared.stop.Stop.TheVariants.{Refused, Memory}
 use Rattle.cmd_stations.specs.Texts.{HasBytes}
 use Rattle.cmd_stations.specs.Unread.{IsUnread}
 use Rattle.cmd_stations.specs.Unread as unread
-use Rattle.cmd_stations.specs.Packs.{HasPack, IsPackRefusal, IsPackRefused, IsPackSettled, pack_reading, pack_names}
+use Rattle.cmd_stations.specs.Packs.{HasPack, IsPackRefusal, IsPackRefused, IsPackSettled, pack_reading, names_by, pack_names}
 use Rattle.cmd_stations.specs.Packs as packs
+use Rattle.param_list.specs.Parameters.{param_names}
+use Rattle.lut_sim.specs.declared.shape.Shape.{Shape}
+use Rattle.cmd_stations.specs.declared.source.Source.{Source}
+use Rattle.cmd_stations.specs.declared.tables.Tables.{Tables}
+use Rattle.cmd_stations.specs.SourceCircuit.{width_of}
+use Rattle.cmd_stations.specs.Script.{names_of}
+use Rattle.cmd_stations.specs.Tables.{AreMade}
+use Rattle.cmd_stations.proofs.LengthLemmas.{pack_not_long}
 use Rattle.cmd_stations.proofs.FileLemmas.{text_once, short_or_long}
 
 -- bytes are read or refused, for one reason
@@ -56,6 +64,16 @@ same_names p q same =
     ap (λ (ps : List PackParam). let n : NamesValue = pack_names (record p { params = ps }) in n) same.params
     ∙ ap (λ (ls : List Lit). let n : NamesValue = pack_names (record p { params = q.params; bits = ls }) in n) same.bits
 
+-- the pack of a mapped source circuit has the names of its script
+abbrev names_with : List (List ℕ) → ℕ → ℕ → NamesValue
+names_with params width bits = record { params = params; width = Some width; bits = bits }
+
+pub made_names : (source : Source) (t : Tables) → AreMade source t → names_by t.pack (Some t.shape.regular) ≡ names_of source t.template.bits
+made_names source t made =
+    ap (λ params. names_with params t.shape.regular (length t.pack.bits)) made.names
+    ∙ ap (λ (s : Shape). names_with (param_names source.params.list) s.regular (length t.pack.bits)) made.shape
+    ∙ ap (names_with (param_names source.params.list) (width_of source)) made.bits
+
 -- what the station of a pack answers explains how a command ends there
 module _ (name : List ℕ) (old new : ShelfSeen) where
   pub bytes_settle : (files : Files) (bytes : List ℕ) → HasBytes (most_bytes file.Pack) files name bytes → HasOneReading bytes → IsPackSettled files name
@@ -76,6 +94,8 @@ module _ (name : List ℕ) (old new : ShelfSeen) where
       → Explains (pack_reading name) old new (outcome_at file.Pack s)
   pack_explains bytes (Refused r) g there one u = record {
     given = g;
+    is_read = tt;
+    not_long = pack_not_long bytes r u;
     is = λ files told. packs.IsPackRefused.bytes refl bytes (there files told) u;
     settled = λ files told. bytes_settle files bytes (there files told) one;
   }

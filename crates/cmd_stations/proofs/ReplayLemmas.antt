@@ -1,5 +1,5 @@
 -- Hosts that start on the same pack are alike, and a file is of one pack.
-use Rattle.std.proofs.Common.{◌≡◌, ℕ, Bool, List, length, Some, sym, ap, ◌∙◌, subst, inr, refl}
+use Rattle.std.proofs.Common.{◌≡◌, ℕ, Bool, List, length, map, Some, Ok, sym, ap, ◌∙◌, subst, inr, refl}
 use Rattle.std.specs.FinMap.{get}
 use Rattle.std.proofs.lemmas.List.{length-map}
 use Rattle.std.proofs.lemmas.Option.{same_Some}
@@ -14,8 +14,22 @@ use Rattle.ppc_pack.specs.Pack.{PackValue, IsConf, inits_of}
 use Rattle.ppc_file.specs.PackFile.{IsPackFile, AreSame}
 use Rattle.ppc_file.proofs.OneReading.{one_reading}
 use Rattle.spec_core.specs.Specialiser.{SpecialiserValue}
-use Rattle.cmd_stations.specs.Packs.{HasPack, present_bytes}
+use Rattle.cmd_stations.specs.Packs.{HasPack, pack_names, present_bytes}
 use Rattle.cmd_stations.specs.Host.{IsHostStart}
+use Rattle.cmd_stations.specs.Script.{names_of, HasScript}
+use Rattle.cmd_stations.specs.Source.{HasMapped}
+use Rattle.cmd_stations.specs.Mapped.{IsMapped}
+use Rattle.cmd_stations.specs.Tunable.{IsTunable}
+use Rattle.cmd_stations.specs.Words.{SourceWords}
+use Rattle.cmd_stations.specs.declared.source.Source.{Source}
+use Rattle.cmd_stations.proofs.ShowLemmas.{pack_param_names}
+use Rattle.cover_pick.specs.Template.{TemplateValue}
+use Rattle.run_text.specs.Each.{each_of}
+use Rattle.run_text.specs.EventValue.{EventValue}
+use Rattle.run_text.specs.NamesValue.{NamesValue}
+use Rattle.run_text.specs.ScriptText.{line_event}
+use Rattle.tl_text.specs.LineValue.{words_line}
+use Rattle.tl_text.specs.Lines.{lines_of}
 use Rattle.cmd_stations.specs.Replay.{SamePacksReplay}
 use Rattle.cmd_stations.proofs.AlikeLemmas.{AreAlike, StandAlike, same_conf, come_alike}
 
@@ -83,3 +97,35 @@ repacked bytes pack is = record { is_pack = is.is_pack; normal = is.normal; spel
 -- the pack of a file with these bytes
 pub pack_at : (files : Files) (name bytes : List ℕ) (p : PackValue) → get files name ≡ Some bytes → HasPack files name p → IsPackFile bytes p
 pack_at files name bytes p at has = subst (λ bs. IsPackFile bs p) (same_Some has.bytes bytes (sym has.there.is ∙ at)) has.is
+
+-- the same texts hold the same source circuit, mapped
+pub mapped_there : (first files : Files) (from to : SourceWords) (source : Source) (template : TemplateValue) → from.k ≡ to.k → get first from.netlist ≡ get files to.netlist → get first from.params ≡ get files to.params
+    → HasMapped first from source template → HasMapped files to source template
+mapped_there first files from to source template k netlist params has =
+    let n = has.has.netlist in
+    let p = has.has.params in
+    record {
+      has = record {
+        netlist = record { text = n.text; there = record { is = sym netlist ∙ n.there.is; short = n.there.short }; is = n.is };
+        params = record { text = p.text; there = record { is = sym params ∙ p.there.is; short = p.there.short }; is = p.is };
+      };
+      mapped = subst (λ k. IsMapped source k template) k has.mapped;
+    }
+
+-- a text has the same events wherever the same parameters may be named
+pub script_same : (first others : Files) (name other : List ℕ) (a b : NamesValue) (es fs : List EventValue) → get others other ≡ get first name → a.params ≡ b.params → HasScript first name a es → HasScript others other b fs → es ≡ fs
+script_same first others name other a b es fs same params x y =
+    let texts : x.text ≡ y.text = same_Some x.text y.text (sym x.there.is ∙ sym same ∙ y.there.is) in
+    let reads : lines_of x.text ≡ Ok y.is.lines = ap (λ text. lines_of text) texts ∙ y.is.lines_are in
+    let oks : Ok x.is.lines ≡ Ok y.is.lines = sym x.is.lines_are ∙ reads in
+    let lines : x.is.lines ≡ y.is.lines = cc in
+    same_Some es fs
+    (sym x.is.are.are
+    ∙ (ap (λ text. each_of (line_event a.params) (map (words_line text) x.is.lines)) texts
+    ∙ (ap (λ ls. each_of (line_event a.params) (map (words_line y.text) ls)) lines
+    ∙ (ap (λ ps. each_of (line_event ps) (map (words_line y.text) y.is.lines)) params ∙ y.is.are.are))))
+
+-- what a script may name by a source circuit's tables has the parameters of a pack of their bits
+pub params_same : (source : Source) (template : TemplateValue) (pack p : PackValue) → IsTunable source template pack → AreSame p pack → (names_of source template.bits).params ≡ (pack_names p).params
+params_same source template pack p tunable same =
+    sym (pack_param_names tunable.graph template.luts source.params.list pack tunable.pack_is) ∙ sym (ap (map (λ (q : PackParam). q.name)) same.params)

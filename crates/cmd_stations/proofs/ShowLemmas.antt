@@ -12,7 +12,8 @@ use Rattle.netlist.specs.declared.flat.OutPort.{OutPort}
 use Rattle.netlist.specs.FlatValue.{FlatValue}
 use Rattle.netlist.specs.Runs.{IsCycle}
 use Rattle.param_list.specs.declared.params.Param.{Param}
-use Rattle.param_list.specs.Parameters.{param_inits}
+use Rattle.ppc_pack.specs.declared.pack.PackParam.{PackParam}
+use Rattle.param_list.specs.Parameters.{param_names, param_inits}
 use Rattle.param_list.proofs.RegularLemmas.{is_split}
 use Rattle.aig_core.specs.declared.lit.Lit.{Lit}
 use Rattle.aig_core.specs.declared.lit.Pair.{Pair}
@@ -31,7 +32,7 @@ use Rattle.bit_fun.specs.Configuration.{IsMapped}
 use Rattle.bit_fun.specs.Lawful.{IsLawful}
 use Rattle.bit_fun.specs.PackLaw.{HasConfigurations}
 use Rattle.bit_fun.specs.PackOf.{pack_param, IsPackOf}
-use Rattle.bit_fun.proofs.PackLemmas.{pack_made}
+use Rattle.bit_fun.proofs.PackLemmas.{pack_made, params_len as pack_params}
 use Rattle.cmd_stations.specs.declared.source.Source.{Source}
 use Rattle.cmd_stations.specs.SourceCircuit.{width_of, shape_of}
 use Rattle.cmd_stations.specs.Tables.{HasTables, IsReadSource}
@@ -45,7 +46,7 @@ names_once source read = (is_split source.netlist.flat source.params.list read.n
 
 -- its tables map its graph
 pub tables_mapped : (source : Source) (g : Aig) (t : TemplateValue) → HasTables source g t → IsMapped g t.luts
-tables_mapped source g t h = record { k = h.k; roots = roots_of h.roots; bits = t.bits; mapping = h.chosen.mapping }
+tables_mapped source g t h = record { k = h.k; roots = roots_of h.roots; bits = t.bits; mapping = h.least.mapping }
 
 -- the template's outputs and next states are among the roots
 pub outputs_among : (source : Source) (g : Aig) (t : TemplateValue) (h : HasTables source g t) (l : ℕ) → In (lits_of t.outputs) l → In (roots_of h.roots) l
@@ -81,8 +82,8 @@ next_count source g t h =
     omega arith
 
 -- the pack of tables has the parameters of the list, and a bit of it for each bit of the template
-pub pack_params : (g : Aig) (luts : List Lut) (list : List Param) (pack : PackValue) → IsPackOf g luts list pack → length pack.params ≡ length list
-pack_params g luts list pack is = ap length is.params_are ∙ length-map list pack_param
+pub pack_param_names : (g : Aig) (luts : List Lut) (list : List Param) (pack : PackValue) → IsPackOf g luts list pack → map (λ (p : PackParam). p.name) pack.params ≡ param_names list
+pack_param_names g luts list pack is = ap (map (λ (p : PackParam). p.name)) is.params_are ∙ map-map (λ p. p.name) pack_param list
 
 pub pack_inits : (g : Aig) (luts : List Lut) (list : List Param) (pack : PackValue) → IsPackOf g luts list pack → inits_of pack.params ≡ param_inits list
 pack_inits g luts list pack is = ap inits_of is.params_are ∙ map-map (λ p. p.init) pack_param list
@@ -90,7 +91,7 @@ pack_inits g luts list pack is = ap inits_of is.params_are ∙ map-map (λ p. p.
 pub pack_bits : (source : Source) (g : Aig) (t : TemplateValue) (pack : PackValue) → HasTables source g t → IsPackOf g t.luts source.params.list pack → length pack.bits ≡ t.bits
 pack_bits source g t pack h is =
     let list = source.params.list in
-    ap length is.bits ∙ (pack_made g t.luts list (param_inits list) is.made (tables_mapped source g t h) (source_params source g h.is_graph.kinds) (length-map list (λ (p : Param). p.init)) is.makes).count ∙ sym h.chosen.mapping.sum
+    ap length is.bits ∙ (pack_made g t.luts list (param_inits list) is.made (tables_mapped source g t h) (source_params source g h.is_graph.kinds) (length-map list (λ (p : Param). p.init)) is.makes).count ∙ sym h.least.mapping.sum
 
 -- a cycle of the tables is the source circuit's, under any values of the parameters
 module _ (source : Source) (read : IsReadSource source) (g : Aig) (normal : AreNormal (first_and g) g.pairs) (t : TemplateValue) (h : HasTables source g t) where

@@ -26,6 +26,7 @@ use Rattle.cmd_stations.specs.Unread.{IsUnread}
 use Rattle.cmd_stations.specs.Unread as unread
 use Rattle.cmd_stations.proofs.FileLemmas.{text_once, short_or_long}
 use Rattle.cmd_stations.proofs.TextLemmas.{params_or_refused}
+use Rattle.cmd_stations.proofs.LengthLemmas.{netlist_not_long, params_not_long, unmapped_not_long, script_not_long}
 use Rattle.cmd_stations.proofs.OnceLemmas.{netlist_once, source_once}
 
 -- what a text settles, and what is refused, settles what the walk comes to
@@ -92,6 +93,8 @@ module _ (words : SourceWords) (old new : ShelfSeen) where
       → Explains (source_reading words) old new (outcome_at file.Netlist s)
   netlist_explains text (Refused r) g there u settled = record {
     given = g;
+    is_read = tt;
+    not_long = netlist_not_long text r u;
     is = λ files told. netlist refl text (there files told) u;
     settled = λ files told. netlist_settles files words text r (there files told) settled u;
   }
@@ -113,6 +116,8 @@ module _ (words : SourceWords) (old new : ShelfSeen) where
         → Explains (source_reading words) old new (outcome_at file.Params s)
     params_explains text (Refused r) g there one u = record {
       given = g;
+      is_read = tt;
+      not_long = params_not_long n.flat text r u;
       is = λ files told. params refl n text (comes files told).netlist (there files told) u;
       settled = λ files told. params_settles files words n text r (comes files told) (there files told) one u;
     }
@@ -122,6 +127,8 @@ module _ (words : SourceWords) (old new : ShelfSeen) where
       → Explains (source_reading words) old new (outcome_at file.Netlist s)
   map_explains source (Refused r) g comes u settled = record {
     given = g;
+    is_read = tt;
+    not_long = unmapped_not_long source words.k r u;
     is = λ files told. mapping refl source (comes files told).has u;
     settled = λ files told. mapping_settles files words source (comes files told) settled;
   }
@@ -147,6 +154,8 @@ module _ (name : List ℕ) (names : NamesValue) (old new : ShelfSeen) where
       → Explains (script_reading name names) old new (outcome_at file.Script s)
   script_explains text (Refused r) g there one u = record {
     given = g;
+    is_read = tt;
+    not_long = script_not_long names text r u;
     is = λ files told. script.IsScriptRefused.text refl text (there files told) u;
     settled = λ files told. events_settle files text (there files told) one;
   }

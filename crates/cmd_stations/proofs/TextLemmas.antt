@@ -26,7 +26,7 @@ use Rattle.run_text.specs.ScriptRefusals.{refusal_of as script_refusal}
 use Rattle.tl_fault.specs.RefusalValue.{RefusalValue}
 use Rattle.cmd_stations.specs.declared.netlist_text.Netlist.{Netlist}
 use Rattle.cmd_stations.specs.Settled.{IsTextSettled}
-use Rattle.cmd_stations.specs.Texts.{IsFlattened, IsNetlistText, NetlistRefusal, IsParamsRefusal, IsScriptRefusal}
+use Rattle.cmd_stations.specs.Texts.{IsNetlistText, NetlistRefusal, IsParamsRefusal, IsScriptRefusal}
 use Rattle.cmd_stations.specs.Texts as texts
 
 -- a text with a refusal denotes no library
@@ -43,6 +43,7 @@ fault_refused text e r s one h (texts.NetlistRefusal.unsound library d den f is)
 -- A text that is refused itself is settled.
 pub fault_settled : (text : List ℕ) (e : BlifErr) → HasOneReading text → read_fault text ≡ Some e → IsTextSettled text
 fault_settled text e one h = record {
+  sound = λ n a. absurd (fault_alone text e n.library one h a.denotes);
   one_netlist = λ n m a b. absurd (fault_alone text e n.library one h a.denotes);
   not_both = λ n r a refused. fault_alone text e n.library one h a.denotes;
   one_refusal = λ r s refused other. fault_refused text e r s one h refused other;
@@ -50,7 +51,7 @@ fault_settled text e one h = record {
 
 -- the netlist of a text
 module _ (text : List ℕ) (library : LibraryValue) (one : HasOneReading text) (denotes : Denotes text library) (flat : HasOneFault library)
-    (circuit : IsSound library → HasOneFlat library) where
+    (circuit : IsSound library → HasOneFlat library) (sound : ((fault : FlatErr) → ¬ (IsFault library fault)) → IsSound library) where
   -- every library of the text is this one
   here : (other : LibraryValue) → Denotes text other → other ≡ library
   here other d = one.once other library d denotes
@@ -62,12 +63,16 @@ module _ (text : List ℕ) (library : LibraryValue) (one : HasOneReading text) (
   fault_here other e d f = subst (λ l. IsFault l e) (here other d) f
 
   -- what flattens isn't refused
-  flattened_or_not : (other : LibraryValue) (e : FlatErr) → Denotes text other → IsFlattened other → IsFault library e → ⊥
-  flattened_or_not other e d f fault = f.clean e (subst (λ l. IsFault l e) (sym (here other d)) fault)
+  clean_or_not : (other : LibraryValue) (e : FlatErr) → Denotes text other → ((fault : FlatErr) → ¬ (IsFault other fault)) → IsFault library e → ⊥
+  clean_or_not other e d clean fault = clean e (subst (λ l. IsFault l e) (sym (here other d)) fault)
+
+  -- and is sound
+  sound_here : (n : Netlist) → IsNetlistText text n → IsSound library
+  sound_here n a = sound (λ e fault. clean_or_not n.library e a.denotes a.clean fault)
 
   netlist_or_not : (n : Netlist) (r : RefusalValue) → IsNetlistText text n → NetlistRefusal text r → ⊥
   netlist_or_not n r a (texts.NetlistRefusal.fault e f is) = no_fault e f
-  netlist_or_not n r a (texts.NetlistRefusal.unsound other e d f is) = flattened_or_not n.library e a.denotes a.flattens (fault_here other e d f)
+  netlist_or_not n r a (texts.NetlistRefusal.unsound other e d f is) = clean_or_not n.library e a.denotes a.clean (fault_here other e d f)
 
   netlist_refused : (r s : RefusalValue) → NetlistRefusal text r → NetlistRefusal text s → r ≡ s
   netlist_refused r s (texts.NetlistRefusal.fault e f is) other = absurd (no_fault e f)
@@ -80,12 +85,13 @@ module _ (text : List ℕ) (library : LibraryValue) (one : HasOneReading text) (
   one_circuit n m a b =
       let first : n.library ≡ library = here n.library a.denotes in
       let second : m.library ≡ library = here m.library b.denotes in
-      let flats : n.flat ≡ m.flat = (circuit (subst (λ l. IsSound l) first a.flattens.sound)).only n.flat m.flat (subst (λ l. IsFlat l n.flat) first a.flat) (subst (λ l. IsFlat l m.flat) second b.flat) in
+      let flats : n.flat ≡ m.flat = (circuit (sound_here n a)).only n.flat m.flat (subst (λ l. IsFlat l n.flat) first a.flat) (subst (λ l. IsFlat l m.flat) second b.flat) in
       ap (λ l. record { library = l; flat = n.flat }) (first ∙ sym second) ∙ ap (λ f. record { library = m.library; flat = f }) flats
 
   -- A text that denotes a library is settled.
   pub library_settled : IsTextSettled text
   library_settled = record {
+    sound = λ n a. subst (λ l. IsSound l) (sym (here n.library a.denotes)) (sound_here n a);
     one_netlist = one_circuit;
     not_both = netlist_or_not;
     one_refusal = netlist_refused;

@@ -1,5 +1,5 @@
 -- The written netlists of a source circuit mean the source circuit: read again, their cycles and their runs are its own.
-use Rattle.std.proofs.Common.{◌≡◌, ℕ, Bool, List, length, map, sym, ap, ◌∙◌}
+use Rattle.std.proofs.Common.{◌≡◌, ℕ, Bool, List, [], ◌++◌, length, map, sym, ap, ◌∙◌, append-nil}
 use Rattle.std.proofs.lemmas.List.{length-map}
 use Rattle.blif_read.specs.Denotes.{Denotes}
 use Rattle.netlist.specs.LibraryValue.{LibraryValue}
@@ -17,7 +17,7 @@ use Rattle.cover_pick.specs.Template.{TemplateValue}
 use Rattle.ppc_pack.specs.Pack.{IsConf}
 use Rattle.lut_sim.specs.Cycle.{IsTableCycle}
 use Rattle.lut_sim.proofs.FitLemmas.{cycle_only}
-use Rattle.blif_write.specs.Meaning.{Means, input_bits}
+use Rattle.blif_write.specs.Meaning.{Means, free_control, all_bit_names, input_bits}
 use Rattle.blif_write.specs.OwnNames.{naming_of}
 use Rattle.blif_write.specs.PlainNetlist.{PlainNetlist, netlist_text, library_of}
 use Rattle.blif_write.proofs.MeaningLemmas.{specialised_denotes, template_denotes, specialised_means, template_means}
@@ -61,7 +61,7 @@ module _ (source : Source) (read : IsReadSource source) (tables : Tables) (made 
   starts_many states is = ap (λ (bs : List Bool). length bs) is ∙ length-map flat.latches (λ (l : FlatLatch). l.init)
 
   -- a netlist whose tables have a configuration of values of the parameters
-  module _ (given config : List Bool) (len : length given ≡ length params) (conf : IsConf tables.pack given config) (n : PlainNetlist) (means : Means flat params template n (λ x. config)) where
+  module _ (given config : List Bool) (len : length given ≡ length params) (conf : IsConf tables.pack given config) (n : PlainNetlist) (means : Means flat params template n [] (λ x. config)) where
     table_cycle : (x : List ℕ → Bool) (states outputs next : List Bool) → IsCycle (library_of n) x states outputs next → IsTableCycle template (shape_of source) config (regular_values source x) states outputs next
     table_cycle x states outputs next c = means.cycles x states outputs next c
 
@@ -77,6 +77,8 @@ module _ (source : Source) (read : IsReadSource source) (tables : Tables) (made 
     runs_as denotes = record {
       denotes = denotes;
       sound = means.sound;
+      inputs = λ again h. means.inputs again h ∙ ap (λ (names : List (List ℕ)). regular_names flat params ++ names) (append-nil (free_control flat.control));
+      has_run = means.has_run;
       runs = λ xs outputs states run.
           let starts : inits_of (library_of n) run.latches ≡ flat_inits flat = means.starts run.main run.latches run.are_latches in
           record {
@@ -96,10 +98,13 @@ module _ (source : Source) (read : IsReadSource source) (tables : Tables) (made 
   pub template_tuned : IsTuned source template tables.pack (template_of source template)
   template_tuned =
       let n : PlainNetlist = template_of source template in
-      let means : Means flat params template n (input_bits (naming_of flat params) template.bits) = template_means flat params template (has_ports source read) made.written in
+      let means : Means flat params template n (all_bit_names (naming_of flat params) template.bits) (input_bits (naming_of flat params) template.bits) = template_means flat params template (has_ports source read) made.written in
       record {
         denotes = template_denotes flat params template (has_ports source read) made.written;
         sound = means.sound;
+        inputs = means.inputs;
+        has_cycle = means.has_cycle;
+        has_run = means.has_run;
         cycles = λ given len x conf states outputs next c.
             let starts : inits_of (library_of n) c.latches ≡ flat_inits flat = means.starts c.main c.latches c.are_latches in
             let many : length states ≡ length flat.latches =

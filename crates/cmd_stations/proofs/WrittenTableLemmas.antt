@@ -7,7 +7,7 @@ use Rattle.std.proofs.lemmas.Bool.{and_from, or_left, le-leb}
 use Rattle.std.proofs.lemmas.List.Sums.{sum_by-cons}
 use Rattle.std.proofs.lemmas.Option.{none-some, same_Some, slice_get-map, slice_get_within, get_or_from_slice_get}
 use Rattle.list_laws.specs.Members.{In}
-use Rattle.list_laws.proofs.Members.{place_in}
+use Rattle.list_laws.proofs.Members.{place_in, length-filter_le}
 use Rattle.list_laws.proofs.Places.{get_left}
 use Rattle.tl_text.specs.Once.{AreOnce}
 use Rattle.netlist.specs.LibraryValue.{LibraryValue}
@@ -42,12 +42,12 @@ use Rattle.cover_pick.specs.Mapping.{IsTableOf, bits_of}
 use Rattle.cover_pick.specs.Mapping as mapping
 use Rattle.cover_pick.specs.Template.{TemplateValue}
 use Rattle.cover_pick.specs.Work.{IsTableWork, IsWork}
+use Rattle.cover_pick.proofs.BitsLemmas.{bits_worked}
 use Rattle.lut_sim.specs.Playable.{IsPlayable}
 use Rattle.lut_sim.specs.Sources.{is_regular, last_source}
 use Rattle.blif_write.specs.Meaning.{HasPorts, AreTablesOf}
 use Rattle.blif_write.specs.OwnNames.{naming_of, literal_name, latch_name}
 use Rattle.blif_write.specs.Writable.{CanBeNamed, AreRootsOf}
-use Rattle.blif_write.proofs.NameLemmas.{fewer}
 use Rattle.blif_write.proofs.OwnNameLemmas.{source_literal}
 use Rattle.blif_write.proofs.PortLemmas.{ports_there}
 use Rattle.cmd_stations.specs.declared.source.Source.{Source}
@@ -112,19 +112,6 @@ input_number flat at net name number places (flat_fields.IsNumbered.an_input oth
     record { place = j; is = is; at = subst (λ (ns : List (List ℕ)). slice_get ns j ≡ Some name) places (there ∙ ap (λ (n : List ℕ). Some n) names) }
 input_number flat at net name number places (flat_fields.IsNumbered.a_latch p j e there is) same = absurd (let wrong : ⊥ = cc in wrong)
 input_number flat at net name number places (flat_fields.IsNumbered.a_cover p j e there is) same = absurd (let wrong : ⊥ = cc in wrong)
-
--- tables have no more bits than work
-bits_worked : (g : Aig) (ts : List Lut) (work : ℕ) → IsWork g ts work → bits_of ts ≤ work
-bits_worked g [] work is = omega arith
-bits_worked g (t ∷ ts) work is =
-    let sum : bits_of (t ∷ ts) ≡ 2 ^ length t.leaves + bits_of ts = sum_by-cons (λ (u : Lut). 2 ^ length u.leaves) t ts in
-    let own : IsTableWork g t is.0 = is.2 in
-    let some : 0 < 1 + length own.cone = omega arith in
-    let first : 2 ^ length t.leaves ≤ 2 ^ length t.leaves * (1 + length own.cone) = le-mul_of_pos_right (2 ^ length t.leaves) some in
-    let here : is.0 ≡ 2 ^ length t.leaves * (1 + length own.cone) = own.work_is in
-    let rest : bits_of ts ≤ is.1 = bits_worked g ts is.1 is.3 in
-    let all : work ≡ is.0 + is.1 = is.4 in
-    omega (arith, sum, first, here, rest, all)
 
 module _ (source : Source) (read : IsReadSource source) where
   abbrev library : LibraryValue
@@ -215,7 +202,7 @@ module _ (source : Source) (read : IsReadSource source) where
     few_kinds : length g.kinds ≤ 8454143
     few_kinds =
         let kinds : length g.kinds ≡ length (regular_names flat params) + length params + length flat.latches = ap (λ (ks : List Kind). length ks) tables.is_graph.kinds ∙ three_count (width_of source) (length params) (length flat.latches) in
-        let regular : length (regular_names flat params) ≤ length flat.inputs = fewer _ flat.inputs in
+        let regular : length (regular_names flat params) ≤ length flat.inputs = length-filter_le _ flat.inputs in
         let inputs : length flat.inputs ≤ 4194304 = read.netlist.bounds.few_inputs in
         let latches : length flat.latches ≤ 4194304 = read.netlist.bounds.few_latches in
         let listed : length params ≤ 65535 = read.params.named.few in
@@ -230,14 +217,14 @@ module _ (source : Source) (read : IsReadSource source) where
 
     small : length g.pairs ≤ MOST_NODES → (u : Lut) → In t.luts u → u.lit.0 < 2 ^ 32
     small nodes u i =
-        let below : u.lit.0 / 2 < node_count g = small_node tables.k u (tables.chosen.mapping.table u i) in
+        let below : u.lit.0 / 2 < node_count g = small_node tables.k u (tables.least.mapping.table u i) in
         let kinds : length g.kinds ≤ 8454143 = few_kinds in
         let pairs : length g.pairs ≤ 131072 = nodes in
         omega (arith, below, kinds, pairs)
 
     few_bits : t.bits < 2 ^ 32
     few_bits =
-        let sum : t.bits ≡ bits_of t.luts = tables.chosen.mapping.sum in
+        let sum : t.bits ≡ bits_of t.luts = tables.least.mapping.sum in
         let worked : bits_of t.luts ≤ tables.chosen.light.work = bits_worked g t.luts tables.chosen.light.work tables.chosen.light.is in
         let light : tables.chosen.light.work ≤ 33554432 = tables.chosen.light.light in
         omega (arith, sum, worked, light)

@@ -1,5 +1,5 @@
 -- The host of a pack: at the start, and behind events.
-use Rattle.std.specs.Prelude.{◌≡◌, Bool, List, [], ◌∷◌, ◌++◌, ℕ, length}
+use Rattle.std.specs.Prelude.{◌≡◌, Bool, List, [], ◌∷◌, ℕ, length}
 use Rattle.ppc_pack.specs.Pack.{PackValue, IsConf, HasOneConf, inits_of}
 use Rattle.run_text.specs.EventValue.{EventValue}
 use Rattle.run_core.specs.Events.{IsHostPlayed, IsSteady}
@@ -21,7 +21,7 @@ pub record IsHostStep (event : EventValue) (old new : SpecialiserValue) : Type 0
   pub steady : IsSteady event old new
 
 -- some events one after the other, with their lines
-pub data AreHostSteps (old : SpecialiserValue) : List EventValue → List (List ℕ) → SpecialiserValue → Type 0 where
-  none : AreHostSteps old [] [] old
-  more : {events : List EventValue} {lines : List (List ℕ)} {mid new : SpecialiserValue} (event : EventValue) → AreHostSteps old events lines mid → IsHostStep event mid new
-      → AreHostSteps old (events ++ event ∷ []) (lines ++ host_line event new ∷ []) new
+pub data AreHostSteps : SpecialiserValue → List EventValue → List (List ℕ) → SpecialiserValue → Type 0 where
+  none : {old : SpecialiserValue} → AreHostSteps old [] [] old
+  more : {old new : SpecialiserValue} {events : List EventValue} {lines : List (List ℕ)} (event : EventValue) (mid : SpecialiserValue) → IsHostStep event old mid → AreHostSteps mid events lines new
+      → AreHostSteps old (event ∷ events) (host_line event mid ∷ lines) new

@@ -1,12 +1,12 @@
 -- The machine of a job with its ports: at the start, and behind events.
-use Rattle.std.specs.Prelude.{◌≡◌, ℕ, ◌+◌, Bool, List, [], ◌∷◌, ◌++◌, length, Ok}
+use Rattle.std.specs.Prelude.{◌≡◌, ℕ, ◌+◌, Bool, List, [], ◌∷◌, length, Ok}
 use Rattle.tl_io.specs.Writes.{writes_from}
 use Rattle.ppc_pack.specs.Pack.{IsConf, HasOneConf}
 use Rattle.run_text.specs.EventValue.{EventValue}
 use Rattle.param_list.specs.Parameters.{param_inits}
 use Rattle.port_bank.specs.Bank.{BankSeen}
 use Rattle.port_bank.specs.Image.{Holds}
-use Rattle.port_bank.specs.Moves.{MovesWithCause, KeepsPlaces}
+use Rattle.port_bank.specs.Moves.{Becomes, KeepsPlaces}
 use Rattle.port_bank.specs.Send.{Plays}
 use Rattle.run_core.specs.Events.{MachineValue, IsPlayed, IsSteady}
 use Rattle.run_core.specs.EventLines.{event_line}
@@ -46,7 +46,7 @@ pub record Stage : Type 0 where
 -- the whole configuration was written to the ports, and they hold it
 pub record IsLoaded (config : List Bool) (old new : BankSeen) : Type 0 where
   pub plays : Plays config (writes_from 0 config) old new (Ok tt)
-  pub moved : MovesWithCause old new
+  pub becomes : Becomes old new
   pub places : KeepsPlaces old new
   pub holds : Holds config new
 
@@ -55,15 +55,15 @@ pub record IsStep (event : EventValue) (old new : Stage) : Type 0 where
   pub played : IsPlayed event old.machine new.machine
   pub steady : IsSteady event old.machine.host new.machine.host
   pub sent : HasSent event new.machine.host old.bank new.bank
-  pub moved : MovesWithCause old.bank new.bank
+  pub becomes : Becomes old.bank new.bank
   pub places : KeepsPlaces old.bank new.bank
   pub holds : Holds new.machine.host.state.config new.bank
 
 -- some events one after the other, with their lines
-pub data AreSteps (old : Stage) : List EventValue → List (List ℕ) → Stage → Type 0 where
-  none : AreSteps old [] [] old
-  more : {events : List EventValue} {lines : List (List ℕ)} {mid new : Stage} (event : EventValue) → AreSteps old events lines mid → IsStep event mid new
-      → AreSteps old (events ++ event ∷ []) (lines ++ event_line event new.machine ∷ []) new
+pub data AreSteps : Stage → List EventValue → List (List ℕ) → Stage → Type 0 where
+  none : {old : Stage} → AreSteps old [] [] old
+  more : {old new : Stage} {events : List EventValue} {lines : List (List ℕ)} (event : EventValue) (mid : Stage) → IsStep event old mid → AreSteps mid events lines new
+      → AreSteps old (event ∷ events) (event_line event mid.machine ∷ lines) new
 
 -- the full load of the ports, and then some events
 pub record HasCome (m : MachineValue) (ports : BankSeen) (events : List EventValue) (lines : List (List ℕ)) (stage : Stage) : Type 0 where

@@ -6,11 +6,14 @@ use Rattle.aig_build.specs.NetlistGraph.{IsGraphOf, HasTooManyNodes}
 use Rattle.aig_build.specs.Refusals.{refusal_of as build_refusal}
 use Rattle.aig_core.specs.Aig.{Aig, node_count}
 use Rattle.aig_core.specs.Roots.{RootsValue, roots_of}
+use Rattle.list_laws.specs.Members.{In}
+use Rattle.cut_enum.specs.Cuts.{CanBeLeaf}
 use Rattle.cut_enum.specs.Table.{AreRows}
 use Rattle.cut_enum.specs.Limits.{IsLimit}
 use Rattle.cut_enum.specs.Refusals.{refusal_of as cut_refusal}
 use Rattle.cut_enum.specs.declared.table.CutErr.{CutErr}
 use Rattle.depth_label.specs.Label.{LabelsValue, AreLabelled, label_of}
+use Rattle.cover_pick.specs.declared.lut.Lut.{Lut}
 use Rattle.cover_pick.specs.Template.{TemplateValue, IsTemplate, IsTooMuch}
 use Rattle.cover_pick.specs.Mapping.{IsMapping, IsLeast}
 use Rattle.cover_pick.specs.Work.{IsLight}
@@ -25,15 +28,24 @@ pub record IsLabelled (g : Aig) (k : ℕ) (rows : List (List (List ℕ))) (label
   pub rows_are : AreRows g k (node_count g) rows
   pub labels_are : AreLabelled g rows labels
 
--- the chosen template of a graph: a mapping of it, of the least depth
+-- the chosen template of a graph, within the limit on its work
 pub record IsChosen (g : Aig) (k : ℕ) (roots : RootsValue) (t : TemplateValue) : Type 0 where
   pub rows : List (List (List ℕ))
   pub labels : LabelsValue
   pub labelled : IsLabelled g k rows labels
   pub chosen : IsTemplate g rows (label_of labels) roots t
-  pub mapping : IsMapping g k (roots_of roots) t.luts t.bits
-  pub least : IsLeast g k (roots_of roots) t.luts t.depth
   pub light : IsLight g t.luts
+
+-- at most k leaves, each a regular source or an AND node, and so none a parameter
+pub record HasFewLeaves (g : Aig) (k : ℕ) (t : Lut) : Type 0 where
+  pub few : length t.leaves ≤ k
+  pub each : (m : ℕ) → In t.leaves m → CanBeLeaf g m
+
+-- What is so of the chosen template: its tables map the graph with at most k inputs each, none of them a parameter, and their cuts are a cover of the least depth over all covers.
+pub record IsLeastMapping (g : Aig) (k : ℕ) (roots : RootsValue) (t : TemplateValue) : Type 0 where
+  pub mapping : IsMapping g k (roots_of roots) t.luts t.bits
+  pub small : (u : Lut) → In t.luts u → HasFewLeaves g k u
+  pub least : IsLeast g k (roots_of roots) t.luts t.depth
 
 -- its header line: how many tables there are, how many bits they have, and how deep they stand
 abbrev pub template_header : TemplateValue → List ℕ

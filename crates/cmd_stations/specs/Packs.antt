@@ -1,5 +1,5 @@
 -- The pack that a file holds.
-use Rattle.std.specs.Prelude.{◌≡◌, ℕ, ◌≤◌, List, [], length, map, None, Some}
+use Rattle.std.specs.Prelude.{◌≡◌, ℕ, ◌≤◌, List, [], length, map, Option, None, Some}
 use Rattle.tl_fault.specs.RefusalValue.{RefusalValue}
 use Rattle.tl_io.specs.Shelf.{Files}
 use Rattle.ppc_pack.specs.declared.pack.PackParam.{PackParam}
@@ -46,6 +46,7 @@ IsPackItself Pack = Unit {0}
 -- how it is read
 abbrev pub pack_reading : List ℕ → Reading
 pack_reading name = record {
+  HasFiles = λ told files. told ≡ Some files;
   IsRead = IsPackItself;
   word = λ file. name;
   last = Pack;
@@ -55,9 +56,13 @@ pack_reading name = record {
   IsSettled = λ files. IsPackSettled files name;
 }
 
--- what a script may name that is played on a pack alone: its clock doesn't tick
+-- what a script may name that is played on a pack, where the circuit has so many regular inputs
+abbrev pub names_by : PackValue → Option ℕ → NamesValue
+names_by pack width = record { params = map (λ (p : PackParam). p.name) pack.params; width = width; bits = length pack.bits }
+
+-- and on a pack alone: its clock doesn't tick
 abbrev pub pack_names : PackValue → NamesValue
-pack_names pack = record { params = map (λ (p : PackParam). p.name) pack.params; width = None; bits = length pack.bits }
+pack_names pack = names_by pack None
 
 -- the file of a pack, as it is written: in version 2
 abbrev pub present_bytes : PackValue → List ℕ

@@ -47,6 +47,7 @@ IsScriptFile Pack = ⊥
 -- how it is read
 abbrev pub script_reading : List ℕ → NamesValue → Reading
 script_reading name names = record {
+  HasFiles = λ told files. told ≡ Some files;
   IsRead = IsScriptFile;
   word = λ file. name;
   last = Script;

@@ -1,10 +1,11 @@
--- What the calls below say of a job: each of its files says one thing, or is refused for one reason.
-use Rattle.std.specs.Prelude.{◌≡◌, ℕ, ◌≤◌, List, []}
+-- What the calls below say of a job: each of its files says one thing, or is refused for one reason; a netlist that is read is sound, and a template that is chosen maps its graph with the least depth.
+use Rattle.std.specs.Prelude.{◌≡◌, ℕ, ◌≤◌, List, [], Some}
 use Rattle.tl_fault.specs.RefusalValue.{RefusalValue}
 use Rattle.tl_io.specs.Shelf.{Files}
 use Rattle.aig_core.specs.Aig.{Aig}
 use Rattle.aig_core.specs.Roots.{RootsValue}
 use Rattle.cover_pick.specs.Template.{TemplateValue}
+use Rattle.netlist.specs.Sound.{IsSound}
 use Rattle.param_list.specs.ParamsText.{HasOneReading}
 use Rattle.cmd_base.specs.Walk.{Reading}
 use Rattle.cmd_base.specs.Refusals.{most_bytes}
@@ -14,23 +15,26 @@ use Rattle.cmd_stations.specs.declared.netlist_text.Netlist.{Netlist as NetlistV
 use Rattle.cmd_stations.specs.declared.source.Source.{Source}
 use Rattle.cmd_stations.specs.Words.{SourceWords}
 use Rattle.cmd_stations.specs.Texts.{HasText, IsNetlistText, NetlistRefusal}
-use Rattle.cmd_stations.specs.Mapped.{IsChosen, IsUnchosen, IsMapped, IsUnmapped}
+use Rattle.cmd_stations.specs.Mapped.{IsChosen, IsUnchosen, IsLeastMapping, IsMapped, IsUnmapped}
 use Rattle.cmd_stations.specs.Source.{HasNetlist, HasSource, ReachesSource, IsSourceRefused}
 
 -- a netlist's text
 pub record IsTextSettled (text : List ℕ) : Type 0 where
+  pub sound : (n : NetlistValue) → IsNetlistText text n → IsSound n.library
   pub one_netlist : (n m : NetlistValue) → IsNetlistText text n → IsNetlistText text m → n ≡ m
   pub not_both : (n : NetlistValue) (r : RefusalValue) → IsNetlistText text n → NetlistRefusal text r → ⊥
   pub one_refusal : (r s : RefusalValue) → NetlistRefusal text r → NetlistRefusal text s → r ≡ s
 
 -- a graph that is mapped
 pub record IsGraphSettled (g : Aig) (k : ℕ) (roots : RootsValue) : Type 0 where
+  pub maps : (t : TemplateValue) → IsChosen g k roots t → IsLeastMapping g k roots t
   pub one_template : (t u : TemplateValue) → IsChosen g k roots t → IsChosen g k roots u → t ≡ u
   pub not_both : (t : TemplateValue) (r : RefusalValue) → IsChosen g k roots t → IsUnchosen g k roots r → ⊥
   pub one_refusal : (r s : RefusalValue) → IsUnchosen g k roots r → IsUnchosen g k roots s → r ≡ s
 
 -- a source circuit that is mapped
 pub record IsMappingSettled (source : Source) (k : ℕ) : Type 0 where
+  pub maps : (t : TemplateValue) (m : IsMapped source k t) → IsLeastMapping m.graph k m.roots t
   pub one_template : (t u : TemplateValue) → IsMapped source k t → IsMapped source k u → t ≡ u
   pub not_both : (t : TemplateValue) (r : RefusalValue) → IsMapped source k t → IsUnmapped source k r → ⊥
   pub one_refusal : (r s : RefusalValue) → IsUnmapped source k r → IsUnmapped source k s → r ≡ s
@@ -63,6 +67,7 @@ source_word words file = words.params
 -- how its files are read
 abbrev pub source_reading : SourceWords → Reading
 source_reading words = record {
+  HasFiles = λ told files. told ≡ Some files;
   IsRead = IsOfSource;
   word = source_word words;
   last = Params;

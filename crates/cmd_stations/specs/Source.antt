@@ -3,6 +3,7 @@ use Rattle.std.specs.Prelude.{◌≡◌, ℕ, List}
 use Rattle.tl_fault.specs.RefusalValue.{RefusalValue}
 use Rattle.tl_io.specs.Shelf.{Files}
 use Rattle.netlist.specs.FlatValue.{FlatValue}
+use Rattle.netlist.specs.Sound.{IsSound}
 use Rattle.param_list.specs.declared.params.Param.{Param}
 use Rattle.param_list.specs.ParamsText.{IsParamsText}
 use Rattle.cover_pick.specs.Template.{TemplateValue}
@@ -13,7 +14,7 @@ use Rattle.cmd_stations.specs.declared.netlist_text.Netlist.{Netlist as NetlistV
 use Rattle.cmd_stations.specs.declared.source.Source.{Source}
 use Rattle.cmd_stations.specs.Words.{SourceWords}
 use Rattle.cmd_stations.specs.Texts.{HasText, IsLongText, IsNetlistText, NetlistRefusal, IsParamsRefusal}
-use Rattle.cmd_stations.specs.Mapped.{IsMapped, IsUnmapped}
+use Rattle.cmd_stations.specs.Mapped.{IsLeastMapping, IsMapped, IsUnmapped}
 
 -- the netlist that is read
 pub record HasNetlist (files : Files) (words : SourceWords) (n : NetlistValue) : Type 0 where
@@ -36,6 +37,11 @@ pub record HasSource (files : Files) (words : SourceWords) (source : Source) : T
 pub record HasMapped (files : Files) (words : SourceWords) (source : Source) (template : TemplateValue) : Type 0 where
   pub has : HasSource files words source
   pub mapped : IsMapped source words.k template
+
+-- what is so of it: the netlist is sound, and its template maps its graph with the least depth
+pub record IsLeastMapped (files : Files) (words : SourceWords) (source : Source) (template : TemplateValue) (has : HasMapped files words source template) : Type 0 where
+  pub sound : IsSound source.netlist.library
+  pub least : IsLeastMapping has.mapped.graph words.k has.mapped.roots template
 
 -- the files hold a source circuit that is mapped
 pub record IsMappedFrom (files : Files) (words : SourceWords) : Type 0 where

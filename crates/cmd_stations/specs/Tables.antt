@@ -1,5 +1,5 @@
 -- The tables of a source circuit as the code makes them.
-use Rattle.std.specs.Prelude.{◌≡◌, ℕ, length}
+use Rattle.std.specs.Prelude.{◌≡◌, ℕ, length, map}
 use Rattle.tl_io.specs.Shelf.{Files}
 use Rattle.aig_core.specs.Aig.{Aig}
 use Rattle.aig_core.specs.Roots.{RootsValue}
@@ -9,13 +9,16 @@ use Rattle.cover_pick.specs.Template.{TemplateValue}
 use Rattle.cmd_stations.specs.declared.source.Source.{Source}
 use Rattle.cmd_stations.specs.declared.tables.Tables.{Tables}
 use Rattle.cmd_stations.specs.declared.mapped.MappedSource.{MappedSource}
+use Rattle.ppc_pack.specs.declared.pack.PackParam.{PackParam}
 use Rattle.ppc_pack.specs.Pack.{inits_of}
-use Rattle.param_list.specs.Parameters.{AreParameters, param_inits}
+use Rattle.param_list.specs.Parameters.{AreParameters, param_names, param_inits}
 use Rattle.lut_sim.specs.Playable.{IsPlayable}
 use Rattle.blif_write.specs.Meaning.{AreTablesOf}
+use Rattle.ppc_file.specs.PackFile.{IsPackFile}
+use Rattle.cmd_stations.specs.Packs.{present_bytes}
 use Rattle.cmd_stations.specs.Words.{SourceWords}
 use Rattle.cmd_stations.specs.SourceCircuit.{shape_of}
-use Rattle.cmd_stations.specs.Mapped.{IsChosen, IsMapped}
+use Rattle.cmd_stations.specs.Mapped.{IsChosen, IsLeastMapping, IsMapped}
 use Rattle.cmd_stations.specs.Tunable.{IsTunable}
 use Rattle.cmd_stations.specs.ReadNetlist.{IsReadNetlist}
 use Rattle.cmd_stations.specs.Source.{HasNetlist, HasSource, HasMapped}
@@ -30,20 +33,24 @@ pub record HasTables (source : Source) (g : Aig) (t : TemplateValue) : Type 0 wh
   pub one_graph : HasOneGraph source.netlist.library source.netlist.flat source.params.list
   pub cycles : HasSourceCycles source.netlist.library source.netlist.flat source.params.list g roots
   pub chosen : IsChosen g k roots t
+  pub least : IsLeastMapping g k roots t
 
--- the tables of a source circuit by a template of its graph: the pack of their bits, and their shape, which can be played and written
+-- the tables of a source circuit by a template of its graph: the pack of their bits, and their shape, which can be played and written; and the file of the pack is its own
 pub record AreMade (source : Source) (t : Tables) : Type 0 where
   pub tunable : IsTunable source t.template t.pack
+  pub names : map (λ (p : PackParam). p.name) t.pack.params ≡ param_names source.params.list
   pub inits : inits_of t.pack.params ≡ param_inits source.params.list
   pub bits : length t.pack.bits ≡ t.template.bits
   pub params : length t.pack.params ≡ t.shape.params
   pub shape : t.shape ≡ shape_of source
   pub playable : IsPlayable t.template t.shape
   pub written : AreTablesOf source.netlist.flat source.params.list t.template
+  pub file : IsPackFile (present_bytes t.pack) t.pack
 
 -- its tables by the chosen template
 pub record AreTables (source : Source) (k : ℕ) (t : Tables) : Type 0 where
   pub mapped : IsMapped source k t.template
+  pub least : IsLeastMapping mapped.graph k mapped.roots t.template
   pub made : AreMade source t
 
 -- a source circuit that was read

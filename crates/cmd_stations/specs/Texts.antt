@@ -12,7 +12,6 @@ use Rattle.blif_read.specs.ReadFault.{read_fault}
 use Rattle.blif_flat.specs.declared.flat_err.FlatErr.{FlatErr}
 use Rattle.blif_flat.specs.Refusals.{refusal_of as flat_refusal}
 use Rattle.blif_flat.specs.Faults.{IsFault}
-use Rattle.netlist.specs.Sound.{IsSound}
 use Rattle.netlist.specs.FlatValue.{FlatValue}
 use Rattle.netlist.specs.Flat.{IsFlat}
 use Rattle.param_list.specs.declared.par_err.ParErr.{ParErr}
@@ -42,15 +41,10 @@ HasText files name text = HasBytes MOST_BYTES files name text
 abbrev pub IsLongText : Files → List ℕ → Type 0
 IsLongText files name = IsOverlong MOST_BYTES files name
 
--- a library that flattens: it is sound, and no fault stands, its weight's neither
-pub record IsFlattened (library : LibraryValue) : Type 0 where
-  pub sound : IsSound library
-  pub clean : (fault : FlatErr) → ¬ (IsFault library fault)
-
--- a text denotes this library, which flattens, and this is its flat circuit
+-- a text denotes this library, no fault stands in it, its weight's neither, and this is its flat circuit
 pub record IsNetlistText (text : List ℕ) (n : Netlist) : Type 0 where
   pub denotes : Denotes text n.library
-  pub flattens : IsFlattened n.library
+  pub clean : (fault : FlatErr) → ¬ (IsFault n.library fault)
   pub flat : IsFlat n.library n.flat
 
 -- a netlist's text is refused: by its first refusal, else by its library's

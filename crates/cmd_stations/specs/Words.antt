@@ -1,5 +1,6 @@
 -- The words that name a source circuit and the size of its tables.
-use Rattle.std.specs.Prelude.{ℕ, ◌≤◌, ◌-◌, ◌&&◌, nat_le, if◌then◌else◌, List, [], ◌∷◌, Option, Some, None}
+use Rattle.std.specs.Prelude.{ℕ, ◌≤◌, ◌+◌, ◌-◌, ◌&&◌, nat_le, if◌then◌else◌, List, [], ◌∷◌, Option, Some, None}
+use Rattle.cut_enum.specs.declared.limits.TheConstants.{MOST_LEAVES}
 use Rattle.cmd_stations.specs.declared.words.SourceWords.{SourceWords as SourceWordsRead}
 
 -- the size of the tables, and the words that name the netlist and the parameters
@@ -8,9 +9,9 @@ pub record SourceWords : Type 0 where
   pub netlist : List ℕ
   pub params : List ℕ
 
--- the number of a table's inputs: 2 to 6
+-- the number of a table's inputs, one digit: from 2 to the most leaves of a cut
 abbrev pub k_of : List ℕ → Option ℕ
-k_of (digit ∷ []) = if nat_le 50 digit && nat_le digit 54 then Some (digit - 48) else None
+k_of (digit ∷ []) = if nat_le 50 digit && nat_le digit (48 + MOST_LEAVES) then Some (digit - 48) else None
 k_of [] = None
 k_of (digit ∷ other ∷ more) = None
 
@@ -22,7 +23,7 @@ source_words (Some k) netlist params = Some (record { k = k; netlist = netlist; 
 abbrev pub source_seen : SourceWordsRead → SourceWords
 source_seen words = record { k = words.k; netlist = words.netlist.now; params = words.params.now }
 
--- the size of the tables is 2 to 6
+-- the size of the tables is from 2 to the most leaves of a cut
 pub record IsTableSize (k : ℕ) : Type 0 where
   pub least : 2 ≤ k
-  pub most : k ≤ 6
+  pub most : k ≤ MOST_LEAVES

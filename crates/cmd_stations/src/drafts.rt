@@ -1,6 +1,7 @@
 //! A mapped source circuit that is ready to be written.
 ghost use Rattle.std.specs.Prelude.{◌≡◌, ◌≤◌, false, IfOk, IfErr, OnOk};
 ghost use Rattle.tl_text.specs.declared.logical_lines.TheConstants.{MOST_BYTES};
+ghost use Rattle.cut_enum.specs.declared.limits.TheConstants.{MOST_LEAVES};
 ghost use Rattle.blif_write.specs.Writable.{CanBeNamed};
 ghost use Rattle.cmd_base.specs.Ends.{Told, Explains};
 ghost use Rattle.cmd_stations.specs.Words.{source_seen};
@@ -58,7 +59,7 @@ pub fn read_draft<S: Shelf>(
     shelf: &mut S,
 ) -> Result<Draft, Outcome>
     requires least { 2 ≤ words.now.k }
-    requires most { words.now.k ≤ 6 }
+    requires most { words.now.k ≤ MOST_LEAVES }
     ensures draft { IfOk result IsDraft }
     ensures tables { IfOk result (λ d. AreTables d.mapped.source words.now.k d.mapped.tables) }
     ensures comes { IfOk result (λ d. Told (S.seen shelf.old).files (λ files. ComesPast files (source_seen words.now) d.mapped)) }

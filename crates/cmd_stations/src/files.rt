@@ -9,12 +9,12 @@ ghost use Rattle.cmd_stations.specs.Unread.{IsUnread};
 use cmd_base::{File, Outcome};
 use std::alloc::Global;
 use tl_io::{Shelf, Slurp, slurp};
-use tl_text::MOST_BYTES;
+use tl_text::{MOST_BYTES, MOST_PACK_BYTES};
 
 // The most bytes that a text may have, and a pack.
 const MOST_TEXT: u64 = MOST_BYTES as u64;
 
-const MOST_PACK: u64 = 536_870_912;
+const MOST_PACK: u64 = MOST_PACK_BYTES as u64;
 
 // The most bytes that a file may have.
 fn limit(file: File) -> u64

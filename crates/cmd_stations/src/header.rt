@@ -1,7 +1,6 @@
 //! The header line of a template.
 ghost use Rattle.std.specs.Prelude.{◌≤◌, length};
-ghost use Rattle.tl_io.specs.Causes.{HasCause};
-ghost use Rattle.tl_io.specs.Content.{Puts};
+ghost use Rattle.tl_io.specs.Sink.{IsPut};
 ghost use Rattle.cmd_stations.specs.Mapped.{template_header};
 
 use cover_pick::Template;
@@ -19,8 +18,7 @@ pub fn put_template_header<O: Sink>(
     out: &mut O,
 ) -> Result<(), Failed>
     requires { length template.now.luts ≤ template.now.bits }
-    ensures cause { HasCause (O.faults out.old) (O.faults out.new) result }
-    ensures grown { Puts (O.bytes out.old) (O.bytes out.new) (template_header template.now) result }
+    ensures { IsPut (O.seen out.old) (template_header template.now) (O.seen out.new) result }
 {
     let bits = template.bits;
     let luts = template.luts.len() as u32;

@@ -2,6 +2,7 @@
 ghost use Rattle.std.specs.Prelude.{◌≡◌, ◌≤◌, false, IfOk, IfErr, OnOk};
 ghost use Rattle.tl_text.specs.declared.logical_lines.TheConstants.{MOST_BYTES};
 ghost use Rattle.tl_io.specs.Shelf.{Files};
+ghost use Rattle.cut_enum.specs.declared.limits.TheConstants.{MOST_LEAVES};
 ghost use Rattle.cmd_base.specs.Ends.{Told, Explains};
 ghost use Rattle.cmd_stations.specs.Words.{source_seen};
 ghost use Rattle.cmd_stations.specs.Settled.{source_reading};
@@ -33,7 +34,7 @@ pub fn read_mapped<S: Shelf>(
     shelf: &mut S,
 ) -> Result<MappedSource, Outcome>
     requires least { 2 ≤ words.now.k }
-    requires most { words.now.k ≤ 6 }
+    requires most { words.now.k ≤ MOST_LEAVES }
     ensures read { IfOk result (λ m. IsReadSource m.source) }
     ensures tables { IfOk result (λ m. AreTables m.source words.now.k m.tables) }
     ensures comes { IfOk result (λ m. Told (S.seen shelf.old).files (λ files. ComesPast files (source_seen words.now) m)) }

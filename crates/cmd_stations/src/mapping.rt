@@ -7,11 +7,12 @@ ghost use Rattle.aig_build.specs.declared.TheConstants.{MOST_NODES};
 ghost use Rattle.aig_build.specs.NetlistGraph.{IsGraphOf, HasTooManyNodes, HasOneGraph, source_kinds};
 ghost use Rattle.aig_build.specs.NetlistCycle.{HasSourceCycles};
 ghost use Rattle.aig_build.specs.Refusals.{refusal_of};
+ghost use Rattle.cut_enum.specs.declared.limits.TheConstants.{MOST_LEAVES};
 ghost use Rattle.cover_pick.specs.Template.{TemplateValue};
 ghost use Rattle.lut_sim.specs.Playable.{IsPlayable};
 ghost use Rattle.cmd_stations.specs.Stops.{Stops};
 ghost use Rattle.cmd_stations.specs.SourceCircuit.{shape_of};
-ghost use Rattle.cmd_stations.specs.Mapped.{IsChosen, IsUnchosen, IsUnmapped};
+ghost use Rattle.cmd_stations.specs.Mapped.{IsChosen, IsLeastMapping, IsUnchosen, IsUnmapped};
 ghost use Rattle.cmd_stations.specs.Settled.{IsGraphSettled, IsMappingSettled};
 ghost use Rattle.cmd_stations.specs.Tables.{HasTables, IsReadSource, AreMade, AreTables};
 
@@ -30,9 +31,10 @@ use std::alloc::{AllocError, Global};
 // The chosen template of a graph.
 fn choose(alloc: Global, graph: &Graph, roots: &Roots, k: u8) -> Result<Template, Stop>
     requires least { 2 ≤ k }
-    requires most { k ≤ 6 }
+    requires most { k ≤ MOST_LEAVES }
     requires roots { AreRoots graph.now (roots_of roots.now) }
     ensures chosen { IfOk result (λ t. IsChosen graph.now k roots.now t) }
+    ensures least { IfOk result (λ t. IsLeastMapping graph.now k roots.now t) }
     ensures err { IfErr result (Stops (IsUnchosen graph.now k roots.now)) }
     ensures settled { MatchResult result (λ _. IsGraphSettled graph.now k roots.now) (Stops (λ _. IsGraphSettled graph.now k roots.now)) }
 {
@@ -102,7 +104,7 @@ fn source_graph(alloc: Global, source: &Source) -> Result<(Graph, Roots), BuildE
 /// `Refused` for the first limit that its graph is over; `Memory` where there is none.
 pub fn map_source(alloc: Global, source: &Source, k: u8) -> Result<Tables, Stop>
     requires least { 2 ≤ k }
-    requires most { k ≤ 6 }
+    requires most { k ≤ MOST_LEAVES }
     requires read { IsReadSource source.now }
     ensures tables { IfOk result (AreTables source.now k) }
     ensures err { IfErr result (Stops (IsUnmapped source.now k)) }

@@ -1,7 +1,7 @@
 //! The files of the two netlists of a source circuit.
 ghost use Rattle.std.specs.Prelude.{◌≡◌, Bool, List, length};
 ghost use Rattle.tl_io.specs.Causes.{HasCause};
-ghost use Rattle.tl_io.specs.Content.{Puts};
+ghost use Rattle.tl_io.specs.Sink.{IsPut};
 ghost use Rattle.ppc_pack.specs.Pack.{IsConf};
 ghost use Rattle.blif_write.specs.PlainNetlist.{netlist_text};
 ghost use Rattle.cmd_stations.specs.Written.{RunsAs, IsTuned, specialised_of, template_of};
@@ -15,10 +15,7 @@ use tl_io::{Failed, FileSink, Shelf, Sink};
 // Puts the netlist of the tables under a configuration.
 fn put_specialised<O: Sink>(draft: &Draft, config: &[bool], out: &mut O) -> Result<(), Failed>
     requires { IsDraft draft.now }
-    ensures cause { HasCause (O.faults out.old) (O.faults out.new) result }
-    ensures grown { Puts (O.bytes out.old) (O.bytes out.new) (netlist_text (specialised_of draft.now.mapped.source draft.now.mapped.tables.template config.now)) result }
-    ensures through { O.through out.new ≡ O.through out.old }
-    ensures others { O.others out.new ≡ O.others out.old }
+    ensures { IsPut (O.seen out.old) (netlist_text (specialised_of draft.now.mapped.source draft.now.mapped.tables.template config.now)) (O.seen out.new) result }
 {
     let mapped = &draft.mapped;
     specialised(
@@ -34,10 +31,7 @@ fn put_specialised<O: Sink>(draft: &Draft, config: &[bool], out: &mut O) -> Resu
 // Puts the netlist of the tables with their bits as inputs.
 fn put_template<O: Sink>(draft: &Draft, out: &mut O) -> Result<(), Failed>
     requires { IsDraft draft.now }
-    ensures cause { HasCause (O.faults out.old) (O.faults out.new) result }
-    ensures grown { Puts (O.bytes out.old) (O.bytes out.new) (netlist_text (template_of draft.now.mapped.source draft.now.mapped.tables.template)) result }
-    ensures through { O.through out.new ≡ O.through out.old }
-    ensures others { O.others out.new ≡ O.others out.old }
+    ensures { IsPut (O.seen out.old) (netlist_text (template_of draft.now.mapped.source draft.now.mapped.tables.template)) (O.seen out.new) result }
 {
     let mapped = &draft.mapped;
     template(

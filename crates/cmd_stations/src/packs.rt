@@ -6,7 +6,7 @@ ghost use Rattle.ppc_file.specs.PackFile.{IsPackFile, HasOneReading};
 ghost use Rattle.cmd_base.specs.Ends.{Told, Explains};
 ghost use Rattle.cmd_base.specs.Refusals.{most_bytes};
 ghost use Rattle.cmd_stations.specs.Stops.{Stops};
-ghost use Rattle.cmd_stations.specs.Packs.{HasPack, IsPackRefusal, IsPackSettled, pack_reading, pack_names, present_bytes};
+ghost use Rattle.cmd_stations.specs.Packs.{HasPack, IsPackRefusal, IsPackSettled, pack_reading, names_by};
 
 use crate::files::read_file;
 use crate::stop::Stop;
@@ -60,14 +60,6 @@ pub fn bit_count(pack: &Pack) -> u32
     pack.bits().len() as u32
 }
 
-/// A law: the file of a pack in version 2 is that pack's.
-pub fn is_pack_file(pack: &Pack)
-    ensures { IsPackFile (present_bytes pack.now) pack.now }
-{
-    let _params = pack.params();
-    let _nodes = pack.graph().len();
-}
-
 // The names of parameters, in their order.
 fn names_of_params(alloc: Global, params: &[PackParam]) -> Result<Vec<Name>, AllocError>
     ensures { IfOk result (λ names. names.items ≡ map (λ (p : PackParamValue). p.name) params.now) }
@@ -79,18 +71,18 @@ fn names_of_params(alloc: Global, params: &[PackParam]) -> Result<Vec<Name>, All
     Ok(names)
 }
 
-/// What a script may name that is played on a pack alone.
+/// What a script may name that is played on a pack: cycles too, where its circuit has so many regular inputs.
 ///
 /// `Err` comes only for want of memory.
-pub fn script_names(alloc: Global, pack: &Pack) -> Result<Names, AllocError>
-    ensures names { IfOk result (λ names. names ≡ pack_names pack.now) }
+pub fn script_names(alloc: Global, pack: &Pack, width: Option<u32>) -> Result<Names, AllocError>
+    ensures names { IfOk result (λ names. names ≡ names_by pack.now width) }
     ensures kept { IsPack pack.now.params pack.now.graph pack.now.bits }
 {
     let params = names_of_params(alloc, pack.params())?;
     let bits = bit_count(pack);
     Ok(Names {
         params,
-        width: None,
+        width,
         bits,
     })
 }

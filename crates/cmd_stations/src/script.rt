@@ -7,7 +7,6 @@ ghost use Rattle.tl_text.specs.declared.limits.TheConstants.{MOST_PARAMETERS};
 ghost use Rattle.tl_io.specs.Shelf.{Files};
 ghost use Rattle.run_text.specs.EventValue.{EventValue, event_values};
 ghost use Rattle.run_text.specs.Fits.{Fits};
-ghost use Rattle.param_list.specs.Parameters.{param_names};
 ghost use Rattle.run_text.specs.ScriptText.{IsScript, HasOneReading};
 ghost use Rattle.cmd_base.specs.Ends.{Told, Explains};
 ghost use Rattle.cmd_stations.specs.Stops.{Stops};
@@ -17,21 +16,9 @@ ghost use Rattle.cmd_stations.specs.Script.{HasScript, IsScriptSettled, script_r
 use crate::files::read_file;
 use crate::stop::Stop;
 use cmd_base::{File, Outcome};
-use run_text::{Event, Names, Param, read_script};
-use std::alloc::{AllocError, Global};
+use run_text::{Event, Names, read_script};
+use std::alloc::Global;
 use tl_io::Shelf;
-use tl_text::Name;
-
-/// The names of parameters, in their order.
-pub fn parameter_names(alloc: Global, params: &[Param]) -> Result<Vec<Name>, AllocError>
-    ensures { IfOk result (λ names. names.items ≡ param_names params.now) }
-{
-    let mut names = Vec::with_capacity(alloc, params.len())?;
-    for param in params {
-        names.push(Name::make(alloc, param.name.bytes())?)?;
-    }
-    Ok(names)
-}
 
 /// The events of a text, which may name these.
 ///
@@ -69,6 +56,7 @@ pub fn read_script_file<S: Shelf>(
     ensures err { IfErr result (Explains (script_reading name.now names.now) (S.seen shelf.old) (S.seen shelf.new)) }
     ensures later { (S.seen shelf.old).read_faults ≤ (S.seen shelf.new).read_faults }
     ensures files { (S.seen shelf.new).files ≡ (S.seen shelf.old).files }
+    ensures write_faults { (S.seen shelf.new).write_faults ≡ (S.seen shelf.old).write_faults }
 {
     let text = match read_file(alloc, name, File::Script, shelf) {
         Ok(text) => text,

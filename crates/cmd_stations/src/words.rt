@@ -1,10 +1,12 @@
 //! The words that name a source circuit.
 ghost use Rattle.std.specs.Prelude.{◌≡◌, ◌≤◌, IfSome};
 ghost use Rattle.std.specs.Option.{option_map};
+ghost use Rattle.cut_enum.specs.declared.limits.TheConstants.{MOST_LEAVES};
 ghost use Rattle.cmd_stations.specs.Settled.{source_word};
 ghost use Rattle.cmd_stations.specs.Words.{k_of, source_words, source_seen, IsTableSize};
 
 use cmd_base::File;
+use cut_enum::MOST_LEAVES;
 
 /// The words that name a source circuit's files, and the size of its tables.
 #[derive(Clone, Copy)]
@@ -14,18 +16,21 @@ pub struct SourceWords<'a> {
     pub params: &'a str,
 }
 
-/// The number of a table's inputs, 2 to 6.
+// The digit of the most inputs of a table.
+const LAST_DIGIT: u8 = b'0' + MOST_LEAVES as u8;
+
+/// The number of a table's inputs, from 2 to `MOST_LEAVES`.
 pub fn table_size(word: &str) -> Option<u8>
     ensures value { result ≡ k_of word.now }
-    ensures range { IfSome result (λ k. (2 ≤ k) × (k ≤ 6)) }
+    ensures range { IfSome result (λ k. (2 ≤ k) × (k ≤ MOST_LEAVES)) }
 {
     match word.as_bytes() {
-        [digit] if b'2' <= *digit && *digit <= b'6' => Some(*digit - b'0'),
+        [digit] if b'2' <= *digit && *digit <= LAST_DIGIT => Some(*digit - b'0'),
         _ => None,
     }
 }
 
-/// The words of a source circuit; `None` exactly where the first isn't a number from 2 to 6.
+/// The words of a source circuit; `None` exactly where the first isn't such a number.
 pub fn read_source_words<'a>(k: &str, netlist: &'a str, params: &'a str) -> Option<SourceWords<'a>>
     ensures value { option_map (λ w. source_seen w) result ≡ source_words (k_of k.now) netlist.now params.now }
     ensures range { IfSome result (λ w. IsTableSize w.k) }

@@ -15,7 +15,7 @@ use Rattle.cover_pick.specs.Choice.{Precedes, before, IsChosen}
 use Rattle.cover_pick.specs.Schedule.{AtMost, HasChosen, IsPlan}
 use Rattle.cover_pick.specs.Tables.{IsNeeded, root, leaf, IsLeaves, constant, parameter, source, node, HasTable, AreTables}
 use Rattle.cover_pick.specs.Work.{IsCone, IsWork}
-use Rattle.cover_pick.proofs.WorkLaws.{cone_is}
+use Rattle.cover_pick.proofs.WorkLemmas.{cone_is}
 
 -- node 6 is required by depth 1, and takes its cut of the two inputs; no other node is needed
 abbrev pub mux_depths : ℕ → Option ℕ

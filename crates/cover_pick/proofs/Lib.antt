@@ -1,15 +1,17 @@
-pub mod MemberLaws
-pub mod TargetLaws
-pub mod ChoiceLaws
-pub mod CandidateLaws
-pub mod WalkLaws
-pub mod PlaceLaws
-pub mod PlanLaws
-pub mod TableLaws
-pub mod WorkLaws
-pub mod SearchLaws
-pub mod TemplateLaws
-pub mod MappingLaws
-pub mod OnceLaws
-pub mod ChosenLaws
-pub mod Examples
+mod MemberLemmas
+mod TargetLemmas
+mod ChoiceLemmas
+mod CandidateLemmas
+mod WalkLemmas
+mod PlaceLemmas
+mod PlanLemmas
+pub mod BitsLemmas
+mod TableLemmas
+pub mod WorkLemmas
+mod SearchLemmas
+mod TemplateLemmas
+mod MappingLemmas
+mod OnceLemmas
+mod ChosenLemmas
+mod ThereLemmas
+mod Examples

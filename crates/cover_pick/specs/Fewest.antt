@@ -1,5 +1,6 @@
 -- How the chosen cut is found: the cuts of an ordered list are taken one after another.
 use Rattle.std.specs.Prelude.{◌≡◌, ℕ, ◌<◌, ◌&&◌, if◌then◌else◌, ◌==◌, nat_lt, List, [], ◌∷◌, length, Option, Some, None, slice_index_or}
+pub use Rattle.depth_label.specs.Fold.{or_empty}
 use Rattle.depth_label.specs.Label.{height}
 use Rattle.cover_pick.specs.declared.choice.Candidate.{Candidate}
 
@@ -24,10 +25,6 @@ IsAt label cs (Some b) (Some c) = (b.place < length cs) × (slice_index_or cs b.
 abbrev pub IsShorter : Option Candidate → ℕ → Type 0
 IsShorter None len = ⊥
 IsShorter (Some b) len = b.len < len
-
-abbrev pub or_empty : Option (List ℕ) → List ℕ
-or_empty None = []
-or_empty (Some c) = c
 
 -- the cut that is chosen for a node and its required depth
 abbrev pub choice_of : (ℕ → List (List ℕ)) → (ℕ → ℕ) → ℕ → ℕ → List ℕ

@@ -1,9 +1,11 @@
 -- How the tables are made: the needed literals are marked, and the marked ones taken in ascending order.
-use Rattle.std.specs.Prelude.{◌≡◌, ℕ, ◌+◌, ◌-◌, ◌*◌, ◌/◌, ◌%◌, ◌^◌, ◌<◌, Bool, true, false, if◌then◌else◌, ◌==◌, nat_lt, List, [], ◌∷◌, ◌++◌, length, Option, Some, None, slice_get, slice_set, slice_index_or, replicate}
+use Rattle.std.specs.Prelude.{◌≡◌, ℕ, ◌+◌, ◌-◌, ◌*◌, ◌/◌, ◌%◌, ◌^◌, ◌<◌, Bool, true, false, if◌then◌else◌, ◌==◌, nat_lt, List, [], ◌∷◌, ◌++◌, length, Option, Some, None, slice_get, slice_set, replicate}
 use Rattle.aig_core.specs.Aig.{Aig, first_and, node_count}
 use Rattle.aig_core.specs.declared.lit.Kind.{Kind}
 use Rattle.aig_core.specs.declared.lit.Kind.TheVariants.{Regular, Parameter}
 use Rattle.list_laws.specs.Members.{In}
+-- is a literal marked
+pub use Rattle.list_laws.specs.Digits.{bit_in as mark_at}
 use Rattle.cover_pick.specs.declared.lut.Lut.{Lut}
 use Rattle.cover_pick.specs.Mapping.{AscendByLit, HaveBases, bits_of}
 use Rattle.cover_pick.specs.Planned.{cut_at, IsPlanned}
@@ -24,10 +26,6 @@ source_leaves None n phase = Some []
 -- the leaves of a literal's table, if it has one: the constant has none, an AND node its chosen cut
 abbrev pub leaves_of : Aig → List (Option (List ℕ)) → ℕ → Option (List ℕ)
 leaves_of g cuts l = if (l / 2) == 0 then Some [] else if nat_lt (l / 2) (first_and g) then source_leaves (slice_get g.kinds (l / 2 - 1)) (l / 2) (l % 2) else cut_at cuts (l / 2)
-
--- is a literal marked
-abbrev pub mark_at : List Bool → ℕ → Bool
-mark_at marks l = slice_index_or marks l false
 
 abbrev pub mark_each : List Bool → List ℕ → List Bool
 mark_each marks [] = marks

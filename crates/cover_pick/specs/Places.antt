@@ -3,11 +3,9 @@ use Rattle.std.specs.Prelude.{◌≡◌, ℕ, ◌+◌, ◌<◌, ◌≤◌, List,
 use Rattle.aig_core.specs.Aig.{Aig, node_count}
 use Rattle.cut_enum.specs.Table.{row_at}
 use Rattle.cover_pick.specs.Fewest.{fewest}
+-- the place of a node's cut, none where it has no cut, stands in a list as a required depth does
+pub use Rattle.cover_pick.specs.Required.{need as place_at}
 use Rattle.cover_pick.specs.Required.{need}
-
--- the place of a node's cut, none where it has no cut
-abbrev pub place_at : List (Option ℕ) → ℕ → Option ℕ
-place_at places n = slice_index_or places n None
 
 -- the cut at a place of a row
 abbrev pub cut_of : List (List ℕ) → Option ℕ → Option (List ℕ)

@@ -3,6 +3,7 @@ ghost use Rattle.std.specs.Prelude.{◌≡◌, ℕ, List, ◌+◌, ◌*◌, ◌/
 ghost use Rattle.aig_core.specs.Aig.{first_and, node_count, AreNormal};
 ghost use Rattle.aig_core.specs.Roots.{lits_of, AreRoots};
 ghost use Rattle.list_laws.specs.Members.{In};
+ghost use Rattle.cut_enum.specs.declared.limits.TheConstants.{MOST_LEAVES};
 ghost use Rattle.tl_fault.specs.OrMemory.{OrMemory};
 ghost use Rattle.cover_pick.specs.Refusals.{refusal_of};
 ghost use Rattle.cover_pick.specs.Search.{stamp_at};
@@ -60,9 +61,9 @@ fn leaves_of(alloc: Global, graph: &Graph, cuts: &ChosenCuts, lit: Lit) -> Optio
 
 // The bits of a table.
 fn table_bits(leaves: usize) -> u32
-    requires { leaves ≤ 6 }
+    requires { leaves ≤ MOST_LEAVES }
     ensures value { result ≡ 2 ^ leaves }
-    ensures few { result ≤ 64 }
+    ensures few { result ≤ 2 ^ MOST_LEAVES }
 {
     1 << leaves
 }

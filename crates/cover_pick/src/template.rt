@@ -81,8 +81,6 @@ fn template_of(
     requires labels { AreLabelled graph.now table.now labels.now }
     requires roots { AreRoots graph.now (roots_of roots.now) }
     ensures template { IfOk result (λ t. IsTemplate graph.now table.now (label_of labels.now) roots.now t) }
-    ensures mapping { IfOk result (λ t. (k : ℕ) → AreRows graph.now k (node_count graph.now) table.now → IsMapping graph.now k (roots_of roots.now) t.luts t.bits) }
-    ensures least { IfOk result (λ t. (k : ℕ) → AreRows graph.now k (node_count graph.now) table.now → IsLeast graph.now k (roots_of roots.now) t.luts t.depth) }
     ensures timely { IfOk result (λ t. AreTimely graph.now table.now (label_of labels.now) (roots_of roots.now) t.luts) }
     ensures light { IfOk result (λ t. IsLight graph.now t.luts) }
     ensures work { IfErr result (OrMemory refusal_of (λ _. IsTooMuch graph.now table.now (label_of labels.now) (roots_of roots.now))) }
@@ -131,11 +129,11 @@ pub fn pick(
     requires labels { AreLabelled graph.now table.now labels.now }
     requires roots { AreRoots graph.now (roots_of roots.now) }
     ensures template { IfOk result (λ t. IsTemplate graph.now table.now (label_of labels.now) roots.now t) }
-    ensures mapping { IfOk result (λ t. (k : ℕ) → AreRows graph.now k (node_count graph.now) table.now → IsMapping graph.now k (roots_of roots.now) t.luts t.bits) }
-    ensures least { IfOk result (λ t. (k : ℕ) → AreRows graph.now k (node_count graph.now) table.now → IsLeast graph.now k (roots_of roots.now) t.luts t.depth) }
     ensures timely { IfOk result (λ t. AreTimely graph.now table.now (label_of labels.now) (roots_of roots.now) t.luts) }
 
-    // There is one template.
+    // There is one template, which maps the graph with the least depth over all its covers, whatever the answer.
+    ensures mapping { (t : TemplateValue) → IsTemplate graph.now table.now (label_of labels.now) roots.now t → (k : ℕ) → AreRows graph.now k (node_count graph.now) table.now → IsMapping graph.now k (roots_of roots.now) t.luts t.bits }
+    ensures least { (t : TemplateValue) → IsTemplate graph.now table.now (label_of labels.now) roots.now t → (k : ℕ) → AreRows graph.now k (node_count graph.now) table.now → IsLeast graph.now k (roots_of roots.now) t.luts t.depth }
     ensures once { (t u : TemplateValue) → IsTemplate graph.now table.now (label_of labels.now) roots.now t → IsTemplate graph.now table.now (label_of labels.now) roots.now u → t ≡ u }
 
     // The limit on the work, both ways.
@@ -144,5 +142,7 @@ pub fn pick(
     ensures excluded { (t : TemplateValue) → IsTemplate graph.now table.now (label_of labels.now) roots.now t → IsLight graph.now t.luts → IsTooMuch graph.now table.now (label_of labels.now) (roots_of roots.now) → ⊥ }
     ensures too_much { IsTooMuch graph.now table.now (label_of labels.now) (roots_of roots.now) → (result ≡ Err PickErr.Work) ⊎ (result ≡ Err PickErr.Memory) }
 {
+    // The call tells that the graph's pairs are normal, which the laws stand on.
+    let _count = graph.len();
     template_of(alloc, graph, roots, table, labels)
 }

@@ -9,8 +9,9 @@ use Rattle.aig_core.specs.declared.lit.Kind.TheVariants.{Regular, Parameter}
 use Rattle.aig_core.specs.declared.lit.Pair.{Pair}
 use Rattle.list_laws.specs.Members.{In, Within}
 use Rattle.list_laws.specs.Order.{IsAscending}
+use Rattle.list_laws.proofs.Members.{in_or}
 use Rattle.cut_enum.specs.Cuts.{Blocks, member, constant, parameter, fan_ins, CanBeLeaf, IsCut, IsMinimal, AreMinimal, EachContainsOne}
-use Rattle.aig_core.proofs.NodeLemmas.{source_below, node_normal}
+use Rattle.aig_core.proofs.NodeLemmas.{source_below, node_normal, same_pair}
 use Rattle.cut_enum.proofs.SetLemmas.{length_within, same_within}
 
 -- a larger set blocks what a smaller one blocks
@@ -19,10 +20,6 @@ Blocks-within g c d w (member i) = member (w _ i)
 Blocks-within g c d w (constant e) = constant e
 Blocks-within g c d w (parameter s) = parameter s
 Blocks-within g c d w (fan_ins p is x y) = fan_ins p is (Blocks-within g c d w x) (Blocks-within g c d w y)
-
--- an AND node has one pair
-pub same_pair : (g : Aig) (p q : Pair) (n : ℕ) → IsNode g p n → IsNode g q n → q ≡ p
-same_pair g p q n a b = same_Some q p (sym b.is ∙ a.is)
 
 other_kind : Regular ≡ Parameter → ⊥
 other_kind h = cc
@@ -47,13 +44,6 @@ blocked_above g c a (member i) = inl i
 blocked_above g c a (constant e) = absurd (omega arith)
 blocked_above g c {n} a (parameter s) = absurd (let b : n < first_and g = source_below g Parameter n s in omega arith)
 blocked_above g c a (fan_ins p is x y) = inr (record { pair = p; node = is; x = x; y = y })
-
-decide_in : (c : List ℕ) (n : ℕ) → In c n ⊎ (In c n → ⊥)
-decide_in [] n = inr (λ i. i)
-decide_in (x ∷ xs) n = elim (cases_eq n x) [
-  | inl e ↦ inl (inl e)
-  | inr d ↦ elim (decide_in xs n) [ inl i ↦ inl (inr i) | inr o ↦ inr (λ i. elim i [ inl e ↦ d e | inr j ↦ o j ]) ]
-]
 
 -- d has all members of an ascending list c but x
 record IsWithout (c : List ℕ) (x : ℕ) (d : List ℕ) : Type 0 where
@@ -128,16 +118,16 @@ module _ (g : Aig) (normal : AreNormal (first_and g) g.pairs) where
         let y : p.y.0 / 2 < n = (node_normal g n p normal node).below in
         let x : p.x.0 / 2 < p.y.0 / 2 = (node_normal g n p normal node).ordered in
         elim (below (p.x.0 / 2) (omega arith)) [
-          | inr no_x ↦ inr (λ b. elim (blocked_above g c a b) [ inl i ↦ out i | inr f ↦ no_x (subst (λ (q : Pair). Blocks g c (q.x.0 / 2)) (same_pair g p f.pair n node f.node) f.x) ])
+          | inr no_x ↦ inr (λ b. elim (blocked_above g c a b) [ inl i ↦ out i | inr f ↦ no_x (subst (λ (q : Pair). Blocks g c (q.x.0 / 2)) (same_pair g f.pair p n f.node node) f.x) ])
           | inl bx ↦ elim (below (p.y.0 / 2) y) [
-            | inr no_y ↦ inr (λ b. elim (blocked_above g c a b) [ inl i ↦ out i | inr f ↦ no_y (subst (λ (q : Pair). Blocks g c (q.y.0 / 2)) (same_pair g p f.pair n node f.node) f.y) ])
+            | inr no_y ↦ inr (λ b. elim (blocked_above g c a b) [ inl i ↦ out i | inr f ↦ no_y (subst (λ (q : Pair). Blocks g c (q.y.0 / 2)) (same_pair g f.pair p n f.node node) f.y) ])
             | inl by ↦ inl (fan_ins p node bx by)
           ]
         ]
 
     decide_below : (f n : ℕ) → n < f → Blocks g c n ⊎ (Blocks g c n → ⊥)
     decide_below zero n l = absurd (omega arith)
-    decide_below (suc f) n l = elim (decide_in c n) [
+    decide_below (suc f) n l = elim (in_or c n) [
       | inl i ↦ inl (member i)
       | inr out ↦ elim (cases_lt n (first_and g)) [
         | inl s ↦ decide_source n s out
@@ -180,7 +170,7 @@ module _ (g : Aig) (normal : AreNormal (first_and g) g.pairs) where
     tight_minimal : (c : List ℕ) → IsCut g k n c → ((m : ℕ) → In c m → (d : List ℕ) × IsWithout c m d × (Blocks g d n → ⊥)) → IsMinimal g k n c
     tight_minimal c cut tight = record {
       cut = cut;
-      least = λ d other w. same_within d c other.ascending cut.ascending w (λ m i. elim (decide_in d m) [
+      least = λ d other w. same_within d c other.ascending cut.ascending w (λ m i. elim (in_or d m) [
         | inl j ↦ j
         | inr out ↦ (
             let r = tight m i in
@@ -244,7 +234,7 @@ module _ (g : Aig) (normal : AreNormal (first_and g) g.pairs) where
     -- Each list that blocks an AND node has the node itself, or one of the minimal cuts within it.
     pub contains_one : (cs : List (List ℕ)) → IsAnd g n → AreMinimal g k n cs → EachContainsOne g k n cs
     contains_one cs and are = record {
-      each = λ c up few b. elim (decide_in c n) [
+      each = λ c up few b. elim (in_or c n) [
         | inl i ↦ inl i
         | inr out ↦ (
             let s = leaves_of and.1 c up in

@@ -8,8 +8,8 @@ use Rattle.list_laws.specs.Order.{IsAscending}
 use Rattle.cut_enum.specs.Merging.{union, merged, starts_empty, with_own}
 use Rattle.aig_core.specs.Aig.{IsSource, IsNode}
 use Rattle.cut_enum.specs.Cuts.{Blocks, member, constant, parameter, fan_ins, CanBeLeaf, IsCut, IsMinimal, AreMinimal, Covers}
-use Rattle.aig_core.proofs.NodeLemmas.{source_below}
-use Rattle.cut_enum.proofs.BlockLemmas.{Blocks-within, same_pair, regular_blocked, contains_one}
+use Rattle.aig_core.proofs.NodeLemmas.{source_below, same_pair}
+use Rattle.cut_enum.proofs.BlockLemmas.{Blocks-within, regular_blocked, contains_one}
 use Rattle.cut_enum.proofs.SetLemmas.{union_left, union_right, In-union, IsAscending-union, length_within, same_within, union_within}
 use Rattle.std.proofs.lemmas.Bool.{false≢true}
 use Rattle.list_laws.proofs.Choice.{choose}
@@ -32,7 +32,7 @@ module _ (g : Aig) (k n : ℕ) (p : Pair) (xs ys : List (List ℕ)) (node : IsNo
   blocked_cases c up few (constant e) = absurd (let a : first_and g ≤ n = node.above in omega arith)
   blocked_cases c up few (parameter s) = absurd (let a : first_and g ≤ n = node.above in let b : n < first_and g = source_below g Parameter n s in omega arith)
   blocked_cases c up few (fan_ins q is bx by) =
-      let e : q ≡ p = same_pair g p q n node is in
+      let e : q ≡ p = same_pair g q p n is node in
       let a : Covers xs c = x.contains c up few (subst (λ (r : Pair). Blocks g c (r.x.0 / 2)) e bx) in
       let b : Covers ys c = y.contains c up few (subst (λ (r : Pair). Blocks g c (r.y.0 / 2)) e by) in
       let w : Within (union b.by a.by) c = union_within b.by a.by c b.part a.part in

@@ -1,18 +1,18 @@
 pub mod SetLemmas
-pub mod UnionLemmas
-pub mod SignatureLemmas
+mod UnionLemmas
+mod SignatureLemmas
 pub mod LevelLemmas
-pub mod PlaceLemmas
-pub mod HeadLemmas
-pub mod PartLemmas
-pub mod LeastLemmas
+mod PlaceLemmas
+mod HeadLemmas
+mod PartLemmas
+mod LeastLemmas
 pub mod BlockLemmas
-pub mod CutLemmas
-pub mod PutLemmas
-pub mod SignedLemmas
-pub mod StepLemmas
-pub mod RowLemmas
-pub mod SpanLemmas
-pub mod LimitLemmas
-pub mod TableOnceLemmas
+mod CutLemmas
+mod PutLemmas
+mod SignedLemmas
+mod StepLemmas
+mod RowLemmas
+mod SpanLemmas
+mod LimitLemmas
+mod TableOnceLemmas
 pub mod Examples

@@ -3,16 +3,13 @@ use Rattle.std.proofs.Common.{◌≡◌, ℕ, ◌-◌, ◌<◌, ◌≤◌, Bool,
 use Rattle.std.proofs.lemmas.Bool.{cases_Bool}
 use Rattle.list_laws.specs.Members.{Within}
 use Rattle.list_laws.specs.Order.{IsAscending}
+use Rattle.list_laws.proofs.Choice.{same_test}
 use Rattle.cut_enum.specs.Merging.{subset}
 use Rattle.cut_enum.proofs.SetLemmas.{subset_true, subset_from}
 use Rattle.cut_enum.proofs.HeadLemmas.{rest_is}
 
-same_when : (p q : Bool) → (p ≡ true → q ≡ true) → (q ≡ true → p ≡ true) → p ≡ q
-same_when true q f g = sym (f refl)
-same_when false q f g = elim (cases_Bool q) [ inl t ↦ g t ∙ sym t | inr e ↦ sym e ]
-
 same_part : (a b c d : List ℕ) → (Within a b → Within c d) → (Within c d → Within a b) → subset a b ≡ subset c d
-same_part a b c d f g = same_when (subset a b) (subset c d) (λ t. subset_from c d (f (subset_true a b t))) (λ t. subset_from a b (g (subset_true c d t)))
+same_part a b c d f g = same_test (subset a b) (subset c d) (λ t. subset_from c d (f (subset_true a b t))) (λ t. subset_from a b (g (subset_true c d t)))
 
 -- a head below all of the other list is no element of it
 pub part_none : (xs ys : List ℕ) → IsAscending ys → 1 ≤ length xs → 1 ≤ length ys → get_or xs 0 0 < get_or ys 0 0 → false ≡ subset xs ys

@@ -1,4 +1,4 @@
-//! A cut of at most six leaves, with its signature.
+//! A cut, with its signature.
 ghost use Rattle.std.specs.Prelude.{◌≡◌, ℕ, ◌<◌, ◌≤◌, ◌↔◌, false, List, [], ◌∷◌, length, MatchOption, IsTrue, IfSome, IfNone, IfOk, IfErr, insert};
 ghost use Rattle.list_laws.specs.Members.{Within};
 ghost use Rattle.list_laws.specs.Order.{IsAscending};
@@ -6,17 +6,18 @@ ghost use Rattle.cut_enum.specs.Merging.{put, union, subset};
 ghost use Rattle.cut_enum.specs.Unions.{IsUnion};
 
 use crate::flat::is_subset;
+use crate::limits::MOST_LEAVES;
 use crate::signature::{leaf_bit, signature};
 use smallvec::SmallVec;
 use std::alloc::Global;
 use std::marker::Model;
 
-/// The leaves of a cut: at most six nodes, ascending and without repeats, in place.
+/// The leaves of a cut: at most `MOST_LEAVES` nodes, ascending and without repeats, in place.
 ///
 /// Beside them stands their signature, a word that has bit (leaf mod 64) of each leaf.
 #[derive(Drop)]
 pub struct Cut {
-    leaves: SmallVec<u32, 6>,
+    leaves: SmallVec<u32, MOST_LEAVES>,
     signature: u64,
 }
 
@@ -49,12 +50,12 @@ fn place_for(leaves: &[u32], x: u32) -> Result<usize, usize>
 }
 
 // Puts a leaf among others, if it is there or there is room.
-fn put_leaf(leaves: &mut SmallVec<u32, 6>, x: u32, k: usize) -> bool
-    requires inline { leaves.old.capacity ≡ 6 }
-    requires few { k ≤ 6 }
+fn put_leaf(leaves: &mut SmallVec<u32, MOST_LEAVES>, x: u32, k: usize) -> bool
+    requires inline { leaves.old.capacity ≡ MOST_LEAVES }
+    requires few { k ≤ MOST_LEAVES }
     ensures done { IsTrue result → leaves.new.items ≡ put x leaves.old.items }
     ensures full { result ≡ false → k < length (put x leaves.old.items) }
-    ensures capacity { leaves.new.capacity ≡ 6 }
+    ensures capacity { leaves.new.capacity ≡ MOST_LEAVES }
 {
     match place_for(leaves.as_slice(), x) {
         Ok(_) => true,
@@ -70,7 +71,7 @@ fn put_leaf(leaves: &mut SmallVec<u32, 6>, x: u32, k: usize) -> bool
 
 // The leaves of both, unless they are more than k. Where their signatures alone have more bits, no leaf is looked at.
 fn joined(a: &Cut, b: &Cut, k: u8) -> Option<Cut>
-    requires { k ≤ 6 }
+    requires { k ≤ MOST_LEAVES }
     ensures { MatchOption result (k < length (union a.now b.now)) (λ c. (c ≡ union a.now b.now) × (length c ≤ k)) }
 {
     let signature = a.signature | b.signature;
@@ -93,7 +94,7 @@ fn joined(a: &Cut, b: &Cut, k: u8) -> Option<Cut>
 ///
 /// It takes no memory, and at most 36 comparisons of leaves.
 pub fn merge(a: &Cut, b: &Cut, k: u8) -> Option<Cut>
-    requires { k ≤ 6 }
+    requires { k ≤ MOST_LEAVES }
     ensures some { IfSome result (λ c. IsUnion a.now b.now c × (length c ≤ k)) }
     ensures none { IfNone result ((c : List ℕ) × IsUnion a.now b.now c × (k < length c)) }
 {
@@ -141,7 +142,7 @@ impl Cut {
 
     // The cut of these leaves.
     pub(crate) fn of(alloc: Global, leaves: &[u32]) -> Cut
-        requires few { length leaves.now ≤ 6 }
+        requires few { length leaves.now ≤ MOST_LEAVES }
         requires ascending { IsAscending leaves.now }
         ensures { result ≡ leaves.now }
     {
@@ -162,10 +163,10 @@ impl Cut {
         Cut { leaves, signature }
     }
 
-    /// How many leaves there are: at most six.
+    /// How many leaves there are: at most `MOST_LEAVES`.
     pub fn len(&self) -> usize
         ensures count { result ≡ length self.now }
-        ensures few { length self.now ≤ 6 }
+        ensures few { length self.now ≤ MOST_LEAVES }
     {
         self.leaves.len()
     }

@@ -1,17 +1,18 @@
-//! A cut of at most six leaves as seven numbers, as a table keeps it.
+//! A cut as a table keeps it: its leaves in place, and their number.
 ghost use Rattle.std.specs.Prelude.{◌≡◌, ℕ, ◌≤◌, List, [], ◌∷◌, length, MatchOption, IfSome, IfNone, IsTrue};
 ghost use Rattle.list_laws.specs.Order.{IsAscending};
 ghost use Rattle.cut_enum.specs.Sets.{before as comes_before, lex};
 ghost use Rattle.cut_enum.specs.Merging.{union, subset};
 ghost use Rattle.cut_enum.specs.Signature.{signature_of};
 
+use crate::limits::MOST_LEAVES;
 use crate::signature::leaf_bit;
 use std::marker::Model;
 
-// The leaves of a cut as a table keeps it: at most six nodes, ascending and without repeats.
+// The leaves of a cut as a table keeps it: at most `MOST_LEAVES` nodes, ascending and without repeats.
 #[derive(Drop)]
 pub struct FlatCut {
-    leaves: [u32; 6],
+    leaves: [u32; MOST_LEAVES],
     len: u32,
 }
 
@@ -32,7 +33,7 @@ impl FlatCut {
         ensures { result ≡ [] }
     {
         FlatCut {
-            leaves: [0; 6],
+            leaves: [0; MOST_LEAVES],
             len: 0,
         }
     }
@@ -41,10 +42,9 @@ impl FlatCut {
     pub fn one(leaf: u32) -> FlatCut
         ensures { result ≡ leaf ∷ [] }
     {
-        FlatCut {
-            leaves: [leaf, 0, 0, 0, 0, 0],
-            len: 1,
-        }
+        let mut leaves = [0; MOST_LEAVES];
+        leaves[0] = leaf;
+        FlatCut { leaves, len: 1 }
     }
 
     // The same leaves again.
@@ -57,10 +57,10 @@ impl FlatCut {
         }
     }
 
-    // How many leaves there are: at most six.
+    // How many leaves there are: at most `MOST_LEAVES`.
     pub fn len(&self) -> usize
         ensures count { result ≡ length self.now }
-        ensures few { length self.now ≤ 6 }
+        ensures few { length self.now ≤ MOST_LEAVES }
     {
         self.len as usize
     }
@@ -68,7 +68,7 @@ impl FlatCut {
     // The leaves, in ascending order.
     pub fn leaves(&self) -> &[u32]
         ensures leaves { result.now ≡ self.now }
-        ensures few { length self.now ≤ 6 }
+        ensures few { length self.now ≤ MOST_LEAVES }
         ensures ascending { IsAscending self.now }
     {
         &self.leaves[..self.len as usize]
@@ -148,10 +148,10 @@ fn least_head<'a>(xs: &'a [u32], ys: &'a [u32]) -> Option<Heads<'a>>
 
 // The leaves of both, if they are so many.
 pub fn joined(a: &FlatCut, b: &FlatCut, size: usize) -> Option<FlatCut>
-    requires { size ≤ 6 }
+    requires { size ≤ MOST_LEAVES }
     ensures { MatchOption result (length (union a.now b.now) ≡ size → ⊥) (λ c. (c ≡ union a.now b.now) × (length c ≡ size)) }
 {
-    let mut leaves = [0; 6];
+    let mut leaves = [0; MOST_LEAVES];
     let mut xs = a.leaves();
     let mut ys = b.leaves();
     for n in 0..size {

@@ -15,7 +15,7 @@ ghost use Rattle.cut_enum.specs.Merging.{IsTooMany, union, add as with_cut, add_
 
 use crate::flat::{FlatCut, joined};
 use crate::level::Level;
-use crate::limits::MOST_OF_A_NODE;
+use crate::limits::{MOST_LEAVES, MOST_OF_A_NODE};
 use crate::signed::{Signed, SignedPart, has_part};
 use crate::table::CutErr;
 use std::alloc::Global;
@@ -97,7 +97,7 @@ fn add_union(
     level: &mut Level,
 ) -> Result<(), CutErr>
     requires signature { signature ≡ signature_of (union d.now c.now) }
-    requires size { size ≤ 6 }
+    requires size { size ≤ MOST_LEAVES }
     requires few { length smaller.now + length level.old ≤ MOST_OF_A_NODE }
     ensures ok { OnOk result (level.new ≡ with_union size smaller.now c.now d.now level.old) }
     ensures few { OnOk result (length smaller.now + length level.new ≤ MOST_OF_A_NODE) }
@@ -121,7 +121,7 @@ fn add_unions(
     ds: &SignedPart<'_>,
     level: &mut Level,
 ) -> Result<(), CutErr>
-    requires size { size ≤ 6 }
+    requires size { size ≤ MOST_LEAVES }
     requires few { length smaller.now + length level.old ≤ MOST_OF_A_NODE }
     ensures ok { OnOk result (level.new ≡ with_unions size smaller.now c.now ds.now level.old) }
     ensures few { OnOk result (length smaller.now + length level.new ≤ MOST_OF_A_NODE) }
@@ -148,7 +148,7 @@ fn add_pairs(
     ds: &SignedPart<'_>,
     level: &mut Level,
 ) -> Result<(), CutErr>
-    requires size { size ≤ 6 }
+    requires size { size ≤ MOST_LEAVES }
     requires few { length smaller.now + length level.old ≤ MOST_OF_A_NODE }
     ensures ok { OnOk result (level.new ≡ with_pairs size smaller.now cs.now ds.now level.old) }
     ensures few { OnOk result (length smaller.now + length level.new ≤ MOST_OF_A_NODE) }
@@ -169,7 +169,7 @@ fn unions_of_size(
     ys: &Signed,
     smaller: &SignedPart<'_>,
 ) -> Result<Vec<FlatCut>, CutErr>
-    requires size { size ≤ 6 }
+    requires size { size ≤ MOST_LEAVES }
     requires few { length smaller.now ≤ MOST_OF_A_NODE }
     ensures ok { IfOk result (λ cuts. cuts.items ≡ unions_at size smaller.now xs.now ys.now) }
     ensures few { IfOk result (λ cuts. length smaller.now + length cuts.items ≤ MOST_OF_A_NODE) }
@@ -193,7 +193,7 @@ pub fn merged(
     xs: &Signed,
     ys: &Signed,
 ) -> Result<Vec<FlatCut>, CutErr>
-    requires { k ≤ 6 }
+    requires { k ≤ MOST_LEAVES }
     ensures ok { IfOk result (λ cuts. cuts.items ≡ all_merged k xs.now ys.now) }
     ensures few { IfOk result (λ cuts. length cuts.items ≤ MOST_OF_A_NODE) }
     ensures too_many { IfErr result (OrMemory refusal_of (λ e. IsTooMany node (all_merged k xs.now ys.now) e)) }

@@ -34,7 +34,7 @@
 //!
 //! # What the table keeps
 //! All cuts lie in one vector, one node's after another's, those of a node with fewer leaves first and then
-//! lexicographically. Each is six places for leaves and their number, and no signature (`flat.rt`). A node has at most
+//! lexicographically. Each is places for leaves and their number, and no signature (`flat.rt`). A node has at most
 //! `MOST_OF_A_NODE` of them and the table at most `MOST_OF_A_TABLE`; a graph that has more is refused at the first node
 //! at which it shows. A graph has one such limit at most, and no table where it has one.
 //!
@@ -55,4 +55,5 @@ mod signed;
 mod table;
 
 pub use cut::{Cut, merge, within};
+pub use limits::MOST_LEAVES;
 pub use table::{CutErr, CutTable, enumerate};

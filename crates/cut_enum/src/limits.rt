@@ -1,4 +1,7 @@
-//! How many cuts there may be.
+//! How many leaves a cut may have, and how many cuts there may be.
+
+/// The most leaves of a cut.
+pub const MOST_LEAVES: usize = 6;
 
 /// The most minimal cuts that a node may have.
 pub const MOST_OF_A_NODE: usize = 4_096;

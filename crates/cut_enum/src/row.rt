@@ -9,7 +9,7 @@ ghost use Rattle.cut_enum.specs.Table.{AreRows};
 
 use crate::flat::FlatCut;
 use crate::least::merged;
-use crate::limits::MOST_OF_A_NODE;
+use crate::limits::{MOST_LEAVES, MOST_OF_A_NODE};
 use crate::signed::Signed;
 use crate::table::{CutErr, CutTable};
 use aig_core::{Graph, Kind, Pair, Steps};
@@ -90,7 +90,7 @@ fn node_row(
     pair: Pair,
     k: u8,
 ) -> Result<Vec<FlatCut>, CutErr>
-    requires few { k ≤ 6 }
+    requires few { k ≤ MOST_LEAVES }
     requires x { pair.x.0 / 2 < node_count graph.now }
     requires y { pair.y.0 / 2 < node_count graph.now }
     ensures ok { IfOk result (λ v. v.items ≡ unions_of graph.now k table.now pair) }
@@ -114,7 +114,7 @@ pub fn row_of<L: Ledger>(
     steps: &mut Steps<L>,
 ) -> Result<Vec<FlatCut>, CutErr>
     requires least { 2 ≤ k }
-    requires most { k ≤ 6 }
+    requires most { k ≤ MOST_LEAVES }
     requires node { n < node_count graph.now }
     requires normal { AreNormal (first_and graph.now) graph.now.pairs }
     requires rows { AreRows graph.now k n table.now }

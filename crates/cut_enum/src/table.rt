@@ -10,7 +10,7 @@ ghost use Rattle.cut_enum.specs.declared.table.CutErr.{CutErr};
 
 use crate::cut::Cut;
 use crate::flat::FlatCut;
-use crate::limits::MOST_OF_A_TABLE;
+use crate::limits::{MOST_LEAVES, MOST_OF_A_TABLE};
 use crate::row::row_of;
 use aig_core::{Graph, Steps};
 use std::alloc::{AllocError, AllocFailed, Global};
@@ -113,7 +113,7 @@ fn enumerate_with<L: Ledger>(
     blank: Blank,
 ) -> Result<CutTable, CutErr>
     requires least { 2 ≤ k }
-    requires most { k ≤ 6 }
+    requires most { k ≤ MOST_LEAVES }
     requires name { blank.name ≡ L.name }
     requires parts { blank.parts ≡ L.parts }
     requires some { 0 < L.parts }
@@ -149,7 +149,7 @@ fn enumerate_with<L: Ledger>(
 /// those of ABC's cut package.
 pub fn enumerate(alloc: Global, graph: &Graph, k: u8) -> Result<CutTable, CutErr>
     requires least { 2 ≤ k }
-    requires most { k ≤ 6 }
+    requires most { k ≤ MOST_LEAVES }
     ensures ok { IfOk result (λ table. AreRows graph.now k (node_count graph.now) table) }
     ensures err { IfErr result (OrMemory refusal_of (λ e. IsLimit graph.now k e)) }
 

@@ -1,4 +1,4 @@
-pub mod DepthLemmas
+mod DepthLemmas
 pub mod PostLemmas
 mod WorkLemmas
 mod MarkLemmas

@@ -1,5 +1,5 @@
 pub mod DepthLemmas
-pub mod LowestLaws
-pub mod LabelLaws
-pub mod OnceLaws
+mod LowestLemmas
+pub mod LabelLemmas
+mod OnceLemmas
 pub mod Examples

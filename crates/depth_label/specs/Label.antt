@@ -60,9 +60,10 @@ pub record AreLabelled (g : Aig) (rows : List (List (List ℕ))) (v : LabelsValu
   pub best : (n : ℕ) → IsAnd g n → IsBestCut (label_of v) (row_at rows n) (best_of v n)
   pub met : (n : ℕ) → IsAnd g n → label_of v n ≡ height (label_of v) (best_of v n)
 
--- a graph with this table has one label a node
+-- a graph with this table has one label and one best cut a node
 pub record HasOneLabelling (g : Aig) (rows : List (List (List ℕ))) : Type 0 where
   pub once : (v w : LabelsValue) → AreLabelled g rows v → AreLabelled g rows w → (n : ℕ) → label_of v n ≡ label_of w n
+  pub best_once : (v w : LabelsValue) → AreLabelled g rows v → AreLabelled g rows w → (n : ℕ) → IsAnd g n → best_of v n ≡ best_of w n
 
 -- no cover of the graph, whatever its cuts, has a node at a lower depth than the node's label
 pub record AreLeastDepths (g : Aig) (k : ℕ) (label : ℕ → ℕ) : Type 0 where

@@ -1,10 +1,10 @@
-pub mod CountLemmas
-pub mod FillLemmas
-pub mod FirstLemmas
-pub mod LayerLemmas
-pub mod MarkLemmas
-pub mod MarksExample
+mod CountLemmas
+mod FillLemmas
+mod FirstLemmas
+mod LayerLemmas
+mod MarkLemmas
+mod MarksExample
 pub mod ReadLemmas
-pub mod ReaderLemmas
-pub mod ReadersExample
-pub mod Zeros
+mod ReaderLemmas
+mod ReadersExample
+mod Zeros

@@ -1,9 +1,7 @@
 -- A set of numbers below a size, by its marks: one for each of these numbers, in their order.
 use Rattle.std.specs.Prelude.{◌≡◌, ℕ, ◌<◌, Bool, true, false, List, length, Option, Some, None, slice_index_or, slice_set}
-
--- is i a member
-abbrev pub is_marked : List Bool → ℕ → Bool
-is_marked marks i = slice_index_or marks i false
+-- is a number a member
+pub use Rattle.list_laws.specs.Digits.{bit_in as is_marked}
 
 -- i is the least member
 pub record IsLeast (marks : List Bool) (i : ℕ) : Type 0 where

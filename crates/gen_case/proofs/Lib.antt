@@ -1,3 +1,4 @@
 pub mod LineLemmas
-pub mod SizeLemmas
-pub mod Examples
+mod SizeLemmas
+pub mod PlainLemmas
+mod Examples

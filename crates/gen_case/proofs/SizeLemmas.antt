@@ -22,7 +22,7 @@ use Rattle.gen_case.specs.Steps.{after_blanks}
 use Rattle.gen_case.proofs.LineLemmas.{joined}
 
 -- a net whose numbers have two digits at most
-abbrev IsLow : Net → Type 0
+abbrev pub IsLow : Net → Type 0
 IsLow Zero = Unit {0}
 IsLow (Digit bus place) = place < 100
 IsLow (Partial i j) = (i < 100) × (j < 100)
@@ -117,13 +117,13 @@ partials_short n h =
     lines_short (λ j. flat_map (partial_lines j) (below n)) 1280 32 0 n h
     (λ j low high. lines_short (partial_lines j) 40 32 0 n h (λ i from to. partial_short j i (omega arith) (omega arith)))
 
-from_before_low : (n j i : ℕ) → n ≤ 32 → j < 32 → i < 32 → IsLow (from_before n j i)
+pub from_before_low : (n j i : ℕ) → n ≤ 32 → j < 32 → i < 32 → IsLow (from_before n j i)
 from_before_low n j i h k l =
     choose_one IsLow (eqb j 1) (cond (eqb i (n - 1)) Zero (Partial (i + 1) 0)) (cond (eqb i (n - 1)) (Carry (j - 1) (n - 1)) (Sum (j - 1) (i + 1)))
     (choose_one IsLow (eqb i (n - 1)) Zero (Partial (i + 1) 0) tt (omega arith, omega arith))
     (choose_one IsLow (eqb i (n - 1)) (Carry (j - 1) (n - 1)) (Sum (j - 1) (i + 1)) (omega arith, omega arith) (omega arith, omega arith))
 
-carry_in_low : (j i : ℕ) → j < 32 → i < 32 → IsLow (carry_in j i)
+pub carry_in_low : (j i : ℕ) → j < 32 → i < 32 → IsLow (carry_in j i)
 carry_in_low j i h k = choose_one IsLow (eqb i 0) Zero (Carry j (i - 1)) tt (omega arith, omega arith)
 
 adder_short : (before carry : Net) (j i : ℕ) → IsLow before → IsLow carry → j < 32 → i < 32 → length (line_text (adder_line before carry j i) ++ []) ≤ 80
@@ -140,7 +140,7 @@ adders_short n h =
     (λ j low high. lines_short (adder_lines n j) 80 32 0 n h
     (λ i from to. adder_short (from_before n j i) (carry_in j i) j i (from_before_low n j i h (omega arith) (omega arith)) (carry_in_low j i (omega arith) (omega arith)) (omega arith) (omega arith)))
 
-source_low : (n t : ℕ) → n ≤ 32 → t < 64 → IsLow (source_of n t)
+pub source_low : (n t : ℕ) → n ≤ 32 → t < 64 → IsLow (source_of n t)
 source_low n t h k =
     let above : Net = cond (ltb t (2 * n - 1)) (Sum (n - 1) (t - n + 1)) (Carry (n - 1) (n - 1)) in
     let digits : Net = cond (ltb t n) (Sum t 0) above in

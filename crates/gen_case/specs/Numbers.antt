@@ -1,5 +1,6 @@
 -- The numbers of the rounds, and their binary digits.
-use Rattle.std.specs.Prelude.{ℕ, ◌+◌, ◌*◌, ◌%◌, ◌^◌, Bool, true, false, List, codes}
+use Rattle.std.specs.Prelude.{ℕ, ◌+◌, ◌*◌, ◌%◌, ◌^◌}
+pub use Rattle.list_laws.specs.Digits.{digit_text}
 
 -- the coefficient before the first round
 abbrev pub first_coefficient : ℕ → ℕ → ℕ
@@ -12,7 +13,3 @@ coefficient_of n seed j = (seed + 2654435761 * j) % 2 ^ n
 -- the data of round j
 abbrev pub data_of : ℕ → ℕ → ℕ → ℕ
 data_of n seed j = (seed + 40503 * j * j) % 2 ^ n
-
-abbrev pub digit_text : Bool → List ℕ
-digit_text true = codes "1"
-digit_text false = codes "0"

@@ -17,6 +17,12 @@ pub choose_both : {X : Type 0} (P : X → X → Type 0) (b : Bool) (x y v w : X)
 choose_both P true x y v w p q = p
 choose_both P false x y v w p q = q
 
+-- two tests that pass together are one
+pub same_test : (a b : Bool) → (a ≡ true → b ≡ true) → (b ≡ true → a ≡ true) → a ≡ b
+same_test true b to from = sym (to refl)
+same_test false true to from = from refl
+same_test false false to from = refl
+
 -- what a choice of an option says of its test
 pub none_then : {A : Type 0} (b : Bool) (x : A) → cond b (Some x) None ≡ None → b ≡ false
 none_then true x h = absurd (none-some x (sym h))

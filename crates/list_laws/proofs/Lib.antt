@@ -5,5 +5,6 @@ pub mod FirstPlace
 pub mod Items
 pub mod Members
 pub mod Places
+pub mod Ranges
 pub mod Reversed
 pub mod TwoLists

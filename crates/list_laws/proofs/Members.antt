@@ -1,9 +1,10 @@
 -- Members of lists: by their places, of joined, of mapped and of filtered lists.
-use Rattle.std.proofs.Common.{◌≡◌, ◌⊎◌, ℕ, zero, suc, ◌<◌, Bool, true, cond, List, [], ◌∷◌, ◌++◌, length, get_or, map, Some, refl, sym, ap, ◌∙◌, subst, inl, inr, arith}
+use Rattle.std.proofs.Common.{◌≡◌, ◌⊎◌, ℕ, zero, suc, ◌<◌, ◌≤◌, Bool, true, cond, List, [], ◌∷◌, ◌++◌, length, get_or, map, Some, refl, sym, ap, ◌∙◌, subst, inl, inr, arith}
 use Rattle.std.specs.Prelude.{filter, slice_get}
+use Rattle.std.proofs.lemmas.Bool.{cases_eq}
 use Rattle.std.proofs.lemmas.Option.{none-some, same_Some}
 use Rattle.list_laws.specs.Members.{In}
-use Rattle.list_laws.proofs.Choice.{choose}
+use Rattle.list_laws.proofs.Choice.{choose, choose_one}
 
 -- the element at a place is a member
 pub In-get_or : {A : Type 0} (xs : List A) (i : ℕ) (d : A) → i < length xs → In xs (get_or xs i d)
@@ -15,6 +16,14 @@ pub In-get : {A : Type 0} (xs : List A) (i : ℕ) (x : A) → slice_get xs i ≡
 In-get [] i x e = absurd (none-some x e)
 In-get (y ∷ xs) zero x e = inl (sym (same_Some y x e))
 In-get (y ∷ xs) (suc i) x e = inr (In-get xs i x e)
+
+-- a number is a member, or it is none
+pub in_or : (ns : List ℕ) (n : ℕ) → In ns n ⊎ (In ns n → ⊥)
+in_or [] n = inr (λ i. i)
+in_or (m ∷ ms) n = elim (cases_eq n m) [
+  | inl e ↦ inl (inl e)
+  | inr d ↦ elim (in_or ms n) [ inl i ↦ inl (inr i) | inr o ↦ inr (λ i. elim i [ inl e ↦ d e | inr j ↦ o j ]) ]
+]
 
 -- and a member stands at a place
 pub place_in : {A : Type 0} (xs : List A) (x : A) → In xs x → (i : ℕ) × (slice_get xs i ≡ Some x)
@@ -67,6 +76,13 @@ pub in_filter : {A : Type 0} (test : A → Bool) (xs : List A) (x : A) → In xs
 in_filter test [] x i t = absurd i
 in_filter test (y ∷ ys) x (inl e) t = subst (λ b. In (cond b (y ∷ filter test ys) (filter test ys)) x) (sym (ap test (sym e) ∙ t)) (inl e)
 in_filter test (y ∷ ys) x (inr i) t = choose (λ zs. In zs x) (test y) (y ∷ filter test ys) (filter test ys) (λ _. inr (in_filter test ys x i t)) (λ _. in_filter test ys x i t)
+
+-- and are no more than those of the list
+pub length-filter_le : {A : Type 0} (test : A → Bool) (xs : List A) → length (filter test xs) ≤ length xs
+length-filter_le test [] = omega arith
+length-filter_le test (x ∷ xs) =
+    let rest : length (filter test xs) ≤ length xs = length-filter_le test xs in
+    choose_one (λ l. length l ≤ suc (length xs)) (test x) (x ∷ filter test xs) (filter test xs) (omega arith) (omega arith)
 
 -- two functions that agree at each member map a list alike
 pub map_agree : {A B : Type 0} (f g : A → B) (xs : List A) → ((x : A) → In xs x → f x ≡ g x) → map f xs ≡ map g xs

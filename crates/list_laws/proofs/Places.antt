@@ -1,5 +1,5 @@
 -- The elements of a list by their places: of joined lists, of what is left behind a place, and with one element set.
-use Rattle.std.proofs.Common.{◌≡◌, ◌⊎◌, ℕ, zero, suc, ◌+◌, ◌<◌, ◌≤◌, eqb, List, [], ◌∷◌, ◌++◌, length, drop, Some, None, replicate, refl, sym, ap, subst, inl, inr, arith, eqb-true, eq-eqb, slice_set}
+use Rattle.std.proofs.Common.{◌≡◌, ◌⊎◌, ℕ, zero, suc, ◌+◌, ◌<◌, ◌≤◌, eqb, List, [], ◌∷◌, ◌++◌, length, drop, take, Some, None, replicate, refl, sym, ap, ◌∙◌, subst, inl, inr, arith, eqb-true, eq-eqb, slice_set}
 use Rattle.std.specs.Prelude.{slice_get}
 use Rattle.std.proofs.lemmas.Bool.{both_ways, cases_Bool}
 use Rattle.std.proofs.lemmas.Option.{none-some, same_Some}
@@ -48,6 +48,21 @@ drop_past [] zero l = refl
 drop_past [] (suc i) l = refl
 drop_past (x ∷ xs) zero l = absurd (omega arith)
 drop_past (x ∷ xs) (suc i) l = drop_past xs i (omega arith)
+
+-- what is taken up to behind a place
+pub take_get : {A : Type 0} (xs : List A) (i : ℕ) (x : A) → slice_get xs i ≡ Some x → take (i + 1) xs ≡ take i xs ++ x ∷ []
+take_get [] i x e = absurd (none-some x e)
+take_get (y ∷ ys) zero x e = ap (λ z. z ∷ []) (same_Some y x e)
+take_get (y ∷ ys) (suc i) x e = let n : suc i + 1 ≡ suc (i + 1) = omega arith in subst (λ m. take m (y ∷ ys) ≡ y ∷ (take i ys ++ x ∷ [])) (sym n) (ap (λ l. y ∷ l) (take_get ys i x e))
+
+-- lists of one length whose elements are the same place by place
+pub same_list : {A : Type 0} (xs ys : List A) → length xs ≡ length ys → ((i : ℕ) (x y : A) → slice_get xs i ≡ Some x → slice_get ys i ≡ Some y → x ≡ y) → xs ≡ ys
+same_list [] [] n h = refl
+same_list [] (y ∷ ys) n h = absurd (omega arith)
+same_list (x ∷ xs) [] n h = absurd (omega arith)
+same_list (x ∷ xs) (y ∷ ys) n h =
+    let m : suc (length xs) ≡ suc (length ys) = n in
+    ap (λ z. z ∷ xs) (h 0 x y refl refl) ∙ ap (λ zs. y ∷ zs) (same_list xs ys (omega arith) (λ i a b e f. h (suc i) a b e f))
 
 -- a list of one element many times
 pub replicate_at : {A : Type 0} (n i : ℕ) (x : A) → i < n → slice_get (replicate n x) i ≡ Some x

@@ -4,7 +4,7 @@
 //! binary digits, the lowest first.
 //!
 //! The laws stand in `proofs`, over any type of elements: `Members` (of joined, mapped and filtered lists), `Reversed`, `Apart` (lists in
-//! which nothing stands twice), `Places` (elements by their places, with one set), `Items` (what a loop over a list meets),
+//! which nothing stands twice), `Places` (elements by their places, with one set), `Ranges` (of numbers), `Items` (what a loop over a list meets),
 //! `TwoLists`, `FirstPlace` (where a test passes first), `Choice` (what holds of a value that a test chooses), `Digits`.
 #![tactic(auto)]
 

@@ -1,6 +1,6 @@
-pub mod StepLemmas
+mod StepLemmas
 pub mod FitLemmas
 pub mod RoomLemmas
-pub mod MappingLemmas
+mod MappingLemmas
 pub mod SourceLemmas
 pub mod ToggleLemmas

@@ -8,24 +8,13 @@ use Rattle.list_laws.specs.Members.{In}
 use Rattle.cover_pick.specs.declared.lut.Lut.{Lut}
 use Rattle.cover_pick.specs.Template.{TemplateValue}
 use Rattle.cover_pick.specs.Mapping.{AscendByLit, HaveBases, bits_of}
+use Rattle.cover_pick.proofs.BitsLemmas.{base_within}
 use Rattle.lut_sim.specs.declared.shape.Shape.{Shape}
 use Rattle.lut_sim.specs.Sources.{last_source, is_regular}
 use Rattle.lut_sim.specs.Playable.{IsPlayable, HasValue}
 use Rattle.lut_sim.specs.Keeps.{HasRoom}
 use Rattle.lut_sim.specs.Steps.{IsTableInRoom, filled}
 use Rattle.lut_sim.proofs.FitLemmas.{plain_parts}
-
--- a table's bits lie within the bits of all
-bits_within : (b : ℕ) (ts : List Lut) (t : Lut) → HaveBases b ts → In ts t → t.base + 2 ^ length t.leaves ≤ b + bits_of ts
-bits_within b [] t h i = elim i [ ]
-bits_within b (u ∷ ts) t h (inl e) =
-    let s : bits_of (u ∷ ts) ≡ 2 ^ length u.leaves + bits_of ts = sum_by-cons (λ (x : Lut). 2 ^ length x.leaves) u ts in
-    let base : u.base ≡ b = h.0 in
-    subst (λ (x : Lut). x.base + 2 ^ length x.leaves ≤ b + bits_of (u ∷ ts)) (sym e) (omega arith)
-bits_within b (u ∷ ts) t h (inr i) =
-    let s : bits_of (u ∷ ts) ≡ 2 ^ length u.leaves + bits_of ts = sum_by-cons (λ (x : Lut). 2 ^ length x.leaves) u ts in
-    let r : t.base + 2 ^ length t.leaves ≤ b + 2 ^ length u.leaves + bits_of ts = bits_within (b + 2 ^ length u.leaves) ts t h.1 i in
-    omega arith
 
 -- a test on two sides that are both within a bound
 either_within : (a b c d : Bool) (m n : ℕ) → (b ≡ true → m ≤ n) → (d ≡ true → m ≤ n) → ((a && b) || (c && d)) ≡ true → m ≤ n
@@ -45,7 +34,7 @@ table_in_room c s size bits p r e t i = record {
     | inl a ↦ (let w : m ≤ last_source s = regular_within s m a in omega arith)
     | inr a ↦ (let b : m < t.lit.0 / 2 = p.below t m i j a in omega arith)
   ];
-  bits_in = let w : t.base + 2 ^ length t.leaves ≤ 0 + bits_of c.luts = bits_within 0 c.luts t p.bases i in let q : c.bits ≡ bits_of c.luts = p.sum in omega arith;
+  bits_in = let w : t.base + 2 ^ length t.leaves ≤ 0 + bits_of c.luts = base_within 0 c.luts t p.bases i in let q : c.bits ≡ bits_of c.luts = p.sum in omega arith;
 }
 
 -- the last table has the greatest literal

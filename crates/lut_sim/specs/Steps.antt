@@ -1,14 +1,12 @@
 -- The lists that the steps of a cycle write: private helpers of the code.
 use Rattle.std.specs.Prelude.{◌≡◌, IsTrue, ℕ, ◌+◌, ◌*◌, ◌^◌, ◌<◌, ◌≤◌, Bool, false, if◌then◌else◌, List, [], ◌∷◌, length, slice_set, slice_index_or}
 use Rattle.list_laws.specs.Members.{In}
+-- the value of a literal
+pub use Rattle.list_laws.specs.Digits.{bit_in as value_in}
 use Rattle.cover_pick.specs.declared.lut.Lut.{Lut}
 use Rattle.lut_sim.specs.declared.shape.Shape.{Shape}
 use Rattle.lut_sim.specs.Sources.{is_regular, is_plain, source_value}
 use Rattle.lut_sim.specs.Cycle.{address}
-
--- the value of a literal
-abbrev pub value_in : List Bool → ℕ → Bool
-value_in values l = slice_index_or values l false
 
 -- bits as the values of the sources from n on
 abbrev pub with_sources : List Bool → ℕ → List Bool → List Bool

@@ -39,5 +39,5 @@ mod play;
 mod shape;
 mod sim;
 
-pub use shape::Shape;
+pub use shape::{Shape, is_plain};
 pub use sim::Sim;

@@ -48,7 +48,7 @@ fn play_table(shape: &Shape, config: &[bool], table: &Lut, values: &mut [bool])
     ensures { values.new ≡ with_table shape.now config.now values.old table.now }
 {
     let address = table.base as usize + number_of(values, &table.leaves);
-    if !is_plain(shape, table.lit) {
+    if !is_plain(shape, u64::from(table.lit.0)) {
         values[table.lit.0 as usize] = config[address];
     }
 }

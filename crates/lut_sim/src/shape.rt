@@ -9,8 +9,6 @@ ghost use Rattle.lut_sim.specs.GraphShape.{HasShape};
 ghost use Rattle.lut_sim.specs.Playable.{IsPlayable};
 ghost use Rattle.lut_sim.specs.Sources.{is_regular as regular_of, is_plain as plain_of};
 
-use aig_core::Lit;
-
 /// How many sources there are: the regular inputs first, then the parameters, then the latches.
 ///
 /// Index 0 of a graph is the constant, so the sources have the indices from 1 on. Regular inputs and latches
@@ -43,19 +41,19 @@ impl Shape {
 }
 
 // Is this a regular input or a latch?
-fn is_regular(shape: &Shape, n: u32) -> bool
+fn is_regular(shape: &Shape, n: u64) -> bool
     ensures { result ≡ regular_of shape.now n }
 {
-    let n = u64::from(n);
     let regular = u64::from(shape.regular);
     let before_latches = regular + u64::from(shape.params);
     let last = before_latches + u64::from(shape.latches);
     (1 <= n && n <= regular) || (before_latches < n && n <= last)
 }
 
-// Is this the positive literal of a regular source?
-pub fn is_plain(shape: &Shape, lit: Lit) -> bool
-    ensures { result ≡ plain_of shape.now lit.0 }
+/// Whether this is the positive literal of a regular source, which needs no table. A literal has 64 bits here, since the
+/// leaves of tables that were made elsewhere may be any numbers.
+pub fn is_plain(shape: &Shape, lit: u64) -> bool
+    ensures { result ≡ plain_of shape.now lit }
 {
-    lit.0 % 2 == 0 && is_regular(shape, lit.0 / 2)
+    lit % 2 == 0 && is_regular(shape, lit / 2)
 }

@@ -41,7 +41,7 @@ value_in x s net (Some c) covers = cover_value c (values_in x s net covers c.inp
 abbrev pub value_at : LibraryValue → (Path → List ℕ → Option Net) → (List ℕ → Bool) → (Path → ℕ → Bool) → Place → (Place → Bool) → Bool
 value_at library net x s p covers = value_in x s (net p.path) (cover_at library p) covers
 
-in_rest : (o : Option Net) (places : List Place) (p : Place) → In places p → In (with_cover o places) p
+pub in_rest : (o : Option Net) (places : List Place) (p : Place) → In places p → In (with_cover o places) p
 in_rest None places p i = i
 in_rest (Some (input_net name)) places p i = i
 in_rest (Some (latch_net path k)) places p i = i

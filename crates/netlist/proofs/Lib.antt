@@ -1,15 +1,16 @@
-pub mod Common
+mod Common
 pub mod ControlLemmas
 pub mod EvaluateLemmas
-pub mod InstanceLemmas
+mod InstanceLemmas
 pub mod LawLemmas
 pub mod LoopLemmas
 pub mod MeetLemmas
 pub mod NameLemmas
 pub mod NetLemmas
-pub mod OneFlatLemmas
+mod OneFlatLemmas
 pub mod OrderLemmas
 pub mod PlaceLemmas
 pub mod PostLemmas
-pub mod RegularLemmas
+pub mod RunLemmas
+mod RegularLemmas
 mod Worked

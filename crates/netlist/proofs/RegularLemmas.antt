@@ -4,7 +4,6 @@ use Rattle.netlist.specs.LibraryValue.{LibraryValue}
 use Rattle.netlist.specs.{has_name, IsMainInput, IsClock, IsFlat, AreOnce}
 use Rattle.netlist.specs.FlatValue.{FlatValue}
 use Rattle.tl_text.proofs.NameSetLemmas.{in_has}
-pub use Rattle.list_laws.proofs.Members.{In-filter}
 use Rattle.list_laws.proofs.Members.{In-filter}
 
 pub record IsRegular (library : LibraryValue) (name : List ℕ) : Type 0 where
@@ -19,12 +18,3 @@ regular library flat f j name e =
       input = record { model = f.main; at = f.is_main; is = or_left (has_name (f.main).inputs name) (has_name (f.main).clocks name) (in_has (f.main).inputs name r.0) };
       off = (f.tells).no name (not-true (f.test name) r.1);
     }
-
--- The bounds of the flat circuit of a light library.
-
--- a filtered list has no name twice where the list has none
-pub filtered_once : (test : List ℕ → Bool) (names : List (List ℕ)) → AreOnce names → AreOnce (filter test names)
-filtered_once test [] once = tt
-filtered_once test (name ∷ names) once =
-    let rest : AreOnce (filter test names) = filtered_once test names once.1 in
-    choose (λ l. AreOnce l) (test name) (name ∷ filter test names) (filter test names) (λ t. (λ (i : In (filter test names) name). once.0 (In-filter test names name i).0, rest)) (λ u. rest)

@@ -54,3 +54,14 @@ pub record IsRun (library : LibraryValue) (xs : List (List ℕ → Bool)) (outpu
   pub latches : List Place
   pub are_latches : AreLatches library main latches
   pub runs : Runs library (inits_of library latches) xs outputs states
+
+-- there is a cycle from these states under these values, and a run under these
+pub record HasACycle (library : LibraryValue) (x : List ℕ → Bool) (s : List Bool) : Type 0 where
+  pub outputs : List Bool
+  pub next : List Bool
+  pub is : IsCycle library x s outputs next
+
+pub record HasARun (library : LibraryValue) (xs : List (List ℕ → Bool)) : Type 0 where
+  pub outputs : List (List Bool)
+  pub states : List (List Bool)
+  pub is : IsRun library xs outputs states

@@ -1,10 +1,7 @@
 -- The weight of a model: what it holds, and the weights of the models that it places.
-use Rattle.std.specs.Prelude.{◌≡◌, ℕ, ◌+◌, ◌≤◌, List, [], ◌∷◌, length, Option, Some, None}
+use Rattle.std.specs.Prelude.{◌≡◌, ℕ, ◌+◌, ◌≤◌, List, [], ◌∷◌, length, Some}
+pub use Rattle.std.specs.Option.{option_len as control_weight}
 use Rattle.netlist.specs.Circuits.{subckts_of, model_named, model_at, Body, Cover, Latch, Subckt, Command, SubcktValue, ModelValue, LibraryValue}
-
-abbrev pub control_weight : Option (List ℕ) → ℕ
-control_weight None = 0
-control_weight (Some name) = 1
 
 -- 1 for each name of a `.names` line, for each input, output and control of a latch, and for each connection
 abbrev pub body_weight : Body → ℕ

@@ -1,8 +1,8 @@
-pub mod RefusalLemmas
-pub mod ReadLemmas
+mod RefusalLemmas
+mod ReadLemmas
 pub mod LineLemmas
 pub mod OnceLemmas
-pub mod SameLemmas
+mod SameLemmas
 pub mod MarkLemmas
 pub mod RegularLemmas
-pub mod ParamsExample
+mod ParamsExample

@@ -5,6 +5,7 @@ use Rattle.std.specs.Option.{option_map}
 use Rattle.std.proofs.lemmas.Option.{none-some, same_Some, slice_get-map, slice_get_read}
 use Rattle.list_laws.specs.Members.{In}
 use Rattle.list_laws.proofs.Items.{member_at}
+use Rattle.list_laws.proofs.Members.{from_map}
 use Rattle.tl_text.specs.Clean.{IsClean, AreCleanIn}
 use Rattle.tl_text.specs.Decimal.{bit_of}
 use Rattle.tl_text.specs.LineValue.{LineValue, token_bytes, words_line}
@@ -15,22 +16,6 @@ use Rattle.param_list.specs.Parameters.{param_names}
 use Rattle.param_list.specs.ParamsText.{Entry, entry_of, entry_with, entry_refusal, line_refusal, IsParamOf}
 use Rattle.param_list.proofs.RefusalLemmas.{is_new}
 use Rattle.param_list.proofs.ReadLemmas.{AreRead, one_more, param_names-push}
-
--- what holds of the error that a `?` passes on
-pub passed_err : {T E : Type 0} (r : Result T E) (e : E) (P : E → Type 0) → IsErrAnd r (λ y. y ≡ e) → P e → IfErr r P
-passed_err (Ok x) e P is p = tt
-passed_err (Err y) e P is p = subst P (sym is) p
-
--- a member of a mapped list comes from a member
-pub record ComesFrom {A B : Type 0} (f : A → B) (xs : List A) (y : B) : Type 0 where
-  pub source : A
-  pub member : In xs source
-  pub is : y ≡ f source
-
-pub from_map : {A B : Type 0} (f : A → B) (xs : List A) (y : B) → In (map f xs) y → ComesFrom f xs y
-from_map f [] y i = absurd i
-from_map f (x ∷ xs) y (inl e) = record { source = x; member = inl refl; is = e }
-from_map f (x ∷ xs) y (inr i) = let r = from_map f xs y i in record { source = r.source; member = inr r.member; is = r.is }
 
 -- the name that a line says is one of its words
 said_name : (name : List ℕ) (o : Option Bool) (e : Entry) → entry_with name o ≡ Some e → e.name ≡ name
@@ -51,7 +36,7 @@ module _ (text : List ℕ) (lines : List LineValue) (i : ℕ) (line : LineValue)
     clean_name : AreCleanIn text lines → IsClean p.name
     clean_name clean =
         let r = from_map (token_bytes text) line.tokens p.name (entry_name (words_line text line).words (record { name = p.name; init = p.init }) is.says) in
-        subst IsClean (sym r.is) (clean.each line (member_at lines i line within item) r.source r.member)
+        subst IsClean (sym r.2) (clean.each line (member_at lines i line within item) r.0 r.1)
 
     pub new_name : (clocks earlier : List (List ℕ)) → line_refusal inputs clocks earlier (words_line text line) ≡ None → place_of earlier p.name ≡ None
     new_name clocks earlier none =

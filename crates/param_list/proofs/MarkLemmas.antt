@@ -9,7 +9,7 @@ use Rattle.list_laws.specs.Order.{IsAscending}
 use Rattle.list_laws.proofs.Members.{In-get, map_agree}
 use Rattle.tl_text.specs.Once.{AreOnce}
 use Rattle.netlist.specs.Models.{has_name}
-use Rattle.tl_text.proofs.NameSetLemmas.{has_one_more, no_match}
+use Rattle.tl_text.proofs.NameSetLemmas.{has_one_more, no_match, or_nothing}
 use Rattle.param_list.specs.Marks.{marks_of, off_places}
 
 -- nothing is marked at first
@@ -17,13 +17,8 @@ pub no_marks : (inputs : List (List ℕ)) → replicate (length inputs) false �
 no_marks [] = refl
 no_marks (x ∷ xs) = ap (λ l. false ∷ l) (no_marks xs)
 
--- one more name
-or_false : (b c : Bool) → c ≡ false → b || (c || false) ≡ b
-or_false true c h = refl
-or_false false c h = ap (λ d. d || false) h
-
 has_other : (names : List (List ℕ)) (name x : List ℕ) → (x ≡ name → ⊥) → has_name (names ++ name ∷ []) x ≡ has_name names x
-has_other names name x other = has_one_more names name x ∙ or_false (has_name names x) (bytes_eq x name) (no_match x name other)
+has_other names name x other = has_one_more names name x ∙ or_nothing (has_name names x) (bytes_eq x name) (no_match x name other)
 
 pub has_this : (names : List (List ℕ)) (name : List ℕ) → has_name (names ++ name ∷ []) name ≡ true
 has_this names name = has_one_more names name name ∙ or_right (has_name names name) (bytes_eq name name || false) (or_left (bytes_eq name name) false ((bytes_decides name name).1 refl))

@@ -1,10 +1,10 @@
 -- A text is one list of parameters at most, or has one refusal at most, and never both.
 use Rattle.std.proofs.Common.{◌≡◌, ℕ, suc, ◌<◌, Bool, List, [], ◌∷◌, length, map, Some, Err, refl, sym, ap, ◌∙◌, subst, inl, inr, arith}
 use Rattle.std.specs.Prelude.{slice_get}
-use Rattle.std.proofs.lemmas.Bool.{cases_lt}
 use Rattle.std.proofs.lemmas.Option.{none-some, same_Some}
 use Rattle.list_laws.proofs.Members.{place_in}
 use Rattle.list_laws.proofs.TwoLists.{item_there}
+use Rattle.list_laws.proofs.Places.{same_list}
 use Rattle.tl_text.specs.LineValue.{WordsLine, words_line}
 use Rattle.tl_text.specs.Lines.{lines_of}
 use Rattle.tl_text.specs.Once.{AreOnce}
@@ -12,6 +12,7 @@ pub use Rattle.tl_text.proofs.NameSetLemmas.{one_place}
 use Rattle.tl_text.specs.Refusals.{refusal_of as text_refusal}
 use Rattle.tl_text.specs.declared.text_err.TextErr.{TextErr}
 use Rattle.tl_text.specs.declared.text_err.TextErr.TheVariants as text_err
+use Rattle.tl_text.proofs.FirstLemmas.{one_first}
 use Rattle.tl_fault.specs.OrMemory.{OrMemory}
 use Rattle.netlist.specs.FlatValue.{FlatValue}
 use Rattle.param_list.specs.declared.params.Param.{Param}
@@ -20,15 +21,6 @@ use Rattle.param_list.specs.LinesErr.{par_err}
 use Rattle.param_list.specs.Refusals.{refusal_of}
 use Rattle.param_list.specs.Parameters.{AreNamed, AreParameters}
 use Rattle.param_list.specs.ParamsText.{Entry, refusal_at, IsFirstRefusal, IsParamOf, AreParamsOf, IsParamsText, IsParamsFault, bad_byte, trailing_slash, at_line, HasOneReading}
-
--- lists of one length whose elements are the same place by place
-same_list : {A : Type 0} (xs ys : List A) → length xs ≡ length ys → ((i : ℕ) (x y : A) → slice_get xs i ≡ Some x → slice_get ys i ≡ Some y → x ≡ y) → xs ≡ ys
-same_list [] [] n h = refl
-same_list [] (y ∷ ys) n h = absurd (omega arith)
-same_list (x ∷ xs) [] n h = absurd (omega arith)
-same_list (x ∷ xs) (y ∷ ys) n h =
-    let m : suc (length xs) ≡ suc (length ys) = n in
-    ap (λ z. z ∷ xs) (h 0 x y refl refl) ∙ ap (λ zs. y ∷ zs) (same_list xs ys (omega arith) (λ i a b e f. h (suc i) a b e f))
 
 abbrev param : List ℕ → ℕ → Bool → Param
 param name input init = record { name = name; input = input; init = init }
@@ -47,19 +39,6 @@ same_params inputs clocks once lines params others a b = same_list params others
     let l = item_there params lines i p a.count e in
     same_param inputs once l.0 p q (a.each i l.0 p l.1 e) (b.each i l.0 q l.1 f))
 
--- one line is the first that has a refusal
-not_earlier : (inputs clocks : List (List ℕ)) (lines : List WordsLine) (e f : ParErr) (a : IsFirstRefusal inputs clocks lines e) (b : IsFirstRefusal inputs clocks lines f) → a.place < b.place → ⊥
-not_earlier inputs clocks lines e f a b l = none-some e (sym (b.none_before a.place l) ∙ a.is)
-
-one_first : (inputs clocks : List (List ℕ)) (lines : List WordsLine) (e f : ParErr) → IsFirstRefusal inputs clocks lines e → IsFirstRefusal inputs clocks lines f → e ≡ f
-one_first inputs clocks lines e f a b = elim (cases_lt a.place b.place) [
-  | inl l ↦ absurd (not_earlier inputs clocks lines e f a b l)
-  | inr m ↦ elim (cases_lt b.place a.place) [
-    | inl l ↦ absurd (not_earlier inputs clocks lines f e b a l)
-    | inr n ↦ (let same : a.place ≡ b.place = omega arith in same_Some e f (sym a.is ∙ ap (refusal_at inputs clocks lines) same ∙ b.is))
-  ]
-]
-
 module _ (flat : FlatValue) (text : List ℕ) where
   one_list : AreOnce flat.inputs → (params others : List Param) → IsParamsText flat text params → IsParamsText flat text others → params ≡ others
   one_list once params others a b =
@@ -77,7 +56,7 @@ module _ (flat : FlatValue) (text : List ℕ) where
   one_fault e f (at_line l a b) (trailing_slash m c d) = cc (a, c)
   one_fault e f (at_line l a b) (at_line m c d) =
       let same : m ≡ l = cc (a, c) in
-      one_first flat.inputs flat.clocks (map (words_line text) l) e f b (subst (λ k. IsFirstRefusal flat.inputs flat.clocks (map (words_line text) k) f) same d)
+      one_first (refusal_at flat.inputs flat.clocks (map (words_line text) l)) e f b (subst (λ k. IsFirstRefusal flat.inputs flat.clocks (map (words_line text) k) f) same d)
 
   not_both : (params : List Param) (e : ParErr) → IsParamsText flat text params → IsParamsFault flat text e → ⊥
   not_both params e t (bad_byte l a b) = cc (t.lines_are, a)

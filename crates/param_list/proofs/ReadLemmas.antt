@@ -6,7 +6,7 @@ use Rattle.std.proofs.lemmas.Bool.{cases_lt}
 use Rattle.std.proofs.lemmas.List.{length-map, map-append}
 use Rattle.std.proofs.lemmas.Option.{none-some, same_Some, slice_get_past}
 use Rattle.list_laws.proofs.Members.{In-push}
-use Rattle.list_laws.proofs.Places.{get_pushed}
+use Rattle.list_laws.proofs.Places.{get_pushed, take_get}
 use Rattle.tl_text.specs.Clean.{IsClean}
 use Rattle.tl_text.specs.LineValue.{WordsLine}
 use Rattle.tl_text.specs.Once.{AreOnce}
@@ -16,12 +16,6 @@ use Rattle.param_list.specs.declared.par_err.ParErr.{ParErr}
 use Rattle.param_list.specs.Parameters.{param_names, AreNamed}
 use Rattle.param_list.specs.ParamsText.{Entry, entry_of, with_name, names_said, line_refusal, entry_refusal, refusal_at, IsFirstRefusal, IsParamOf, AreParamsOf}
 use Rattle.param_list.proofs.RefusalLemmas.{is_short, are_few, is_new}
-
--- one more element is taken
-pub take_get : {A : Type 0} (xs : List A) (i : ℕ) (x : A) → slice_get xs i ≡ Some x → take (i + 1) xs ≡ take i xs ++ x ∷ []
-take_get [] i x e = absurd (none-some x e)
-take_get (y ∷ ys) zero x e = ap (λ z. z ∷ []) (same_Some y x e)
-take_get (y ∷ ys) (suc i) x e = let n : suc i + 1 ≡ suc (i + 1) = omega arith in subst (λ m. take m (y ∷ ys) ≡ y ∷ (take i ys ++ x ∷ [])) (sym n) (ap (λ l. y ∷ l) (take_get ys i x e))
 
 with_name-append : (o : Option Entry) (xs ys : List (List ℕ)) → with_name o (xs ++ ys) ≡ with_name o xs ++ ys
 with_name-append None xs ys = refl

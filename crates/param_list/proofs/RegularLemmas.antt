@@ -6,7 +6,7 @@ use Rattle.std.proofs.lemmas.Bool.{both_ways, cases_Bool, cond-true, cond-false,
 use Rattle.std.proofs.lemmas.List.{length-map}
 use Rattle.std.proofs.lemmas.Option.{same_Some, slice_get-map, slice_get_within}
 use Rattle.list_laws.specs.Members.{In}
-use Rattle.list_laws.proofs.Members.{In-get, In-map, In-append, In-left, In-right, In-filter, in_filter}
+use Rattle.list_laws.proofs.Members.{In-get, In-map, In-append, In-left, In-right, In-filter, in_filter, from_map}
 use Rattle.list_laws.proofs.Places.{at_within}
 use Rattle.tl_text.specs.Once.{AreOnce}
 use Rattle.tl_text.proofs.NameSetLemmas.{has_in, in_has, names_apart, apart_names, one_place}
@@ -18,7 +18,6 @@ use Rattle.param_list.specs.Parameters.{param_names, regular_names, AreParameter
 use Rattle.param_list.specs.RegularPlaces.{IsFree, AreRegularPlaces}
 use Rattle.param_list.specs.Marks.{marks_of, off_places}
 use Rattle.param_list.proofs.MarkLemmas.{IsOff, off_in, in_off, off_ascending, off_names}
-use Rattle.param_list.proofs.LineLemmas.{ComesFrom, from_map}
 
 module _ (flat : FlatValue) (params : List Param) (once : AreOnce flat.inputs) (are : AreParameters flat params) where
   abbrev inputs : List (List ℕ)
@@ -41,7 +40,7 @@ module _ (flat : FlatValue) (params : List Param) (once : AreOnce flat.inputs) (
   named p j = in_has names p.name (In-map (λ (q : Param). q.name) params p j)
 
   -- the parameter of a name
-  param_of : (name : List ℕ) → has_name names name ≡ true → ComesFrom (λ (q : Param). q.name) params name
+  param_of : (name : List ℕ) → has_name names name ≡ true → (p : Param) × In params p × (name ≡ p.name)
   param_of name t = from_map (λ (q : Param). q.name) params name (has_in names name t)
 
   -- a mark is off exactly where no parameter stands
@@ -55,7 +54,7 @@ module _ (flat : FlatValue) (params : List Param) (once : AreOnce flat.inputs) (
       let x = at_within inputs i l in
       elim (cases_Bool (has_name names x.0)) [
         | inl t ↦ (let r = param_of x.0 t in
-            absurd (free r.source r.member (one_place inputs r.source.input i x.0 once (are.inputs r.source r.member ∙ ap (λ n. Some n) (sym r.is)) x.1)))
+            absurd (free r.0 r.1 (one_place inputs r.0.input i x.0 once (are.inputs r.0 r.1 ∙ ap (λ n. Some n) (sym r.2)) x.1)))
         | inr f ↦ mark_at i x.0 x.1 ∙ ap (λ b. Some b) f
       ]
 
@@ -93,7 +92,7 @@ module _ (flat : FlatValue) (params : List Param) (once : AreOnce flat.inputs) (
   only_inputs : (name : List ℕ) → In both name → In inputs name
   only_inputs name i = elim (In-append regular names name i) [
     | inl j ↦ (In-filter is_left inputs name j).0
-    | inr j ↦ (let r = from_map (λ (q : Param). q.name) params name j in subst (In inputs) (sym r.is) (In-get inputs r.source.input r.source.name (are.inputs r.source r.member)))
+    | inr j ↦ (let r = from_map (λ (q : Param). q.name) params name j in subst (In inputs) (sym r.2) (In-get inputs r.0.input r.0.name (are.inputs r.0 r.1)))
   ]
 
   all_inputs : (name : List ℕ) → In inputs name → In both name

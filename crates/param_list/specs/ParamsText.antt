@@ -1,6 +1,7 @@
 -- A parameter list as a text: what its lines say, and its refusal, that of the first line that has one.
 use Rattle.std.specs.Prelude.{◌≡◌, ℕ, ◌<◌, Bool, not, ◌||◌, nat_lt, nat_le, if◌then◌else◌, List, [], ◌∷◌, ◌++◌, length, map, take, Option, Some, None, Ok, Err, slice_get}
 use Rattle.std.specs.Option.{option_and_then}
+use Rattle.tl_text.specs.FirstRefusal.{IsFirst}
 use Rattle.tl_text.specs.Decimal.{bit_of}
 use Rattle.tl_text.specs.LineValue.{LineValue, WordsLine, words_line}
 use Rattle.tl_text.specs.Lines.{lines_of}
@@ -55,10 +56,8 @@ abbrev pub refusal_at : List (List ℕ) → List (List ℕ) → List WordsLine �
 refusal_at inputs clocks lines i = option_and_then (line_refusal inputs clocks (names_said (take i lines))) (slice_get lines i)
 
 -- the first line that has a refusal
-pub record IsFirstRefusal (inputs clocks : List (List ℕ)) (lines : List WordsLine) (e : ParErr) : Type 0 where
-  pub place : ℕ
-  pub is : refusal_at inputs clocks lines place ≡ Some e
-  pub none_before : (i : ℕ) → i < place → refusal_at inputs clocks lines i ≡ None
+abbrev pub IsFirstRefusal : List (List ℕ) → List (List ℕ) → List WordsLine → ParErr → Type 0
+IsFirstRefusal inputs clocks lines e = IsFirst (refusal_at inputs clocks lines) e
 
 -- the parameter of a line: its name, the place of the input of this name, and its value
 pub record IsParamOf (inputs : List (List ℕ)) (line : WordsLine) (p : Param) : Type 0 where

@@ -1,9 +1,9 @@
-pub mod PartLemmas
-pub mod ImageLemmas
-pub mod RegionLemmas
-pub mod HoldLemmas
-pub mod MoveLemmas
-pub mod FilterLemmas
-pub mod SendLemmas
-pub mod PlayLemmas
+mod PartLemmas
+mod ImageLemmas
+mod RegionLemmas
+mod HoldLemmas
+mod MoveLemmas
+mod FilterLemmas
+mod SendLemmas
+mod PlayLemmas
 mod Examples

@@ -13,7 +13,16 @@ use Rattle.tl_io.specs.declared.Write.{Write}
 use Rattle.port_bank.specs.Regions.{region_of}
 use Rattle.port_bank.specs.Bank.{BankSeen, Called, Replaced, Retired}
 use Rattle.port_bank.specs.Send.{Sends, start, accepted, replaced, Loses}
-use Rattle.port_bank.specs.Moves.{MovesWithCause, KeepsPlaces, LosesPlace}
+use Rattle.port_bank.specs.Moves.{Becomes, start as stays, accepted as by_accepted, replaced as by_replaced, FallsShort, MovesWithCause, KeepsPlaces, LosesPlace}
+
+-- what a bank becomes
+pub sends_become : {w : ℕ} {config : List Bool} {writes : List Write} {old : BankSeen} {answers : List Bool} {left : List Write} {new : BankSeen} → Sends w config writes old answers left new → Becomes old new
+sends_become start = stays
+sends_become {w} (accepted {write = write} s c) = by_accepted (region_of w write) write (sends_become s) c
+sends_become {w} (replaced {write = write} s c r) = by_replaced (region_of w write) write (sends_become s) c r
+
+pub loses_short : {w : ℕ} {config : List Bool} {writes : List Write} {old : BankSeen} {i : ℕ} {new : BankSeen} → Loses w config writes old i new → FallsShort old new
+loses_short {w} l = record { place = region_of w l.write; write = l.write; mid = l.mid; next = l.next; becomes = sends_become l.sends; failed = l.failed; retired = l.retired }
 
 -- places
 keeps_called : (i : ℕ) (write : Write) (answer : Bool) (base old new : BankSeen) → KeepsPlaces base old → Called i write answer old new → KeepsPlaces base new

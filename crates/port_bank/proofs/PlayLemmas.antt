@@ -13,16 +13,19 @@ use Rattle.port_bank.specs.Bank.{BankSeen, bank_width}
 use Rattle.port_bank.specs.Send.{Sends, start, accepted, replaced, Reaches, Loses, Plays, with_port}
 use Rattle.port_bank.specs.Image.{Holds, ShowsRegions}
 use Rattle.tl_io.specs.Writes.{AreBitsOf, written}
-use Rattle.port_bank.specs.Moves.{MovesWithCause, KeepsPlaces, LosesPlace}
+use Rattle.port_bank.specs.Moves.{IsLeft, MovesWithCause, KeepsPlaces, LosesPlace}
 use Rattle.port_bank.proofs.RegionLemmas.{wide, all_bits_are, all_addresses}
 use Rattle.port_bank.proofs.HoldLemmas.{Pends, pends, pends_at_first, holds_at_end}
-use Rattle.port_bank.proofs.MoveLemmas.{keeps_places, loses_place, moves_with_cause, loses_with_cause}
+use Rattle.port_bank.proofs.MoveLemmas.{sends_become, loses_short, keeps_places, loses_place, moves_with_cause, loses_with_cause}
 
 pub plays_places : (config : List Bool) (writes : List Write) (old new : BankSeen) (result : Result Unit PortFault) → Plays config writes old new result → OnOk result (KeepsPlaces old new)
 plays_places config writes old new result p = MatchResult-weaker result p (λ _ r. keeps_places r.sends) (λ _ _. tt)
 
 pub plays_lost : (config : List Bool) (writes : List Write) (old new : BankSeen) (result : Result Unit PortFault) → Plays config writes old new result → OnErr result (LosesPlace old new)
 plays_lost config writes old new result p = MatchResult-weaker result p (λ _ _. tt) (λ _ l. loses_place l)
+
+pub plays_left : (config : List Bool) (writes : List Write) (old new : BankSeen) (result : Result Unit PortFault) → Plays config writes old new result → IsLeft old new result
+plays_left config writes old new result p = MatchResult-weaker result p (λ _ r. sends_become r.sends) (λ _ l. loses_short l)
 
 pub plays_cause : (config : List Bool) (writes : List Write) (old new : BankSeen) (result : Result Unit PortFault) → Plays config writes old new result → MovesWithCause old new
 plays_cause config writes old new (Ok v) p = moves_with_cause p.sends

@@ -1,9 +1,31 @@
 -- Which ports a send moves, and why.
-use Rattle.std.specs.Prelude.{◌≡◌, ◌≤◌, ◌+◌, List, [], ◌++◌, length}
+use Rattle.std.specs.Prelude.{◌≡◌, ◌≤◌, ◌+◌, ℕ, true, false, List, [], ◌++◌, length, Result, MatchResult}
 use Rattle.list_laws.specs.Members.{In}
 use Rattle.tl_io.specs.Causes.{Rose}
 use Rattle.tl_io.specs.Port.{PortSeen}
-use Rattle.port_bank.specs.Bank.{BankSeen}
+use Rattle.tl_io.specs.declared.Write.{Write}
+use Rattle.port_bank.specs.declared.bank.PortFault.{PortFault}
+use Rattle.port_bank.specs.Bank.{BankSeen, Called, Replaced, Retired}
+
+-- What a bank becomes by calls of its serving ports, one after the other, whatever is written: where a port fails, it leaves, and the first spare takes its place.
+pub data Becomes (old : BankSeen) : BankSeen → Type 0 where
+  start : Becomes old old
+  accepted : {mid new : BankSeen} (i : ℕ) (write : Write) → Becomes old mid → Called i write true mid new → Becomes old new
+  replaced : {mid next new : BankSeen} (i : ℕ) (write : Write) → Becomes old mid → Called i write false mid next → Replaced i next new → Becomes old new
+
+-- behind such calls a port failed while no spare was left
+pub record FallsShort (old new : BankSeen) : Type 0 where
+  pub place : ℕ
+  pub write : Write
+  pub mid : BankSeen
+  pub next : BankSeen
+  pub becomes : Becomes old mid
+  pub failed : Called place write false mid next
+  pub retired : Retired place next new
+
+-- what a send leaves
+abbrev pub IsLeft : BankSeen → BankSeen → Result Unit PortFault → Type 0
+IsLeft old new result = MatchResult result (λ _. Becomes old new) (λ _. FallsShort old new)
 
 -- Ports moved to the failed ones, each with a count of faults that rose since it served or stood by. Those that serve or stand by did so before, with counts that were no higher.
 pub record MovesWithCause (old new : BankSeen) : Type 0 where

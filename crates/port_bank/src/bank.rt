@@ -1,10 +1,11 @@
+//! The ports of a configuration: those that serve its regions, their spares, and the calls that they get.
 ghost use Rattle.std.specs.Prelude.{◌≡◌, ◌+◌, ◌*◌, ◌/◌, ◌≤◌, ◌<◌, ◌^◌, vec_len, Bool, List, [], map, take, drop, length, OnOk, OnErr, IfOk, IfErr, true, false};
 ghost use Rattle.tl_io.specs.Writes.{writes_from};
 ghost use Rattle.port_bank.specs.Bank.{Called, Replaced, Retired, all_ports};
 ghost use Rattle.port_bank.specs.Send.{Plays};
 ghost use Rattle.port_bank.specs.Image.{Holds};
 ghost use Rattle.tl_io.specs.Writes.{AreAscending, AreBitsOf, written};
-ghost use Rattle.port_bank.specs.Moves.{MovesWithCause, KeepsPlaces, LosesPlace};
+ghost use Rattle.port_bank.specs.Moves.{IsLeft, MovesWithCause, KeepsPlaces, LosesPlace};
 ghost use Rattle.port_bank.specs.Steps.{Fills, FailsToFill, Mends, FailsToMend, Steps, FailsToStep};
 
 use crate::boxes::{put_in_place, retire};
@@ -224,6 +225,7 @@ impl<P: ConfigPort> PortBank<P> {
         ensures none { (bank_seen P.port_seen self.old).serving ≡ [] → bank_seen P.port_seen self.new ≡ bank_seen P.port_seen self.old }
         ensures places { OnOk result (KeepsPlaces (bank_seen P.port_seen self.old) (bank_seen P.port_seen self.new)) }
         ensures lost { OnErr result (LosesPlace (bank_seen P.port_seen self.old) (bank_seen P.port_seen self.new)) }
+        ensures left { IsLeft (bank_seen P.port_seen self.old) (bank_seen P.port_seen self.new) result }
         ensures cause { MovesWithCause (bank_seen P.port_seen self.old) (bank_seen P.port_seen self.new) }
     {
         self.send_bits(config)
@@ -244,6 +246,7 @@ impl<P: ConfigPort> PortBank<P> {
         ensures none { (bank_seen P.port_seen self.old).serving ≡ [] → bank_seen P.port_seen self.new ≡ bank_seen P.port_seen self.old }
         ensures places { OnOk result (KeepsPlaces (bank_seen P.port_seen self.old) (bank_seen P.port_seen self.new)) }
         ensures lost { OnErr result (LosesPlace (bank_seen P.port_seen self.old) (bank_seen P.port_seen self.new)) }
+        ensures left { IsLeft (bank_seen P.port_seen self.old) (bank_seen P.port_seen self.new) result }
         ensures cause { MovesWithCause (bank_seen P.port_seen self.old) (bank_seen P.port_seen self.new) }
     {
         self.send_writes(writes, config)

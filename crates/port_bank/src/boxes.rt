@@ -1,3 +1,4 @@
+//! Moves of boxes within a list, to its end and to a place.
 ghost use Rattle.std.specs.Prelude.{◌≡◌, ◌<◌, ◌+◌, vec_len};
 ghost use Rattle.port_bank.specs.Boxes.{MovesToEnd, TakesPlace};
 

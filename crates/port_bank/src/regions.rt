@@ -1,3 +1,4 @@
+//! The regions of a configuration, one for each port that serves.
 ghost use Rattle.std.specs.Prelude.{◌≡◌, ◌≤◌, ◌*◌, ◌^◌, ◌<◌, take, drop, length};
 ghost use Rattle.port_bank.specs.Regions.{width};
 

@@ -1,5 +1,5 @@
 -- Texts that are added one behind another.
-use Rattle.std.proofs.Common.{◌≡◌, ℕ, ◌+◌, List, [], ◌++◌, length, replicate, drop, Option, Some, sym, ap, ◌∙◌, arith, append_assoc, append-nil}
+use Rattle.std.proofs.Common.{◌≡◌, ℕ, ◌+◌, List, ◌++◌, length, replicate, drop, Some, sym, ap, ◌∙◌, arith, append_assoc}
 use Rattle.std.specs.Prelude.{slice_get}
 use Rattle.std.proofs.lemmas.List.{length-replicate}
 use Rattle.list_laws.proofs.Places.{drop_get}
@@ -9,32 +9,22 @@ use Rattle.aig_core.specs.declared.lit.Lit.{Lit}
 use Rattle.aig_core.specs.declared.lit.Pair.{Pair}
 use Rattle.ppc_pack.specs.Pack.{PackValue}
 use Rattle.ppc_pack.specs.declared.pack.PackParam.{PackParam}
-use Rattle.tl_piece.specs.Pieces.{Adds, Stops}
-use Rattle.tl_piece.proofs.PieceLemmas.{adds_twice}
-use Rattle.tl_piece.proofs.AddLemmas.{adds_as, stops_in}
+use Rattle.tl_io.specs.Sink.{SinkSeen}
+use Rattle.tl_piece.specs.Added.{IsAdded}
+use Rattle.tl_piece.specs.declared.writer.Writer.{Writer}
+use Rattle.tl_piece.proofs.AddedLemmas.{added_twice}
 use Rattle.ppc_file.specs.declared.version.Version.{Version}
 use Rattle.ppc_file.specs.Bytes.{node_bytes, nodes_bytes, head_bytes, params_part, nodes_part, bits_part, bytes_of}
 use Rattle.ppc_file.specs.Adding.{Added}
 
-module _ {old now : Option (List ℕ)} {waiting whole between left : List ℕ} (added : Added old waiting whole now between left) where
-  split_text : (part behind : List ℕ) → left ≡ part ++ behind → (added.front ++ part) ++ behind ≡ whole
-  split_text part behind split = append_assoc added.front part behind ∙ ap (λ (t : List ℕ). added.front ++ t) (sym split) ∙ added.rest
-
-  -- one more part
-  pub added_more : {new : Option (List ℕ)} {after : List ℕ} (part behind : List ℕ) → left ≡ part ++ behind → Adds now between part new after → Added old waiting whole new after behind
-  added_more part behind split adds = record {
-    front = added.front ++ part;
-    adds = adds_twice added.adds adds;
-    rest = split_text part behind split;
-  }
-
-  -- a part at which the sink failed
-  pub added_stop : {new : Option (List ℕ)} (part behind : List ℕ) → left ≡ part ++ behind → Stops now between part new → Stops old waiting whole new
-  added_stop part behind split stops = stops_in behind (split_text part behind split) added.adds stops
-
-  -- nothing is left
-  pub added_all : left ≡ [] → Adds old waiting whole now between
-  added_all none = adds_as (sym (append-nil added.front) ∙ ap (λ (t : List ℕ). added.front ++ t) (sym none) ∙ added.rest) added.adds
+-- one more part
+pub added_more : {O : Type 0} {seen : O → SinkSeen} {old mid new : Writer O} {whole left : List ℕ} → Added seen old whole mid left → (part behind : List ℕ) → left ≡ part ++ behind → IsAdded seen mid part new
+    → Added seen old whole new behind
+added_more before part behind split added = record {
+  front = before.front ++ part;
+  added = added_twice before.added added;
+  rest = append_assoc before.front part behind ∙ ap (λ (t : List ℕ). before.front ++ t) (sym split) ∙ before.rest;
+}
 
 -- ---- nodes in a row
 

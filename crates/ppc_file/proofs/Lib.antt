@@ -1,12 +1,12 @@
-pub mod FieldTakes
-pub mod FieldsAgain
-pub mod FileExamples
-pub mod FileLemmas
-pub mod NameRules
-pub mod NumberLemmas
+mod FieldTakes
+mod FieldsAgain
+mod FileExamples
+mod FileLemmas
+mod NameRules
+mod NumberLemmas
 pub mod OneReading
-pub mod PowerLemmas
-pub mod AddedLemmas
-pub mod ReadLemmas
-pub mod ReadsLemmas
-pub mod StandLemmas
+mod PowerLemmas
+mod AddedLemmas
+mod ReadLemmas
+mod ReadsLemmas
+mod StandLemmas

@@ -1,8 +1,10 @@
--- A text that is added to a piece part by part: a front of it was added, and the rest is left.
-use Rattle.std.specs.Prelude.{◌≡◌, ℕ, List, ◌++◌, Option}
-use Rattle.tl_piece.specs.Pieces.{Adds}
+-- A text that is added to a writer part by part: a front of it was added, and the rest is left.
+use Rattle.std.specs.Prelude.{◌≡◌, ℕ, List, ◌++◌}
+use Rattle.tl_io.specs.Sink.{SinkSeen}
+use Rattle.tl_piece.specs.Added.{IsAdded}
+use Rattle.tl_piece.specs.declared.writer.Writer.{Writer}
 
-pub record Added (old : Option (List ℕ)) (waiting whole : List ℕ) (now : Option (List ℕ)) (between left : List ℕ) : Type 0 where
+pub record Added {O : Type 0} (seen : O → SinkSeen) (old : Writer O) (whole : List ℕ) (new : Writer O) (left : List ℕ) : Type 0 where
   pub front : List ℕ
-  pub adds : Adds old waiting front now between
+  pub added : IsAdded seen old front new
   pub rest : front ++ left ≡ whole

@@ -2,12 +2,11 @@
 ghost use Rattle.std.specs.Prelude.{◌≡◌, ◌+◌, ◌≤◌, ◌<◌, ◌++◌, length};
 ghost use Rattle.std.specs.Int.{w32};
 ghost use Rattle.list_laws.specs.Members.{In};
-ghost use Rattle.tl_io.specs.Causes.{HasCause};
-ghost use Rattle.tl_piece.specs.Pieces.{AddsOrStops};
+ghost use Rattle.tl_piece.specs.Added.{IsAdded};
+ghost use Rattle.tl_text.specs.declared.limits.TheConstants.{MOST_NAME_BYTES as MOST_LENGTH, MOST_PARAMETERS as MOST};
 ghost use Rattle.aig_core.specs.Aig.{first_and, IsNormal};
 ghost use Rattle.ppc_pack.specs.declared.pack.PackParam.{PackParam as ParamValue};
 ghost use Rattle.ppc_pack.specs.declared.pack.TheConstants.{MOST_PACK_BITS as MOST_BITS};
-ghost use Rattle.tl_text.specs.declared.limits.TheConstants.{MOST_NAME_BYTES as MOST_LENGTH, MOST_PARAMETERS as MOST};
 ghost use Rattle.ppc_file.specs.Numbers.{spelled};
 ghost use Rattle.ppc_file.specs.Bytes.{head_bytes, bit_byte, param_bytes, node_bytes, params_part, nodes_part, bits_part};
 
@@ -15,23 +14,16 @@ use crate::add_number::{add_number, add_short};
 use crate::version::Version;
 use aig_core::{Graph, Lit, Pair};
 use ppc_pack::PackParam;
-use tl_io::{Failed, Sink};
-use tl_piece::Piece;
+use tl_io::Sink;
+use tl_piece::Writer;
 
 // Adds the four letters and the version.
-pub(crate) fn add_head<O: Sink>(
-    version: Version,
-    piece: &mut Piece,
-    out: &mut O,
-) -> Result<(), Failed>
-    ensures cause { HasCause (O.faults out.old) (O.faults out.new) result }
-    ensures grown { AddsOrStops (O.bytes out.old) piece.old (head_bytes version) (O.bytes out.new) piece.new result }
-    ensures through { O.through out.new ≡ O.through out.old }
-    ensures others { O.others out.new ≡ O.others out.old }
+pub(crate) fn add_head<O: Sink>(version: Version, writer: &mut Writer<'_, O>)
+    ensures { IsAdded O.seen writer.old (head_bytes version) writer.new }
 {
     match version {
-        Version::One => piece.add_text(b"TPPC\x00\x01", out),
-        Version::Two => piece.add_text(b"TPPC\x00\x02", out),
+        Version::One => writer.add_text(b"TPPC\x00\x01"),
+        Version::Two => writer.add_text(b"TPPC\x00\x02"),
     }
 }
 
@@ -43,43 +35,30 @@ fn init_byte(init: bool) -> u8
 }
 
 // Adds a parameter.
-fn add_param<O: Sink>(
-    version: Version,
-    param: &PackParam,
-    piece: &mut Piece,
-    out: &mut O,
-) -> Result<(), Failed>
+fn add_param<O: Sink>(version: Version, param: &PackParam, writer: &mut Writer<'_, O>)
     requires { length param.now.name ≤ MOST_LENGTH }
-    ensures cause { HasCause (O.faults out.old) (O.faults out.new) result }
-    ensures grown { AddsOrStops (O.bytes out.old) piece.old (param_bytes version param.now) (O.bytes out.new) piece.new result }
-    ensures through { O.through out.new ≡ O.through out.old }
-    ensures others { O.others out.new ≡ O.others out.old }
+    ensures { IsAdded O.seen writer.old (param_bytes version param.now) writer.new }
 {
     let name = param.name.bytes();
-    add_short(version, name.len() as u16, piece, out)?;
-    piece.add_text(name, out)?;
-    piece.add_byte(init_byte(param.init), out)
+    add_short(version, name.len() as u16, writer);
+    writer.add_text(name);
+    writer.add_byte(init_byte(param.init));
 }
 
 // Adds how many parameters there are, and each of them.
 pub(crate) fn add_params<O: Sink>(
     version: Version,
     params: &[PackParam],
-    piece: &mut Piece,
-    out: &mut O,
-) -> Result<(), Failed>
+    writer: &mut Writer<'_, O>,
+)
     requires few { length params.now ≤ MOST }
     requires short { (p : ParamValue) → In params.now p → length p.name ≤ MOST_LENGTH }
-    ensures cause { HasCause (O.faults out.old) (O.faults out.new) result }
-    ensures grown { AddsOrStops (O.bytes out.old) piece.old (params_part version (length params.now) params.now) (O.bytes out.new) piece.new result }
-    ensures through { O.through out.new ≡ O.through out.old }
-    ensures others { O.others out.new ≡ O.others out.old }
+    ensures { IsAdded O.seen writer.old (params_part version (length params.now) params.now) writer.new }
 {
-    add_short(version, params.len() as u16, piece, out)?;
+    add_short(version, params.len() as u16, writer);
     for param in params {
-        add_param(version, param, piece, out)?;
+        add_param(version, param, writer);
     }
-    Ok(())
 }
 
 // The two numbers that tell the fan-ins of the node with an index.
@@ -95,63 +74,36 @@ fn told(version: Version, node: u32, pair: Pair) -> (u32, u32)
 }
 
 // Adds the fan-ins of the node with an index.
-fn add_node<O: Sink>(
-    version: Version,
-    node: u32,
-    pair: Pair,
-    piece: &mut Piece,
-    out: &mut O,
-) -> Result<(), Failed>
+fn add_node<O: Sink>(version: Version, node: u32, pair: Pair, writer: &mut Writer<'_, O>)
     requires normal { IsNormal node pair }
     requires small { node < 2147483648 }
-    ensures cause { HasCause (O.faults out.old) (O.faults out.new) result }
-    ensures grown { AddsOrStops (O.bytes out.old) piece.old (node_bytes version node pair) (O.bytes out.new) piece.new result }
-    ensures through { O.through out.new ≡ O.through out.old }
-    ensures others { O.others out.new ≡ O.others out.old }
+    ensures { IsAdded O.seen writer.old (node_bytes version node pair) writer.new }
 {
     let (first, second) = told(version, node, pair);
-    add_number(version, first, piece, out)?;
-    add_number(version, second, piece, out)
+    add_number(version, first, writer);
+    add_number(version, second, writer);
 }
 
 // Adds how many nodes a graph has, and each of them.
-pub(crate) fn add_nodes<O: Sink>(
-    version: Version,
-    graph: &Graph,
-    piece: &mut Piece,
-    out: &mut O,
-) -> Result<(), Failed>
-    ensures cause { HasCause (O.faults out.old) (O.faults out.new) result }
-    ensures grown { AddsOrStops (O.bytes out.old) piece.old (nodes_part version (first_and graph.now) (length graph.now.pairs) graph.now.pairs) (O.bytes out.new) piece.new result }
-    ensures through { O.through out.new ≡ O.through out.old }
-    ensures others { O.others out.new ≡ O.others out.old }
+pub(crate) fn add_nodes<O: Sink>(version: Version, graph: &Graph, writer: &mut Writer<'_, O>)
+    ensures { IsAdded O.seen writer.old (nodes_part version (first_and graph.now) (length graph.now.pairs) graph.now.pairs) writer.new }
 {
     let first = 1 + graph.sources();
     let count = graph.len() - first;
-    add_number(version, count, piece, out)?;
+    add_number(version, count, writer);
     for number in 0..count {
         let node = first + number;
-        add_node(version, node, graph.pair_at(node), piece, out)?;
+        add_node(version, node, graph.pair_at(node), writer);
     }
-    Ok(())
 }
 
 // Adds how many bits there are, and each of them.
-pub(crate) fn add_bits<O: Sink>(
-    version: Version,
-    bits: &[Lit],
-    piece: &mut Piece,
-    out: &mut O,
-) -> Result<(), Failed>
+pub(crate) fn add_bits<O: Sink>(version: Version, bits: &[Lit], writer: &mut Writer<'_, O>)
     requires { length bits.now ≤ MOST_BITS }
-    ensures cause { HasCause (O.faults out.old) (O.faults out.new) result }
-    ensures grown { AddsOrStops (O.bytes out.old) piece.old (bits_part version (length bits.now) bits.now) (O.bytes out.new) piece.new result }
-    ensures through { O.through out.new ≡ O.through out.old }
-    ensures others { O.others out.new ≡ O.others out.old }
+    ensures { IsAdded O.seen writer.old (bits_part version (length bits.now) bits.now) writer.new }
 {
-    add_number(version, bits.len() as u32, piece, out)?;
+    add_number(version, bits.len() as u32, writer);
     for lit in bits {
-        add_number(version, lit.0, piece, out)?;
+        add_number(version, lit.0, writer);
     }
-    Ok(())
 }

@@ -1,6 +1,7 @@
 //! Packs from their files.
-ghost use Rattle.std.specs.Prelude.{◌≡◌, ◌^◌, ◌≤◌, length, IfOk, IfErr};
+ghost use Rattle.std.specs.Prelude.{◌≡◌, ◌≤◌, length, IfOk, IfErr};
 ghost use Rattle.tl_fault.specs.OrMemory.{OrMemory};
+ghost use Rattle.tl_text.specs.declared.limits.TheConstants.{MOST_PACK_BYTES};
 ghost use Rattle.ppc_pack.specs.declared.pack.TheConstants.{MOST_PACK_NODES};
 ghost use Rattle.ppc_file.specs.Fronts.{versioned};
 ghost use Rattle.ppc_file.specs.PackFile.{IsPackFile, IsPackFault, HasOneReading};
@@ -19,7 +20,7 @@ use std::alloc::Global;
 
 // The version of a file, and what is left behind it.
 fn read_head(file: &[u8]) -> Result<(Version, &[u8]), PackErr>
-    requires { length file.now ≤ 2 ^ 29 }
+    requires { length file.now ≤ MOST_PACK_BYTES }
     ensures stands { IfOk result (λ x. StandsAt file.now (versioned x.0) x.1.now) }
     ensures fault { IfErr result (OrMemory refusal_of (IsPackFault file.now)) }
 {
@@ -40,7 +41,7 @@ fn read_head(file: &[u8]) -> Result<(Version, &[u8]), PackErr>
 /// at most, or have one refusal at most, and never both.
 #[tactic(auto, using(crate::proofs::OneReading::one_reading))]
 pub fn decode(alloc: Global, bytes: &[u8]) -> Result<Pack, PackErr>
-    requires { length bytes.now ≤ 2 ^ 29 }
+    requires { length bytes.now ≤ MOST_PACK_BYTES }
     ensures ok { IfOk result (λ pack. IsPackFile bytes.now pack) }
     ensures room { IfOk result (λ pack. pack.graph.max ≡ MOST_PACK_NODES) }
     ensures fault { IfErr result (OrMemory refusal_of (IsPackFault bytes.now)) }

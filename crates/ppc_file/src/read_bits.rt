@@ -1,6 +1,7 @@
 //! The bits of a pack file.
-ghost use Rattle.std.specs.Prelude.{◌≡◌, ◌^◌, ◌≤◌, [], length, IfOk, IfErr};
+ghost use Rattle.std.specs.Prelude.{◌≡◌, ◌≤◌, [], length, IfOk, IfErr};
 ghost use Rattle.tl_fault.specs.OrMemory.{OrMemory};
+ghost use Rattle.tl_text.specs.declared.limits.TheConstants.{MOST_PACK_BYTES};
 ghost use Rattle.ppc_file.specs.Fronts.{in_nodes, in_bits};
 ghost use Rattle.ppc_file.specs.PackFile.{IsPackFault};
 ghost use Rattle.ppc_file.specs.Reading.{StandsAt};
@@ -23,7 +24,7 @@ fn read_each<'a>(
     file: &[u8],
     rest: &'a [u8],
 ) -> Result<(Vec<Lit>, &'a [u8]), PackErr>
-    requires short { length file.now ≤ 2 ^ 29 }
+    requires short { length file.now ≤ MOST_PACK_BYTES }
     requires sources { length graph.now.kinds ≡ length params.now }
     requires stands { StandsAt file.now (in_bits version params.now graph.now.pairs count []) rest.now }
     ensures stands { IfOk result (λ x. StandsAt file.now (in_bits version params.now graph.now.pairs (length x.0.items) x.0.items) x.1.now) }
@@ -50,7 +51,7 @@ pub(crate) fn read_bits<'a>(
     file: &[u8],
     rest: &'a [u8],
 ) -> Result<(Vec<Lit>, &'a [u8]), PackErr>
-    requires short { length file.now ≤ 2 ^ 29 }
+    requires short { length file.now ≤ MOST_PACK_BYTES }
     requires sources { length graph.now.kinds ≡ length params.now }
     requires stands { StandsAt file.now (in_nodes version params.now (length graph.now.pairs) graph.now.pairs) rest.now }
     ensures stands { IfOk result (λ x. StandsAt file.now (in_bits version params.now graph.now.pairs (length x.0.items) x.0.items) x.1.now) }

@@ -2,6 +2,7 @@
 ghost use Rattle.std.specs.Prelude.{◌≡◌, ◌+◌, ◌^◌, ◌≤◌, ◌<◌, ◌||◌, ◌∷◌, [], ◌++◌, length, replicate, true, false, Ok, Err, IfOk, IfErr, OnOk};
 ghost use Rattle.std.specs.List.{list_any};
 ghost use Rattle.tl_fault.specs.OrMemory.{OrMemory};
+ghost use Rattle.tl_text.specs.declared.limits.TheConstants.{MOST_PACK_BYTES, MOST_PARAMETERS};
 ghost use Rattle.aig_core.specs.Aig.{node_count};
 ghost use Rattle.aig_core.specs.And.{is_pair, with_pairs};
 ghost use Rattle.aig_core.specs.declared.lit.Kind.TheVariants.{Parameter};
@@ -22,7 +23,7 @@ use std::alloc::Global;
 
 // A graph with these parameters as sources, and no node yet.
 fn graph_over(alloc: Global, params: &[PackParam]) -> Result<Graph, PackErr>
-    requires { length params.now ≤ 65535 }
+    requires { length params.now ≤ MOST_PARAMETERS }
     ensures graph { IfOk result (λ g. g ≡ record { kinds = replicate (length params.now) Parameter; pairs = []; max = MOST }) }
     ensures fault { IfErr result (λ e. e ≡ PackErr.Memory) }
 {
@@ -79,7 +80,7 @@ fn read_each<'a>(
     file: &[u8],
     rest: &'a [u8],
 ) -> Result<(Graph, &'a [u8]), PackErr>
-    requires short { length file.now ≤ 2 ^ 29 }
+    requires short { length file.now ≤ MOST_PACK_BYTES }
     requires graph { graph ≡ record { kinds = replicate (length params.now) Parameter; pairs = []; max = MOST } }
     requires stands { StandsAt file.now (in_nodes version params.now count []) rest.now }
     ensures stands { IfOk result (λ x. StandsAt file.now (in_nodes version params.now (length x.0.pairs) x.0.pairs) x.1.now) }
@@ -105,7 +106,7 @@ pub(crate) fn read_nodes<'a>(
     file: &[u8],
     rest: &'a [u8],
 ) -> Result<(Graph, &'a [u8]), PackErr>
-    requires short { length file.now ≤ 2 ^ 29 }
+    requires short { length file.now ≤ MOST_PACK_BYTES }
     requires stands { StandsAt file.now (in_params version (length params.now) params.now) rest.now }
     ensures stands { IfOk result (λ x. StandsAt file.now (in_nodes version params.now (length x.0.pairs) x.0.pairs) x.1.now) }
     ensures graph { IfOk result (λ x. x.0 ≡ record { kinds = replicate (length params.now) Parameter; pairs = x.0.pairs; max = MOST }) }

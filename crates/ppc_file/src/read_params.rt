@@ -1,6 +1,7 @@
 //! The parameters of a pack file.
-ghost use Rattle.std.specs.Prelude.{◌≡◌, ◌^◌, ◌≤◌, ◌∷◌, [], ◌++◌, length, IfOk, IfErr, OnOk, None};
+ghost use Rattle.std.specs.Prelude.{◌≡◌, ◌≤◌, ◌∷◌, [], ◌++◌, length, IfOk, IfErr, OnOk, None};
 ghost use Rattle.tl_fault.specs.OrMemory.{OrMemory};
+ghost use Rattle.tl_text.specs.declared.limits.TheConstants.{MOST_PACK_BYTES};
 ghost use Rattle.tl_text.specs.NameIndex.{place_of};
 ghost use Rattle.ppc_file.specs.Fronts.{versioned, in_params};
 ghost use Rattle.ppc_file.specs.PackFile.{IsPackFault};
@@ -40,7 +41,7 @@ fn read_each<'a>(
     file: &[u8],
     rest: &'a [u8],
 ) -> Result<(Vec<PackParam>, &'a [u8]), PackErr>
-    requires short { length file.now ≤ 2 ^ 29 }
+    requires short { length file.now ≤ MOST_PACK_BYTES }
     requires stands { StandsAt file.now (in_params version count []) rest.now }
     ensures stands { IfOk result (λ x. StandsAt file.now (in_params version (length x.0.items) x.0.items) x.1.now) }
     ensures fault { IfErr result (OrMemory refusal_of (IsPackFault file.now)) }
@@ -65,7 +66,7 @@ pub(crate) fn read_params<'a>(
     file: &[u8],
     rest: &'a [u8],
 ) -> Result<(Vec<PackParam>, &'a [u8]), PackErr>
-    requires short { length file.now ≤ 2 ^ 29 }
+    requires short { length file.now ≤ MOST_PACK_BYTES }
     requires stands { StandsAt file.now (versioned version) rest.now }
     ensures stands { IfOk result (λ x. StandsAt file.now (in_params version (length x.0.items) x.0.items) x.1.now) }
     ensures fault { IfErr result (OrMemory refusal_of (IsPackFault file.now)) }

@@ -1,2 +1,2 @@
-pub mod HostLemmas
+mod HostLemmas
 pub mod TableLemmas

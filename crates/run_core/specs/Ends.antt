@@ -2,10 +2,11 @@
 use Rattle.std.specs.Prelude.{◌≡◌, ℕ, ◌≤◌, Bool, List, length, take, Option, Result, Ok, Err}
 use Rattle.tl_io.specs.Causes.{Rose}
 use Rattle.tl_io.specs.Content.{extended}
+use Rattle.tl_io.specs.Sink.{SinkSeen}
 use Rattle.tl_io.specs.Writes.{writes_from}
 use Rattle.port_bank.specs.Bank.{BankSeen}
 use Rattle.port_bank.specs.Image.{Holds}
-use Rattle.port_bank.specs.Moves.{KeepsPlaces, LosesPlace}
+use Rattle.port_bank.specs.Moves.{Becomes, FallsShort, KeepsPlaces, LosesPlace}
 use Rattle.port_bank.specs.Send.{Plays}
 use Rattle.run_text.specs.EventValue.{EventValue}
 use Rattle.spec_core.specs.Specialiser.{SpecialiserValue}
@@ -20,16 +21,29 @@ IsSent event host old new (Err WriteFault) = HasSent event host old new
 IsSent event host old new (Err PortFault) = HasLost event host old new
 
 -- the whole line was put, or a prefix of it, or none of its bytes
-abbrev pub IsPut : List ℕ → Option (List ℕ) → Option (List ℕ) → Result Unit StepErr → Type 0
-IsPut line old new (Ok done) = new ≡ extended old line
-IsPut line old new (Err WriteFault) = (n : ℕ) × (n ≤ length line) × (new ≡ extended old (take n line))
-IsPut line old new (Err PortFault) = new ≡ old
+abbrev pub HasLine : List ℕ → Option (List ℕ) → Option (List ℕ) → Result Unit StepErr → Type 0
+HasLine line old new (Ok done) = new ≡ extended old line
+HasLine line old new (Err WriteFault) = (n : ℕ) × (n ≤ length line) × (new ≡ extended old (take n line))
+HasLine line old new (Err PortFault) = new ≡ old
 
 -- A fault of writing comes only where the sink's count rose, and no call of the sink is made behind a fault of a port.
 abbrev pub HasSinkCause : ℕ → ℕ → Result Unit StepErr → Type 0
 HasSinkCause before now (Ok done) = before ≤ now
 HasSinkCause before now (Err WriteFault) = (before ≤ now) × Rose before now
 HasSinkCause before now (Err PortFault) = now ≡ before
+
+-- what a step leaves of the sink: its line there, and what stands behind the sink
+pub record PutsLine (line : List ℕ) (old new : SinkSeen) (result : Result Unit StepErr) : Type 0 where
+  pub grown : HasLine line old.bytes new.bytes result
+  pub cause : HasSinkCause old.faults new.faults result
+  pub through : new.through ≡ old.through
+  pub others : new.others ≡ old.others
+
+-- spares took the places of ports that failed, or one failed while no spare was left
+abbrev pub LeavesPorts : BankSeen → BankSeen → Result Unit StepErr → Type 0
+LeavesPorts old new (Ok done) = Becomes old new
+LeavesPorts old new (Err WriteFault) = Becomes old new
+LeavesPorts old new (Err PortFault) = FallsShort old new
 
 -- every region still has its port, or one has none
 abbrev pub HasPlaces : BankSeen → BankSeen → Result Unit StepErr → Type 0

@@ -1,12 +1,11 @@
 //! The host: a pack whose parameters change.
 ghost use Rattle.std.specs.Prelude.{◌≡◌, ◌<◌, Bool, List, [], length, IfOk, OnOk, OnErr};
-ghost use Rattle.tl_io.specs.Causes.{HasCause};
-ghost use Rattle.tl_io.specs.Content.{Puts};
+ghost use Rattle.tl_io.specs.Sink.{IsPut};
 ghost use Rattle.tl_io.specs.Writes.{written, writes_from};
 ghost use Rattle.port_bank.specs.Seen.{bank_seen};
 ghost use Rattle.port_bank.specs.Send.{Plays};
 ghost use Rattle.port_bank.specs.Image.{Holds};
-ghost use Rattle.port_bank.specs.Moves.{KeepsPlaces, LosesPlace, MovesWithCause};
+ghost use Rattle.port_bank.specs.Moves.{IsLeft, KeepsPlaces, LosesPlace};
 ghost use Rattle.ppc_pack.specs.Pack.{IsConf, HasOneConf, inits_of};
 ghost use Rattle.run_text.specs.EventValue.{event_value};
 ghost use Rattle.run_text.specs.Lines.{header_line, cycle_line};
@@ -16,7 +15,7 @@ ghost use Rattle.run_core.specs.Fits.{FitsPack, IsOfHost};
 ghost use Rattle.run_core.specs.Events.{IsHostEvent, IsHostPlayed, IsWithinSteps, IsSteady};
 ghost use Rattle.run_core.specs.EventLines.{host_line};
 ghost use Rattle.run_core.specs.Sends.{HasSent, HasLost};
-ghost use Rattle.run_core.specs.Ends.{IsSent, IsPut, HasSinkCause, HasPlaces, StillHolds};
+ghost use Rattle.run_core.specs.Ends.{IsSent, LeavesPorts, PutsLine, HasPlaces, StillHolds};
 
 use crate::step_err::StepErr;
 use aig_core::Steps;
@@ -101,7 +100,7 @@ impl Host {
         ensures sent { OnOk result (HasSent (event_value event.now) self.now (bank_seen P.port_seen bank.old) (bank_seen P.port_seen bank.new)) }
         ensures lost { OnErr result (HasLost (event_value event.now) self.now (bank_seen P.port_seen bank.old) (bank_seen P.port_seen bank.new)) }
         ensures holds { OnOk result ((before : SpecialiserValue) → IsHostEvent (event_value event.now) before self.now → Holds before.state.config (bank_seen P.port_seen bank.old) → Holds self.now.state.config (bank_seen P.port_seen bank.new)) }
-        ensures moved { MovesWithCause (bank_seen P.port_seen bank.old) (bank_seen P.port_seen bank.new) }
+        ensures left { IsLeft (bank_seen P.port_seen bank.old) (bank_seen P.port_seen bank.new) result }
         ensures places { OnOk result (KeepsPlaces (bank_seen P.port_seen bank.old) (bank_seen P.port_seen bank.new)) }
         ensures lost_place { OnErr result (LosesPlace (bank_seen P.port_seen bank.old) (bank_seen P.port_seen bank.new)) }
     {
@@ -115,7 +114,7 @@ impl Host {
     fn send_writes<P: ConfigPort>(&self, bank: &mut PortBank<P>) -> Result<(), PortFault>
         ensures plays { Plays self.now.state.config self.now.writes (bank_seen P.port_seen bank.old) (bank_seen P.port_seen bank.new) result }
         ensures holds { OnOk result ((before : List Bool) → Holds before (bank_seen P.port_seen bank.old) → self.now.state.config ≡ written before self.now.writes → Holds self.now.state.config (bank_seen P.port_seen bank.new)) }
-        ensures moved { MovesWithCause (bank_seen P.port_seen bank.old) (bank_seen P.port_seen bank.new) }
+        ensures left { IsLeft (bank_seen P.port_seen bank.old) (bank_seen P.port_seen bank.new) result }
         ensures places { OnOk result (KeepsPlaces (bank_seen P.port_seen bank.old) (bank_seen P.port_seen bank.new)) }
         ensures lost_place { OnErr result (LosesPlace (bank_seen P.port_seen bank.old) (bank_seen P.port_seen bank.new)) }
     {
@@ -126,10 +125,7 @@ impl Host {
     pub(crate) fn put<O: Sink>(&mut self, event: &Event, out: &mut O) -> Result<(), Failed>
         requires { FitsPack self.old.pack (event_value event.now) }
         ensures same { self.new ≡ self.old }
-        ensures cause { HasCause (O.faults out.old) (O.faults out.new) result }
-        ensures grown { Puts (O.bytes out.old) (O.bytes out.new) (host_line (event_value event.now) self.old) result }
-        ensures through { O.through out.new ≡ O.through out.old }
-        ensures others { O.others out.new ≡ O.others out.old }
+        ensures put { IsPut (O.seen out.old) (host_line (event_value event.now) self.old) (O.seen out.new) result }
     {
         let buf = &mut self.buf;
         match event {
@@ -152,10 +148,7 @@ impl Host {
         out: &mut O,
     ) -> Result<(), Failed>
         ensures same { self.new ≡ self.old }
-        ensures cause { HasCause (O.faults out.old) (O.faults out.new) result }
-        ensures grown { Puts (O.bytes out.old) (O.bytes out.new) (header_line luts (length self.old.pack.bits) depth) result }
-        ensures through { O.through out.new ≡ O.through out.old }
-        ensures others { O.others out.new ≡ O.others out.old }
+        ensures put { IsPut (O.seen out.old) (header_line luts (length self.old.pack.bits) depth) (O.seen out.new) result }
     {
         let bits = self.specialiser.image().len() as u32;
         put_header(luts, bits, depth, &mut self.buf, out)
@@ -164,10 +157,7 @@ impl Host {
     // Puts the line of the last cycle of a simulator.
     pub(crate) fn put_cycle<O: Sink>(&mut self, sim: &Sim, out: &mut O) -> Result<(), Failed>
         ensures same { self.new ≡ self.old }
-        ensures cause { HasCause (O.faults out.old) (O.faults out.new) result }
-        ensures grown { Puts (O.bytes out.old) (O.bytes out.new) (cycle_line sim.now.outputs sim.now.states) result }
-        ensures through { O.through out.new ≡ O.through out.old }
-        ensures others { O.others out.new ≡ O.others out.old }
+        ensures put { IsPut (O.seen out.old) (cycle_line sim.now.outputs sim.now.states) (O.seen out.new) result }
     {
         put_cycle(sim.outputs(), sim.states(), &mut self.buf, out)
     }
@@ -176,7 +166,7 @@ impl Host {
     pub(crate) fn load<P: ConfigPort>(&self, bank: &mut PortBank<P>) -> Result<(), PortFault>
         ensures plays { Plays self.now.state.config (writes_from 0 self.now.state.config) (bank_seen P.port_seen bank.old) (bank_seen P.port_seen bank.new) result }
         ensures holds { OnOk result (Holds self.now.state.config (bank_seen P.port_seen bank.new)) }
-        ensures moved { MovesWithCause (bank_seen P.port_seen bank.old) (bank_seen P.port_seen bank.new) }
+        ensures left { IsLeft (bank_seen P.port_seen bank.old) (bank_seen P.port_seen bank.new) result }
         ensures places { OnOk result (KeepsPlaces (bank_seen P.port_seen bank.old) (bank_seen P.port_seen bank.new)) }
         ensures lost_place { OnErr result (LosesPlace (bank_seen P.port_seen bank.old) (bank_seen P.port_seen bank.new)) }
     {
@@ -216,18 +206,15 @@ impl Host {
         ensures played { IsHostPlayed (event_value event.now) self.old self.new }
         ensures steps { IsWithinSteps (event_value event.now) self.old self.new steps.old steps.new }
         ensures sent { IsSent (event_value event.now) self.new (bank_seen P.port_seen bank.old) (bank_seen P.port_seen bank.new) result }
-        ensures put { IsPut (host_line (event_value event.now) self.new) (O.bytes out.old) (O.bytes out.new) result }
-        ensures cause { HasSinkCause (O.faults out.old) (O.faults out.new) result }
+        ensures put { PutsLine (host_line (event_value event.now) self.new) (O.seen out.old) (O.seen out.new) result }
 
-        // Ports that failed moved with a cause, and each region still has its port, or one has none.
-        ensures moved { MovesWithCause (bank_seen P.port_seen bank.old) (bank_seen P.port_seen bank.new) }
+        // Spares took the places of ports that failed, so each region still has its port, or one has none.
+        ensures left { LeavesPorts (bank_seen P.port_seen bank.old) (bank_seen P.port_seen bank.new) result }
         ensures places { HasPlaces (bank_seen P.port_seen bank.old) (bank_seen P.port_seen bank.new) result }
         ensures holds { StillHolds self.old self.new (bank_seen P.port_seen bank.old) (bank_seen P.port_seen bank.new) result }
 
         // Where no bit was upset, a change leaves none upset, and a scrub leaves none in any case.
         ensures steady { IsSteady (event_value event.now) self.old self.new }
-        ensures through { O.through out.new ≡ O.through out.old }
-        ensures others { O.others out.new ≡ O.others out.old }
     {
         self.play(event, steps);
         self.send(event, bank)?;

@@ -1,10 +1,8 @@
 //! The machine: a host, and the circuit that the clock plays under its configuration.
 ghost use Rattle.std.specs.Prelude.{◌≡◌, ◌≤◌, Bool, List, [], false, length, replicate, IfOk, OnOk, OnErr, Ok, Err};
-ghost use Rattle.tl_io.specs.Causes.{HasCause};
-ghost use Rattle.tl_io.specs.Content.{Puts};
+ghost use Rattle.tl_io.specs.Sink.{IsPut};
 ghost use Rattle.port_bank.specs.Seen.{bank_seen};
 ghost use Rattle.port_bank.specs.Image.{Holds};
-ghost use Rattle.port_bank.specs.Moves.{MovesWithCause};
 ghost use Rattle.ppc_pack.specs.Pack.{IsConf, HasOneConf, inits_of};
 ghost use Rattle.lut_sim.specs.Playable.{IsPlayable};
 ghost use Rattle.run_text.specs.EventValue.{event_value};
@@ -12,7 +10,7 @@ ghost use Rattle.run_text.specs.Lines.{header_line};
 ghost use Rattle.run_core.specs.Fits.{FitsPack, FitsShape};
 ghost use Rattle.run_core.specs.Events.{IsPlayed, IsClockEvent, HasOneCycle, IsWithinSteps, IsSteady};
 ghost use Rattle.run_core.specs.EventLines.{event_line};
-ghost use Rattle.run_core.specs.Ends.{IsLoaded, IsSent, IsPut, HasSinkCause, HasPlaces, StillHolds};
+ghost use Rattle.run_core.specs.Ends.{IsLoaded, IsSent, LeavesPorts, PutsLine, HasPlaces, StillHolds};
 
 use crate::host::Host;
 use crate::step_err::StepErr;
@@ -98,11 +96,8 @@ impl Machine {
     /// [`StepErr::WriteFault`] only where the sink's count of faults rose: then a prefix of the line stands.
     pub fn header<O: Sink>(&mut self, out: &mut O) -> Result<(), StepErr>
         ensures same { self.new ≡ self.old }
-        ensures cause { HasCause (O.faults out.old) (O.faults out.new) result }
-        ensures grown { Puts (O.bytes out.old) (O.bytes out.new) (header_line (length self.old.sim.template.luts) self.old.sim.template.bits self.old.sim.template.depth) result }
+        ensures put { IsPut (O.seen out.old) (header_line (length self.old.sim.template.luts) self.old.sim.template.bits self.old.sim.template.depth) (O.seen out.new) result }
         ensures err { OnErr result (result ≡ Err StepErr.WriteFault) }
-        ensures through { O.through out.new ≡ O.through out.old }
-        ensures others { O.others out.new ≡ O.others out.old }
     {
         self.host.put_header(self.luts, self.depth, out)?;
         Ok(())
@@ -116,7 +111,7 @@ impl Machine {
         ensures same { self.new ≡ self.old }
         ensures loaded { IsLoaded self.old.host.state.config (bank_seen P.port_seen bank.old) (bank_seen P.port_seen bank.new) result }
         ensures holds { OnOk result (Holds self.old.host.state.config (bank_seen P.port_seen bank.new)) }
-        ensures moved { MovesWithCause (bank_seen P.port_seen bank.old) (bank_seen P.port_seen bank.new) }
+        ensures left { LeavesPorts (bank_seen P.port_seen bank.old) (bank_seen P.port_seen bank.new) result }
         ensures places { HasPlaces (bank_seen P.port_seen bank.old) (bank_seen P.port_seen bank.new) result }
     {
         self.host.load(bank)?;
@@ -141,18 +136,15 @@ impl Machine {
         ensures played { IsPlayed (event_value event.now) self.old self.new }
         ensures steps { IsWithinSteps (event_value event.now) self.old.host self.new.host steps.old steps.new }
         ensures sent { IsSent (event_value event.now) self.new.host (bank_seen P.port_seen bank.old) (bank_seen P.port_seen bank.new) result }
-        ensures put { IsPut (event_line (event_value event.now) self.new) (O.bytes out.old) (O.bytes out.new) result }
-        ensures cause { HasSinkCause (O.faults out.old) (O.faults out.new) result }
+        ensures put { PutsLine (event_line (event_value event.now) self.new) (O.seen out.old) (O.seen out.new) result }
 
-        // Ports that failed moved with a cause, and each region still has its port, or one has none.
-        ensures moved { MovesWithCause (bank_seen P.port_seen bank.old) (bank_seen P.port_seen bank.new) }
+        // Spares took the places of ports that failed, so each region still has its port, or one has none.
+        ensures left { LeavesPorts (bank_seen P.port_seen bank.old) (bank_seen P.port_seen bank.new) result }
         ensures places { HasPlaces (bank_seen P.port_seen bank.old) (bank_seen P.port_seen bank.new) result }
         ensures holds { StillHolds self.old.host self.new.host (bank_seen P.port_seen bank.old) (bank_seen P.port_seen bank.new) result }
 
         // Where no bit was upset, a change leaves none upset, and a scrub leaves none in any case.
         ensures steady { IsSteady (event_value event.now) self.old.host self.new.host }
-        ensures through { O.through out.new ≡ O.through out.old }
-        ensures others { O.others out.new ≡ O.others out.old }
     {
         self.play(event, steps);
         self.host.send(event, bank)?;
@@ -205,10 +197,7 @@ impl Machine {
     fn put<O: Sink>(&mut self, event: &Event, out: &mut O) -> Result<(), Failed>
         requires { FitsPack self.old.host.pack (event_value event.now) }
         ensures same { self.new ≡ self.old }
-        ensures cause { HasCause (O.faults out.old) (O.faults out.new) result }
-        ensures grown { Puts (O.bytes out.old) (O.bytes out.new) (event_line (event_value event.now) self.old) result }
-        ensures through { O.through out.new ≡ O.through out.old }
-        ensures others { O.others out.new ≡ O.others out.old }
+        ensures put { IsPut (O.seen out.old) (event_line (event_value event.now) self.old) (O.seen out.new) result }
     {
         match event {
             Event::Cycle(_) => self.host.put_cycle(&self.sim, out),

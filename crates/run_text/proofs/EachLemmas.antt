@@ -5,7 +5,7 @@ use Rattle.std.proofs.lemmas.List.{take_all, take-append-drop}
 use Rattle.std.proofs.lemmas.Option.{none-some, same_Some}
 use Rattle.list_laws.proofs.Places.{drop_get}
 use Rattle.run_text.specs.Each.{in_front, each_of}
-use Rattle.param_list.proofs.ReadLemmas.{take_get}
+use Rattle.list_laws.proofs.Places.{take_get}
 
 -- the values of two lists, one behind the other
 abbrev joined : {B : Type 0} → Option (List B) → Option (List B) → Option (List B)

@@ -1,7 +1,7 @@
-pub mod LinesExample
-pub mod EachLemmas
-pub mod SettingLemmas
-pub mod ScriptReadLemmas
+mod LinesExample
+mod EachLemmas
+mod SettingLemmas
+mod ScriptReadLemmas
 pub mod ScriptOnceLemmas
 pub mod FitLemmas
-pub mod ScriptExample
+mod ScriptExample

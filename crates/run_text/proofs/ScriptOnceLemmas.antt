@@ -1,13 +1,13 @@
 -- A text is one script at most, or has one refusal at most, and never both.
 use Rattle.std.proofs.Common.{◌≡◌, ℕ, ◌<◌, List, map, Err, refl, sym, ap, ◌∙◌, subst, inl, inr, arith}
-use Rattle.std.proofs.lemmas.Bool.{cases_lt}
-use Rattle.std.proofs.lemmas.Option.{none-some, same_Some}
+use Rattle.std.proofs.lemmas.Option.{none-some}
 use Rattle.tl_fault.specs.OrMemory.{OrMemory}
 use Rattle.tl_text.specs.LineValue.{WordsLine, words_line}
 use Rattle.tl_text.specs.Lines.{lines_of}
 use Rattle.tl_text.specs.Refusals.{refusal_of as text_refusal}
 use Rattle.tl_text.specs.declared.text_err.TextErr.{TextErr}
 use Rattle.tl_text.specs.declared.text_err.TextErr.TheVariants as text_err
+use Rattle.tl_text.proofs.FirstLemmas.{one_first}
 use Rattle.run_text.specs.EventValue.{EventValue}
 use Rattle.run_text.specs.NamesValue.{NamesValue}
 use Rattle.run_text.specs.ScriptLines.{script_err}
@@ -15,19 +15,6 @@ use Rattle.run_text.specs.ScriptRefusals.{refusal_of}
 use Rattle.run_text.specs.ScriptText.{refusal_at, line_event, IsFirstRefusal, AreEventsOf, IsScript, IsScriptFault, bad_byte, trailing_slash, at_line, HasOneReading}
 use Rattle.run_text.specs.declared.script_err.ScriptErr.{ScriptErr}
 use Rattle.run_text.proofs.EachLemmas.{each_once}
-
--- one line is the first that has a refusal
-not_earlier : (names : NamesValue) (lines : List WordsLine) (e f : ScriptErr) (a : IsFirstRefusal names lines e) (b : IsFirstRefusal names lines f) → a.place < b.place → ⊥
-not_earlier names lines e f a b l = none-some e (sym (b.none_before a.place l) ∙ a.is)
-
-one_first : (names : NamesValue) (lines : List WordsLine) (e f : ScriptErr) → IsFirstRefusal names lines e → IsFirstRefusal names lines f → e ≡ f
-one_first names lines e f a b = elim (cases_lt a.place b.place) [
-  | inl l ↦ absurd (not_earlier names lines e f a b l)
-  | inr m ↦ elim (cases_lt b.place a.place) [
-    | inl l ↦ absurd (not_earlier names lines f e b a l)
-    | inr n ↦ (let same : a.place ≡ b.place = omega arith in same_Some e f (sym a.is ∙ ap (refusal_at names lines) same ∙ b.is))
-  ]
-]
 
 module _ (names : NamesValue) (text : List ℕ) where
   one_script : (events others : List EventValue) → IsScript names text events → IsScript names text others → events ≡ others
@@ -47,7 +34,7 @@ module _ (names : NamesValue) (text : List ℕ) where
   one_fault e f (at_line l a b) (trailing_slash m c d) = cc (a, c)
   one_fault e f (at_line l a b) (at_line m c d) =
       let same : m ≡ l = cc (a, c) in
-      one_first names (map (words_line text) l) e f b (subst (λ k. IsFirstRefusal names (map (words_line text) k) f) same d)
+      one_first (refusal_at names (map (words_line text) l)) e f b (subst (λ k. IsFirstRefusal names (map (words_line text) k) f) same d)
 
   not_both : (events : List EventValue) (e : ScriptErr) → IsScript names text events → IsScriptFault names text e → ⊥
   not_both events e t (bad_byte l a b) = cc (t.lines_are, a)

@@ -2,6 +2,7 @@
 use Rattle.std.specs.Prelude.{◌≡◌, ℕ, ◌<◌, Bool, not, nat_lt, nat_le, ◌==◌, if◌then◌else◌, List, [], ◌∷◌, ◌++◌, length, map, Option, Some, None, Ok, Err, slice_get}
 use Rattle.std.specs.Option.{option_map, option_and_then}
 use Rattle.tl_io.specs.declared.Assign.{Assign}
+use Rattle.tl_text.specs.FirstRefusal.{IsFirst}
 use Rattle.tl_text.specs.LineValue.{LineValue, WordsLine, words_line}
 use Rattle.tl_text.specs.Lines.{lines_of}
 use Rattle.tl_text.specs.NameIndex.{place_of}
@@ -52,10 +53,8 @@ abbrev pub refusal_at : NamesValue → List WordsLine → ℕ → Option ScriptE
 refusal_at names lines i = option_and_then (line_refusal names i) (slice_get lines i)
 
 -- the first line that has a refusal
-pub record IsFirstRefusal (names : NamesValue) (lines : List WordsLine) (e : ScriptErr) : Type 0 where
-  pub place : ℕ
-  pub is : refusal_at names lines place ≡ Some e
-  pub none_before : (i : ℕ) → i < place → refusal_at names lines i ≡ None
+abbrev pub IsFirstRefusal : NamesValue → List WordsLine → ScriptErr → Type 0
+IsFirstRefusal names lines e = IsFirst (refusal_at names lines) e
 
 -- a setting, by the number of the parameter of its name
 abbrev pub assigned : Bool → ℕ → Assign

@@ -1,3 +1,4 @@
+//! The buffer in which a line of the output waits.
 ghost use Rattle.std.specs.Prelude.{◌≡◌, [], IfOk};
 
 use std::alloc::{AllocError, Global};

@@ -1,6 +1,5 @@
-ghost use Rattle.std.specs.Prelude.{◌≡◌};
-ghost use Rattle.tl_io.specs.Causes.{HasCause};
-ghost use Rattle.tl_io.specs.Content.{Puts};
+//! The lines of the output that tell a template, a pack, a cycle and an image.
+ghost use Rattle.tl_io.specs.Sink.{IsPut};
 ghost use Rattle.run_text.specs.Lines.{header_line, bits_header_line, cycle_line, image_line};
 
 use crate::line_buf::LineBuf;
@@ -19,10 +18,7 @@ pub fn put_header<O: Sink>(
     buf: &mut LineBuf,
     out: &mut O,
 ) -> Result<(), Failed>
-    ensures cause { HasCause (O.faults out.old) (O.faults out.new) result }
-    ensures grown { Puts (O.bytes out.old) (O.bytes out.new) (header_line luts bits depth) result }
-    ensures through { O.through out.new ≡ O.through out.old }
-    ensures others { O.others out.new ≡ O.others out.old }
+    ensures { IsPut (O.seen out.old) (header_line luts bits depth) (O.seen out.new) result }
 {
     let parts = [
         Part::Text(b"luts "),
@@ -42,10 +38,7 @@ pub fn put_header<O: Sink>(
 /// # Errors
 /// `Failed` only where the sink's count of faults rose: then a prefix of the line stands.
 pub fn put_bits_header<O: Sink>(bits: u32, buf: &mut LineBuf, out: &mut O) -> Result<(), Failed>
-    ensures cause { HasCause (O.faults out.old) (O.faults out.new) result }
-    ensures grown { Puts (O.bytes out.old) (O.bytes out.new) (bits_header_line bits) result }
-    ensures through { O.through out.new ≡ O.through out.old }
-    ensures others { O.others out.new ≡ O.others out.old }
+    ensures { IsPut (O.seen out.old) (bits_header_line bits) (O.seen out.new) result }
 {
     let parts = [
         Part::Text(b"bits "),
@@ -66,10 +59,7 @@ pub fn put_cycle<'a, O: Sink>(
     buf: &mut LineBuf,
     out: &mut O,
 ) -> Result<(), Failed>
-    ensures cause { HasCause (O.faults out.old) (O.faults out.new) result }
-    ensures grown { Puts (O.bytes out.old) (O.bytes out.new) (cycle_line outputs.now states.now) result }
-    ensures through { O.through out.new ≡ O.through out.old }
-    ensures others { O.others out.new ≡ O.others out.old }
+    ensures { IsPut (O.seen out.old) (cycle_line outputs.now states.now) (O.seen out.new) result }
 {
     let parts = [
         Part::Text(b"cycle "),
@@ -91,10 +81,7 @@ pub fn put_image<'a, O: Sink>(
     buf: &mut LineBuf,
     out: &mut O,
 ) -> Result<(), Failed>
-    ensures cause { HasCause (O.faults out.old) (O.faults out.new) result }
-    ensures grown { Puts (O.bytes out.old) (O.bytes out.new) (image_line config.now) result }
-    ensures through { O.through out.new ≡ O.through out.old }
-    ensures others { O.others out.new ≡ O.others out.old }
+    ensures { IsPut (O.seen out.old) (image_line config.now) (O.seen out.new) result }
 {
     let parts = [Part::Text(b"image "), Part::Bits(config), Part::Text(b"\n")];
     put_line(&parts, buf, out)

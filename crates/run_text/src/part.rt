@@ -1,14 +1,14 @@
-ghost use Rattle.std.specs.Prelude.{◌≡◌, List, ℕ, map};
+//! The parts that a line of the output is made of.
+ghost use Rattle.std.specs.Prelude.{◌≡◌, map};
 ghost use Rattle.std.specs.List.{flat_map};
-ghost use Rattle.tl_io.specs.Causes.{HasCause};
-ghost use Rattle.tl_io.specs.Content.{Puts};
-ghost use Rattle.tl_piece.specs.Pieces.{AddsOrStops};
-ghost use Rattle.run_text.specs.Lines.{bit_digit, bit_string, write_text};
+ghost use Rattle.tl_io.specs.Sink.{IsPut};
+ghost use Rattle.tl_piece.specs.Added.{IsAdded};
+ghost use Rattle.run_text.specs.Lines.{bit_digit, write_text};
 ghost use Rattle.run_text.specs.Parts.{part_text};
 
 use crate::line_buf::LineBuf;
 use tl_io::{Failed, Sink, Write};
-use tl_piece::Piece;
+use tl_piece::Writer;
 
 /// A part of a line.
 #[derive(Clone, Copy)]
@@ -28,78 +28,56 @@ pub enum Part<'a> {
 /// # Errors
 /// `Failed` only where the sink's count of faults rose: then a prefix of the line stands.
 pub fn put_line<O: Sink>(parts: &[Part], buf: &mut LineBuf, out: &mut O) -> Result<(), Failed>
-    ensures cause { HasCause (O.faults out.old) (O.faults out.new) result }
-    ensures grown { Puts (O.bytes out.old) (O.bytes out.new) (flat_map part_text parts.now) result }
-    ensures through { O.through out.new ≡ O.through out.old }
-    ensures others { O.others out.new ≡ O.others out.old }
+    ensures { IsPut (O.seen out.old) (flat_map part_text parts.now) (O.seen out.new) result }
 {
-    let piece = &mut *buf.piece;
-    piece.clear();
-    add_parts(parts, piece, out)?;
-    piece.flush(out)
+    let mut writer = Writer::over(out, &mut *buf.piece);
+    add_parts(parts, &mut writer);
+    writer.finish()
 }
 
-fn add_parts<O: Sink>(parts: &[Part], piece: &mut Piece, out: &mut O) -> Result<(), Failed>
-    ensures cause { HasCause (O.faults out.old) (O.faults out.new) result }
-    ensures grown { AddsOrStops (O.bytes out.old) piece.old (flat_map part_text parts.now) (O.bytes out.new) piece.new result }
-    ensures through { O.through out.new ≡ O.through out.old }
-    ensures others { O.others out.new ≡ O.others out.old }
+fn add_parts<O: Sink>(parts: &[Part], writer: &mut Writer<'_, O>)
+    ensures { IsAdded O.seen writer.old (flat_map part_text parts.now) writer.new }
 {
     for part in parts {
-        add_part(part, piece, out)?;
+        add_part(part, writer);
     }
-    Ok(())
 }
 
-fn add_part<O: Sink>(part: &Part, piece: &mut Piece, out: &mut O) -> Result<(), Failed>
-    ensures cause { HasCause (O.faults out.old) (O.faults out.new) result }
-    ensures grown { AddsOrStops (O.bytes out.old) piece.old (part_text part.now) (O.bytes out.new) piece.new result }
-    ensures through { O.through out.new ≡ O.through out.old }
-    ensures others { O.others out.new ≡ O.others out.old }
+fn add_part<O: Sink>(part: &Part, writer: &mut Writer<'_, O>)
+    ensures { IsAdded O.seen writer.old (part_text part.now) writer.new }
 {
     match part {
-        Part::Text(text) => piece.add_text(text, out),
-        Part::Number(number) => piece.add_number(*number, out),
-        Part::Bits([]) => piece.add_text(b"-", out),
-        Part::Bits(bits) => add_bits(bits, piece, out),
-        Part::Writes(writes) => add_writes(writes, piece, out),
+        Part::Text(text) => writer.add_text(text),
+        Part::Number(number) => writer.add_number(*number),
+        Part::Bits([]) => writer.add_text(b"-"),
+        Part::Bits(bits) => add_bits(bits, writer),
+        Part::Writes(writes) => add_writes(writes, writer),
     }
 }
 
-fn add_bits<O: Sink>(bits: &[bool], piece: &mut Piece, out: &mut O) -> Result<(), Failed>
-    ensures cause { HasCause (O.faults out.old) (O.faults out.new) result }
-    ensures grown { AddsOrStops (O.bytes out.old) piece.old (map bit_digit bits.now) (O.bytes out.new) piece.new result }
-    ensures through { O.through out.new ≡ O.through out.old }
-    ensures others { O.others out.new ≡ O.others out.old }
+fn add_bits<O: Sink>(bits: &[bool], writer: &mut Writer<'_, O>)
+    ensures { IsAdded O.seen writer.old (map bit_digit bits.now) writer.new }
 {
     for bit in bits {
-        piece.add_byte(digit(*bit), out)?;
+        writer.add_byte(digit(*bit));
     }
-    Ok(())
 }
 
-fn add_writes<O: Sink>(writes: &[Write], piece: &mut Piece, out: &mut O) -> Result<(), Failed>
-    ensures cause { HasCause (O.faults out.old) (O.faults out.new) result }
-    ensures grown { AddsOrStops (O.bytes out.old) piece.old (flat_map write_text writes.now) (O.bytes out.new) piece.new result }
-    ensures through { O.through out.new ≡ O.through out.old }
-    ensures others { O.others out.new ≡ O.others out.old }
+fn add_writes<O: Sink>(writes: &[Write], writer: &mut Writer<'_, O>)
+    ensures { IsAdded O.seen writer.old (flat_map write_text writes.now) writer.new }
 {
     for write in writes {
-        add_write(*write, piece, out)?;
+        add_write(*write, writer);
     }
-    Ok(())
 }
 
-fn add_write<O: Sink>(write: Write, piece: &mut Piece, out: &mut O) -> Result<(), Failed>
-    ensures cause { HasCause (O.faults out.old) (O.faults out.new) result }
-    ensures grown { AddsOrStops (O.bytes out.old) piece.old (write_text write) (O.bytes out.new) piece.new result }
-    ensures through { O.through out.new ≡ O.through out.old }
-    ensures others { O.others out.new ≡ O.others out.old }
+fn add_write<O: Sink>(write: Write, writer: &mut Writer<'_, O>)
+    ensures { IsAdded O.seen writer.old (write_text write) writer.new }
 {
-    piece.add_byte(b' ', out)?;
-    piece.add_number(write.address as u64, out)?;
+    writer.add_byte(b' ');
+    writer.add_number(write.address as u64);
     let value = [b'=', digit(write.bit)];
-    piece.add_text(&value, out)
+    writer.add_text(&value);
 }
 
 fn digit(bit: bool) -> u8

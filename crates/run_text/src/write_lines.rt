@@ -1,7 +1,5 @@
 //! The lines of writes: configuration bits, each with its address and its value.
-ghost use Rattle.std.specs.Prelude.{◌≡◌};
-ghost use Rattle.tl_io.specs.Causes.{HasCause};
-ghost use Rattle.tl_io.specs.Content.{Puts};
+ghost use Rattle.tl_io.specs.Sink.{IsPut};
 ghost use Rattle.run_text.specs.Lines.{set_line, scrub_line, upset_line};
 
 use crate::line_buf::LineBuf;
@@ -18,10 +16,7 @@ pub fn put_set<'a, O: Sink>(
     buf: &mut LineBuf,
     out: &mut O,
 ) -> Result<(), Failed>
-    ensures cause { HasCause (O.faults out.old) (O.faults out.new) result }
-    ensures grown { Puts (O.bytes out.old) (O.bytes out.new) (set_line writes.now) result }
-    ensures through { O.through out.new ≡ O.through out.old }
-    ensures others { O.others out.new ≡ O.others out.old }
+    ensures { IsPut (O.seen out.old) (set_line writes.now) (O.seen out.new) result }
 {
     let parts = [
         Part::Text(b"set "),
@@ -42,10 +37,7 @@ pub fn put_scrub<'a, O: Sink>(
     buf: &mut LineBuf,
     out: &mut O,
 ) -> Result<(), Failed>
-    ensures cause { HasCause (O.faults out.old) (O.faults out.new) result }
-    ensures grown { Puts (O.bytes out.old) (O.bytes out.new) (scrub_line writes.now) result }
-    ensures through { O.through out.new ≡ O.through out.old }
-    ensures others { O.others out.new ≡ O.others out.old }
+    ensures { IsPut (O.seen out.old) (scrub_line writes.now) (O.seen out.new) result }
 {
     let parts = [
         Part::Text(b"scrub "),
@@ -62,10 +54,7 @@ pub fn put_scrub<'a, O: Sink>(
 /// # Errors
 /// `Failed` only where the sink's count of faults rose: then a prefix of the line stands.
 pub fn put_upset<O: Sink>(write: Write, buf: &mut LineBuf, out: &mut O) -> Result<(), Failed>
-    ensures cause { HasCause (O.faults out.old) (O.faults out.new) result }
-    ensures grown { Puts (O.bytes out.old) (O.bytes out.new) (upset_line write) result }
-    ensures through { O.through out.new ≡ O.through out.old }
-    ensures others { O.others out.new ≡ O.others out.old }
+    ensures { IsPut (O.seen out.old) (upset_line write) (O.seen out.new) result }
 {
     let writes = [write];
     let parts = [

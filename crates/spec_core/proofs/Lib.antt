@@ -1,9 +1,9 @@
 pub mod MarkLemmas
-pub mod StoreLemmas
-pub mod LeastLemmas
-pub mod SweepLemmas
+mod StoreLemmas
+mod LeastLemmas
+mod SweepLemmas
 pub mod AssignLemmas
-pub mod WriteLemmas
-pub mod ChangeLemmas
-pub mod KeepLemmas
-pub mod EventsExample
+mod WriteLemmas
+mod ChangeLemmas
+mod KeepLemmas
+mod EventsExample

@@ -16,27 +16,18 @@ use Rattle.list_laws.specs.Order.{IsAscending}
 use Rattle.list_laws.proofs.Choice.{choose}
 use Rattle.list_laws.proofs.Members.{In-filter, in_filter, from_map}
 use Rattle.list_laws.proofs.Places.{same_or}
+use Rattle.list_laws.proofs.Ranges.{of_range, in_range}
 use Rattle.aig_core.specs.Value.{xor}
 use Rattle.dirty_idx.specs.Marks.{is_marked, IsLeast, IsEmpty}
 use Rattle.spec_core.specs.Differences.{config_bit, differs_at, write_of, differences}
 use Rattle.spec_core.specs.Device.{writes_where}
 use Rattle.spec_core.proofs.MarkLemmas.{xor-false}
 
--- the numbers of a range
-pub In-range : (count from x : ℕ) → In (range_with_len from count) x → (from ≤ x) × (x < from + count)
-In-range zero from x i = elim i [ ]
-In-range (suc count) from x (inl e) = (omega arith, omega arith)
-In-range (suc count) from x (inr i) = let r = In-range count (from + 1) x i in let a : from + 1 ≤ x = r.0 in let b : x < from + 1 + count = r.1 in (omega arith, omega arith)
-
-range_in : (count from x : ℕ) → from ≤ x → x < from + count → In (range_with_len from count) x
-range_in zero from x a b = absurd (omega arith)
-range_in (suc count) from x a b = elim (same_or x from) [ inl e ↦ inl e | inr d ↦ inr (range_in count (from + 1) x (omega arith) (omega arith)) ]
-
 -- a range keeps its order through a filter
 filter_ascends : (test : ℕ → Bool) (count from : ℕ) → IsAscending (filter test (range_with_len from count))
 filter_ascends test zero from = tt
 filter_ascends test (suc count) from = choose IsAscending (test from) (from ∷ filter test (range_with_len (from + 1) count)) (filter test (range_with_len (from + 1) count))
-    (λ t. (λ n i. let r = In-range count (from + 1) n (In-filter test (range_with_len (from + 1) count) n i).0 in let a : from + 1 ≤ n = r.0 in omega arith, filter_ascends test count (from + 1)))
+    (λ t. (λ n i. let r = of_range (from + 1) count n (In-filter test (range_with_len (from + 1) count) n i).0 in let a : from + 1 ≤ n = r.0 in omega arith, filter_ascends test count (from + 1)))
     (λ f. filter_ascends test count (from + 1))
 
 -- a filter by a test that fails everywhere
@@ -111,7 +102,7 @@ written_differences from to same = ext_get_or false (written from (differences f
   where
     at : (k : ℕ) → k < length from → config_bit (written from (differences from to)) k ≡ config_bit to k
     at k l = elim (cases_Bool (differs_at from to k)) [
-      | inl t ↦ written_right to (filter (differs_at from to) (range_with_len 0 (length to))) from k (in_filter (differs_at from to) (range_with_len 0 (length to)) k (range_in (length to) 0 k (omega arith) (omega arith)) t) l
+      | inl t ↦ written_right to (filter (differs_at from to) (range_with_len 0 (length to))) from k (in_filter (differs_at from to) (range_with_len 0 (length to)) k (in_range 0 (length to) k (omega arith) (omega arith)) t) l
       | inr f ↦ right_stays to (filter (differs_at from to) (range_with_len 0 (length to))) from k l (xor-false (config_bit from k) (config_bit to k) f)
     ]
 
@@ -121,7 +112,7 @@ writes_are_bits test to config same = record {
   bits = λ w i.
       let chosen : List ℕ = filter test (range_with_len 0 (length to)) in
       let r = from_map (write_of to) chosen w i in
-      let within = In-range (length to) 0 r.0 (In-filter test (range_with_len 0 (length to)) r.0 r.1).0 in
+      let within = of_range 0 (length to) r.0 (In-filter test (range_with_len 0 (length to)) r.0 r.1).0 in
       let l : r.0 < 0 + length to = within.1 in
       let n : length (written config (writes_where test to)) ≡ length config = length-written (writes_where test to) config in
       subst (λ (v : Write). slice_get (written config (writes_where test to)) v.address ≡ Some v.bit) (sym r.2)

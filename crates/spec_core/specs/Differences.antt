@@ -3,10 +3,8 @@ use Rattle.std.specs.Prelude.{ℕ, Bool, false, List, length, map, slice_index_o
 use Rattle.std.specs.List.{filter, range_with_len}
 use Rattle.tl_io.specs.declared.Write.{Write}
 use Rattle.aig_core.specs.Value.{xor}
-
 -- the bit at an address
-abbrev pub config_bit : List Bool → ℕ → Bool
-config_bit config address = slice_index_or config address false
+pub use Rattle.list_laws.specs.Digits.{bit_in as config_bit}
 
 abbrev pub differs_at : List Bool → List Bool → ℕ → Bool
 differs_at from to address = xor (config_bit from address) (config_bit to address)

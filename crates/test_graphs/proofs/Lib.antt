@@ -1,2 +1,2 @@
-pub mod PackLemmas
-pub mod RowLemmas
+mod PackLemmas
+mod RowLemmas

@@ -14,7 +14,7 @@ use Rattle.aig_core.specs.declared.lit.Kind.{Kind}
 use Rattle.aig_core.specs.declared.lit.Kind.TheVariants.{Parameter}
 use Rattle.ppc_pack.specs.declared.pack.PackParam.{PackParam}
 use Rattle.list_laws.proofs.Members.{from_map}
-use Rattle.spec_core.proofs.WriteLemmas.{In-range}
+use Rattle.list_laws.proofs.Ranges.{of_range}
 
 -- the name of a number
 abbrev pub letters_of : ℕ → List ℕ
@@ -41,7 +41,7 @@ lettered_once init (suc count) from l = (λ i. again i, lettered_once init count
     again i =
         let p = from_map (λ (p : PackParam). p.name) (map (lettered init) (range_with_len (from + 1) count)) (letters_of from) i in
         let n = from_map (lettered init) (range_with_len (from + 1) count) p.0 p.1 in
-        let r = In-range count (from + 1) n.0 n.1 in
+        let r = of_range (from + 1) count n.0 n.1 in
         let low : from + 1 ≤ n.0 = r.0 in
         let high : n.0 < from + 1 + count = r.1 in
         let same : from ≡ n.0 = letters_differ from n.0 (omega arith) (omega arith) (p.2 ∙ ap (λ (q : PackParam). q.name) n.2) in

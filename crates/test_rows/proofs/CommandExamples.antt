@@ -1,6 +1,7 @@
 -- Worked examples of the definitions: the words of the other commands, the lines of `gen`, and files that are written one after the other.
 use Rattle.std.proofs.Common.{◌≡◌, ℕ, List, [], ◌∷◌, ◌++◌, codes, Some, None, refl, inl, inr, arith}
 use Rattle.std.specs.Fmt.{digits}
+use Rattle.tl_io.specs.Causes.{Rose}
 use Rattle.tl_io.specs.Content.{extended}
 use Rattle.tl_io.specs.Shelf.{with_file}
 use Rattle.cmd_stations.specs.Words.{SourceWords}
@@ -73,39 +74,46 @@ line = codes "l\n"
 module _ (old : Outside) where
   -- all is written
   written : AreWritten (template ∷ pack ∷ []) line old
-      (record { files = with_file (with_file old.files (codes "t") (codes "xy")) (codes "m") (codes "z"); bytes = extended old.bytes (codes "l\n"); ports = old.ports })
+      (record old { files = with_file (with_file old.files (codes "t") (codes "xy")) (codes "m") (codes "z"); bytes = extended old.bytes (codes "l\n") })
   written = record { files = refl; bytes = refl; ports = refl }
 
-  -- a fault behind one byte of the first file: the second one isn't touched
-  cut_in_first : IsCutInFile (template ∷ pack ∷ []) line old (record { files = with_file old.files (codes "t") (codes "x"); bytes = old.bytes; ports = old.ports })
-  cut_in_first = record {
-    before = [];
-    cut = template;
-    after = pack ∷ [];
-    split = refl;
-    files = inr (1, omega arith, refl);
-    bytes = refl;
-    ports = refl;
-  }
+  -- where the shelf's count of faults rose
+  module _ (faults : ℕ) (rose : Rose old.file_faults faults) where
+    -- behind one byte of the first file: the second one isn't touched
+    cut_in_first : IsCutInFile (template ∷ pack ∷ []) line old (record old { files = with_file old.files (codes "t") (codes "x"); file_faults = faults })
+    cut_in_first = record {
+      before = [];
+      cut = template;
+      after = pack ∷ [];
+      split = refl;
+      files = inr (1, omega arith, refl);
+      cause = rose;
+      bytes = refl;
+      put_faults = refl;
+      ports = refl;
+    }
 
-  -- the second file can't be begun: the first one is whole
-  cut_at_second : IsCutInFile (template ∷ pack ∷ []) line old (record { files = with_file old.files (codes "t") (codes "xy"); bytes = old.bytes; ports = old.ports })
-  cut_at_second = record {
-    before = template ∷ [];
-    cut = pack;
-    after = [];
-    split = refl;
-    files = inl refl;
-    bytes = refl;
-    ports = refl;
-  }
+    -- the second file can't be begun: the first one is whole
+    cut_at_second : IsCutInFile (template ∷ pack ∷ []) line old (record old { files = with_file old.files (codes "t") (codes "xy"); file_faults = faults })
+    cut_at_second = record {
+      before = template ∷ [];
+      cut = pack;
+      after = [];
+      split = refl;
+      files = inl refl;
+      cause = rose;
+      bytes = refl;
+      put_faults = refl;
+      ports = refl;
+    }
 
-  -- a fault behind one byte of the line
-  cut_in_line : IsCutInLine (template ∷ []) line old (record { files = with_file old.files (codes "t") (codes "xy"); bytes = extended old.bytes (codes "l"); ports = old.ports })
-  cut_in_line = record {
+  -- where the output's count rose, behind one byte of the line
+  cut_in_line : (faults : ℕ) → Rose old.put_faults faults → IsCutInLine (template ∷ []) line old (record old { files = with_file old.files (codes "t") (codes "xy"); bytes = extended old.bytes (codes "l"); put_faults = faults })
+  cut_in_line faults rose = record {
     part = 1;
     within = omega arith;
     files = refl;
     bytes = refl;
+    cause = rose;
     ports = refl;
   }

@@ -1,8 +1,9 @@
 pub mod BitLemmas
 pub mod ContentLemmas
-pub mod FilesLemmas
-pub mod FirstNamed
-pub mod Reading
-pub mod StoreLemmas
-pub mod Takes
+mod FilesLemmas
+mod FirstNamed
+pub mod PutLemmas
+mod Reading
+mod StoreLemmas
+mod Takes
 pub mod WrittenLemmas

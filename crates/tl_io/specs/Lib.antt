@@ -1,7 +1,9 @@
+-- What the clauses of files, outputs and ports say.
 pub mod Causes
 pub mod Content
 pub mod Counts
 pub mod Shelf
+pub mod Sink
 pub mod Slurp
 pub mod Port
 pub mod PortLine

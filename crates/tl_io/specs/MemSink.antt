@@ -1,7 +1,9 @@
 -- A sink in memory, and what a `put` leaves.
-use Rattle.std.specs.Prelude.{ℕ, ◌+◌, ◌||◌, Bool, if◌then◌else◌, nat_lt, List, ◌++◌, length}
+use Rattle.std.specs.Prelude.{ℕ, ◌+◌, ◌||◌, Bool, if◌then◌else◌, nat_lt, List, ◌++◌, length, None, Some}
 use Rattle.tl_io.specs.Counts.{count_of}
 use Rattle.tl_io.specs.FaultPlan.{Plan, fails_next, after_call, taken_of}
+use Rattle.tl_io.specs.Shelf.{no_shelf}
+use Rattle.tl_io.specs.Sink.{SinkSeen}
 
 -- everything that a sink in memory means
 pub record SinkValue : Type 0 where
@@ -10,6 +12,10 @@ pub record SinkValue : Type 0 where
   pub room : ℕ
   pub plan : Plan
   pub faults : ℕ
+
+-- it as a sink
+abbrev pub sink_in_memory : SinkValue → SinkSeen
+sink_in_memory sink = record { bytes = Some sink.bytes; faults = count_of sink.faults; through = None; others = no_shelf }
 
 -- the piece is past the room
 abbrev pub is_past_room : SinkValue → List ℕ → Bool

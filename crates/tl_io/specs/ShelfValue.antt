@@ -2,6 +2,7 @@
 use Rattle.std.specs.Prelude.{ℕ, ◌+◌, ◌||◌, Bool, true, not, if◌then◌else◌, nat_lt, List, length, take, drop, Some, is_some}
 use Rattle.std.specs.Option.{option_map}
 use Rattle.std.specs.FinMap.{get}
+use Rattle.tl_io.specs.declared.told_name.TheConstants.{NAME_ROOM}
 use Rattle.tl_io.specs.Counts.{count_of}
 use Rattle.tl_io.specs.FaultPlan.{Plan, fails_next, after_call, taken_of}
 use Rattle.tl_io.specs.Shelf.{ShelfSeen}
@@ -55,7 +56,7 @@ after_begin_read shelf name = record {
   store = if fails_next shelf.plan then closed shelf.store else opened shelf.store name;
   piece = shelf.piece;
   plan = after_call shelf.plan;
-  counts = with_read_fault (fails_begin shelf name) (record shelf.counts { name = take 4096 name; given = 0; before = shelf.counts.read_faults });
+  counts = with_read_fault (fails_begin shelf name) (record shelf.counts { name = take NAME_ROOM name; given = 0; before = shelf.counts.read_faults });
 }
 
 -- the shelf after a `pull` that gave so many bytes

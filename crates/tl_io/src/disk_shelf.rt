@@ -1,3 +1,4 @@
+//! A shelf over the system's files.
 ghost use Rattle.std.specs.Prelude.{◌≡◌, ◌-◌, ◌^◌, ◌≤◌, false, is_some, length, IfOk, OnErr};
 ghost use Rattle.std.proofs.Common.{rules};
 ghost use Rattle.tl_io.specs.DiskValue.{DiskValue, shelf_on_disk};

@@ -1,3 +1,4 @@
+//! Which calls of an object in memory are to fail.
 ghost use Rattle.std.specs.Prelude.{◌≡◌, IfOk};
 
 use std::alloc::{AllocError, Global};

@@ -1,3 +1,4 @@
+//! A port over one of the system's files.
 ghost use Rattle.std.specs.Io.KnownBytes.{Appends};
 ghost use Rattle.std.specs.Prelude.{◌≡◌, ◌-◌, ◌^◌, ◌≤◌, None, ℕ, OnOk};
 ghost use Rattle.tl_io.specs.Counts.{count_of};

@@ -1,3 +1,4 @@
+//! A sink over the file that a shelf is writing.
 ghost use Rattle.std.specs.Prelude.{◌≡◌, ◌-◌, ◌^◌, ◌≤◌, IsTrue, Some};
 ghost use Rattle.tl_io.specs.Shelf.{apart, written};
 
@@ -22,13 +23,7 @@ impl<'a, S: Shelf> FileSink<'a, S> {
 }
 
 impl<S: Shelf> Sink for FileSink<'_, S> {
-    ghost bytes = { λ sink. written (S.seen sink.shelf.now) };
-
-    ghost faults = { λ sink. (S.seen sink.shelf.now).write_faults };
-
-    ghost through = { λ sink. Some sink.shelf.ghost_name };
-
-    ghost others = { λ sink. apart (S.seen sink.shelf.now) };
+    ghost seen = { λ sink. record { bytes = written (S.seen sink.shelf.now); faults = (S.seen sink.shelf.now).write_faults; through = Some sink.shelf.ghost_name; others = apart (S.seen sink.shelf.now) } };
 
     fn put(&mut self, piece: &[u8]) -> Result<(), Failed> {
         self.shelf.push(piece)

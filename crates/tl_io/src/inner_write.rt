@@ -1,3 +1,4 @@
+//! Writing a whole piece to a writer of std.
 ghost use Rattle.std.specs.Prelude.{OnOk};
 ghost use Rattle.std.specs.Io.KnownBytes.{Appends};
 

@@ -1,3 +1,4 @@
+//! A file in memory, and what is being done with the files there.
 ghost use Rattle.std.specs.Prelude.{◌≡◌, ◌≤◌, vec_capacity};
 
 use std::alloc::{AllocError, Global};

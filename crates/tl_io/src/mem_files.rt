@@ -1,3 +1,4 @@
+//! The files of a shelf in memory.
 ghost use Rattle.std.specs.Prelude.{◌≡◌, ◌≤◌, is_some, IsSome, IfSome, IfOk, OnOk, OnErr, Some, length, min, take, drop, position, string_bytes};
 ghost use Rattle.std.specs.FinMap.{get};
 ghost use Rattle.std.specs.Option.{option_map};

@@ -1,3 +1,4 @@
+//! A port in memory.
 ghost use Rattle.std.specs.Prelude.{◌≡◌, ◌≤◌, ◌↔◌, [], IfOk, IsErr, IsTrue, slice_get, Some};
 ghost use Rattle.tl_io.specs.Port.{Writes, IsCounted};
 

@@ -1,3 +1,4 @@
+//! A shelf in memory.
 ghost use Rattle.std.specs.Prelude.{◌≡◌, ◌-◌, ◌^◌, ◌≤◌, ◌↔◌, [], IfOk, OnOk, OnErr, IfSome, IsErr, IsTrue, false, length, min, take};
 ghost use Rattle.std.proofs.Common.{rules};
 ghost use Rattle.std.specs.FinMap.{get};
@@ -9,6 +10,7 @@ ghost use Rattle.tl_io.specs.Shelf.{Begins, BeginsWrite, Pulls, apart, written};
 use crate::fault_plan::FaultPlan;
 use crate::mem_files::MemFiles;
 use crate::shelf_counts::ShelfCounts;
+use crate::told_name::NAME_ROOM;
 use crate::{Failed, Shelf};
 use std::alloc::{AllocError, Global};
 use std::marker::Model;
@@ -96,7 +98,7 @@ impl Shelf for MemShelf {
         ensures cause { HasCause (shelf_in_memory self.old).read_faults (shelf_in_memory self.new).read_faults result }
         ensures begins { Begins (shelf_in_memory self.old) name.now (shelf_in_memory self.new) result }
         ensures ends_writing { (shelf_in_memory self.new).is_writing ≡ false }
-        ensures name { (shelf_in_memory self.new).name ≡ take 4096 name.now }
+        ensures name { (shelf_in_memory self.new).name ≡ take NAME_ROOM name.now }
         ensures given { (shelf_in_memory self.new).given ≡ 0 }
         ensures before { (shelf_in_memory self.new).before ≡ (shelf_in_memory self.old).read_faults }
         ensures files { (shelf_in_memory self.new).files ≡ (shelf_in_memory self.old).files }

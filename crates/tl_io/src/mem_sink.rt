@@ -1,9 +1,7 @@
-ghost use Rattle.std.specs.Prelude.{◌≡◌, ◌-◌, ◌^◌, ◌≤◌, ◌↔◌, [], IfOk, IsErr, IsTrue, Some, None};
+//! A sink in memory.
+ghost use Rattle.std.specs.Prelude.{◌≡◌, ◌-◌, ◌^◌, ◌≤◌, ◌↔◌, [], IfOk, IsErr, IsTrue};
 ghost use Rattle.std.proofs.Common.{rules};
-ghost use Rattle.tl_io.specs.Causes.{HasCause};
-ghost use Rattle.tl_io.specs.Content.{Puts};
-ghost use Rattle.tl_io.specs.Counts.{count_of};
-ghost use Rattle.tl_io.specs.Shelf.{no_shelf};
+ghost use Rattle.tl_io.specs.Sink.{IsPut};
 
 use crate::fault_plan::FaultPlan;
 use crate::{Failed, Sink};
@@ -58,19 +56,12 @@ impl MemSink {
 }
 
 impl Sink for MemSink {
-    ghost use Rattle.tl_io.specs.MemSink.{fails_put, after_put};
+    ghost use Rattle.tl_io.specs.MemSink.{sink_in_memory, fails_put, after_put};
 
-    ghost bytes = { λ sink. Some sink.bytes };
-
-    ghost faults = { λ sink. count_of sink.faults };
-
-    ghost through = { λ sink. None };
-
-    ghost others = { λ sink. no_shelf };
+    ghost seen = { sink_in_memory };
 
     fn put(&mut self, piece: &[u8]) -> Result<(), Failed>
-        ensures cause { HasCause (count_of self.old.faults) (count_of self.new.faults) result }
-        ensures grown { Puts (Some self.old.bytes) (Some self.new.bytes) piece.now result }
+        ensures put { IsPut (sink_in_memory self.old) piece.now (sink_in_memory self.new) result }
         ensures exact { IsErr result ↔ IsTrue (fails_put self.old piece.now) }
         ensures after { self.new ≡ after_put self.old piece.now }
     {

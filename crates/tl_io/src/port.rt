@@ -1,3 +1,4 @@
+//! What a configuration port is.
 ghost use Rattle.std.specs.Prelude.{◌≡◌, ◌≤◌, slice_get};
 ghost use Rattle.std.specs.Option.{option_and_then};
 ghost use Rattle.tl_io.specs.Port.{PortSeen, Writes, IsCounted};

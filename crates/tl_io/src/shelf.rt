@@ -1,9 +1,11 @@
+//! What a shelf of files is.
 ghost use Rattle.std.specs.Prelude.{◌≡◌, ◌-◌, ◌^◌, ◌≤◌, IsTrue, OnErr, false, take};
 ghost use Rattle.tl_io.specs.Causes.{HasCause};
 ghost use Rattle.tl_io.specs.Content.{Puts};
 ghost use Rattle.tl_io.specs.Shelf.{ShelfSeen, Begins, BeginsWrite, Pulls, apart, written};
 
 use crate::Failed;
+use crate::told_name::NAME_ROOM;
 
 /// Files by name, one of which is read in pieces, or written in pieces.
 ///
@@ -21,7 +23,7 @@ pub trait Shelf {
         ensures cause { HasCause (seen self.old).read_faults (seen self.new).read_faults result }
         ensures begins { Begins (seen self.old) name.now (seen self.new) result }
         ensures ends_writing { (seen self.new).is_writing ≡ false }
-        ensures name { (seen self.new).name ≡ take 4096 name.now }
+        ensures name { (seen self.new).name ≡ take NAME_ROOM name.now }
         ensures given { (seen self.new).given ≡ 0 }
         ensures before { (seen self.new).before ≡ (seen self.old).read_faults }
         ensures files { (seen self.new).files ≡ (seen self.old).files }

@@ -1,7 +1,8 @@
+//! What a shelf keeps of its calls: the last read, and the counts of faults.
 ghost use Rattle.std.specs.Prelude.{◌≡◌, ◌+◌, take};
 ghost use Rattle.tl_io.specs.Counts.{count_of};
 
-use crate::told_name::ToldName;
+use crate::told_name::{NAME_ROOM, ToldName};
 use std::marker::Model;
 
 /// What a shelf keeps of its last read, and its counts of faults.
@@ -45,7 +46,7 @@ impl ShelfCounts {
 
     /// A read of this file begins.
     pub fn begin_read(&mut self, name: &str)
-        ensures { self.new ≡ record self.old { name = take 4096 name.now; given = 0; before = self.old.read_faults } }
+        ensures { self.new ≡ record self.old { name = take NAME_ROOM name.now; given = 0; before = self.old.read_faults } }
     {
         self.name.set(name.as_bytes());
         self.given = 0;

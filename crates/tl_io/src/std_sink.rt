@@ -1,10 +1,9 @@
-ghost use Rattle.std.specs.Prelude.{◌≡◌, ◌-◌, ◌^◌, ◌≤◌, None, OnOk};
+//! A sink over a writer of std.
+ghost use Rattle.std.specs.Prelude.{◌≡◌, ◌-◌, ◌^◌, ◌≤◌, OnOk};
 ghost use Rattle.std.specs.Io.KnownBytes.{Appends};
 ghost use Rattle.std.proofs.Common.{rules};
-ghost use Rattle.tl_io.specs.Causes.{HasCause};
-ghost use Rattle.tl_io.specs.Counts.{count_of};
-ghost use Rattle.tl_io.specs.Shelf.{no_shelf};
-ghost use Rattle.tl_io.specs.StdSinkValue.{StdSinkValue};
+ghost use Rattle.tl_io.specs.Sink.{IsPut};
+ghost use Rattle.tl_io.specs.StdSinkValue.{StdSinkValue, sink_of_std};
 
 use crate::inner_write::write_whole;
 use crate::{Failed, Sink};
@@ -35,16 +34,10 @@ impl<W: Write + Drop> StdSink<W> {
 }
 
 impl<W: Write + Drop> Sink for StdSink<W> {
-    ghost bytes = { λ sink. None };
-
-    ghost faults = { λ sink. count_of sink.faults };
-
-    ghost through = { λ sink. None };
-
-    ghost others = { λ sink. no_shelf };
+    ghost seen = { sink_of_std };
 
     fn put(&mut self, piece: &[u8]) -> Result<(), Failed>
-        ensures cause { HasCause (count_of self.old.faults) (count_of self.new.faults) result }
+        ensures put { IsPut (sink_of_std self.old) piece.now (sink_of_std self.new) result }
         ensures written { OnOk result (Appends self.old.contents self.new.contents piece.now) }
     {
         match write_whole(&mut self.writer, piece) {

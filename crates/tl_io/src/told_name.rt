@@ -1,23 +1,27 @@
+//! A name that is kept without memory, of which the first bytes are told.
 ghost use Rattle.std.specs.Prelude.{◌≡◌, ◌≤◌, [], List, ℕ, length, take};
 
 use std::marker::Model;
 
 /// How many bytes of a name are kept.
-pub const NAME_ROOM: usize = 4096;
+pub const NAME_ROOM: usize = 4_096;
 
-/// The first 4,096 bytes of a name.
+/// The first bytes of a name, as many as are kept.
 #[derive(Drop)]
 pub struct ToldName {
-    bytes: [u8; 4096],
+    bytes: [u8; NAME_ROOM],
     len: usize,
 }
 
 impl Model for ToldName {
+    ghost use Rattle.std.specs.Prelude.{◌≤◌, List, ℕ, take};
+    ghost use Rattle.tl_io.specs.declared.told_name.TheConstants.{NAME_ROOM};
+
     ghost Value = { List ℕ };
 
     ghost view = { λ told. take told.len told.bytes };
 
-    ghost invariant = { λ told. told.len ≤ 4096 };
+    ghost invariant = { λ told. told.len ≤ NAME_ROOM };
 }
 
 impl ToldName {
@@ -25,13 +29,13 @@ impl ToldName {
         ensures { result ≡ [] }
     {
         ToldName {
-            bytes: [0; 4096],
+            bytes: [0; NAME_ROOM],
             len: 0,
         }
     }
 
     pub fn set(&mut self, name: &[u8])
-        ensures { self.new ≡ take 4096 name.now }
+        ensures { self.new ≡ take NAME_ROOM name.now }
     {
         let len = name.len().min(NAME_ROOM);
         self.bytes[..len].copy_from_slice(&name[..len]);

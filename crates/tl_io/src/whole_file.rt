@@ -1,8 +1,10 @@
+//! Reading a whole file of a shelf.
 ghost use Rattle.std.specs.Prelude.{◌≡◌, ◌<◌, ◌≤◌, false, IfOk, OnOk, IsErrOf, length, take};
 ghost use Rattle.tl_io.specs.Causes.{Rose};
 ghost use Rattle.tl_io.specs.Slurp.{IsFile, IsLonger};
 
 use crate::read_error::Slurp;
+use crate::told_name::NAME_ROOM;
 use crate::{Failed, Shelf};
 use std::alloc::Global;
 
@@ -32,9 +34,9 @@ pub fn slurp<S: Shelf>(
     ensures fault_within { IsErrOf result Slurp.ReadFault → (S.seen shelf.new).given ≤ limit }
 
     // The name that the shelf tells then is this one.
-    ensures name { OnOk result ((S.seen shelf.new).name ≡ take 4096 name.now) }
-    ensures fault_name { IsErrOf result Slurp.ReadFault → (S.seen shelf.new).name ≡ take 4096 name.now }
-    ensures too_long_name { IsErrOf result Slurp.TooLong → (S.seen shelf.new).name ≡ take 4096 name.now }
+    ensures name { OnOk result ((S.seen shelf.new).name ≡ take NAME_ROOM name.now) }
+    ensures fault_name { IsErrOf result Slurp.ReadFault → (S.seen shelf.new).name ≡ take NAME_ROOM name.now }
+    ensures too_long_name { IsErrOf result Slurp.TooLong → (S.seen shelf.new).name ≡ take NAME_ROOM name.now }
 
     // What stays.
     ensures later { (S.seen shelf.old).read_faults ≤ (S.seen shelf.new).read_faults }

@@ -1,2 +1,3 @@
-pub mod PieceLemmas
-pub mod AddLemmas
+mod PieceLemmas
+pub mod AddedLemmas
+pub mod PartLemmas

@@ -1,24 +1,22 @@
--- Texts that are added one after another.
-use Rattle.std.proofs.Common.{◌≡◌, ℕ, ◌+◌, ◌<◌, ◌≤◌, List, [], ◌∷◌, ◌++◌, length, get_or, take, drop, Option, Result, Ok, Err, refl, sym, ap, subst, ◌∙◌, arith, append_assoc, append-nil, length-append}
+-- Bytes that wait, and texts that are added behind them.
+use Rattle.std.proofs.Common.{◌≡◌, ℕ, ◌+◌, ◌≤◌, List, [], ◌++◌, length, take, Option, Result, Ok, Err, sym, ap, subst, ◌∙◌, arith, append_assoc, append-nil, length-append}
 use Rattle.std.proofs.Math.Seq.{take-append-add}
-use Rattle.std.specs.List.{flat_map}
-use Rattle.std.proofs.lemmas.List.{take-append-le, take_more, take-append-drop, take_all}
-use Rattle.std.proofs.lemmas.List.Concat.{flat_map-append}
+use Rattle.std.proofs.lemmas.List.{take-append-le}
 use Rattle.tl_io.specs.Content.{extended, Puts}
 use Rattle.tl_io.proofs.ContentLemmas.{extended_none, extended_twice}
-use Rattle.tl_piece.specs.Pieces.{Adds, Stops, AddsOrStops}
+use Rattle.tl_piece.specs.Pieces.{Adds, Stops}
 
 -- nothing is added
 pub adds_none : (told : Option (List ℕ)) (waiting : List ℕ) → Adds told waiting [] told waiting
 adds_none told waiting = record { sent = []; put = sym (extended_none told); rest = sym (append-nil waiting) }
 
 -- a text that waits behind what waited
-pub adds_waiting : {old new : Option (List ℕ)} {waiting text left : List ℕ} (more : List ℕ) → Adds old waiting text new left → Adds old waiting (text ++ more) new (left ++ more)
-adds_waiting {waiting = waiting} {text = text} {left = left} more a = record {
-  sent = a.sent;
-  put = a.put;
-  rest = sym (append_assoc a.sent left more) ∙ ap (λ (t : List ℕ). t ++ more) a.rest ∙ append_assoc waiting text more;
-}
+pub adds_waiting : {old new : Option (List ℕ)} {waiting more left : List ℕ} → new ≡ old → left ≡ waiting ++ more → Adds old waiting more new left
+adds_waiting {old = old} e same = record { sent = []; put = e ∙ sym (extended_none old); rest = same }
+
+-- what waited was put
+pub adds_put_all : {old new : Option (List ℕ)} {waiting left : List ℕ} → new ≡ extended old waiting → left ≡ [] → Adds old waiting [] new left
+adds_put_all {waiting = waiting} e empty = record { sent = waiting; put = e; rest = ap (λ (t : List ℕ). waiting ++ t) empty }
 
 -- one text and then another
 pub adds_twice : {old mid new : Option (List ℕ)} {waiting text between more left : List ℕ} → Adds old waiting text mid between → Adds mid between more new left → Adds old waiting (text ++ more) new left
@@ -28,6 +26,12 @@ adds_twice {old = old} {waiting = waiting} {text = text} {between = between} {mo
   rest = append_assoc a.sent b.sent left ∙ ap (λ (t : List ℕ). a.sent ++ t) b.rest ∙ sym (append_assoc a.sent between more)
       ∙ ap (λ (t : List ℕ). t ++ more) a.rest ∙ append_assoc waiting text more;
 }
+
+-- a prefix of what waited was put
+pub stops_put : {old new : Option (List ℕ)} (waiting : List ℕ) → (n : ℕ) × (n ≤ length waiting) × (new ≡ extended old (take n waiting)) → Stops old waiting [] new
+stops_put {old = old} waiting p =
+    let whole : waiting ≡ waiting ++ [] = sym (append-nil waiting) in
+    record { count = p.0; within = omega (arith, p.1, ap length whole); put = p.2 ∙ ap (λ (t : List ℕ). extended old (take p.0 t)) whole }
 
 -- a prefix of a text is one of a longer text
 pub stops_longer : {old new : Option (List ℕ)} {waiting text : List ℕ} (more : List ℕ) → Stops old waiting text new → Stops old waiting (text ++ more) new
@@ -49,35 +53,9 @@ stops_later {old = old} {waiting = waiting} {text = text} {between = between} {m
           ∙ ap (extended old) (sym (take-append-add a.sent (between ++ more) s.count) ∙ ap (take (length a.sent + s.count)) all);
     }
 
--- a text was added, and then the next one was or stopped
-pub adds_then : {E : Type 0} {old mid : Option (List ℕ)} {waiting text between : List ℕ} (more : List ℕ) (new : Option (List ℕ)) (left : List ℕ) (result : Result Unit E) → Adds old waiting text mid between
-    → AddsOrStops mid between more new left result → AddsOrStops old waiting (text ++ more) new left result
-adds_then more new left (Ok u) a b = adds_twice a b
-adds_then more new left (Err e) a b = stops_later a b
-
--- the parts before an index, and the one there
-one_more : {X : Type 0} (f : X → List ℕ) (xs : List X) (i : ℕ) (d : X) → i < length xs → flat_map f (take i xs) ++ f (get_or xs i d) ≡ flat_map f (take (i + 1) xs)
-one_more f xs i d h =
-    sym (ap (flat_map f) (take_more xs i d h) ∙ flat_map-append f (take i xs) (get_or xs i d ∷ []) ∙ ap (λ (t : List ℕ). flat_map f (take i xs) ++ t) (append-nil (f (get_or xs i d))))
-
--- a loop over parts adds the next one
-pub adds_part : {X : Type 0} {old mid new : Option (List ℕ)} {waiting between left : List ℕ} (f : X → List ℕ) (xs : List X) (i : ℕ) (d : X) → i < length xs
-    → Adds old waiting (flat_map f (take i xs)) mid between → Adds mid between (f (get_or xs i d)) new left → Adds old waiting (flat_map f (take (i + 1) xs)) new left
-adds_part {old = old} {new = new} {waiting = waiting} {left = left} f xs i d h a b =
-    subst (λ (t : List ℕ). Adds old waiting t new left) (one_more f xs i d h) (adds_twice a b)
-
--- or stops there
-pub stops_part : {X : Type 0} {old mid new : Option (List ℕ)} {waiting between : List ℕ} (f : X → List ℕ) (xs : List X) (i : ℕ) (d : X) → i < length xs
-    → Adds old waiting (flat_map f (take i xs)) mid between → Stops mid between (f (get_or xs i d)) new → Stops old waiting (flat_map f xs) new
-stops_part {old = old} {new = new} {waiting = waiting} f xs i d h a s =
-    let front : Stops old waiting (flat_map f (take (i + 1) xs)) new = subst (λ (t : List ℕ). Stops old waiting t new) (one_more f xs i d h) (stops_later a s) in
-    subst (λ (t : List ℕ). Stops old waiting t new) (sym (flat_map-append f (take (i + 1) xs) (drop (i + 1) xs)) ∙ ap (flat_map f) (take-append-drop (i + 1) xs))
-    (stops_longer (flat_map f (drop (i + 1) xs)) front)
-
--- bytes as parts of one byte each
-pub single_bytes : (text : List ℕ) → flat_map (λ b. b ∷ []) text ≡ text
-single_bytes [] = refl
-single_bytes (b ∷ bs) = ap (λ (t : List ℕ). b ∷ t) (single_bytes bs)
+-- a text that stopped, and nothing was put any more
+pub stops_still : {old mid new : Option (List ℕ)} {waiting text : List ℕ} → Stops old waiting text mid → new ≡ mid → Stops old waiting text new
+stops_still s e = record { count = s.count; within = s.within; put = e ∙ s.put }
 
 -- what was added to an empty buffer and then put is put whole
 pub adds_put : {old mid new : Option (List ℕ)} {text left : List ℕ} → Adds old [] text mid left → new ≡ extended mid left → new ≡ extended old text
@@ -97,5 +75,7 @@ pub adds_then_puts : {E : Type 0} {old mid : Option (List ℕ)} {waiting text le
 adds_then_puts {old = old} {mid = mid} {text = text} {left = left} new (Ok u) e a puts = adds_put (subst (λ (w : List ℕ). Adds old w text mid left) e a) puts
 adds_then_puts {old = old} {mid = mid} {text = text} {left = left} new (Err f) e a puts = adds_put_part (subst (λ (w : List ℕ). Adds old w text mid left) e a) puts.0 puts.1 puts.2
 
-pub all_bytes : (i : ℕ) (text : List ℕ) → length text ≤ i → flat_map (λ b. b ∷ []) (take i text) ≡ text
-all_bytes i text h = single_bytes (take i text) ∙ take_all i text h
+-- a text that stopped at an empty buffer left a prefix of it
+pub stops_part : {old new : Option (List ℕ)} {waiting text : List ℕ} → waiting ≡ [] → Stops old waiting text new → (m : ℕ) × (m ≤ length text) × (new ≡ extended old (take m text))
+stops_part {old = old} {new = new} {text = text} e s =
+    let here : Stops old [] text new = subst (λ (w : List ℕ). Stops old w text new) e s in (here.count, here.within, here.put)

@@ -1,5 +1,5 @@
 -- A text that goes to a sink through a buffer: some of it was put, and the rest waits.
-use Rattle.std.specs.Prelude.{◌≡◌, ℕ, ◌≤◌, List, ◌++◌, length, take, Option, Result, MatchResult}
+use Rattle.std.specs.Prelude.{◌≡◌, ℕ, ◌≤◌, List, ◌++◌, length, take, Option}
 use Rattle.tl_io.specs.Content.{extended}
 
 -- a text was added behind what waited: a front of both was put, and the rest waits
@@ -13,7 +13,3 @@ pub record Stops (old : Option (List ℕ)) (waiting text : List ℕ) (new : Opti
   pub count : ℕ
   pub within : count ≤ length (waiting ++ text)
   pub put : new ≡ extended old (take count (waiting ++ text))
-
--- what a call leaves that adds a text
-abbrev pub AddsOrStops : {E : Type 0} → Option (List ℕ) → List ℕ → List ℕ → Option (List ℕ) → List ℕ → Result Unit E → Type 0
-AddsOrStops old waiting text new left result = MatchResult result (λ _. Adds old waiting text new left) (λ _. Stops old waiting text new)

@@ -1,20 +1,15 @@
-ghost use Rattle.std.specs.Prelude.{◌≡◌, ◌<◌, [], ◌∷◌, OnOk, length, replicate, decimal};
-ghost use Rattle.tl_io.specs.Causes.{HasCause};
-ghost use Rattle.tl_io.specs.Content.{Puts};
-ghost use Rattle.tl_piece.specs.Pieces.{AddsOrStops};
+//! The bytes of a text that wait to be put.
+ghost use Rattle.std.specs.Prelude.{◌≡◌, ◌<◌, ◌≤◌, ◌↔◌, [], ◌∷◌, ◌++◌, IsTrue, length};
 
 use arrayvec::ArrayVec;
-use itoa::Buffer;
 use std::marker::Model;
-use tl_io::{Failed, Sink};
 
 /// How many bytes a piece has, but the last of a text.
-const PIECE: usize = 4096;
+pub(crate) const PIECE: usize = 4_096;
 
-/// The bytes of a text that were not put yet, 4,096 at most. They wait in place: no memory is asked for.
+/// The bytes of a text that were not put yet, `PIECE` at most. They wait in place: no memory is asked for.
 ///
-/// A contract sees it as these bytes. A call that adds answers `Failed` only where the sink's count of faults rose: then a
-/// prefix of what waited and of the text stands in the sink, and the piece may hold anything.
+/// A contract sees it as these bytes.
 #[derive(Drop)]
 pub struct Piece {
     bytes: ArrayVec<u8, PIECE>,
@@ -45,99 +40,25 @@ impl Piece {
         self.bytes.clear();
     }
 
-    /// Puts what waits as one piece.
-    ///
-    /// # Errors
-    /// `Failed` only where the sink's count of faults rose: then a prefix of what waits was put.
-    pub fn flush<O: Sink>(&mut self, out: &mut O) -> Result<(), Failed>
-        ensures cause { HasCause (O.faults out.old) (O.faults out.new) result }
-        ensures grown { Puts (O.bytes out.old) (O.bytes out.new) self.old result }
-        ensures empty { OnOk result (self.new ≡ []) }
-        ensures through { O.through out.new ≡ O.through out.old }
-        ensures others { O.others out.new ≡ O.others out.old }
+    // Has it room for a byte?
+    pub(crate) fn has_room(&self) -> bool
+        ensures { IsTrue result ↔ length self.now < PIECE }
     {
-        out.put(self.bytes.as_slice())?;
-        self.bytes.clear();
-        Ok(())
+        self.bytes.len() < PIECE
     }
 
-    // Puts what waits if that is a whole piece, so that a byte has room.
-    fn make_room<O: Sink>(&mut self, out: &mut O) -> Result<(), Failed>
-        ensures cause { HasCause (O.faults out.old) (O.faults out.new) result }
-        ensures grown { AddsOrStops (O.bytes out.old) self.old [] (O.bytes out.new) self.new result }
-        ensures room { OnOk result (length self.new < 4096) }
-        ensures through { O.through out.new ≡ O.through out.old }
-        ensures others { O.others out.new ≡ O.others out.old }
+    // Adds a byte.
+    pub(crate) fn push(&mut self, byte: u8)
+        requires { length self.old < PIECE }
+        ensures { self.new ≡ self.old ++ byte ∷ [] }
     {
-        if self.bytes.len() < PIECE {
-            return Ok(());
-        }
-        self.flush(out)
-    }
-
-    /// Adds a byte. What waits is put before it where that is a whole piece.
-    ///
-    /// # Errors
-    /// `Failed` where the sink's count of faults rose.
-    pub fn add_byte<O: Sink>(&mut self, byte: u8, out: &mut O) -> Result<(), Failed>
-        ensures cause { HasCause (O.faults out.old) (O.faults out.new) result }
-        ensures grown { AddsOrStops (O.bytes out.old) self.old (byte ∷ []) (O.bytes out.new) self.new result }
-        ensures through { O.through out.new ≡ O.through out.old }
-        ensures others { O.others out.new ≡ O.others out.old }
-    {
-        self.make_room(out)?;
         self.bytes.push(byte);
-        Ok(())
     }
 
-    /// Adds a text.
-    ///
-    /// # Errors
-    /// `Failed` where the sink's count of faults rose.
-    pub fn add_text<O: Sink>(&mut self, text: &[u8], out: &mut O) -> Result<(), Failed>
-        ensures cause { HasCause (O.faults out.old) (O.faults out.new) result }
-        ensures grown { AddsOrStops (O.bytes out.old) self.old text.now (O.bytes out.new) self.new result }
-        ensures through { O.through out.new ≡ O.through out.old }
-        ensures others { O.others out.new ≡ O.others out.old }
+    // What waits.
+    pub(crate) fn bytes(&self) -> &[u8]
+        ensures { result.now ≡ self.now }
     {
-        for byte in text {
-            self.add_byte(*byte, out)?;
-        }
-        Ok(())
-    }
-
-    /// Adds a decimal number.
-    ///
-    /// # Errors
-    /// `Failed` where the sink's count of faults rose.
-    pub fn add_number<O: Sink>(&mut self, number: u64, out: &mut O) -> Result<(), Failed>
-        ensures cause { HasCause (O.faults out.old) (O.faults out.new) result }
-        ensures grown { AddsOrStops (O.bytes out.old) self.old (decimal number) (O.bytes out.new) self.new result }
-        ensures through { O.through out.new ≡ O.through out.old }
-        ensures others { O.others out.new ≡ O.others out.old }
-    {
-        let mut digits = Buffer::new();
-        self.add_text(digits.format(number).as_bytes(), out)
-    }
-
-    /// Adds a byte so many times.
-    ///
-    /// # Errors
-    /// `Failed` where the sink's count of faults rose.
-    pub fn add_repeated<O: Sink>(
-        &mut self,
-        byte: u8,
-        count: usize,
-        out: &mut O,
-    ) -> Result<(), Failed>
-        ensures cause { HasCause (O.faults out.old) (O.faults out.new) result }
-        ensures grown { AddsOrStops (O.bytes out.old) self.old (replicate count byte) (O.bytes out.new) self.new result }
-        ensures through { O.through out.new ≡ O.through out.old }
-        ensures others { O.others out.new ≡ O.others out.old }
-    {
-        for _ in 0..count {
-            self.add_byte(byte, out)?;
-        }
-        Ok(())
+        self.bytes.as_slice()
     }
 }

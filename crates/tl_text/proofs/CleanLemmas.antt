@@ -4,7 +4,7 @@ use Rattle.std.specs.List.{list_any, suffix_len, position_or_len, slice_range}
 use Rattle.std.proofs.lemmas.List.{get_or-take, length-take}
 use Rattle.std.proofs.lemmas.List.Sums.{fails_before_first}
 use Rattle.std.proofs.lemmas.List.Folds.{list_any_at}
-use Rattle.std.proofs.lemmas.Bool.{eq-eqb, ne_eqb, cases_Bool}
+use Rattle.std.proofs.lemmas.Bool.{eq-eqb, ne_eqb, cases_Bool, and_from, or_left, or_right}
 use Rattle.list_laws.specs.Members.{In}
 use Rattle.list_laws.proofs.Choice.{choose_one}
 use Rattle.tl_text.specs.declared.token.Token.{Token}
@@ -68,24 +68,11 @@ comment_after line i h is =
 passes_nowhere : (test : ℕ → Bool) (xs : List ℕ) (i : ℕ) → list_any test xs ≡ false → i < length xs → test (get_or xs i 0) ≡ false
 passes_nowhere test xs i none h = elim (cases_Bool (test (get_or xs i 0))) [ inl t ↦ absurd (let k : list_any test xs ≡ true = list_any_at test xs i 0 h t in let wrong : ⊥ = cc in wrong) | inr f ↦ f ]
 
--- a `\` at the end or before a blank ends a token
-or_right : (a b : Bool) → b ≡ true → (a || b) ≡ true
-or_right true b h = refl
-or_right false b h = h
-
-or_left : (a b : Bool) → a ≡ true → (a || b) ≡ true
-or_left true b h = refl
-or_left false b h = absurd (let wrong : ⊥ = cc in wrong)
-
-and_both : (a b : Bool) → a ≡ true → b ≡ true → (a && b) ≡ true
-and_both true b h k = k
-and_both false b h k = absurd (let wrong : ⊥ = cc in wrong)
-
 slash_ends : (bs : List ℕ) (i : ℕ) → i < length bs → get_or bs i 0 ≡ 92 → (suc i < length bs → is_blank (get_or bs (suc i) 0) ≡ true) → has_slash_end bs ≡ true
 slash_ends [] i h is blank = absurd (omega arith)
 slash_ends (b ∷ []) zero h is blank = eq-eqb b 92 is
 slash_ends (b ∷ []) (suc i) h is blank = absurd (omega arith)
-slash_ends (b ∷ c ∷ cs) zero h is blank = or_left (eqb b 92 && is_blank c) (has_slash_end (c ∷ cs)) (and_both (eqb b 92) (is_blank c) (eq-eqb b 92 is) (blank (omega arith)))
+slash_ends (b ∷ c ∷ cs) zero h is blank = or_left (eqb b 92 && is_blank c) (has_slash_end (c ∷ cs)) (and_from (eqb b 92) (is_blank c) (eq-eqb b 92 is) (blank (omega arith)))
 slash_ends (b ∷ c ∷ cs) (suc i) h is blank = or_right (eqb b 92 && is_blank c) (has_slash_end (c ∷ cs)) (slash_ends (c ∷ cs) i (omega arith) is (λ l. blank (omega arith)))
 
 -- physical lines stand in a text, one behind the other

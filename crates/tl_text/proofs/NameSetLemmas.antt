@@ -8,7 +8,7 @@ use Rattle.std.proofs.lemmas.Option.{none-some, same_Some, cond_some}
 use Rattle.std.proofs.lemmas.List.Folds.{find_at, list_any-append}
 use lib.Pointwise.{bytes_decides}
 use Rattle.list_laws.specs.Members.{In}
-use Rattle.list_laws.proofs.Apart.{AreApart, apart_once}
+use Rattle.list_laws.proofs.Apart.{AreApart, apart_once, joined_apart, filtered_apart}
 use Rattle.list_laws.proofs.FirstPlace.{position_none, list_any-position_none}
 use Rattle.list_laws.proofs.Places.{at_within}
 use Rattle.tl_text.specs.NameIndex.{place_of}
@@ -37,6 +37,13 @@ apart_names (name ∷ names) apart = (apart.0, apart_names names apart.1)
 -- so a name has one place
 pub one_place : (names : List (List ℕ)) (i j : ℕ) (name : List ℕ) → AreOnce names → slice_get names i ≡ Some name → slice_get names j ≡ Some name → i ≡ j
 one_place names i j name once = apart_once names i j name (names_apart names once)
+
+-- names of two lists that have none in common, and those that pass a test
+pub once_both : (xs ys : List (List ℕ)) → AreOnce xs → AreOnce ys → ((name : List ℕ) → In xs name → In ys name → ⊥) → AreOnce (xs ++ ys)
+once_both xs ys a b apart = apart_names (xs ++ ys) (joined_apart xs ys (names_apart xs a) (names_apart ys b) apart)
+
+pub once_filter : (test : List ℕ → Bool) (names : List (List ℕ)) → AreOnce names → AreOnce (filter test names)
+once_filter test names once = apart_names (filter test names) (filtered_apart test names (names_apart names once))
 
 -- a name has a place exactly where it is among the names
 some_when : {A : Type 0} (o : Option A) (b : Bool) → (b ≡ false → o ≡ None) → (o ≡ None → b ≡ false) → is_some o ≡ b
@@ -75,7 +82,7 @@ place_is names name p e =
 pub no_match : (a b : List ℕ) → (a ≡ b → ⊥) → bytes_eq a b ≡ false
 no_match a b differ = elim (cases_Bool (bytes_eq a b)) [ inl t ↦ absurd (differ ((bytes_decides a b).0 t)) | inr f ↦ f ]
 
-or_nothing : (b c : Bool) → c ≡ false → b || (c || false) ≡ b
+pub or_nothing : (b c : Bool) → c ≡ false → b || (c || false) ≡ b
 or_nothing true c h = refl
 or_nothing false c h = ap (λ d. d || false) h
 

@@ -27,6 +27,10 @@ abbrev pub numbered : ℕ → List (List (List ℕ)) → List WordsLine
 numbered n [] = []
 numbered n (words ∷ lines) = record { number = n; words = words } ∷ numbered (suc n) lines
 
+pub numbered-append : (n : ℕ) (xs ys : List (List (List ℕ))) → numbered n (xs ++ ys) ≡ numbered n xs ++ numbered (n + length xs) ys
+numbered-append n [] ys = ap (λ k. numbered k ys) (let e : n ≡ n + 0 = omega arith in e)
+numbered-append n (x ∷ xs) ys = ap (λ l. record { number = n; words = x } ∷ l) (numbered-append (suc n) xs ys ∙ ap (λ k. numbered (suc n) xs ++ numbered k ys) (let e : suc n + length xs ≡ n + suc (length xs) = omega arith in e))
+
 -- the tokens of words with one blank between them, the first of which starts at a place
 abbrev tokens_of : ℕ → List (List ℕ) → List Token
 tokens_of at [] = []
@@ -111,7 +115,7 @@ body_free test w ws blank h =
     list_any-append test w (words_text ws) ∙ or_from (list_any test w) (list_any test (words_text ws)) (none_there test w (h w (inl refl))) (words_free test ws blank (λ u i. h u (inr i)))
 
 -- the last byte of a line is its last word's
-last_later : (xs ys : List ℕ) → 0 < length ys → get_or (xs ++ ys) (length (xs ++ ys) - 1) 0 ≡ get_or ys (length ys - 1) 0
+pub last_later : (xs ys : List ℕ) → 0 < length ys → get_or (xs ++ ys) (length (xs ++ ys) - 1) 0 ≡ get_or ys (length ys - 1) 0
 last_later xs ys h =
     let l : length (xs ++ ys) ≡ length xs + length ys = length-append xs ys in
     let e : length (xs ++ ys) - 1 - length xs ≡ length ys - 1 = omega arith in

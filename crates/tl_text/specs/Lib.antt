@@ -1,6 +1,7 @@
 -- What public clauses say.
 pub mod Clean
 pub mod Decimal
+pub mod FirstRefusal
 pub mod LineValue
 pub mod Lines
 pub mod NameIndex

@@ -1,7 +1,6 @@
 -- How a command ends is how the command of its words does.
-use Rattle.std.proofs.Common.{◌≡◌, ℕ, ◌⊎◌, List, Some, None, sym, ◌∙◌, subst, inl, inr}
+use Rattle.std.proofs.Common.{◌≡◌, ℕ, List, Some, None, sym, ◌∙◌, subst}
 use Rattle.std.proofs.lemmas.Option.{none-some, same_Some}
-use Rattle.tl_io.specs.Causes.{Rose}
 use Rattle.tl_io.specs.Shelf.{ShelfSeen}
 use Rattle.cmd_base.specs.Outside.{Outside}
 use Rattle.cmd_base.specs.WalkLaws.{HasLaws}
@@ -9,14 +8,8 @@ use Rattle.cmd_base.specs.declared.outcome.Outcome.{Outcome}
 use Rattle.tlut_cli.specs.Commands.{Command, command_of, walk_of}
 use Rattle.tlut_cli.specs.CommandEnds.{HasEnded, HasWalkLaws}
 
-pub ended_as : {old new : ShelfSeen} {before after : Outside} {faults_before faults_after : ℕ} {o : Outcome} (this command : Command) → this ≡ command
-    → HasEnded this old new before after faults_before faults_after o → HasEnded command old new before after faults_before faults_after o
-ended_as {old} {new} {before} {after} {faults_before} {faults_after} {o} this command same ended = subst (λ c. HasEnded c old new before after faults_before faults_after o) same ended
-
--- a fault of a file or of the output, where files are written
-pub either_fault : (first last old new : ℕ) → Rose first last ⊎ Rose old new → Rose first last ⊎ (Unit {0} × Rose old new)
-either_fault first last old new (inl rose) = inl rose
-either_fault first last old new (inr rose) = inr (tt, rose)
+pub ended_as : {old new : ShelfSeen} {before after : Outside} {o : Outcome} (this command : Command) → this ≡ command → HasEnded this old new before after o → HasEnded command old new before after o
+ended_as {old} {new} {before} {after} {o} this command same ended = subst (λ c. HasEnded c old new before after o) same ended
 
 -- words are of one command, whose walk has its laws
 pub one_command : (ports : ℕ) (words : List (List ℕ)) (a b : Command) → command_of ports words ≡ Some a → command_of ports words ≡ Some b → a ≡ b

@@ -6,7 +6,7 @@ use Rattle.tl_io.specs.Shelf.{Files, ShelfSeen}
 use Rattle.cmd_base.specs.Outside.{Outside}
 use Rattle.cmd_base.specs.Walk.{Walk}
 use Rattle.tlut_cli.specs.Commands.{Command, command_of, walk_of}
-use Rattle.cmd_base.specs.Ends.{Told, Ends, IsReadFault, HasWriteFault}
+use Rattle.cmd_base.specs.Ends.{InFiles, Ends, IsReadFault, HasWriteFault}
 use Rattle.cmd_base.specs.Statuses.{refusal_status}
 use Rattle.cmd_base.specs.declared.outcome.File.{File}
 use Rattle.cmd_base.specs.declared.outcome.Outcome.{Outcome}
@@ -63,57 +63,64 @@ pub record IsRefusal (files : Files) (walk : Walk) (s : Status) : Type 0 where
   pub refused : walk.reading.IsRefused files file refusal
   pub status_is : s ≡ refusal_status refusal
 
-abbrev pub HasRefusal : Files → ℕ → List (List ℕ) → Status → Type 0
-HasRefusal files ports words s = HasCommand ports words (λ walk. IsRefusal files walk s)
+abbrev pub HasRefusal : Option Files → ℕ → List (List ℕ) → Status → Type 0
+HasRefusal told ports words s = HasCommand ports words (λ walk. InFiles walk.reading told (λ files. IsRefusal files walk s))
 
 -- a job that was done, cut off, or ended by a fault of the ports
-abbrev pub HasDone : Files → List (List ℕ) → Outside → Outside → Type 0
-HasDone files words before after = HasCommand (length before.ports) words (λ walk. walk.IsDone files before after)
+abbrev pub HasDone : List (List ℕ) → Outside → Outside → Type 0
+HasDone words before after = HasCommand (length before.ports) words (λ walk. InFiles walk.reading before.files (λ files. walk.IsDone files before after))
 
-abbrev pub HasCutOff : Files → List (List ℕ) → Outside → Outside → Type 0
-HasCutOff files words before after = HasCommand (length before.ports) words (λ walk. walk.IsCutOff files before after)
+abbrev pub HasCutOff : List (List ℕ) → Outside → Outside → Type 0
+HasCutOff words before after = HasCommand (length before.ports) words (λ walk. InFiles walk.reading before.files (λ files. walk.IsCutOff files before after))
 
-abbrev pub HasLost : Files → List (List ℕ) → Outside → Outside → Type 0
-HasLost files words before after = HasCommand (length before.ports) words (λ walk. walk.IsLost files before after)
+abbrev pub HasLost : List (List ℕ) → Outside → Outside → Type 0
+HasLost words before after = HasCommand (length before.ports) words (λ walk. InFiles walk.reading before.files (λ files. walk.IsLost files before after))
+
+-- what becomes of the ports, whatever the files are
+abbrev pub HasKeptPorts : List (List ℕ) → Outside → Outside → Type 0
+HasKeptPorts words before after = HasCommand (length before.ports) words (λ walk. walk.KeepsPorts before after)
 
 -- a read fault at a file that the walk reaches
 pub record IsFault (walk : Walk) (old new : ShelfSeen) : Type 0 where
   pub file : File
+  pub is_read : walk.reading.IsRead file
   pub fault : IsReadFault old new (walk.reading.word file)
-  pub reached : Told old.files (λ files. walk.reading.Reaches files file)
+  pub reached : InFiles walk.reading old.files (λ files. walk.reading.Reaches files file)
 
 abbrev pub HasFault : ℕ → List (List ℕ) → ShelfSeen → ShelfSeen → Type 0
 HasFault ports words old new = HasCommand ports words (λ walk. IsFault walk old new)
 
--- the cause of a fault of the ports
-abbrev pub HasPortFault : List (List ℕ) → Outside → Outside → Type 0
-HasPortFault words before after = HasCommand (length before.ports) words (λ walk. walk.HasPortFault before after)
+-- the cause of a fault of the ports, and of a fault of writing
+abbrev pub HasPortCause : List (List ℕ) → Outside → Outside → Type 0
+HasPortCause words before after = HasCommand (length before.ports) words (λ walk. walk.HasPortFault before after)
 
--- the cause of a fault of writing
-abbrev pub HasWriteCause : List (List ℕ) → ShelfSeen → ShelfSeen → ℕ → ℕ → ℕ → Type 0
-HasWriteCause words old new ports faults_before faults_after = HasCommand ports words (λ walk. HasWriteFault walk old new faults_before faults_after)
+abbrev pub HasWriteCause : List (List ℕ) → Outside → Outside → Type 0
+HasWriteCause words before after = HasCommand (length before.ports) words (λ walk. HasWriteFault walk before after)
 
 -- the order of work of the words' command writes files
 abbrev pub WritesFiles : ℕ → List (List ℕ) → Type 0
 WritesFiles ports words = HasCommand ports words (λ walk. walk.WritesFiles)
 
--- the files hold an accepted job for the words
-abbrev pub HasJob : Files → ℕ → List (List ℕ) → Type 0
-HasJob files ports words = HasCommand ports words (λ walk. walk.IsAccepted files)
-
--- Where the shelf tells its files and they hold an accepted job, and no read and no write failed, nor more ports than stand by, the job is done: want of memory alone can stop it.
-abbrev pub IsComplete : List (List ℕ) → ShelfSeen → ShelfSeen → Outside → Outside → ℕ → ℕ → Status → Type 0
-IsComplete words old new before after faults_before faults_after s =
-    Told old.files (λ files. HasJob files (length before.ports) words → ¬ (Rose old.read_faults new.read_faults) → ¬ (HasWriteCause words old new (length before.ports) faults_before faults_after) → ¬ (HasPortFault words before after) → (s ≡ status.Done) ⊎ (s ≡ status.Memory))
+-- no read and no write of a call failed, nor more ports than stand by
+pub record HasNoFault (walk : Walk) (old new : ShelfSeen) (before after : Outside) : Type 0 where
+  pub read : ¬ (Rose old.read_faults new.read_faults)
+  pub write : ¬ (HasWriteFault walk before after)
+  pub ports : ¬ (walk.HasPortFault before after)
 
 -- the output grew by a byte, or a file was begun for writing
-abbrev pub HasBegun : List (List ℕ) → ShelfSeen → Outside → Outside → Type 0
-HasBegun words new before after = ¬ (after.bytes ≡ before.bytes) ⊎ (WritesFiles (length before.ports) words × (new.is_writing ≡ true))
+abbrev pub HasBegun : Walk → ShelfSeen → Outside → Outside → Type 0
+HasBegun walk new before after = ¬ (after.bytes ≡ before.bytes) ⊎ (walk.WritesFiles × (new.is_writing ≡ true))
 
--- where moreover something was begun outside, an accepted job is done
-abbrev pub IsFinished : List (List ℕ) → ShelfSeen → ShelfSeen → Outside → Outside → ℕ → ℕ → Status → Type 0
-IsFinished words old new before after faults_before faults_after s =
-    Told old.files (λ files. HasJob files (length before.ports) words → ¬ (Rose old.read_faults new.read_faults) → ¬ (HasWriteCause words old new (length before.ports) faults_before faults_after) → ¬ (HasPortFault words before after) → HasBegun words new before after → s ≡ status.Done)
+module _ (words : List (List ℕ)) (old new : ShelfSeen) (before after : Outside) (s : Status) where
+  -- Where the files hold an accepted job, and there was no fault, the job is done: want of memory alone can stop it.
+  abbrev pub IsComplete : Type 0
+  IsComplete = (command : Command) → command_of (length before.ports) words ≡ Some command → InFiles (walk_of command).reading before.files (λ files.
+      (walk_of command).IsAccepted files → HasNoFault (walk_of command) old new before after → (s ≡ status.Done) ⊎ (s ≡ status.Memory))
+
+  -- where moreover something was begun outside, it is done
+  abbrev pub IsFinished : Type 0
+  IsFinished = (command : Command) → command_of (length before.ports) words ≡ Some command → InFiles (walk_of command).reading before.files (λ files.
+      (walk_of command).IsAccepted files → HasNoFault (walk_of command) old new before after → HasBegun (walk_of command) new before after → s ≡ status.Done)
 
 -- nothing was put or sent
 abbrev pub IsQuiet : Status → Type 0
@@ -128,5 +135,5 @@ IsQuiet status.PortFault = ⊥
 
 -- where the files hold a refusal of the job and no read failed, its status is the answer, but for want of memory
 abbrev pub IsAnswered : List (List ℕ) → ShelfSeen → ShelfSeen → ℕ → Status → Type 0
-IsAnswered words old new ports s = Told old.files (λ files. (command : Command) → command_of ports words ≡ Some command → (file : File) (refusal : RefusalValue) → (walk_of command).reading.IsRefused files file refusal
+IsAnswered words old new ports s = (command : Command) → command_of ports words ≡ Some command → InFiles (walk_of command).reading old.files (λ files. (file : File) (refusal : RefusalValue) → (walk_of command).reading.IsRefused files file refusal
     → ¬ (Rose old.read_faults new.read_faults) → (s ≡ refusal_status refusal) ⊎ (s ≡ status.Memory))

@@ -2,16 +2,14 @@
 use Rattle.std.specs.Prelude.{◌≡◌, ◌⊎◌, ℕ, List, Some}
 use Rattle.tl_io.specs.Shelf.{ShelfSeen}
 use Rattle.cmd_base.specs.Outside.{Outside}
-use Rattle.cmd_base.specs.Ends.{Ends, HasWriteFault}
+use Rattle.cmd_base.specs.Ends.{Ends}
 use Rattle.cmd_base.specs.WalkLaws.{HasLaws}
 use Rattle.cmd_base.specs.declared.outcome.Outcome.{Outcome}
-use Rattle.cmd_base.specs.declared.outcome.Outcome.TheVariants.{WriteFault}
 use Rattle.tlut_cli.specs.Commands.{Command, command_of, walk_of}
 
--- what its outcome says, the cause of its fault of writing, that the files are as before or it writes files, and the laws of its walk
-pub record HasEnded (command : Command) (old new : ShelfSeen) (before after : Outside) (faults_before faults_after : ℕ) (o : Outcome) : Type 0 where
+-- what its outcome says, that the files are as before or it writes files, and the laws of its walk
+pub record HasEnded (command : Command) (old new : ShelfSeen) (before after : Outside) (o : Outcome) : Type 0 where
   pub ends : Ends (walk_of command) old new before after o
-  pub cause : o ≡ WriteFault → HasWriteFault (walk_of command) old new faults_before faults_after
   pub files : (new.files ≡ old.files) ⊎ (walk_of command).WritesFiles
   pub laws : HasLaws (walk_of command)
 

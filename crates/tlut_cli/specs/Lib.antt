@@ -2,6 +2,8 @@
 pub mod Commands
 -- how a call ends, whatever the command,
 pub mod Call
+-- what one command writes and another plays,
+pub mod Replay
 -- and its fault line.
 pub mod FaultLine
 -- What only bodies are compared with.

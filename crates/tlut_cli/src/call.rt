@@ -2,16 +2,18 @@
 ghost use Rattle.std.specs.Prelude.{◌≡◌, ◌≤◌, ◌↔◌, ◌⊎◌, ℕ, List, length, None, Some, map, string_bytes};
 ghost use Rattle.tl_io.specs.Shelf.{Files};
 ghost use Rattle.cmd_base.specs.Outside.{outside};
-ghost use Rattle.tlut_cli.specs.Commands.{Run, command_of, command_seen, HasRange};
-ghost use Rattle.tlut_cli.specs.CommandEnds.{HasEnded, HasWalkLaws};
 ghost use Rattle.cmd_base.specs.Ends.{Told};
-ghost use Rattle.tlut_cli.specs.Call.{IsEnd, fault_file, word_at, fault_word, HasRefusal, HasDone, HasCutOff, HasLost, HasFault, HasPortFault, IsAnswered, IsComplete, IsFinished, IsQuiet, HasWriteCause, WritesFiles};
 ghost use Rattle.cmd_base.specs.FaultLine.{Reports};
-ghost use Rattle.tlut_cli.specs.FaultLine.{line_of};
 ghost use Rattle.cmd_base.specs.Statuses.{status_of};
+ghost use Rattle.cmd_base.specs.declared.outcome.Outcome.{Outcome as OutcomeValue};
 ghost use Rattle.cmd_run.specs.Run.Headline.{HasHeadline};
 ghost use Rattle.cmd_run.specs.Run.Words.{RunWords};
-ghost use Rattle.cmd_base.specs.declared.outcome.Outcome.{Outcome as OutcomeValue};
+ghost use Rattle.cmd_map.specs.Map.Words.{MapWords};
+ghost use Rattle.tlut_cli.specs.Replay.{ReplaysRun};
+ghost use Rattle.tlut_cli.specs.Commands.{Run, Map, command_of, command_seen, HasRange};
+ghost use Rattle.tlut_cli.specs.CommandEnds.{HasEnded, HasWalkLaws};
+ghost use Rattle.tlut_cli.specs.Call.{IsEnd, fault_file, word_at, fault_word, HasRefusal, HasDone, HasCutOff, HasLost, HasKeptPorts, HasFault, HasPortCause, HasWriteCause, IsAnswered, IsComplete, IsFinished, IsQuiet, WritesFiles};
+ghost use Rattle.tlut_cli.specs.FaultLine.{line_of};
 
 use crate::command::{Command, file_name, read_command, report};
 use cmd_base::{File, Outcome, Status};
@@ -37,7 +39,7 @@ fn run_command<S: Shelf, O: Sink, P: ConfigPort>(
     ports: &mut Vec<P>,
 ) -> Outcome
     requires { HasRange (length ports.old.items) command.now }
-    ensures { HasEnded (command_seen command.now) (S.seen shelf.old) (S.seen shelf.new) (outside (S.seen shelf.old).files (O.bytes out.old) (map P.port_seen ports.old.items)) (outside (S.seen shelf.new).files (O.bytes out.new) (map P.port_seen ports.new.items)) (O.faults out.old) (O.faults out.new) result }
+    ensures { HasEnded (command_seen command.now) (S.seen shelf.old) (S.seen shelf.new) (outside (S.seen shelf.old) (O.seen out.old) (map P.port_seen ports.old.items)) (outside (S.seen shelf.new) (O.seen out.new) (map P.port_seen ports.new.items)) result }
 {
     match command {
         Command::Run(words) => run_job(alloc, words, shelf, out, ports),
@@ -83,9 +85,8 @@ fn run_words<'a, S: Shelf, O: Sink, P: ConfigPort>(
     out: &mut O,
     ports: &mut Vec<P>,
 ) -> Ended<'a>
-    ensures end { IsEnd (map string_bytes words.now) (S.seen shelf.old) (S.seen shelf.new) (outside (S.seen shelf.old).files (O.bytes out.old) (map P.port_seen ports.old.items)) (outside (S.seen shelf.new).files (O.bytes out.new) (map P.port_seen ports.new.items)) result.outcome }
+    ensures end { IsEnd (map string_bytes words.now) (S.seen shelf.old) (S.seen shelf.new) (outside (S.seen shelf.old) (O.seen out.old) (map P.port_seen ports.old.items)) (outside (S.seen shelf.new) (O.seen out.new) (map P.port_seen ports.new.items)) result.outcome }
     ensures name { result.name.now ≡ fault_word (length ports.old.items) (map string_bytes words.now) result.outcome }
-    ensures write_fault { result.outcome ≡ Outcome.WriteFault → HasWriteCause (map string_bytes words.now) (S.seen shelf.old) (S.seen shelf.new) (length ports.old.items) (O.faults out.old) (O.faults out.new) }
     ensures files { ((S.seen shelf.new).files ≡ (S.seen shelf.old).files) ⊎ WritesFiles (length ports.old.items) (map string_bytes words.now) }
     ensures laws { HasWalkLaws (length ports.old.items) (map string_bytes words.now) }
 {
@@ -128,40 +129,46 @@ pub fn tlut<S: Shelf, O: Sink, E: Sink>(
     ensures usage { result ≡ Status.Usage ↔ command_of (length ports.old.items) (map string_bytes words.now) ≡ None }
 
     // A refusal or a limit is the verdict's on the words and the files.
-    ensures refusal { (result ≡ Status.Refused) ⊎ (result ≡ Status.Limit) → Told (S.seen shelf.old).files (λ files. HasRefusal files (length ports.old.items) (map string_bytes words.now) result) }
+    ensures refusal { (result ≡ Status.Refused) ⊎ (result ≡ Status.Limit) → HasRefusal (S.seen shelf.old).files (length ports.old.items) (map string_bytes words.now) result }
 
     // The other way round, such a refusal is the answer, where no read fails and memory suffices.
     ensures refused { IsAnswered (map string_bytes words.now) (S.seen shelf.old) (S.seen shelf.new) (length ports.old.items) result }
 
     // The output grew by the lines of the accepted job, and the ports got its load and its writes: all of them, or those up to
     // the fault.
-    ensures done { result ≡ Status.Done → Told (S.seen shelf.old).files (λ files. HasDone files (map string_bytes words.now) (outside (S.seen shelf.old).files (O.bytes out.old) (map (λ port. port_seen port) ports.old.items)) (outside (S.seen shelf.new).files (O.bytes out.new) (map (λ port. port_seen port) ports.new.items))) }
-    ensures part { result ≡ Status.WriteFault → Told (S.seen shelf.old).files (λ files. HasCutOff files (map string_bytes words.now) (outside (S.seen shelf.old).files (O.bytes out.old) (map (λ port. port_seen port) ports.old.items)) (outside (S.seen shelf.new).files (O.bytes out.new) (map (λ port. port_seen port) ports.new.items))) }
-    ensures lost { result ≡ Status.PortFault → Told (S.seen shelf.old).files (λ files. HasLost files (map string_bytes words.now) (outside (S.seen shelf.old).files (O.bytes out.old) (map (λ port. port_seen port) ports.old.items)) (outside (S.seen shelf.new).files (O.bytes out.new) (map (λ port. port_seen port) ports.new.items))) }
+    ensures done { result ≡ Status.Done → HasDone (map string_bytes words.now) (outside (S.seen shelf.old) (O.seen out.old) (map (λ port. port_seen port) ports.old.items)) (outside (S.seen shelf.new) (O.seen out.new) (map (λ port. port_seen port) ports.new.items)) }
+    ensures part { result ≡ Status.WriteFault → HasCutOff (map string_bytes words.now) (outside (S.seen shelf.old) (O.seen out.old) (map (λ port. port_seen port) ports.old.items)) (outside (S.seen shelf.new) (O.seen out.new) (map (λ port. port_seen port) ports.new.items)) }
+    ensures lost { result ≡ Status.PortFault → HasLost (map string_bytes words.now) (outside (S.seen shelf.old) (O.seen out.old) (map (λ port. port_seen port) ports.old.items)) (outside (S.seen shelf.new) (O.seen out.new) (map (λ port. port_seen port) ports.new.items)) }
 
     // The headline of `run`: the source circuit's outputs and latch states cycle by cycle, at each change exactly the bits in which the
     // configurations specialised from scratch differ, tables of at most K inputs, and the least depth over all covers.
-    ensures headline { result ≡ Status.Done → Told (S.seen shelf.old).files (λ files. (run : RunWords) → command_of (length ports.old.items) (map string_bytes words.now) ≡ Some (Run run) → HasHeadline files run (outside (S.seen shelf.old).files (O.bytes out.old) (map (λ port. port_seen port) ports.old.items)) (outside (S.seen shelf.new).files (O.bytes out.new) (map (λ port. port_seen port) ports.new.items))) }
+    ensures headline { result ≡ Status.Done → (run : RunWords) → command_of (length ports.old.items) (map string_bytes words.now) ≡ Some (Run run) → Told (S.seen shelf.old).files (λ files. HasHeadline files run (outside (S.seen shelf.old) (O.seen out.old) (map (λ port. port_seen port) ports.old.items)) (outside (S.seen shelf.new) (O.seen out.new) (map (λ port. port_seen port) ports.new.items))) }
+
+    // What `map` wrote is played by `bits` as `run` plays its tables, for each script without cycles.
+    ensures replays { result ≡ Status.Done → (written : MapWords) → command_of (length ports.old.items) (map string_bytes words.now) ≡ Some (Map written) → Told (S.seen shelf.old).files (λ files. ReplaysRun files written (outside (S.seen shelf.old) (O.seen out.old) (map (λ port. port_seen port) ports.old.items)) (outside (S.seen shelf.new) (O.seen out.new) (map (λ port. port_seen port) ports.new.items))) }
 
     // An accepted job is done, where no read, no write and no more ports than stand by fail, and memory suffices.
-    ensures complete { IsComplete (map string_bytes words.now) (S.seen shelf.old) (S.seen shelf.new) (outside (S.seen shelf.old).files (O.bytes out.old) (map (λ port. port_seen port) ports.old.items)) (outside (S.seen shelf.new).files (O.bytes out.new) (map (λ port. port_seen port) ports.new.items)) (O.faults out.old) (O.faults out.new) result }
-    ensures finished { IsFinished (map string_bytes words.now) (S.seen shelf.old) (S.seen shelf.new) (outside (S.seen shelf.old).files (O.bytes out.old) (map (λ port. port_seen port) ports.old.items)) (outside (S.seen shelf.new).files (O.bytes out.new) (map (λ port. port_seen port) ports.new.items)) (O.faults out.old) (O.faults out.new) result }
+    ensures complete { IsComplete (map string_bytes words.now) (S.seen shelf.old) (S.seen shelf.new) (outside (S.seen shelf.old) (O.seen out.old) (map (λ port. port_seen port) ports.old.items)) (outside (S.seen shelf.new) (O.seen out.new) (map (λ port. port_seen port) ports.new.items)) result }
+    ensures finished { IsFinished (map string_bytes words.now) (S.seen shelf.old) (S.seen shelf.new) (outside (S.seen shelf.old) (O.seen out.old) (map (λ port. port_seen port) ports.old.items)) (outside (S.seen shelf.new) (O.seen out.new) (map (λ port. port_seen port) ports.new.items)) result }
 
     // A fault has its cause.
     ensures read_fault { result ≡ Status.ReadFault → HasFault (length ports.old.items) (map string_bytes words.now) (S.seen shelf.old) (S.seen shelf.new) }
-    ensures write_fault { result ≡ Status.WriteFault → HasWriteCause (map string_bytes words.now) (S.seen shelf.old) (S.seen shelf.new) (length ports.old.items) (O.faults out.old) (O.faults out.new) }
-    ensures port_fault { result ≡ Status.PortFault → HasPortFault (map string_bytes words.now) (outside (S.seen shelf.old).files (O.bytes out.old) (map (λ port. port_seen port) ports.old.items)) (outside (S.seen shelf.new).files (O.bytes out.new) (map (λ port. port_seen port) ports.new.items)) }
+    ensures write_fault { result ≡ Status.WriteFault → HasWriteCause (map string_bytes words.now) (outside (S.seen shelf.old) (O.seen out.old) (map (λ port. port_seen port) ports.old.items)) (outside (S.seen shelf.new) (O.seen out.new) (map (λ port. port_seen port) ports.new.items)) }
+    ensures port_fault { result ≡ Status.PortFault → HasPortCause (map string_bytes words.now) (outside (S.seen shelf.old) (O.seen out.old) (map (λ port. port_seen port) ports.old.items)) (outside (S.seen shelf.new) (O.seen out.new) (map (λ port. port_seen port) ports.new.items)) }
+
+    // What becomes of the ports, whatever the files are.
+    ensures boxes { (result ≡ Status.Done) ⊎ (result ≡ Status.WriteFault) → HasKeptPorts (map string_bytes words.now) (outside (S.seen shelf.old) (O.seen out.old) (map (λ port. port_seen port) ports.old.items)) (outside (S.seen shelf.new) (O.seen out.new) (map (λ port. port_seen port) ports.new.items)) }
 
     // What stays.
-    ensures quiet { IsQuiet result → O.bytes out.new ≡ O.bytes out.old }
+    ensures quiet { IsQuiet result → (O.seen out.new).bytes ≡ (O.seen out.old).bytes }
     ensures ports { IsQuiet result → map (λ port. port_seen port) ports.new.items ≡ map (λ port. port_seen port) ports.old.items }
     ensures files { IsQuiet result → (S.seen shelf.new).files ≡ (S.seen shelf.old).files }
     ensures no_files { ((S.seen shelf.new).files ≡ (S.seen shelf.old).files) ⊎ WritesFiles (length ports.old.items) (map string_bytes words.now) }
 
     // The outcome, its cause, and the fault line.
     ensures told { (outcome : OutcomeValue) × (result ≡ status_of outcome)
-        × IsEnd (map string_bytes words.now) (S.seen shelf.old) (S.seen shelf.new) (outside (S.seen shelf.old).files (O.bytes out.old) (map (λ port. port_seen port) ports.old.items)) (outside (S.seen shelf.new).files (O.bytes out.new) (map (λ port. port_seen port) ports.new.items)) outcome
-        × Reports (E.faults err.old) (E.faults err.new) (E.bytes err.old) (E.bytes err.new) (line_of (fault_word (length ports.old.items) (map string_bytes words.now) outcome) outcome) }
+        × IsEnd (map string_bytes words.now) (S.seen shelf.old) (S.seen shelf.new) (outside (S.seen shelf.old) (O.seen out.old) (map (λ port. port_seen port) ports.old.items)) (outside (S.seen shelf.new) (O.seen out.new) (map (λ port. port_seen port) ports.new.items)) outcome
+        × Reports (E.seen err.old) (E.seen err.new) (line_of (fault_word (length ports.old.items) (map string_bytes words.now) outcome) outcome) }
 {
     let ended = run_words(alloc, words, shelf, out, ports);
     report(err, ended.name.as_bytes(), &ended.outcome);

@@ -73,7 +73,7 @@ pub fn file_name<'a>(command: &Command<'a>, file: File) -> &'a str
 
 /// Puts the fault line of an outcome; that of words of no form lists the forms. A failing sink changes nothing else.
 pub fn report<E: Sink>(err: &mut E, name: &[u8], outcome: &Outcome)
-    ensures reports { Reports (E.faults err.old) (E.faults err.new) (E.bytes err.old) (E.bytes err.new) (line_of name.now outcome.now) }
+    ensures reports { Reports (E.seen err.old) (E.seen err.new) (line_of name.now outcome.now) }
 {
     cmd_base::report(
         err,

@@ -25,16 +25,16 @@ module _ (inputs : List (List ℕ)) (first : Option ℕ) (j : ℕ) where
   kept_within next k = slice_get_within inputs next k.name k.after
 
 -- the net of one control
-module _ (library : LibraryValue) (rows : List Instance) (are : AreInstances library rows) (nets : NetsValue) (all : AreAllNets library rows nets) (row : ℕ) (control : List ℕ) where
-  module _ (inputs : List (List ℕ)) (inputs_are : (main : ModelValue) → model_at library [] ≡ Some main → inputs ≡ inputs_of main) (path : Path) (at : slice_get (paths_of rows) row ≡ Some path) where
+module _ (library : LibraryValue) (instances : List Instance) (are : AreInstances library instances) (nets : NetsValue) (all : AreAllNets library instances nets) (row : ℕ) (control : List ℕ) where
+  module _ (inputs : List (List ℕ)) (inputs_are : (main : ModelValue) → model_at library [] ≡ Some main → inputs ≡ inputs_of main) (path : Path) (at : slice_get (paths_of instances) row ≡ Some path) where
     pub none_read : IsDriven library → IsRead library path control → table_of nets row control ≡ None → ⊥
     none_read driven r e =
         let d = driven.driven path control r in
         let t = net_of_driver library driven path control d.0 d.1 in
-        none_found library rows are nets all row path at control e t.0 t.1
+        none_found library instances are nets all row path at control e t.0 t.1
 
     input_drives : (j : ℕ) → table_of nets row control ≡ Some (Input j) → (name : List ℕ) → slice_get inputs j ≡ Some name → Drives library path control (input_net name)
-    input_drives j e name f = let r = input_found library rows are nets all row path at control inputs inputs_are j e in subst (λ n. Drives library path control (input_net n)) (same_Some r.input name (sym r.at ∙ f)) r.drives
+    input_drives j e name f = let r = input_found library instances are nets all row path at control inputs inputs_are j e in subst (λ n. Drives library path control (input_net n)) (same_Some r.input name (sym r.at ∙ f)) r.drives
 
     pub met_input : (first : Option ℕ) (j next : ℕ) → table_of nets row control ≡ Some (Input j) → IsKeptInput inputs first j next → IsMetInput library path control (input_at inputs first) (input_at inputs (Some next))
     met_input first j next e k = record { name = k.name; drives = input_drives j e k.name k.at; before = k.before; after = k.after }
@@ -43,34 +43,34 @@ module _ (library : LibraryValue) (rows : List Instance) (are : AreInstances lib
     met_another first j fault e s = another s.name s.earlier (input_drives j e s.name s.at) s.before s.differs s.is
 
     pub met_latch : (first : Option ℕ) (k : ℕ) (text : List ℕ) → table_of nets row control ≡ Some (Latch k)
-        → ((p : Place) → slice_get (places_at library is_latch (paths_of rows)) k ≡ Some p → IsWritten library (latch_net p.path p.command) text) → IsRefused library path control (input_at inputs first) (ClockNotInput text)
+        → ((p : Place) → slice_get (places_at library is_latch (paths_of instances)) k ≡ Some p → IsWritten library (latch_net p.path p.command) text) → IsRefused library path control (input_at inputs first) (ClockNotInput text)
     met_latch first k text e w =
-        let r = latch_found library rows are nets all row path at control k e in
+        let r = latch_found library instances are nets all row path at control k e in
         not_input (latch_of r.place) text r.drives (λ name q. cc) (w r.place r.at) refl
 
     pub met_cover : (first : Option ℕ) (k : ℕ) (text : List ℕ) → table_of nets row control ≡ Some (Cover k)
-        → IsWrittenAt library (places_at library is_cover (paths_of rows)) k text → IsRefused library path control (input_at inputs first) (ClockNotInput text)
+        → IsWrittenAt library (places_at library is_cover (paths_of instances)) k text → IsRefused library path control (input_at inputs first) (ClockNotInput text)
     met_cover first k text e w =
-        let r = cover_found library rows are nets all row path at control k e in
+        let r = cover_found library instances are nets all row path at control k e in
         not_input (cover_of r.place) text r.drives (λ name q. cc) (subst (λ (p : Place). IsWritten library (cover_net p.path p.command) text) (same_Some w.place r.place (sym w.at ∙ r.at)) w.written) refl
 
   -- numbers in the table are in range
-  module _ (here : row < length rows) where
-    row_path : (path : Path) × (slice_get (paths_of rows) row ≡ Some path)
-    row_path = at_within (paths_of rows) row (let n = paths_of-length rows in omega arith)
+  module _ (here : row < length instances) where
+    row_path : (path : Path) × (slice_get (paths_of instances) row ≡ Some path)
+    row_path = at_within (paths_of instances) row (let n = paths_of-length instances in omega arith)
 
     pub input_within : (inputs : List (List ℕ)) → ((main : ModelValue) → model_at library [] ≡ Some main → inputs ≡ inputs_of main) → (j : ℕ) → table_of nets row control ≡ Some (Input j) → j < length inputs
-    input_within inputs inputs_are j e = let r = input_found library rows are nets all row row_path.0 row_path.1 control inputs inputs_are j e in slice_get_within inputs j r.input r.at
+    input_within inputs inputs_are j e = let r = input_found library instances are nets all row row_path.0 row_path.1 control inputs inputs_are j e in slice_get_within inputs j r.input r.at
 
-    pub latch_within : (latches : List Gate) → AreGatesAt (paths_of rows) latches (places_at library is_latch (paths_of rows)) → (k : ℕ) → table_of nets row control ≡ Some (Latch k) → k < length latches
+    pub latch_within : (latches : List Gate) → AreGatesAt (paths_of instances) latches (places_at library is_latch (paths_of instances)) → (k : ℕ) → table_of nets row control ≡ Some (Latch k) → k < length latches
     latch_within latches ats k e =
-        let r = latch_found library rows are nets all row row_path.0 row_path.1 control k e in
-        place_within (paths_of rows) latches (places_at library is_latch (paths_of rows)) ats k r.place r.at
+        let r = latch_found library instances are nets all row row_path.0 row_path.1 control k e in
+        place_within (paths_of instances) latches (places_at library is_latch (paths_of instances)) ats k r.place r.at
 
-    pub cover_within : (covers : List Gate) → AreGatesAt (paths_of rows) covers (places_at library is_cover (paths_of rows)) → (k : ℕ) → table_of nets row control ≡ Some (Cover k) → k < length covers
+    pub cover_within : (covers : List Gate) → AreGatesAt (paths_of instances) covers (places_at library is_cover (paths_of instances)) → (k : ℕ) → table_of nets row control ≡ Some (Cover k) → k < length covers
     cover_within covers ats k e =
-        let r = cover_found library rows are nets all row row_path.0 row_path.1 control k e in
-        place_within (paths_of rows) covers (places_at library is_cover (paths_of rows)) ats k r.place r.at
+        let r = cover_found library instances are nets all row row_path.0 row_path.1 control k e in
+        place_within (paths_of instances) covers (places_at library is_cover (paths_of instances)) ats k r.place r.at
 
 -- the control of the latch at a place
 module _ (library : LibraryValue) (p : Place) (found l : LatchValue) (is : latch_at library p ≡ Some found) (at : LatchAt library p.path p.command l) where
@@ -121,46 +121,46 @@ module _ (library : LibraryValue) (places : List Place) where
       came_refused fault s = refused_by l.control fault refl s
 
 -- gate by gate
-module _ (library : LibraryValue) (rows : List Instance) (are : AreInstances library rows) (latches : List Gate) (ats : AreGatesAt (paths_of rows) latches (places_at library is_latch (paths_of rows)))
-    (i : ℕ) (first : Option (List ℕ)) (came : CameTo library (places_at library is_latch (paths_of rows)) (drop i (places_at library is_latch (paths_of rows))) first) where
+module _ (library : LibraryValue) (instances : List Instance) (are : AreInstances library instances) (latches : List Gate) (ats : AreGatesAt (paths_of instances) latches (places_at library is_latch (paths_of instances)))
+    (i : ℕ) (first : Option (List ℕ)) (came : CameTo library (places_at library is_latch (paths_of instances)) (drop i (places_at library is_latch (paths_of instances))) first) where
   abbrev latch_places : List Place
-  latch_places = places_at library is_latch (paths_of rows)
+  latch_places = places_at library is_latch (paths_of instances)
 
   module _ (g : Gate) (here : slice_get latches i ≡ Some g) where
-    next_place : HasPlace (paths_of rows) latches latch_places ats i g
-    next_place = has_place (paths_of rows) latches latch_places ats i g here
+    next_place : HasPlace (paths_of instances) latches latch_places ats i g
+    next_place = has_place (paths_of instances) latches latch_places ats i g here
 
     next_latch : (l : LatchValue) × LatchAt library next_place.place.path next_place.place.command l
-    next_latch = latch_place library rows are i next_place.place next_place.at
+    next_latch = latch_place library instances are i next_place.place next_place.at
 
     came_first : CameTo library latch_places (next_place.place ∷ drop (i + 1) latch_places) first
     came_first = subst (λ ps. CameTo library latch_places ps first) (drop_get latch_places i next_place.place next_place.at) came
 
     pub gate_passed : (next : Option (List ℕ))
-        → ((p : Place) (l : LatchValue) → IsGateAt (paths_of rows) g p → LatchAt library p.path p.command l → ControlNext library p.path l.control first next)
-        → CameTo library (places_at library is_latch (paths_of rows)) (drop (i + 1) (places_at library is_latch (paths_of rows))) next
+        → ((p : Place) (l : LatchValue) → IsGateAt (paths_of instances) g p → LatchAt library p.path p.command l → ControlNext library p.path l.control first next)
+        → CameTo library (places_at library is_latch (paths_of instances)) (drop (i + 1) (places_at library is_latch (paths_of instances))) next
     gate_passed next h = came_next library latch_places next_place.place (drop (i + 1) latch_places) next_latch.0 next_latch.1 first came_first next (h next_place.place next_latch.0 next_place.is next_latch.1)
 
     pub gate_refused : (fault : FlatErr)
-        → ((p : Place) (l : LatchValue) → IsGateAt (paths_of rows) g p → LatchAt library p.path p.command l → ControlFault library p.path l.control first fault)
-        → Clocks library None (places_at library is_latch (paths_of rows)) (Some fault)
+        → ((p : Place) (l : LatchValue) → IsGateAt (paths_of instances) g p → LatchAt library p.path p.command l → ControlFault library p.path l.control first fault)
+        → Clocks library None (places_at library is_latch (paths_of instances)) (Some fault)
     gate_refused fault h = came_refused library latch_places next_place.place (drop (i + 1) latch_places) next_latch.0 next_latch.1 first came_first fault (h next_place.place next_latch.0 next_place.is next_latch.1)
 
-  pub all_passed : length latches ≤ i → CameTo library (places_at library is_latch (paths_of rows)) [] first
+  pub all_passed : length latches ≤ i → CameTo library (places_at library is_latch (paths_of instances)) [] first
   all_passed h = subst (λ ps. CameTo library latch_places ps first) (drop_of_length-le latch_places (let n = ats.count in omega arith)) came
 
 -- all latches are passed
-module _ (library : LibraryValue) (rows : List Instance) (are : AreInstances library rows) where
+module _ (library : LibraryValue) (instances : List Instance) (are : AreInstances library instances) where
   no_latches : AreFree library []
   no_latches = record { each = λ p l i a. absurd i }
 
-  control_is : (o : Option (List ℕ)) → IsControlSoFar library (places_at library is_latch (paths_of rows)) [] o → IsControl library o
+  control_is : (o : Option (List ℕ)) → IsControlSoFar library (places_at library is_latch (paths_of instances)) [] o → IsControl library o
   control_is None h = no_latch (λ path i l a. (h no_latches).each (place_of path i) l
-      (flat_all library is_latch are.main (places_at library is_latch (paths_of rows)) are.first (flat_places library rows are is_latch) path a.model i (LatchBody l) a.at a.is refl) a) refl
+      (flat_all library is_latch are.main (places_at library is_latch (paths_of instances)) are.first (flat_places library instances are is_latch) path a.model i (LatchBody l) a.at a.is refl) a) refl
   control_is (Some name) k = some_latch k.path k.command k.latch k.control name k.at k.is k.drives refl
 
-  pub came_end : (inputs : List (List ℕ)) (control : Option ℕ) → ((j : ℕ) → control ≡ Some j → j < length inputs) → CameTo library (places_at library is_latch (paths_of rows)) [] (input_at inputs control)
-      → (main : ModelValue) → inputs ≡ inputs_of main → IsControlled library main (paths_of rows) control
+  pub came_end : (inputs : List (List ℕ)) (control : Option ℕ) → ((j : ℕ) → control ≡ Some j → j < length inputs) → CameTo library (places_at library is_latch (paths_of instances)) [] (input_at inputs control)
+      → (main : ModelValue) → inputs ≡ inputs_of main → IsControlled library main (paths_of instances) control
   came_end inputs control within came main e = record {
     clean = came.clocks None (stop refl refl);
     is = subst (λ (l : List (List ℕ)). IsControl library (input_at l control)) e (control_is (input_at inputs control) came.control);
@@ -178,7 +178,7 @@ pub tells_err : (result : Result (Unit {0}) FlatErr) (fault : Option FlatErr) (P
 tells_err (Ok x) fault P t h = tt
 tells_err (Err e) fault P t h = OrMemory-map refusal_of (λ r. fault ≡ Some r) P e h t
 
-module _ (library : LibraryValue) (driven : IsDriven library) (rows : List Instance) (are : AreInstances library rows) (nets : NetsValue) (all : AreAllNets library rows nets)
+module _ (library : LibraryValue) (driven : IsDriven library) (instances : List Instance) (are : AreInstances library instances) (nets : NetsValue) (all : AreAllNets library instances nets)
     (inputs : List (List ℕ)) (inputs_are : (main : ModelValue) → model_at library [] ≡ Some main → inputs ≡ inputs_of main)
     (marks : List Bool) (marks_are : (main : ModelValue) → model_at library [] ≡ Some main → AreClockMarks library main marks) where
   marked : AreClockMarks library are.main marks
@@ -189,7 +189,7 @@ module _ (library : LibraryValue) (driven : IsDriven library) (rows : List Insta
       ap (λ (l : List Bool). slice_get l j) marked.marks_are ∙ slice_get-map marked.test (inputs_of are.main) j
       ∙ ap (option_map marked.test) (ap (λ (l : List (List ℕ)). slice_get l j) (sym (inputs_are are.main are.first)) ∙ e)
 
-  module _ (row : ℕ) (path : Path) (at : slice_get (paths_of rows) row ≡ Some path) where
+  module _ (row : ℕ) (path : Path) (at : slice_get (paths_of instances) row ≡ Some path) where
     -- the name's net is this clock net, or none
     abbrev Says : List ℕ → Option (List ℕ) → Type 0
     Says name None = (net : List ℕ) → Drives library path name (input_net net) → IsClock library net → ⊥
@@ -203,13 +203,13 @@ module _ (library : LibraryValue) (driven : IsDriven library) (rows : List Insta
           marked.tells.no input f (subst (IsClock library) twin c))
 
       said_by : (o : Option FlatNet) → table_of nets row name ≡ o → Says name (clock_named inputs marks o)
-      said_by None e = λ net t c. none_found library rows are nets all row path at name e (input_net net) t
+      said_by None e = λ net t c. none_found library instances are nets all row path at name e (input_net net) t
       said_by (Some (Input j)) e =
-          let r = input_found library rows are nets all row path at name inputs inputs_are j e in
+          let r = input_found library instances are nets all row path at name inputs inputs_are j e in
           subst (Says name) (sym (ap₂ marked_name (mark_at j r.input r.at) r.at)) (said_marked r.input (marked.test r.input) refl r.drives)
-      said_by (Some (Latch k)) e = λ net t c. (let r = latch_found library rows are nets all row path at name k e in
+      said_by (Some (Latch k)) e = λ net t c. (let r = latch_found library instances are nets all row path at name k e in
           let same : latch_net r.place.path r.place.command ≡ input_net net = one_net library driven r.drives t in cc)
-      said_by (Some (Cover k)) e = λ net t c. (let r = cover_found library rows are nets all row path at name k e in
+      said_by (Some (Cover k)) e = λ net t c. (let r = cover_found library instances are nets all row path at name k e in
           let same : cover_net r.place.path r.place.command ≡ input_net net = one_net library driven r.drives t in cc)
 
       said : Says name (clock_named inputs marks (table_of nets row name))
@@ -230,28 +230,28 @@ module _ (library : LibraryValue) (driven : IsDriven library) (rows : List Insta
     names_said (n ∷ names) result e = with_first n names result (clock_named inputs marks (table_of nets row n)) (said n) (names_said names) e
 
   -- gate by gate
-  module _ (gates : List Gate) (ats : AreGatesAt (paths_of rows) gates (places_at library is_gate (paths_of rows))) (i : ℕ) where
+  module _ (gates : List Gate) (ats : AreGatesAt (paths_of instances) gates (places_at library is_gate (paths_of instances))) (i : ℕ) where
     abbrev gate_places : List Place
-    gate_places = places_at library is_gate (paths_of rows)
+    gate_places = places_at library is_gate (paths_of instances)
 
     module _ (g : Gate) (at : slice_get gates i ≡ Some g) where
-      pub data_place : HasPlace (paths_of rows) gates (places_at library is_gate (paths_of rows)) ats i g
-      data_place = has_place (paths_of rows) gates gate_places ats i g at
+      pub data_place : HasPlace (paths_of instances) gates (places_at library is_gate (paths_of instances)) ats i g
+      data_place = has_place (paths_of instances) gates gate_places ats i g at
 
       gate_said : (result : Option FlatErr) → names_fault inputs marks nets g.row (data_of library data_place.place) ≡ result → ClockAmong library data_place.place.path (data_of library data_place.place) result
       gate_said result e = names_said g.row data_place.place.path data_place.is.row (data_of library data_place.place) result e
 
       pub data_passed : names_fault inputs marks nets g.row (data_of library data_place.place) ≡ None → (main : ModelValue) (result : Option FlatErr)
-          → ClockData library main (drop (i + 1) (places_at library is_gate (paths_of rows))) result → ClockData library main (drop i (places_at library is_gate (paths_of rows))) result
+          → ClockData library main (drop (i + 1) (places_at library is_gate (paths_of instances))) result → ClockData library main (drop i (places_at library is_gate (paths_of instances))) result
       data_passed e main result d = later data_place.place (drop (i + 1) gate_places) (drop_get gate_places i data_place.place data_place.at) (gate_said None e) d
 
       pub gate_data_refused : (fault : FlatErr) → names_fault inputs marks nets g.row (data_of library data_place.place) ≡ Some fault → (main : ModelValue)
-          → ClockData library main (drop i (places_at library is_gate (paths_of rows))) (Some fault)
+          → ClockData library main (drop i (places_at library is_gate (paths_of instances))) (Some fault)
       gate_data_refused fault e main = clock_here data_place.place (drop (i + 1) gate_places) fault (drop_get gate_places i data_place.place data_place.at) (gate_said (Some fault) e) refl
 
     -- then the outputs
     pub outputs_said : length gates ≤ i → (main : ModelValue) (result : Option FlatErr) → names_fault inputs marks nets 0 main.outputs ≡ result
-        → ClockData library main (drop i (places_at library is_gate (paths_of rows))) result
+        → ClockData library main (drop i (places_at library is_gate (paths_of instances))) result
     outputs_said h main result e =
         outputs (drop_of_length-le gate_places (let n = ats.count in omega arith)) (names_said 0 [] (order_first library are.order) main.outputs result e)
 
@@ -337,9 +337,9 @@ module _ (library : LibraryValue) (main : ModelValue) (at : model_at library [] 
     tests_tell control c = record { yes = test_clock control c; no = clock_tested control c }
 
 -- past the controls, the names that are listed as clocks and the net of the controls are the clock nets
-pub clocks_told : (library : LibraryValue) → IsDriven library → (rows : List Instance) → AreInstances library rows → (main : ModelValue) → model_at library [] ≡ Some main → (control : Option ℕ)
-    → IsControlled library main (paths_of rows) control → TellsClocks library (clock_test main (input_name main control))
-clocks_told library driven rows are main at control is =
-    let order : FlatOrder library is_latch [] main (places_at library is_latch (paths_of rows)) =
-    subst (λ m. FlatOrder library is_latch [] m (places_at library is_latch (paths_of rows))) (same_Some are.main main (sym are.first ∙ at)) (order_places library is_latch are.order are.first) in
-    tests_tell library main at driven (paths_of rows) order is.clean (input_name main control) is.is
+pub clocks_told : (library : LibraryValue) → IsDriven library → (instances : List Instance) → AreInstances library instances → (main : ModelValue) → model_at library [] ≡ Some main → (control : Option ℕ)
+    → IsControlled library main (paths_of instances) control → TellsClocks library (clock_test main (input_name main control))
+clocks_told library driven instances are main at control is =
+    let order : FlatOrder library is_latch [] main (places_at library is_latch (paths_of instances)) =
+    subst (λ m. FlatOrder library is_latch [] m (places_at library is_latch (paths_of instances))) (same_Some are.main main (sym are.first ∙ at)) (order_places library is_latch are.order are.first) in
+    tests_tell library main at driven (paths_of instances) order is.clean (input_name main control) is.is

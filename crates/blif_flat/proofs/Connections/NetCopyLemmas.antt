@@ -103,10 +103,10 @@ module _ (library : LibraryValue) (at : Places) (path : Path) (name : List ℕ) 
       let same : i ≡ j = cc in
       record { place = p; at = subst (λ k. slice_get at.covers k ≡ Some p) same g; drives = subst (Drives library path name) q t }
 
-module _ (library : LibraryValue) (rows : List Instance) (are : AreInstances library rows) (nets : NetsValue) (all : AreAllNets library rows nets)
-    (row : ℕ) (path : Path) (at : slice_get (paths_of rows) row ≡ Some path) (name : List ℕ) where
-  found : (o : Option FlatNet) → table_of nets row name ≡ o → IsNetFound library (net_places library are.main (paths_of rows)) path name o
-  found o e = subst (IsNetFound library (net_places library are.main (paths_of rows)) path name) e ((all.table are.main are.first).each row path name at)
+module _ (library : LibraryValue) (instances : List Instance) (are : AreInstances library instances) (nets : NetsValue) (all : AreAllNets library instances nets)
+    (row : ℕ) (path : Path) (at : slice_get (paths_of instances) row ≡ Some path) (name : List ℕ) where
+  found : (o : Option FlatNet) → table_of nets row name ≡ o → IsNetFound library (net_places library are.main (paths_of instances)) path name o
+  found o e = subst (IsNetFound library (net_places library are.main (paths_of instances)) path name) e ((all.table are.main are.first).each row path name at)
 
   pub none_found : table_of nets row name ≡ None → (net : Net) → Drives library path name net → ⊥
   none_found e = found None e
@@ -114,13 +114,13 @@ module _ (library : LibraryValue) (rows : List Instance) (are : AreInstances lib
   pub input_found : (inputs : List (List ℕ)) → ((main : ModelValue) → model_at library [] ≡ Some main → inputs ≡ inputs_of main) → (j : ℕ) → table_of nets row name ≡ Some (Input j) → ByInput library inputs path name j
   input_found inputs inputs_are j e =
       let r = found (Some (Input j)) e in
-      subst (λ l. ByInput library l path name j) (sym (inputs_are are.main are.first)) (by_input library (net_places library are.main (paths_of rows)) path name j r.net r.drives r.numbered)
+      subst (λ l. ByInput library l path name j) (sym (inputs_are are.main are.first)) (by_input library (net_places library are.main (paths_of instances)) path name j r.net r.drives r.numbered)
 
-  pub latch_found : (k : ℕ) → table_of nets row name ≡ Some (Latch k) → ByPlace library latch_of (places_at library is_latch (paths_of rows)) path name k
-  latch_found k e = let r = found (Some (Latch k)) e in by_latch library (net_places library are.main (paths_of rows)) path name k r.net r.drives r.numbered
+  pub latch_found : (k : ℕ) → table_of nets row name ≡ Some (Latch k) → ByPlace library latch_of (places_at library is_latch (paths_of instances)) path name k
+  latch_found k e = let r = found (Some (Latch k)) e in by_latch library (net_places library are.main (paths_of instances)) path name k r.net r.drives r.numbered
 
-  pub cover_found : (k : ℕ) → table_of nets row name ≡ Some (Cover k) → ByPlace library cover_of (places_at library is_cover (paths_of rows)) path name k
-  cover_found k e = let r = found (Some (Cover k)) e in by_cover library (net_places library are.main (paths_of rows)) path name k r.net r.drives r.numbered
+  pub cover_found : (k : ℕ) → table_of nets row name ≡ Some (Cover k) → ByPlace library cover_of (places_at library is_cover (paths_of instances)) path name k
+  cover_found k e = let r = found (Some (Cover k)) e in by_cover library (net_places library are.main (paths_of instances)) path name k r.net r.drives r.numbered
 
 -- Tables of nets are filled step by step: a number is put in, and an instance is done.
 

@@ -106,24 +106,24 @@ parent_from paths row k outer (Some p) is e = parent_path paths row k outer p (s
 pub has_parent : (paths : List Path) (row : Instance) (k : ℕ) (outer : Path) → path_of paths row ≡ k ∷ outer → HasParent paths row k outer
 has_parent paths row k outer e = parent_from paths row k outer row.parent refl e
 
-module _ (library : LibraryValue) (rows : List Instance) (are : AreInstances library rows) where
+module _ (library : LibraryValue) (instances : List Instance) (are : AreInstances library instances) where
   -- an instance stands later than the one that it stands in
-  pub parent_earlier : (i j k : ℕ) (outer : Path) → slice_get (paths_of rows) i ≡ Some outer → slice_get (paths_of rows) j ≡ Some (k ∷ outer) → i < j
+  pub parent_earlier : (i j k : ℕ) (outer : Path) → slice_get (paths_of instances) i ≡ Some outer → slice_get (paths_of instances) j ≡ Some (k ∷ outer) → i < j
   parent_earlier i j k outer e f =
-      let row = item_there (paths_of rows) rows j (k ∷ outer) (paths_of-length rows) f in
-      let r : IsRow library (paths_of rows) j row.0 = are.each j row.0 row.1 in
+      let row = item_there (paths_of instances) instances j (k ∷ outer) (paths_of-length instances) f in
+      let r : IsRow library (paths_of instances) j row.0 = are.each j row.0 row.1 in
       let same : k ∷ outer ≡ r.path = same_Some (k ∷ outer) r.path (sym f ∙ r.at) in
-      let h : HasParent (paths_of rows) row.0 k outer = has_parent (paths_of rows) row.0 k outer (sym r.is ∙ sym same) in
-      omega (arith, apart_once (paths_of rows) h.place i outer (instances_apart library are.order) h.at e, r.earlier h.place h.parent)
+      let h : HasParent (paths_of instances) row.0 k outer = has_parent (paths_of instances) row.0 k outer (sym r.is ∙ sym same) in
+      omega (arith, apart_once (paths_of instances) h.place i outer (instances_apart library are.order) h.at e, r.earlier h.place h.parent)
 
   -- every instance has a place
-  pub instance_place : (path : Path) (m : ModelValue) → model_at library path ≡ Some m → (i : ℕ) × (slice_get (paths_of rows) i ≡ Some path)
+  pub instance_place : (path : Path) (m : ModelValue) → model_at library path ≡ Some m → (i : ℕ) × (slice_get (paths_of instances) i ≡ Some path)
   instance_place path m e =
-      place_in (paths_of rows) path (order_all library itself are.main (paths_of rows) are.first are.order path m e path (inl refl))
+      place_in (paths_of instances) path (order_all library itself are.main (paths_of instances) are.first are.order path m e path (inl refl))
 
-  module _ (driven : IsDriven library) (table : ℕ → List ℕ → Option FlatNet) (own : HasOwn library (paths_of rows) table) where
+  module _ (driven : IsDriven library) (table : ℕ → List ℕ → Option FlatNet) (own : HasOwn library (paths_of instances) table) where
     -- a driver that is no input has its number in the table, if its subcircuit stands from place t on
-    driver_known : (t : ℕ) → HasOutputs library (paths_of rows) table t → (i : ℕ) (path : Path) (name : List ℕ) (driver : Driver) → slice_get (paths_of rows) i ≡ Some path → t ≤ suc i → IsDriver library path name driver
+    driver_known : (t : ℕ) → HasOutputs library (paths_of instances) table t → (i : ℕ) (path : Path) (name : List ℕ) (driver : Driver) → slice_get (paths_of instances) i ≡ Some path → t ≤ suc i → IsDriver library path name driver
         → (driver ≡ by_input → ⊥) → table i name ≡ None → ⊥
     driver_known t outputs i path name driver e from (input a j q) off n = off q
     driver_known t outputs i path name driver e from (latch c l a p q) off n = own.latch i path c l e a (ap (table i) (sym p) ∙ n)
@@ -133,15 +133,15 @@ module _ (library : LibraryValue) (rows : List Instance) (are : AreInstances lib
         outputs.each i child.0 path k pair a out e child.1 (omega (arith, parent_earlier i child.0 k path e child.1)) (ap (table i) (sym p) ∙ n)
 
     -- backwards: the formal of an output stands in the table of the child, where the instances behind it have theirs
-    pub formal_known : (t : ℕ) → HasOutputs library (paths_of rows) table t → (j : ℕ) (path : Path) (k : ℕ) (pair : Pair) (a : ConnectionAt library path k pair) → IsTrue (is_output a.child pair.formal)
-        → slice_get (paths_of rows) j ≡ Some (k ∷ path) → t ≤ suc j → table j pair.formal ≡ None → ⊥
+    pub formal_known : (t : ℕ) → HasOutputs library (paths_of instances) table t → (j : ℕ) (path : Path) (k : ℕ) (pair : Pair) (a : ConnectionAt library path k pair) → IsTrue (is_output a.child pair.formal)
+        → slice_get (paths_of instances) j ≡ Some (k ∷ path) → t ≤ suc j → table j pair.formal ≡ None → ⊥
     formal_known t outputs j path k pair a out e from =
         let d = driven.driven (k ∷ path) pair.formal (model_output a.child (child_at library path k pair a) out) in
         driver_known t outputs j (k ∷ path) pair.formal d.0 e from d.1 (no_input library driven path k pair a out d.0 d.1)
 
-    module _ (outputs : HasOutputs library (paths_of rows) table 0) where
+    module _ (outputs : HasOutputs library (paths_of instances) table 0) where
       -- any driver of an instance whose inputs are known
-      any_known : (t : ℕ) → HasInputs library (paths_of rows) table t → (i : ℕ) (path : Path) (name : List ℕ) (driver : Driver) → i < t → slice_get (paths_of rows) i ≡ Some path → IsDriver library path name driver → table i name ≡ None → ⊥
+      any_known : (t : ℕ) → HasInputs library (paths_of instances) table t → (i : ℕ) (path : Path) (name : List ℕ) (driver : Driver) → i < t → slice_get (paths_of instances) i ≡ Some path → IsDriver library path name driver → table i name ≡ None → ⊥
       any_known t inputs i path name driver h e (input a j q) n = inputs.each i path a.model name h e a.at j n
       any_known t inputs i path name driver h e (latch c l a p q) n = own.latch i path c l e a (ap (table i) (sym p) ∙ n)
       any_known t inputs i path name driver h e (cover c r a p q) n = own.cover i path c r e a (ap (table i) (sym p) ∙ n)
@@ -150,23 +150,23 @@ module _ (library : LibraryValue) (rows : List Instance) (are : AreInstances lib
           outputs.each i child.0 path k pair a out e child.1 (omega arith) (ap (table i) (sym p) ∙ n)
 
       -- forwards: the actual of an input stands in the table of the parent, whose inputs are known
-      pub actual_known : (t : ℕ) → HasInputs library (paths_of rows) table t → (i : ℕ) (path : Path) (k : ℕ) (pair : Pair) (a : ConnectionAt library path k pair) → IsTrue (is_input a.child pair.formal)
-          → slice_get (paths_of rows) i ≡ Some path → i < t → table i pair.actual ≡ None → ⊥
+      pub actual_known : (t : ℕ) → HasInputs library (paths_of instances) table t → (i : ℕ) (path : Path) (k : ℕ) (pair : Pair) (a : ConnectionAt library path k pair) → IsTrue (is_input a.child pair.formal)
+          → slice_get (paths_of instances) i ≡ Some path → i < t → table i pair.actual ≡ None → ⊥
       actual_known t inputs i path k pair a is e h =
           let d = driven.driven path pair.actual (input_actual k pair a is refl) in
           any_known t inputs i path pair.actual d.0 h e d.1
 
       -- complete: a name without a number is driven by nothing
-      pub none_drives : HasInputs library (paths_of rows) table (length (paths_of rows)) → (i : ℕ) (path : Path) (name : List ℕ) → slice_get (paths_of rows) i ≡ Some path → table i name ≡ None
+      pub none_drives : HasInputs library (paths_of instances) table (length (paths_of instances)) → (i : ℕ) (path : Path) (name : List ℕ) → slice_get (paths_of instances) i ≡ Some path → table i name ≡ None
           → (net : Net) → Drives library path name net → ⊥
       none_drives inputs i path name e n net t =
           let d = has_its_driver library driven t in
-          any_known (length (paths_of rows)) inputs i path name d.0 (slice_get_within (paths_of rows) i path e) e d.1 n
+          any_known (length (paths_of instances)) inputs i path name d.0 (slice_get_within (paths_of instances) i path e) e d.1 n
 
-      found : (at : Places) → IsSoundTable library at (paths_of rows) table → HasInputs library (paths_of rows) table (length (paths_of rows)) → (i : ℕ) (path : Path) (name : List ℕ) → slice_get (paths_of rows) i ≡ Some path
+      found : (at : Places) → IsSoundTable library at (paths_of instances) table → HasInputs library (paths_of instances) table (length (paths_of instances)) → (i : ℕ) (path : Path) (name : List ℕ) → slice_get (paths_of instances) i ≡ Some path
           → (o : Option FlatNet) → table i name ≡ o → IsNetFound library at path name o
       found at sound inputs i path name e None n = none_drives inputs i path name e n
       found at sound inputs i path name e (Some number) n = sound.each i path name number e n
 
-      pub table_found : (at : Places) → IsSoundTable library at (paths_of rows) table → HasInputs library (paths_of rows) table (length (paths_of rows)) → AreNetsAt library at (paths_of rows) table
+      pub table_found : (at : Places) → IsSoundTable library at (paths_of instances) table → HasInputs library (paths_of instances) table (length (paths_of instances)) → AreNetsAt library at (paths_of instances) table
       table_found at sound inputs = record { each = λ i path name e. found at sound inputs i path name e (table i name) refl }

@@ -65,60 +65,60 @@ module _ (library : LibraryValue) (at : Places) (paths : List Path) where
       copied-known n is row name (Some net) (λ f. none-some net (sym f)) (slots.each row own.path own.model name own.here own.there own.named)
       (subst (λ x. table_of (with_named n row (Some x) net) row name ≡ None) same g)
 
-  module _ (rows : List Instance) (output : Body → Option (List ℕ)) (number : ℕ → FlatNet) where
+  module _ (instances : List Instance) (output : Body → Option (List ℕ)) (number : ℕ → FlatNet) where
     -- the outputs of gates from a number on have their nets
     abbrev pub AreOwn : ℕ → List Gate → Type 0
-    AreOwn k gs = (i : ℕ) (g : Gate) (name : List ℕ) → slice_get gs i ≡ Some g → option_and_then output (gate_body library rows g) ≡ Some name → IsOwn library at paths g.row name (number (k + i))
+    AreOwn k gs = (i : ℕ) (g : Gate) (name : List ℕ) → slice_get gs i ≡ Some g → option_and_then output (gate_body library instances g) ≡ Some name → IsOwn library at paths g.row name (number (k + i))
 
-    own_first : (k : ℕ) (g : Gate) (gs : List Gate) → AreOwn k (g ∷ gs) → (name : List ℕ) → option_and_then output (gate_body library rows g) ≡ Some name → IsOwn library at paths g.row name (number k)
+    own_first : (k : ℕ) (g : Gate) (gs : List Gate) → AreOwn k (g ∷ gs) → (name : List ℕ) → option_and_then output (gate_body library instances g) ≡ Some name → IsOwn library at paths g.row name (number k)
     own_first k g gs own name e = let z : k + 0 ≡ k = omega arith in subst (λ j. IsOwn library at paths g.row name (number j)) z (own 0 g name refl e)
 
     own_rest : (k : ℕ) (g : Gate) (gs : List Gate) → AreOwn k (g ∷ gs) → AreOwn (suc k) gs
     own_rest k g gs own i h name e f = let z : k + suc i ≡ suc k + i = omega arith in subst (λ j. IsOwn library at paths h.row name (number j)) z (own (suc i) h name e f)
 
     first_next : (k : ℕ) (g : Gate) (gs : List Gate) (n : NetsValue) → IsNets n → IsSoundTable library at paths (table_of n) → AreOwn k (g ∷ gs)
-        → IsNext library at paths n (with_named n g.row (option_and_then output (gate_body library rows g)) (number k))
-    first_next k g gs n is sound own = named_next n is sound g.row (option_and_then output (gate_body library rows g)) (number k) (own_first k g gs own)
+        → IsNext library at paths n (with_named n g.row (option_and_then output (gate_body library instances g)) (number k))
+    first_next k g gs n is sound own = named_next n is sound g.row (option_and_then output (gate_body library instances g)) (number k) (own_first k g gs own)
 
-    pub gates_next : (gs : List Gate) (k : ℕ) (n : NetsValue) → IsNets n → IsSoundTable library at paths (table_of n) → AreOwn k gs → IsNext library at paths n (with_gates output number library rows n k gs)
+    pub gates_next : (gs : List Gate) (k : ℕ) (n : NetsValue) → IsNets n → IsSoundTable library at paths (table_of n) → AreOwn k gs → IsNext library at paths n (with_gates output number library instances n k gs)
     gates_next [] k n is sound own = next_same library at paths n is sound
     gates_next (g ∷ gs) k n is sound own =
-        let middle : NetsValue = with_named n g.row (option_and_then output (gate_body library rows g)) (number k) in
+        let middle : NetsValue = with_named n g.row (option_and_then output (gate_body library instances g)) (number k) in
         let one : IsNext library at paths n middle = first_next k g gs n is sound own in
-        next_on library at paths n middle (with_gates output number library rows middle (suc k) gs) one (gates_next gs (suc k) middle one.nets one.sound (own_rest k g gs own))
+        next_on library at paths n middle (with_gates output number library instances middle (suc k) gs) one (gates_next gs (suc k) middle one.nets one.sound (own_rest k g gs own))
 
     pub gates_known : (gs : List Gate) (k : ℕ) (n : NetsValue) → IsNets n → IsSoundTable library at paths (table_of n) → HasSlots library paths n → AreOwn k gs
-        → (i : ℕ) (g : Gate) (name : List ℕ) → slice_get gs i ≡ Some g → option_and_then output (gate_body library rows g) ≡ Some name → table_of (with_gates output number library rows n k gs) g.row name ≡ None → ⊥
+        → (i : ℕ) (g : Gate) (name : List ℕ) → slice_get gs i ≡ Some g → option_and_then output (gate_body library instances g) ≡ Some name → table_of (with_gates output number library instances n k gs) g.row name ≡ None → ⊥
     gates_known [] k n is sound slots own i g name e f = absurd (none-some g e)
     gates_known (h ∷ gs) k n is sound slots own zero g name e f =
-        let middle : NetsValue = with_named n h.row (option_and_then output (gate_body library rows h)) (number k) in
+        let middle : NetsValue = with_named n h.row (option_and_then output (gate_body library instances h)) (number k) in
         let one : IsNext library at paths n middle = first_next k h gs n is sound own in
-        let rest : IsNext library at paths middle (with_gates output number library rows middle (suc k) gs) = gates_next gs (suc k) middle one.nets one.sound (own_rest k h gs own) in
+        let rest : IsNext library at paths middle (with_gates output number library instances middle (suc k) gs) = gates_next gs (suc k) middle one.nets one.sound (own_rest k h gs own) in
         let same : g ≡ h = sym (same_Some h g e) in
-        let out : option_and_then output (gate_body library rows h) ≡ Some name = subst (λ (x : Gate). option_and_then output (gate_body library rows x) ≡ Some name) same f in
-        let known : table_of middle h.row name ≡ None → ⊥ = named_known n is slots h.row (option_and_then output (gate_body library rows h)) name (number k) out (own_first k h gs own name out) in
-        subst (λ (x : Gate). table_of (with_gates output number library rows middle (suc k) gs) x.row name ≡ None → ⊥) (sym same) (rest.kept.each h.row name known)
+        let out : option_and_then output (gate_body library instances h) ≡ Some name = subst (λ (x : Gate). option_and_then output (gate_body library instances x) ≡ Some name) same f in
+        let known : table_of middle h.row name ≡ None → ⊥ = named_known n is slots h.row (option_and_then output (gate_body library instances h)) name (number k) out (own_first k h gs own name out) in
+        subst (λ (x : Gate). table_of (with_gates output number library instances middle (suc k) gs) x.row name ≡ None → ⊥) (sym same) (rest.kept.each h.row name known)
     gates_known (h ∷ gs) k n is sound slots own (suc i) g name e f =
-        let middle : NetsValue = with_named n h.row (option_and_then output (gate_body library rows h)) (number k) in
+        let middle : NetsValue = with_named n h.row (option_and_then output (gate_body library instances h)) (number k) in
         let one : IsNext library at paths n middle = first_next k h gs n is sound own in
         gates_known gs (suc k) middle one.nets one.sound (slots_on library at paths n middle slots one) (own_rest k h gs own) i g name e f
 
-module _ (library : LibraryValue) (main : ModelValue) (rows : List Instance) (are : AreInstances library rows) where
+module _ (library : LibraryValue) (main : ModelValue) (instances : List Instance) (are : AreInstances library instances) where
   -- the command of a gate
   pub record IsCommandOf (g : Gate) (path : Path) (b : Body) : Type 0 where
     pub model : ModelValue
     pub there : model_at library path ≡ Some model
     pub is : body_at model g.command ≡ Some b
 
-  gate_command : (g : Gate) (path : Path) (b : Body) → slice_get (paths_of rows) g.row ≡ Some path → gate_body library rows g ≡ Some b → IsCommandOf g path b
+  gate_command : (g : Gate) (path : Path) (b : Body) → slice_get (paths_of instances) g.row ≡ Some path → gate_body library instances g ≡ Some b → IsCommandOf g path b
   gate_command g path b here e =
-      let place : gate_body library rows g ≡ body_in g.command (model_at library path) = gate_place library rows are g (record { path = path; command = g.command }) (record { row = here; command = refl }) in
+      let place : gate_body library instances g ≡ body_in g.command (model_at library path) = gate_place library instances are g (record { path = path; command = g.command }) (record { row = here; command = refl }) in
       option_and_then_some (λ (m : ModelValue). body_at m g.command) (model_at library path) b (sym place ∙ e) (λ m f h. record { model = m; there = f; is = h })
 
   -- and the body that a gate's row has at its command
-  command_body : (g : Gate) (path : Path) (m : ModelValue) (b : Body) → slice_get (paths_of rows) g.row ≡ Some path → model_at library path ≡ Some m → body_at m g.command ≡ Some b → gate_body library rows g ≡ Some b
+  command_body : (g : Gate) (path : Path) (m : ModelValue) (b : Body) → slice_get (paths_of instances) g.row ≡ Some path → model_at library path ≡ Some m → body_at m g.command ≡ Some b → gate_body library instances g ≡ Some b
   command_body g path m b here there is =
-      gate_place library rows are g (record { path = path; command = g.command }) (record { row = here; command = refl }) ∙ ap (body_in g.command) there ∙ is
+      gate_place library instances are g (record { path = path; command = g.command }) (record { row = here; command = refl }) ∙ ap (body_in g.command) there ∙ is
 
   cover_body : (b : Body) (name : List ℕ) → output_of_cover b ≡ Some name → (c : CoverValue) × (b ≡ Cover c) × (c.output ≡ name)
   cover_body (Cover c) name e = (c, refl, same_Some c.output name e)
@@ -131,12 +131,12 @@ module _ (library : LibraryValue) (main : ModelValue) (rows : List Instance) (ar
   latch_body (Subckt s) name e = absurd (none-some name e)
 
   -- the outputs of the covers have the covers' numbers
-  pub covers_own : (covers : List Gate) → AreGatesAt (paths_of rows) covers (places_at library is_cover (paths_of rows))
-      → AreOwn library (net_places library main (paths_of rows)) (paths_of rows) rows output_of_cover (λ j. CoverNumber j) 0 covers
+  pub covers_own : (covers : List Gate) → AreGatesAt (paths_of instances) covers (places_at library is_cover (paths_of instances))
+      → AreOwn library (net_places library main (paths_of instances)) (paths_of instances) instances output_of_cover (λ j. CoverNumber j) 0 covers
   covers_own covers gates i g name e f =
-      let p = item_there covers (places_at library is_cover (paths_of rows)) i g gates.count e in
-      let stands : IsGateAt (paths_of rows) g p.0 = gates.each i g p.0 e p.1 in
-      option_and_then_some output_of_cover (gate_body library rows g) name f (λ b h t.
+      let p = item_there covers (places_at library is_cover (paths_of instances)) i g gates.count e in
+      let stands : IsGateAt (paths_of instances) g p.0 = gates.each i g p.0 e p.1 in
+      option_and_then_some output_of_cover (gate_body library instances g) name f (λ b h t.
       let c = cover_body b name t in
       let k : IsCommandOf g (p.0).path b = gate_command g (p.0).path b stands.row h in
       let cover : body_at k.model (p.0).command ≡ Some (Cover c.0) = ap (body_at k.model) (sym stands.command) ∙ k.is ∙ ap Some c.1 in
@@ -150,16 +150,16 @@ module _ (library : LibraryValue) (main : ModelValue) (rows : List Instance) (ar
         right = record {
           net = cover_net (p.0).path (p.0).command;
           drives = drives_cover (p.0).command c.0 (record { model = k.model; at = k.there; is = cover }) (sym c.2) refl;
-          numbered = subst (λ j. IsNumbered (net_places library main (paths_of rows)) (cover_net (p.0).path (p.0).command) (CoverNumber j)) z (a_cover p.0 i refl p.1 refl);
+          numbered = subst (λ j. IsNumbered (net_places library main (paths_of instances)) (cover_net (p.0).path (p.0).command) (CoverNumber j)) z (a_cover p.0 i refl p.1 refl);
         };
       })
 
-  pub latches_own : (latches : List Gate) → AreGatesAt (paths_of rows) latches (places_at library is_latch (paths_of rows))
-      → AreOwn library (net_places library main (paths_of rows)) (paths_of rows) rows output_of_latch (λ j. LatchNumber j) 0 latches
+  pub latches_own : (latches : List Gate) → AreGatesAt (paths_of instances) latches (places_at library is_latch (paths_of instances))
+      → AreOwn library (net_places library main (paths_of instances)) (paths_of instances) instances output_of_latch (λ j. LatchNumber j) 0 latches
   latches_own latches gates i g name e f =
-      let p = item_there latches (places_at library is_latch (paths_of rows)) i g gates.count e in
-      let stands : IsGateAt (paths_of rows) g p.0 = gates.each i g p.0 e p.1 in
-      option_and_then_some output_of_latch (gate_body library rows g) name f (λ b h t.
+      let p = item_there latches (places_at library is_latch (paths_of instances)) i g gates.count e in
+      let stands : IsGateAt (paths_of instances) g p.0 = gates.each i g p.0 e p.1 in
+      option_and_then_some output_of_latch (gate_body library instances g) name f (λ b h t.
       let l = latch_body b name t in
       let k : IsCommandOf g (p.0).path b = gate_command g (p.0).path b stands.row h in
       let latch : body_at k.model (p.0).command ≡ Some (Latch l.0) = ap (body_at k.model) (sym stands.command) ∙ k.is ∙ ap Some l.1 in
@@ -173,7 +173,7 @@ module _ (library : LibraryValue) (main : ModelValue) (rows : List Instance) (ar
         right = record {
           net = latch_net (p.0).path (p.0).command;
           drives = drives_latch (p.0).command l.0 (record { model = k.model; at = k.there; is = latch }) (sym l.2) refl;
-          numbered = subst (λ j. IsNumbered (net_places library main (paths_of rows)) (latch_net (p.0).path (p.0).command) (LatchNumber j)) z (a_latch p.0 i refl p.1 refl);
+          numbered = subst (λ j. IsNumbered (net_places library main (paths_of instances)) (latch_net (p.0).path (p.0).command) (LatchNumber j)) z (a_latch p.0 i refl p.1 refl);
         };
       })
 
@@ -183,28 +183,28 @@ module _ (library : LibraryValue) (main : ModelValue) (rows : List Instance) (ar
     pub gate : Gate
     pub at : slice_get gates number ≡ Some gate
     pub row : gate.row ≡ i
-    pub is : gate_body library rows gate ≡ Some b
+    pub is : gate_body library instances gate ≡ Some b
 
-  pub gate_of : (kind : Body → Bool) (gates : List Gate) → AreGatesAt (paths_of rows) gates (places_at library kind (paths_of rows)) → (i : ℕ) (path : Path) (m : ModelValue) (c : ℕ) (b : Body)
-      → slice_get (paths_of rows) i ≡ Some path → model_at library path ≡ Some m → body_at m c ≡ Some b → IsTrue (kind b) → IsGateOf gates i c b
+  pub gate_of : (kind : Body → Bool) (gates : List Gate) → AreGatesAt (paths_of instances) gates (places_at library kind (paths_of instances)) → (i : ℕ) (path : Path) (m : ModelValue) (c : ℕ) (b : Body)
+      → slice_get (paths_of instances) i ≡ Some path → model_at library path ≡ Some m → body_at m c ≡ Some b → IsTrue (kind b) → IsGateOf gates i c b
   gate_of kind gates stand i path m c b here there is t =
       let command = command_of (slice_get m.commands c) b is in
-      let number : ℕ = own_number library kind (paths_of rows) i m c in
-      let place : slice_get (places_at library kind (paths_of rows)) number ≡ Some (place_of path c) =
-      gate_place_at library kind (paths_of rows) i path m c command.0 here there command.1 (ap kind command.2 ∙ t) in
-      let g = item_there (places_at library kind (paths_of rows)) gates number (place_of path c) (sym stand.count) place in
-      let stands : IsGateAt (paths_of rows) g.0 (place_of path c) = stand.each number g.0 (place_of path c) g.1 place in
+      let number : ℕ = own_number library kind (paths_of instances) i m c in
+      let place : slice_get (places_at library kind (paths_of instances)) number ≡ Some (place_of path c) =
+      gate_place_at library kind (paths_of instances) i path m c command.0 here there command.1 (ap kind command.2 ∙ t) in
+      let g = item_there (places_at library kind (paths_of instances)) gates number (place_of path c) (sym stand.count) place in
+      let stands : IsGateAt (paths_of instances) g.0 (place_of path c) = stand.each number g.0 (place_of path c) g.1 place in
       record {
         number = number;
         gate = g.0;
         at = g.1;
-        row = apart_once (paths_of rows) (g.0).row i path (instances_apart library are.order) stands.row here;
+        row = apart_once (paths_of instances) (g.0).row i path (instances_apart library are.order) stands.row here;
         is = command_body g.0 path m b stands.row there (ap (body_at m) stands.command ∙ is);
       }
 
 -- The inputs of the main model are put in by their places: they are few, the table stays right, and they stand in it.
-pub first_path : (library : LibraryValue) (rows : List Instance) → AreInstances library rows → slice_get (paths_of rows) 0 ≡ Some []
-first_path library rows are = order_first library are.order
+pub first_path : (library : LibraryValue) (instances : List Instance) → AreInstances library instances → slice_get (paths_of instances) 0 ≡ Some []
+first_path library instances are = order_first library are.order
 
 -- the inputs of a model are among its names
 pub input_named : (m : ModelValue) (name : List ℕ) → IsTrue (is_input m name) → In (all_names m) name
@@ -215,45 +215,45 @@ input_named m name t = elim (or_cases (has_name m.inputs name) (has_name m.clock
       (In-left m.clocks (commands_names m.commands) name (has_in m.clocks name y)))
 ]
 
-module _ (library : LibraryValue) (main : ModelValue) (rows : List Instance) (are : AreInstances library rows) (first : model_at library [] ≡ Some main) where
+module _ (library : LibraryValue) (main : ModelValue) (instances : List Instance) (are : AreInstances library instances) (first : model_at library [] ≡ Some main) where
   abbrev at : Places
-  at = net_places library main (paths_of rows)
+  at = net_places library main (paths_of instances)
 
   -- an input has its number
-  input_own : (name : List ℕ) (j : ℕ) → index_place (inputs_of main) name ≡ Some j → IsOwn library at (paths_of rows) 0 name (InputNumber j)
+  input_own : (name : List ℕ) (j : ℕ) → index_place (inputs_of main) name ≡ Some j → IsOwn library at (paths_of instances) 0 name (InputNumber j)
   input_own name j e =
       let place : slice_get (inputs_of main) j ≡ Some name = place_is (inputs_of main) name j e in
       let is : IsTrue (is_input main name) = in_input main name (In-get (inputs_of main) j name place) in
-      record { path = []; here = first_path library rows are; model = main; there = first; named = input_named main name is; right = input_number library main (paths_of rows) j name first is place }
+      record { path = []; here = first_path library instances are; model = main; there = first; named = input_named main name is; right = input_number library main (paths_of instances) j name first is place }
 
-  place_next : (n : NetsValue) → IsNets n → IsSoundTable library at (paths_of rows) (table_of n) → (name : List ℕ) (o : Option ℕ) → index_place (inputs_of main) name ≡ o → IsNext library at (paths_of rows) n (with_place n name o)
-  place_next n is sound name None e = next_same library at (paths_of rows) n is sound
+  place_next : (n : NetsValue) → IsNets n → IsSoundTable library at (paths_of instances) (table_of n) → (name : List ℕ) (o : Option ℕ) → index_place (inputs_of main) name ≡ o → IsNext library at (paths_of instances) n (with_place n name o)
+  place_next n is sound name None e = next_same library at (paths_of instances) n is sound
   place_next n is sound name (Some j) e =
-      named_next library at (paths_of rows) n is sound 0 (Some name) (InputNumber j) (λ other f. subst (λ x. IsOwn library at (paths_of rows) 0 x (InputNumber j)) (same_Some name other f) (input_own name j e))
+      named_next library at (paths_of instances) n is sound 0 (Some name) (InputNumber j) (λ other f. subst (λ x. IsOwn library at (paths_of instances) 0 x (InputNumber j)) (same_Some name other f) (input_own name j e))
 
-  place_known : (n : NetsValue) → IsNets n → HasSlots library (paths_of rows) n → (name : List ℕ) (o : Option ℕ) → index_place (inputs_of main) name ≡ o → IsTrue (is_input main name) → table_of (with_place n name o) 0 name ≡ None → ⊥
+  place_known : (n : NetsValue) → IsNets n → HasSlots library (paths_of instances) n → (name : List ℕ) (o : Option ℕ) → index_place (inputs_of main) name ≡ o → IsTrue (is_input main name) → table_of (with_place n name o) 0 name ≡ None → ⊥
   place_known n is slots name None e t g =
       let has : is_some (index_place (inputs_of main) name) ≡ true = place_some (inputs_of main) name ∙ in_has (inputs_of main) name (input_in main name t) in
       false≢true (sym (ap is_some e) ∙ has)
-  place_known n is slots name (Some j) e t g = named_known library at (paths_of rows) n is slots 0 (Some name) name (InputNumber j) refl (input_own name j e) g
+  place_known n is slots name (Some j) e t g = named_known library at (paths_of instances) n is slots 0 (Some name) name (InputNumber j) refl (input_own name j e) g
 
-  pub main_next : (names : List (List ℕ)) (n : NetsValue) → IsNets n → IsSoundTable library at (paths_of rows) (table_of n) → IsNext library at (paths_of rows) n (with_inputs (inputs_of main) n names)
-  main_next [] n is sound = next_same library at (paths_of rows) n is sound
+  pub main_next : (names : List (List ℕ)) (n : NetsValue) → IsNets n → IsSoundTable library at (paths_of instances) (table_of n) → IsNext library at (paths_of instances) n (with_inputs (inputs_of main) n names)
+  main_next [] n is sound = next_same library at (paths_of instances) n is sound
   main_next (name ∷ names) n is sound =
       let middle : NetsValue = with_place n name (index_place (inputs_of main) name) in
-      let one : IsNext library at (paths_of rows) n middle = place_next n is sound name (index_place (inputs_of main) name) refl in
-      next_on library at (paths_of rows) n middle (with_inputs (inputs_of main) middle names) one (main_next names middle one.nets one.sound)
+      let one : IsNext library at (paths_of instances) n middle = place_next n is sound name (index_place (inputs_of main) name) refl in
+      next_on library at (paths_of instances) n middle (with_inputs (inputs_of main) middle names) one (main_next names middle one.nets one.sound)
 
-  pub main_known : (names : List (List ℕ)) (n : NetsValue) → IsNets n → IsSoundTable library at (paths_of rows) (table_of n) → HasSlots library (paths_of rows) n
+  pub main_known : (names : List (List ℕ)) (n : NetsValue) → IsNets n → IsSoundTable library at (paths_of instances) (table_of n) → HasSlots library (paths_of instances) n
       → (name : List ℕ) → In names name → IsTrue (is_input main name) → table_of (with_inputs (inputs_of main) n names) 0 name ≡ None → ⊥
   main_known [] n is sound slots name i t g = absurd i
   main_known (x ∷ names) n is sound slots name (inl e) t g =
       let middle : NetsValue = with_place n x (index_place (inputs_of main) x) in
-      let one : IsNext library at (paths_of rows) n middle = place_next n is sound x (index_place (inputs_of main) x) refl in
-      let rest : IsNext library at (paths_of rows) middle (with_inputs (inputs_of main) middle names) = main_next names middle one.nets one.sound in
+      let one : IsNext library at (paths_of instances) n middle = place_next n is sound x (index_place (inputs_of main) x) refl in
+      let rest : IsNext library at (paths_of instances) middle (with_inputs (inputs_of main) middle names) = main_next names middle one.nets one.sound in
       let known : table_of middle 0 x ≡ None → ⊥ = place_known n is slots x (index_place (inputs_of main) x) refl (subst (λ y. IsTrue (is_input main y)) e t) in
       rest.kept.each 0 name (subst (λ y. table_of middle 0 y ≡ None → ⊥) (sym e) known) g
   main_known (x ∷ names) n is sound slots name (inr i) t g =
       let middle : NetsValue = with_place n x (index_place (inputs_of main) x) in
-      let one : IsNext library at (paths_of rows) n middle = place_next n is sound x (index_place (inputs_of main) x) refl in
-      main_known names middle one.nets one.sound (slots_on library at (paths_of rows) n middle slots one) name i t g
+      let one : IsNext library at (paths_of instances) n middle = place_next n is sound x (index_place (inputs_of main) x) refl in
+      main_known names middle one.nets one.sound (slots_on library at (paths_of instances) n middle slots one) name i t g

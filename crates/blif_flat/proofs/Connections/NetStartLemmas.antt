@@ -51,42 +51,42 @@ module _ (names : List (List (List ℕ))) where
   abbrev slot_in : List Start → ℕ → List ℕ → Option ℕ
   slot_in starts i name = option_and_then (λ (s : Start). name_place names s name) (slice_get starts i)
 
-  -- the slots of the rows from a first one on
-  slots_from : (rows : List Instance) (first i : ℕ) (name : List ℕ) (k : ℕ) → slot_in (starts_from names first rows) i name ≡ Some k → first ≤ k
+  -- the slots of the instances from a first one on
+  slots_from : (instances : List Instance) (first i : ℕ) (name : List ℕ) (k : ℕ) → slot_in (starts_from names first instances) i name ≡ Some k → first ≤ k
   slots_from [] first i name k e = absurd (none-some k e)
-  slots_from (row ∷ rows) first zero name k e = slot_from names (record { model = row.model; first = first }) name k (slot_parts names (record { model = row.model; first = first }) name k e)
-  slots_from (row ∷ rows) first (suc i) name k e = let h : first + name_count names row.model ≤ k = slots_from rows (first + name_count names row.model) i name k e in omega arith
+  slots_from (row ∷ instances) first zero name k e = slot_from names (record { model = row.model; first = first }) name k (slot_parts names (record { model = row.model; first = first }) name k e)
+  slots_from (row ∷ instances) first (suc i) name k e = let h : first + name_count names row.model ≤ k = slots_from instances (first + name_count names row.model) i name k e in omega arith
 
-  slots_below : (rows : List Instance) (first i : ℕ) (name : List ℕ) (k : ℕ) → slot_in (starts_from names first rows) i name ≡ Some k → k < first + slot_count names rows
+  slots_below : (instances : List Instance) (first i : ℕ) (name : List ℕ) (k : ℕ) → slot_in (starts_from names first instances) i name ≡ Some k → k < first + slot_count names instances
   slots_below [] first i name k e = absurd (none-some k e)
-  slots_below (row ∷ rows) first zero name k e =
+  slots_below (row ∷ instances) first zero name k e =
       omega (arith, slot_below names (record { model = row.model; first = first }) name k (slot_parts names (record { model = row.model; first = first }) name k e))
-  slots_below (row ∷ rows) first (suc i) name k e = let h : k < (first + name_count names row.model) + slot_count names rows = slots_below rows (first + name_count names row.model) i name k e in omega arith
+  slots_below (row ∷ instances) first (suc i) name k e = let h : k < (first + name_count names row.model) + slot_count names instances = slots_below instances (first + name_count names row.model) i name k e in omega arith
 
   -- each name of each row has its own slot
-  slots_apart : (rows : List Instance) (first i j : ℕ) (name other : List ℕ) (k : ℕ) → slot_in (starts_from names first rows) i name ≡ Some k → slot_in (starts_from names first rows) j other ≡ Some k → (i ≡ j) × (name ≡ other)
+  slots_apart : (instances : List Instance) (first i j : ℕ) (name other : List ℕ) (k : ℕ) → slot_in (starts_from names first instances) i name ≡ Some k → slot_in (starts_from names first instances) j other ≡ Some k → (i ≡ j) × (name ≡ other)
   slots_apart [] first i j name other k e f = absurd (none-some k e)
-  slots_apart (row ∷ rows) first zero zero name other k e f =
+  slots_apart (row ∷ instances) first zero zero name other k e f =
       let s : Start = record { model = row.model; first = first } in
       (refl, slot_name names s name other k (slot_parts names s name k e) (slot_parts names s other k f))
-  slots_apart (row ∷ rows) first zero (suc j) name other k e f =
+  slots_apart (row ∷ instances) first zero (suc j) name other k e f =
       let s : Start = record { model = row.model; first = first } in
-      absurd (omega (arith, slot_below names s name k (slot_parts names s name k e), slots_from rows (first + name_count names row.model) j other k f))
-  slots_apart (row ∷ rows) first (suc i) zero name other k e f =
+      absurd (omega (arith, slot_below names s name k (slot_parts names s name k e), slots_from instances (first + name_count names row.model) j other k f))
+  slots_apart (row ∷ instances) first (suc i) zero name other k e f =
       let s : Start = record { model = row.model; first = first } in
-      absurd (omega (arith, slot_below names s other k (slot_parts names s other k f), slots_from rows (first + name_count names row.model) i name k e))
-  slots_apart (row ∷ rows) first (suc i) (suc j) name other k e f =
-      let r = slots_apart rows (first + name_count names row.model) i j name other k e f in
+      absurd (omega (arith, slot_below names s other k (slot_parts names s other k f), slots_from instances (first + name_count names row.model) i name k e))
+  slots_apart (row ∷ instances) first (suc i) (suc j) name other k e f =
+      let r = slots_apart instances (first + name_count names row.model) i j name other k e f in
       (ap suc r.0, r.1)
 
   -- a name of a row's model has one
-  slot_there : (rows : List Instance) (first i : ℕ) (row : Instance) (own : List (List ℕ)) (name : List ℕ) → slice_get rows i ≡ Some row → slice_get names row.model ≡ Some own → has_name own name ≡ true
-      → slot_in (starts_from names first rows) i name ≡ None → ⊥
+  slot_there : (instances : List Instance) (first i : ℕ) (row : Instance) (own : List (List ℕ)) (name : List ℕ) → slice_get instances i ≡ Some row → slice_get names row.model ≡ Some own → has_name own name ≡ true
+      → slot_in (starts_from names first instances) i name ≡ None → ⊥
   slot_there [] first i row own name e there has none = none-some row e
-  slot_there (r ∷ rows) first zero row own name e there has none =
+  slot_there (r ∷ instances) first zero row own name e there has none =
       let own_at : slice_get names r.model ≡ Some own = ap (λ (x : Instance). slice_get names x.model) (same_Some r row e) ∙ there in
       mapped_none first (place_of own name) (sym (ap (λ o. option_map (λ (p : ℕ). first + p) (option_and_then (λ (ns : List (List ℕ)). place_of ns name) o)) own_at) ∙ none) (place_some own name ∙ has)
-  slot_there (r ∷ rows) first (suc i) row own name e there has none = slot_there rows (first + name_count names r.model) i row own name e there has none
+  slot_there (r ∷ instances) first (suc i) row own name e there has none = slot_there instances (first + name_count names r.model) i row own name e there has none
 
 -- slots without nets
 none_at : (n k : ℕ) → option_and_then (λ (o : Option FlatNet). o) (slice_get (replicate n None) k) ≡ None
@@ -107,50 +107,50 @@ module _ (library : LibraryValue) where
   abbrev all_distinct : List (List (List ℕ))
   all_distinct = map distinct_names library.models
 
-  held_slots : (rows : List Instance) (paths : List Path) → AreModelsOf library rows paths → slot_count all_distinct rows ≤ held_by library paths
+  held_slots : (instances : List Instance) (paths : List Path) → AreModelsOf library instances paths → slot_count all_distinct instances ≤ held_by library paths
   held_slots [] paths are = omega arith
-  held_slots (row ∷ rows) [] are = let n = are.count in absurd (omega arith)
-  held_slots (row ∷ rows) (path ∷ paths) are =
+  held_slots (row ∷ instances) [] are = let n = are.count in absurd (omega arith)
+  held_slots (row ∷ instances) (path ∷ paths) are =
       let a : name_count all_distinct row.model ≡ count_in (option_map distinct_names (model_at library path)) =
       ap count_in (slice_get-map distinct_names library.models row.model) ∙ ap (λ o. count_in (option_map distinct_names o)) (are.each 0 row path refl refl) in
-      omega (arith, held_names (model_at library path), held_slots rows paths (models_rest library row rows path paths are))
+      omega (arith, held_names (model_at library path), held_slots instances paths (models_rest library row instances path paths are))
 
-  module _ (light : IsLight library) (rows : List Instance) (are : AreInstances library rows) where
-    pub few_slots : slot_count all_distinct rows ≤ most_weight
+  module _ (light : IsLight library) (instances : List Instance) (are : AreInstances library instances) where
+    pub few_slots : slot_count all_distinct instances ≤ most_weight
     few_slots =
-        omega (arith, held_slots rows (paths_of rows) (models_of library rows are), light_held library light are.main (paths_of rows) are.first are.order)
+        omega (arith, held_slots instances (paths_of instances) (models_of library instances are), light_held library light are.main (paths_of instances) are.first are.order)
 
     abbrev made_nets : NetsValue
-    made_nets = record { names = all_distinct; starts = starts_from all_distinct 0 rows; slots = replicate (slot_count all_distinct rows) None }
+    made_nets = record { names = all_distinct; starts = starts_from all_distinct 0 instances; slots = replicate (slot_count all_distinct instances) None }
 
-    slots_long : length made_nets.slots ≡ slot_count all_distinct rows
-    slots_long = length-replicate (slot_count all_distinct rows) None
+    slots_long : length made_nets.slots ≡ slot_count all_distinct instances
+    slots_long = length-replicate (slot_count all_distinct instances) None
 
     are_nets : IsNets made_nets
     are_nets = record {
-      few = let a : length made_nets.slots ≡ slot_count all_distinct rows = slots_long in let b : slot_count all_distinct rows ≤ most_weight = few_slots in omega arith;
+      few = let a : length made_nets.slots ≡ slot_count all_distinct instances = slots_long in let b : slot_count all_distinct instances ≤ most_weight = few_slots in omega arith;
       within = λ i name k e.
-          omega (arith, slots_long, slots_below all_distinct rows 0 i name k e);
-      apart = λ i j name other k e f. slots_apart all_distinct rows 0 i j name other k e f;
+          omega (arith, slots_long, slots_below all_distinct instances 0 i name k e);
+      apart = λ i j name other k e f. slots_apart all_distinct instances 0 i j name other k e f;
     }
 
-    have_slots : HasSlots library (paths_of rows) made_nets
+    have_slots : HasSlots library (paths_of instances) made_nets
     have_slots = record {
       each = λ i path m name e at among none.
-          let models : AreModelsOf library rows (paths_of rows) = models_of library rows are in
-          let row = at_within rows i (let n : length rows ≡ length (paths_of rows) = models.count in let h : i < length (paths_of rows) = slice_get_within (paths_of rows) i path e in omega arith) in
+          let models : AreModelsOf library instances (paths_of instances) = models_of library instances are in
+          let row = at_within instances i (let n : length instances ≡ length (paths_of instances) = models.count in let h : i < length (paths_of instances) = slice_get_within (paths_of instances) i path e in omega arith) in
           let own : slice_get all_distinct row.0.model ≡ Some (distinct_names m) = slice_get-map distinct_names library.models row.0.model ∙ ap (option_map distinct_names) (models.each i row.0 path row.1 e ∙ at) in
-          slot_there all_distinct rows 0 i row.0 (distinct_names m) name row.1 own (distinct_has m name among) none;
+          slot_there all_distinct instances 0 i row.0 (distinct_names m) name row.1 own (distinct_has m name among) none;
     }
 
-    empty_nets : AreEmptyNets library (paths_of rows) made_nets
-    empty_nets = record { nets = are_nets; slots = have_slots; empty = λ i name. no_net (slot_count all_distinct rows) (slot_number made_nets i name) }
+    empty_nets : AreEmptyNets library (paths_of instances) made_nets
+    empty_nets = record { nets = are_nets; slots = have_slots; empty = λ i name. no_net (slot_count all_distinct instances) (slot_number made_nets i name) }
 
-    pub nets_made : (names : List (List (List ℕ))) (starts : List Start) (slots : List (Option FlatNet)) (count : ℕ) → names ≡ all_distinct → starts ≡ starts_from names 0 rows → count ≡ slot_count names rows → slots ≡ replicate count None
-        → AreEmptyNets library (paths_of rows) (record { names = names; starts = starts; slots = slots })
+    pub nets_made : (names : List (List (List ℕ))) (starts : List Start) (slots : List (Option FlatNet)) (count : ℕ) → names ≡ all_distinct → starts ≡ starts_from names 0 instances → count ≡ slot_count names instances → slots ≡ replicate count None
+        → AreEmptyNets library (paths_of instances) (record { names = names; starts = starts; slots = slots })
     nets_made names starts slots count a b c d =
         let made : record { names = names; starts = starts; slots = slots } ≡ made_nets = (
         ap (λ (ns : List (List (List ℕ))). record { names = ns; starts = starts; slots = slots }) a
-        ∙ ap (λ (ss : List Start). record { names = all_distinct; starts = ss; slots = slots }) (b ∙ ap (λ ns. starts_from ns 0 rows) a)
-        ∙ ap (λ (os : List (Option FlatNet)). record { names = all_distinct; starts = starts_from all_distinct 0 rows; slots = os }) (d ∙ ap (λ n. replicate n None) (c ∙ ap (λ ns. slot_count ns rows) a))) in
-        subst (AreEmptyNets library (paths_of rows)) (sym made) empty_nets
+        ∙ ap (λ (ss : List Start). record { names = all_distinct; starts = ss; slots = slots }) (b ∙ ap (λ ns. starts_from ns 0 instances) a)
+        ∙ ap (λ (os : List (Option FlatNet)). record { names = all_distinct; starts = starts_from all_distinct 0 instances; slots = os }) (d ∙ ap (λ n. replicate n None) (c ∙ ap (λ ns. slot_count ns instances) a))) in
+        subst (AreEmptyNets library (paths_of instances)) (sym made) empty_nets

@@ -181,41 +181,41 @@ module _ (library : LibraryValue) (main : ModelValue) (at : model_at library [] 
         }
     comes_past (Err e) formed light h = tt
 
-module _ (library : LibraryValue) (rows : List Instance) (are : AreInstances library rows) where
+module _ (library : LibraryValue) (instances : List Instance) (are : AreInstances library instances) where
   -- the covers and latches of all instances are in flat order
-  pub rows_order : (kind : Body → Bool) (main : ModelValue) → model_at library [] ≡ Some main → FlatOrder library kind [] main (places_at library kind (paths_of rows))
+  pub rows_order : (kind : Body → Bool) (main : ModelValue) → model_at library [] ≡ Some main → FlatOrder library kind [] main (places_at library kind (paths_of instances))
   rows_order kind main at =
-      subst (λ m. FlatOrder library kind [] m (places_at library kind (paths_of rows))) (same_Some are.main main (sym are.first ∙ at)) (order_places library kind are.order are.first)
+      subst (λ m. FlatOrder library kind [] m (places_at library kind (paths_of instances))) (same_Some are.main main (sym are.first ∙ at)) (order_places library kind are.order are.first)
 
-  pub controls_refused : IsConnected library → (e : FlatErr) → OrMemory refusal_of (λ r. Clocks library None (places_at library is_latch (paths_of rows)) (Some r)) e → OrMemory refusal_of (IsFault library) e
+  pub controls_refused : IsConnected library → (e : FlatErr) → OrMemory refusal_of (λ r. Clocks library None (places_at library is_latch (paths_of instances)) (Some r)) e → OrMemory refusal_of (IsFault library) e
   controls_refused past e h =
-      OrMemory-map refusal_of (λ r. Clocks library None (places_at library is_latch (paths_of rows)) (Some r)) (IsFault library) e
-      (λ r c. in_controls past (places_at library is_latch (paths_of rows)) (rows_order is_latch past.past.main past.past.at) c) h
+      OrMemory-map refusal_of (λ r. Clocks library None (places_at library is_latch (paths_of instances)) (Some r)) (IsFault library) e
+      (λ r c. in_controls past (places_at library is_latch (paths_of instances)) (rows_order is_latch past.past.main past.past.at) c) h
 
   module _ (past : IsConnected library) where
-    abbrev pub clocked : Clocks library None (places_at library is_latch (paths_of rows)) None → IsClocked library
-    clocked clean = record { past = past; latches = places_at library is_latch (paths_of rows); latches_are = rows_order is_latch past.past.main past.past.at; none = clean }
+    abbrev pub clocked : Clocks library None (places_at library is_latch (paths_of instances)) None → IsClocked library
+    clocked clean = record { past = past; latches = places_at library is_latch (paths_of instances); latches_are = rows_order is_latch past.past.main past.past.at; none = clean }
 
-    gates_order : FlatOrder library is_gate [] past.past.main (places_at library is_gate (paths_of rows))
+    gates_order : FlatOrder library is_gate [] past.past.main (places_at library is_gate (paths_of instances))
     gates_order = rows_order is_gate past.past.main past.past.at
 
-    pub data_refused : Clocks library None (places_at library is_latch (paths_of rows)) None → (e : FlatErr)
-        → OrMemory refusal_of (λ r. (main : ModelValue) → model_at library [] ≡ Some main → ClockData library main (places_at library is_gate (paths_of rows)) (Some r)) e → OrMemory refusal_of (IsFault library) e
+    pub data_refused : Clocks library None (places_at library is_latch (paths_of instances)) None → (e : FlatErr)
+        → OrMemory refusal_of (λ r. (main : ModelValue) → model_at library [] ≡ Some main → ClockData library main (places_at library is_gate (paths_of instances)) (Some r)) e → OrMemory refusal_of (IsFault library) e
     data_refused clean e h =
-        OrMemory-map refusal_of (λ r. (main : ModelValue) → model_at library [] ≡ Some main → ClockData library main (places_at library is_gate (paths_of rows)) (Some r)) (IsFault library) e
-        (λ r d. in_data (clocked clean) (places_at library is_gate (paths_of rows)) gates_order (d past.past.main past.past.at)) h
+        OrMemory-map refusal_of (λ r. (main : ModelValue) → model_at library [] ≡ Some main → ClockData library main (places_at library is_gate (paths_of instances)) (Some r)) (IsFault library) e
+        (λ r d. in_data (clocked clean) (places_at library is_gate (paths_of instances)) gates_order (d past.past.main past.past.at)) h
 
-    module _ (main : ModelValue) (at : model_at library [] ≡ Some main) (clocks : ClockNets) (are_clocks : AreClockNets library main rows clocks) where
-      clear : ClockData library past.past.main (places_at library is_gate (paths_of rows)) None
-      clear = subst (λ m. ClockData library m (places_at library is_gate (paths_of rows)) None) (same_Some main past.past.main (sym at ∙ past.past.at)) are_clocks.clear
+    module _ (main : ModelValue) (at : model_at library [] ≡ Some main) (clocks : ClockNets) (are_clocks : AreClockNets library main instances clocks) where
+      clear : ClockData library past.past.main (places_at library is_gate (paths_of instances)) None
+      clear = subst (λ m. ClockData library m (places_at library is_gate (paths_of instances)) None) (same_Some main past.past.main (sym at ∙ past.past.at)) are_clocks.clear
 
       pub loop_refused : (e : FlatErr) → OrMemory refusal_of (IsLoop library) e → OrMemory refusal_of (IsFault library) e
       loop_refused e h =
           OrMemory-map refusal_of (IsLoop library) (IsFault library) e
-          (λ r l. in_loops (clocked are_clocks.controlled.clean) (places_at library is_gate (paths_of rows)) gates_order clear l) h
+          (λ r l. in_loops (clocked are_clocks.controlled.clean) (places_at library is_gate (paths_of instances)) gates_order clear l) h
 
       pub all_sound : IsWellFormed library → LoopWalk library None → IsSound library
-      all_sound formed walk = past_sound library formed (clocked are_clocks.controlled.clean) (places_at library is_gate (paths_of rows)) gates_order clear walk
+      all_sound formed walk = past_sound library formed (clocked are_clocks.controlled.clean) (places_at library is_gate (paths_of instances)) gates_order clear walk
 
       pub none_stands : IsWellFormed library → LoopWalk library None → HasNoFault library
-      none_stands formed walk = record { none = past_excluded library formed (clocked are_clocks.controlled.clean) (places_at library is_gate (paths_of rows)) gates_order clear walk }
+      none_stands formed walk = record { none = past_excluded library formed (clocked are_clocks.controlled.clean) (places_at library is_gate (paths_of instances)) gates_order clear walk }

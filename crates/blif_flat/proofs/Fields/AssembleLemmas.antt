@@ -9,16 +9,17 @@ use Rattle.netlist.specs.FlatValue.{FlatValue}
 use Rattle.blif_flat.proofs.Clocking.ControlLemmas.{data-output, data-clock}
 use Rattle.blif_flat.proofs.Faults.FaultOnceLemmas.{rows_order}
 use Rattle.blif_flat.proofs.Fields.NumberWalkLemmas.{flat_walked, in_range, root_below}
-use Rattle.blif_flat.proofs.Hierarchy.InstanceWeightLemmas.{few_inputs, filtered_below, places_few, inputs_few, ports_few}
+use Rattle.blif_flat.proofs.Hierarchy.InstanceWeightLemmas.{few_inputs, places_few, inputs_few, ports_few}
 use Rattle.netlist.proofs.EvaluateLemmas.{behind_is}
 use Rattle.netlist.proofs.PostLemmas.{nodes_only, nodes_after, reversed_forward, reversed_apart, reads_earlier}
 use Rattle.blif_flat.specs.declared.circuit.instances.GateKind.TheVariants as kinds
-use Rattle.netlist.proofs.RegularLemmas.{filtered_once}
+use Rattle.tl_text.proofs.NameSetLemmas.{once_filter}
+use Rattle.list_laws.proofs.Members.{length-filter_le}
 
 module _ (library : LibraryValue) (main : ModelValue) (at : model_at library [] ≡ Some main) (circuit : Circuit) (is : IsCircuit library circuit) (clocks : ClockNets)
-    (known : AreClockNets library main circuit.rows.items clocks) where
+    (known : AreClockNets library main circuit.instances.items clocks) where
   abbrev paths : List Path
-  paths = paths_of circuit.rows.items
+  paths = paths_of circuit.instances.items
 
   abbrev test : List ℕ → Bool
   test = clock_test main (input_name main clocks.control)
@@ -37,19 +38,19 @@ module _ (library : LibraryValue) (main : ModelValue) (at : model_at library [] 
     test = test;
     tells = known.tells;
     numbers_are = e ∙ ap (regular_numbers 0) known.marks;
-    no_clock_data = data-clock library main at (places_at library is_gate paths) (rows_order library circuit.rows.items is.rows is_gate main at) known.clear;
+    no_clock_data = data-clock library main at (places_at library is_gate paths) (rows_order library circuit.instances.items is.instances is_gate main at) known.clear;
     no_clock_output = data-output library main known.clear;
   }
 
   -- what the parts are by the new numbers
-  module _ (numbers : List ℕ) (rows : List Instance) (numbers_are : numbers ≡ regular_numbers 0 clocks.marks.items) (rows_are : rows ≡ circuit.rows.items) where
-    pub covers_known : (flat : List FlatCoverValue) → ((r : IsRegular library numbers) → AreFlatCovers library (regular_places library r.main r.test (paths_of rows)) flat) → AreFlatCovers library places flat
+  module _ (numbers : List ℕ) (instances : List Instance) (numbers_are : numbers ≡ regular_numbers 0 clocks.marks.items) (rows_are : instances ≡ circuit.instances.items) where
+    pub covers_known : (flat : List FlatCoverValue) → ((r : IsRegular library numbers) → AreFlatCovers library (regular_places library r.main r.test (paths_of instances)) flat) → AreFlatCovers library places flat
     covers_known flat h = subst (λ rs. AreFlatCovers library (regular_places library main test (paths_of rs)) flat) rows_are (h (regular_clocks numbers numbers_are))
 
-    pub latches_known : (flat : List FlatLatch) → ((r : IsRegular library numbers) → AreFlatLatches library (regular_places library r.main r.test (paths_of rows)) flat) → AreFlatLatches library places flat
+    pub latches_known : (flat : List FlatLatch) → ((r : IsRegular library numbers) → AreFlatLatches library (regular_places library r.main r.test (paths_of instances)) flat) → AreFlatLatches library places flat
     latches_known flat h = subst (λ rs. AreFlatLatches library (regular_places library main test (paths_of rs)) flat) rows_are (h (regular_clocks numbers numbers_are))
 
-    pub nets_known : (nets : List FlatNet) → ((r : IsRegular library numbers) → AreNetsOf library (regular_places library r.main r.test (paths_of rows)) [] r.main.outputs nets) → AreNetsOf library places [] main.outputs nets
+    pub nets_known : (nets : List FlatNet) → ((r : IsRegular library numbers) → AreNetsOf library (regular_places library r.main r.test (paths_of instances)) [] r.main.outputs nets) → AreNetsOf library places [] main.outputs nets
     nets_known nets h = subst (λ rs. AreNetsOf library (regular_places library main test (paths_of rs)) [] main.outputs nets) rows_are (h (regular_clocks numbers numbers_are))
 
     pub names_known : (names : List (List ℕ)) → ((r : IsRegular library numbers) → names ≡ r.main.outputs) → names ≡ main.outputs
@@ -68,8 +69,8 @@ module _ (library : LibraryValue) (main : ModelValue) (at : model_at library [] 
         at = places;
         walked = record {
           is_main = at;
-          covers_order = rows_order library circuit.rows.items is.rows is_cover main at;
-          latches_order = rows_order library circuit.rows.items is.rows is_latch main at;
+          covers_order = rows_order library circuit.instances.items is.instances is_cover main at;
+          latches_order = rows_order library circuit.instances.items is.instances is_latch main at;
           cover_count = covers_are.count;
           covers_are = covers_are.each;
           latch_count = latches_are.count;
@@ -79,9 +80,9 @@ module _ (library : LibraryValue) (main : ModelValue) (at : model_at library [] 
         covers_at = refl;
       }
 
-      pub counted_as : (rows : List Instance) (ports : List OutPort) (gates : List FlatCoverValue) (last : List FlatLatch) → rows ≡ circuit.rows.items → ports ≡ outputs → gates ≡ covers → last ≡ latches
-          → AreCounted library (paths_of rows) (map (λ (o : OutPort). o.net) ports) gates last
-      counted_as rows ports gates last r o c l =
+      pub counted_as : (instances : List Instance) (ports : List OutPort) (gates : List FlatCoverValue) (last : List FlatLatch) → instances ≡ circuit.instances.items → ports ≡ outputs → gates ≡ covers → last ≡ latches
+          → AreCounted library (paths_of instances) (map (λ (o : OutPort). o.net) ports) gates last
+      counted_as instances ports gates last r o c l =
           subst₂ (λ (x : List Instance) (y : List OutPort). AreCounted library (paths_of x) (map (λ (o : OutPort). o.net) y) gates last) (sym r) (sym o)
           (subst₂ (λ (x : List FlatCoverValue) (y : List FlatLatch). AreCounted library paths (map (λ (o : OutPort). o.net) outputs) x y) (sym c) (sym l) counted)
 
@@ -106,8 +107,8 @@ module _ (library : LibraryValue) (main : ModelValue) (at : model_at library [] 
         clocks = clock_names;
         at = places;
         places = sym inputs;
-        covers_order = rows_order library circuit.rows.items is.rows is_cover main at;
-        latches_order = rows_order library circuit.rows.items is.rows is_latch main at;
+        covers_order = rows_order library circuit.instances.items is.instances is_cover main at;
+        latches_order = rows_order library circuit.instances.items is.instances is_latch main at;
         cover_count = ap length c ∙ covers_are.count;
         covers = λ k p f a b. covers_are.each k p f a (ap (λ y. slice_get y k) (sym c) ∙ b);
         latch_count = ap length l ∙ latches_are.count;
@@ -175,7 +176,7 @@ module _ (library : LibraryValue) (flat : FlatValue) (f : IsFlat library flat) w
   pub flat_bounds : IsWellFormed library → IsLight library → IsWithinBounds library flat
   flat_bounds formed light =
       let ports : own_weight f.main ≤ most_weight = ports_few library light f.main f.is_main in
-      let inputs : length flat.inputs ≤ length (f.main).inputs = subst (λ l. length l ≤ length (f.main).inputs) (sym f.inputs) (filtered_below (λ name. not (f.test name)) (f.main).inputs) in
+      let inputs : length flat.inputs ≤ length (f.main).inputs = subst (λ l. length l ≤ length (f.main).inputs) (sym f.inputs) (length-filter_le (λ name. not (f.test name)) (f.main).inputs) in
       let outputs : length flat.outputs ≡ length (f.main).outputs = sym (length-map flat.outputs (λ (o : OutPort). o.name)) ∙ ap length f.output_names in
       let latches : length (f.at).latches ≤ most_weight = places_few library light kinds.Latch f.main (f.at).latches f.is_main f.latches_order in
       let covers : length (f.at).covers ≤ most_weight = places_few library light kinds.Cover f.main (f.at).covers f.is_main f.covers_order in
@@ -186,7 +187,7 @@ module _ (library : LibraryValue) (flat : FlatValue) (f : IsFlat library flat) w
         few_outputs = omega arith;
         few_reads = λ k c e. (let h : IsAt k c = at_cover k c e in
             omega (arith, nets_long (h.is).inputs, inputs_few library light (h.place).path (h.place).command (h.is).cover (h.is).is));
-        inputs_once = subst AreOnce (sym f.inputs) (filtered_once (λ name. not (f.test name)) (f.main).inputs ((formed.each f.main (In-get library.models 0 f.main f.is_main)).ports input_ports));
+        inputs_once = subst AreOnce (sym f.inputs) (once_filter (λ name. not (f.test name)) (f.main).inputs ((formed.each f.main (In-get library.models 0 f.main f.is_main)).ports input_ports));
         cover_nets = λ k c net e i. nets_there ((at_cover k c e).is).inputs net i;
         latch_nets = latch_there;
         output_nets = output_there;

@@ -14,36 +14,36 @@ use Rattle.blif_flat.proofs.Hierarchy.PlaceLemmas.{written_more}
 use Rattle.netlist.proofs.NameLemmas.{all_members}
 
 module _ (library : LibraryValue) where
-  module _ (rows : List Instance) (are : AreInstances library rows) (gates : List Gate) (w : AreGatesAt (paths_of rows) gates (places_at library is_cover (paths_of rows))) where
+  module _ (instances : List Instance) (are : AreInstances library instances) (gates : List Gate) (w : AreGatesAt (paths_of instances) gates (places_at library is_cover (paths_of instances))) where
     abbrev gate_places : List Place
-    gate_places = places_at library is_cover (paths_of rows)
+    gate_places = places_at library is_cover (paths_of instances)
 
     -- the place of a cover's gate
     record IsHere (k : ℕ) (g : Gate) : Type 0 where
       place : Place
       at : slice_get gate_places k ≡ Some place
-      gate : IsGateAt (paths_of rows) g place
+      gate : IsGateAt (paths_of instances) g place
 
     here : (k : ℕ) (g : Gate) → slice_get gates k ≡ Some g → IsHere k g
     here k g e =
         let p = at_within gate_places k (omega (arith, slice_get_within gates k g e)) in
         record { place = p.0; at = p.1; gate = w.each k g p.0 e p.1 }
 
-    pub number_row : (k : ℕ) (d : Gate) → k < length gates → (get_or gates k d).row < length rows
+    pub number_row : (k : ℕ) (d : Gate) → k < length gates → (get_or gates k d).row < length instances
     number_row k d b =
         let h = here k (get_or gates k d) (slice_get-get_or gates k d b) in
-        row_within rows (get_or gates k d).row h.place.path h.gate.row
+        row_within instances (get_or gates k d).row h.place.path h.gate.row
 
     -- the text of a gate's cover is that of its number
     pub written_here : (k : ℕ) (d : Gate) (text : List ℕ) → k < length gates
-        → ((path : Path) (c : CoverValue) → slice_get (paths_of rows) (get_or gates k d).row ≡ Some path → CoverAt library path (get_or gates k d).command c
+        → ((path : Path) (c : CoverValue) → slice_get (paths_of instances) (get_or gates k d).row ≡ Some path → CoverAt library path (get_or gates k d).command c
         → IsWritten library (cover_net path (get_or gates k d).command) text)
-        → IsWrittenAt library (places_at library is_cover (paths_of rows)) k text
+        → IsWrittenAt library (places_at library is_cover (paths_of instances)) k text
     written_here k d text b is =
         let g : Gate = get_or gates k d in
         let h : IsHere k g = here k g (slice_get-get_or gates k d b) in
         let p : Place = h.place in
-        let c = cover_there library rows are p (In-get gate_places k p h.at) in
+        let c = cover_there library instances are p (In-get gate_places k p h.at) in
         let command : g.command ≡ p.command = h.gate.command in
         record {
           place = p;

@@ -100,21 +100,21 @@ module _ (library : LibraryValue) (numbers : List ℕ) (r : IsRegular library nu
     numbered = net_renumbered paths o.net number o.numbered (λ net e. h net (subst (Drives library path name) e o.drives));
   }
 
-  module _ (rows : List Instance) (n : NetsValue) (nets : AreAllNets library rows n) where
+  module _ (instances : List Instance) (n : NetsValue) (nets : AreAllNets library instances n) where
     abbrev at : Places
-    at = regular_places library r.main r.test (paths_of rows)
+    at = regular_places library r.main r.test (paths_of instances)
 
-    found_regular : (path : Path) (name : List ℕ) → IsNoClock library path name → (o : Option FlatNet) → IsNetFound library (net_places library r.main (paths_of rows)) path name o
+    found_regular : (path : Path) (name : List ℕ) → IsNoClock library path name → (o : Option FlatNet) → IsNetFound library (net_places library r.main (paths_of instances)) path name o
         → IsNetOf library at path name (renumbered_or numbers o)
     found_regular path name c None h = absurd (h c.driven.0 c.driven.1)
-    found_regular path name c (Some number) h = net_regular (paths_of rows) path name number h c.off
+    found_regular path name c (Some number) h = net_regular (paths_of instances) path name number h c.off
 
-    pub net_is : (i : ℕ) (path : Path) (name : List ℕ) → slice_get (paths_of rows) i ≡ Some path → IsNoClock library path name
-        → IsNetOf library (regular_places library r.main r.test (paths_of rows)) path name (regular_net numbers n i name)
+    pub net_is : (i : ℕ) (path : Path) (name : List ℕ) → slice_get (paths_of instances) i ≡ Some path → IsNoClock library path name
+        → IsNetOf library (regular_places library r.main r.test (paths_of instances)) path name (regular_net numbers n i name)
     net_is i path name e c = found_regular path name c (table_of n i name) ((nets.table r.main r.is_main).each i path name e)
 
-    pub nets_are : (i : ℕ) (path : Path) → slice_get (paths_of rows) i ≡ Some path → (names : List (List ℕ)) → ((name : List ℕ) → In names name → IsNoClock library path name)
-        → AreNetsOf library (regular_places library r.main r.test (paths_of rows)) path names (regular_nets numbers n i names)
+    pub nets_are : (i : ℕ) (path : Path) → slice_get (paths_of instances) i ≡ Some path → (names : List (List ℕ)) → ((name : List ℕ) → In names name → IsNoClock library path name)
+        → AreNetsOf library (regular_places library r.main r.test (paths_of instances)) path names (regular_nets numbers n i names)
     nets_are i path e [] c = none
     nets_are i path e (name ∷ names) c =
         more name names (regular_net numbers n i name) (regular_nets numbers n i names) (net_is i path name e (c name (inl refl))) (nets_are i path e names (λ other j. c other (inr j)))
@@ -131,30 +131,30 @@ mapped_at f (x ∷ xs) (suc k) y e = mapped_at f xs k y e
 pub all_mapped : {A B : Type 0} (f : A → B) (made : List B) (xs : List A) (i : ℕ) → made ++ map f (drop i xs) ≡ map f xs → length xs ≤ i → made ≡ map f xs
 all_mapped f made xs i e h = sym (append-nil made) ∙ sym (ap (λ l. made ++ map f l) (drop_of_length-le xs h)) ∙ e
 
-module _ (library : LibraryValue) (rows : List Instance) (are : AreInstances library rows) where
+module _ (library : LibraryValue) (instances : List Instance) (are : AreInstances library instances) where
   -- each cover and each latch among the places of the instances
-  pub cover_there : (p : Place) → In (places_at library is_cover (paths_of rows)) p → (c : CoverValue) × CoverAt library p.path p.command c
+  pub cover_there : (p : Place) → In (places_at library is_cover (paths_of instances)) p → (c : CoverValue) × CoverAt library p.path p.command c
   cover_there p i =
-      let o : IsOfKind library is_cover p = flat_only library is_cover are.main (places_at library is_cover (paths_of rows)) are.first (order_places library is_cover are.order are.first) p i in
+      let o : IsOfKind library is_cover p = flat_only library is_cover are.main (places_at library is_cover (paths_of instances)) are.first (order_places library is_cover are.order are.first) p i in
       let c = is_cover-some o.body o.kind_is in
       (c.0, record { model = o.model; at = o.at; is = o.is ∙ ap Some c.1 })
 
-  latch_there : (p : Place) → In (places_at library is_latch (paths_of rows)) p → (l : LatchValue) × LatchAt library p.path p.command l
+  latch_there : (p : Place) → In (places_at library is_latch (paths_of instances)) p → (l : LatchValue) × LatchAt library p.path p.command l
   latch_there p i =
-      let o : IsOfKind library is_latch p = flat_only library is_latch are.main (places_at library is_latch (paths_of rows)) are.first (order_places library is_latch are.order are.first) p i in
+      let o : IsOfKind library is_latch p = flat_only library is_latch are.main (places_at library is_latch (paths_of instances)) are.first (order_places library is_latch are.order are.first) p i in
       let l = is_latch-some o.body o.kind_is in
       (l.0, record { model = o.model; at = o.at; is = o.is ∙ ap Some l.1 })
 
   -- the model and the body of a gate are those of its place
-  gate_model : (g : Gate) (p : Place) → IsGateAt (paths_of rows) g p → slice_get library.models (row_model (slice_get rows g.row)) ≡ model_at library p.path
-  gate_model g p w = let r = gate_row library rows are g p w in ap (λ o. slice_get library.models (row_model o)) r.1 ∙ place_model library rows are g p w r.0 r.1
+  gate_model : (g : Gate) (p : Place) → IsGateAt (paths_of instances) g p → slice_get library.models (row_model (slice_get instances g.row)) ≡ model_at library p.path
+  gate_model g p w = let r = gate_row library instances are g p w in ap (λ o. slice_get library.models (row_model o)) r.1 ∙ place_model library instances are g p w r.0 r.1
 
-  gate_body-is : (g : Gate) (p : Place) (m : ModelValue) (b : Body) → IsGateAt (paths_of rows) g p → model_at library p.path ≡ Some m → body_at m p.command ≡ Some b → gate_body library rows g ≡ Some b
-  gate_body-is g p m b w at is = gate_place library rows are g p w ∙ ap (body_in p.command) at ∙ is
+  gate_body-is : (g : Gate) (p : Place) (m : ModelValue) (b : Body) → IsGateAt (paths_of instances) g p → model_at library p.path ≡ Some m → body_at m p.command ≡ Some b → gate_body library instances g ≡ Some b
+  gate_body-is g p m b w at is = gate_place library instances are g p w ∙ ap (body_in p.command) at ∙ is
 
-  module _ (driven : IsDriven library) (numbers : List ℕ) (r : IsRegular library numbers) (n : NetsValue) (nets : AreAllNets library rows n) where
+  module _ (driven : IsDriven library) (numbers : List ℕ) (r : IsRegular library numbers) (n : NetsValue) (nets : AreAllNets library instances n) where
     abbrev gates_at : Places
-    gates_at = regular_places library r.main r.test (paths_of rows)
+    gates_at = regular_places library r.main r.test (paths_of instances)
 
     cover_no_clock : (path : Path) (i : ℕ) (c : CoverValue) → CoverAt library path i c → (name : List ℕ) → In c.inputs name → IsNoClock library path name
     cover_no_clock path i c a name j =
@@ -167,10 +167,10 @@ module _ (library : LibraryValue) (rows : List Instance) (are : AreInstances lib
         record { driven = net_of_driver library driven path l.input d.0 d.1; off = λ net. r.no_clock_data path l.input net (latch_data i l a refl) }
 
     -- the flat cover and the flat latch of a gate
-    cover_is : (g : Gate) (p : Place) → IsGateAt (paths_of rows) g p → In (places_at library is_cover (paths_of rows)) p → IsFlatCover library gates_at p (flat_cover library rows n numbers g)
+    cover_is : (g : Gate) (p : Place) → IsGateAt (paths_of instances) g p → In (places_at library is_cover (paths_of instances)) p → IsFlatCover library gates_at p (flat_cover library instances n numbers g)
     cover_is g p w i =
         let c = cover_there p i in
-        let names : inputs_or (option_and_then cover_in (gate_body library rows g)) ≡ (c.0).inputs =
+        let names : inputs_or (option_and_then cover_in (gate_body library instances g)) ≡ (c.0).inputs =
         ap (λ o. inputs_or (option_and_then cover_in o)) (gate_body-is g p (c.1).model (Cover c.0) w (c.1).at (c.1).is) in
         record {
           cover = c.0;
@@ -178,42 +178,42 @@ module _ (library : LibraryValue) (rows : List Instance) (are : AreInstances lib
           model = gate_model g p w;
           command = w.command;
           inputs = subst (λ l. AreNetsOf library gates_at p.path (c.0).inputs (regular_nets numbers n g.row l)) (sym names)
-              (nets_are library numbers r rows n nets g.row p.path w.row (c.0).inputs (cover_no_clock p.path p.command c.0 c.1));
+              (nets_are library numbers r instances n nets g.row p.path w.row (c.0).inputs (cover_no_clock p.path p.command c.0 c.1));
         }
 
-    made_latch-is : (i : ℕ) (p : Place) (l : LatchValue) → slice_get (paths_of rows) i ≡ Some p.path → LatchAt library p.path p.command l → IsFlatLatch library gates_at p (made_latch numbers n i l)
+    made_latch-is : (i : ℕ) (p : Place) (l : LatchValue) → slice_get (paths_of instances) i ≡ Some p.path → LatchAt library p.path p.command l → IsFlatLatch library gates_at p (made_latch numbers n i l)
     made_latch-is i p l e a = record {
       latch = l;
       is = a;
-      input = net_is library numbers r rows n nets i p.path l.input e (latch_no_clock p.path p.command l a);
+      input = net_is library numbers r instances n nets i p.path l.input e (latch_no_clock p.path p.command l a);
       init = refl;
       clocked = refl;
     }
 
-    latch_is : (g : Gate) (p : Place) → IsGateAt (paths_of rows) g p → In (places_at library is_latch (paths_of rows)) p → IsFlatLatch library gates_at p (flat_latch library rows n numbers g)
+    latch_is : (g : Gate) (p : Place) → IsGateAt (paths_of instances) g p → In (places_at library is_latch (paths_of instances)) p → IsFlatLatch library gates_at p (flat_latch library instances n numbers g)
     latch_is g p w i =
         let l = latch_there p i in
-        let same : flat_latch library rows n numbers g ≡ made_latch numbers n g.row l.0 =
+        let same : flat_latch library instances n numbers g ≡ made_latch numbers n g.row l.0 =
         ap (λ o. latch_or numbers n g.row (option_and_then latch_in o)) (gate_body-is g p (l.1).model (Latch l.0) w (l.1).at (l.1).is) in
         subst (IsFlatLatch library gates_at p) (sym same) (made_latch-is g.row p l.0 w.row l.1)
 
     -- and those of all gates
-    pub covers_are : (gates : List Gate) → AreGatesAt (paths_of rows) gates (places_at library is_cover (paths_of rows))
-        → AreFlatCovers library (regular_places library r.main r.test (paths_of rows)) (map (flat_cover library rows n numbers) gates)
+    pub covers_are : (gates : List Gate) → AreGatesAt (paths_of instances) gates (places_at library is_cover (paths_of instances))
+        → AreFlatCovers library (regular_places library r.main r.test (paths_of instances)) (map (flat_cover library instances n numbers) gates)
     covers_are gates w = record {
-      count = length-map gates (flat_cover library rows n numbers) ∙ w.count;
+      count = length-map gates (flat_cover library instances n numbers) ∙ w.count;
       each = λ k p c e f. (
-          let g = mapped_at (flat_cover library rows n numbers) gates k c f in
-          subst (IsFlatCover library gates_at p) (sym g.2) (cover_is g.0 p (w.each k g.0 p g.1 e) (In-get (places_at library is_cover (paths_of rows)) k p e)));
+          let g = mapped_at (flat_cover library instances n numbers) gates k c f in
+          subst (IsFlatCover library gates_at p) (sym g.2) (cover_is g.0 p (w.each k g.0 p g.1 e) (In-get (places_at library is_cover (paths_of instances)) k p e)));
     }
 
-    pub latches_are : (gates : List Gate) → AreGatesAt (paths_of rows) gates (places_at library is_latch (paths_of rows))
-        → AreFlatLatches library (regular_places library r.main r.test (paths_of rows)) (map (flat_latch library rows n numbers) gates)
+    pub latches_are : (gates : List Gate) → AreGatesAt (paths_of instances) gates (places_at library is_latch (paths_of instances))
+        → AreFlatLatches library (regular_places library r.main r.test (paths_of instances)) (map (flat_latch library instances n numbers) gates)
     latches_are gates w = record {
-      count = length-map gates (flat_latch library rows n numbers) ∙ w.count;
+      count = length-map gates (flat_latch library instances n numbers) ∙ w.count;
       each = λ k p l e f. (
-          let g = mapped_at (flat_latch library rows n numbers) gates k l f in
-          subst (IsFlatLatch library gates_at p) (sym g.2) (latch_is g.0 p (w.each k g.0 p g.1 e) (In-get (places_at library is_latch (paths_of rows)) k p e)));
+          let g = mapped_at (flat_latch library instances n numbers) gates k l f in
+          subst (IsFlatLatch library gates_at p) (sym g.2) (latch_is g.0 p (w.each k g.0 p g.1 e) (In-get (places_at library is_latch (paths_of instances)) k p e)));
     }
 
 -- The ports of a flat circuit: its outputs, its regular inputs, and the greatest number of leading underscores.
@@ -227,8 +227,8 @@ port_nets : (numbers : List ℕ) (n : NetsValue) (names : List (List ℕ)) → m
 port_nets numbers n [] = refl
 port_nets numbers n (name ∷ names) = ap (λ (l : List FlatNet). (out_port numbers n name).net ∷ l) (port_nets numbers n names)
 
-module _ (library : LibraryValue) (rows : List Instance) (are : AreInstances library rows) (driven : IsDriven library)
-    (numbers : List ℕ) (r : IsRegular library numbers) (n : NetsValue) (nets : AreAllNets library rows n) where
+module _ (library : LibraryValue) (instances : List Instance) (are : AreInstances library instances) (driven : IsDriven library)
+    (numbers : List ℕ) (r : IsRegular library numbers) (n : NetsValue) (nets : AreAllNets library instances n) where
   -- an output of the main model is an input too, or driven inside
   output_driven : (name : List ℕ) → In r.main.outputs name → (net : Net) × Drives library [] name net
   output_driven name i = elim (cases_Bool (is_input r.main name)) [
@@ -250,11 +250,11 @@ module _ (library : LibraryValue) (rows : List Instance) (are : AreInstances lib
   output_names ports names e f = ap (map (λ (o : OutPort). o.name)) e ∙ port_names numbers n names ∙ f ∙ main_outputs
 
   pub output_nets : (ports : List OutPort) (names : List (List ℕ)) → ports ≡ map (out_port numbers n) names → names ≡ outputs_or (slice_get library.models 0)
-      → AreNetsOf library (regular_places library r.main r.test (paths_of rows)) [] r.main.outputs (map (λ (o : OutPort). o.net) ports)
+      → AreNetsOf library (regular_places library r.main r.test (paths_of instances)) [] r.main.outputs (map (λ (o : OutPort). o.net) ports)
   output_nets ports names e f =
       let all : map (λ (o : OutPort). o.net) ports ≡ regular_nets numbers n 0 r.main.outputs = ap (map (λ (o : OutPort). o.net)) e ∙ port_nets numbers n names ∙ ap (regular_nets numbers n 0) (f ∙ main_outputs) in
-      subst (AreNetsOf library (regular_places library r.main r.test (paths_of rows)) [] r.main.outputs) (sym all)
-      (nets_are library numbers r rows n nets 0 [] (order_first library are.order) r.main.outputs output_no_clock)
+      subst (AreNetsOf library (regular_places library r.main r.test (paths_of instances)) [] r.main.outputs) (sym all)
+      (nets_are library numbers r instances n nets 0 [] (order_first library are.order) r.main.outputs output_no_clock)
 
 -- the names whose marks are off, one by one
 no_marks : (kept names : List (List ℕ)) → unmarked_after kept names [] ≡ kept

@@ -11,25 +11,25 @@ use Rattle.netlist.proofs.OrderLemmas.{IsOfKind, flat_only}
 use Rattle.netlist.proofs.PlaceLemmas.{latch_at-some}
 
 -- a row that has a path is there
-pub row_within : (rows : List Instance) (i : ℕ) (path : Path) → slice_get (paths_of rows) i ≡ Some path → i < length rows
-row_within rows i path e = let a = paths_of-length rows in let b = slice_get_within (paths_of rows) i path e in omega arith
+pub row_within : (instances : List Instance) (i : ℕ) (path : Path) → slice_get (paths_of instances) i ≡ Some path → i < length instances
+row_within instances i path e = let a = paths_of-length instances in let b = slice_get_within (paths_of instances) i path e in omega arith
 
-module _ (library : LibraryValue) (rows : List Instance) (are : AreInstances library rows) (g : Gate) (p : Place) (at : IsGateAt (paths_of rows) g p) where
+module _ (library : LibraryValue) (instances : List Instance) (are : AreInstances library instances) (g : Gate) (p : Place) (at : IsGateAt (paths_of instances) g p) where
   -- the model and the body by the row of a gate are those of its place
-  pub place_model : (row : Instance) → slice_get rows g.row ≡ Some row → slice_get library.models row.model ≡ model_at library p.path
+  pub place_model : (row : Instance) → slice_get instances g.row ≡ Some row → slice_get library.models row.model ≡ model_at library p.path
   place_model row e =
-      let w : IsRow library (paths_of rows) g.row row = are.each g.row row e in
+      let w : IsRow library (paths_of instances) g.row row = are.each g.row row e in
       let same : w.path ≡ p.path = same_Some w.path p.path (sym w.at ∙ at.row) in
       w.number ∙ sym w.there ∙ ap (model_at library) same
 
-  pub row_body : (row : Instance) → slice_get rows g.row ≡ Some row → numbered_body library row.model g.command ≡ place_body library p
+  pub row_body : (row : Instance) → slice_get instances g.row ≡ Some row → numbered_body library row.model g.command ≡ place_body library p
   row_body row e = ap₂ body_in at.command (place_model row e)
 
   -- a gate has a row
-  pub gate_row : (row : Instance) × (slice_get rows g.row ≡ Some row)
-  gate_row = at_within rows g.row (row_within rows g.row p.path at.row)
+  pub gate_row : (row : Instance) × (slice_get instances g.row ≡ Some row)
+  gate_row = at_within instances g.row (row_within instances g.row p.path at.row)
 
-  pub gate_place : gate_body library rows g ≡ place_body library p
+  pub gate_place : gate_body library instances g ≡ place_body library p
   gate_place = let r = gate_row in ap (option_and_then (λ (row : Instance). numbered_body library row.model g.command)) r.1 ∙ row_body r.0 r.1
 
 -- a reference that was found, by what is known of the value behind it
@@ -67,42 +67,42 @@ module _ (kind : Body → Bool) (paths : List Path) where
     model_gates None gates places are = subst (AreGatesAt paths gates) (sym (append-nil places)) are
     model_gates (Some m) gates places are = commands_gates 0 m.commands gates places are
 
-  -- the gates of the rows from a number on, which stand at the paths from there on
-  rows_gates : (library : LibraryValue) (row : ℕ) (rows : List Instance) (rest : List Path) (gates : List Gate) (places : List Place) → AreModelsOf library rows rest
+  -- the gates of the instances from a number on, which stand at the paths from there on
+  rows_gates : (library : LibraryValue) (row : ℕ) (instances : List Instance) (rest : List Path) (gates : List Gate) (places : List Place) → AreModelsOf library instances rest
       → ((j : ℕ) (p : Path) → slice_get rest j ≡ Some p → slice_get paths (row + j) ≡ Some p) → AreGatesAt paths gates places
-      → AreGatesAt paths (with_rows library.models kind row gates rows) (places ++ places_at library kind rest)
+      → AreGatesAt paths (with_rows library.models kind row gates instances) (places ++ places_at library kind rest)
   rows_gates library row [] [] gates places models from are = subst (AreGatesAt paths gates) (sym (append-nil places)) are
   rows_gates library row [] (p ∷ rest) gates places models from are = let n = models.count in absurd (omega arith)
-  rows_gates library row (r ∷ rows) [] gates places models from are = let n = models.count in absurd (omega arith)
-  rows_gates library row (r ∷ rows) (p ∷ rest) gates places models from are =
+  rows_gates library row (r ∷ instances) [] gates places models from are = let n = models.count in absurd (omega arith)
+  rows_gates library row (r ∷ instances) (p ∷ rest) gates places models from are =
       let here : slice_get paths row ≡ Some p = subst (λ j. slice_get paths j ≡ Some p) (let z : row + 0 ≡ row = omega arith in z) (from 0 p refl) in
       let own : AreGatesAt paths (with_model kind row gates (slice_get library.models r.model)) (places ++ model_places kind p (model_at library p)) =
       subst (λ o. AreGatesAt paths (with_model kind row gates (slice_get library.models r.model)) (places ++ model_places kind p o)) (models.each 0 r p refl refl)
       (model_gates row p here (slice_get library.models r.model) gates places are) in
-      let step : AreGatesAt paths (with_rows library.models kind (row + 1) (with_model kind row gates (slice_get library.models r.model)) rows) ((places ++ model_places kind p (model_at library p)) ++ places_at library kind rest) =
-      rows_gates library (row + 1) rows rest (with_model kind row gates (slice_get library.models r.model)) (places ++ model_places kind p (model_at library p)) (models_rest library r rows p rest models)
+      let step : AreGatesAt paths (with_rows library.models kind (row + 1) (with_model kind row gates (slice_get library.models r.model)) instances) ((places ++ model_places kind p (model_at library p)) ++ places_at library kind rest) =
+      rows_gates library (row + 1) instances rest (with_model kind row gates (slice_get library.models r.model)) (places ++ model_places kind p (model_at library p)) (models_rest library r instances p rest models)
       (λ j q e. subst (λ n. slice_get paths n ≡ Some q) (let z : row + suc j ≡ (row + 1) + j = omega arith in z) (from (suc j) q e)) own in
-      subst (AreGatesAt paths (with_rows library.models kind row gates (r ∷ rows))) (append_assoc places (model_places kind p (model_at library p)) (places_at library kind rest)) step
+      subst (AreGatesAt paths (with_rows library.models kind row gates (r ∷ instances))) (append_assoc places (model_places kind p (model_at library p)) (places_at library kind rest)) step
 
 -- behind the last row all gates are listed
-pub all_listed : (models : List ModelValue) (kind : Body → Bool) (rows : List Instance) (row : ℕ) (gates : List Gate) → with_rows models kind row gates (drop row rows) ≡ with_rows models kind 0 [] rows → length rows ≤ row
-    → gates ≡ with_rows models kind 0 [] rows
-all_listed models kind rows row gates e h = ap (with_rows models kind row gates) (sym (drop_past rows row h)) ∙ e
+pub all_listed : (models : List ModelValue) (kind : Body → Bool) (instances : List Instance) (row : ℕ) (gates : List Gate) → with_rows models kind row gates (drop row instances) ≡ with_rows models kind 0 [] instances → length instances ≤ row
+    → gates ≡ with_rows models kind 0 [] instances
+all_listed models kind instances row gates e h = ap (with_rows models kind row gates) (sym (drop_past instances row h)) ∙ e
 
-module _ (library : LibraryValue) (rows : List Instance) (are : AreInstances library rows) where
+module _ (library : LibraryValue) (instances : List Instance) (are : AreInstances library instances) where
   -- the gates of all rows
-  pub all_gates : (kind : Body → Bool) → AreGatesAt (paths_of rows) (with_rows library.models kind 0 [] rows) (places_at library kind (paths_of rows))
+  pub all_gates : (kind : Body → Bool) → AreGatesAt (paths_of instances) (with_rows library.models kind 0 [] instances) (places_at library kind (paths_of instances))
   all_gates kind =
-      rows_gates kind (paths_of rows) library 0 rows (paths_of rows) [] [] (models_of library rows are) (λ j p e. subst (λ n. slice_get (paths_of rows) n ≡ Some p) (let z : j ≡ 0 + j = omega arith in z) e)
+      rows_gates kind (paths_of instances) library 0 instances (paths_of instances) [] [] (models_of library instances are) (λ j p e. subst (λ n. slice_get (paths_of instances) n ≡ Some p) (let z : j ≡ 0 + j = omega arith in z) e)
       (record { count = refl; each = λ k g p e f. absurd (none-some g e) })
 
-  pub few_gates : IsLight library → (kind : GateKind) (gates : List Gate) → gates ≡ with_rows library.models (kind_test kind) 0 [] rows → length gates ≤ most_weight
+  pub few_gates : IsLight library → (kind : GateKind) (gates : List Gate) → gates ≡ with_rows library.models (kind_test kind) 0 [] instances → length gates ≤ most_weight
   few_gates light kind gates is =
-      let all : AreGatesAt (paths_of rows) (with_rows library.models (kind_test kind) 0 [] rows) (places_at library (kind_test kind) (paths_of rows)) = all_gates (kind_test kind) in
-      omega (arith, ap length is ∙ all.count, light_places library light kind are.main (paths_of rows) are.first are.order)
+      let all : AreGatesAt (paths_of instances) (with_rows library.models (kind_test kind) 0 [] instances) (places_at library (kind_test kind) (paths_of instances)) = all_gates (kind_test kind) in
+      omega (arith, ap length is ∙ all.count, light_places library light kind are.main (paths_of instances) are.first are.order)
 
   -- the commands of a row's model are few
-  pub row_commands : IsLight library → (i : ℕ) (row : Instance) → slice_get rows i ≡ Some row → (m : ModelValue) → slice_get library.models row.model ≡ Some m → length m.commands < 2 ^ 32
+  pub row_commands : IsLight library → (i : ℕ) (row : Instance) → slice_get instances i ≡ Some row → (m : ModelValue) → slice_get library.models row.model ≡ Some m → length m.commands < 2 ^ 32
   row_commands light i row e m at =
       let r = are.each i row e in
       let same : r.model ≡ m = same_Some r.model m (sym r.number ∙ at) in
@@ -125,28 +125,28 @@ module _ (paths : List Path) (gates : List Gate) (places : List Place) (are : Ar
   place_within k p e = let h = slice_get_within places k p e in let n = are.count in omega arith
 
 -- the row of a gate
-pub gate_within : (rows : List Instance) (gates : List Gate) (places : List Place) → AreGatesAt (paths_of rows) gates places → (k : ℕ) (g : Gate) → slice_get gates k ≡ Some g → g.row < length rows
-gate_within rows gates places are k g e = let h = has_place (paths_of rows) gates places are k g e in row_within rows g.row h.place.path h.is.row
+pub gate_within : (instances : List Instance) (gates : List Gate) (places : List Place) → AreGatesAt (paths_of instances) gates places → (k : ℕ) (g : Gate) → slice_get gates k ≡ Some g → g.row < length instances
+gate_within instances gates places are k g e = let h = has_place (paths_of instances) gates places are k g e in row_within instances g.row h.place.path h.is.row
 
-module _ (library : LibraryValue) (rows : List Instance) (are : AreInstances library rows) where
-  pub flat_places : (kind : Body → Bool) → FlatOrder library kind [] are.main (places_at library kind (paths_of rows))
+module _ (library : LibraryValue) (instances : List Instance) (are : AreInstances library instances) where
+  pub flat_places : (kind : Body → Bool) → FlatOrder library kind [] are.main (places_at library kind (paths_of instances))
   flat_places kind = order_places library kind are.order are.first
 
-  of_kind : (kind : Body → Bool) (k : ℕ) (p : Place) → slice_get (places_at library kind (paths_of rows)) k ≡ Some p → IsOfKind library kind p
-  of_kind kind k p e = flat_only library kind are.main (places_at library kind (paths_of rows)) are.first (flat_places kind) p (In-get (places_at library kind (paths_of rows)) k p e)
+  of_kind : (kind : Body → Bool) (k : ℕ) (p : Place) → slice_get (places_at library kind (paths_of instances)) k ≡ Some p → IsOfKind library kind p
+  of_kind kind k p e = flat_only library kind are.main (places_at library kind (paths_of instances)) are.first (flat_places kind) p (In-get (places_at library kind (paths_of instances)) k p e)
 
   -- a latch stands at a place of latches
-  pub latch_place : (k : ℕ) (p : Place) → slice_get (places_at library is_latch (paths_of rows)) k ≡ Some p → (l : LatchValue) × LatchAt library p.path p.command l
+  pub latch_place : (k : ℕ) (p : Place) → slice_get (places_at library is_latch (paths_of instances)) k ≡ Some p → (l : LatchValue) × LatchAt library p.path p.command l
   latch_place k p e = let o = of_kind is_latch k p e in let l = is_latch-some o.body o.kind_is in (l.0, record { model = o.model; at = o.at; is = o.is ∙ ap Some l.1 })
 
   -- the net of a latch is written as its output at its instance
-  module _ (latches : List Gate) (ats : AreGatesAt (paths_of rows) latches (places_at library is_latch (paths_of rows))) (k : ℕ) (g : Gate) (here : slice_get latches k ≡ Some g)
-      (p : Place) (at : slice_get (places_at library is_latch (paths_of rows)) k ≡ Some p) where
-    pub latch_stands : ((q : Place) → IsGateAt (paths_of rows) g q → latch_at library q ≡ None) → ⊥
+  module _ (latches : List Gate) (ats : AreGatesAt (paths_of instances) latches (places_at library is_latch (paths_of instances))) (k : ℕ) (g : Gate) (here : slice_get latches k ≡ Some g)
+      (p : Place) (at : slice_get (places_at library is_latch (paths_of instances)) k ≡ Some p) where
+    pub latch_stands : ((q : Place) → IsGateAt (paths_of instances) g q → latch_at library q ≡ None) → ⊥
     latch_stands h = let l = latch_place k p at in none-some l.0 (sym (h p (ats.each k g p here at)) ∙ latch_at-some library p l.0 l.1)
 
-    pub latch_written : (text : List ℕ) (l : LatchValue) → ((q : Place) → IsGateAt (paths_of rows) g q → latch_at library q ≡ Some l)
-        → ((path : Path) → slice_get (paths_of rows) g.row ≡ Some path → text ≡ path_text path ++ l.output) → IsWritten library (latch_net p.path p.command) text
+    pub latch_written : (text : List ℕ) (l : LatchValue) → ((q : Place) → IsGateAt (paths_of instances) g q → latch_at library q ≡ Some l)
+        → ((path : Path) → slice_get (paths_of instances) g.row ≡ Some path → text ≡ path_text path ++ l.output) → IsWritten library (latch_net p.path p.command) text
     latch_written text l h t =
         let is = ats.each k g p here at in
         of_latch p.path p.command l refl (is_latch_at library p l (h p is)) (t p.path is.row)

@@ -1,6 +1,6 @@
 -- The drivers and the reads of an instance are those of its model's commands, and its ports.
 use Rattle.blif_flat.proofs.Common.{◌≡◌, ℕ, true, not, List, [], ◌∷◌, Option, Some, None, refl, sym, ap, ap₂, ◌∙◌, subst, inl, inr, ◌⊎◌, slice_get, cases_Bool, and_from, and_parts, not_from_false, cond-true, cond-false, none-some, same_Some, In, In-left, In-right, In-append, In-get, place_in}
-use Rattle.blif_flat.specs.{Body, Cover, Latch, Subckt, Command, Pair, ModelValue, Path, body_at, with_subckt, subckts_of, model_named, model_at, has_name, is_input, is_output, inputs_of, LatchAt, Driver, by_input, IsDriver, input, latch, cover, output, IsRead, cover_input, latch_input, latch_control, input_actual, model_output, input_actuals, read_pairs, with_control, reads, all_drives, driven_names}
+use Rattle.blif_flat.specs.{Body, Cover, Latch, Subckt, Command, Pair, ModelValue, Path, body_at, with_subckt, subckts_of, model_named, model_at, has_name, is_input, is_output, inputs_of, LatchAt, Driver, by_input, IsDriver, input, latch, cover, output, IsRead, cover_input, latch_input, latch_control, input_actual, model_output, input_actuals, read_pairs, control_names, reads, all_drives, driven_names}
 use Rattle.netlist.specs.SubcktValue.{SubcktValue}
 use Rattle.netlist.specs.LibraryValue.{LibraryValue}
 use Rattle.netlist.proofs.PlaceLemmas.{command_of, body_of}
@@ -64,11 +64,11 @@ actual_of child (p ∷ pairs) name i = elim (cases_Bool (is_input child p.formal
   | inr f ↦ more_actuals child p pairs name (actual_of child pairs name (subst (λ ns. In ns name) (cond-false (is_input child p.formal) (p.actual ∷ input_actuals child pairs) (input_actuals child pairs) f) i))
 ]
 
-control_in : (o : Option (List ℕ)) (name : List ℕ) → o ≡ Some name → In (with_control o) name
+control_in : (o : Option (List ℕ)) (name : List ℕ) → o ≡ Some name → In (control_names o) name
 control_in None name e = absurd (none-some name e)
 control_in (Some n) name e = inl (sym (same_Some n name e))
 
-in_control : (o : Option (List ℕ)) (name : List ℕ) → In (with_control o) name → o ≡ Some name
+in_control : (o : Option (List ℕ)) (name : List ℕ) → In (control_names o) name → o ≡ Some name
 in_control None name i = absurd i
 in_control (Some n) name i = elim i [ inl e ↦ ap Some (sym e) | inr o ↦ absurd o ]
 

@@ -1,17 +1,17 @@
--- The rows of instances: those that wait are put behind the others one by one, and in the end they are all instances in flat order.
+-- The instances of instances: those that wait are put behind the others one by one, and in the end they are all instances in flat order.
 use Rattle.blif_flat.proofs.Common.{◌≡◌, ℕ, suc, List, ◌∷◌, length, Some, sym, ap, ◌∙◌, arith, ◌+◌, ◌<◌, ◌≤◌, [], ◌++◌, Option, None, refl, subst, inl, inr, append_assoc, reverse, slice_get, option_and_then, same_Some, none-some, slice_get_within, length-append, append-nil, reverse-append, reverse-reverse, get_before, get_end, get_pushed}
 use Rattle.netlist.specs.LibraryValue.{LibraryValue}
 use Rattle.blif_flat.specs.{ModelValue, Body, Cover, Latch, Subckt, Command, Path, model_at, subckts_of, with_subckt, model_named, Instance, AreInstances, IsRow, paths_of, path_under, path_of, paths_from, IsLight, number_or_zero, entry_of, with_entry, entries_from, entries_at, IsWaiting, Waits, Listed, place_of, model_names, Finds, most_weight, own_weight, Weighs, weighs, WeighAll, flat, InstanceOrder, InstancesUnder, itself}
 use Rattle.netlist.specs.SubcktValue.{SubcktValue}
 use Rattle.netlist.specs.Places.{none as under_none, more as under_more}
-use Rattle.blif_flat.specs.Steps.InstanceRows.{none, more}
+use Rattle.blif_flat.specs.Bodies.InstanceRows.{none, more}
 use Rattle.netlist.specs.Weight.{none as weigh_none, more as weigh_more}
 use Rattle.blif_flat.proofs.Hierarchy.InstanceWeightLemmas.{order_few}
 use Rattle.netlist.proofs.OrderLemmas.{AreFrom, from_start, from_first, from_rest, placed_at}
 use Rattle.netlist.proofs.NameLemmas.{cons_first, cons_rest}
 use Rattle.blif_flat.proofs.Models.NameSetLemmas.{finds}
 
--- the rows of the subcircuits of some commands
+-- the instances of the subcircuits of some commands
 body_entries : (names : List (List ℕ)) (parent k : ℕ) (entries : List Instance) (body : Body) (ss : List SubcktValue) → k ≡ length entries
     → with_entry names parent entries body ++ entries_at names parent (length (with_entry names parent entries body)) ss ≡ entries ++ entries_at names parent k (with_subckt body ss)
 body_entries names parent k entries (Cover c) ss e = ap (λ n. entries ++ entries_at names parent n ss) (sym e)
@@ -30,17 +30,17 @@ pub entries_start : (names : List (List ℕ)) (parent : ℕ) (cs : List Command)
 entries_start names parent cs = entries_are names parent [] cs
 
 -- the paths of one more row
-paths_from-push : (paths : List Path) (rows : List Instance) (row : Instance) → paths_from paths (rows ++ row ∷ []) ≡ paths_from paths rows ++ path_of (paths_from paths rows) row ∷ []
+paths_from-push : (paths : List Path) (instances : List Instance) (row : Instance) → paths_from paths (instances ++ row ∷ []) ≡ paths_from paths instances ++ path_of (paths_from paths instances) row ∷ []
 paths_from-push paths [] row = refl
-paths_from-push paths (r ∷ rows) row = paths_from-push (paths ++ path_of paths r ∷ []) rows row
+paths_from-push paths (r ∷ instances) row = paths_from-push (paths ++ path_of paths r ∷ []) instances row
 
-paths_from-length : (paths : List Path) (rows : List Instance) → length (paths_from paths rows) ≡ length paths + length rows
+paths_from-length : (paths : List Path) (instances : List Instance) → length (paths_from paths instances) ≡ length paths + length instances
 paths_from-length paths [] = omega arith
-paths_from-length paths (r ∷ rows) =
-    omega (arith, paths_from-length (paths ++ path_of paths r ∷ []) rows, length-append paths (path_of paths r ∷ []))
+paths_from-length paths (r ∷ instances) =
+    omega (arith, paths_from-length (paths ++ path_of paths r ∷ []) instances, length-append paths (path_of paths r ∷ []))
 
-pub paths_of-length : (rows : List Instance) → length (paths_of rows) ≡ length rows
-paths_of-length rows = let a : length (paths_from [] rows) ≡ 0 + length rows = paths_from-length [] rows in omega arith
+pub paths_of-length : (instances : List Instance) → length (paths_of instances) ≡ length instances
+paths_of-length instances = let a : length (paths_from [] instances) ≡ 0 + length instances = paths_from-length [] instances in omega arith
 
 outer_stays : (made extra : List Path) (o : Option ℕ) → ((p : ℕ) → o ≡ Some p → p < length made) → option_and_then (slice_get (made ++ extra)) o ≡ option_and_then (slice_get made) o
 outer_stays made extra None h = refl
@@ -71,7 +71,7 @@ module _ (library : LibraryValue) where
   under_length {path} {k} {subckts} {paths} (under_more s rest child these others e named order under z) =
       omega (arith, ap length e, ap length z ∙ length-append these others, order_positive order, under_length under)
 
-  -- the rows that wait stay so when paths are added
+  -- the instances that wait stay so when paths are added
   waiting_stays : (made extra : List Path) (row : Instance) (m : ModelValue) → IsWaiting library made row m → IsWaiting library (made ++ extra) row m
   waiting_stays made extra row m w = record {
     earlier = λ p e. (let a : p < length made = w.earlier p e in let b : length (made ++ extra) ≡ length made + length extra = length-append made extra in omega arith);
@@ -84,7 +84,7 @@ module _ (library : LibraryValue) where
   waits_stay made extra (more row rest m these others e w order waits z) =
       more row rest m these others e (waiting_stays made extra row m w) (subst (λ l. InstanceOrder library l m these) (sym (path_stays made extra row w.earlier)) order) (waits_stay made extra waits) z
 
-  -- the rows of a model's subcircuits
+  -- the instances of a model's subcircuits
   number_is : (names : List (List ℕ)) (name : List ℕ) (m : ModelValue) → names ≡ model_names library.models → model_named library.models name ≡ Some m → (o : Option ℕ) → Finds library.models name o → slice_get library.models (number_or_zero o) ≡ Some m
   number_is names name m same named None f = absurd (none-some m (sym f ∙ named))
   number_is names name m same named (Some n) f = f.at ∙ sym f.named ∙ named
@@ -141,20 +141,20 @@ module _ (library : LibraryValue) where
       }
 
   -- what is known of the next row before it is put behind the others
-  pub record IsNext (rows : List Instance) (row : Instance) : Type 0 where
+  pub record IsNext (instances : List Instance) (row : Instance) : Type 0 where
     pub model : ModelValue
     pub number : slice_get library.models row.model ≡ Some model
-    pub room : length rows < most_weight
+    pub room : length instances < most_weight
     pub few : length (subckts_of model.commands) ≤ most_weight
 
-  pub next_known : (rows : List Instance) (row : Instance) (rest : List Instance) → Listed library rows (row ∷ rest) → IsNext rows row
-  next_known rows row rest l =
-      let made : List Path = paths_of rows in
+  pub next_known : (instances : List Instance) (row : Instance) (rest : List Instance) → Listed library instances (row ∷ rest) → IsNext instances row
+  next_known instances row rest l =
+      let made : List Path = paths_of instances in
       let n : Next made row rest l.rest = next made row rest refl l.waits in
       let b : length (made ++ l.rest) ≡ length made + length l.rest = length-append made l.rest in
       let c : length l.rest ≡ suc (length (n.inner ++ n.others)) = ap length n.split in
       let d : length (n.inner ++ n.others) ≡ length n.inner + length n.others = length-append n.inner n.others in
-      let e : length made ≡ length rows = paths_of-length rows in
+      let e : length made ≡ length instances = paths_of-length instances in
       let f : length (subckts_of n.model.commands) ≤ length n.inner = under_length n.under in
       record { model = n.model; number = n.waiting.number; room = omega arith; few = omega arith }
 
@@ -176,31 +176,31 @@ module _ (library : LibraryValue) where
     there = w.there;
   }
 
-  -- the next row is put behind the others, and the rows of its subcircuits wait
-  pub listed_step : (names : List (List ℕ)) → names ≡ model_names library.models → (rows : List Instance) (row : Instance) (rest : List Instance) → Listed library rows (row ∷ rest)
-      → (m : ModelValue) → slice_get library.models row.model ≡ Some m → Listed library (rows ++ row ∷ []) (entries_at names (length rows) 0 (subckts_of m.commands) ++ rest)
-  listed_step names same rows row rest l m number =
-      let made : List Path = paths_of rows in
+  -- the next row is put behind the others, and the instances of its subcircuits wait
+  pub listed_step : (names : List (List ℕ)) → names ≡ model_names library.models → (instances : List Instance) (row : Instance) (rest : List Instance) → Listed library instances (row ∷ rest)
+      → (m : ModelValue) → slice_get library.models row.model ≡ Some m → Listed library (instances ++ row ∷ []) (entries_at names (length instances) 0 (subckts_of m.commands) ++ rest)
+  listed_step names same instances row rest l m number =
+      let made : List Path = paths_of instances in
       let n : Next made row rest l.rest = next made row rest refl l.waits in
       let path : Path = path_of made row in
       let twin : n.model ≡ m = same_Some n.model m (sym n.waiting.number ∙ number) in
-      let count : length made ≡ length rows = paths_of-length rows in
-      let grown : made ++ path ∷ [] ≡ paths_of (rows ++ row ∷ []) = sym (paths_from-push [] rows row) in
-      let at : slice_get (made ++ path ∷ []) (length rows) ≡ Some path = subst (λ i. slice_get (made ++ path ∷ []) i ≡ Some path) count (get_end made path []) in
+      let count : length made ≡ length instances = paths_of-length instances in
+      let grown : made ++ path ∷ [] ≡ paths_of (instances ++ row ∷ []) = sym (paths_from-push [] instances row) in
+      let at : slice_get (made ++ path ∷ []) (length instances) ≡ Some path = subst (λ i. slice_get (made ++ path ∷ []) i ≡ Some path) count (get_end made path []) in
       let full : made ++ l.rest ≡ (made ++ path ∷ []) ++ (n.inner ++ n.others) = ap (λ x. made ++ x) n.split ∙ sym (append_assoc made (path ∷ []) (n.inner ++ n.others)) in
-      let full_now : made ++ l.rest ≡ paths_of (rows ++ row ∷ []) ++ (n.inner ++ n.others) = full ∙ ap (λ x. x ++ (n.inner ++ n.others)) grown in
-      let waits : Waits library (made ++ path ∷ []) (entries_at names (length rows) 0 (subckts_of n.model.commands) ++ rest) (n.inner ++ n.others) =
-      entries_wait names (made ++ path ∷ []) (length rows) n.model same n.under at n.waiting.there (from_start n.model) rest n.others (waits_stay made (path ∷ []) n.waits) in
-      let waits_now : Waits library (made ++ path ∷ []) (entries_at names (length rows) 0 (subckts_of m.commands) ++ rest) (n.inner ++ n.others) =
-      subst (λ (x : ModelValue). Waits library (made ++ path ∷ []) (entries_at names (length rows) 0 (subckts_of x.commands) ++ rest) (n.inner ++ n.others)) twin waits in
+      let full_now : made ++ l.rest ≡ paths_of (instances ++ row ∷ []) ++ (n.inner ++ n.others) = full ∙ ap (λ x. x ++ (n.inner ++ n.others)) grown in
+      let waits : Waits library (made ++ path ∷ []) (entries_at names (length instances) 0 (subckts_of n.model.commands) ++ rest) (n.inner ++ n.others) =
+      entries_wait names (made ++ path ∷ []) (length instances) n.model same n.under at n.waiting.there (from_start n.model) rest n.others (waits_stay made (path ∷ []) n.waits) in
+      let waits_now : Waits library (made ++ path ∷ []) (entries_at names (length instances) 0 (subckts_of m.commands) ++ rest) (n.inner ++ n.others) =
+      subst (λ (x : ModelValue). Waits library (made ++ path ∷ []) (entries_at names (length instances) 0 (subckts_of x.commands) ++ rest) (n.inner ++ n.others)) twin waits in
       record {
         main = l.main;
         first = l.first;
         rest = n.inner ++ n.others;
         order = subst (λ x. InstanceOrder library [] l.main x) full_now l.order;
         few = subst (λ x. length x ≤ most_weight) full_now l.few;
-        waits = subst (λ x. Waits library x (entries_at names (length rows) 0 (subckts_of m.commands) ++ rest) (n.inner ++ n.others)) grown waits_now;
-        each = λ i r e. subst (λ x. IsRow library x i r) grown (elim (get_pushed rows row i r e) [
+        waits = subst (λ x. Waits library x (entries_at names (length instances) 0 (subckts_of m.commands) ++ rest) (n.inner ++ n.others)) grown waits_now;
+        each = λ i r e. subst (λ x. IsRow library x i r) grown (elim (get_pushed instances row i r e) [
           | inl a ↦ row_stays made (path ∷ []) i r (l.each i r a)
           | inr a ↦ subst (λ j. IsRow library (made ++ path ∷ []) j r) (count ∙ sym a.0) (subst (λ x. IsRow library (made ++ path ∷ []) (length made) x) a.1 (row_new made row n.model n.waiting))
         ]);
@@ -226,55 +226,55 @@ module _ (library : LibraryValue) where
   nothing_waits p (more row rest m these others e w order waits z) = let x : row ∷ rest ≡ [] = sym e ∙ p in cc
 
   -- in the end none waits
-  pub listed_all : (rows : List Instance) → Listed library rows [] → AreInstances library rows
-  listed_all rows l =
-      let full : paths_of rows ++ l.rest ≡ paths_of rows = ap (λ x. paths_of rows ++ x) (nothing_waits refl l.waits) ∙ append-nil (paths_of rows) in
-      let few : length (paths_of rows) ≤ most_weight = subst (λ x. length x ≤ most_weight) full l.few in
-      record { main = l.main; first = l.first; order = subst (λ x. InstanceOrder library [] l.main x) full l.order; each = l.each; few = omega (arith, paths_of-length rows) }
+  pub listed_all : (instances : List Instance) → Listed library instances [] → AreInstances library instances
+  listed_all instances l =
+      let full : paths_of instances ++ l.rest ≡ paths_of instances = ap (λ x. paths_of instances ++ x) (nothing_waits refl l.waits) ∙ append-nil (paths_of instances) in
+      let few : length (paths_of instances) ≤ most_weight = subst (λ x. length x ≤ most_weight) full l.few in
+      record { main = l.main; first = l.first; order = subst (λ x. InstanceOrder library [] l.main x) full l.order; each = l.each; few = omega (arith, paths_of-length instances) }
 
-  -- the rows that wait as a stack, whose top is the last one
+  -- the instances that wait as a stack, whose top is the last one
   popped : (stack left : List Instance) (row : Instance) → stack ≡ left ++ row ∷ [] → reverse stack ≡ row ∷ reverse left
   popped stack left row e = ap reverse e ∙ reverse-append left (row ∷ [])
 
-  pub next_popped : (rows stack left : List Instance) (row : Instance) → stack ≡ left ++ row ∷ [] → Listed library rows (reverse stack) → IsNext rows row
-  next_popped rows stack left row e l = next_known rows row (reverse left) (subst (λ x. Listed library rows x) (popped stack left row e) l)
+  pub next_popped : (instances stack left : List Instance) (row : Instance) → stack ≡ left ++ row ∷ [] → Listed library instances (reverse stack) → IsNext instances row
+  next_popped instances stack left row e l = next_known instances row (reverse left) (subst (λ x. Listed library instances x) (popped stack left row e) l)
 
-  pub listed_pushed : (names : List (List ℕ)) → names ≡ model_names library.models → (rows stack left news : List Instance) (row : Instance) → stack ≡ left ++ row ∷ []
-      → ((m : ModelValue) → slice_get library.models row.model ≡ Some m → news ≡ left ++ reverse (entries_from names (length rows) [] m.commands))
-      → Listed library rows (reverse stack) → Listed library (rows ++ row ∷ []) (reverse news)
-  listed_pushed names same rows stack left news row e h l =
-      let k : IsNext rows row = next_popped rows stack left row e l in
+  pub listed_pushed : (names : List (List ℕ)) → names ≡ model_names library.models → (instances stack left news : List Instance) (row : Instance) → stack ≡ left ++ row ∷ []
+      → ((m : ModelValue) → slice_get library.models row.model ≡ Some m → news ≡ left ++ reverse (entries_from names (length instances) [] m.commands))
+      → Listed library instances (reverse stack) → Listed library (instances ++ row ∷ []) (reverse news)
+  listed_pushed names same instances stack left news row e h l =
+      let k : IsNext instances row = next_popped instances stack left row e l in
       let m : ModelValue = k.model in
-      let entries : List Instance = entries_from names (length rows) [] m.commands in
+      let entries : List Instance = entries_from names (length instances) [] m.commands in
       let now : reverse news ≡ entries ++ reverse left = ap reverse (h m k.number) ∙ reverse-append left (reverse entries) ∙ ap (λ x. x ++ reverse left) (reverse-reverse entries) in
-      let step : Listed library (rows ++ row ∷ []) (entries_at names (length rows) 0 (subckts_of m.commands) ++ reverse left) =
-      listed_step names same rows row (reverse left) (subst (λ x. Listed library rows x) (popped stack left row e) l) m k.number in
-      subst (λ x. Listed library (rows ++ row ∷ []) x) (ap (λ x. x ++ reverse left) (sym (entries_start names (length rows) m.commands)) ∙ sym now) step
+      let step : Listed library (instances ++ row ∷ []) (entries_at names (length instances) 0 (subckts_of m.commands) ++ reverse left) =
+      listed_step names same instances row (reverse left) (subst (λ x. Listed library instances x) (popped stack left row e) l) m k.number in
+      subst (λ x. Listed library (instances ++ row ∷ []) x) (ap (λ x. x ++ reverse left) (sym (entries_start names (length instances) m.commands)) ∙ sym now) step
 
-  pub listed_empty : (rows stack : List Instance) → length stack ≡ 0 → Listed library rows (reverse stack) → AreInstances library rows
-  listed_empty rows [] e l = listed_all rows l
-  listed_empty rows (row ∷ stack) e l = absurd (omega arith)
+  pub listed_empty : (instances stack : List Instance) → length stack ≡ 0 → Listed library instances (reverse stack) → AreInstances library instances
+  listed_empty instances [] e l = listed_all instances l
+  listed_empty instances (row ∷ stack) e l = absurd (omega arith)
 
-  pub listed_begin : (rows empty stack : List Instance) → rows ≡ [] → empty ≡ [] → stack ≡ empty ++ record { model = 0; parent = None; ordinal = 0 } ∷ [] → IsLight library → Listed library rows (reverse stack)
-  listed_begin rows empty stack r e s h =
+  pub listed_begin : (instances empty stack : List Instance) → instances ≡ [] → empty ≡ [] → stack ≡ empty ++ record { model = 0; parent = None; ordinal = 0 } ∷ [] → IsLight library → Listed library instances (reverse stack)
+  listed_begin instances empty stack r e s h =
       let now : reverse stack ≡ record { model = 0; parent = None; ordinal = 0 } ∷ [] = ap reverse (s ∙ ap (λ x. x ++ record { model = 0; parent = None; ordinal = 0 } ∷ []) e) in
       subst (λ x. Listed library x (reverse stack)) (sym r) (subst (λ x. Listed library [] x) (sym now) (listed_start h))
 
-pub record AreModelsOf (library : LibraryValue) (rows : List Instance) (paths : List Path) : Type 0 where
-  pub count : length rows ≡ length paths
-  pub each : (i : ℕ) (row : Instance) (path : Path) → slice_get rows i ≡ Some row → slice_get paths i ≡ Some path → slice_get library.models row.model ≡ model_at library path
+pub record AreModelsOf (library : LibraryValue) (instances : List Instance) (paths : List Path) : Type 0 where
+  pub count : length instances ≡ length paths
+  pub each : (i : ℕ) (row : Instance) (path : Path) → slice_get instances i ≡ Some row → slice_get paths i ≡ Some path → slice_get library.models row.model ≡ model_at library path
 
-pub models_rest : (library : LibraryValue) (row : Instance) (rows : List Instance) (path : Path) (paths : List Path) → AreModelsOf library (row ∷ rows) (path ∷ paths) → AreModelsOf library rows paths
-models_rest library row rows path paths are = record {
-  count = let n : suc (length rows) ≡ suc (length paths) = are.count in omega arith;
+pub models_rest : (library : LibraryValue) (row : Instance) (instances : List Instance) (path : Path) (paths : List Path) → AreModelsOf library (row ∷ instances) (path ∷ paths) → AreModelsOf library instances paths
+models_rest library row instances path paths are = record {
+  count = let n : suc (length instances) ≡ suc (length paths) = are.count in omega arith;
   each = λ i r p e f. are.each (suc i) r p e f;
 }
 
-pub models_of : (library : LibraryValue) (rows : List Instance) → AreInstances library rows → AreModelsOf library rows (paths_of rows)
-models_of library rows are = record {
-  count = sym (paths_of-length rows);
+pub models_of : (library : LibraryValue) (instances : List Instance) → AreInstances library instances → AreModelsOf library instances (paths_of instances)
+models_of library instances are = record {
+  count = sym (paths_of-length instances);
   each = λ i row path e f.
-      let r : IsRow library (paths_of rows) i row = are.each i row e in
+      let r : IsRow library (paths_of instances) i row = are.each i row e in
       let same : r.path ≡ path = same_Some r.path path (sym r.at ∙ f) in
       r.number ∙ sym r.there ∙ ap (model_at library) same;
 }

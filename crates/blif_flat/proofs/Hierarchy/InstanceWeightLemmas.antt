@@ -11,15 +11,7 @@ use Rattle.netlist.proofs.OrderLemmas.{AreFrom, from_start, from_first, from_res
 use Rattle.blif_flat.proofs.Hierarchy.OrderLemmas.{order_places}
 use Rattle.netlist.proofs.PlaceLemmas.{inside, command_of}
 use Rattle.netlist.proofs.NameLemmas.{not_empty, same_first, same_rest}
-
-filtered_more : {A : Type 0} (b : Bool) (x : A) (ys : List A) (n : ℕ) → length ys ≤ n → length (if b then x ∷ ys else ys) ≤ suc n
-filtered_more true x ys n h = omega arith
-filtered_more false x ys n h = omega arith
-
--- a filtered list is no longer
-pub filtered_below : {A : Type 0} (test : A → Bool) (xs : List A) → length (filter test xs) ≤ length xs
-filtered_below test [] = omega arith
-filtered_below test (x ∷ xs) = filtered_more (test x) x (filter test xs) (length xs) (filtered_below test xs)
+use Rattle.list_laws.proofs.Members.{length-filter_le}
 
 pub own_below : (library : LibraryValue) (m : ModelValue) (w : ℕ) → Weighs library m w → own_weight m ≤ w
 own_below library m w (weighs inner all e) = omega arith
@@ -186,7 +178,7 @@ module _ (library : LibraryValue) where
     pub few_inputs : (main : ModelValue) → model_at library [] ≡ Some main → length (inputs_of main) ≤ most_weight
     few_inputs main at =
         let others : List (List ℕ) = filter (λ name. not (has_name main.inputs name)) main.clocks in
-        omega (arith, ports_few main at, length-append main.inputs others, filtered_below (λ name. not (has_name main.inputs name)) main.clocks)
+        omega (arith, ports_few main at, length-append main.inputs others, length-filter_le (λ name. not (has_name main.inputs name)) main.clocks)
 
     pub light_places : (kind : GateKind) (main : ModelValue) (paths : List Path) → model_at library [] ≡ Some main → InstanceOrder library [] main paths → length (places_at library (kind_test kind) paths) ≤ most_weight
     light_places kind main paths first order = places_few kind main (places_at library (kind_test kind) paths) first (order_places library (kind_test kind) order first)

@@ -40,8 +40,8 @@ module _ (library : LibraryValue) where
   pub written_once : (net : Net) (text other : List ℕ) → IsWritten library net text → IsWritten library net other → text ≡ other
   written_once net text other a b = text_once net text other (is_text net text a) (is_text net other b)
 
-pub rows_under : (library : LibraryValue) (rows : List Instance) → AreInstances library rows → AreUnder rows
-rows_under library rows r = record {
+pub rows_under : (library : LibraryValue) (instances : List Instance) → AreInstances library instances → AreUnder instances
+rows_under library instances r = record {
   at = λ i row e. (let w = r.each i row e in w.at ∙ ap Some w.is);
   earlier = λ i row p e q. (r.each i row e).earlier p q;
 }
@@ -57,29 +57,29 @@ path_text-last text path left k e =
 
 -- the path of a row, as far as it's known
 abbrev pub IsSoFar : List Instance → ℕ → ℕ → Path → Type 0
-IsSoFar rows i at done = (path : Path) → slice_get (paths_of rows) at ≡ Some path → slice_get (paths_of rows) i ≡ Some (done ++ path)
+IsSoFar instances i at done = (path : Path) → slice_get (paths_of instances) at ≡ Some path → slice_get (paths_of instances) i ≡ Some (done ++ path)
 
-module _ (rows : List Instance) (under : AreUnder rows) (at : ℕ) (row : Instance) (here : slice_get rows at ≡ Some row) where
-  parent_path : (p : ℕ) (path : Path) → row.parent ≡ Some p → slice_get (paths_of rows) p ≡ Some path → path_of (paths_of rows) row ≡ row.ordinal ∷ path
+module _ (instances : List Instance) (under : AreUnder instances) (at : ℕ) (row : Instance) (here : slice_get instances at ≡ Some row) where
+  parent_path : (p : ℕ) (path : Path) → row.parent ≡ Some p → slice_get (paths_of instances) p ≡ Some path → path_of (paths_of instances) row ≡ row.ordinal ∷ path
   parent_path p path e f = rw (e, f) refl
 
-  no_parent : row.parent ≡ None → path_of (paths_of rows) row ≡ []
+  no_parent : row.parent ≡ None → path_of (paths_of instances) row ≡ []
   no_parent e = rw e refl
 
-  pub so_far_end : (i : ℕ) (done : Path) → row.parent ≡ None → IsSoFar rows i at done → slice_get (paths_of rows) i ≡ Some done
+  pub so_far_end : (i : ℕ) (done : Path) → row.parent ≡ None → IsSoFar instances i at done → slice_get (paths_of instances) i ≡ Some done
   so_far_end i done e h = h [] (under.at at row here ∙ ap Some (no_parent e)) ∙ ap Some (append-nil done)
 
 -- a cover's net is written as its output at its instance
-module _ (library : LibraryValue) (rows : List Instance) (r : AreInstances library rows) (i : ℕ) (row : Instance) (here : slice_get rows i ≡ Some row) where
-  row_output : (path : Path) (command : ℕ) (c : CoverValue) → slice_get (paths_of rows) i ≡ Some path → CoverAt library path command c → output_at library row.model command ≡ c.output
+module _ (library : LibraryValue) (instances : List Instance) (r : AreInstances library instances) (i : ℕ) (row : Instance) (here : slice_get instances i ≡ Some row) where
+  row_output : (path : Path) (command : ℕ) (c : CoverValue) → slice_get (paths_of instances) i ≡ Some path → CoverAt library path command c → output_at library row.model command ≡ c.output
   row_output path command c e a =
       let w = r.each i row here in
       let same : w.path ≡ path = same_Some w.path path (sym w.at ∙ e) in
       let model : w.model ≡ a.model = same_Some w.model a.model (sym w.there ∙ ap (model_at library) same ∙ a.at) in
       ap (output_in command) w.number ∙ ap (λ m. output_or (option_and_then cover_in (body_at m command))) model ∙ ap (λ o. output_or (option_and_then cover_in o)) a.is
 
-  pub written_cover : (command : ℕ) (name text : List ℕ) → name ≡ output_at library row.model command → ((path : Path) → slice_get (paths_of rows) i ≡ Some path → text ≡ path_text path ++ name)
-      → (path : Path) (c : CoverValue) → slice_get (paths_of rows) i ≡ Some path → CoverAt library path command c → IsWritten library (cover_net path command) text
+  pub written_cover : (command : ℕ) (name text : List ℕ) → name ≡ output_at library row.model command → ((path : Path) → slice_get (paths_of instances) i ≡ Some path → text ≡ path_text path ++ name)
+      → (path : Path) (c : CoverValue) → slice_get (paths_of instances) i ≡ Some path → CoverAt library path command c → IsWritten library (cover_net path command) text
   written_cover command name text n h path c e a = of_cover path command c refl a (h path e ∙ ap (λ l. path_text path ++ l) (n ∙ row_output path command c e a))
 
 -- and one more after those of several covers

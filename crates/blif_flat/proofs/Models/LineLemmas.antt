@@ -1,6 +1,6 @@
 -- What the refusals of a `.subckt` line say: F1 to F4 of it don't stand, or one does.
 use Rattle.blif_flat.proofs.Common.{◌≡◌, ℕ, true, false, ◌||◌, List, [], ◌∷◌, Option, Some, None, refl, sym, ap, ◌∙◌, subst, inl, inr, ◌⊎◌, bytes_eq, IsTrue, not, both_ways, cases_Bool, or_cases, or_left, or_right, and_from, not_from_false, false≢true, bytes_decides, In, none_else, none_both, Bool, cond, ◌++◌, filter, option_map, none-some, OrMemory-map}
-use Rattle.blif_flat.specs.{Pair, ModelValue, model_named, has_name, is_input, is_output, inputs_of, SubcktLine, unknown_formal, is_connected, open_input, input_fault, formal_fault, placed_fault, line_fault, formals, Ports, FlatErr, UnknownFormal, Unconnected, Memory, IsTold, with_names, ports_value, refusal_of, foreign_formal, open_among, ports_fault}
+use Rattle.blif_flat.specs.{Pair, ModelValue, model_named, has_name, is_input, is_output, inputs_of, SubcktLine, unknown_formal, is_connected, open_input, input_fault, formal_fault, placed_fault, line_fault, formals, Ports, FlatErr, UnknownFormal, Unconnected, Memory, IsTold, with_names, ports_value, or_later, refusal_of, foreign_formal, open_among, ports_fault}
 use Rattle.netlist.specs.LibraryValue.{LibraryValue}
 use Rattle.netlist.specs.SubcktValue.{SubcktValue}
 use Rattle.blif_flat.proofs.Models.NameSetLemmas.{has_inputs}
@@ -109,10 +109,6 @@ open_is pairs (name ∷ names) =
     ∙ ap (λ o. cond (is_connected pairs name) o (Some name)) (open_is pairs names)
 
 -- the first of two lists in which something is found
-abbrev or_later : Option (List ℕ) → Option (List ℕ) → Option (List ℕ)
-or_later None o = o
-or_later (Some name) o = Some name
-
 or_cond : (b : Bool) (x y : Option (List ℕ)) (name : List ℕ) → cond b (or_later x y) (Some name) ≡ or_later (cond b x (Some name)) y
 or_cond true x y name = refl
 or_cond false x y name = refl
@@ -122,14 +118,10 @@ open_both pairs [] ys = refl
 open_both pairs (x ∷ xs) ys = ap (λ o. cond (is_connected pairs x) o (Some x)) (open_both pairs xs ys) ∙ or_cond (is_connected pairs x) (open_input pairs xs) (open_input pairs ys) x
 
 -- a name of a list in which nothing is open is connected
-cond_open : (b : Bool) (o : Option (List ℕ)) (x : List ℕ) → cond b o (Some x) ≡ None → (b ≡ true) × (o ≡ None)
-cond_open true o x h = (refl, h)
-cond_open false o x h = absurd (none-some x (sym h))
-
 none_open : (pairs : List Pair) (xs : List (List ℕ)) (name : List ℕ) → open_input pairs xs ≡ None → has_name xs name ≡ true → is_connected pairs name ≡ true
 none_open pairs [] name h a = absurd (false≢true a)
 none_open pairs (x ∷ xs) name h a =
-    let p = cond_open (is_connected pairs x) (open_input pairs xs) x h in
+    let p = none_else (is_connected pairs x) x (open_input pairs xs) h in
     elim (cases_Bool (bytes_eq name x)) [
       | inl t ↦ ap (is_connected pairs) ((bytes_decides name x).0 t) ∙ p.0
       | inr f ↦ none_open pairs xs name p.1 (ap (λ b. b || has_name xs name) (sym f) ∙ a)

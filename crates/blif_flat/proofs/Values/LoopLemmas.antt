@@ -8,22 +8,17 @@ use Rattle.netlist.proofs.PlaceLemmas.{cover_at-is}
 use Rattle.blif_flat.proofs.Models.DrivenLemmas.{walked_driven}
 use Rattle.netlist.proofs.PostLemmas.{Reaches, at_once, further, acyclic}
 use Rattle.netlist.proofs.LoopLemmas.{HasCover, walk_ordered}
+use Rattle.netlist.proofs.LawLemmas.{in_rest}
 
 module _ (library : LibraryValue) (net : Path → List ℕ → Option Net) (nets : AreNets library net) where
   -- and the other way
   with_there : (o : Option Net) (places : List Place) (q : Place) → o ≡ Some (cover_net q.path q.command) → In (with_cover o places) q
   with_there o places q e = subst (λ y. In (with_cover y places) q) (sym e) (inl refl)
 
-  with_behind : (o : Option Net) (places : List Place) (q : Place) → In places q → In (with_cover o places) q
-  with_behind None places q i = i
-  with_behind (Some (input_net own)) places q i = i
-  with_behind (Some (latch_net own k)) places q i = i
-  with_behind (Some (cover_net own k)) places q i = inr i
-
   among_there : (path : Path) (names : List (List ℕ)) (name : List ℕ) (q : Place) → In names name → net path name ≡ Some (cover_net q.path q.command) → In (covers_among (net path) names) q
   among_there path [] name q i e = absurd i
   among_there path (own ∷ names) name q (inl s) e = with_there (net path own) (covers_among (net path) names) q (ap (net path) (sym s) ∙ e)
-  among_there path (own ∷ names) name q (inr i) e = with_behind (net path own) (covers_among (net path) names) q (among_there path names name q i e)
+  among_there path (own ∷ names) name q (inr i) e = in_rest (net path own) (covers_among (net path) names) q (among_there path names name q i e)
 
   cover_reads : (p q : Place) → ReadsCover library p q → In (reads_of library net p) q
   cover_reads p q r =

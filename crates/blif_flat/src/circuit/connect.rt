@@ -12,7 +12,7 @@ use std::alloc::{AllocError, Global};
 /// The instances of a library in flat order, their covers and their latches, and the nets of all their names.
 #[derive(Drop)]
 pub(crate) struct Circuit {
-    pub rows: Vec<Instance>,
+    pub instances: Vec<Instance>,
     pub covers: Vec<Gate>,
     pub latches: Vec<Gate>,
     pub nets: Nets,
@@ -33,13 +33,13 @@ pub(crate) fn connect(
     requires ports { ports.now ≡ map ports_value library.now.models }
     ensures { IfOk result (λ circuit. IsCircuit library.now circuit) }
 {
-    let rows = instances(alloc, library, index)?;
-    let covers = gates(alloc, library, &rows, GateKind::Cover)?;
-    let latches = gates(alloc, library, &rows, GateKind::Latch)?;
-    let empty = make_nets(alloc, library, &rows)?;
-    let nets = fill_nets(alloc, library, ports, &rows, &covers, &latches, empty)?;
+    let instances = instances(alloc, library, index)?;
+    let covers = gates(alloc, library, &instances, GateKind::Cover)?;
+    let latches = gates(alloc, library, &instances, GateKind::Latch)?;
+    let empty = make_nets(alloc, library, &instances)?;
+    let nets = fill_nets(alloc, library, ports, &instances, &covers, &latches, empty)?;
     Ok(Circuit {
-        rows,
+        instances,
         covers,
         latches,
         nets,

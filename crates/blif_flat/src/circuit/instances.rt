@@ -206,21 +206,21 @@ fn add_model(
     }
 }
 
-/// The gates of a kind in flat order: those of each instance in line order. The rows are those of the library. They are at
+/// The gates of a kind in flat order: those of each instance in line order. The instances are those of the library. They are at
 /// most 2^22. `Err` comes only for want of memory. It takes time linear in the commands of the instances' models.
 pub(crate) fn gates(
     alloc: Global,
     library: &Library,
-    rows: &[Instance],
+    instances: &[Instance],
     kind: GateKind,
 ) -> Result<Vec<Gate>, AllocError>
     requires light { IsLight library.now }
-    requires rows { AreInstances library.now rows.now }
-    ensures gates { IfOk result (λ gates. AreGatesAt (paths_of rows.now) gates.items (places_at library.now (kind_test kind) (paths_of rows.now))) }
+    requires instances { AreInstances library.now instances.now }
+    ensures gates { IfOk result (λ gates. AreGatesAt (paths_of instances.now) gates.items (places_at library.now (kind_test kind) (paths_of instances.now))) }
     ensures few { IfOk result (λ gates. length gates.items ≤ most_weight) }
 {
     let mut gates = Vec::new(alloc);
-    for (row, instance) in rows.iter().enumerate() {
+    for (row, instance) in instances.iter().enumerate() {
         add_model(library, &mut gates, kind, row as u32, instance.model)?;
     }
     Ok(gates)
@@ -252,28 +252,32 @@ fn model_body(library: &Library, model: u32, command: u32) -> Option<&Body>
     }
 }
 
-/// The body of a gate's command. Where the rows are those of the library, it is the body of the gate's place.
-pub(crate) fn gate_body<'a>(library: &'a Library, rows: &[Instance], gate: Gate) -> Option<&'a Body>
-    ensures body { option_map (λ body. body.now) result ≡ body_of library.now rows.now gate }
-    ensures place { AreInstances library.now rows.now → (p : Place) → IsGateAt (paths_of rows.now) gate p
+/// The body of a gate's command. Where the instances are those of the library, it is the body of the gate's place.
+pub(crate) fn gate_body<'a>(
+    library: &'a Library,
+    instances: &[Instance],
+    gate: Gate,
+) -> Option<&'a Body>
+    ensures body { option_map (λ body. body.now) result ≡ body_of library.now instances.now gate }
+    ensures place { AreInstances library.now instances.now → (p : Place) → IsGateAt (paths_of instances.now) gate p
         → MatchOption result (place_body library.now p ≡ None) (λ b. place_body library.now p ≡ Some b.now) }
 {
-    match rows.get(gate.row as usize) {
+    match instances.get(gate.row as usize) {
         None => None,
         Some(row) => model_body(library, row.model, gate.command),
     }
 }
 
-/// The latch of a gate, and `None` where it is another command. The rows are those of the library.
+/// The latch of a gate, and `None` where it is another command. The instances are those of the library.
 pub(crate) fn gate_latch<'a>(
     library: &'a Library,
-    rows: &[Instance],
+    instances: &[Instance],
     gate: Gate,
 ) -> Option<&'a Latch>
-    requires rows { AreInstances library.now rows.now }
-    ensures { (p : Place) → IsGateAt (paths_of rows.now) gate p → MatchOption result (latch_at library.now p ≡ None) (λ l. latch_at library.now p ≡ Some l.now) }
+    requires instances { AreInstances library.now instances.now }
+    ensures { (p : Place) → IsGateAt (paths_of instances.now) gate p → MatchOption result (latch_at library.now p ≡ None) (λ l. latch_at library.now p ≡ Some l.now) }
 {
-    match gate_body(library, rows, gate) {
+    match gate_body(library, instances, gate) {
         None => None,
         Some(body) => match body {
             Body::Cover(_) => None,

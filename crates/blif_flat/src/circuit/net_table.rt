@@ -97,13 +97,13 @@ struct Link<'a> {
 // The line of an ordinal of the model of a row.
 fn line_under<'a>(
     lines: &SubcktLines<'a>,
-    rows: &[Instance],
+    instances: &[Instance],
     outer: u32,
     ordinal: u32,
 ) -> Option<&'a Subckt>
-    ensures { option_map (λ s. s.now) result ≡ line_under lines.now rows.now outer ordinal }
+    ensures { option_map (λ s. s.now) result ≡ line_under lines.now instances.now outer ordinal }
 {
-    match rows.get(outer as usize) {
+    match instances.get(outer as usize) {
         None => None,
         Some(row) => lines.line(row.model, ordinal),
     }
@@ -113,15 +113,15 @@ fn line_under<'a>(
 fn link_of<'a>(
     lines: &SubcktLines<'a>,
     ports: &'a [Ports],
-    rows: &[Instance],
+    instances: &[Instance],
     j: u32,
 ) -> Option<Link<'a>>
     ensures { (library : LibraryValue) → AreLinesOf library lines.now ports.now
-        → MatchOption result (link_at library rows.now j ≡ None) (λ link. IsLink (link_at library rows.now j) link.outer link.ports.now link.pairs.now) }
+        → MatchOption result (link_at library instances.now j ≡ None) (λ link. IsLink (link_at library instances.now j) link.outer link.ports.now link.pairs.now) }
 {
-    let row = rows.get(j as usize)?;
+    let row = instances.get(j as usize)?;
     let outer = row.parent?;
-    let subckt = line_under(lines, rows, outer, row.ordinal)?;
+    let subckt = line_under(lines, instances, outer, row.ordinal)?;
     let ports = ports.get(row.model as usize)?;
     Some(Link {
         outer,
@@ -134,15 +134,15 @@ fn link_of<'a>(
 fn link_out<'a>(
     lines: &SubcktLines<'a>,
     ports: &'a [Ports],
-    rows: &[Instance],
+    instances: &[Instance],
     nets: &mut Nets,
     j: u32,
 )
     requires { IsNets nets.old }
-    ensures out { (library : LibraryValue) → AreLinesOf library lines.now ports.now → nets.new ≡ linked_out nets.old j (link_at library rows.now j) }
+    ensures out { (library : LibraryValue) → AreLinesOf library lines.now ports.now → nets.new ≡ linked_out nets.old j (link_at library instances.now j) }
     ensures nets { IsNets nets.new }
 {
-    match link_of(lines, ports, rows, j) {
+    match link_of(lines, ports, instances, j) {
         None => {}
         Some(link) => pairs_out(nets, link.ports, j, link.outer, link.pairs),
     }
@@ -152,15 +152,15 @@ fn link_out<'a>(
 fn link_in<'a>(
     lines: &SubcktLines<'a>,
     ports: &'a [Ports],
-    rows: &[Instance],
+    instances: &[Instance],
     nets: &mut Nets,
     j: u32,
 )
     requires { IsNets nets.old }
-    ensures inside { (library : LibraryValue) → AreLinesOf library lines.now ports.now → nets.new ≡ linked_in nets.old j (link_at library rows.now j) }
+    ensures inside { (library : LibraryValue) → AreLinesOf library lines.now ports.now → nets.new ≡ linked_in nets.old j (link_at library instances.now j) }
     ensures nets { IsNets nets.new }
 {
-    match link_of(lines, ports, rows, j) {
+    match link_of(lines, ports, instances, j) {
         None => {}
         Some(link) => pairs_in(nets, link.ports, j, link.outer, link.pairs),
     }
@@ -171,18 +171,18 @@ fn link_in<'a>(
 pub(crate) fn links_out<'a>(
     lines: &SubcktLines<'a>,
     ports: &'a [Ports],
-    rows: &[Instance],
+    instances: &[Instance],
     nets: &mut Nets,
 )
     requires nets { IsNets nets.old }
-    requires few { length rows.now ≤ most_weight }
-    ensures out { (library : LibraryValue) → AreLinesOf library lines.now ports.now → nets.new ≡ links_out library rows.now nets.old (length rows.now) }
+    requires few { length instances.now ≤ most_weight }
+    ensures out { (library : LibraryValue) → AreLinesOf library lines.now ports.now → nets.new ≡ links_out library instances.now nets.old (length instances.now) }
     ensures nets { IsNets nets.new }
 {
-    let mut left = rows.len() as u32;
+    let mut left = instances.len() as u32;
     while left > 0 {
         left -= 1;
-        link_out(lines, ports, rows, nets, left);
+        link_out(lines, ports, instances, nets, left);
     }
 }
 
@@ -191,64 +191,74 @@ pub(crate) fn links_out<'a>(
 pub(crate) fn links_in<'a>(
     lines: &SubcktLines<'a>,
     ports: &'a [Ports],
-    rows: &[Instance],
+    instances: &[Instance],
     nets: &mut Nets,
 )
     requires nets { IsNets nets.old }
-    requires few { length rows.now ≤ most_weight }
-    ensures inside { (library : LibraryValue) → AreLinesOf library lines.now ports.now → nets.new ≡ links_in library rows.now nets.old (length rows.now) }
+    requires few { length instances.now ≤ most_weight }
+    ensures inside { (library : LibraryValue) → AreLinesOf library lines.now ports.now → nets.new ≡ links_in library instances.now nets.old (length instances.now) }
     ensures nets { IsNets nets.new }
 {
-    for j in 0..rows.len() {
-        link_in(lines, ports, rows, nets, j as u32);
+    for j in 0..instances.len() {
+        link_in(lines, ports, instances, nets, j as u32);
     }
 }
 
 // Puts a cover in at its output.
-fn set_cover(library: &Library, rows: &[Instance], nets: &mut Nets, gate: &Gate, k: u32)
+fn set_cover(library: &Library, instances: &[Instance], nets: &mut Nets, gate: &Gate, k: u32)
     requires { IsNets nets.old }
-    ensures cover { nets.new ≡ with_named nets.old gate.now.row (option_and_then cover_output (body_of library.now rows.now gate.now)) (Net.Cover k) }
+    ensures cover { nets.new ≡ with_named nets.old gate.now.row (option_and_then cover_output (body_of library.now instances.now gate.now)) (Net.Cover k) }
     ensures nets { IsNets nets.new }
 {
-    if let Some(Body::Cover(cover)) = gate_body(library, rows, *gate) {
+    if let Some(Body::Cover(cover)) = gate_body(library, instances, *gate) {
         nets.set(gate.row, cover.output.bytes(), Net::Cover(k));
     }
 }
 
 // Puts a latch in at its output.
-fn set_latch(library: &Library, rows: &[Instance], nets: &mut Nets, gate: &Gate, k: u32)
+fn set_latch(library: &Library, instances: &[Instance], nets: &mut Nets, gate: &Gate, k: u32)
     requires { IsNets nets.old }
-    ensures latch { nets.new ≡ with_named nets.old gate.now.row (option_and_then latch_output (body_of library.now rows.now gate.now)) (Net.Latch k) }
+    ensures latch { nets.new ≡ with_named nets.old gate.now.row (option_and_then latch_output (body_of library.now instances.now gate.now)) (Net.Latch k) }
     ensures nets { IsNets nets.new }
 {
-    if let Some(Body::Latch(latch)) = gate_body(library, rows, *gate) {
+    if let Some(Body::Latch(latch)) = gate_body(library, instances, *gate) {
         nets.set(gate.row, latch.output.bytes(), Net::Latch(k));
     }
 }
 
 /// Puts the covers in at their outputs, by their places. It takes time linear in the bytes of their names, on average over
 /// the hashes.
-pub(crate) fn set_covers(library: &Library, rows: &[Instance], nets: &mut Nets, covers: &[Gate])
+pub(crate) fn set_covers(
+    library: &Library,
+    instances: &[Instance],
+    nets: &mut Nets,
+    covers: &[Gate],
+)
     requires nets { IsNets nets.old }
     requires few { length covers.now ≤ most_weight }
-    ensures covers { nets.new ≡ with_covers library.now rows.now nets.old 0 covers.now }
+    ensures covers { nets.new ≡ with_covers library.now instances.now nets.old 0 covers.now }
     ensures nets { IsNets nets.new }
 {
     for (k, gate) in covers.iter().enumerate() {
-        set_cover(library, rows, nets, gate, k as u32);
+        set_cover(library, instances, nets, gate, k as u32);
     }
 }
 
 /// Puts the latches in at their outputs, by their places. It takes time linear in the bytes of their names, on average over
 /// the hashes.
-pub(crate) fn set_latches(library: &Library, rows: &[Instance], nets: &mut Nets, latches: &[Gate])
+pub(crate) fn set_latches(
+    library: &Library,
+    instances: &[Instance],
+    nets: &mut Nets,
+    latches: &[Gate],
+)
     requires nets { IsNets nets.old }
     requires few { length latches.now ≤ most_weight }
-    ensures latches { nets.new ≡ with_latches library.now rows.now nets.old 0 latches.now }
+    ensures latches { nets.new ≡ with_latches library.now instances.now nets.old 0 latches.now }
     ensures nets { IsNets nets.new }
 {
     for (k, gate) in latches.iter().enumerate() {
-        set_latch(library, rows, nets, gate, k as u32);
+        set_latch(library, instances, nets, gate, k as u32);
     }
 }
 
@@ -288,14 +298,14 @@ pub(crate) fn set_inputs(main: &BlifModel, ports: &Ports, nets: &mut Nets)
     set_names(ports, nets, &main.clocks);
 }
 
-/// The nets of all instances. The ports, the rows, the covers and the latches are those of the library, and the empty nets
+/// The nets of all instances. The ports, the instances, the covers and the latches are those of the library, and the empty nets
 /// have slots for them. `Err` comes only for want of memory. It takes time linear in the library's commands and in the bytes
 /// of the names of all instances, on average over the hashes.
 pub(crate) fn fill_nets(
     alloc: Global,
     library: &Library,
     ports: &[Ports],
-    rows: &[Instance],
+    instances: &[Instance],
     covers: &[Gate],
     latches: &[Gate],
     empty: Nets,
@@ -304,22 +314,22 @@ pub(crate) fn fill_nets(
     requires driven { IsDriven library.now }
     requires light { IsLight library.now }
     requires ports { ports.now ≡ map ports_value library.now.models }
-    requires rows { AreInstances library.now rows.now }
-    requires covers { AreGatesAt (paths_of rows.now) covers.now (places_at library.now is_cover (paths_of rows.now)) }
-    requires latches { AreGatesAt (paths_of rows.now) latches.now (places_at library.now is_latch (paths_of rows.now)) }
+    requires instances { AreInstances library.now instances.now }
+    requires covers { AreGatesAt (paths_of instances.now) covers.now (places_at library.now is_cover (paths_of instances.now)) }
+    requires latches { AreGatesAt (paths_of instances.now) latches.now (places_at library.now is_latch (paths_of instances.now)) }
     requires few_covers { length covers.now ≤ most_weight }
     requires few_latches { length latches.now ≤ most_weight }
-    requires empty { AreEmptyNets library.now (paths_of rows.now) empty }
-    ensures { IfOk result (λ nets. AreAllNets library.now rows.now nets) }
+    requires empty { AreEmptyNets library.now (paths_of instances.now) empty }
+    ensures { IfOk result (λ nets. AreAllNets library.now instances.now nets) }
 {
     let main: &BlifModel = &library.models[0];
     let inputs: &Ports = &ports[0];
     let lines = SubcktLines::make(alloc, &library.models)?;
     let mut nets = empty;
-    set_covers(library, rows, &mut nets, covers);
-    set_latches(library, rows, &mut nets, latches);
+    set_covers(library, instances, &mut nets, covers);
+    set_latches(library, instances, &mut nets, latches);
     set_inputs(main, inputs, &mut nets);
-    links_out(&lines, ports, rows, &mut nets);
-    links_in(&lines, ports, rows, &mut nets);
+    links_out(&lines, ports, instances, &mut nets);
+    links_in(&lines, ports, instances, &mut nets);
     Ok(nets)
 }

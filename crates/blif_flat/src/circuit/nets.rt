@@ -16,7 +16,7 @@ pub(crate) struct Start {
     pub first: usize,
 }
 
-/// The nets of the names of all instances. Contracts see a table of them (`specs/Steps/NetTable.antt`).
+/// The nets of the names of all instances. Contracts see a table of them (`specs/Bodies/NetTable.antt`).
 #[derive(Drop)]
 pub(crate) struct Nets {
     /// The names of each model.
@@ -28,7 +28,7 @@ pub(crate) struct Nets {
 }
 
 impl Model for Nets {
-    ghost use Rattle.blif_flat.specs.Steps.NetTable.{NetsValue};
+    ghost use Rattle.blif_flat.specs.Bodies.NetTable.{NetsValue};
 
     ghost Value = { NetsValue };
 
@@ -253,14 +253,14 @@ fn name_count(names: &[NameIndex], model: u32) -> usize
 fn row_starts(
     alloc: Global,
     names: &[NameIndex],
-    rows: &[Instance],
+    instances: &[Instance],
 ) -> Result<(Vec<Start>, usize), AllocError>
-    requires { slot_count names.now rows.now ≤ most_weight }
-    ensures { IfOk result (λ made. (made.0.items ≡ starts_from names.now 0 rows.now) × (made.1 ≡ slot_count names.now rows.now)) }
+    requires { slot_count names.now instances.now ≤ most_weight }
+    ensures { IfOk result (λ made. (made.0.items ≡ starts_from names.now 0 instances.now) × (made.1 ≡ slot_count names.now instances.now)) }
 {
     let mut starts = Vec::new(alloc);
     let mut count = 0;
-    for row in rows {
+    for row in instances {
         starts.push(Start {
             model: row.model,
             first: count,
@@ -278,19 +278,19 @@ fn empty_slots(alloc: Global, count: usize) -> Result<Vec<Option<Net>>, AllocErr
     Ok(slots)
 }
 
-/// Slots for the names of all instances, without nets. The rows are those of the library. `Err` comes only for want of
-/// memory. It takes time linear in the bytes of the library's names and in the rows, on average over the hashes.
+/// Slots for the names of all instances, without nets. The instances are those of the library. `Err` comes only for want of
+/// memory. It takes time linear in the bytes of the library's names and in the instances, on average over the hashes.
 pub(crate) fn make_nets(
     alloc: Global,
     library: &Library,
-    rows: &[Instance],
+    instances: &[Instance],
 ) -> Result<Nets, AllocError>
     requires light { IsLight library.now }
-    requires rows { AreInstances library.now rows.now }
-    ensures { IfOk result (λ nets. AreEmptyNets library.now (paths_of rows.now) nets) }
+    requires instances { AreInstances library.now instances.now }
+    ensures { IfOk result (λ nets. AreEmptyNets library.now (paths_of instances.now) nets) }
 {
     let names = all_distinct_names(alloc, &library.models)?;
-    let (starts, count) = row_starts(alloc, &names, rows)?;
+    let (starts, count) = row_starts(alloc, &names, instances)?;
     let slots = empty_slots(alloc, count)?;
     Ok(Nets::new(names, starts, slots))
 }

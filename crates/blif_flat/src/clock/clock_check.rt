@@ -3,10 +3,11 @@ ghost use Rattle.std.specs.Prelude.{◌≡◌, [], slice_get, Some, None, IfOk, 
 ghost use Rattle.blif_flat.specs.{OrMemory, ModelValue, refusal_of, model_at, inputs_of, IsDriven, Place, AreInstances, paths_of, places_at, is_gate, data_of, ClockData, IsGateAt, AreGatesAt, IsNets, AreAllNets, AreClockMarks, Tells, marked_name, clock_named, name_fault, names_fault, IsConnected, IsFault, IsLight, IsCircuit, AreClockNets};
 
 use crate::circuit::connect::Circuit;
-use crate::circuit::instances::{Gate, GateKind, Instance, gate_body, gates};
+use crate::circuit::instances::{Gate, GateKind, gate_body, gates};
 use crate::circuit::nets::Nets;
 use crate::clock::clocks::clock_marks;
 use crate::clock::controls::check_controls;
+use crate::clock::wiring::Wiring;
 use crate::flat_err::FlatErr;
 use netlist::{BlifModel, Body, Library, Net};
 use std::alloc::Global;
@@ -76,29 +77,41 @@ fn check_names(
 fn check_gate(
     alloc: Global,
     library: &Library,
-    rows: &[Instance],
-    nets: &Nets,
-    inputs: &[Name],
+    wiring: &Wiring<'_>,
     marks: &[bool],
     gate: Gate,
 ) -> Result<(), FlatErr>
-    requires rows { AreInstances library.now rows.now }
-    requires nets { IsNets nets.now }
-    ensures { (p : Place) → IsGateAt (paths_of rows.now) gate p → Tells result (names_fault inputs.now marks.now nets.now gate.row (data_of library.now p)) }
+    requires instances { AreInstances library.now wiring.now.instances.now }
+    requires nets { IsNets wiring.now.nets.now }
+    ensures { (p : Place) → IsGateAt (paths_of wiring.now.instances.now) gate p → Tells result (names_fault wiring.now.inputs.now marks.now wiring.now.nets.now gate.row (data_of library.now p)) }
 {
-    match gate_body(library, rows, gate) {
+    match gate_body(library, wiring.instances, gate) {
         None => Ok(()),
         Some(body) => match body {
-            Body::Cover(cover) => check_names(alloc, nets, inputs, marks, gate.row, &cover.inputs),
-            Body::Latch(latch) => check_name(alloc, nets, inputs, marks, gate.row, &latch.input),
+            Body::Cover(cover) => check_names(
+                alloc,
+                wiring.nets,
+                wiring.inputs,
+                marks,
+                gate.row,
+                &cover.inputs,
+            ),
+            Body::Latch(latch) => check_name(
+                alloc,
+                wiring.nets,
+                wiring.inputs,
+                marks,
+                gate.row,
+                &latch.input,
+            ),
             Body::Subckt(_) => Ok(()),
         },
     }
 }
 
 /// Tells the first clock net that is the input of a cover or a latch, in flat order, or then an output of the main model.
-/// The nets, the rows and the gates (covers and latches in flat order) are those of the library, the inputs those of its
-/// main model, and the marks tell the clock nets among them. It takes time linear in the gates and in the bytes of their
+/// The wiring and the gates (covers and latches in flat order) are those of the library, and the marks tell the clock nets
+/// among the inputs of its main model. It takes time linear in the gates and in the bytes of their
 /// names, on average over the hashes.
 ///
 /// # Errors
@@ -106,26 +119,24 @@ fn check_gate(
 pub(crate) fn check_data(
     alloc: Global,
     library: &Library,
-    rows: &[Instance],
-    nets: &Nets,
+    wiring: &Wiring<'_>,
     gates: &[Gate],
-    inputs: &[Name],
     marks: &[bool],
 ) -> Result<(), FlatErr>
     requires driven { IsDriven library.now }
-    requires rows { AreInstances library.now rows.now }
-    requires nets { AreAllNets library.now rows.now nets.now }
-    requires gates { AreGatesAt (paths_of rows.now) gates.now (places_at library.now is_gate (paths_of rows.now)) }
-    requires inputs { (main : ModelValue) → model_at library.now [] ≡ Some main → inputs.now ≡ inputs_of main }
+    requires instances { AreInstances library.now wiring.now.instances.now }
+    requires nets { AreAllNets library.now wiring.now.instances.now wiring.now.nets.now }
+    requires gates { AreGatesAt (paths_of wiring.now.instances.now) gates.now (places_at library.now is_gate (paths_of wiring.now.instances.now)) }
+    requires inputs { (main : ModelValue) → model_at library.now [] ≡ Some main → wiring.now.inputs.now ≡ inputs_of main }
     requires marks { (main : ModelValue) → model_at library.now [] ≡ Some main → AreClockMarks library.now main marks.now }
-    ensures ok { IfOk result (λ _. (main : ModelValue) → model_at library.now [] ≡ Some main → ClockData library.now main (places_at library.now is_gate (paths_of rows.now)) None) }
-    ensures err { IfErr result (OrMemory refusal_of (λ r. (main : ModelValue) → model_at library.now [] ≡ Some main → ClockData library.now main (places_at library.now is_gate (paths_of rows.now)) (Some r))) }
+    ensures ok { IfOk result (λ _. (main : ModelValue) → model_at library.now [] ≡ Some main → ClockData library.now main (places_at library.now is_gate (paths_of wiring.now.instances.now)) None) }
+    ensures err { IfErr result (OrMemory refusal_of (λ r. (main : ModelValue) → model_at library.now [] ≡ Some main → ClockData library.now main (places_at library.now is_gate (paths_of wiring.now.instances.now)) (Some r))) }
 {
     for gate in gates {
-        check_gate(alloc, library, rows, nets, inputs, marks, *gate)?;
+        check_gate(alloc, library, wiring, marks, *gate)?;
     }
     let main: &BlifModel = &library.models[0];
-    check_names(alloc, nets, inputs, marks, 0, &main.outputs)
+    check_names(alloc, wiring.nets, wiring.inputs, marks, 0, &main.outputs)
 }
 
 /// The input that is the net of the latch controls, and for each input of the main model whether it is a clock net.
@@ -153,28 +164,19 @@ pub(crate) fn check_clocks(
     requires main { slice_get library.now.models 0 ≡ Some main.now }
     requires circuit { IsCircuit library.now circuit.now }
     requires inputs { inputs.now ≡ inputs_of main.now }
-    ensures ok { IfOk result (λ clocks. AreClockNets library.now main.now circuit.now.rows.items clocks) }
+    ensures ok { IfOk result (λ clocks. AreClockNets library.now main.now circuit.now.instances.items clocks) }
     ensures err { IfErr result (OrMemory refusal_of (IsFault library.now)) }
 {
-    let control = check_controls(
-        alloc,
-        library,
-        &circuit.rows,
-        &circuit.nets,
-        &circuit.covers,
-        &circuit.latches,
+    let wiring = Wiring {
+        instances: &circuit.instances,
+        nets: &circuit.nets,
+        covers: &circuit.covers,
+        latches: &circuit.latches,
         inputs,
-    )?;
+    };
+    let control = check_controls(alloc, library, &wiring)?;
     let marks = clock_marks(alloc, main, inputs, control)?;
-    let all = gates(alloc, library, &circuit.rows, GateKind::Either)?;
-    check_data(
-        alloc,
-        library,
-        &circuit.rows,
-        &circuit.nets,
-        &all,
-        inputs,
-        &marks,
-    )?;
+    let all = gates(alloc, library, wiring.instances, GateKind::Either)?;
+    check_data(alloc, library, &wiring, &all, &marks)?;
     Ok(ClockNets { control, marks })
 }

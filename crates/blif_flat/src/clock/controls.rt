@@ -3,7 +3,7 @@ ghost use Rattle.std.specs.Prelude.{◌≡◌, ◌<◌, ℕ, true, false, [], le
 ghost use Rattle.blif_flat.specs.{OrMemory, ModelValue, LatchValue, refusal_of, Path, model_at, inputs_of, IsDriven, IsRead, LatchAt, latch_net, Place, is_cover, is_latch, AreInstances, paths_of, places_at, IsWritten, Clocks, IsGateAt, AreGatesAt, AreAllNets, IsControlled, input_at, IsKeptInput, IsSecond, IsMetInput, IsRefused, ControlNext, ControlFault};
 
 use crate::circuit::instances::{Gate, Instance, gate_at, gate_latch};
-use crate::circuit::nets::Nets;
+use crate::clock::wiring::Wiring;
 use crate::field::written::{write_net, written_cover};
 use crate::flat_err::FlatErr;
 use netlist::{Library, Net};
@@ -14,19 +14,19 @@ use tl_text::Name;
 fn write_latch(
     alloc: Global,
     library: &Library,
-    rows: &[Instance],
+    instances: &[Instance],
     latches: &[Gate],
     k: u32,
 ) -> Result<Name, AllocError>
-    requires rows { AreInstances library.now rows.now }
-    requires latches { AreGatesAt (paths_of rows.now) latches.now (places_at library.now is_latch (paths_of rows.now)) }
+    requires instances { AreInstances library.now instances.now }
+    requires latches { AreGatesAt (paths_of instances.now) latches.now (places_at library.now is_latch (paths_of instances.now)) }
     requires here { k < length latches.now }
-    ensures { IfOk result (λ text. (p : Place) → slice_get (places_at library.now is_latch (paths_of rows.now)) k ≡ Some p → IsWritten library.now (latch_net p.path p.command) text) }
+    ensures { IfOk result (λ text. (p : Place) → slice_get (places_at library.now is_latch (paths_of instances.now)) k ≡ Some p → IsWritten library.now (latch_net p.path p.command) text) }
 {
     let gate = gate_at(latches, k);
-    match gate_latch(library, rows, gate) {
+    match gate_latch(library, instances, gate) {
         None => Name::make(alloc, b""),
-        Some(latch) => write_net(alloc, rows, gate.row, &latch.output),
+        Some(latch) => write_net(alloc, instances, gate.row, &latch.output),
     }
 }
 
@@ -71,36 +71,40 @@ fn keep_input(alloc: Global, inputs: &[Name], first: Option<u32>, j: u32) -> Res
 fn meet_control(
     alloc: Global,
     library: &Library,
-    rows: &[Instance],
-    nets: &Nets,
-    covers: &[Gate],
-    latches: &[Gate],
-    inputs: &[Name],
+    wiring: &Wiring<'_>,
     first: Option<u32>,
     row: u32,
     control: &Name,
 ) -> Result<Option<u32>, FlatErr>
     requires driven { IsDriven library.now }
-    requires rows { AreInstances library.now rows.now }
-    requires nets { AreAllNets library.now rows.now nets.now }
-    requires covers { AreGatesAt (paths_of rows.now) covers.now (places_at library.now is_cover (paths_of rows.now)) }
-    requires latches { AreGatesAt (paths_of rows.now) latches.now (places_at library.now is_latch (paths_of rows.now)) }
-    requires inputs { (main : ModelValue) → model_at library.now [] ≡ Some main → inputs.now ≡ inputs_of main }
-    requires first { (j : ℕ) → first ≡ Some j → j < length inputs.now }
-    requires here { row < length rows.now }
-    ensures ok { IfOk result (λ next. (path : Path) → slice_get (paths_of rows.now) row ≡ Some path → IsRead library.now path control.now
-        → IsMetInput library.now path control.now (input_at inputs.now first) (input_at inputs.now next)) }
-    ensures within { IfOk result (λ next. (j : ℕ) → next ≡ Some j → j < length inputs.now) }
-    ensures err { IfErr result (OrMemory refusal_of (λ r. (path : Path) → slice_get (paths_of rows.now) row ≡ Some path → IsRefused library.now path control.now (input_at inputs.now first) r)) }
+    requires instances { AreInstances library.now wiring.now.instances.now }
+    requires nets { AreAllNets library.now wiring.now.instances.now wiring.now.nets.now }
+    requires covers { AreGatesAt (paths_of wiring.now.instances.now) wiring.now.covers.now (places_at library.now is_cover (paths_of wiring.now.instances.now)) }
+    requires latches { AreGatesAt (paths_of wiring.now.instances.now) wiring.now.latches.now (places_at library.now is_latch (paths_of wiring.now.instances.now)) }
+    requires inputs { (main : ModelValue) → model_at library.now [] ≡ Some main → wiring.now.inputs.now ≡ inputs_of main }
+    requires first { (j : ℕ) → first ≡ Some j → j < length wiring.now.inputs.now }
+    requires here { row < length wiring.now.instances.now }
+    ensures ok { IfOk result (λ next. (path : Path) → slice_get (paths_of wiring.now.instances.now) row ≡ Some path → IsRead library.now path control.now
+        → IsMetInput library.now path control.now (input_at wiring.now.inputs.now first) (input_at wiring.now.inputs.now next)) }
+    ensures within { IfOk result (λ next. (j : ℕ) → next ≡ Some j → j < length wiring.now.inputs.now) }
+    ensures err { IfErr result (OrMemory refusal_of (λ r. (path : Path) → slice_get (paths_of wiring.now.instances.now) row ≡ Some path → IsRefused library.now path control.now (input_at wiring.now.inputs.now first) r)) }
 {
-    match nets.net(row, control.bytes()) {
+    match wiring.nets.net(row, control.bytes()) {
         None => Ok(first),
-        Some(Net::Input(j)) => Ok(Some(keep_input(alloc, inputs, first, j)?)),
+        Some(Net::Input(j)) => Ok(Some(keep_input(alloc, wiring.inputs, first, j)?)),
         Some(Net::Latch(k)) => Err(FlatErr::ClockNotInput(write_latch(
-            alloc, library, rows, latches, k,
+            alloc,
+            library,
+            wiring.instances,
+            wiring.latches,
+            k,
         )?)),
         Some(Net::Cover(k)) => Err(FlatErr::ClockNotInput(written_cover(
-            alloc, library, rows, covers, k,
+            alloc,
+            library,
+            wiring.instances,
+            wiring.covers,
+            k,
         )?)),
     }
 }
@@ -109,42 +113,35 @@ fn meet_control(
 fn check_control(
     alloc: Global,
     library: &Library,
-    rows: &[Instance],
-    nets: &Nets,
-    covers: &[Gate],
-    latches: &[Gate],
-    inputs: &[Name],
+    wiring: &Wiring<'_>,
     first: Option<u32>,
     gate: Gate,
 ) -> Result<Option<u32>, FlatErr>
     requires driven { IsDriven library.now }
-    requires rows { AreInstances library.now rows.now }
-    requires nets { AreAllNets library.now rows.now nets.now }
-    requires covers { AreGatesAt (paths_of rows.now) covers.now (places_at library.now is_cover (paths_of rows.now)) }
-    requires latches { AreGatesAt (paths_of rows.now) latches.now (places_at library.now is_latch (paths_of rows.now)) }
-    requires inputs { (main : ModelValue) → model_at library.now [] ≡ Some main → inputs.now ≡ inputs_of main }
-    requires first { (j : ℕ) → first ≡ Some j → j < length inputs.now }
-    requires here { gate.row < length rows.now }
-    ensures ok { IfOk result (λ next. (p : Place) (l : LatchValue) → IsGateAt (paths_of rows.now) gate p → LatchAt library.now p.path p.command l
-        → ControlNext library.now p.path l.control (input_at inputs.now first) (input_at inputs.now next)) }
-    ensures within { IfOk result (λ next. (j : ℕ) → next ≡ Some j → j < length inputs.now) }
-    ensures err { IfErr result (λ e. OrMemory refusal_of (λ r. (p : Place) (l : LatchValue) → IsGateAt (paths_of rows.now) gate p → LatchAt library.now p.path p.command l
-        → ControlFault library.now p.path l.control (input_at inputs.now first) r) e) }
+    requires instances { AreInstances library.now wiring.now.instances.now }
+    requires nets { AreAllNets library.now wiring.now.instances.now wiring.now.nets.now }
+    requires covers { AreGatesAt (paths_of wiring.now.instances.now) wiring.now.covers.now (places_at library.now is_cover (paths_of wiring.now.instances.now)) }
+    requires latches { AreGatesAt (paths_of wiring.now.instances.now) wiring.now.latches.now (places_at library.now is_latch (paths_of wiring.now.instances.now)) }
+    requires inputs { (main : ModelValue) → model_at library.now [] ≡ Some main → wiring.now.inputs.now ≡ inputs_of main }
+    requires first { (j : ℕ) → first ≡ Some j → j < length wiring.now.inputs.now }
+    requires here { gate.row < length wiring.now.instances.now }
+    ensures ok { IfOk result (λ next. (p : Place) (l : LatchValue) → IsGateAt (paths_of wiring.now.instances.now) gate p → LatchAt library.now p.path p.command l
+        → ControlNext library.now p.path l.control (input_at wiring.now.inputs.now first) (input_at wiring.now.inputs.now next)) }
+    ensures within { IfOk result (λ next. (j : ℕ) → next ≡ Some j → j < length wiring.now.inputs.now) }
+    ensures err { IfErr result (λ e. OrMemory refusal_of (λ r. (p : Place) (l : LatchValue) → IsGateAt (paths_of wiring.now.instances.now) gate p → LatchAt library.now p.path p.command l
+        → ControlFault library.now p.path l.control (input_at wiring.now.inputs.now first) r) e) }
 {
-    match gate_latch(library, rows, gate) {
+    match gate_latch(library, wiring.instances, gate) {
         None => Ok(first),
         Some(latch) => match &latch.control {
             None => Ok(first),
-            Some(control) => meet_control(
-                alloc, library, rows, nets, covers, latches, inputs, first, gate.row, control,
-            ),
+            Some(control) => meet_control(alloc, library, wiring, first, gate.row, control),
         },
     }
 }
 
-/// The number of the input that is the net of all latch controls, and `None` where no latch has a control. The nets, the
-/// rows, the covers and the latches are those of the library, and the inputs those of its main model. It takes time linear
-/// in the latches and in the bytes of their controls, on average over the hashes.
+/// The number of the input that is the net of all latch controls, and `None` where no latch has a control. The wiring
+/// is that of the library. It takes time linear in the latches and in the bytes of their controls, on average over the hashes.
 ///
 /// # Errors
 /// Latch by latch in flat order, `ClockNotInput` where the net of a control is no input of the main model, and then
@@ -152,26 +149,20 @@ fn check_control(
 pub(crate) fn check_controls(
     alloc: Global,
     library: &Library,
-    rows: &[Instance],
-    nets: &Nets,
-    covers: &[Gate],
-    latches: &[Gate],
-    inputs: &[Name],
+    wiring: &Wiring<'_>,
 ) -> Result<Option<u32>, FlatErr>
     requires driven { IsDriven library.now }
-    requires rows { AreInstances library.now rows.now }
-    requires nets { AreAllNets library.now rows.now nets.now }
-    requires covers { AreGatesAt (paths_of rows.now) covers.now (places_at library.now is_cover (paths_of rows.now)) }
-    requires latches { AreGatesAt (paths_of rows.now) latches.now (places_at library.now is_latch (paths_of rows.now)) }
-    requires inputs { (main : ModelValue) → model_at library.now [] ≡ Some main → inputs.now ≡ inputs_of main }
-    ensures ok { IfOk result (λ control. (main : ModelValue) → model_at library.now [] ≡ Some main → IsControlled library.now main (paths_of rows.now) control) }
-    ensures err { IfErr result (OrMemory refusal_of (λ r. Clocks library.now None (places_at library.now is_latch (paths_of rows.now)) (Some r))) }
+    requires instances { AreInstances library.now wiring.now.instances.now }
+    requires nets { AreAllNets library.now wiring.now.instances.now wiring.now.nets.now }
+    requires covers { AreGatesAt (paths_of wiring.now.instances.now) wiring.now.covers.now (places_at library.now is_cover (paths_of wiring.now.instances.now)) }
+    requires latches { AreGatesAt (paths_of wiring.now.instances.now) wiring.now.latches.now (places_at library.now is_latch (paths_of wiring.now.instances.now)) }
+    requires inputs { (main : ModelValue) → model_at library.now [] ≡ Some main → wiring.now.inputs.now ≡ inputs_of main }
+    ensures ok { IfOk result (λ control. (main : ModelValue) → model_at library.now [] ≡ Some main → IsControlled library.now main (paths_of wiring.now.instances.now) control) }
+    ensures err { IfErr result (OrMemory refusal_of (λ r. Clocks library.now None (places_at library.now is_latch (paths_of wiring.now.instances.now)) (Some r))) }
 {
     let mut first: Option<u32> = None;
-    for gate in latches {
-        first = check_control(
-            alloc, library, rows, nets, covers, latches, inputs, first, *gate,
-        )?;
+    for gate in wiring.latches {
+        first = check_control(alloc, library, wiring, first, *gate)?;
     }
     Ok(first)
 }

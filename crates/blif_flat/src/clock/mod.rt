@@ -2,3 +2,4 @@
 pub mod clock_check;
 pub mod clocks;
 pub mod controls;
+pub mod wiring;

@@ -47,7 +47,7 @@ pub(crate) fn assemble(
     requires short { (name : List ℕ) → In (main.now.inputs ++ (main.now.clocks ++ main.now.outputs)) name → length name < 2 ^ 32 }
     requires circuit { IsCircuit library.now circuit.now }
     requires inputs { inputs.now ≡ inputs_of main.now }
-    requires clocks { AreClockNets library.now main.now circuit.now.rows.items clocks.now }
+    requires clocks { AreClockNets library.now main.now circuit.now.instances.items clocks.now }
     ensures flat { IfOk result (λ flat. IsFlat library.now flat) }
     ensures clean { IfOk result (λ _. LoopWalk library.now None) }
     ensures err { IfErr result (OrMemory refusal_of (IsLoop library.now)) }
@@ -56,7 +56,7 @@ pub(crate) fn assemble(
     let covers = flat_covers(
         alloc,
         library,
-        &circuit.rows,
+        &circuit.instances,
         &circuit.nets,
         &numbers,
         &circuit.covers,
@@ -64,16 +64,16 @@ pub(crate) fn assemble(
     let latches = flat_latches(
         alloc,
         library,
-        &circuit.rows,
+        &circuit.instances,
         &circuit.nets,
         &numbers,
         &circuit.latches,
     )?;
-    let outputs = flat_outputs(alloc, library, &circuit.rows, &circuit.nets, &numbers)?;
+    let outputs = flat_outputs(alloc, library, &circuit.instances, &circuit.nets, &numbers)?;
     let order = cover_order(
         alloc,
         library,
-        &circuit.rows,
+        &circuit.instances,
         &circuit.covers,
         &covers,
         &latches,

@@ -77,10 +77,10 @@ pub(crate) fn net_list(
 }
 
 // The number of the model of a row.
-fn model_of(rows: &[Instance], i: u32) -> u32
-    ensures { result ≡ row_model (slice_get rows.now i) }
+fn model_of(instances: &[Instance], i: u32) -> u32
+    ensures { result ≡ row_model (slice_get instances.now i) }
 {
-    match rows.get(i as usize) {
+    match instances.get(i as usize) {
         None => 0,
         Some(row) => row.model,
     }
@@ -102,16 +102,16 @@ fn cover_inputs(body: Option<&Body>) -> &[Name]
 fn flat_cover(
     alloc: Global,
     library: &Library,
-    rows: &[Instance],
+    instances: &[Instance],
     nets: &Nets,
     numbers: &[u32],
     gate: Gate,
 ) -> Result<FlatCover, AllocError>
     requires { IsNets nets.now }
-    ensures { IfOk result (λ cover. cover ≡ cover_of library.now rows.now nets.now numbers.now gate) }
+    ensures { IfOk result (λ cover. cover ≡ cover_of library.now instances.now nets.now numbers.now gate) }
 {
-    let model = model_of(rows, gate.row);
-    let names = cover_inputs(gate_body(library, rows, gate));
+    let model = model_of(instances, gate.row);
+    let names = cover_inputs(gate_body(library, instances, gate));
     let inputs = net_list(alloc, nets, numbers, gate.row, names)?;
     Ok(FlatCover {
         model,
@@ -120,26 +120,26 @@ fn flat_cover(
     })
 }
 
-/// The flat covers. The rows, the nets and the covers are those of the library. `Err` comes only for want of memory. It
+/// The flat covers. The instances, the nets and the covers are those of the library. `Err` comes only for want of memory. It
 /// takes time linear in the bytes of the covers' inputs, on average over the hashes.
 pub(crate) fn flat_covers(
     alloc: Global,
     library: &Library,
-    rows: &[Instance],
+    instances: &[Instance],
     nets: &Nets,
     numbers: &[u32],
     covers: &[Gate],
 ) -> Result<Vec<FlatCover>, AllocError>
     requires driven { IsDriven library.now }
-    requires rows { AreInstances library.now rows.now }
-    requires nets { AreAllNets library.now rows.now nets.now }
-    requires covers { AreGatesAt (paths_of rows.now) covers.now (places_at library.now is_cover (paths_of rows.now)) }
+    requires instances { AreInstances library.now instances.now }
+    requires nets { AreAllNets library.now instances.now nets.now }
+    requires covers { AreGatesAt (paths_of instances.now) covers.now (places_at library.now is_cover (paths_of instances.now)) }
     ensures { IfOk result (λ flat. (r : IsRegular library.now numbers.now)
-        → AreFlatCovers library.now (regular_places library.now r.main r.test (paths_of rows.now)) flat.items) }
+        → AreFlatCovers library.now (regular_places library.now r.main r.test (paths_of instances.now)) flat.items) }
 {
     let mut flat = Vec::new(alloc);
     for &gate in covers {
-        let cover = flat_cover(alloc, library, rows, nets, numbers, gate)?;
+        let cover = flat_cover(alloc, library, instances, nets, numbers, gate)?;
         flat.push(cover)?;
     }
     Ok(flat)
@@ -171,15 +171,15 @@ fn no_latch() -> FlatLatch
 // The flat latch of a gate.
 fn flat_latch(
     library: &Library,
-    rows: &[Instance],
+    instances: &[Instance],
     nets: &Nets,
     numbers: &[u32],
     gate: Gate,
 ) -> FlatLatch
     requires { IsNets nets.now }
-    ensures { result ≡ latch_of_gate library.now rows.now nets.now numbers.now gate }
+    ensures { result ≡ latch_of_gate library.now instances.now nets.now numbers.now gate }
 {
-    match gate_body(library, rows, gate) {
+    match gate_body(library, instances, gate) {
         Some(Body::Latch(latch)) => made_latch(nets, numbers, gate.row, latch),
         Some(Body::Cover(_)) => no_latch(),
         Some(Body::Subckt(_)) => no_latch(),
@@ -191,21 +191,21 @@ fn flat_latch(
 pub(crate) fn flat_latches(
     alloc: Global,
     library: &Library,
-    rows: &[Instance],
+    instances: &[Instance],
     nets: &Nets,
     numbers: &[u32],
     latches: &[Gate],
 ) -> Result<Vec<FlatLatch>, AllocError>
     requires driven { IsDriven library.now }
-    requires rows { AreInstances library.now rows.now }
-    requires nets { AreAllNets library.now rows.now nets.now }
-    requires latches { AreGatesAt (paths_of rows.now) latches.now (places_at library.now is_latch (paths_of rows.now)) }
+    requires instances { AreInstances library.now instances.now }
+    requires nets { AreAllNets library.now instances.now nets.now }
+    requires latches { AreGatesAt (paths_of instances.now) latches.now (places_at library.now is_latch (paths_of instances.now)) }
     ensures { IfOk result (λ flat. (r : IsRegular library.now numbers.now)
-        → AreFlatLatches library.now (regular_places library.now r.main r.test (paths_of rows.now)) flat.items) }
+        → AreFlatLatches library.now (regular_places library.now r.main r.test (paths_of instances.now)) flat.items) }
 {
     let mut flat = Vec::new(alloc);
     for &gate in latches {
-        flat.push(flat_latch(library, rows, nets, numbers, gate))?;
+        flat.push(flat_latch(library, instances, nets, numbers, gate))?;
     }
     Ok(flat)
 }

@@ -54,16 +54,16 @@ fn main_outputs(library: &Library) -> &[Name]
 pub(crate) fn flat_outputs(
     alloc: Global,
     library: &Library,
-    rows: &[Instance],
+    instances: &[Instance],
     nets: &Nets,
     numbers: &[u32],
 ) -> Result<Vec<OutPort>, AllocError>
     requires driven { IsDriven library.now }
-    requires rows { AreInstances library.now rows.now }
-    requires nets { AreAllNets library.now rows.now nets.now }
+    requires instances { AreInstances library.now instances.now }
+    requires nets { AreAllNets library.now instances.now nets.now }
     ensures names { IfOk result (λ flat. (r : IsRegular library.now numbers.now) → map (λ (o : OutPortValue). o.name) flat.items ≡ r.main.outputs) }
     ensures nets { IfOk result (λ flat. (r : IsRegular library.now numbers.now)
-        → AreNetsOf library.now (regular_places library.now r.main r.test (paths_of rows.now)) [] r.main.outputs (map (λ (o : OutPortValue). o.net) flat.items)) }
+        → AreNetsOf library.now (regular_places library.now r.main r.test (paths_of instances.now)) [] r.main.outputs (map (λ (o : OutPortValue). o.net) flat.items)) }
 {
     let ports = out_ports(alloc, nets, numbers, main_outputs(library))?;
     Ok(ports)

@@ -47,7 +47,7 @@ struct Reads<'a> {
 }
 
 impl Successors for Reads<'_> {
-    ghost use Rattle.blif_flat.specs.Steps.FieldSteps.{cover_edges};
+    ghost use Rattle.blif_flat.specs.Bodies.FieldSteps.{cover_edges};
 
     type Stop = ();
 
@@ -163,25 +163,25 @@ fn all_roots(
 fn written_covers(
     alloc: Global,
     library: &Library,
-    rows: &[Instance],
+    instances: &[Instance],
     gates: &[Gate],
     numbers: &[u32],
 ) -> Result<Vec<Name>, AllocError>
-    requires rows { AreInstances library.now rows.now }
-    requires gates { AreGatesAt (paths_of rows.now) gates.now (places_at library.now is_cover (paths_of rows.now)) }
+    requires instances { AreInstances library.now instances.now }
+    requires gates { AreGatesAt (paths_of instances.now) gates.now (places_at library.now is_cover (paths_of instances.now)) }
     requires here { (number : ℕ) → In numbers.now number → number < length gates.now }
-    ensures { IfOk result (λ texts. AreWrittenAt library.now (places_at library.now is_cover (paths_of rows.now)) numbers.now texts.items) }
+    ensures { IfOk result (λ texts. AreWrittenAt library.now (places_at library.now is_cover (paths_of instances.now)) numbers.now texts.items) }
 {
     let mut texts = Vec::new(alloc);
     for &number in numbers {
-        let text = written_cover(alloc, library, rows, gates, number)?;
+        let text = written_cover(alloc, library, instances, gates, number)?;
         texts.push(text)?;
     }
     Ok(texts)
 }
 
 /// The covers that the roots reach, the outputs first and then the latch inputs, in depth-first postorder, left to right.
-/// The rows and the gates of the covers are those of the library, and so are the flat covers, latches and outputs. It takes
+/// The instances and the gates of the covers are those of the library, and so are the flat covers, latches and outputs. It takes
 /// time linear in the covers' inputs.
 ///
 /// # Errors
@@ -189,16 +189,16 @@ fn written_covers(
 pub(crate) fn cover_order(
     alloc: Global,
     library: &Library,
-    rows: &[Instance],
+    instances: &[Instance],
     gates: &[Gate],
     covers: &[FlatCover],
     latches: &[FlatLatch],
     outputs: &[OutPort],
 ) -> Result<Vec<u32>, FlatErr>
     requires driven { IsDriven library.now }
-    requires rows { AreInstances library.now rows.now }
-    requires gates { AreGatesAt (paths_of rows.now) gates.now (places_at library.now is_cover (paths_of rows.now)) }
-    requires walked { AreCounted library.now (paths_of rows.now) (map (λ (o : OutPortValue). o.net) outputs.now) covers.now latches.now }
+    requires instances { AreInstances library.now instances.now }
+    requires gates { AreGatesAt (paths_of instances.now) gates.now (places_at library.now is_cover (paths_of instances.now)) }
+    requires walked { AreCounted library.now (paths_of instances.now) (map (λ (o : OutPortValue). o.net) outputs.now) covers.now latches.now }
     requires few { length covers.now ≤ most_weight }
     ensures clean { IfOk result (λ order. LoopWalk library.now None) }
     ensures order { IfOk result (λ order. PostsAll (cover_reads covers.now) [] (root_numbers (map (λ (o : OutPortValue). o.net) outputs.now) latches.now) (reverse order.items)) }
@@ -208,7 +208,7 @@ pub(crate) fn cover_order(
     match walk_covers(alloc, covers, &roots)? {
         Found::Order(order) => Ok(order),
         Found::Loop(nodes) => {
-            let texts = written_covers(alloc, library, rows, gates, &nodes)?;
+            let texts = written_covers(alloc, library, instances, gates, &nodes)?;
             Err(FlatErr::Loop(Names::make(texts)))
         }
     }

@@ -12,23 +12,23 @@ use std::alloc::{AllocError, Global};
 use tl_text::Name;
 
 // A row of the instances.
-fn row_at(rows: &[Instance], i: u32) -> Instance
-    requires { i < length rows.now }
-    ensures { slice_get rows.now i ≡ Some result }
+fn row_at(instances: &[Instance], i: u32) -> Instance
+    requires { i < length instances.now }
+    ensures { slice_get instances.now i ≡ Some result }
 {
-    rows[i as usize]
+    instances[i as usize]
 }
 
 // The path of a row: its ordinal, then those of the instances that it stands in.
-fn path_at(alloc: Global, rows: &[Instance], i: u32) -> Result<Vec<u32>, AllocError>
-    requires rows { AreUnder rows.now }
-    requires here { i < length rows.now }
-    ensures { IfOk result (λ path. slice_get (paths_of rows.now) i ≡ Some path.items) }
+fn path_at(alloc: Global, instances: &[Instance], i: u32) -> Result<Vec<u32>, AllocError>
+    requires instances { AreUnder instances.now }
+    requires here { i < length instances.now }
+    ensures { IfOk result (λ path. slice_get (paths_of instances.now) i ≡ Some path.items) }
 {
     let mut path = Vec::new(alloc);
     let mut at = i;
-    while let Some(parent) = row_at(rows, at).parent {
-        path.push(row_at(rows, at).ordinal)?;
+    while let Some(parent) = row_at(instances, at).parent {
+        path.push(row_at(instances, at).ordinal)?;
         at = parent;
     }
     Ok(path)
@@ -57,12 +57,17 @@ fn written_path(alloc: Global, path: Vec<u32>) -> Result<Vec<u8>, AllocError>
 }
 
 // A text behind the path of a row.
-fn written_under(alloc: Global, rows: &[Instance], i: u32, name: &[u8]) -> Result<Name, AllocError>
-    requires rows { AreUnder rows.now }
-    requires here { i < length rows.now }
-    ensures { IfOk result (λ text. (path : Path) → slice_get (paths_of rows.now) i ≡ Some path → text ≡ path_text path ++ name.now) }
+fn written_under(
+    alloc: Global,
+    instances: &[Instance],
+    i: u32,
+    name: &[u8],
+) -> Result<Name, AllocError>
+    requires instances { AreUnder instances.now }
+    requires here { i < length instances.now }
+    ensures { IfOk result (λ text. (path : Path) → slice_get (paths_of instances.now) i ≡ Some path → text ≡ path_text path ++ name.now) }
 {
-    let path = path_at(alloc, rows, i)?;
+    let path = path_at(alloc, instances, i)?;
     let mut text = written_path(alloc, path)?;
     text.extend_from_slice(name)?;
     Name::make(alloc, text.as_slice())
@@ -72,15 +77,15 @@ fn written_under(alloc: Global, rows: &[Instance], i: u32, name: &[u8]) -> Resul
 /// the outside in, and then the name. `Err` comes only for want of memory. It takes time linear in the bytes of the text.
 pub(crate) fn write_net(
     alloc: Global,
-    rows: &[Instance],
+    instances: &[Instance],
     i: u32,
     name: &Name,
 ) -> Result<Name, AllocError>
-    requires rows { AreUnder rows.now }
-    requires here { i < length rows.now }
-    ensures { IfOk result (λ text. (path : Path) → slice_get (paths_of rows.now) i ≡ Some path → text ≡ path_text path ++ name.now) }
+    requires instances { AreUnder instances.now }
+    requires here { i < length instances.now }
+    ensures { IfOk result (λ text. (path : Path) → slice_get (paths_of instances.now) i ≡ Some path → text ≡ path_text path ++ name.now) }
 {
-    written_under(alloc, rows, i, name.bytes())
+    written_under(alloc, instances, i, name.bytes())
 }
 
 // The output of the cover of a command, and nothing where there is no cover.
@@ -111,17 +116,17 @@ fn output_at(library: &Library, model: u32, command: u32) -> &[u8]
 fn write_cover(
     alloc: Global,
     library: &Library,
-    rows: &[Instance],
+    instances: &[Instance],
     i: u32,
     command: u32,
 ) -> Result<Name, AllocError>
-    requires rows { AreInstances library.now rows.now }
-    requires here { i < length rows.now }
-    ensures { IfOk result (λ text. (path : Path) (c : CoverValue) → slice_get (paths_of rows.now) i ≡ Some path
+    requires instances { AreInstances library.now instances.now }
+    requires here { i < length instances.now }
+    ensures { IfOk result (λ text. (path : Path) (c : CoverValue) → slice_get (paths_of instances.now) i ≡ Some path
         → CoverAt library.now path command c → IsWritten library.now (cover_net path command) text) }
 {
-    let model = row_at(rows, i).model;
-    let text = written_under(alloc, rows, i, output_at(library, model, command))?;
+    let model = row_at(instances, i).model;
+    let text = written_under(alloc, instances, i, output_at(library, model, command))?;
     Ok(text)
 }
 
@@ -130,16 +135,16 @@ fn write_cover(
 pub(crate) fn written_cover(
     alloc: Global,
     library: &Library,
-    rows: &[Instance],
+    instances: &[Instance],
     gates: &[Gate],
     number: u32,
 ) -> Result<Name, AllocError>
-    requires rows { AreInstances library.now rows.now }
-    requires gates { AreGatesAt (paths_of rows.now) gates.now (places_at library.now is_cover (paths_of rows.now)) }
+    requires instances { AreInstances library.now instances.now }
+    requires gates { AreGatesAt (paths_of instances.now) gates.now (places_at library.now is_cover (paths_of instances.now)) }
     requires here { number < length gates.now }
-    ensures { IfOk result (λ text. IsWrittenAt library.now (places_at library.now is_cover (paths_of rows.now)) number text) }
+    ensures { IfOk result (λ text. IsWrittenAt library.now (places_at library.now is_cover (paths_of instances.now)) number text) }
 {
     let gate = gates[number as usize];
-    let text = write_cover(alloc, library, rows, gate.row, gate.command)?;
+    let text = write_cover(alloc, library, instances, gate.row, gate.command)?;
     Ok(text)
 }

@@ -1,6 +1,6 @@
 //! The names that are driven twice, and those that are read and aren't driven.
 ghost use Rattle.std.specs.Prelude.{◌≡◌, ℕ, List, [], ◌∷◌, ◌++◌, map, None, slice_get, MatchOption, MatchResult};
-ghost use Rattle.blif_flat.specs.{ModelValue, Memory, model_named, has_name, ports_value, model_names, output_actuals, input_actuals, driven_pairs, read_pairs, with_control, drives, reads, all_drives, twice_in, twice_fault, undriven_in, undriven_fault, model_fault, models_fault, Tells, Adds, ArePortsOf, AreOf, fault_of, models_at};
+ghost use Rattle.blif_flat.specs.{ModelValue, Memory, model_named, has_name, ports_value, model_names, output_actuals, input_actuals, driven_pairs, read_pairs, control_names, drives, reads, all_drives, twice_in, twice_fault, undriven_in, undriven_fault, model_fault, models_fault, Tells, Adds, ArePortsOf, AreOf, fault_of, models_at};
 ghost use Rattle.netlist.specs.LibraryValue.{LibraryValue};
 
 use crate::flat_err::FlatErr;
@@ -176,7 +176,7 @@ fn check_subckt(site: &Site, driven: &Driven, subckt: &Subckt) -> Result<(), Fla
 }
 
 fn check_latch(site: &Site, driven: &Driven, latch: &Latch) -> Result<(), FlatErr>
-    ensures { Tells result (undriven_in site.now.model.now site.now.line driven.now (latch.now.input ∷ with_control latch.now.control)) }
+    ensures { Tells result (undriven_in site.now.model.now site.now.line driven.now (latch.now.input ∷ control_names latch.now.control)) }
 {
     check_driven(site, driven, &latch.input)?;
     match &latch.control {

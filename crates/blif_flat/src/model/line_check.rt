@@ -5,7 +5,7 @@ ghost use Rattle.depth_first.specs.Walk.{from_node};
 ghost use Rattle.blif_flat.specs.{UnknownModel as unknown_model_of, UnknownFormal as unknown_formal_of, Unconnected as unconnected_of, IsTold, ports_value, foreign_formal, open_among, ports_fault, AreOnce, ModelValue, RecursiveModel as recursive_model_of, model_names, with_name_of, names_at, IsPlacing, line_fault};
 
 use crate::flat_err::FlatErr;
-use crate::model::ports::{ModelIndex, Ports, formal_index};
+use crate::model::ports::{Models, Ports, formal_index};
 use depth_first::Walk;
 use netlist::{BlifModel, Pair, Subckt};
 use std::alloc::{AllocError, Global};
@@ -161,20 +161,19 @@ fn recursive_model(
 // F3 and F4 of a line that places the model of a number.
 fn check_child(
     alloc: Global,
-    models: &[BlifModel],
-    ports: &[Ports],
+    models: &Models<'_>,
     n: u32,
     model: &BlifModel,
     line: u32,
     subckt: &Subckt,
 ) -> Result<(), FlatErr>
-    requires within { n < length models.now }
-    requires ports { ports.now ≡ map ports_value models.now }
-    ensures ok { OnOk result ((child : ModelValue) → slice_get models.now n ≡ Some child → ports_fault model.now line subckt.now child ≡ None) }
-    ensures err { IfErr result (λ e. (child : ModelValue) → slice_get models.now n ≡ Some child → IsTold e (ports_fault model.now line subckt.now child)) }
+    requires within { n < length models.now.list.now }
+    requires ports { models.now.ports.now ≡ map ports_value models.now.list.now }
+    ensures ok { OnOk result ((child : ModelValue) → slice_get models.now.list.now n ≡ Some child → ports_fault model.now line subckt.now child ≡ None) }
+    ensures err { IfErr result (λ e. (child : ModelValue) → slice_get models.now.list.now n ≡ Some child → IsTold e (ports_fault model.now line subckt.now child)) }
 {
-    let child = &models[n as usize];
-    let child_ports = &ports[n as usize];
+    let child = &models.list[n as usize];
+    let child_ports = &models.ports[n as usize];
     check_ports(alloc, model, line, subckt, child, child_ports)
 }
 
@@ -182,27 +181,25 @@ fn check_child(
 /// are being walked.
 pub(crate) fn check_line(
     alloc: Global,
-    models: &[BlifModel],
-    index: &ModelIndex,
-    ports: &[Ports],
+    models: &Models<'_>,
     walk: &Walk,
     model: &BlifModel,
     line: u32,
     subckt: &Subckt,
 ) -> Result<u32, FlatErr>
-    requires index { index.now.names ≡ model_names models.now }
-    requires ports { ports.now ≡ map ports_value models.now }
-    requires names { AreOnce (model_names models.now) }
-    ensures ok { IfOk result (λ n. IsPlacing models.now walk.now.path model.now (record { line = line; subckt = subckt.now }) n) }
-    ensures err { IfErr result (λ e. IsTold e (line_fault (record { models = models.now }) (names_at models.now walk.now.path) model.now (record { line = line; subckt = subckt.now }))) }
+    requires index { models.now.index.now.names ≡ model_names models.now.list.now }
+    requires ports { models.now.ports.now ≡ map ports_value models.now.list.now }
+    requires names { AreOnce (model_names models.now.list.now) }
+    ensures ok { IfOk result (λ n. IsPlacing models.now.list.now walk.now.path model.now (record { line = line; subckt = subckt.now }) n) }
+    ensures err { IfErr result (λ e. IsTold e (line_fault (record { models = models.now.list.now }) (names_at models.now.list.now walk.now.path) model.now (record { line = line; subckt = subckt.now }))) }
 {
-    match index.find(subckt.model.bytes()) {
+    match models.index.find(subckt.model.bytes()) {
         None => Err(unknown_model(alloc, &model.name, line, &subckt.model)?),
         Some(n) => {
             if walk.is_on_path(n) {
-                return Err(recursive_model(alloc, models, walk, n, &subckt.model)?);
+                return Err(recursive_model(alloc, models.list, walk, n, &subckt.model)?);
             }
-            check_child(alloc, models, ports, n, model, line, subckt)?;
+            check_child(alloc, models, n, model, line, subckt)?;
             Ok(n)
         }
     }

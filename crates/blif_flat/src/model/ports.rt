@@ -113,3 +113,11 @@ impl ModelIndex {
         }
     }
 }
+
+/// The models of a library, with what finds a name among them and the ports of each.
+#[derive(Drop)]
+pub(crate) struct Models<'a> {
+    pub list: &'a [BlifModel],
+    pub index: &'a ModelIndex,
+    pub ports: &'a [Ports],
+}

@@ -5,7 +5,7 @@ ghost use Rattle.blif_flat.specs.{AreOnce, refusal_of, ports_value, model_names,
 
 use crate::flat_err::FlatErr;
 use crate::model::line_check::check_line;
-use crate::model::ports::{ModelIndex, Ports};
+use crate::model::ports::{ModelIndex, Models, Ports};
 use depth_first::{Edge, Successors, Walk};
 use netlist::{BlifModel, Body, Command, Library, Subckt};
 use std::alloc::{AllocError, Global};
@@ -23,21 +23,19 @@ fn stop(error: FlatErr) -> Result<Edge<()>, AllocError>
 // The edge of a line; the walk has not begun.
 fn edge(
     alloc: Global,
-    models: &[BlifModel],
-    index: &ModelIndex,
-    ports: &[Ports],
+    models: &Models<'_>,
     walk: &Walk,
     model: &BlifModel,
     line: u32,
     subckt: &Subckt,
 ) -> Result<Edge<()>, AllocError>
-    requires index { index.now.names ≡ model_names models.now }
-    requires ports { ports.now ≡ map ports_value models.now }
-    requires names { AreOnce (model_names models.now) }
+    requires index { models.now.index.now.names ≡ model_names models.now.list.now }
+    requires ports { models.now.ports.now ≡ map ports_value models.now.list.now }
+    requires names { AreOnce (model_names models.now.list.now) }
     requires path { walk.now.path ≡ [] }
-    ensures { IfOk result (λ edge. edge ≡ line_edge models.now model.now (record { line = line; subckt = subckt.now })) }
+    ensures { IfOk result (λ edge. edge ≡ line_edge models.now.list.now model.now (record { line = line; subckt = subckt.now })) }
 {
-    match check_line(alloc, models, index, ports, walk, model, line, subckt) {
+    match check_line(alloc, models, walk, model, line, subckt) {
         Ok(n) => Ok(Edge::Node(n)),
         Err(error) => stop(error),
     }
@@ -46,53 +44,40 @@ fn edge(
 // The edge of a command.
 fn command_edge(
     alloc: Global,
-    models: &[BlifModel],
-    index: &ModelIndex,
-    ports: &[Ports],
+    models: &Models<'_>,
     walk: &Walk,
     model: &BlifModel,
     command: &Command,
 ) -> Result<Edge<()>, AllocError>
-    requires index { index.now.names ≡ model_names models.now }
-    requires ports { ports.now ≡ map ports_value models.now }
-    requires names { AreOnce (model_names models.now) }
+    requires index { models.now.index.now.names ≡ model_names models.now.list.now }
+    requires ports { models.now.ports.now ≡ map ports_value models.now.list.now }
+    requires names { AreOnce (model_names models.now.list.now) }
     requires path { walk.now.path ≡ [] }
-    ensures { IfOk result (λ edge. edge ≡ body_edge models.now model.now command.now.line command.now.body) }
+    ensures { IfOk result (λ edge. edge ≡ body_edge models.now.list.now model.now command.now.line command.now.body) }
 {
     match &command.body {
         Body::Cover(_) => Ok(Edge::Pass),
         Body::Latch(_) => Ok(Edge::Pass),
-        Body::Subckt(subckt) => edge(
-            alloc,
-            models,
-            index,
-            ports,
-            walk,
-            model,
-            command.line,
-            subckt,
-        ),
+        Body::Subckt(subckt) => edge(alloc, models, walk, model, command.line, subckt),
     }
 }
 
 // The edges of a model.
 fn edges(
     alloc: Global,
-    models: &[BlifModel],
-    index: &ModelIndex,
-    ports: &[Ports],
+    models: &Models<'_>,
     walk: &Walk,
     model: &BlifModel,
 ) -> Result<Vec<Edge<()>>, AllocError>
-    requires index { index.now.names ≡ model_names models.now }
-    requires ports { ports.now ≡ map ports_value models.now }
-    requires names { AreOnce (model_names models.now) }
+    requires index { models.now.index.now.names ≡ model_names models.now.list.now }
+    requires ports { models.now.ports.now ≡ map ports_value models.now.list.now }
+    requires names { AreOnce (model_names models.now.list.now) }
     requires path { walk.now.path ≡ [] }
-    ensures { IfOk result (λ row. row.items ≡ commands_edges models.now model.now model.now.commands) }
+    ensures { IfOk result (λ row. row.items ≡ commands_edges models.now.list.now model.now model.now.commands) }
 {
     let mut row = Vec::new(alloc);
     for command in &model.commands {
-        row.push(command_edge(alloc, models, index, ports, walk, model, command)?)?;
+        row.push(command_edge(alloc, models, walk, model, command)?)?;
     }
     Ok(row)
 }
@@ -108,20 +93,18 @@ impl ModelGraph {
     /// over the hashes.
     pub(crate) fn make(
         alloc: Global,
-        models: &[BlifModel],
-        index: &ModelIndex,
-        ports: &[Ports],
+        models: &Models<'_>,
         walk: &Walk,
     ) -> Result<ModelGraph, AllocError>
-        requires index { index.now.names ≡ model_names models.now }
-        requires ports { ports.now ≡ map ports_value models.now }
-        requires names { AreOnce (model_names models.now) }
+        requires index { models.now.index.now.names ≡ model_names models.now.list.now }
+        requires ports { models.now.ports.now ≡ map ports_value models.now.list.now }
+        requires names { AreOnce (model_names models.now.list.now) }
         requires path { walk.now.path ≡ [] }
-        ensures { IfOk result (λ graph. map (λ row. row.items) graph.rows.items ≡ edge_rows models.now models.now) }
+        ensures { IfOk result (λ graph. map (λ row. row.items) graph.rows.items ≡ edge_rows models.now.list.now models.now.list.now) }
     {
         let mut rows = Vec::new(alloc);
-        for model in models {
-            rows.push(edges(alloc, models, index, ports, walk, model)?)?;
+        for model in models.list {
+            rows.push(edges(alloc, models, walk, model)?)?;
         }
         Ok(ModelGraph { rows })
     }
@@ -129,7 +112,7 @@ impl ModelGraph {
 
 impl Successors for ModelGraph {
     ghost use Rattle.std.specs.Prelude.{◌<◌, length};
-    ghost use Rattle.blif_flat.specs.Steps.ModelSteps.{edges_at};
+    ghost use Rattle.blif_flat.specs.Bodies.ModelSteps.{edges_at};
 
     type Stop = ();
 
@@ -151,33 +134,22 @@ impl Successors for ModelGraph {
 // The first fault of a command.
 fn check_command(
     alloc: Global,
-    models: &[BlifModel],
-    index: &ModelIndex,
-    ports: &[Ports],
+    models: &Models<'_>,
     walk: &Walk,
     model: &BlifModel,
     command: &Command,
 ) -> Result<(), FlatErr>
-    requires index { index.now.names ≡ model_names models.now }
-    requires ports { ports.now ≡ map ports_value models.now }
-    requires names { AreOnce (model_names models.now) }
-    ensures ok { OnOk result ((lines : List SubcktLine) → lines_fault models.now (names_at models.now walk.now.path) model.now (with_line command.now.line command.now.body lines) ≡ lines_fault models.now (names_at models.now walk.now.path) model.now lines) }
-    ensures err { IfErr result (λ e. (lines : List SubcktLine) → IsTold e (lines_fault models.now (names_at models.now walk.now.path) model.now (with_line command.now.line command.now.body lines))) }
+    requires index { models.now.index.now.names ≡ model_names models.now.list.now }
+    requires ports { models.now.ports.now ≡ map ports_value models.now.list.now }
+    requires names { AreOnce (model_names models.now.list.now) }
+    ensures ok { OnOk result ((lines : List SubcktLine) → lines_fault models.now.list.now (names_at models.now.list.now walk.now.path) model.now (with_line command.now.line command.now.body lines) ≡ lines_fault models.now.list.now (names_at models.now.list.now walk.now.path) model.now lines) }
+    ensures err { IfErr result (λ e. (lines : List SubcktLine) → IsTold e (lines_fault models.now.list.now (names_at models.now.list.now walk.now.path) model.now (with_line command.now.line command.now.body lines))) }
 {
     match &command.body {
         Body::Cover(_) => Ok(()),
         Body::Latch(_) => Ok(()),
         Body::Subckt(subckt) => {
-            check_line(
-                alloc,
-                models,
-                index,
-                ports,
-                walk,
-                model,
-                command.line,
-                subckt,
-            )?;
+            check_line(alloc, models, walk, model, command.line, subckt)?;
             Ok(())
         }
     }
@@ -186,68 +158,55 @@ fn check_command(
 // The first fault of a model's lines.
 fn check_commands(
     alloc: Global,
-    models: &[BlifModel],
-    index: &ModelIndex,
-    ports: &[Ports],
+    models: &Models<'_>,
     walk: &Walk,
     model: &BlifModel,
 ) -> Result<(), FlatErr>
-    requires index { index.now.names ≡ model_names models.now }
-    requires ports { ports.now ≡ map ports_value models.now }
-    requires names { AreOnce (model_names models.now) }
-    ensures ok { OnOk result (lines_fault models.now (names_at models.now walk.now.path) model.now (subckt_lines model.now.commands) ≡ None) }
-    ensures err { IfErr result (λ e. IsTold e (lines_fault models.now (names_at models.now walk.now.path) model.now (subckt_lines model.now.commands))) }
+    requires index { models.now.index.now.names ≡ model_names models.now.list.now }
+    requires ports { models.now.ports.now ≡ map ports_value models.now.list.now }
+    requires names { AreOnce (model_names models.now.list.now) }
+    ensures ok { OnOk result (lines_fault models.now.list.now (names_at models.now.list.now walk.now.path) model.now (subckt_lines model.now.commands) ≡ None) }
+    ensures err { IfErr result (λ e. IsTold e (lines_fault models.now.list.now (names_at models.now.list.now walk.now.path) model.now (subckt_lines model.now.commands))) }
 {
     for command in &model.commands {
-        check_command(alloc, models, index, ports, walk, model, command)?;
+        check_command(alloc, models, walk, model, command)?;
     }
     Ok(())
 }
 
 // The first fault of the lines of the path's last model.
-fn check_path(
-    alloc: Global,
-    models: &[BlifModel],
-    index: &ModelIndex,
-    ports: &[Ports],
-    walk: &Walk,
-) -> Result<(), FlatErr>
-    requires index { index.now.names ≡ model_names models.now }
-    requires ports { ports.now ≡ map ports_value models.now }
-    requires names { AreOnce (model_names models.now) }
-    ensures ok { OnOk result (path_fault models.now walk.now.path ≡ None) }
-    ensures err { IfErr result (λ e. IsTold e (path_fault models.now walk.now.path)) }
+fn check_path(alloc: Global, models: &Models<'_>, walk: &Walk) -> Result<(), FlatErr>
+    requires index { models.now.index.now.names ≡ model_names models.now.list.now }
+    requires ports { models.now.ports.now ≡ map ports_value models.now.list.now }
+    requires names { AreOnce (model_names models.now.list.now) }
+    ensures ok { OnOk result (path_fault models.now.list.now walk.now.path ≡ None) }
+    ensures err { IfErr result (λ e. IsTold e (path_fault models.now.list.now walk.now.path)) }
 {
     match walk.last() {
         None => Ok(()),
-        Some(n) => match models.get(n as usize) {
+        Some(n) => match models.list.get(n as usize) {
             None => Ok(()),
-            Some(model) => check_commands(alloc, models, index, ports, walk, model),
+            Some(model) => check_commands(alloc, models, walk, model),
         },
     }
 }
 
 // The walk of models that have distinct names.
-fn walk_slice(
-    alloc: Global,
-    models: &[BlifModel],
-    index: &ModelIndex,
-    ports: &[Ports],
-) -> Result<Walk, FlatErr>
-    requires index { index.now.names ≡ model_names models.now }
-    requires ports { ports.now ≡ map ports_value models.now }
-    requires names { AreOnce (model_names models.now) }
-    requires some { 0 < length models.now }
-    ensures ok { IfOk result (λ w. (main : ModelValue) → slice_get models.now 0 ≡ Some main → WalksMain (record { models = models.now }) main (walked (models_at models.now (reverse w.begun)))) }
-    ensures children { IfOk result (λ w. AreChildrenFirst (record { models = models.now }) (reverse w.order)) }
+fn walk_slice(alloc: Global, models: &Models<'_>) -> Result<Walk, FlatErr>
+    requires index { models.now.index.now.names ≡ model_names models.now.list.now }
+    requires ports { models.now.ports.now ≡ map ports_value models.now.list.now }
+    requires names { AreOnce (model_names models.now.list.now) }
+    requires some { 0 < length models.now.list.now }
+    ensures ok { IfOk result (λ w. (main : ModelValue) → slice_get models.now.list.now 0 ≡ Some main → WalksMain (record { models = models.now.list.now }) main (walked (models_at models.now.list.now (reverse w.begun)))) }
+    ensures children { IfOk result (λ w. AreChildrenFirst (record { models = models.now.list.now }) (reverse w.order)) }
     ensures main { IfOk result (λ w. In w.order 0) }
-    ensures err { IfErr result (λ e. (main : ModelValue) → slice_get models.now 0 ≡ Some main → OrMemory refusal_of (λ r. WalksMain (record { models = models.now }) main (refused r)) e) }
+    ensures err { IfErr result (λ e. (main : ModelValue) → slice_get models.now.list.now 0 ≡ Some main → OrMemory refusal_of (λ r. WalksMain (record { models = models.now.list.now }) main (refused r)) e) }
 {
-    let mut walk = Walk::make(alloc, models.len())?;
-    let graph = ModelGraph::make(alloc, models, index, ports, &walk)?;
+    let mut walk = Walk::make(alloc, models.list.len())?;
+    let graph = ModelGraph::make(alloc, models, &walk)?;
     match walk.visit(&graph, 0)? {
         None => Ok(walk),
-        Some(_) => match check_path(alloc, models, index, ports, &walk) {
+        Some(_) => match check_path(alloc, models, &walk) {
             Ok(()) => unreachable!(),
             Err(error) => Err(error),
         },
@@ -276,5 +235,10 @@ pub(crate) fn walk_models(
     ensures main { IfOk result (λ w. In w.order 0) }
     ensures err { IfErr result (λ e. (main : ModelValue) → slice_get library.now.models 0 ≡ Some main → OrMemory refusal_of (λ r. WalksMain library.now main (refused r)) e) }
 {
-    walk_slice(alloc, &library.models, index, ports)
+    let models = Models {
+        list: &library.models,
+        index,
+        ports,
+    };
+    walk_slice(alloc, &models)
 }

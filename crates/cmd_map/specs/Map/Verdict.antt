@@ -1,5 +1,5 @@
 -- The walk of `map`.
-use Rattle.std.specs.Prelude.{ℕ, List, [], ◌∷◌}
+use Rattle.std.specs.Prelude.{◌≡◌, ℕ, List, [], ◌∷◌}
 use Rattle.tl_io.specs.Shelf.{Files}
 use Rattle.cover_pick.specs.Template.{TemplateValue}
 use Rattle.ppc_pack.specs.Pack.{PackValue}
@@ -8,7 +8,7 @@ use Rattle.cmd_base.specs.Walk.{Walk}
 use Rattle.cmd_base.specs.Writing.{FileText, AreWritten, IsCut}
 use Rattle.cmd_stations.specs.declared.source.Source.{Source}
 use Rattle.cmd_stations.specs.Mapped.{template_header}
-use Rattle.cmd_stations.specs.Source.{HasMapped, IsMappedFrom}
+use Rattle.cmd_stations.specs.Source.{HasMapped, IsLeastMapped, IsMappedFrom}
 use Rattle.cmd_stations.specs.Settled.{source_reading}
 use Rattle.cmd_stations.specs.Tunable.{IsTunable}
 use Rattle.cmd_stations.specs.Written.{IsTuned, template_of}
@@ -16,12 +16,13 @@ use Rattle.cmd_map.specs.Map.Replay.{ReplaysMachine}
 use Rattle.cmd_map.specs.Map.Words.{MapWords}
 use Rattle.cmd_stations.specs.Packs.{present_bytes}
 
--- The source circuit that the files hold was mapped. One file has the netlist of its tables with their bits as inputs; the other is the file, in version 2, of the pack of these bits as functions of the parameters. Read again, the
+-- The source circuit that the files hold was mapped, with the least depth. One file has the netlist of its tables with their bits as inputs; the other is the file, in version 2, of the pack of these bits as functions of the parameters. Read again, the
 -- netlist has the source circuit's cycles wherever these inputs have the configuration of values of the parameters; and for events of the host the pack is played as the machine of the tables plays them.
 pub record HasMap (files : Files) (words : MapWords) (Ends : List FileText → List ℕ → Type 0) : Type 0 where
   pub source : Source
   pub template : TemplateValue
   pub mapped : HasMapped files words.source source template
+  pub law : IsLeastMapped files words.source source template mapped
   pub pack : PackValue
   pub tunable : IsTunable source template pack
   pub ends : Ends (record { name = words.template; bytes = netlist_text (template_of source template) } ∷ record { name = words.pack; bytes = present_bytes pack } ∷ []) (template_header template)
@@ -37,5 +38,6 @@ map_walk words = record {
   IsLost = λ files old new. ⊥;
   Shows = λ files old new. Unit {0};
   WritesFiles = Unit {0};
+  KeepsPorts = λ old new. new.ports ≡ old.ports;
   HasPortFault = λ old new. ⊥;
 }

@@ -1,8 +1,6 @@
 //! The command `map`.
-ghost use Rattle.std.specs.Prelude.{◌≡◌, ◌⊎◌, [], ◌∷◌, List, OnErr};
-ghost use Rattle.tl_io.specs.Causes.{Rose};
+ghost use Rattle.std.specs.Prelude.{◌≡◌, [], ◌∷◌, List};
 ghost use Rattle.tl_io.specs.Port.{PortSeen};
-ghost use Rattle.ppc_file.specs.PackFile.{IsPackFile};
 ghost use Rattle.blif_write.specs.PlainNetlist.{netlist_text};
 ghost use Rattle.cmd_base.specs.Outside.{outside};
 ghost use Rattle.cmd_base.specs.Ends.{Ends};
@@ -12,15 +10,13 @@ ghost use Rattle.cmd_stations.specs.Mapped.{template_header};
 ghost use Rattle.cmd_stations.specs.Written.{IsTuned, template_of};
 ghost use Rattle.cmd_stations.specs.FileWrites.{WritesAll};
 ghost use Rattle.cmd_stations.specs.Drafts.{IsDraft};
+ghost use Rattle.cmd_stations.specs.Packs.{present_bytes};
 ghost use Rattle.cmd_map.specs.Map.Words.{map_seen};
 ghost use Rattle.cmd_map.specs.Map.Verdict.{map_walk};
-ghost use Rattle.cmd_stations.specs.Packs.{present_bytes};
 
 use crate::map::words::MapWords;
 use cmd_base::Outcome;
-use cmd_stations::{
-    Draft, is_pack_file, put_template_header, read_draft, write_pack, write_template,
-};
+use cmd_stations::{Draft, put_template_header, read_draft, write_pack, write_template};
 use std::alloc::Global;
 use tl_io::{Failed, Shelf, Sink};
 
@@ -33,13 +29,10 @@ fn write_out<S: Shelf, O: Sink>(
     out: &mut O,
 ) -> Result<(), Failed>
     requires { IsDraft draft.old }
-    ensures ends { (ports : List PortSeen) → WritesAll (record { name = template.now; bytes = netlist_text (template_of draft.old.mapped.source draft.old.mapped.tables.template) } ∷ record { name = pack.now; bytes = present_bytes draft.old.mapped.tables.pack } ∷ []) (template_header draft.old.mapped.tables.template) (outside (S.seen shelf.old).files (O.bytes out.old) ports) (outside (S.seen shelf.new).files (O.bytes out.new) ports) result }
-    ensures cause { OnErr result (Rose (O.faults out.old) (O.faults out.new) ⊎ Rose (S.seen shelf.old).write_faults (S.seen shelf.new).write_faults) }
+    ensures ends { (ports : List PortSeen) → WritesAll (record { name = template.now; bytes = netlist_text (template_of draft.old.mapped.source draft.old.mapped.tables.template) } ∷ record { name = pack.now; bytes = present_bytes draft.old.mapped.tables.pack } ∷ []) (template_header draft.old.mapped.tables.template) (outside (S.seen shelf.old) (O.seen out.old) ports) (outside (S.seen shelf.new) (O.seen out.new) ports) result }
     ensures given { (S.seen shelf.new).given ≡ (S.seen shelf.old).given }
-    ensures file { IsPackFile (present_bytes draft.old.mapped.tables.pack) draft.old.mapped.tables.pack }
     ensures means { IsTuned draft.old.mapped.source draft.old.mapped.tables.template draft.old.mapped.tables.pack (template_of draft.old.mapped.source draft.old.mapped.tables.template) }
 {
-    is_pack_file(&draft.mapped.tables.pack);
     match write_template(draft, template, shelf) {
         Ok(()) => {}
         Err(failed) => return Err(failed),
@@ -58,8 +51,7 @@ pub fn map_job<S: Shelf, O: Sink>(
     out: &mut O,
 ) -> Outcome
     requires { IsTableSize words.now.source.k }
-    ensures ends { (ports : List PortSeen) → Ends (map_walk (map_seen words.now)) (S.seen shelf.old) (S.seen shelf.new) (outside (S.seen shelf.old).files (O.bytes out.old) ports) (outside (S.seen shelf.new).files (O.bytes out.new) ports) result }
-    ensures write_fault { result ≡ Outcome.WriteFault → Rose (O.faults out.old) (O.faults out.new) ⊎ Rose (S.seen shelf.old).write_faults (S.seen shelf.new).write_faults }
+    ensures ends { (ports : List PortSeen) → Ends (map_walk (map_seen words.now)) (S.seen shelf.old) (S.seen shelf.new) (outside (S.seen shelf.old) (O.seen out.old) ports) (outside (S.seen shelf.new) (O.seen out.new) ports) result }
     ensures laws { HasLaws (map_walk (map_seen words.now)) }
 {
     let mut draft = match read_draft(alloc, &words.source, shelf) {

@@ -1,6 +1,5 @@
 //! The command `spec`.
-ghost use Rattle.std.specs.Prelude.{◌≡◌, ◌⊎◌, [], ◌∷◌, Bool, List, length, IfOk, OnErr};
-ghost use Rattle.tl_io.specs.Causes.{Rose};
+ghost use Rattle.std.specs.Prelude.{◌≡◌, [], ◌∷◌, Bool, List, length, IfOk};
 ghost use Rattle.tl_io.specs.Port.{PortSeen};
 ghost use Rattle.param_list.specs.Parameters.{param_inits};
 ghost use Rattle.ppc_pack.specs.Pack.{IsConf};
@@ -53,8 +52,7 @@ fn write_out<S: Shelf, O: Sink>(
     out: &mut O,
 ) -> Result<(), Failed>
     requires { IsDraft draft.old }
-    ensures ends { (ports : List PortSeen) → WritesAll (record { name = name.now; bytes = netlist_text (specialised_of draft.old.mapped.source draft.old.mapped.tables.template config.now) } ∷ []) (template_header draft.old.mapped.tables.template) (outside (S.seen shelf.old).files (O.bytes out.old) ports) (outside (S.seen shelf.new).files (O.bytes out.new) ports) result }
-    ensures cause { OnErr result (Rose (O.faults out.old) (O.faults out.new) ⊎ Rose (S.seen shelf.old).write_faults (S.seen shelf.new).write_faults) }
+    ensures ends { (ports : List PortSeen) → WritesAll (record { name = name.now; bytes = netlist_text (specialised_of draft.old.mapped.source draft.old.mapped.tables.template config.now) } ∷ []) (template_header draft.old.mapped.tables.template) (outside (S.seen shelf.old) (O.seen out.old) ports) (outside (S.seen shelf.new) (O.seen out.new) ports) result }
     ensures given { (S.seen shelf.new).given ≡ (S.seen shelf.old).given }
     ensures means { (params : List Bool) → length params ≡ length draft.old.mapped.source.params.list → IsConf draft.old.mapped.tables.pack params config.now → RunsAs draft.old.mapped.source params (specialised_of draft.old.mapped.source draft.old.mapped.tables.template config.now) }
 {
@@ -72,8 +70,7 @@ pub fn spec_job<S: Shelf, O: Sink>(
     out: &mut O,
 ) -> Outcome
     requires { IsTableSize words.now.source.k }
-    ensures ends { (ports : List PortSeen) → Ends (spec_walk (spec_seen words.now)) (S.seen shelf.old) (S.seen shelf.new) (outside (S.seen shelf.old).files (O.bytes out.old) ports) (outside (S.seen shelf.new).files (O.bytes out.new) ports) result }
-    ensures write_fault { result ≡ Outcome.WriteFault → Rose (O.faults out.old) (O.faults out.new) ⊎ Rose (S.seen shelf.old).write_faults (S.seen shelf.new).write_faults }
+    ensures ends { (ports : List PortSeen) → Ends (spec_walk (spec_seen words.now)) (S.seen shelf.old) (S.seen shelf.new) (outside (S.seen shelf.old) (O.seen out.old) ports) (outside (S.seen shelf.new) (O.seen out.new) ports) result }
     ensures laws { HasLaws (spec_walk (spec_seen words.now)) }
 {
     let mut draft = match read_draft(alloc, &words.source, shelf) {

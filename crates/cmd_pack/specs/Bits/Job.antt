@@ -1,5 +1,5 @@
 -- The job of `bits`: a pack, and the events of a script.
-use Rattle.std.specs.Prelude.{ℕ, ◌≤◌, List, []}
+use Rattle.std.specs.Prelude.{◌≡◌, ℕ, ◌≤◌, List, [], Some}
 use Rattle.tl_fault.specs.RefusalValue.{RefusalValue}
 use Rattle.tl_io.specs.Shelf.{Files}
 use Rattle.ppc_pack.specs.Pack.{PackValue}
@@ -48,6 +48,7 @@ ReachesBits files words Pack = Unit {0}
 -- how its files are read
 abbrev pub bits_reading : BitsWords → Reading
 bits_reading words = record {
+  HasFiles = λ told files. told ≡ Some files;
   IsRead = IsOfBits;
   word = bits_word words;
   last = Script;

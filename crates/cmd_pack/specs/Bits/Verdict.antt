@@ -1,6 +1,7 @@
 -- The walk of `bits`.
 use Rattle.std.specs.Prelude.{◌≡◌, ◌≤◌, ◌⊎◌, ℕ, List, ◌∷◌, ◌++◌, length, take}
 use Rattle.std.specs.List.{concat}
+use Rattle.tl_io.specs.Causes.{Rose}
 use Rattle.tl_io.specs.Content.{extended}
 use Rattle.tl_io.specs.Shelf.{Files}
 use Rattle.ppc_pack.specs.Pack.{PackValue}
@@ -35,6 +36,7 @@ module _ (h : SpecialiserValue) (events : List EventValue) (old new : Outside) w
     pub part : ℕ
     pub within : part ≤ length (pack_header h.pack)
     pub bytes : new.bytes ≡ extended old.bytes (take part (pack_header h.pack))
+    pub cause : Rose old.put_faults new.put_faults
     pub files : new.files ≡ old.files
     pub ports : new.ports ≡ old.ports
 
@@ -51,6 +53,7 @@ module _ (h : SpecialiserValue) (events : List EventValue) (old new : Outside) w
     pub part : ℕ
     pub within : part ≤ length (host_line event end)
     pub bytes : new.bytes ≡ extended old.bytes (concat (pack_header h.pack ∷ lines) ++ take part (host_line event end))
+    pub cause : Rose old.put_faults new.put_faults
     pub files : new.files ≡ old.files
     pub ports : new.ports ≡ old.ports
 
@@ -81,5 +84,6 @@ bits_walk words = record {
   IsLost = λ files old new. ⊥;
   Shows = λ files old new. Unit {0};
   WritesFiles = ⊥;
+  KeepsPorts = λ old new. new.ports ≡ old.ports;
   HasPortFault = λ old new. ⊥;
 }

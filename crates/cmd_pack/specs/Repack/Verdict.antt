@@ -1,5 +1,5 @@
 -- The walk of `repack`.
-use Rattle.std.specs.Prelude.{ℕ, List, [], ◌∷◌}
+use Rattle.std.specs.Prelude.{◌≡◌, ℕ, List, [], ◌∷◌}
 use Rattle.tl_io.specs.Shelf.{Files}
 use Rattle.ppc_pack.specs.Pack.{PackValue}
 use Rattle.cmd_base.specs.Walk.{Walk}
@@ -30,5 +30,6 @@ repack_walk words = record {
   IsLost = λ files old new. ⊥;
   Shows = λ files old new. Unit {0};
   WritesFiles = Unit {0};
+  KeepsPorts = λ old new. new.ports ≡ old.ports;
   HasPortFault = λ old new. ⊥;
 }

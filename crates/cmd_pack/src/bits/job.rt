@@ -1,6 +1,5 @@
 //! The command `bits`.
 ghost use Rattle.std.specs.Prelude.{◌≡◌, List};
-ghost use Rattle.tl_io.specs.Causes.{Rose};
 ghost use Rattle.tl_io.specs.Port.{PortSeen};
 ghost use Rattle.cmd_base.specs.Outside.{outside};
 ghost use Rattle.cmd_base.specs.Ends.{Ends};
@@ -23,8 +22,7 @@ pub fn bits_job<S: Shelf, O: Sink, P: ConfigPort>(
     shelf: &mut S,
     out: &mut O,
 ) -> Outcome
-    ensures ends { (ports : List PortSeen) → Ends (bits_walk (bits_seen words.now)) (S.seen shelf.old) (S.seen shelf.new) (outside (S.seen shelf.old).files (O.bytes out.old) ports) (outside (S.seen shelf.new).files (O.bytes out.new) ports) result }
-    ensures write_fault { result ≡ Outcome.WriteFault → Rose (O.faults out.old) (O.faults out.new) }
+    ensures ends { (ports : List PortSeen) → Ends (bits_walk (bits_seen words.now)) (S.seen shelf.old) (S.seen shelf.new) (outside (S.seen shelf.old) (O.seen out.old) ports) (outside (S.seen shelf.new) (O.seen out.new) ports) result }
     ensures files { (S.seen shelf.new).files ≡ (S.seen shelf.old).files }
     ensures laws { HasLaws (bits_walk (bits_seen words.now)) }
 {

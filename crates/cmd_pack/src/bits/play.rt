@@ -2,7 +2,7 @@
 ghost use Rattle.std.specs.Prelude.{◌≡◌, ◌<◌, length, Option, List};
 ghost use Rattle.tl_io.specs.Causes.{HasCause};
 ghost use Rattle.tl_io.specs.Port.{PortSeen};
-ghost use Rattle.tl_io.specs.Shelf.{Files};
+ghost use Rattle.tl_io.specs.Shelf.{ShelfSeen};
 ghost use Rattle.run_text.specs.EventValue.{event_values};
 ghost use Rattle.port_bank.specs.Seen.{bank_seen};
 ghost use Rattle.cmd_base.specs.Outside.{outside};
@@ -30,8 +30,8 @@ fn play_with<O: Sink, P: ConfigPort, L: Ledger>(
     requires some { 0 < L.parts }
     requires can_play { CanPlay host.old.pack (event_values events.now) }
     requires no_ports { length (bank_seen P.port_seen bank.old).serving ≡ 0 }
-    ensures ends { EventsEnd host.old (event_values events.now) (O.bytes out.old) (O.bytes out.new) result }
-    ensures cause { HasCause (O.faults out.old) (O.faults out.new) result }
+    ensures ends { EventsEnd host.old (event_values events.now) (O.seen out.old).bytes (O.seen out.new).bytes result }
+    ensures cause { HasCause (O.seen out.old).faults (O.seen out.new).faults result }
 {
     let mut steps = Steps::<L>::start(blank);
     for event in events {
@@ -52,8 +52,8 @@ fn play_events<O: Sink, P: ConfigPort>(
 ) -> Result<(), Failed>
     requires can_play { CanPlay host.old.pack (event_values events.now) }
     requires no_ports { length (bank_seen P.port_seen bank.old).serving ≡ 0 }
-    ensures ends { EventsEnd host.old (event_values events.now) (O.bytes out.old) (O.bytes out.new) result }
-    ensures cause { HasCause (O.faults out.old) (O.faults out.new) result }
+    ensures ends { EventsEnd host.old (event_values events.now) (O.seen out.old).bytes (O.seen out.new).bytes result }
+    ensures cause { HasCause (O.seen out.old).faults (O.seen out.new).faults result }
 {
     play_with::<O, P, Brand>(host, events, out, bank, Blank::new(1))
 }
@@ -70,8 +70,8 @@ pub fn play<O: Sink, P: ConfigPort>(
     requires can_play { CanPlay ready.old.host.pack (event_values ready.old.events.items) }
     requires bits { ready.old.bits ≡ length ready.old.host.pack.bits }
     requires no_ports { length (bank_seen P.port_seen bank.old).serving ≡ 0 }
-    ensures ends { (files : Option Files) (ports : List PortSeen) → PlayEnd ready.old.host (event_values ready.old.events.items) (outside files (O.bytes out.old) ports) (outside files (O.bytes out.new) ports) result }
-    ensures cause { HasCause (O.faults out.old) (O.faults out.new) result }
+    ensures ends { (shelf : ShelfSeen) (ports : List PortSeen) → PlayEnd ready.old.host (event_values ready.old.events.items) (outside shelf (O.seen out.old) ports) (outside shelf (O.seen out.new) ports) result }
+    ensures cause { HasCause (O.seen out.old).faults (O.seen out.new).faults result }
 {
     put_bits_header(ready.bits, &mut ready.buf, out)?;
     play_events(&mut ready.host, &ready.events, out, bank)

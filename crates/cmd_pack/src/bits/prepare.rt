@@ -43,8 +43,9 @@ fn read_events<S: Shelf>(
     ensures err { IfErr result (Explains (script_reading words.now.script.now (pack_names pack.now)) (S.seen shelf.old) (S.seen shelf.new)) }
     ensures later { (S.seen shelf.old).read_faults ≤ (S.seen shelf.new).read_faults }
     ensures files { (S.seen shelf.new).files ≡ (S.seen shelf.old).files }
+    ensures write_faults { (S.seen shelf.new).write_faults ≡ (S.seen shelf.old).write_faults }
 {
-    match script_names(alloc, pack) {
+    match script_names(alloc, pack, None) {
         Ok(names) => read_script_file(alloc, words.script, &names, shelf),
         Err(_) => Err(Outcome::Memory),
     }
@@ -80,6 +81,7 @@ pub fn prepare<S: Shelf>(
     ensures given { OnOk result ((S.seen shelf.new).given ≤ MOST_BYTES) }
     ensures err { IfErr result (Explains (bits_reading (bits_seen words.now)) (S.seen shelf.old) (S.seen shelf.new)) }
     ensures files { (S.seen shelf.new).files ≡ (S.seen shelf.old).files }
+    ensures write_faults { (S.seen shelf.new).write_faults ≡ (S.seen shelf.old).write_faults }
 {
     let pack = match read_pack(alloc, words.pack, shelf) {
         Ok(pack) => pack,

@@ -1,15 +1,14 @@
 //! The command `repack`.
-ghost use Rattle.std.specs.Prelude.{◌≡◌, ◌⊎◌, [], ◌∷◌, List, MatchResult, OnErr};
-ghost use Rattle.tl_io.specs.Causes.{Rose};
+ghost use Rattle.std.specs.Prelude.{◌≡◌, [], ◌∷◌, List};
 ghost use Rattle.tl_io.specs.Port.{PortSeen};
 ghost use Rattle.cmd_base.specs.Outside.{outside};
-ghost use Rattle.cmd_base.specs.Writing.{AreWritten, IsCut};
 ghost use Rattle.cmd_base.specs.Ends.{Ends};
 ghost use Rattle.cmd_base.specs.WalkLaws.{HasLaws};
+ghost use Rattle.cmd_stations.specs.FileWrites.{WritesAll};
+ghost use Rattle.cmd_stations.specs.Packs.{present_bytes};
 ghost use Rattle.cmd_pack.specs.Bits.Verdict.{pack_header};
 ghost use Rattle.cmd_pack.specs.Repack.Words.{repack_seen};
 ghost use Rattle.cmd_pack.specs.Repack.Verdict.{repack_walk};
-ghost use Rattle.cmd_stations.specs.Packs.{present_bytes};
 
 use crate::repack::words::RepackWords;
 use cmd_base::Outcome;
@@ -27,10 +26,7 @@ fn write_all<S: Shelf, O: Sink>(
     shelf: &mut S,
     out: &mut O,
 ) -> Result<(), Failed>
-    ensures ends { (ports : List PortSeen) → MatchResult result
-        (λ _. AreWritten (record { name = name.now; bytes = present_bytes pack.now } ∷ []) (pack_header pack.now) (outside (S.seen shelf.old).files (O.bytes out.old) ports) (outside (S.seen shelf.new).files (O.bytes out.new) ports))
-        (λ _. IsCut (record { name = name.now; bytes = present_bytes pack.now } ∷ []) (pack_header pack.now) (outside (S.seen shelf.old).files (O.bytes out.old) ports) (outside (S.seen shelf.new).files (O.bytes out.new) ports)) }
-    ensures cause { OnErr result (Rose (O.faults out.old) (O.faults out.new) ⊎ Rose (S.seen shelf.old).write_faults (S.seen shelf.new).write_faults) }
+    ensures ends { (ports : List PortSeen) → WritesAll (record { name = name.now; bytes = present_bytes pack.now } ∷ []) (pack_header pack.now) (outside (S.seen shelf.old) (O.seen out.old) ports) (outside (S.seen shelf.new) (O.seen out.new) ports) result }
     ensures given { (S.seen shelf.new).given ≡ (S.seen shelf.old).given }
 {
     write_pack(pack, name, shelf)?;
@@ -44,8 +40,7 @@ pub fn repack_job<S: Shelf, O: Sink>(
     shelf: &mut S,
     out: &mut O,
 ) -> Outcome
-    ensures ends { (ports : List PortSeen) → Ends (repack_walk (repack_seen words.now)) (S.seen shelf.old) (S.seen shelf.new) (outside (S.seen shelf.old).files (O.bytes out.old) ports) (outside (S.seen shelf.new).files (O.bytes out.new) ports) result }
-    ensures write_fault { result ≡ Outcome.WriteFault → Rose (O.faults out.old) (O.faults out.new) ⊎ Rose (S.seen shelf.old).write_faults (S.seen shelf.new).write_faults }
+    ensures ends { (ports : List PortSeen) → Ends (repack_walk (repack_seen words.now)) (S.seen shelf.old) (S.seen shelf.new) (outside (S.seen shelf.old) (O.seen out.old) ports) (outside (S.seen shelf.new) (O.seen out.new) ports) result }
     ensures laws { HasLaws (repack_walk (repack_seen words.now)) }
 {
     let pack = match read_pack(alloc, words.old, shelf) {

@@ -1,6 +1,7 @@
 -- The walk of `gen`: that of `run` over the generated texts.
 use Rattle.std.specs.Prelude.{◌≡◌, ◌≤◌, ℕ, List, [], ◌∷◌, length, take, codes, decimal}
 use Rattle.std.specs.List.{concat}
+use Rattle.tl_io.specs.Causes.{Rose}
 use Rattle.tl_io.specs.Content.{extended}
 use Rattle.run_core.specs.Events.{MachineValue}
 use Rattle.cover_pick.specs.Template.{TemplateValue}
@@ -10,7 +11,8 @@ use Rattle.cmd_base.specs.declared.outcome.File.TheVariants.{Netlist}
 use Rattle.cmd_run.specs.declared.gen_command.words.GenWords.{GenWords}
 use Rattle.cmd_stations.specs.Mapped.{template_header}
 use Rattle.cmd_stations.specs.Machine.{Job}
-use Rattle.cmd_run.specs.Run.Job.{IsJob, IsRefused, IsSettled}
+use Rattle.cmd_stations.specs.Source.{IsLeastMapped}
+use Rattle.cmd_run.specs.Run.Job.{IsJob, IsRefused, IsSettled, IsOfRun}
 use Rattle.cmd_stations.specs.Machine.{IsStart}
 use Rattle.cmd_run.specs.Run.Verdict.{HasJob}
 use Rattle.cmd_run.specs.GenCommand.Case.{case_words, case_files}
@@ -30,6 +32,7 @@ gen_text words template writes total = concat (first_line words ∷ template_hea
 pub record HasGen (words : GenWords) (Ends : List ℕ → Type 0) : Type 0 where
   pub job : Job
   pub is_job : IsJob (case_files words) case_words job
+  pub law : IsLeastMapped (case_files words) case_words.source job.source job.template is_job.mapped
   pub machine : MachineValue
   pub start : IsStart job machine
   pub writes : ℕ
@@ -45,34 +48,37 @@ module _ (old new : Outside) (text : List ℕ) where
     pub files : new.files ≡ old.files
     pub ports : new.ports ≡ old.ports
 
-  -- a prefix of it
+  -- a fault of writing: a prefix of it stands
   pub record IsPartTold : Type 0 where
     pub part : ℕ
     pub within : part ≤ length text
     pub bytes : new.bytes ≡ extended old.bytes (take part text)
+    pub cause : Rose old.put_faults new.put_faults
     pub files : new.files ≡ old.files
     pub ports : new.ports ≡ old.ports
 
--- no file is read, and a refusal's file is told as `gen`
+-- no file is read: what is told of files holds of the generated texts, whatever a shelf has, and a refused one is told as `gen`
 abbrev pub gen_reading : GenWords → Reading
 gen_reading words = record {
-  IsRead = λ file. ⊥;
+  HasFiles = λ told files. files ≡ case_files words;
+  IsRead = IsOfRun;
   word = λ file. codes "gen";
   last = Netlist;
   HasGiven = λ file given. Unit {0};
   Reaches = λ files file. ⊥;
-  IsRefused = λ files file refusal. IsRefused (case_files words) case_words file refusal;
-  IsSettled = λ files. IsSettled (case_files words) case_words;
+  IsRefused = λ files file refusal. IsRefused files case_words file refusal;
+  IsSettled = λ files. IsSettled files case_words;
 }
 
 abbrev pub gen_walk : GenWords → Walk
 gen_walk words = record {
   reading = gen_reading words;
-  IsAccepted = λ files. HasJob (case_files words) case_words;
+  IsAccepted = λ files. HasJob files case_words;
   IsDone = λ files old new. HasGen words (IsTold old new);
   IsCutOff = λ files old new. HasGen words (IsPartTold old new);
   IsLost = λ files old new. ⊥;
   Shows = λ files old new. Unit {0};
   WritesFiles = ⊥;
+  KeepsPorts = λ old new. new.ports ≡ old.ports;
   HasPortFault = λ old new. ⊥;
 }

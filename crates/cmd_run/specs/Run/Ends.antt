@@ -1,7 +1,6 @@
 -- How a job of `run` ends: what stands in the output and in the ports.
 use Rattle.std.specs.Prelude.{◌≡◌, ◌≤◌, ◌⊎◌, ℕ, ◌+◌, List, ◌∷◌, ◌++◌, length, take, Result, Ok, Err}
 use Rattle.std.specs.List.{concat}
-use Rattle.list_laws.specs.Members.{In}
 use Rattle.tl_io.specs.Causes.{Rose}
 use Rattle.tl_io.specs.Content.{extended}
 use Rattle.tl_io.specs.Port.{PortSeen}
@@ -9,7 +8,7 @@ use Rattle.tl_io.specs.Shelf.{Files}
 use Rattle.tl_io.specs.Writes.{writes_from}
 use Rattle.run_text.specs.EventValue.{EventValue}
 use Rattle.port_bank.specs.Bank.{BankSeen, all_ports}
-use Rattle.port_bank.specs.Moves.{LosesPlace}
+use Rattle.port_bank.specs.Moves.{Becomes, FallsShort, LosesPlace}
 use Rattle.run_core.specs.declared.step_err.StepErr.{StepErr}
 use Rattle.run_core.specs.declared.step_err.StepErr.TheVariants.{WriteFault, PortFault}
 use Rattle.run_core.specs.Events.{MachineValue, IsPlayed}
@@ -19,6 +18,7 @@ use Rattle.cmd_base.specs.Outside.{Outside}
 use Rattle.cmd_run.specs.declared.run.words.PortCounts.{PortCounts}
 use Rattle.cmd_run.specs.Run.Words.{RunWords}
 use Rattle.cmd_stations.specs.Machine.{Job}
+use Rattle.cmd_stations.specs.Source.{IsLeastMapped}
 use Rattle.cmd_run.specs.Run.Job.{IsJob}
 use Rattle.cmd_stations.specs.Machine.{IsStart, machine_header, Stage, IsStep, HasCome}
 use Rattle.cmd_run.specs.Run.Bank.{bank_of}
@@ -38,6 +38,7 @@ module _ (counts : PortCounts) (m : MachineValue) (events : List EventValue) (ol
     pub part : ℕ
     pub within : part ≤ length (machine_header m)
     pub bytes : new.bytes ≡ extended old.bytes (take part (machine_header m))
+    pub cause : Rose old.put_faults new.put_faults
     pub ports : new.ports ≡ old.ports
 
   -- a fault of writing in an event's line: the lines before it stand whole, and a prefix of it; its own writes were sent
@@ -53,6 +54,7 @@ module _ (counts : PortCounts) (m : MachineValue) (events : List EventValue) (ol
     pub part : ℕ
     pub within : part ≤ length (event_line event stage.machine)
     pub bytes : new.bytes ≡ extended old.bytes (concat (machine_header m ∷ lines) ++ take part (event_line event stage.machine))
+    pub cause : Rose old.put_faults new.put_faults
     pub ports : new.ports ≡ all_ports stage.bank
 
   -- a fault of the ports in the full load: the header stands alone
@@ -84,19 +86,25 @@ module _ (counts : PortCounts) (m : MachineValue) (events : List EventValue) (ol
   IsPlayEnd (Err WriteFault) = IsCutInHeader ⊎ IsCutInLine
   IsPlayEnd (Err PortFault) = IsLostInLoad ⊎ IsLostInEvent
 
--- the files hold a job, its machine stands at the start, and this is so of its playing
+-- the files hold a job, whose source circuit is sound and mapped with the least depth, its machine stands at the start, and this is so of its playing
 pub record HasRun (files : Files) (words : RunWords) (old new : Outside) (result : Result Unit StepErr) : Type 0 where
   pub job : Job
   pub is_job : IsJob files words job
+  pub law : IsLeastMapped files words.source job.source job.template is_job.mapped
   pub machine : MachineValue
   pub start : IsStart job machine
   pub kept : new.files ≡ old.files
   pub ends : IsPlayEnd words.ports machine job.events old new result
 
--- all the spares failed and one port more: they stand at the end of the list, each with a count of faults that rose since it was handed in
+-- The ports that serve and stand by were called, whatever was written, and spares took the places of those that failed: so the list is that of the bank behind these calls.
+pub record HaveServed (counts : PortCounts) (old new : List PortSeen) : Type 0 where
+  pub bank : BankSeen
+  pub becomes : Becomes (bank_of counts old) bank
+  pub are : new ≡ all_ports bank
+
+-- and then a port failed while no spare was left: all the spares failed and one port more, and they stand at the end of the list
 pub record HaveFailed (counts : PortCounts) (old new : List PortSeen) : Type 0 where
-  pub others : List PortSeen
-  pub failed : List PortSeen
-  pub are : new ≡ others ++ failed
-  pub many : length failed ≡ counts.spares + 1
-  pub cause : (port : PortSeen) → In failed port → (before : PortSeen) × In (take (counts.serving + counts.spares) old) before × Rose before.faults port.faults
+  pub bank : BankSeen
+  pub short : FallsShort (bank_of counts old) bank
+  pub many : length bank.failed ≡ counts.spares + 1
+  pub are : new ≡ all_ports bank

@@ -1,5 +1,5 @@
 -- The job of `run` in its files: what they hold, and what they are refused for.
-use Rattle.std.specs.Prelude.{ℕ, ◌≤◌, List, []}
+use Rattle.std.specs.Prelude.{◌≡◌, ℕ, ◌≤◌, List, Some}
 use Rattle.tl_fault.specs.RefusalValue.{RefusalValue}
 use Rattle.tl_io.specs.Shelf.{Files}
 use Rattle.cover_pick.specs.Template.{TemplateValue}
@@ -43,6 +43,7 @@ run_word words file = source_word words.source file
 -- how its files are read
 abbrev pub run_reading : RunWords → Reading
 run_reading words = record {
+  HasFiles = λ told files. told ≡ Some files;
   IsRead = IsOfRun;
   word = run_word words;
   last = Script;

@@ -3,10 +3,11 @@ use Rattle.std.specs.Prelude.{◌≡◌, ◌≤◌, ◌⊎◌, ℕ, List, ◌++�
 use Rattle.std.specs.List.{concat}
 use Rattle.list_laws.specs.Members.{In}
 use Rattle.tl_io.specs.Content.{extended}
+use Rattle.tl_io.specs.Port.{PortSeen}
 use Rattle.tl_io.specs.Shelf.{Files}
 use Rattle.tl_io.specs.Writes.{writes_from}
 use Rattle.port_bank.specs.Bank.{BankSeen}
-use Rattle.port_bank.specs.Moves.{MovesWithCause, LosesPlace}
+use Rattle.port_bank.specs.Moves.{FallsShort, LosesPlace}
 use Rattle.run_text.specs.EventValue.{EventValue, event_values}
 use Rattle.run_core.specs.declared.step_err.StepErr.{StepErr}
 use Rattle.run_core.specs.declared.step_err.StepErr.TheVariants.{WriteFault, PortFault}
@@ -17,6 +18,8 @@ use Rattle.run_core.specs.Sends.{LosesRegion, HasLost}
 use Rattle.cover_pick.specs.Template.{TemplateValue}
 use Rattle.cmd_stations.specs.declared.source.Source.{Source}
 use Rattle.cmd_run.specs.declared.run.prepare.Ready.{Ready}
+use Rattle.cmd_run.specs.declared.run.words.PortCounts.{PortCounts}
+use Rattle.cmd_run.specs.Run.Ends.{HaveServed}
 use Rattle.cmd_run.specs.Run.Words.{RunWords}
 use Rattle.cmd_stations.specs.Machine.{Job}
 use Rattle.cmd_run.specs.Run.Job.{IsJob, IsSettled}
@@ -75,7 +78,7 @@ module _ (old : Stage) (events : List EventValue) (before after : Option (List �
     pub next : MachineValue
     pub played : IsPlayed event mid.machine next
     pub lost : HasLost event next.host mid.bank new
-    pub moved : MovesWithCause mid.bank new
+    pub short : FallsShort mid.bank new
     pub place : LosesPlace mid.bank new
     pub bytes : after ≡ extended before (concat lines)
 
@@ -112,7 +115,7 @@ module _ (m : MachineValue) (events : List EventValue) (old : BankSeen) (before 
   -- a fault of the ports in the load
   pub record IsLostFirst : Type 0 where
     pub load : LosesRegion m.host.state.config (writes_from 0 m.host.state.config) old new
-    pub moved : MovesWithCause old new
+    pub short : FallsShort old new
     pub place : LosesPlace old new
     pub bytes : after ≡ extended before (machine_header m)
 
@@ -128,3 +131,9 @@ module _ (m : MachineValue) (events : List EventValue) (old : BankSeen) (before 
   RunEnd (Ok done) = AreAll
   RunEnd (Err WriteFault) = IsCutFirst ⊎ IsCutLater
   RunEnd (Err PortFault) = IsLostFirst ⊎ IsLostLater
+
+-- the ports of a job that ended otherwise than by a fault of the ports
+abbrev pub IsServed : PortCounts → List PortSeen → List PortSeen → Result Unit StepErr → Type 0
+IsServed counts old new (Ok done) = HaveServed counts old new
+IsServed counts old new (Err WriteFault) = HaveServed counts old new
+IsServed counts old new (Err PortFault) = Unit {0}

@@ -6,7 +6,7 @@ use Rattle.cmd_base.specs.Walk.{Walk}
 use Rattle.cmd_run.specs.Run.Words.{RunWords}
 use Rattle.cmd_stations.specs.Machine.{Job}
 use Rattle.cmd_run.specs.Run.Job.{IsJob, run_reading}
-use Rattle.cmd_run.specs.Run.Ends.{HasRun, HaveFailed}
+use Rattle.cmd_run.specs.Run.Ends.{HasRun, HaveServed, HaveFailed}
 use Rattle.cmd_run.specs.Run.Headline.{HasHeadline}
 
 -- the files hold an accepted job of `run`
@@ -23,5 +23,6 @@ run_walk words = record {
   IsLost = λ files old new. HasRun files words old new (Err PortFault);
   Shows = λ files old new. HasHeadline files words old new;
   WritesFiles = ⊥;
+  KeepsPorts = λ old new. HaveServed words.ports old.ports new.ports;
   HasPortFault = λ old new. HaveFailed words.ports old.ports new.ports;
 }

@@ -1,6 +1,7 @@
 -- The words of `run`.
 use Rattle.std.specs.Prelude.{ℕ, ◌+◌, ◌≤◌, nat_le, if◌then◌else◌, List, [], ◌∷◌, codes, bytes_eq, Option, Some, None}
 use Rattle.tl_text.specs.Decimal.{decimal_of}
+use Rattle.cut_enum.specs.declared.limits.TheConstants.{MOST_LEAVES}
 use Rattle.cmd_run.specs.declared.run.words.PortCounts.{PortCounts}
 use Rattle.cmd_run.specs.declared.run.words.RunWords.{RunWords as RunWordsRead}
 use Rattle.cmd_stations.specs.Words.{SourceWords, k_of, source_seen}
@@ -32,8 +33,8 @@ run_of ports words = None
 abbrev pub run_seen : RunWordsRead → RunWords
 run_seen words = record { source = source_seen words.source; script = words.script.now; ports = words.ports }
 
--- the size of the tables is 2 to 6, and there are so many ports
+-- the size of the tables is from 2 to the most leaves of a cut, and there are so many ports
 pub record IsInRange (ports : ℕ) (words : RunWordsRead) : Type 0 where
   pub least : 2 ≤ words.source.k
-  pub most : words.source.k ≤ 6
+  pub most : words.source.k ≤ MOST_LEAVES
   pub within : words.ports.serving + words.ports.spares ≤ ports

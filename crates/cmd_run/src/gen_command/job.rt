@@ -1,8 +1,8 @@
 //! The command `gen`.
 ghost use Rattle.std.specs.Prelude.{◌≡◌, [], ◌∷◌, List};
 ghost use Rattle.std.specs.List.{concat};
-ghost use Rattle.tl_io.specs.Causes.{HasCause, Rose};
-ghost use Rattle.tl_io.specs.Content.{Puts};
+ghost use Rattle.tl_io.specs.Causes.{Rose};
+ghost use Rattle.tl_io.specs.Sink.{IsPut};
 ghost use Rattle.tl_io.specs.Port.{PortSeen};
 ghost use Rattle.tl_io.specs.Shelf.{ShelfSeen};
 ghost use Rattle.cmd_base.specs.Outside.{outside};
@@ -28,8 +28,7 @@ fn put_lines<O: Sink>(
     last: &str,
     out: &mut O,
 ) -> Result<(), StepErr>
-    ensures cause { HasCause (O.faults out.old) (O.faults out.new) result }
-    ensures grown { Puts (O.bytes out.old) (O.bytes out.new) (concat (first.now ∷ machine_header machine.old ∷ last.now ∷ [])) result }
+    ensures { IsPut (O.seen out.old) (concat (first.now ∷ machine_header machine.old ∷ last.now ∷ [])) (O.seen out.new) result }
 {
     out.put(first.as_bytes())?;
     machine.header(out)?;
@@ -39,22 +38,18 @@ fn put_lines<O: Sink>(
 
 /// Runs the command: maps a generated multiplier, plays its hundred rounds, and tells what they add up to.
 ///
-/// All memory is taken before the first byte of `out`. Totals that don't fit their types are answered as want of memory; a
-/// generated case never comes to them.
+/// All memory is taken before the first byte of `out`. [`Outcome::Memory`] is answered only for want of it: what a generated
+/// case adds up to always fits its types.
 pub fn gen_job<O: Sink>(alloc: Global, words: &GenWords, out: &mut O) -> Outcome
     requires { HasDigits words.now }
-    ensures ends { (old : ShelfSeen) (ports : List PortSeen) → Ends (gen_walk words.now) old old (outside old.files (O.bytes out.old) ports) (outside old.files (O.bytes out.new) ports) result }
-    ensures write_fault { result ≡ Outcome.WriteFault → Rose (O.faults out.old) (O.faults out.new) }
+    ensures ends { (old : ShelfSeen) (ports : List PortSeen) → Ends (gen_walk words.now) old old (outside old (O.seen out.old) ports) (outside old (O.seen out.new) ports) result }
     ensures laws { HasLaws (gen_walk words.now) }
 {
     let mut ready = match prepare_case(alloc, words) {
         Ok(ready) => ready,
         Err(outcome) => return outcome,
     };
-    let totals = match play_case(&mut ready) {
-        Some(totals) => totals,
-        None => return Outcome::Memory,
-    };
+    let totals = play_case(&mut ready);
     let first = match first_line(alloc, words) {
         Ok(line) => line,
         Err(_) => return Outcome::Memory,

@@ -1,7 +1,7 @@
 //! The playing of a case.
-ghost use Rattle.std.specs.Prelude.{◌≡◌, ◌<◌, IfSome, IfNone};
+ghost use Rattle.std.specs.Prelude.{◌≡◌, ◌<◌};
 ghost use Rattle.run_text.specs.EventValue.{event_values};
-ghost use Rattle.cmd_run.specs.GenCommand.Totals.{Totals, IsTooMuch};
+ghost use Rattle.cmd_run.specs.GenCommand.Totals.{Totals, IsSmall};
 ghost use Rattle.cmd_run.specs.Run.Ready.{CanPlay};
 
 use crate::gen_command::totals::{CaseTotals, with_event};
@@ -13,13 +13,13 @@ use std::marker::Brand;
 use std::sync::ledger::{Blank, Ledger};
 
 // Plays events, with a counter of the steps that their changes of parameters take, and adds up what they give.
-fn play_with<L: Ledger>(machine: &mut Machine, events: &[Event], blank: Blank) -> Option<CaseTotals>
+fn play_with<L: Ledger>(machine: &mut Machine, events: &[Event], blank: Blank) -> CaseTotals
     requires name { blank.name ≡ L.name }
     requires parts { blank.parts ≡ L.parts }
     requires some { 0 < L.parts }
     requires can_play { CanPlay (event_values events.now) machine.old }
-    ensures totals { IfSome result (λ t. Totals machine.old (event_values events.now) t.writes t.total machine.new) }
-    ensures over { IfNone result (IsTooMuch machine.old (event_values events.now)) }
+    requires small { IsSmall (event_values events.now) machine.old }
+    ensures { Totals machine.old (event_values events.now) result.writes result.total machine.new }
 {
     let mut steps = Steps::<L>::start(blank);
     let mut totals = CaseTotals {
@@ -28,28 +28,25 @@ fn play_with<L: Ledger>(machine: &mut Machine, events: &[Event], blank: Blank) -
     };
     for event in events {
         machine.play(event, &mut steps);
-        totals = with_event(totals, event, machine)?;
+        totals = with_event(totals, event, machine);
     }
-    Some(totals)
+    totals
 }
 
 // Plays events, and adds up what they give.
-fn play_events(machine: &mut Machine, events: &[Event]) -> Option<CaseTotals>
-    requires { CanPlay (event_values events.now) machine.old }
-    ensures totals { IfSome result (λ t. Totals machine.old (event_values events.now) t.writes t.total machine.new) }
-    ensures over { IfNone result (IsTooMuch machine.old (event_values events.now)) }
+fn play_events(machine: &mut Machine, events: &[Event]) -> CaseTotals
+    requires can_play { CanPlay (event_values events.now) machine.old }
+    requires small { IsSmall (event_values events.now) machine.old }
+    ensures { Totals machine.old (event_values events.now) result.writes result.total machine.new }
 {
     play_with::<Brand>(machine, events, Blank::new(1))
 }
 
 /// Plays a case, and adds up what its events give.
-///
-/// `None` comes only where the totals up to some event don't fit their types. A generated case never comes to that: it has a hundred
-/// rounds, and a cycle of at most 64 outputs in each.
-pub fn play_case(ready: &mut Ready) -> Option<CaseTotals>
-    requires { CanPlay (event_values ready.old.events.items) ready.old.machine }
-    ensures totals { IfSome result (λ t. Totals ready.old.machine (event_values ready.old.events.items) t.writes t.total ready.new.machine) }
-    ensures over { IfNone result (IsTooMuch ready.old.machine (event_values ready.old.events.items)) }
+pub fn play_case(ready: &mut Ready) -> CaseTotals
+    requires can_play { CanPlay (event_values ready.old.events.items) ready.old.machine }
+    requires small { IsSmall (event_values ready.old.events.items) ready.old.machine }
+    ensures { Totals ready.old.machine (event_values ready.old.events.items) result.writes result.total ready.new.machine }
 {
     play_events(&mut ready.machine, &ready.events)
 }

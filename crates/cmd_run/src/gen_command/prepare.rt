@@ -18,7 +18,7 @@ ghost use Rattle.cmd_run.specs.GenCommand.Texts.{shelf_of, HaveSource, HaveCase}
 ghost use Rattle.cmd_run.specs.GenCommand.Verdict.{gen_reading};
 
 use crate::gen_command::words::GenWords;
-use crate::run::prepare::{Ready, script_names, start_machine};
+use crate::run::prepare::{Ready, mapped_names, start_machine};
 use cmd_base::{File, Outcome};
 use cmd_stations::{MappedSource, Source, list_events, list_params, map_source, read_netlist};
 use gen_case::multiplier;
@@ -79,7 +79,7 @@ fn case_events(
     ensures settled { OnOk result ((files : Files) → HasText files case_words.script script_text.now → IsScriptSettled files case_words.script (names_of mapped.now.source mapped.now.tables.template.bits)) }
     ensures err { IfErr result (λ o. (files : Files) → HasText files case_words.script script_text.now → Explains (script_reading case_words.script (names_of mapped.now.source mapped.now.tables.template.bits)) (shelf_of files) (shelf_of files) o) }
 {
-    let names = match script_names(alloc, mapped) {
+    let names = match mapped_names(alloc, mapped) {
         Ok(names) => names,
         Err(_) => return Err(Outcome::Memory),
     };

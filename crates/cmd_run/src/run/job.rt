@@ -24,8 +24,7 @@ pub fn run_job<S: Shelf, O: Sink, P: ConfigPort>(
     ports: &mut Vec<P>,
 ) -> Outcome
     requires { IsInRange (length ports.old.items) words.now }
-    ensures ends { Ends (run_walk (run_seen words.now)) (S.seen shelf.old) (S.seen shelf.new) (outside (S.seen shelf.old).files (O.bytes out.old) (map P.port_seen ports.old.items)) (outside (S.seen shelf.new).files (O.bytes out.new) (map P.port_seen ports.new.items)) result }
-    ensures write_fault { result ≡ Outcome.WriteFault → Rose (O.faults out.old) (O.faults out.new) }
+    ensures ends { Ends (run_walk (run_seen words.now)) (S.seen shelf.old) (S.seen shelf.new) (outside (S.seen shelf.old) (O.seen out.old) (map P.port_seen ports.old.items)) (outside (S.seen shelf.new) (O.seen out.new) (map P.port_seen ports.new.items)) result }
     ensures files { (S.seen shelf.new).files ≡ (S.seen shelf.old).files }
     ensures laws { HasLaws (run_walk (run_seen words.now)) }
 {

@@ -1,13 +1,13 @@
 //! The playing of a job.
-ghost use Rattle.std.specs.Prelude.{◌≡◌, ◌≤◌, ◌<◌, ◌+◌, length, map, Option, Err};
+ghost use Rattle.std.specs.Prelude.{◌≡◌, ◌≤◌, ◌<◌, ◌+◌, length, map, Err};
 ghost use Rattle.tl_io.specs.Causes.{Rose};
-ghost use Rattle.tl_io.specs.Shelf.{Files};
+ghost use Rattle.tl_io.specs.Shelf.{ShelfSeen};
 ghost use Rattle.run_text.specs.EventValue.{event_values};
 ghost use Rattle.port_bank.specs.Image.{Holds};
 ghost use Rattle.port_bank.specs.Seen.{bank_seen};
 ghost use Rattle.cmd_base.specs.Outside.{outside};
 ghost use Rattle.cmd_run.specs.Run.Ends.{IsPlayEnd, HaveFailed};
-ghost use Rattle.cmd_run.specs.Run.Ready.{CanPlay, EventsEnd, RunEnd};
+ghost use Rattle.cmd_run.specs.Run.Ready.{CanPlay, EventsEnd, RunEnd, IsServed};
 
 use crate::run::prepare::Ready;
 use crate::run::words::PortCounts;
@@ -34,9 +34,9 @@ fn play_with<O: Sink, P: ConfigPort, L: Ledger>(
     requires some { 0 < L.parts }
     requires can_play { CanPlay (event_values events.now) machine.old }
     requires holds { Holds machine.old.host.state.config (bank_seen P.port_seen bank.old) }
-    ensures ends { EventsEnd (record { machine = machine.old; bank = bank_seen P.port_seen bank.old }) (event_values events.now) (O.bytes out.old) (O.bytes out.new) (bank_seen P.port_seen bank.new) result }
-    ensures later { O.faults out.old ≤ O.faults out.new }
-    ensures cause { result ≡ Err StepErr.WriteFault → Rose (O.faults out.old) (O.faults out.new) }
+    ensures ends { EventsEnd (record { machine = machine.old; bank = bank_seen P.port_seen bank.old }) (event_values events.now) (O.seen out.old).bytes (O.seen out.new).bytes (bank_seen P.port_seen bank.new) result }
+    ensures later { (O.seen out.old).faults ≤ (O.seen out.new).faults }
+    ensures cause { result ≡ Err StepErr.WriteFault → Rose (O.seen out.old).faults (O.seen out.new).faults }
 {
     let mut steps = Steps::<L>::start(blank);
     for event in events {
@@ -54,9 +54,9 @@ fn play_events<O: Sink, P: ConfigPort>(
 ) -> Result<(), StepErr>
     requires can_play { CanPlay (event_values events.now) machine.old }
     requires holds { Holds machine.old.host.state.config (bank_seen P.port_seen bank.old) }
-    ensures ends { EventsEnd (record { machine = machine.old; bank = bank_seen P.port_seen bank.old }) (event_values events.now) (O.bytes out.old) (O.bytes out.new) (bank_seen P.port_seen bank.new) result }
-    ensures later { O.faults out.old ≤ O.faults out.new }
-    ensures cause { result ≡ Err StepErr.WriteFault → Rose (O.faults out.old) (O.faults out.new) }
+    ensures ends { EventsEnd (record { machine = machine.old; bank = bank_seen P.port_seen bank.old }) (event_values events.now) (O.seen out.old).bytes (O.seen out.new).bytes (bank_seen P.port_seen bank.new) result }
+    ensures later { (O.seen out.old).faults ≤ (O.seen out.new).faults }
+    ensures cause { result ≡ Err StepErr.WriteFault → Rose (O.seen out.old).faults (O.seen out.new).faults }
 {
     play_with::<O, P, Brand>(machine, events, out, bank, Blank::new(1))
 }
@@ -69,8 +69,8 @@ fn play_all<O: Sink, P: ConfigPort>(
     bank: &mut PortBank<P>,
 ) -> Result<(), StepErr>
     requires can_play { CanPlay (event_values events.now) machine.old }
-    ensures ends { RunEnd machine.old (event_values events.now) (bank_seen P.port_seen bank.old) (O.bytes out.old) (O.bytes out.new) (bank_seen P.port_seen bank.new) result }
-    ensures cause { result ≡ Err StepErr.WriteFault → Rose (O.faults out.old) (O.faults out.new) }
+    ensures ends { RunEnd machine.old (event_values events.now) (bank_seen P.port_seen bank.old) (O.seen out.old).bytes (O.seen out.new).bytes (bank_seen P.port_seen bank.new) result }
+    ensures cause { result ≡ Err StepErr.WriteFault → Rose (O.seen out.old).faults (O.seen out.new).faults }
 {
     machine.header(out)?;
     machine.load(bank)?;
@@ -90,8 +90,9 @@ pub fn play<O: Sink, P: ConfigPort>(
 ) -> Result<(), StepErr>
     requires can_play { CanPlay (event_values ready.old.events.items) ready.old.machine }
     requires within { counts.serving + counts.spares ≤ length ports.old.items }
-    ensures ends { (files : Option Files) → IsPlayEnd counts ready.old.machine (event_values ready.old.events.items) (outside files (O.bytes out.old) (map P.port_seen ports.old.items)) (outside files (O.bytes out.new) (map P.port_seen ports.new.items)) result }
-    ensures cause { result ≡ Err StepErr.WriteFault → Rose (O.faults out.old) (O.faults out.new) }
+    ensures ends { (shelf : ShelfSeen) → IsPlayEnd counts ready.old.machine (event_values ready.old.events.items) (outside shelf (O.seen out.old) (map P.port_seen ports.old.items)) (outside shelf (O.seen out.new) (map P.port_seen ports.new.items)) result }
+    ensures cause { result ≡ Err StepErr.WriteFault → Rose (O.seen out.old).faults (O.seen out.new).faults }
+    ensures served { IsServed counts (map P.port_seen ports.old.items) (map P.port_seen ports.new.items) result }
     ensures failed { result ≡ Err StepErr.PortFault → HaveFailed counts (map P.port_seen ports.old.items) (map P.port_seen ports.new.items) }
 {
     let handed_in = mem::replace(ports, Vec::new(alloc));

@@ -4,6 +4,7 @@ ghost use Rattle.list_laws.specs.Members.{In};
 ghost use Rattle.tl_text.specs.declared.logical_lines.TheConstants.{MOST_BYTES};
 ghost use Rattle.tl_io.specs.Shelf.{Files};
 ghost use Rattle.netlist.specs.declared.flat.FlatLatch.{FlatLatch as LatchValue};
+ghost use Rattle.cut_enum.specs.declared.limits.TheConstants.{MOST_LEAVES};
 ghost use Rattle.run_text.specs.EventValue.{EventValue, event_values};
 ghost use Rattle.run_text.specs.Fits.{Fits};
 ghost use Rattle.cmd_base.specs.Ends.{Told, Explains};
@@ -16,7 +17,7 @@ ghost use Rattle.cmd_run.specs.Run.Ready.{CanPlay, StartsOn, IsReadyFor};
 use crate::run::words::RunWords;
 use blif_flat::FlatLatch;
 use cmd_base::Outcome;
-use cmd_stations::{MappedSource, parameter_names, read_mapped, read_script_file};
+use cmd_stations::{MappedSource, read_mapped, read_script_file, script_names};
 use run_core::Machine;
 use run_text::{Event, Names};
 use std::alloc::{AllocError, Global};
@@ -30,15 +31,13 @@ pub struct Ready {
 }
 
 /// What the script of a mapped source circuit may name.
-pub fn script_names(alloc: Global, mapped: &MappedSource) -> Result<Names, AllocError>
+pub fn mapped_names(alloc: Global, mapped: &MappedSource) -> Result<Names, AllocError>
     requires { AreMade mapped.now.source mapped.now.tables }
     ensures { IfOk result (λ names. names ≡ names_of mapped.now.source mapped.now.tables.template.bits) }
 {
-    Ok(Names {
-        params: parameter_names(alloc, &mapped.source.params.list)?,
-        width: Some(mapped.tables.shape.regular),
-        bits: mapped.tables.template.bits,
-    })
+    let tables = &mapped.tables;
+    let names = script_names(alloc, &tables.pack, Some(tables.shape.regular))?;
+    Ok(names)
 }
 
 // The latches' states at the start.
@@ -80,8 +79,9 @@ fn read_events<S: Shelf>(
     ensures err { IfErr result (Explains (script_reading words.now.script.now (names_of mapped.now.source mapped.now.tables.template.bits)) (S.seen shelf.old) (S.seen shelf.new)) }
     ensures later { (S.seen shelf.old).read_faults ≤ (S.seen shelf.new).read_faults }
     ensures files { (S.seen shelf.new).files ≡ (S.seen shelf.old).files }
+    ensures write_faults { (S.seen shelf.new).write_faults ≡ (S.seen shelf.old).write_faults }
 {
-    match script_names(alloc, mapped) {
+    match mapped_names(alloc, mapped) {
         Ok(names) => read_script_file(alloc, words.script, &names, shelf),
         Err(_) => Err(Outcome::Memory),
     }
@@ -93,13 +93,14 @@ fn read_events<S: Shelf>(
 /// The outcome of the command: the first refusal, a read fault, or want of memory.
 pub fn prepare<S: Shelf>(alloc: Global, words: &RunWords, shelf: &mut S) -> Result<Ready, Outcome>
     requires least { 2 ≤ words.now.source.k }
-    requires most { words.now.source.k ≤ 6 }
+    requires most { words.now.source.k ≤ MOST_LEAVES }
     ensures ready { IfOk result (λ r. CanPlay (event_values r.events.items) r.machine) }
     ensures prepared { IfOk result (λ r. Told (S.seen shelf.old).files (λ files. IsReadyFor files (run_seen words.now) r)) }
     ensures given { OnOk result ((S.seen shelf.new).given ≤ MOST_BYTES) }
     ensures err { IfErr result (Explains (run_reading (run_seen words.now)) (S.seen shelf.old) (S.seen shelf.new)) }
     ensures later { (S.seen shelf.old).read_faults ≤ (S.seen shelf.new).read_faults }
     ensures files { (S.seen shelf.new).files ≡ (S.seen shelf.old).files }
+    ensures write_faults { (S.seen shelf.new).write_faults ≡ (S.seen shelf.old).write_faults }
 {
     let mapped = match read_mapped(alloc, &words.source, shelf) {
         Ok(mapped) => mapped,

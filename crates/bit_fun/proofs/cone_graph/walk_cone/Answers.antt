@@ -1,10 +1,10 @@
 use Rattle.std.proofs.Common.{◌≡◌, ◌∙◌, ap, subst, sym}
 use Rattle.aig_core.specs.Aig.{node_count}
 use Rattle.cover_pick.specs.Work.{IsInner}
-use Rattle.cover_pick.proofs.WorkLaws.{stop_inner}
+use Rattle.cover_pick.proofs.WorkLemmas.{stop_inner}
 use Rattle.depth_first.specs.Edges.{successors, AreNodes}
 use Rattle.depth_first.specs.Walk.{WalkValue}
-use Rattle.bit_fun.specs.Pass.{cone_edges}
+use Rattle.bit_fun.specs.ConeFunctions.{cone_edges}
 use Rattle.bit_fun.proofs.ConeOrderLemmas.{cone_order}
 use Rattle.bit_fun.proofs.ConeWalkLemmas.{cone_nodes}
 use Rattle.bit_fun.proofs.cone_graph.walk_cone.Goals as goal

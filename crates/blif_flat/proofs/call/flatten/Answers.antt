@@ -9,7 +9,7 @@ assemble-requires-clause-short c = c.requires.short c.main_model-main.result.now
 
 pub returns-clause-sound : goal.returns-clause-sound
 returns-clause-sound c =
-    all_sound c.args.library.now c.in_ok-circuit.circuit.rows.items c.in_ok-circuit.ensures.rows c.in_ok-check_models.ensures.ok.connected c.main_model-main.result.now c.main_model-main.ensures
+    all_sound c.args.library.now c.in_ok-circuit.circuit.instances.items c.in_ok-circuit.ensures.instances c.in_ok-check_models.ensures.ok.connected c.main_model-main.result.now c.main_model-main.ensures
     c.in_ok-clocks.clocks c.in_ok-clocks.ensures.ok c.requires.formed c.in_ok-flat.ensures.clean
 
 pub returns-clause-values : goal.returns-clause-values
@@ -17,7 +17,7 @@ returns-clause-values c = record { fields = c.in_ok-flat.ensures.flat; evaluates
 
 pub returns-clause-cycles : goal.returns-clause-cycles
 returns-clause-cycles c = flat_cycles c.args.library.now c.in_ok-flat.flat c.in_ok-flat.ensures.flat
-    (all_sound c.args.library.now c.in_ok-circuit.circuit.rows.items c.in_ok-circuit.ensures.rows c.in_ok-check_models.ensures.ok.connected c.main_model-main.result.now c.main_model-main.ensures
+    (all_sound c.args.library.now c.in_ok-circuit.circuit.instances.items c.in_ok-circuit.ensures.instances c.in_ok-check_models.ensures.ok.connected c.main_model-main.result.now c.main_model-main.ensures
     c.in_ok-clocks.clocks c.in_ok-clocks.ensures.ok c.requires.formed c.in_ok-flat.ensures.clean)
 
 pub returns-clause-bounds : goal.returns-clause-bounds
@@ -25,11 +25,11 @@ returns-clause-bounds c = flat_bounds c.args.library.now c.in_ok-flat.flat c.in_
 
 pub returns-clause-clean : goal.returns-clause-clean
 returns-clause-clean c =
-    none_stands c.args.library.now c.in_ok-circuit.circuit.rows.items c.in_ok-circuit.ensures.rows c.in_ok-check_models.ensures.ok.connected c.main_model-main.result.now c.main_model-main.ensures
+    none_stands c.args.library.now c.in_ok-circuit.circuit.instances.items c.in_ok-circuit.ensures.instances c.in_ok-check_models.ensures.ok.connected c.main_model-main.result.now c.main_model-main.ensures
     c.in_ok-clocks.clocks c.in_ok-clocks.ensures.ok c.requires.formed c.in_ok-flat.ensures.clean
 
 pub returns-in_err-flat-clause-err : goal.returns-in_err-flat-clause-err
 returns-in_err-flat-clause-err c =
     passed_on c.from_residual-in_err-flat.result c.in_err-flat.field-0.0 _ _ c.from_residual-in_err-flat.ensures.1
-    (loop_refused c.args.library.now c.in_ok-circuit.circuit.rows.items c.in_ok-circuit.ensures.rows c.in_ok-check_models.ensures.ok.connected c.main_model-main.result.now c.main_model-main.ensures
+    (loop_refused c.args.library.now c.in_ok-circuit.circuit.instances.items c.in_ok-circuit.ensures.instances c.in_ok-check_models.ensures.ok.connected c.main_model-main.result.now c.main_model-main.ensures
     c.in_ok-clocks.clocks c.in_ok-clocks.ensures.ok c.in_err-flat.field-0.0 c.in_err-flat.ensures.err)

@@ -9,7 +9,7 @@ use Rattle.blif_read.proofs.SizeLemmas.{denotes_small}
 use Rattle.blif_read.proofs.SmallLemmas.{denotes_few, denotes_short}
 use Rattle.blif_read.proofs.TextLemmas.{denotes_once, fault_is_read, one_reading, only_memory}
 use Rattle.blif_read.proofs.CleanLemmas.{denotes_clean}
-use Rattle.blif_read.proofs.ErrLemmas.{passed_on}
+use Rattle.tl_fault.proofs.PassedOn.{passed_on}
 use Rattle.blif_read.proofs.WellFormedLemmas.{denotes_formed}
 use Rattle.blif_read.proofs.read_text.read.Goals as goal
 

@@ -1,13 +1,7 @@
-use Rattle.std.proofs.Common.{◌≡◌, ◌≤◌}
 use Rattle.std.specs.List.{flat_map, range_with_len}
-use Rattle.tl_piece.specs.Pieces.{Adds}
+use Rattle.tl_piece.specs.Added.{IsAdded}
 use Rattle.blif_write.proofs.RowLemmas.{digit_text}
 use Rattle.blif_write.proofs.rows.add_digits.Given as goal
 
 abbrev pub invariant-loop-place : goal.invariant-loop-place
-invariant-loop-place g l = record {
-  later : g.O.Sink.faults l.fn.out ≤ g.O.Sink.faults l.out;
-  grown : Adds (g.O.Sink.bytes l.fn.out) l.fn.piece (flat_map (digit_text l.v) (range_with_len 0 l.place)) (g.O.Sink.bytes l.out) l.piece;
-  through : g.O.Sink.through l.out ≡ g.O.Sink.through l.fn.out;
-  others : g.O.Sink.others l.out ≡ g.O.Sink.others l.fn.out;
-}
+invariant-loop-place g l = IsAdded g.O.Sink.seen l.fn.writer (flat_map (digit_text l.v) (range_with_len 0 l.place)) l.writer

@@ -1,9 +1,10 @@
 use Rattle.std.proofs.Common.{arith, ◌≤◌, ◌^◌}
 use Rattle.std.proofs.Math.Pow.{pow_mono}
+use Rattle.cut_enum.specs.declared.limits.TheConstants.{MOST_LEAVES}
 use Rattle.blif_write.proofs.rows.bit_count.Goals as goal
 
 pub returns-clause-few : goal.returns-clause-few
-returns-clause-few c = let p : 2 ^ c.args.leaves ≤ 2 ^ 6 = pow_mono c.requires in omega arith
+returns-clause-few c = let p : 2 ^ c.args.leaves ≤ 2 ^ MOST_LEAVES = pow_mono c.requires in omega arith
 
 pub returns-clause-value : goal.returns-clause-value
-returns-clause-value c = let p : 2 ^ c.args.leaves ≤ 2 ^ 6 = pow_mono c.requires in omega arith
+returns-clause-value c = let p : 2 ^ c.args.leaves ≤ 2 ^ MOST_LEAVES = pow_mono c.requires in omega arith

@@ -1,16 +1,7 @@
-use Rattle.tl_piece.proofs.PieceLemmas.{stops_longer, stops_later, adds_then}
-use Rattle.tl_piece.proofs.AddLemmas.{stopped}
+use Rattle.tl_piece.proofs.AddedLemmas.{added_twice}
 use Rattle.blif_write.proofs.tables.add_bit_line.Goals as goal
 
-pub returns-in_err-add_text-clause-grown : goal.returns-in_err-add_text-clause-grown
-returns-in_err-add_text-clause-grown g c =
-    stopped _ _ c.from_residual.result c.from_residual.ensures.1 (stops_longer _ c.in_err-add_text.ensures.grown)
-
-pub returns-in_err-add_table_bits-clause-grown : goal.returns-in_err-add_table_bits-clause-grown
-returns-in_err-add_table_bits-clause-grown g c =
-    stopped _ _ c.from_residual-in_err-add_table_bits.result c.from_residual-in_err-add_table_bits.ensures.1 (stops_later c.in_ok-add_text.ensures.grown (stops_longer _ c.in_err-add_table_bits.ensures.grown))
-
-pub returns-clause-grown : goal.returns-clause-grown
-returns-clause-grown g c =
-    adds_then _ (g.O.Sink.bytes c.add_byte.new.out) c.add_byte.new.self c.add_byte.result c.in_ok-add_text.ensures.grown
-    (adds_then _ (g.O.Sink.bytes c.add_byte.new.out) c.add_byte.new.self c.add_byte.result c.in_ok-add_table_bits.ensures.grown c.add_byte.ensures.grown)
+pub returns : goal.returns
+returns g c =
+    added_twice c.add_text.ensures
+    (added_twice c.add_table_bits.ensures c.add_byte.ensures)

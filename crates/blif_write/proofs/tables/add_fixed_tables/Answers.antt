@@ -5,22 +5,16 @@ use Rattle.cover_pick.specs.declared.lut.Lut.{Lut}
 use Rattle.blif_write.specs.PlainNetlist.{line_text, cover_lines}
 use Rattle.blif_write.specs.Netlists.{fixed_table}
 use Rattle.blif_write.proofs.TableLemmas.{tables_text}
-use Rattle.tl_piece.proofs.PieceLemmas.{adds_part, stops_part}
-use Rattle.tl_piece.proofs.AddLemmas.{stopped, stops_as, adds_as}
+use Rattle.tl_piece.proofs.AddedLemmas.{added_as, added_none}
+use Rattle.tl_piece.proofs.PartLemmas.{added_part}
 use Rattle.blif_write.proofs.tables.add_fixed_tables.Goals as goal
 
-pub returns-in_err-add_fixed_table-clause-grown : goal.returns-in_err-add_fixed_table-clause-grown
-returns-in_err-add_fixed_table-clause-grown g c = stopped _ _ c.from_residual.result c.from_residual.ensures.1
-    (stops_as (tables_text (fixed_table c.args.names.now c.args.config.now) c.args.tables.now) (stops_part (λ (t : Lut). flat_map line_text (cover_lines (fixed_table c.args.names.now c.args.config.now t))) c.args.tables.now c.loop-table.table-index c.table-item.result (omega arith) c.loop-table.invariant.grown (stops_as (ap (λ (t : Lut). flat_map line_text (cover_lines (fixed_table c.args.names.now c.args.config.now t))) c.table-item.is) c.in_err-add_fixed_table.ensures.grown)))
+pub loop-table-init : goal.loop-table-init
+loop-table-init g c = added_none g.O.Sink.seen c.args.writer.now
 
 pub loop-table-preserved : goal.loop-table-preserved
-loop-table-preserved g c = record {
-  later = omega (arith, c.loop-table.invariant.later, c.in_ok-add_fixed_table.ensures.cause.later);
-  grown = adds_part (λ (t : Lut). flat_map line_text (cover_lines (fixed_table c.args.names.now c.args.config.now t))) c.args.tables.now c.loop-table.table-index c.table-item.result (omega arith) c.loop-table.invariant.grown (adds_as (ap (λ (t : Lut). flat_map line_text (cover_lines (fixed_table c.args.names.now c.args.config.now t))) c.table-item.is) c.in_ok-add_fixed_table.ensures.grown);
-  through = c.in_ok-add_fixed_table.ensures.through ∙ c.loop-table.invariant.through;
-  others = c.in_ok-add_fixed_table.ensures.others ∙ c.loop-table.invariant.others;
-}
+loop-table-preserved g c = added_part (λ (t : Lut). flat_map line_text (cover_lines (fixed_table c.args.names.now c.args.config.now t))) c.args.tables.now c.loop-table.table-index c.table-item.result (omega arith) c.loop-table.invariant (added_as (ap (λ (t : Lut). flat_map line_text (cover_lines (fixed_table c.args.names.now c.args.config.now t))) c.table-item.is) c.add_fixed_table.ensures)
 
-pub returns-clause-grown : goal.returns-clause-grown
-returns-clause-grown g c =
-    adds_as (ap (flat_map (λ (t : Lut). flat_map line_text (cover_lines (fixed_table c.args.names.now c.args.config.now t)))) (take_all c.loop-table.table-index c.args.tables.now (omega arith)) ∙ tables_text (fixed_table c.args.names.now c.args.config.now) c.args.tables.now) c.loop-table.invariant.grown
+pub returns : goal.returns
+returns g c =
+    added_as (ap (flat_map (λ (t : Lut). flat_map line_text (cover_lines (fixed_table c.args.names.now c.args.config.now t)))) (take_all c.loop-table.table-index c.args.tables.now (omega arith)) ∙ tables_text (fixed_table c.args.names.now c.args.config.now) c.args.tables.now) c.loop-table.invariant

@@ -1,13 +1,8 @@
-use Rattle.std.proofs.Common.{◌≡◌, ◌≤◌, ◌∷◌, take}
+use Rattle.std.proofs.Common.{◌∷◌, take}
 use Rattle.std.specs.List.{flat_map}
-use Rattle.tl_piece.specs.Pieces.{Adds}
+use Rattle.tl_piece.specs.Added.{IsAdded}
 use Rattle.netlist.specs.declared.flat.OutPort.{OutPort}
 use Rattle.blif_write.proofs.writing.add_output_names.Given as goal
 
 abbrev pub invariant-loop-output : goal.invariant-loop-output
-invariant-loop-output g l = record {
-  later : g.O.Sink.faults l.fn.out ≤ g.O.Sink.faults l.out;
-  grown : Adds (g.O.Sink.bytes l.fn.out) l.fn.piece (flat_map (λ (o : OutPort). 32 ∷ o.name) (take l.output-index l.outputs)) (g.O.Sink.bytes l.out) l.piece;
-  through : g.O.Sink.through l.out ≡ g.O.Sink.through l.fn.out;
-  others : g.O.Sink.others l.out ≡ g.O.Sink.others l.fn.out;
-}
+invariant-loop-output g l = IsAdded g.O.Sink.seen l.fn.writer (flat_map (λ (o : OutPort). 32 ∷ o.name) (take l.output-index l.outputs)) l.writer

@@ -1,9 +1,9 @@
 use Rattle.std.proofs.Common.{ℕ, ◌≡◌, ◌<◌, ◌∷◌, [], List, length, get_or, ap, sym, arith, ◌∙◌}
 use Rattle.std.proofs.lemmas.List.{length-map}
 use Rattle.list_laws.proofs.Members.{In-get_or}
-use Rattle.tl_piece.proofs.PieceLemmas.{adds_part, stops_part}
+use Rattle.tl_piece.proofs.AddedLemmas.{added_as, added_none}
+use Rattle.tl_piece.proofs.PartLemmas.{added_part}
 use Rattle.blif_write.specs.OwnNames.{Naming}
-use Rattle.tl_piece.proofs.AddLemmas.{stopped, stops_as, adds_as}
 use Rattle.blif_write.proofs.NameLemmas.{name_at}
 use Rattle.blif_write.proofs.writing.add_regular.Goals as goal
 
@@ -11,15 +11,8 @@ pub bounds-names-inside-place : goal.bounds-names-inside-place
 bounds-names-inside-place g c =
     c.names.invariant.0 (get_or c.names.inside.regular.now c.loop-place.place-index 0) (In-get_or c.names.inside.regular.now c.loop-place.place-index 0 (omega arith))
 
-pub returns-in_err-add_word-clause-grown : goal.returns-in_err-add_word-clause-grown
-returns-in_err-add_word-clause-grown g c =
-    let i : ℕ = c.loop-place.place-index in
-    let there : i < length c.names.inside.regular.now = omega arith in
-    let within : get_or c.names.inside.regular.now i 0 < length c.names.inside.inputs.now = c.names.invariant.0 (get_or c.names.inside.regular.now i 0) (In-get_or c.names.inside.regular.now i 0 there) in
-    let names : length c.args.names.now.regular ≡ length c.names.inside.regular.now = ap (λ (n : Naming). length n.regular) (sym c.names.view_is) ∙ length-map c.names.inside.regular.now (λ (k : ℕ). get_or c.names.inside.inputs.now k []) in
-    let is = sym c.index-names-place.is ∙ name_at c.names.inside.inputs.now c.names.inside.regular.now i c.index-names-place.result there within c.index-names-place.is ∙ ap (λ (n : Naming). get_or n.regular i []) c.names.view_is in
-    stopped _ _ c.from_residual.result c.from_residual.ensures.1
-    (stops_part (λ (w : List ℕ). 32 ∷ w) c.args.names.now.regular i [] (omega (arith, there, names)) c.loop-place.invariant.grown (stops_as (ap (λ (w : List ℕ). 32 ∷ w) is) c.in_err-add_word.ensures.grown))
+pub loop-place-init : goal.loop-place-init
+loop-place-init g c = added_none g.O.Sink.seen c.args.writer.now
 
 pub loop-place-preserved : goal.loop-place-preserved
 loop-place-preserved g c =
@@ -28,9 +21,4 @@ loop-place-preserved g c =
     let within : get_or c.names.inside.regular.now i 0 < length c.names.inside.inputs.now = c.names.invariant.0 (get_or c.names.inside.regular.now i 0) (In-get_or c.names.inside.regular.now i 0 there) in
     let names : length c.args.names.now.regular ≡ length c.names.inside.regular.now = ap (λ (n : Naming). length n.regular) (sym c.names.view_is) ∙ length-map c.names.inside.regular.now (λ (k : ℕ). get_or c.names.inside.inputs.now k []) in
     let is = sym c.index-names-place.is ∙ name_at c.names.inside.inputs.now c.names.inside.regular.now i c.index-names-place.result there within c.index-names-place.is ∙ ap (λ (n : Naming). get_or n.regular i []) c.names.view_is in
-    record {
-      later = omega (arith, c.loop-place.invariant.later, c.in_ok-add_word.ensures.cause.later);
-      grown = adds_part (λ (w : List ℕ). 32 ∷ w) c.args.names.now.regular i [] (omega (arith, there, names)) c.loop-place.invariant.grown (adds_as (ap (λ (w : List ℕ). 32 ∷ w) is) c.in_ok-add_word.ensures.grown);
-      through = c.in_ok-add_word.ensures.through ∙ c.loop-place.invariant.through;
-      others = c.in_ok-add_word.ensures.others ∙ c.loop-place.invariant.others;
-    }
+    added_part (λ (w : List ℕ). 32 ∷ w) c.args.names.now.regular i [] (omega (arith, there, names)) c.loop-place.invariant (added_as (ap (λ (w : List ℕ). 32 ∷ w) is) c.add_word.ensures)

@@ -1,17 +1,18 @@
 use Rattle.std.proofs.Common.{◌≡◌, ℕ, ◌≤◌, ◌<◌, List, [], not, length, map, get_or, ap, sym, subst, ◌∙◌, arith}
+use Rattle.list_laws.proofs.Members.{length-filter_le}
 use Rattle.lut_sim.specs.declared.shape.Shape.{Shape}
 use Rattle.netlist.specs.FlatValue.{FlatValue}
 use Rattle.netlist.specs.Models.{has_name}
 use Rattle.param_list.specs.Parameters.{ParamsValue, param_names, regular_names}
 use Rattle.blif_write.specs.OwnNames.{naming_of}
-use Rattle.blif_write.proofs.NameLemmas.{placed_names, placed_within, placed_count, fewer, same_naming, same_shape}
+use Rattle.blif_write.proofs.NameLemmas.{placed_names, placed_within, placed_count, same_naming, same_shape}
 use Rattle.blif_write.proofs.writing.names_of.Goals as goal
 
 pub overflow_cast-regular : goal.overflow_cast-regular
 overflow_cast-regular c =
     let names : List (List ℕ) = regular_names c.args.flat.now c.args.params.now.list in
     let count : length c.args.regular.now ≡ length names = placed_count c.args.flat.now.inputs c.args.regular.now names c.requires.places in
-    let few : length names ≤ length c.args.flat.now.inputs = fewer (λ (name : List ℕ). not (has_name (param_names c.args.params.now.list) name)) c.args.flat.now.inputs in
+    let few : length names ≤ length c.args.flat.now.inputs = length-filter_le (λ (name : List ℕ). not (has_name (param_names c.args.params.now.list) name)) c.args.flat.now.inputs in
     omega (arith, count, few, c.requires.few_inputs)
 
 pub invariant_of-result : goal.invariant_of-result

@@ -10,7 +10,7 @@ use Rattle.cert_check.specs.CertText.{said_of, steps_said, fits_at, AreSaid}
 use Rattle.cert_check.specs.Reading.{IsMisfit, IsMalformed}
 use Rattle.cert_check.specs.Refusals.{refusal_of}
 use Rattle.cert_check.specs.declared.cert_err.CertErr.TheVariants.{Malformed}
-use Rattle.cert_check.proofs.StepLemmas.{passed_err}
+use Rattle.tl_fault.proofs.PassedOn.{passed_err}
 use Rattle.cert_check.proofs.LineLemmas.{all_lines, first_wrong, later_wrong, some_lines}
 use Rattle.cert_check.proofs.cert_lines.read_lines.Goals as goal
 

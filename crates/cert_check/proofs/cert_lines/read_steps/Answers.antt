@@ -8,7 +8,7 @@ use Rattle.cert_check.specs.CertText.{said_of, steps_said, fits_at}
 use Rattle.cert_check.specs.Reading.{saying_value, IsMisfit}
 use Rattle.cert_check.specs.Refusals.{refusal_of}
 use Rattle.cert_check.specs.declared.cert_err.CertErr.TheVariants.{Malformed}
-use Rattle.cert_check.proofs.StepLemmas.{passed_err}
+use Rattle.tl_fault.proofs.PassedOn.{passed_err}
 use Rattle.cert_check.proofs.LineLemmas.{nothing_said, wrong_place, one_more, all_read, line_at}
 use Rattle.cert_check.proofs.cert_lines.read_steps.Goals as goal
 

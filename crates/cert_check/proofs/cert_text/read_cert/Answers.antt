@@ -5,7 +5,7 @@ use Rattle.tl_text.specs.LineValue.{LineValue, words_line}
 use Rattle.cert_check.specs.CertText.{IsCertTextFault, malformed}
 use Rattle.cert_check.specs.Reading.{IsMalformed}
 use Rattle.cert_check.specs.Refusals.{refusal_of}
-use Rattle.cert_check.proofs.StepLemmas.{passed_err}
+use Rattle.tl_fault.proofs.PassedOn.{passed_err}
 use Rattle.cert_check.proofs.FormedLemmas.{text_writable}
 use Rattle.cert_check.proofs.OnceLemmas.{one_reading}
 use Rattle.cert_check.proofs.cert_text.read_cert.Goals as goal

@@ -7,7 +7,7 @@ use Rattle.cert_check.specs.Faults.{StepsFault, IsFault}
 use Rattle.cert_check.specs.InTurn.{AreInTurn}
 use Rattle.cert_check.specs.Refusals.{refusal_of}
 use Rattle.cert_check.specs.Valid.{claim_of, IsReached, IsValid}
-use Rattle.cert_check.proofs.StepLemmas.{passed_err}
+use Rattle.tl_fault.proofs.PassedOn.{passed_err}
 use Rattle.cert_check.proofs.InTurnLemmas.{turn_valid}
 use Rattle.cert_check.proofs.LeastLemmas.{valid_bound, valid_claims}
 use Rattle.cert_check.proofs.CheckLemmas.{one_verdict, fault_of_steps, fault_of_depth, reached_all, reached_back, passed_on_ok}

@@ -3,7 +3,7 @@ use Rattle.aig_core.specs.Aig.{IsAnd}
 use Rattle.cert_check.specs.CertificateValue.{StepValue}
 use Rattle.cert_check.specs.Faults.{First, StepFault}
 use Rattle.cert_check.specs.declared.cert_err.CertErr.TheVariants.{BadClaim}
-use Rattle.cert_check.proofs.StepLemmas.{passed_err}
+use Rattle.tl_fault.proofs.PassedOn.{passed_err}
 use Rattle.cert_check.proofs.checking.take_step.Goals as goal
 
 pub returns-in_err-check_step-clause-fault : goal.returns-in_err-check_step-clause-fault

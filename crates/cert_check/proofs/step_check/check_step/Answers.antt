@@ -2,7 +2,8 @@ use Rattle.std.proofs.Common.{◌≡◌, ◌<◌, List, length, get_or, ap, ◌�
 use Rattle.cert_check.specs.CertificateValue.{PathValue, StepValue}
 use Rattle.cert_check.specs.Faults.{StepFault}
 use Rattle.cert_check.specs.Valid.{path_count}
-use Rattle.cert_check.proofs.StepLemmas.{passed_err, next_stops, next_taken, all_taken}
+use Rattle.tl_fault.proofs.PassedOn.{passed_err}
+use Rattle.cert_check.proofs.StepLemmas.{next_stops, next_taken, all_taken}
 use Rattle.cert_check.proofs.step_check.check_step.Goals as goal
 
 pub returns-in_err-check_path-clause-fault : goal.returns-in_err-check_path-clause-fault

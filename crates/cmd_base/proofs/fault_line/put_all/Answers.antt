@@ -1,27 +1,23 @@
-use Rattle.std.proofs.Common.{arith, ◌∙◌, ℕ, List, [], Bor, Option, ap, sym, get_or}
-use Rattle.std.proofs.lemmas.Result.{err_from_is_err_and}
-use Rattle.tl_io.specs.Content.{extended}
-use Rattle.cmd_base.proofs.PutLemmas.{put_part, texts_more, texts_split}
-use Rattle.tl_io.proofs.ContentLemmas.{extended_twice}
+use Rattle.std.proofs.Common.{ℕ, suc, List, [], Bor, Ok, drop, sym, ap, ◌∙◌, append_assoc, arith}
+use Rattle.std.proofs.lemmas.List.{take_all}
+use Rattle.tl_io.proofs.PutLemmas.{put_none, put_twice, put_stopped, put_as}
+use Rattle.cmd_base.proofs.PutLemmas.{texts, texts_more, texts_split}
 use Rattle.cmd_base.proofs.fault_line.put_all.Goals as goal
 
-pub returns-in_err-put-clause-grown : goal.returns-in_err-put-clause-grown
-returns-in_err-put-clause-grown g c =
-    let a = c.in_err-put.ensures.grown in
-    let d : Bor (List ℕ) = record { ref_ptr = (0, 0); now = [] } in
-    let p = err_from_is_err_and c.from_residual.result c.from_residual.ensures.1 in
-    let part = put_part (g.S.Sink.bytes c.args.sink.now) _ _ _ _ _ _ (texts_split c.args.pieces.now c.loop-piece.piece-index d (omega arith)) c.loop-piece.invariant.grown a.0 a.1 a.2 in
-    rw p.1 part
+abbrev none : Bor (List ℕ)
+none = record { ref_ptr = (0, 0); now = [] }
+
+pub loop-piece-init : goal.loop-piece-init
+loop-piece-init g c = put_none (g.S.Sink.seen c.args.sink.now)
+
+pub returns-in_err-put : goal.returns-in_err-put
+returns-in_err-put g c =
+    let rest : List ℕ = texts (drop (suc c.loop-piece.piece-index) c.args.pieces.now) in
+    put_as (append_assoc _ _ rest ∙ sym (texts_split c.args.pieces.now c.loop-piece.piece-index none (omega arith)))
+    (put_stopped _ rest c.from_residual.result c.from_residual.ensures.1 (put_twice _ c.loop-piece.invariant c.in_err-put.ensures))
 
 pub loop-piece-preserved : goal.loop-piece-preserved
-loop-piece-preserved g c =
-    let d : Bor (List ℕ) = record { ref_ptr = (0, 0); now = [] } in
-    let piece = (get_or c.args.pieces.now c.loop-piece.piece-index d).now in
-    let told = g.S.Sink.bytes c.args.sink.now in
-    record {
-      later = omega (arith, c.loop-piece.invariant.later, c.in_ok-put.ensures.cause.later);
-      grown = c.in_ok-put.ensures.grown
-          ∙ (ap (λ (o : Option (List ℕ)). extended o piece) c.loop-piece.invariant.grown
-          ∙ (extended_twice told _ piece
-          ∙ ap (extended told) (sym (texts_more c.args.pieces.now c.loop-piece.piece-index d (omega arith)))));
-    }
+loop-piece-preserved g c = put_as (sym (texts_more c.args.pieces.now c.loop-piece.piece-index none (omega arith))) (put_twice (Ok tt) c.loop-piece.invariant c.in_ok-put.ensures)
+
+pub returns : goal.returns
+returns g c = put_as (ap texts (take_all c.loop-piece.piece-index c.args.pieces.now (omega arith))) c.loop-piece.invariant

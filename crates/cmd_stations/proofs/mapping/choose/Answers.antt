@@ -7,6 +7,7 @@ use Rattle.cover_pick.specs.Template.{IsTooMuch}
 use Rattle.cmd_stations.specs.Mapped.{IsUnchosen, cuts, work}
 use Rattle.cmd_stations.specs.Settled.{IsGraphSettled}
 use Rattle.cmd_stations.proofs.StopLemmas.{passed_stop, passed_settled, settled_anyway}
+use Rattle.cmd_stations.proofs.LeastLemmas.{least_mapping}
 use Rattle.cmd_stations.proofs.GraphLemmas.{limit_settled, table_settled, work_is}
 use Rattle.cmd_stations.proofs.mapping.choose.Goals as goal
 
@@ -32,7 +33,8 @@ pub returns-in_err-template-clause-settled : goal.returns-in_err-template-clause
 returns-in_err-template-clause-settled c =
     settled_anyway c.from_residual-in_err-template.result
     (table_settled c.args.graph.now c.args.k c.args.roots.now c.enumerate.ensures.once c.enumerate.ensures.excluded c.in_ok-table.table c.in_ok-table.ensures.ok c.enumerate.ensures.one_table
-    c.in_ok-labels.labels c.in_ok-labels.ensures.ok c.labels.ensures.once c.pick.ensures.once c.pick.ensures.excluded)
+    c.in_ok-labels.labels c.in_ok-labels.ensures.ok c.labels.ensures.once c.pick.ensures.once c.pick.ensures.excluded
+    c.requires.least (λ t is. c.pick.ensures.mapping t is c.args.k c.in_ok-table.ensures.ok) (λ t is. c.pick.ensures.least t is c.args.k c.in_ok-table.ensures.ok))
 
 pub returns-clause-chosen : goal.returns-clause-chosen
 returns-clause-chosen c = record {
@@ -40,8 +42,6 @@ returns-clause-chosen c = record {
   labels = c.in_ok-labels.labels;
   labelled = record { rows_are = c.in_ok-table.ensures.ok; labels_are = c.in_ok-labels.ensures.ok };
   chosen = c.in_ok-template.ensures.template;
-  mapping = c.in_ok-template.ensures.mapping c.args.k c.in_ok-table.ensures.ok;
-  least = c.in_ok-template.ensures.least c.args.k c.in_ok-table.ensures.ok;
   light = c.in_ok-template.ensures.light;
 }
 
@@ -49,3 +49,10 @@ pub returns-clause-settled : goal.returns-clause-settled
 returns-clause-settled c =
     table_settled c.args.graph.now c.args.k c.args.roots.now c.enumerate.ensures.once c.enumerate.ensures.excluded c.in_ok-table.table c.in_ok-table.ensures.ok c.enumerate.ensures.one_table
     c.in_ok-labels.labels c.in_ok-labels.ensures.ok c.labels.ensures.once c.pick.ensures.once c.pick.ensures.excluded
+    c.requires.least (λ t is. c.pick.ensures.mapping t is c.args.k c.in_ok-table.ensures.ok) (λ t is. c.pick.ensures.least t is c.args.k c.in_ok-table.ensures.ok)
+
+pub returns-clause-least : goal.returns-clause-least
+returns-clause-least c =
+    let t = c.in_ok-template.template in
+    let is = c.in_ok-template.ensures.template in
+    least_mapping c.args.graph.now c.args.k c.args.roots.now t c.requires.least (c.pick.ensures.mapping t is c.args.k c.in_ok-table.ensures.ok) (c.pick.ensures.least t is c.args.k c.in_ok-table.ensures.ok)

@@ -2,7 +2,7 @@ use Rattle.aig_build.specs.NetlistGraph.{HasTooManyNodes}
 use Rattle.aig_build.specs.Refusals.{refusal_of as build_refusal}
 use Rattle.cmd_stations.specs.Settled.{IsGraphSettled, IsMappingSettled}
 use Rattle.cmd_stations.proofs.StopLemmas.{passed_settled, passed_anyway}
-use Rattle.cmd_stations.proofs.GraphLemmas.{full_settled, mapping_settled}
+use Rattle.cmd_stations.proofs.GraphLemmas.{full_settled, mapping_settled, tables_as}
 use Rattle.cmd_stations.proofs.mapping.map_source.Goals as goal
 
 pub returns-in_err-graph-clause-settled : goal.returns-in_err-graph-clause-settled
@@ -20,3 +20,9 @@ returns-in_err-template-clause-settled c =
 pub returns-clause-settled : goal.returns-clause-settled
 returns-clause-settled c =
     mapping_settled c.args.source.now c.source_graph.ensures.one c.args.k c.in_ok-graph.graph c.in_ok-graph.roots c.in_ok-graph.ensures.graph c.in_ok-graph.ensures.nodes c.in_ok-template.ensures.settled
+
+pub returns-clause-tables : goal.returns-clause-tables
+returns-clause-tables c =
+    tables_as c.args.source.now c.args.k c.in_ok-tables.tables c.in_ok-template.template c.in_ok-tables.ensures.template
+    (record { graph = c.in_ok-graph.graph; roots = c.in_ok-graph.roots; is_graph = c.in_ok-graph.ensures.graph; nodes = c.in_ok-graph.ensures.nodes; chosen = c.in_ok-template.ensures.chosen }) c.in_ok-template.ensures.least
+    c.in_ok-tables.ensures.made

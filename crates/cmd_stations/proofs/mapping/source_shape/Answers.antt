@@ -19,5 +19,5 @@ returns-clause-playable c t h =
     let width : c.new.result.regular ≡ width_of source = ap (λ (s : Shape). s.regular) c.new.ensures.value ∙ (omega arith) in
     let same : c.new.result ≡ shape_of source =
     shape_is source c.new.result width (ap (λ (s : Shape). s.params) c.new.ensures.value ∙ params) (ap (λ (s : Shape). s.latches) c.new.ensures.value ∙ latches) in
-    c.new.ensures.playable c.args.graph.now h.k (roots_of h.roots) t (subst (λ (s : Shape). HasShape c.args.graph.now s) (sym same) (source_shape source c.args.graph.now c.requires)) h.chosen.mapping
+    c.new.ensures.playable c.args.graph.now h.k (roots_of h.roots) t (subst (λ (s : Shape). HasShape c.args.graph.now s) (sym same) (source_shape source c.args.graph.now c.requires)) h.least.mapping
     (outputs_among source c.args.graph.now t h) (next_among source c.args.graph.now t h) (next_count source c.args.graph.now t h ∙ ap (λ (s : Shape). s.latches) (sym same))

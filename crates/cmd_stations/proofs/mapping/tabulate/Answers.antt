@@ -1,8 +1,9 @@
-use Rattle.std.proofs.Common.{◌∙◌, ap, sym, subst}
+use Rattle.std.proofs.Common.{◌∙◌, refl, ap, sym, subst, inr}
 use Rattle.lut_sim.specs.declared.shape.Shape.{Shape}
 use Rattle.lut_sim.specs.Playable.{IsPlayable}
 use Rattle.cmd_stations.proofs.SourceLemmas.{source_params}
-use Rattle.cmd_stations.proofs.ShowLemmas.{pack_inits, pack_params, pack_bits, tables_play}
+use Rattle.bit_fun.proofs.PackLemmas.{params_len as pack_params}
+use Rattle.cmd_stations.proofs.ShowLemmas.{pack_param_names, pack_inits, pack_bits, tables_play}
 use Rattle.cmd_stations.proofs.WrittenTableLemmas.{tables_written}
 use Rattle.cmd_stations.proofs.mapping.tabulate.Goals as goal
 
@@ -25,6 +26,7 @@ returns-clause-made c =
         configurations = c.in_ok-pack.ensures.conf;
         tables = tables_play source c.requires.read graph c.requires.normal c.args.template tables pack c.in_ok-pack.ensures.pack c.in_ok-pack.ensures.conf;
       };
+      names = pack_param_names graph c.args.template.luts source.params.list pack c.in_ok-pack.ensures.pack;
       inits = pack_inits graph c.args.template.luts source.params.list pack c.in_ok-pack.ensures.pack;
       bits = pack_bits source graph c.args.template pack tables c.in_ok-pack.ensures.pack;
       params = pack_params graph c.args.template.luts source.params.list pack c.in_ok-pack.ensures.pack ∙ ap (λ (s : Shape). s.params) (sym c.source_shape-shape.ensures.value);
@@ -33,4 +35,5 @@ returns-clause-made c =
       written =
           tables_written source c.requires.read graph c.args.template tables c.requires.nodes
           (subst (λ (s : Shape). IsPlayable c.args.template s) c.source_shape-shape.ensures.value (c.source_shape-shape.ensures.playable c.args.template tables));
+      file = record { is_pack = c.in_ok-pack.ensures.kept; normal = c.in_ok-pack.ensures.normal; spelled = inr refl };
     }

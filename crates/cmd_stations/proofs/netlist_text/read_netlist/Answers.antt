@@ -6,7 +6,7 @@ use Rattle.blif_flat.specs.Refusals.{refusal_of as flat_refusal}
 use Rattle.cmd_stations.specs.Settled.{IsTextSettled}
 use Rattle.cmd_stations.specs.Texts.{NetlistRefusal}
 use Rattle.cmd_stations.specs.Texts as texts
-use Rattle.cmd_stations.proofs.StopLemmas.{passed_stop, passed_settled, settled_anyway}
+use Rattle.cmd_stations.proofs.StopLemmas.{passed_stop, passed_settled}
 use Rattle.cmd_stations.proofs.TextLemmas.{fault_settled, library_settled}
 use Rattle.cmd_stations.proofs.netlist_text.read_netlist.Goals as goal
 
@@ -27,15 +27,16 @@ returns-in_err-flat-clause-err c =
 
 pub returns-in_err-flat-clause-settled : goal.returns-in_err-flat-clause-settled
 returns-in_err-flat-clause-settled c =
-    settled_anyway c.from_residual-in_err-flat.result (library_settled c.args.text.now c.in_ok-library.library c.read.ensures.one_reading c.in_ok-library.ensures.denoted c.flatten.ensures.once c.flatten.ensures.one)
+    passed_settled flat_refusal (IsFault c.in_ok-library.library) (IsTextSettled c.args.text.now) c.from_residual-in_err-flat.result c.in_err-flat.field-0.0 c.in_err-flat.ensures.err c.from_residual-in_err-flat.ensures.1
+    (λ r told fault. library_settled c.args.text.now c.in_ok-library.library c.read.ensures.one_reading c.in_ok-library.ensures.denoted c.flatten.ensures.once c.flatten.ensures.one (λ clean. absurd (clean c.in_err-flat.field-0.0 fault)))
 
 pub returns-clause-ok : goal.returns-clause-ok
 returns-clause-ok c = record {
   denotes = c.in_ok-library.ensures.denoted;
-  flattens = record { sound = c.in_ok-flat.ensures.sound; clean = c.in_ok-flat.ensures.clean.none };
+  clean = c.in_ok-flat.ensures.clean.none;
   flat = c.in_ok-flat.ensures.values.fields;
 }
 
 pub returns-clause-settled : goal.returns-clause-settled
 returns-clause-settled c =
-    library_settled c.args.text.now c.in_ok-library.library c.read.ensures.one_reading c.in_ok-library.ensures.denoted c.flatten.ensures.once c.flatten.ensures.one
+    library_settled c.args.text.now c.in_ok-library.library c.read.ensures.one_reading c.in_ok-library.ensures.denoted c.flatten.ensures.once c.flatten.ensures.one (λ clean. c.in_ok-flat.ensures.sound)

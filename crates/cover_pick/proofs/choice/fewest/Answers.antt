@@ -3,7 +3,7 @@ use Rattle.std.proofs.lemmas.Option.{get_or_from_slice_get}
 use Rattle.cut_enum.specs.Table.{row_at}
 use Rattle.depth_label.specs.Label.{label_of}
 use Rattle.cover_pick.specs.Fewest.{IsAt, IsShorter, better, fewest}
-use Rattle.cover_pick.proofs.CandidateLaws.{fewest_next, fewest_end, fewest_stops}
+use Rattle.cover_pick.proofs.CandidateLemmas.{fewest_next, fewest_end, fewest_stops}
 use Rattle.cover_pick.proofs.choice.fewest.Goals as goal
 
 pub loop-i-init : goal.loop-i-init

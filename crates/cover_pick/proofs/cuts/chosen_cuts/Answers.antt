@@ -2,8 +2,8 @@ use Rattle.std.proofs.Common.{◌∙◌}
 use Rattle.aig_core.specs.Roots.{lits_of}
 use Rattle.depth_label.specs.Label.{label_of}
 use Rattle.cover_pick.specs.Places.{cuts_of}
-use Rattle.cover_pick.proofs.PlaceLaws.{cuts_length}
-use Rattle.cover_pick.proofs.PlanLaws.{plan_all, places_plan, roots_inside}
+use Rattle.cover_pick.proofs.PlaceLemmas.{cuts_length}
+use Rattle.cover_pick.proofs.PlanLemmas.{plan_all, places_plan, roots_inside}
 use Rattle.cover_pick.proofs.cuts.chosen_cuts.Goals as goal
 
 pub returns-clause-len : goal.returns-clause-len

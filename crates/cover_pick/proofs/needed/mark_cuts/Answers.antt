@@ -5,7 +5,7 @@ use Rattle.list_laws.proofs.Members.{In-get_or}
 use Rattle.cover_pick.specs.Fewest.{or_empty}
 use Rattle.cover_pick.specs.Planned.{cut_at}
 use Rattle.cover_pick.specs.Marks.{mark_leaves, mark_cut, mark_cuts}
-use Rattle.cover_pick.proofs.TemplateLaws.{cut_in}
+use Rattle.cover_pick.proofs.TemplateLemmas.{cut_in}
 use Rattle.cover_pick.proofs.needed.mark_cuts.Goals as goal
 
 -- a leaf is one of a cut that is there

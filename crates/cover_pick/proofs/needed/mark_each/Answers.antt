@@ -1,5 +1,5 @@
 use Rattle.std.proofs.Common.{arith, length, ◌<◌}
-use Rattle.cover_pick.proofs.PlanLaws.{lit_below}
+use Rattle.cover_pick.proofs.PlanLemmas.{lit_below}
 use Rattle.cover_pick.proofs.needed.mark_each.Goals as goal
 
 pub bounds-marks-lit : goal.bounds-marks-lit

@@ -6,9 +6,9 @@ use Rattle.list_laws.specs.Members.{In}
 use Rattle.list_laws.proofs.Members.{In-get_or}
 use Rattle.cut_enum.specs.Table.{row_at}
 use Rattle.depth_label.specs.Label.{IsCutTable}
-use Rattle.depth_label.proofs.LabelLaws.{leaves_below}
+use Rattle.depth_label.proofs.LabelLemmas.{leaves_below}
 use Rattle.cover_pick.specs.Required.{need}
-use Rattle.cover_pick.proofs.WalkLaws.{each_other}
+use Rattle.cover_pick.proofs.WalkLemmas.{each_other}
 use Rattle.cover_pick.proofs.required.visit.Goals as goal
 
 -- the leaves of a cut at a place are below the node

@@ -5,8 +5,8 @@ use Rattle.depth_label.specs.Label.{label_of}
 use Rattle.cover_pick.specs.Fewest.{choice_of}
 use Rattle.cover_pick.specs.Required.{walk}
 use Rattle.cover_pick.specs.Places.{AreBestPlaces}
-use Rattle.cover_pick.proofs.WalkLaws.{walk_step}
-use Rattle.cover_pick.proofs.PlaceLaws.{places_next}
+use Rattle.cover_pick.proofs.WalkLemmas.{walk_step}
+use Rattle.cover_pick.proofs.PlaceLemmas.{places_next}
 use Rattle.cover_pick.proofs.required.walk.Goals as goal
 
 pub loop-i-init : goal.loop-i-init

@@ -1,7 +1,7 @@
 use Rattle.std.proofs.Common.{arith, ◌+◌, ◌*◌, ◌≤◌, ◌^◌, ◌≡◌, ap}
 use Rattle.aig_core.specs.Aig.{node_count}
 use Rattle.cover_pick.specs.Marks.{Made}
-use Rattle.cover_pick.proofs.TableLaws.{work_small}
+use Rattle.cover_pick.proofs.TableLemmas.{work_small}
 use Rattle.cover_pick.proofs.tables.add_table.Goals as goal
 
 pub overflow_add-work : goal.overflow_add-work

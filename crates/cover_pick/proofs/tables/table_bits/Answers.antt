@@ -1,6 +1,7 @@
 use Rattle.std.proofs.Common.{arith, ◌≤◌, ◌^◌}
-use Rattle.cover_pick.proofs.TableLaws.{pow_small}
+use Rattle.std.proofs.Math.Pow.{pow_mono}
+use Rattle.cut_enum.specs.declared.limits.TheConstants.{MOST_LEAVES}
 use Rattle.cover_pick.proofs.tables.table_bits.Goals as goal
 
 pub returns-clause-few : goal.returns-clause-few
-returns-clause-few c = let p : 2 ^ c.args.leaves ≤ 64 = pow_small c.args.leaves c.requires in omega arith
+returns-clause-few c = let p : 2 ^ c.args.leaves ≤ 2 ^ MOST_LEAVES = pow_mono c.requires in omega arith

@@ -1,8 +1,8 @@
 use Rattle.std.proofs.lemmas.Result.{err_from_is_err_and}
 use Rattle.aig_core.specs.Roots.{lits_of}
 use Rattle.depth_label.specs.Label.{label_of}
-use Rattle.cover_pick.proofs.TemplateLaws.{leaves_inside}
-use Rattle.cover_pick.proofs.ChosenLaws.{light_is, too_much_told}
+use Rattle.cover_pick.proofs.TemplateLemmas.{leaves_inside}
+use Rattle.cover_pick.proofs.ChosenLemmas.{light_is, too_much_told}
 use Rattle.cover_pick.proofs.template.chosen_tables.Goals as goal
 
 pub make_tables-requires-clause-leaves : goal.make_tables-requires-clause-leaves

@@ -1,12 +1,10 @@
 use Rattle.std.proofs.Common.{◌≡◌, ◌∙◌, ap, subst, sym}
 use Rattle.aig_core.specs.Roots.{RootsValue, lits_of, roots_of}
 use Rattle.depth_label.specs.Label.{label_of}
-use Rattle.cover_pick.specs.Mapping.{IsLeast}
 use Rattle.cover_pick.specs.Target.{target}
 use Rattle.cover_pick.specs.Marks.{Made, IsMade}
 use Rattle.cover_pick.specs.Work.{IsLight}
-use Rattle.cover_pick.proofs.ChosenLaws.{template_is, timely_is}
-use Rattle.cover_pick.proofs.MappingLaws.{mapping_is, least_is}
+use Rattle.cover_pick.proofs.ChosenLemmas.{template_is, timely_is}
 use Rattle.cover_pick.proofs.template.template_of.Goals as goal
 use Rattle.cover_pick.proofs.template.template_of.Goals.{After-drop-all-2}
 
@@ -27,14 +25,6 @@ returns-clause-template c =
     (c.in_ok-outputs.ensures.items ∙ (c.deref-2.ensures.value ∙ ap (λ (r : RootsValue). r.outputs) c.roots.view_is))
     (c.in_ok-next.ensures.items ∙ (c.deref-3.ensures.value ∙ ap (λ (r : RootsValue). r.next) c.roots.view_is))
     (depth_is c)
-
-pub returns-clause-mapping : goal.returns-clause-mapping
-returns-clause-mapping c k are = mapping_is c.args.graph.now c.args.table.now (label_of c.args.labels.now) (roots_of c.args.roots.now) _ (made_is c) k are c.requires.roots
-
-pub returns-clause-least : goal.returns-clause-least
-returns-clause-least c k are =
-    subst (λ d. IsLeast c.args.graph.now k (roots_of c.args.roots.now) c.made.inside.luts.items d) (sym (depth_is c))
-    (least_is c.args.graph.now c.args.table.now (label_of c.args.labels.now) (roots_of c.args.roots.now) _ (made_is c) k are c.requires.roots)
 
 pub returns-clause-timely : goal.returns-clause-timely
 returns-clause-timely c = timely_is c.args.graph.now c.args.table.now (label_of c.args.labels.now) (roots_of c.args.roots.now) _ c.requires.table c.requires.roots (made_is c)

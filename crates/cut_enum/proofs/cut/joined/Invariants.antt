@@ -1,9 +1,10 @@
 use Rattle.std.proofs.Common.{◌≡◌, drop}
 use Rattle.cut_enum.specs.Merging.{union}
+use Rattle.cut_enum.specs.declared.limits.TheConstants.{MOST_LEAVES}
 use Rattle.cut_enum.proofs.cut.joined.Given as goal
 
 abbrev pub invariant-loop-x : goal.invariant-loop-x
 invariant-loop-x l = record {
-  inline : l.leaves.capacity ≡ 6;
+  inline : l.leaves.capacity ≡ MOST_LEAVES;
   rest : union (drop l.x-index l.x-items) l.leaves.items ≡ union l.x-items l.initial.leaves.items;
 }

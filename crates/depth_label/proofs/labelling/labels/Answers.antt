@@ -3,8 +3,8 @@ use Rattle.aig_core.specs.Aig.{node_count}
 use Rattle.cut_enum.specs.Table.{row_at}
 use Rattle.depth_label.specs.Label.{height, LabelsValue, label_at, AreLabelled}
 use Rattle.depth_label.specs.Fold.{AreLabelledTo, lowest_cut}
-use Rattle.depth_label.proofs.LabelLaws.{leaves_below, labels_push, labels_all, labels_least}
-use Rattle.depth_label.proofs.OnceLaws.{one_labelling}
+use Rattle.depth_label.proofs.LabelLemmas.{leaves_below, labels_push, labels_all, labels_least}
+use Rattle.depth_label.proofs.OnceLemmas.{one_labelling}
 use Rattle.depth_label.proofs.labelling.labels.Goals as goal
 
 pub loop-n-preserved : goal.loop-n-preserved

@@ -6,7 +6,8 @@ use Rattle.tl_fault.specs.OrMemory.{OrMemory}
 use Rattle.tl_text.specs.LineValue.{WordsLine, words_line}
 use Rattle.param_list.specs.Refusals.{refusal_of}
 use Rattle.param_list.specs.ParamsText.{line_refusal, IsFirstRefusal}
-use Rattle.param_list.proofs.LineLemmas.{passed_err, line_at, new_name, read_next, names_next}
+use Rattle.tl_fault.proofs.PassedOn.{passed_err}
+use Rattle.param_list.proofs.LineLemmas.{line_at, new_name, read_next, names_next}
 use Rattle.param_list.proofs.ReadLemmas.{first_refusal, all_read}
 use Rattle.param_list.proofs.param_lines.read_each.Goals as goal
 

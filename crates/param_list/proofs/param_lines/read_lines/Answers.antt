@@ -8,7 +8,7 @@ use Rattle.tl_text.specs.NameSets.{with_names}
 use Rattle.tl_text.proofs.NameSetLemmas.{new_names, has_with_names}
 use Rattle.param_list.specs.Refusals.{refusal_of}
 use Rattle.param_list.specs.ParamsText.{IsFirstRefusal, AreParamsOf}
-use Rattle.param_list.proofs.LineLemmas.{passed_err}
+use Rattle.tl_fault.proofs.PassedOn.{passed_err}
 use Rattle.param_list.proofs.SameLemmas.{same_params, same_first}
 use Rattle.param_list.proofs.param_lines.read_lines.Goals as goal
 

@@ -5,7 +5,7 @@ use Rattle.tl_text.specs.LineValue.{LineValue, words_line}
 use Rattle.netlist.specs.FlatValue.{FlatValue}
 use Rattle.param_list.specs.Refusals.{refusal_of}
 use Rattle.param_list.specs.ParamsText.{IsFirstRefusal, IsParamsFault, at_line}
-use Rattle.param_list.proofs.LineLemmas.{passed_err}
+use Rattle.tl_fault.proofs.PassedOn.{passed_err}
 use Rattle.param_list.proofs.OnceLemmas.{one_reading, are_parameters}
 use Rattle.param_list.proofs.params.read_params.Goals as goal
 

@@ -7,7 +7,8 @@ use Rattle.netlist.specs.Models.{has_name}
 use Rattle.param_list.specs.Marks.{marks_of}
 use Rattle.param_list.specs.Parameters.{param_names}
 use Rattle.param_list.proofs.MarkLemmas.{no_marks, mark_set}
-use Rattle.param_list.proofs.ReadLemmas.{take_get, param_names-push}
+use Rattle.list_laws.proofs.Places.{take_get}
+use Rattle.param_list.proofs.ReadLemmas.{param_names-push}
 use Rattle.param_list.proofs.regular_inputs.marks.Goals as goal
 
 pub loop-param-init : goal.loop-param-init

@@ -1,19 +1,11 @@
-use Rattle.std.proofs.Common.{arith, ◌∙◌}
-use Rattle.std.proofs.lemmas.Result.{err_from_is_err_and}
+use Rattle.std.proofs.Common.{arith}
 use Rattle.run_text.specs.Parts.{part_text}
-use Rattle.tl_piece.proofs.PieceLemmas.{adds_part, stops_part}
+use Rattle.tl_piece.proofs.PartLemmas.{added_part}
+use Rattle.tl_piece.proofs.AddedLemmas.{added_none}
 use Rattle.run_text.proofs.part.add_parts.Goals as goal
 
-pub returns-in_err-add_part-clause-grown : goal.returns-in_err-add_part-clause-grown
-returns-in_err-add_part-clause-grown g c =
-    let p = err_from_is_err_and c.from_residual.result c.from_residual.ensures.1 in
-    let part = stops_part part_text c.args.parts.now c.loop-part.part-index _ (omega arith) c.loop-part.invariant.grown c.in_err-add_part.ensures.grown in
-    rw p.1 part
+pub loop-part-init : goal.loop-part-init
+loop-part-init g c = added_none g.O.Sink.seen c.args.writer.now
 
 pub loop-part-preserved : goal.loop-part-preserved
-loop-part-preserved g c = record {
-  later = omega (arith, c.loop-part.invariant.later, c.in_ok-add_part.ensures.cause.later);
-  grown = adds_part part_text c.args.parts.now c.loop-part.part-index _ (omega arith) c.loop-part.invariant.grown c.in_ok-add_part.ensures.grown;
-  through = c.in_ok-add_part.ensures.through ∙ c.loop-part.invariant.through;
-  others = c.in_ok-add_part.ensures.others ∙ c.loop-part.invariant.others;
-}
+loop-part-preserved g c = added_part part_text c.args.parts.now c.loop-part.part-index _ (omega arith) c.loop-part.invariant c.add_part.ensures

@@ -1,13 +1,8 @@
-use Rattle.std.proofs.Common.{◌≡◌, ◌≤◌, take}
+use Rattle.std.proofs.Common.{take}
 use Rattle.std.specs.List.{flat_map}
-use Rattle.tl_piece.specs.Pieces.{Adds}
+use Rattle.tl_piece.specs.Added.{IsAdded}
 use Rattle.run_text.specs.Parts.{part_text}
 use Rattle.run_text.proofs.part.add_parts.Given as goal
 
 abbrev pub invariant-loop-part : goal.invariant-loop-part
-invariant-loop-part g l = record {
-  later : g.O.Sink.faults l.fn.out ≤ g.O.Sink.faults l.out;
-  grown : Adds (g.O.Sink.bytes l.fn.out) l.fn.piece (flat_map part_text (take l.part-index l.parts)) (g.O.Sink.bytes l.out) l.piece;
-  through : g.O.Sink.through l.out ≡ g.O.Sink.through l.fn.out;
-  others : g.O.Sink.others l.out ≡ g.O.Sink.others l.fn.out;
-}
+invariant-loop-part g l = IsAdded g.O.Sink.seen l.fn.writer (flat_map part_text (take l.part-index l.parts)) l.writer

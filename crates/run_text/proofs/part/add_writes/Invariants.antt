@@ -1,13 +1,8 @@
-use Rattle.std.proofs.Common.{◌≡◌, ◌≤◌, take}
+use Rattle.std.proofs.Common.{take}
 use Rattle.std.specs.List.{flat_map}
-use Rattle.tl_piece.specs.Pieces.{Adds}
+use Rattle.tl_piece.specs.Added.{IsAdded}
 use Rattle.run_text.specs.Lines.{write_text}
 use Rattle.run_text.proofs.part.add_writes.Given as goal
 
 abbrev pub invariant-loop-write : goal.invariant-loop-write
-invariant-loop-write g l = record {
-  later : g.O.Sink.faults l.fn.out ≤ g.O.Sink.faults l.out;
-  grown : Adds (g.O.Sink.bytes l.fn.out) l.fn.piece (flat_map write_text (take l.write-index l.writes)) (g.O.Sink.bytes l.out) l.piece;
-  through : g.O.Sink.through l.out ≡ g.O.Sink.through l.fn.out;
-  others : g.O.Sink.others l.out ≡ g.O.Sink.others l.fn.out;
-}
+invariant-loop-write g l = IsAdded g.O.Sink.seen l.fn.writer (flat_map write_text (take l.write-index l.writes)) l.writer

@@ -7,7 +7,8 @@ use Rattle.tl_text.specs.LineValue.{WordsLine, words_line}
 use Rattle.run_text.specs.EventValue.{EventValue, event_value, event_values}
 use Rattle.run_text.specs.ScriptRefusals.{refusal_of}
 use Rattle.run_text.specs.ScriptText.{line_refusal, IsFirstRefusal}
-use Rattle.param_list.proofs.LineLemmas.{passed_err, line_at}
+use Rattle.tl_fault.proofs.PassedOn.{passed_err}
+use Rattle.param_list.proofs.LineLemmas.{line_at}
 use Rattle.run_text.proofs.ScriptReadLemmas.{AreRead, first_refusal, one_more, all_read, one_event}
 use Rattle.run_text.proofs.script_lines.read_each.Goals as goal
 

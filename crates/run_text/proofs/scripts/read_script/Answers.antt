@@ -7,7 +7,7 @@ use Rattle.run_text.specs.NamesValue.{NamesValue}
 use Rattle.run_text.specs.ScriptRefusals.{refusal_of}
 use Rattle.run_text.specs.ScriptText.{IsFirstRefusal, IsScriptFault, at_line}
 use Rattle.run_text.proofs.FitLemmas.{events_fit}
-use Rattle.param_list.proofs.LineLemmas.{passed_err}
+use Rattle.tl_fault.proofs.PassedOn.{passed_err}
 use Rattle.run_text.proofs.ScriptOnceLemmas.{one_reading}
 use Rattle.run_text.proofs.scripts.read_script.Goals as goal
 

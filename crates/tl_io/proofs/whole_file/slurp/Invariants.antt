@@ -1,5 +1,6 @@
 use Rattle.std.proofs.Common.{◌≡◌, ◌≤◌, ◌-◌, ◌^◌, false, IsTrue, take, vec_len}
 use Rattle.tl_io.proofs.Reading.{IsSoFar}
+use Rattle.tl_io.specs.declared.told_name.TheConstants.{NAME_ROOM}
 use Rattle.tl_io.proofs.whole_file.slurp.Given as goal
 
 abbrev pub invariant-loop-text : goal.invariant-loop-text
@@ -8,7 +9,7 @@ invariant-loop-text g l =
     let then = g.S.Shelf.seen l.fn.shelf in
     record {
       reading : IsTrue now.is_reading;
-      name : now.name ≡ take 4096 l.name;
+      name : now.name ≡ take NAME_ROOM l.name;
       before : now.before ≡ then.read_faults;
       later : then.read_faults ≤ now.read_faults;
       files : now.files ≡ then.files;

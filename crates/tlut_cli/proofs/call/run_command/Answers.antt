@@ -5,23 +5,23 @@ use Rattle.cmd_map.specs.Map.Words.{map_seen}
 use Rattle.cmd_pack.specs.Bits.Words.{bits_seen}
 use Rattle.cmd_pack.specs.Repack.Words.{repack_seen}
 use Rattle.tlut_cli.specs.Commands.{Run, Spec, Map, Bits, Gen, Repack, command_seen}
-use Rattle.tlut_cli.proofs.CommandLemmas.{ended_as, either_fault}
+use Rattle.tlut_cli.proofs.CommandLemmas.{ended_as}
 use Rattle.tlut_cli.proofs.call.run_command.Goals as goal
 
 pub returns-in-Run : goal.returns-in-Run
-returns-in-Run g c = ended_as (Run (run_seen c.in-Run.words)) (command_seen c.args.command.now) (ap command_seen (sym c.in-Run.is)) (record { ends = c.run_job.ensures.ends; cause = λ e. inl (c.run_job.ensures.write_fault e); files = inl c.run_job.ensures.files; laws = c.run_job.ensures.laws })
+returns-in-Run g c = ended_as (Run (run_seen c.in-Run.words)) (command_seen c.args.command.now) (ap command_seen (sym c.in-Run.is)) (record { ends = c.run_job.ensures.ends; files = inl c.run_job.ensures.files; laws = c.run_job.ensures.laws })
 
 pub returns-in-Spec : goal.returns-in-Spec
-returns-in-Spec g c = ended_as (Spec (spec_seen c.in-Spec.words)) (command_seen c.args.command.now) (ap command_seen (sym c.in-Spec.is)) (record { ends = c.spec_job.ensures.ends (map g.P.ConfigPort.port_seen c.args.ports.now.items); cause = λ e. either_fault _ _ _ _ (c.spec_job.ensures.write_fault e); files = inr tt; laws = c.spec_job.ensures.laws })
+returns-in-Spec g c = ended_as (Spec (spec_seen c.in-Spec.words)) (command_seen c.args.command.now) (ap command_seen (sym c.in-Spec.is)) (record { ends = c.spec_job.ensures.ends (map g.P.ConfigPort.port_seen c.args.ports.now.items); files = inr tt; laws = c.spec_job.ensures.laws })
 
 pub returns-in-Map : goal.returns-in-Map
-returns-in-Map g c = ended_as (Map (map_seen c.in-Map.words)) (command_seen c.args.command.now) (ap command_seen (sym c.in-Map.is)) (record { ends = c.map_job.ensures.ends (map g.P.ConfigPort.port_seen c.args.ports.now.items); cause = λ e. either_fault _ _ _ _ (c.map_job.ensures.write_fault e); files = inr tt; laws = c.map_job.ensures.laws })
+returns-in-Map g c = ended_as (Map (map_seen c.in-Map.words)) (command_seen c.args.command.now) (ap command_seen (sym c.in-Map.is)) (record { ends = c.map_job.ensures.ends (map g.P.ConfigPort.port_seen c.args.ports.now.items); files = inr tt; laws = c.map_job.ensures.laws })
 
 pub returns-in-Bits : goal.returns-in-Bits
-returns-in-Bits g c = ended_as (Bits (bits_seen c.in-Bits.words)) (command_seen c.args.command.now) (ap command_seen (sym c.in-Bits.is)) (record { ends = c.bits_job.ensures.ends (map g.P.ConfigPort.port_seen c.args.ports.now.items); cause = λ e. inl (c.bits_job.ensures.write_fault e); files = inl c.bits_job.ensures.files; laws = c.bits_job.ensures.laws })
+returns-in-Bits g c = ended_as (Bits (bits_seen c.in-Bits.words)) (command_seen c.args.command.now) (ap command_seen (sym c.in-Bits.is)) (record { ends = c.bits_job.ensures.ends (map g.P.ConfigPort.port_seen c.args.ports.now.items); files = inl c.bits_job.ensures.files; laws = c.bits_job.ensures.laws })
 
 pub returns-in-Gen : goal.returns-in-Gen
-returns-in-Gen g c = ended_as (Gen c.in-Gen.words) (command_seen c.args.command.now) (ap command_seen (sym c.in-Gen.is)) (record { ends = c.gen_job.ensures.ends (g.S.Shelf.seen c.args.shelf.now) (map g.P.ConfigPort.port_seen c.args.ports.now.items); cause = λ e. inl (c.gen_job.ensures.write_fault e); files = inl refl; laws = c.gen_job.ensures.laws })
+returns-in-Gen g c = ended_as (Gen c.in-Gen.words) (command_seen c.args.command.now) (ap command_seen (sym c.in-Gen.is)) (record { ends = c.gen_job.ensures.ends (g.S.Shelf.seen c.args.shelf.now) (map g.P.ConfigPort.port_seen c.args.ports.now.items); files = inl refl; laws = c.gen_job.ensures.laws })
 
 pub returns-in-Repack : goal.returns-in-Repack
-returns-in-Repack g c = ended_as (Repack (repack_seen c.in-Repack.words)) (command_seen c.args.command.now) (ap command_seen (sym c.in-Repack.is)) (record { ends = c.repack_job.ensures.ends (map g.P.ConfigPort.port_seen c.args.ports.now.items); cause = λ e. either_fault _ _ _ _ (c.repack_job.ensures.write_fault e); files = inr tt; laws = c.repack_job.ensures.laws })
+returns-in-Repack g c = ended_as (Repack (repack_seen c.in-Repack.words)) (command_seen c.args.command.now) (ap command_seen (sym c.in-Repack.is)) (record { ends = c.repack_job.ensures.ends (map g.P.ConfigPort.port_seen c.args.ports.now.items); files = inr tt; laws = c.repack_job.ensures.laws })

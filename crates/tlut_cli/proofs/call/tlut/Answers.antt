@@ -1,67 +1,73 @@
-use Rattle.std.proofs.Common.{◌≡◌, map, string_bytes, subst, sym, ◌∙◌, Some}
+use Rattle.std.proofs.Common.{◌≡◌, map, string_bytes, subst, sym, Some}
 use Rattle.std.proofs.lemmas.List.{length-map}
-use Rattle.tlut_cli.specs.Commands.{Run, command_of}
-use Rattle.tlut_cli.specs.Call.{HasRefusal, HasFault, IsAnswered, HasWriteCause}
 use Rattle.cmd_base.specs.declared.status.Status.TheVariants as status
+use Rattle.tlut_cli.specs.Commands.{Run, Map, command_of}
+use Rattle.tlut_cli.specs.Call.{HasRefusal, HasFault, IsAnswered}
 use Rattle.tlut_cli.specs.CommandEnds.{HasWalkLaws}
-use Rattle.tlut_cli.proofs.CallLemmas.{tells, refusal_is, refused_answered, accepted_done, begun_done, write_outcome, fault_of_ports, shown}
+use Rattle.tlut_cli.proofs.CallLemmas.{tells, refusal_is, kept_ports, completes, finishes, answers, shown, replayed}
 use Rattle.tlut_cli.proofs.call.tlut.Goals as goal
 
 pub returns-clause-refusal : goal.returns-clause-refusal
-returns-clause-refusal g c refuses files told =
+returns-clause-refusal g c refuses =
     let words = map string_bytes c.args.words.now in
-    subst (λ n. HasRefusal files n words c.status.result) (length-map c.args.ports.now.items _)
-    (refusal_is words _ _ _ _ c.run_words-ended.result.outcome c.status.result c.status.ensures c.run_words-ended.ensures.end refuses files told)
+    subst (λ n. HasRefusal (g.S.Shelf.seen c.args.shelf.now).files n words c.status.result) (length-map c.args.ports.now.items _)
+    (refusal_is words _ _ (g.O.Sink.seen c.args.out.now) (g.O.Sink.seen c.run_words-ended.new.out) _ _ c.run_words-ended.result.outcome c.status.result c.status.ensures c.run_words-ended.ensures.end refuses)
 
 pub returns-clause-refused : goal.returns-clause-refused
 returns-clause-refused g c =
     let words = map string_bytes c.args.words.now in
-    subst (λ n. IsAnswered words (g.S.Shelf.seen c.args.shelf.now) (g.S.Shelf.seen c.run_words-ended.new.shelf) n c.status.result) (length-map c.args.ports.now.items _)
-    (refused_answered words _ _ _ _ (subst (λ n. HasWalkLaws n words) (sym (length-map c.args.ports.now.items _)) c.run_words-ended.ensures.laws) c.run_words-ended.result.outcome c.status.result c.status.ensures c.run_words-ended.ensures.end)
+    let old = g.S.Shelf.seen c.args.shelf.now in
+    let new = g.S.Shelf.seen c.run_words-ended.new.shelf in
+    subst (λ n. IsAnswered words old new n c.status.result) (length-map c.args.ports.now.items _)
+    (answers words old new (g.O.Sink.seen c.args.out.now) (g.O.Sink.seen c.run_words-ended.new.out) _ _ (subst (λ n. HasWalkLaws n words) (sym (length-map c.args.ports.now.items _)) c.run_words-ended.ensures.laws) c.run_words-ended.result.outcome c.status.result c.status.ensures c.run_words-ended.ensures.end)
 
 pub returns-clause-done : goal.returns-clause-done
-returns-clause-done g c = tells _ _ _ _ _ c.run_words-ended.result.outcome c.status.result status.Done c.status.ensures c.run_words-ended.ensures.end
+returns-clause-done g c done = (tells _ _ _ (g.O.Sink.seen c.args.out.now) (g.O.Sink.seen c.run_words-ended.new.out) _ _ c.run_words-ended.result.outcome c.status.result status.Done c.status.ensures c.run_words-ended.ensures.end done).0
 
 pub returns-clause-part : goal.returns-clause-part
-returns-clause-part g c = tells _ _ _ _ _ c.run_words-ended.result.outcome c.status.result status.WriteFault c.status.ensures c.run_words-ended.ensures.end
+returns-clause-part g c cut = (tells _ _ _ (g.O.Sink.seen c.args.out.now) (g.O.Sink.seen c.run_words-ended.new.out) _ _ c.run_words-ended.result.outcome c.status.result status.WriteFault c.status.ensures c.run_words-ended.ensures.end cut).0
 
 pub returns-clause-lost : goal.returns-clause-lost
-returns-clause-lost g c = tells _ _ _ _ _ c.run_words-ended.result.outcome c.status.result status.PortFault c.status.ensures c.run_words-ended.ensures.end
+returns-clause-lost g c lost = (tells _ _ _ (g.O.Sink.seen c.args.out.now) (g.O.Sink.seen c.run_words-ended.new.out) _ _ c.run_words-ended.result.outcome c.status.result status.PortFault c.status.ensures c.run_words-ended.ensures.end lost).0
 
 pub returns-clause-headline : goal.returns-clause-headline
-returns-clause-headline g c done files told run is =
+returns-clause-headline g c done run is =
     let words = map string_bytes c.args.words.now in
-    shown words (g.S.Shelf.seen c.args.shelf.now) (g.S.Shelf.seen c.run_words-ended.new.shelf) _ _ (subst (λ n. HasWalkLaws n words) (sym (length-map c.args.ports.now.items _)) c.run_words-ended.ensures.laws) files
-    (tells _ _ _ _ _ c.run_words-ended.result.outcome c.status.result status.Done c.status.ensures c.run_words-ended.ensures.end done files told) run
-    (subst (λ n. command_of n words ≡ Some (Run run)) (sym (length-map c.args.ports.now.items _)) is)
+    let old = g.S.Shelf.seen c.args.shelf.now in
+    let new = g.S.Shelf.seen c.run_words-ended.new.shelf in
+    shown words old new (g.O.Sink.seen c.args.out.now) (g.O.Sink.seen c.run_words-ended.new.out) _ _ (subst (λ n. HasWalkLaws n words) (sym (length-map c.args.ports.now.items _)) c.run_words-ended.ensures.laws)
+    (tells _ _ _ (g.O.Sink.seen c.args.out.now) (g.O.Sink.seen c.run_words-ended.new.out) _ _ c.run_words-ended.result.outcome c.status.result status.Done c.status.ensures c.run_words-ended.ensures.end done).0 run (subst (λ n. command_of n words ≡ Some (Run run)) (sym (length-map c.args.ports.now.items _)) is)
 
 pub returns-clause-complete : goal.returns-clause-complete
 returns-clause-complete g c =
     let words = map string_bytes c.args.words.now in
     let old = g.S.Shelf.seen c.args.shelf.now in
     let new = g.S.Shelf.seen c.run_words-ended.new.shelf in
-    let first = g.O.Sink.faults c.args.out.now in
-    let last = g.O.Sink.faults c.run_words-ended.new.out in
-    accepted_done words old new _ _ (subst (λ n. HasWalkLaws n words) (sym (length-map c.args.ports.now.items _)) c.run_words-ended.ensures.laws) first last c.run_words-ended.result.outcome c.status.result c.status.ensures c.run_words-ended.ensures.end
-    (λ e. subst (λ n. HasWriteCause words old new n first last) (sym (length-map c.args.ports.now.items _)) (c.run_words-ended.ensures.write_fault e))
+    completes words old new (g.O.Sink.seen c.args.out.now) (g.O.Sink.seen c.run_words-ended.new.out) _ _ (subst (λ n. HasWalkLaws n words) (sym (length-map c.args.ports.now.items _)) c.run_words-ended.ensures.laws) c.run_words-ended.result.outcome c.status.result c.status.ensures c.run_words-ended.ensures.end
 
 pub returns-clause-finished : goal.returns-clause-finished
 returns-clause-finished g c =
     let words = map string_bytes c.args.words.now in
     let old = g.S.Shelf.seen c.args.shelf.now in
     let new = g.S.Shelf.seen c.run_words-ended.new.shelf in
-    let first = g.O.Sink.faults c.args.out.now in
-    let last = g.O.Sink.faults c.run_words-ended.new.out in
-    begun_done words old new _ _ (subst (λ n. HasWalkLaws n words) (sym (length-map c.args.ports.now.items _)) c.run_words-ended.ensures.laws) first last c.run_words-ended.result.outcome c.status.result c.status.ensures c.run_words-ended.ensures.end
-    (λ e. subst (λ n. HasWriteCause words old new n first last) (sym (length-map c.args.ports.now.items _)) (c.run_words-ended.ensures.write_fault e))
+    finishes words old new (g.O.Sink.seen c.args.out.now) (g.O.Sink.seen c.run_words-ended.new.out) _ _ (subst (λ n. HasWalkLaws n words) (sym (length-map c.args.ports.now.items _)) c.run_words-ended.ensures.laws) c.run_words-ended.result.outcome c.status.result c.status.ensures c.run_words-ended.ensures.end
 
 pub returns-clause-read_fault : goal.returns-clause-read_fault
 returns-clause-read_fault g c fault =
     subst (λ n. HasFault n (map string_bytes c.args.words.now) (g.S.Shelf.seen c.args.shelf.now) (g.S.Shelf.seen c.run_words-ended.new.shelf)) (length-map c.args.ports.now.items _)
-    (tells _ _ _ _ _ c.run_words-ended.result.outcome c.status.result status.ReadFault c.status.ensures c.run_words-ended.ensures.end fault)
+    (tells _ _ _ (g.O.Sink.seen c.args.out.now) (g.O.Sink.seen c.run_words-ended.new.out) _ _ c.run_words-ended.result.outcome c.status.result status.ReadFault c.status.ensures c.run_words-ended.ensures.end fault)
 
 pub returns-clause-write_fault : goal.returns-clause-write_fault
-returns-clause-write_fault g c fault = c.run_words-ended.ensures.write_fault (write_outcome c.run_words-ended.result.outcome (sym fault ∙ c.status.ensures))
+returns-clause-write_fault g c fault = (tells _ _ _ (g.O.Sink.seen c.args.out.now) (g.O.Sink.seen c.run_words-ended.new.out) _ _ c.run_words-ended.result.outcome c.status.result status.WriteFault c.status.ensures c.run_words-ended.ensures.end fault).2
 
 pub returns-clause-port_fault : goal.returns-clause-port_fault
-returns-clause-port_fault g c = fault_of_ports _ _ _ _ _ c.run_words-ended.result.outcome c.status.result c.status.ensures c.run_words-ended.ensures.end
+returns-clause-port_fault g c fault = (tells _ _ _ (g.O.Sink.seen c.args.out.now) (g.O.Sink.seen c.run_words-ended.new.out) _ _ c.run_words-ended.result.outcome c.status.result status.PortFault c.status.ensures c.run_words-ended.ensures.end fault).1
+
+pub returns-clause-boxes : goal.returns-clause-boxes
+returns-clause-boxes g c = kept_ports _ _ _ (g.O.Sink.seen c.args.out.now) (g.O.Sink.seen c.run_words-ended.new.out) _ _ c.run_words-ended.result.outcome c.status.result c.status.ensures c.run_words-ended.ensures.end
+
+pub returns-clause-replays : goal.returns-clause-replays
+returns-clause-replays g c done written is =
+    let words = map string_bytes c.args.words.now in
+    replayed words (g.S.Shelf.seen c.args.shelf.now) (g.S.Shelf.seen c.run_words-ended.new.shelf) (g.O.Sink.seen c.args.out.now) (g.O.Sink.seen c.run_words-ended.new.out) _ _ c.run_words-ended.result.outcome c.status.result c.status.ensures c.run_words-ended.ensures.end done written
+    (subst (λ n. command_of n words ≡ Some (Map written)) (sym (length-map c.args.ports.now.items _)) is)

@@ -5,7 +5,7 @@ use Rattle.blif_flat.proofs.circuit.net_table.links_out.Given as goal
 
 abbrev pub invariant-loop-left : goal.invariant-loop-left
 invariant-loop-left l = record {
-  out : (library : LibraryValue) → AreLinesOf library l.lines l.ports → links_out library l.rows l.nets l.left ≡ links_out library l.rows l.initial.nets (length l.rows);
+  out : (library : LibraryValue) → AreLinesOf library l.lines l.ports → links_out library l.instances l.nets l.left ≡ links_out library l.instances l.initial.nets (length l.instances);
   nets : IsNets l.nets;
 }
 

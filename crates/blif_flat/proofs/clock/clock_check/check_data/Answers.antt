@@ -14,12 +14,12 @@ pub returns-in_err-check_gate-clause-err : goal.returns-in_err-check_gate-clause
 returns-in_err-check_gate-clause-err c =
     let g : Gate = get_or c.args.gates.now c.loop-gate.gate-index no_gate in
     let at = slice_get-get_or c.args.gates.now c.loop-gate.gate-index no_gate c.loop-gate-test.true in
-    let p = data_place c.args.library.now c.requires.driven c.args.rows.now c.requires.rows c.args.nets.now c.requires.nets c.args.inputs.now c.requires.inputs c.args.marks.now c.requires.marks
+    let p = data_place c.args.library.now c.requires.driven c.args.wiring.now.instances.now c.requires.instances c.args.wiring.now.nets.now c.requires.nets c.args.wiring.now.inputs.now c.requires.inputs c.args.marks.now c.requires.marks
     c.args.gates.now c.requires.gates c.loop-gate.gate-index g at in
     passed_on c.from_residual.result c.in_err-check_gate.field-0.0 _ _ c.from_residual.ensures.1
     (Unless-map (refusal_of c.in_err-check_gate.field-0.0) _ _
     (λ e main first. c.loop-gate.invariant main (Some c.in_err-check_gate.field-0.0) first
-    (gate_data_refused c.args.library.now c.requires.driven c.args.rows.now c.requires.rows c.args.nets.now c.requires.nets c.args.inputs.now c.requires.inputs c.args.marks.now c.requires.marks
+    (gate_data_refused c.args.library.now c.requires.driven c.args.wiring.now.instances.now c.requires.instances c.args.wiring.now.nets.now c.requires.nets c.args.wiring.now.inputs.now c.requires.inputs c.args.marks.now c.requires.marks
     c.args.gates.now c.requires.gates c.loop-gate.gate-index g at c.in_err-check_gate.field-0.0 e main))
     (c.in_err-check_gate.ensures p.place p.is))
 
@@ -27,10 +27,10 @@ pub loop-gate-preserved : goal.loop-gate-preserved
 loop-gate-preserved c =
     let g : Gate = get_or c.args.gates.now c.loop-gate.gate-index no_gate in
     let at = slice_get-get_or c.args.gates.now c.loop-gate.gate-index no_gate c.loop-gate-test.true in
-    let p = data_place c.args.library.now c.requires.driven c.args.rows.now c.requires.rows c.args.nets.now c.requires.nets c.args.inputs.now c.requires.inputs c.args.marks.now c.requires.marks
+    let p = data_place c.args.library.now c.requires.driven c.args.wiring.now.instances.now c.requires.instances c.args.wiring.now.nets.now c.requires.nets c.args.wiring.now.inputs.now c.requires.inputs c.args.marks.now c.requires.marks
     c.args.gates.now c.requires.gates c.loop-gate.gate-index g at in
     λ main result first d. c.loop-gate.invariant main result first
-    (data_passed c.args.library.now c.requires.driven c.args.rows.now c.requires.rows c.args.nets.now c.requires.nets c.args.inputs.now c.requires.inputs c.args.marks.now c.requires.marks
+    (data_passed c.args.library.now c.requires.driven c.args.wiring.now.instances.now c.requires.instances c.args.wiring.now.nets.now c.requires.nets c.args.wiring.now.inputs.now c.requires.inputs c.args.marks.now c.requires.marks
     c.args.gates.now c.requires.gates c.loop-gate.gate-index g at (c.in_ok-check_gate.ensures p.place p.is) main result d)
 
 -- the names that are looked at last are the main model's outputs
@@ -42,17 +42,17 @@ outputs_are c main first =
     c.deref.ensures.value ∙ ap (λ (m : ModelValue). m.outputs) (c.main.view_is ∙ same)
 
 outputs_last : (c : After-check_names) (main : ModelValue) → slice_get c.args.library.now.models 0 ≡ Some main → (fault : Option FlatErr)
-    → names_fault c.args.inputs.now c.args.marks.now c.args.nets.now 0 c.deref.result.now ≡ fault → names_fault c.args.inputs.now c.args.marks.now c.args.nets.now 0 main.outputs ≡ fault
-outputs_last c main first fault e = ap (names_fault c.args.inputs.now c.args.marks.now c.args.nets.now 0) (sym (outputs_are c main first)) ∙ e
+    → names_fault c.args.wiring.now.inputs.now c.args.marks.now c.args.wiring.now.nets.now 0 c.deref.result.now ≡ fault → names_fault c.args.wiring.now.inputs.now c.args.marks.now c.args.wiring.now.nets.now 0 main.outputs ≡ fault
+outputs_last c main first fault e = ap (names_fault c.args.wiring.now.inputs.now c.args.marks.now c.args.wiring.now.nets.now 0) (sym (outputs_are c main first)) ∙ e
 
 pub returns-clause-ok : goal.returns-clause-ok
-returns-clause-ok c = tells_ok c.check_names.result (names_fault c.args.inputs.now c.args.marks.now c.args.nets.now 0 c.deref.result.now) _ c.check_names.ensures
+returns-clause-ok c = tells_ok c.check_names.result (names_fault c.args.wiring.now.inputs.now c.args.marks.now c.args.wiring.now.nets.now 0 c.deref.result.now) _ c.check_names.ensures
     (λ e main first. c.loop-gate.invariant main None first
-    (outputs_said c.args.library.now c.requires.driven c.args.rows.now c.requires.rows c.args.nets.now c.requires.nets c.args.inputs.now c.requires.inputs c.args.marks.now c.requires.marks
+    (outputs_said c.args.library.now c.requires.driven c.args.wiring.now.instances.now c.requires.instances c.args.wiring.now.nets.now c.requires.nets c.args.wiring.now.inputs.now c.requires.inputs c.args.marks.now c.requires.marks
     c.args.gates.now c.requires.gates c.loop-gate.gate-index c.loop-gate-test.false main None (outputs_last c main first None e)))
 
 pub returns-clause-err : goal.returns-clause-err
-returns-clause-err c = tells_err c.check_names.result (names_fault c.args.inputs.now c.args.marks.now c.args.nets.now 0 c.deref.result.now) _ c.check_names.ensures
+returns-clause-err c = tells_err c.check_names.result (names_fault c.args.wiring.now.inputs.now c.args.marks.now c.args.wiring.now.nets.now 0 c.deref.result.now) _ c.check_names.ensures
     (λ r e main first. c.loop-gate.invariant main (Some r) first
-    (outputs_said c.args.library.now c.requires.driven c.args.rows.now c.requires.rows c.args.nets.now c.requires.nets c.args.inputs.now c.requires.inputs c.args.marks.now c.requires.marks
+    (outputs_said c.args.library.now c.requires.driven c.args.wiring.now.instances.now c.requires.instances c.args.wiring.now.nets.now c.requires.nets c.args.wiring.now.inputs.now c.requires.inputs c.args.marks.now c.requires.marks
     c.args.gates.now c.requires.gates c.loop-gate.gate-index c.loop-gate-test.false main (Some r) (outputs_last c main first (Some r) e)))

@@ -4,6 +4,6 @@ use Rattle.blif_flat.proofs.Fields.RegularNetLemmas.{all_mapped, latches_are}
 use Rattle.blif_flat.proofs.field.flat_gates.flat_latches.Goals as goal
 
 pub returns : goal.returns
-returns c r = subst (AreFlatLatches c.args.library.now (regular_places c.args.library.now r.main r.test (paths_of c.args.rows.now)))
-    (sym (all_mapped (flat_latch c.args.library.now c.args.rows.now c.args.nets.now c.args.numbers.now) c.loop-gate.flat.items c.args.latches.now c.loop-gate.gate-index c.loop-gate.invariant c.loop-gate-test.false))
-    (latches_are c.args.library.now c.args.rows.now c.requires.rows c.requires.driven c.args.numbers.now r c.args.nets.now c.requires.nets c.args.latches.now c.requires.latches)
+returns c r = subst (AreFlatLatches c.args.library.now (regular_places c.args.library.now r.main r.test (paths_of c.args.instances.now)))
+    (sym (all_mapped (flat_latch c.args.library.now c.args.instances.now c.args.nets.now c.args.numbers.now) c.loop-gate.flat.items c.args.latches.now c.loop-gate.gate-index c.loop-gate.invariant c.loop-gate-test.false))
+    (latches_are c.args.library.now c.args.instances.now c.requires.instances c.requires.driven c.args.numbers.now r c.args.nets.now c.requires.nets c.args.latches.now c.requires.latches)

@@ -4,12 +4,12 @@ use Rattle.blif_flat.proofs.Fields.LoopOrderLemmas.{written_start, written_next}
 use Rattle.blif_flat.proofs.field.loops.written_covers.Goals as goal
 
 pub loop-number-init : goal.loop-number-init
-loop-number-init c = written_start c.args.library.now (places_at c.args.library.now is_cover (paths_of c.args.rows.now)) c.new-texts.result.items c.new-texts.ensures.items
+loop-number-init c = written_start c.args.library.now (places_at c.args.library.now is_cover (paths_of c.args.instances.now)) c.new-texts.result.items c.new-texts.ensures.items
 
 pub written_cover-requires-clause-here : goal.written_cover-requires-clause-here
 written_cover-requires-clause-here c = c.requires.here (get_or c.args.numbers.now c.loop-number.number-index 0)
     (In-get c.args.numbers.now c.loop-number.number-index (get_or c.args.numbers.now c.loop-number.number-index 0) (slice_get-get_or c.args.numbers.now c.loop-number.number-index 0 c.loop-number-test.true))
 
 pub loop-number-preserved : goal.loop-number-preserved
-loop-number-preserved c = written_next c.args.library.now (places_at c.args.library.now is_cover (paths_of c.args.rows.now)) c.args.numbers.now c.loop-number.number-index 0 c.loop-number.texts.items c.push.new.self.items
+loop-number-preserved c = written_next c.args.library.now (places_at c.args.library.now is_cover (paths_of c.args.instances.now)) c.args.numbers.now c.loop-number.number-index 0 c.loop-number.texts.items c.push.new.self.items
     c.in_ok-text.text c.loop-number-test.true c.loop-number.invariant c.in_ok-text.ensures c.in_ok-push.ensures.items

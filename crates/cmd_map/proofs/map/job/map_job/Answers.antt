@@ -1,8 +1,7 @@
-use Rattle.std.proofs.Common.{◌≡◌, ap}
 use Rattle.cmd_base.specs.Outside.{outside}
 use Rattle.cmd_map.specs.Map.Words.{map_seen}
 use Rattle.cmd_map.specs.Map.Verdict.{map_walk}
-use Rattle.cmd_base.proofs.EndLemmas.{explained_ends}
+use Rattle.cmd_base.proofs.EndLemmas.{explained_ends, only_read}
 use Rattle.cmd_map.proofs.MapLemmas.{map_done, map_cut}
 use Rattle.cmd_map.proofs.SourceWalkLemmas.{map_laws}
 use Rattle.cmd_map.proofs.map.job.map_job.Goals as goal
@@ -11,19 +10,19 @@ pub returns-in-Err-clause-ends : goal.returns-in-Err-clause-ends
 returns-in-Err-clause-ends g c ports =
     let old = g.S.Shelf.seen c.args.shelf.now in
     let new = g.S.Shelf.seen c.read_draft.new.shelf in
-    let bytes = g.O.Sink.bytes c.args.out.now in
-    let same : outside new.files bytes ports ≡ outside old.files bytes ports = ap (λ files. outside files bytes ports) c.read_draft.ensures.files in
-    explained_ends (map_walk (map_seen c.args.words.now)) old new (outside old.files bytes ports) (outside new.files bytes ports) same (λ _. c.read_draft.ensures.not_writing) c.in-Err.outcome c.in-Err.ensures.err
+    let out = g.O.Sink.seen c.args.out.now in
+    let same = only_read old new out ports c.read_draft.ensures.files c.read_draft.ensures.write_faults in
+    explained_ends (map_walk (map_seen c.args.words.now)) old new (outside old out ports) (outside new out ports) same (λ _. c.read_draft.ensures.not_writing) c.in-Err.outcome c.in-Err.ensures.err
 
 pub returns-in-Ok-write_out-clause-ends : goal.returns-in-Ok-write_out-clause-ends
 returns-in-Ok-write_out-clause-ends g c ports =
-    map_done c.in-Ok.draft.mapped c.in-Ok.ensures.draft.made c.write_out.ensures.means c.write_out.ensures.file (map_seen c.args.words.now) (g.S.Shelf.seen c.args.shelf.now) (g.S.Shelf.seen c.read_draft.new.shelf) (g.S.Shelf.seen c.write_out.new.shelf)
-    c.read_draft.ensures.files c.in-Ok.ensures.given c.write_out.ensures.given c.in-Ok.ensures.comes (g.O.Sink.bytes c.args.out.now) (g.O.Sink.bytes c.write_out.new.out) ports (c.in-Ok-write_out.ensures.ends ports)
+    map_done c.in-Ok.draft.mapped c.in-Ok.ensures.draft.made c.write_out.ensures.means (map_seen c.args.words.now) (g.S.Shelf.seen c.args.shelf.now) (g.S.Shelf.seen c.read_draft.new.shelf) (g.S.Shelf.seen c.write_out.new.shelf)
+    (λ out ps. only_read (g.S.Shelf.seen c.args.shelf.now) (g.S.Shelf.seen c.read_draft.new.shelf) out ps c.read_draft.ensures.files c.read_draft.ensures.write_faults) c.in-Ok.ensures.given c.write_out.ensures.given c.in-Ok.ensures.comes (g.O.Sink.seen c.args.out.now) (g.O.Sink.seen c.write_out.new.out) ports (c.in-Ok-write_out.ensures.ends ports)
 
 pub returns-clause-ends : goal.returns-clause-ends
 returns-clause-ends g c ports =
-    map_cut c.in-Ok.draft.mapped c.in-Ok.ensures.draft.made c.write_out.ensures.means c.write_out.ensures.file (map_seen c.args.words.now) (g.S.Shelf.seen c.args.shelf.now) (g.S.Shelf.seen c.read_draft.new.shelf) (g.S.Shelf.seen c.write_out.new.shelf)
-    c.read_draft.ensures.files c.in-Ok.ensures.given c.write_out.ensures.given c.in-Ok.ensures.comes (g.O.Sink.bytes c.args.out.now) (g.O.Sink.bytes c.write_out.new.out) ports (c.in-Err-write_out.ensures.ends ports)
+    map_cut c.in-Ok.draft.mapped c.in-Ok.ensures.draft.made c.write_out.ensures.means (map_seen c.args.words.now) (g.S.Shelf.seen c.args.shelf.now) (g.S.Shelf.seen c.read_draft.new.shelf) (g.S.Shelf.seen c.write_out.new.shelf)
+    (λ out ps. only_read (g.S.Shelf.seen c.args.shelf.now) (g.S.Shelf.seen c.read_draft.new.shelf) out ps c.read_draft.ensures.files c.read_draft.ensures.write_faults) c.in-Ok.ensures.given c.write_out.ensures.given c.in-Ok.ensures.comes (g.O.Sink.seen c.args.out.now) (g.O.Sink.seen c.write_out.new.out) ports (c.in-Err-write_out.ensures.ends ports)
 
 pub returns-in-Err-clause-laws : goal.returns-in-Err-clause-laws
 returns-in-Err-clause-laws g c = map_laws (map_seen c.args.words.now)

@@ -3,6 +3,7 @@ use Rattle.tl_io.specs.Shelf.{Files, with_file}
 use Rattle.blif_write.specs.PlainNetlist.{netlist_text}
 use Rattle.run_core.proofs.TableLemmas.{tables_within_bits}
 use Rattle.cmd_base.specs.Writing.{FileText}
+use Rattle.cmd_base.proofs.EndLemmas.{Rose_from}
 use Rattle.cmd_stations.specs.Mapped.{template_header}
 use Rattle.cmd_stations.specs.Written.{template_of}
 use Rattle.cmd_stations.proofs.WriteAllLemmas.{cut_in_file, line_ends}
@@ -14,26 +15,28 @@ returns-in-Err-clause-ends g c ports =
     let m = c.args.draft.now.mapped in
     let template : FileText = record { name = c.args.template.now; bytes = netlist_text (template_of m.source m.tables.template) } in
     let pack : FileText = record { name = c.args.pack.now; bytes = present_bytes m.tables.pack } in
-    let old = (g.S.Shelf.seen c.args.shelf.now).files in
-    cut_in_file [] template (pack ∷ []) (template_header m.tables.template) old old (g.S.Shelf.seen c.write_template.new.shelf).files (g.O.Sink.bytes c.args.out.now) ports refl c.in-Err.ensures.written
+    let old = g.S.Shelf.seen c.args.shelf.now in
+    cut_in_file [] template (pack ∷ []) (template_header m.tables.template) old old (g.S.Shelf.seen c.write_template.new.shelf) (g.O.Sink.seen c.args.out.now) ports refl c.in-Err.ensures.written c.in-Err.ensures.cause.failed
 
 pub returns-in-Err-write_pack-clause-ends : goal.returns-in-Err-write_pack-clause-ends
 returns-in-Err-write_pack-clause-ends g c ports =
     let m = c.args.draft.now.mapped in
     let template : FileText = record { name = c.args.template.now; bytes = netlist_text (template_of m.source m.tables.template) } in
     let pack : FileText = record { name = c.args.pack.now; bytes = present_bytes m.tables.pack } in
-    let old = (g.S.Shelf.seen c.args.shelf.now).files in
-    let mid = (g.S.Shelf.seen c.write_template.new.shelf).files in
-    cut_in_file (template ∷ []) pack [] (template_header m.tables.template) old mid (g.S.Shelf.seen c.write_pack.new.shelf).files (g.O.Sink.bytes c.args.out.now) ports c.in-Ok.ensures.written c.in-Err-write_pack.ensures.written
+    let old = g.S.Shelf.seen c.args.shelf.now in
+    let mid = g.S.Shelf.seen c.write_template.new.shelf in
+    let new = g.S.Shelf.seen c.write_pack.new.shelf in
+    let rose = Rose_from old.write_faults mid.write_faults new.write_faults c.in-Ok.ensures.cause.later c.in-Err-write_pack.ensures.cause.failed in
+    cut_in_file (template ∷ []) pack [] (template_header m.tables.template) old mid new (g.O.Sink.seen c.args.out.now) ports c.in-Ok.ensures.written c.in-Err-write_pack.ensures.written rose
 
 pub returns-in-Ok-write_pack-clause-ends : goal.returns-in-Ok-write_pack-clause-ends
 returns-in-Ok-write_pack-clause-ends g c ports =
     let m = c.args.draft.now.mapped in
     let template : FileText = record { name = c.args.template.now; bytes = netlist_text (template_of m.source m.tables.template) } in
     let pack : FileText = record { name = c.args.pack.now; bytes = present_bytes m.tables.pack } in
-    let old = (g.S.Shelf.seen c.args.shelf.now).files in
-    line_ends (template ∷ pack ∷ []) (template_header m.tables.template) old (g.S.Shelf.seen c.write_pack.new.shelf).files (g.O.Sink.bytes c.args.out.now) (g.O.Sink.bytes c.put_template_header.new.out) ports
-    c.put_template_header.result (c.in-Ok-write_pack.ensures.written ∙ ap (λ (fs : Option Files). with_file fs pack.name pack.bytes) c.in-Ok.ensures.written) c.put_template_header.ensures.grown
+    let old = g.S.Shelf.seen c.args.shelf.now in
+    line_ends (template ∷ pack ∷ []) (template_header m.tables.template) old (g.S.Shelf.seen c.write_pack.new.shelf) (g.O.Sink.seen c.args.out.now) (g.O.Sink.seen c.put_template_header.new.out) ports
+    c.put_template_header.result (c.in-Ok-write_pack.ensures.written ∙ ap (λ (fs : Option Files). with_file fs pack.name pack.bytes) c.in-Ok.ensures.written) c.put_template_header.ensures
 
 pub put_template_header-requires : goal.put_template_header-requires
 put_template_header-requires g c = tables_within_bits c.args.draft.now.mapped.tables.template c.args.draft.now.mapped.tables.shape c.requires.made.playable

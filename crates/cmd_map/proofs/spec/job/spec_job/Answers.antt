@@ -1,10 +1,10 @@
-use Rattle.std.proofs.Common.{◌≡◌, ap, sym, subst}
+use Rattle.std.proofs.Common.{sym, subst}
 use Rattle.param_list.specs.Parameters.{param_inits}
 use Rattle.ppc_pack.specs.Pack.{IsConf}
 use Rattle.cmd_base.specs.Outside.{outside}
 use Rattle.cmd_map.specs.Spec.Words.{spec_seen}
 use Rattle.cmd_map.specs.Spec.Verdict.{spec_walk}
-use Rattle.cmd_base.proofs.EndLemmas.{explained_ends}
+use Rattle.cmd_base.proofs.EndLemmas.{explained_ends, only_read}
 use Rattle.cmd_map.proofs.SpecLemmas.{spec_done, spec_cut}
 use Rattle.cmd_map.proofs.SourceWalkLemmas.{spec_laws}
 use Rattle.cmd_map.proofs.spec.job.spec_job.Goals as goal
@@ -13,26 +13,26 @@ pub returns-in-Err-clause-ends : goal.returns-in-Err-clause-ends
 returns-in-Err-clause-ends g c ports =
     let old = g.S.Shelf.seen c.args.shelf.now in
     let new = g.S.Shelf.seen c.read_draft.new.shelf in
-    let bytes = g.O.Sink.bytes c.args.out.now in
-    let same : outside new.files bytes ports ≡ outside old.files bytes ports = ap (λ files. outside files bytes ports) c.read_draft.ensures.files in
-    explained_ends (spec_walk (spec_seen c.args.words.now)) old new (outside old.files bytes ports) (outside new.files bytes ports) same (λ _. c.read_draft.ensures.not_writing) c.in-Err.outcome c.in-Err.ensures.err
+    let out = g.O.Sink.seen c.args.out.now in
+    let same = only_read old new out ports c.read_draft.ensures.files c.read_draft.ensures.write_faults in
+    explained_ends (spec_walk (spec_seen c.args.words.now)) old new (outside old out ports) (outside new out ports) same (λ _. c.read_draft.ensures.not_writing) c.in-Err.outcome c.in-Err.ensures.err
 
 pub returns-in-Err-listed_config-clause-ends : goal.returns-in-Err-listed_config-clause-ends
-returns-in-Err-listed_config-clause-ends g c ports = (ap (λ files. outside files (g.O.Sink.bytes c.args.out.now) ports) c.read_draft.ensures.files, λ _. c.read_draft.ensures.not_writing)
+returns-in-Err-listed_config-clause-ends g c ports = (only_read (g.S.Shelf.seen c.args.shelf.now) (g.S.Shelf.seen c.read_draft.new.shelf) (g.O.Sink.seen c.args.out.now) ports c.read_draft.ensures.files c.read_draft.ensures.write_faults, λ _. c.read_draft.ensures.not_writing)
 
 pub returns-in-Ok-write_out-clause-ends : goal.returns-in-Ok-write_out-clause-ends
 returns-in-Ok-write_out-clause-ends g c ports =
     let m = c.in-Ok.draft.mapped in
     let conf = subst (λ cs. IsConf m.tables.pack (param_inits m.source.params.list) cs) (sym c.deref.ensures.value) c.in-Ok-listed_config.ensures in
     spec_done m c.in-Ok.ensures.draft.made c.deref.result.now conf c.write_out.ensures.means (spec_seen c.args.words.now) (g.S.Shelf.seen c.args.shelf.now) (g.S.Shelf.seen c.read_draft.new.shelf) (g.S.Shelf.seen c.write_out.new.shelf)
-    c.read_draft.ensures.files c.in-Ok.ensures.given c.write_out.ensures.given c.in-Ok.ensures.comes (g.O.Sink.bytes c.args.out.now) (g.O.Sink.bytes c.write_out.new.out) ports (c.in-Ok-write_out.ensures.ends ports)
+    (λ out ps. only_read (g.S.Shelf.seen c.args.shelf.now) (g.S.Shelf.seen c.read_draft.new.shelf) out ps c.read_draft.ensures.files c.read_draft.ensures.write_faults) c.in-Ok.ensures.given c.write_out.ensures.given c.in-Ok.ensures.comes (g.O.Sink.seen c.args.out.now) (g.O.Sink.seen c.write_out.new.out) ports (c.in-Ok-write_out.ensures.ends ports)
 
 pub returns-clause-ends : goal.returns-clause-ends
 returns-clause-ends g c ports =
     let m = c.in-Ok.draft.mapped in
     let conf = subst (λ cs. IsConf m.tables.pack (param_inits m.source.params.list) cs) (sym c.deref.ensures.value) c.in-Ok-listed_config.ensures in
     spec_cut m c.in-Ok.ensures.draft.made c.deref.result.now conf c.write_out.ensures.means (spec_seen c.args.words.now) (g.S.Shelf.seen c.args.shelf.now) (g.S.Shelf.seen c.read_draft.new.shelf) (g.S.Shelf.seen c.write_out.new.shelf)
-    c.read_draft.ensures.files c.in-Ok.ensures.given c.write_out.ensures.given c.in-Ok.ensures.comes (g.O.Sink.bytes c.args.out.now) (g.O.Sink.bytes c.write_out.new.out) ports (c.in-Err-write_out.ensures.ends ports)
+    (λ out ps. only_read (g.S.Shelf.seen c.args.shelf.now) (g.S.Shelf.seen c.read_draft.new.shelf) out ps c.read_draft.ensures.files c.read_draft.ensures.write_faults) c.in-Ok.ensures.given c.write_out.ensures.given c.in-Ok.ensures.comes (g.O.Sink.seen c.args.out.now) (g.O.Sink.seen c.write_out.new.out) ports (c.in-Err-write_out.ensures.ends ports)
 
 pub returns-in-Err-clause-laws : goal.returns-in-Err-clause-laws
 returns-in-Err-clause-laws g c = spec_laws (spec_seen c.args.words.now)

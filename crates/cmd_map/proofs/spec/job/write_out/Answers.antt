@@ -11,15 +11,15 @@ pub returns-in-Err-clause-ends : goal.returns-in-Err-clause-ends
 returns-in-Err-clause-ends g c ports =
     let m = c.args.draft.now.mapped in
     let text : FileText = record { name = c.args.name.now; bytes = netlist_text (specialised_of m.source m.tables.template c.args.config.now) } in
-    cut_in_file [] text [] (template_header m.tables.template) (g.S.Shelf.seen c.args.shelf.now).files (g.S.Shelf.seen c.args.shelf.now).files (g.S.Shelf.seen c.write_specialised.new.shelf).files (g.O.Sink.bytes c.args.out.now) ports refl
-    c.in-Err.ensures.written
+    cut_in_file [] text [] (template_header m.tables.template) (g.S.Shelf.seen c.args.shelf.now) (g.S.Shelf.seen c.args.shelf.now) (g.S.Shelf.seen c.write_specialised.new.shelf) (g.O.Sink.seen c.args.out.now) ports refl
+    c.in-Err.ensures.written c.in-Err.ensures.cause.failed
 
 pub returns-in-Ok-clause-ends : goal.returns-in-Ok-clause-ends
 returns-in-Ok-clause-ends g c ports =
     let m = c.args.draft.now.mapped in
     let text : FileText = record { name = c.args.name.now; bytes = netlist_text (specialised_of m.source m.tables.template c.args.config.now) } in
-    line_ends (text ∷ []) (template_header m.tables.template) (g.S.Shelf.seen c.args.shelf.now).files (g.S.Shelf.seen c.write_specialised.new.shelf).files (g.O.Sink.bytes c.args.out.now) (g.O.Sink.bytes c.put_template_header.new.out) ports
-    c.put_template_header.result c.in-Ok.ensures.written c.put_template_header.ensures.grown
+    line_ends (text ∷ []) (template_header m.tables.template) (g.S.Shelf.seen c.args.shelf.now) (g.S.Shelf.seen c.write_specialised.new.shelf) (g.O.Sink.seen c.args.out.now) (g.O.Sink.seen c.put_template_header.new.out) ports
+    c.put_template_header.result c.in-Ok.ensures.written c.put_template_header.ensures
 
 pub put_template_header-requires : goal.put_template_header-requires
 put_template_header-requires g c = tables_within_bits c.args.draft.now.mapped.tables.template c.args.draft.now.mapped.tables.shape c.requires.made.playable

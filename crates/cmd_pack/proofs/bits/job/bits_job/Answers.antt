@@ -1,41 +1,53 @@
-use Rattle.std.proofs.Common.{◌≡◌, Option, sym, subst}
+use Rattle.std.proofs.Common.{◌≡◌, refl, sym, subst, inl}
 use Rattle.run_text.specs.EventValue.{event_values}
-use Rattle.tl_io.specs.Shelf.{Files}
 use Rattle.cmd_base.specs.Outside.{Outside, outside}
+use Rattle.cmd_base.proofs.EndLemmas.{explained_ends, only_read}
 use Rattle.cmd_pack.specs.Bits.Words.{bits_seen}
-use Rattle.cmd_pack.specs.Bits.Verdict.{AreLinesPut, AreLinesCut}
-use Rattle.cmd_pack.proofs.BitsPlayLemmas.{ready_begun, ready_bits}
-use Rattle.cmd_pack.proofs.PackLaws.{bits_laws}
+use Rattle.cmd_pack.specs.Bits.Verdict.{AreLinesPut, AreLinesCut, bits_walk}
+use Rattle.cmd_pack.proofs.BitsPlayLemmas.{cut_cause, ready_begun, ready_bits}
+use Rattle.cmd_pack.proofs.PackWalkLemmas.{bits_laws}
 use Rattle.cmd_pack.proofs.bits.job.bits_job.Goals as goal
+
+pub returns-in-Err-clause-ends : goal.returns-in-Err-clause-ends
+returns-in-Err-clause-ends g c ports =
+    let old = g.S.Shelf.seen c.args.shelf.now in
+    let new = g.S.Shelf.seen c.prepare.new.shelf in
+    let out = g.O.Sink.seen c.args.out.now in
+    explained_ends (bits_walk (bits_seen c.args.words.now)) old new (outside old out ports) (outside new out ports) (only_read old new out ports c.prepare.ensures.files c.prepare.ensures.write_faults) (λ none. absurd none) c.in-Err.outcome c.in-Err.ensures.err
 
 pub returns-in-Ok-play-clause-ends : goal.returns-in-Ok-play-clause-ends
 returns-in-Ok-play-clause-ends g c ports =
     let words = bits_seen c.args.words.now in
     let ready = c.in-Ok.ready in
-    let files = (g.S.Shelf.seen c.args.shelf.now).files in
-    let later = (g.S.Shelf.seen c.prepare.new.shelf).files in
-    let before : Outside = outside files (g.O.Sink.bytes c.args.out.now) ports in
-    let after : Outside = outside later (g.O.Sink.bytes c.play.new.out) ports in
-    let same : later ≡ files = c.prepare.ensures.files in
+    let old = g.S.Shelf.seen c.args.shelf.now in
+    let new = g.S.Shelf.seen c.prepare.new.shelf in
+    let out = g.O.Sink.seen c.play.new.out in
+    let before : Outside = outside old (g.O.Sink.seen c.args.out.now) ports in
+    let after : Outside = outside new out ports in
+    let same : after ≡ outside old out ports = only_read old new out ports c.prepare.ensures.files c.prepare.ensures.write_faults in
     let ends : AreLinesPut ready.host (event_values ready.events.items) before after =
-    subst (λ (fs : Option Files). AreLinesPut ready.host (event_values ready.events.items) before (outside fs (g.O.Sink.bytes c.play.new.out) ports)) (sym same) (c.in-Ok-play.ensures.ends files ports) in (
+    subst (λ w. AreLinesPut ready.host (event_values ready.events.items) before w) (sym same) (c.in-Ok-play.ensures.ends old ports) in (
       record { given = c.in-Ok.ensures.given; begun = λ fs told. ready_begun fs words ready (c.in-Ok.ensures.prepared fs told) },
       λ fs told. ready_bits fs words ready (c.in-Ok.ensures.prepared fs told) (λ h events. AreLinesPut h events before after) ends,
+      refl,
     )
 
 pub returns-clause-ends : goal.returns-clause-ends
 returns-clause-ends g c ports =
     let words = bits_seen c.args.words.now in
     let ready = c.in-Ok.ready in
-    let files = (g.S.Shelf.seen c.args.shelf.now).files in
-    let later = (g.S.Shelf.seen c.prepare.new.shelf).files in
-    let before : Outside = outside files (g.O.Sink.bytes c.args.out.now) ports in
-    let after : Outside = outside later (g.O.Sink.bytes c.play.new.out) ports in
-    let same : later ≡ files = c.prepare.ensures.files in
+    let old = g.S.Shelf.seen c.args.shelf.now in
+    let new = g.S.Shelf.seen c.prepare.new.shelf in
+    let out = g.O.Sink.seen c.play.new.out in
+    let before : Outside = outside old (g.O.Sink.seen c.args.out.now) ports in
+    let after : Outside = outside new out ports in
+    let same : after ≡ outside old out ports = only_read old new out ports c.prepare.ensures.files c.prepare.ensures.write_faults in
     let ends : AreLinesCut ready.host (event_values ready.events.items) before after =
-    subst (λ (fs : Option Files). AreLinesCut ready.host (event_values ready.events.items) before (outside fs (g.O.Sink.bytes c.play.new.out) ports)) (sym same) (c.in-Err-play.ensures.ends files ports) in (
+    subst (λ w. AreLinesCut ready.host (event_values ready.events.items) before w) (sym same) (c.in-Err-play.ensures.ends old ports) in (
       record { given = c.in-Ok.ensures.given; begun = λ fs told. ready_begun fs words ready (c.in-Ok.ensures.prepared fs told) },
       λ fs told. ready_bits fs words ready (c.in-Ok.ensures.prepared fs told) (λ h events. AreLinesCut h events before after) ends,
+      refl,
+      inl (cut_cause ready.host (event_values ready.events.items) before after ends),
     )
 
 pub returns-in-Err-clause-laws : goal.returns-in-Err-clause-laws

@@ -17,7 +17,7 @@ pub loop-event-init : goal.loop-event-init
 loop-event-init g c = record {
   pack = refl;
   no_ports = c.requires.no_ports;
-  come = come_none c.args.host.now (g.O.Sink.bytes c.args.out.now);
+  come = come_none c.args.host.now (g.O.Sink.seen c.args.out.now).bytes;
   later = omega arith;
 }
 
@@ -42,16 +42,16 @@ returns-in-Err-clause-ends g c =
     let member = member_at events i item c.loop-event-test.true c.event-item.is in
     let of_host = c.requires.can_play.of_host (event_value item) (In-map event_value events item member) in
     events_cut (bank_seen g.P.ConfigPort.port_seen c.loop-event.bank) (bank_seen g.P.ConfigPort.port_seen c.step.new.bank) c.loop-event.invariant.no_ports c.args.host.now c.loop-event.host c.step.new.self (event_values events)
-    (event_values (take i events)) (event_value item) (g.O.Sink.bytes c.args.out.now) (g.O.Sink.bytes c.loop-event.out) (g.O.Sink.bytes c.step.new.out) c.in-Err.field-0 (split_at events i item c.loop-event-test.true c.event-item.is)
-    c.loop-event.invariant.come (record { of_host = of_host; played = ends.played; steady = ends.steady }) ends.put ends.places
+    (event_values (take i events)) (event_value item) (g.O.Sink.seen c.args.out.now).bytes (g.O.Sink.seen c.loop-event.out).bytes (g.O.Sink.seen c.step.new.out).bytes c.in-Err.field-0 (split_at events i item c.loop-event-test.true c.event-item.is)
+    c.loop-event.invariant.come (record { of_host = of_host; played = ends.played; steady = ends.steady }) ends.put.grown ends.places
 
 pub returns-in-Err-clause-cause : goal.returns-in-Err-clause-cause
 returns-in-Err-clause-cause g c =
-    let first = g.O.Sink.faults c.args.out.now in
-    let mid = g.O.Sink.faults c.loop-event.out in
-    let last = g.O.Sink.faults c.step.new.out in
+    let first = (g.O.Sink.seen c.args.out.now).faults in
+    let mid = (g.O.Sink.seen c.loop-event.out).faults in
+    let last = (g.O.Sink.seen c.step.new.out).faults in
     let later : first ≤ mid = c.loop-event.invariant.later in
-    let rose = fault_rose (bank_seen g.P.ConfigPort.port_seen c.loop-event.bank) (bank_seen g.P.ConfigPort.port_seen c.step.new.bank) c.loop-event.invariant.no_ports mid last c.in-Err.field-0 c.in-Err.ensures.cause c.in-Err.ensures.places in
+    let rose = fault_rose (bank_seen g.P.ConfigPort.port_seen c.loop-event.bank) (bank_seen g.P.ConfigPort.port_seen c.step.new.bank) c.loop-event.invariant.no_ports mid last c.in-Err.field-0 c.in-Err.ensures.put.cause c.in-Err.ensures.places in
     let then : mid ≤ last = rose.0 in
     record { later = omega (arith, later, then); failed = Rose_from first mid last later rose.1 }
 
@@ -60,27 +60,27 @@ loop-event-preserved g c =
     let events = c.args.events.now in
     let i = c.loop-event.event-index in
     let item = c.event-item.result in
-    let first = g.O.Sink.bytes c.args.out.now in
-    let before = g.O.Sink.bytes c.loop-event.out in
-    let after = g.O.Sink.bytes c.step.new.out in
+    let first = (g.O.Sink.seen c.args.out.now).bytes in
+    let before = (g.O.Sink.seen c.loop-event.out).bytes in
+    let after = (g.O.Sink.seen c.step.new.out).bytes in
     let ends = c.in-Ok.ensures in
     let member = member_at events i item c.loop-event-test.true c.event-item.is in
     let of_host = c.requires.can_play.of_host (event_value item) (In-map event_value events item member) in
     let step : IsHostStep (event_value item) c.loop-event.host c.step.new.self = record { of_host = of_host; played = ends.played; steady = ends.steady } in
-    let later : g.O.Sink.faults c.args.out.now ≤ g.O.Sink.faults c.loop-event.out = c.loop-event.invariant.later in
-    let last : g.O.Sink.faults c.loop-event.out ≤ g.O.Sink.faults c.step.new.out = ends.cause in
+    let later : (g.O.Sink.seen c.args.out.now).faults ≤ (g.O.Sink.seen c.loop-event.out).faults = c.loop-event.invariant.later in
+    let last : (g.O.Sink.seen c.loop-event.out).faults ≤ (g.O.Sink.seen c.step.new.out).faults = ends.put.cause in
     record {
       pack = ends.played.pack ∙ c.loop-event.invariant.pack;
       no_ports = ends.places.serving ∙ c.loop-event.invariant.no_ports;
       come = subst (λ es. HaveCome c.args.host.now es first c.step.new.self after) (sym (one_more events i item c.loop-event-test.true c.event-item.is))
-          (come_more c.args.host.now c.loop-event.host c.step.new.self (event_values (take i events)) (event_value item) first before after c.loop-event.invariant.come step ends.put);
+          (come_more c.args.host.now c.loop-event.host c.step.new.self (event_values (take i events)) (event_value item) first before after c.loop-event.invariant.come step ends.put.grown);
       later = omega (arith, later, last);
     }
 
 pub returns-clause-ends : goal.returns-clause-ends
 returns-clause-ends g c =
     let events = c.args.events.now in
-    let first = g.O.Sink.bytes c.args.out.now in
-    let after = g.O.Sink.bytes c.loop-event.out in
+    let first = (g.O.Sink.seen c.args.out.now).bytes in
+    let after = (g.O.Sink.seen c.loop-event.out).bytes in
     let whole : take c.loop-event.event-index events ≡ events = take_all c.loop-event.event-index events c.loop-event-test.false in
     come_all c.args.host.now c.loop-event.host (event_values events) first after (subst (λ (es : List Event). HaveCome c.args.host.now (event_values es) first c.loop-event.host after) whole c.loop-event.invariant.come)

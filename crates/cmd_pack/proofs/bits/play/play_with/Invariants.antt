@@ -8,6 +8,6 @@ abbrev pub invariant-loop-event : goal.invariant-loop-event
 invariant-loop-event g l = record {
   pack : l.host.pack ≡ l.initial.host.pack;
   no_ports : length (bank_seen g.P.ConfigPort.port_seen l.bank).serving ≡ 0;
-  come : HaveCome l.initial.host (event_values (take l.event-index l.events)) (g.O.Sink.bytes l.initial.out) l.host (g.O.Sink.bytes l.out);
-  later : g.O.Sink.faults l.initial.out ≤ g.O.Sink.faults l.out;
+  come : HaveCome l.initial.host (event_values (take l.event-index l.events)) (g.O.Sink.seen l.initial.out).bytes l.host (g.O.Sink.seen l.out).bytes;
+  later : (g.O.Sink.seen l.initial.out).faults ≤ (g.O.Sink.seen l.out).faults;
 }

@@ -1,10 +1,29 @@
-use Rattle.std.proofs.Common.{◌≡◌}
+use Rattle.std.proofs.Common.{refl, subst, List, [], ◌∷◌}
+use Rattle.tl_io.specs.Port.{PortSeen}
+use Rattle.tl_io.specs.Sink.{SinkSeen}
 use Rattle.cmd_base.specs.Outside.{Outside, outside}
-use Rattle.cmd_base.specs.Writing.{AreWritten, IsCut}
+use Rattle.cmd_base.specs.Writing.{FileText, AreWritten, IsCut}
+use Rattle.cmd_base.proofs.EndLemmas.{explained_ends, only_read}
+use Rattle.cmd_stations.specs.Packs.{present_bytes}
+use Rattle.cmd_stations.proofs.WriteAllLemmas.{cut_cause}
+use Rattle.cmd_pack.specs.Bits.Verdict.{pack_header}
 use Rattle.cmd_pack.specs.Repack.Words.{repack_seen}
+use Rattle.cmd_pack.specs.Repack.Verdict.{repack_walk}
+use Rattle.cmd_pack.proofs.PackWalkLemmas.{repack_laws}
 use Rattle.cmd_pack.proofs.RepackLemmas.{begun_from, repacked_from}
-use Rattle.cmd_pack.proofs.PackLaws.{repack_laws}
 use Rattle.cmd_pack.proofs.repack.job.repack_job.Goals as goal
+
+pub returns-in-Err-clause-ends : goal.returns-in-Err-clause-ends
+returns-in-Err-clause-ends g c ports =
+    let old = g.S.Shelf.seen c.args.shelf.now in
+    let new = g.S.Shelf.seen c.read_pack.new.shelf in
+    let out = g.O.Sink.seen c.args.out.now in
+    explained_ends (repack_walk (repack_seen c.args.words.now)) old new (outside old out ports) (outside new out ports) (only_read old new out ports c.read_pack.ensures.files c.read_pack.ensures.write_faults) (λ _. c.read_pack.ensures.not_writing) c.in-Err.outcome
+    c.in-Err.ensures.err
+
+pub returns-in-Err-make-clause-ends : goal.returns-in-Err-make-clause-ends
+returns-in-Err-make-clause-ends g c ports =
+    (only_read (g.S.Shelf.seen c.args.shelf.now) (g.S.Shelf.seen c.read_pack.new.shelf) (g.O.Sink.seen c.args.out.now) ports c.read_pack.ensures.files c.read_pack.ensures.write_faults, λ _. c.read_pack.ensures.not_writing)
 
 pub returns-in-Ok-write_all-clause-ends : goal.returns-in-Ok-write_all-clause-ends
 returns-in-Ok-write_all-clause-ends g c ports =
@@ -12,10 +31,11 @@ returns-in-Ok-write_all-clause-ends g c ports =
     let old = g.S.Shelf.seen c.args.shelf.now in
     let mid = g.S.Shelf.seen c.read_pack.new.shelf in
     let new = g.S.Shelf.seen c.write_all.new.shelf in
-    let after : Outside = outside new.files (g.O.Sink.bytes c.write_all.new.out) ports in
-    let same : mid.files ≡ old.files = c.read_pack.ensures.files in (
+    let after : Outside = outside new (g.O.Sink.seen c.write_all.new.out) ports in
+    let same = λ (out : SinkSeen) (ps : List PortSeen). only_read old mid out ps c.read_pack.ensures.files c.read_pack.ensures.write_faults in (
       begun_from words c.in-Ok.pack old mid new same c.in-Ok.ensures.pack c.in-Ok.ensures.settled c.in-Ok.ensures.given c.write_all.ensures.given,
-      repacked_from words c.in-Ok.pack old mid new same c.in-Ok.ensures.pack c.in-Ok.ensures.settled (λ before texts line. AreWritten texts line before after) (g.O.Sink.bytes c.args.out.now) ports (c.in-Ok-write_all.ensures.ends ports),
+      repacked_from words c.in-Ok.pack old mid new same c.in-Ok.ensures.pack c.in-Ok.ensures.settled (λ before texts line. AreWritten texts line before after) (g.O.Sink.seen c.args.out.now) ports (c.in-Ok-write_all.ensures.ends ports),
+      refl,
     )
 
 pub returns-clause-ends : goal.returns-clause-ends
@@ -24,10 +44,15 @@ returns-clause-ends g c ports =
     let old = g.S.Shelf.seen c.args.shelf.now in
     let mid = g.S.Shelf.seen c.read_pack.new.shelf in
     let new = g.S.Shelf.seen c.write_all.new.shelf in
-    let after : Outside = outside new.files (g.O.Sink.bytes c.write_all.new.out) ports in
-    let same : mid.files ≡ old.files = c.read_pack.ensures.files in (
+    let out = g.O.Sink.seen c.args.out.now in
+    let after : Outside = outside new (g.O.Sink.seen c.write_all.new.out) ports in
+    let same = λ (put : SinkSeen) (ps : List PortSeen). only_read old mid put ps c.read_pack.ensures.files c.read_pack.ensures.write_faults in
+    let text : FileText = record { name = words.new; bytes = present_bytes c.in-Ok.pack } in
+    let cut = subst (λ w. IsCut (text ∷ []) (pack_header c.in-Ok.pack) w after) (same out ports) (c.in-Err-write_all.ensures.ends ports) in (
       begun_from words c.in-Ok.pack old mid new same c.in-Ok.ensures.pack c.in-Ok.ensures.settled c.in-Ok.ensures.given c.write_all.ensures.given,
-      repacked_from words c.in-Ok.pack old mid new same c.in-Ok.ensures.pack c.in-Ok.ensures.settled (λ before texts line. IsCut texts line before after) (g.O.Sink.bytes c.args.out.now) ports (c.in-Err-write_all.ensures.ends ports),
+      repacked_from words c.in-Ok.pack old mid new same c.in-Ok.ensures.pack c.in-Ok.ensures.settled (λ before texts line. IsCut texts line before after) out ports (c.in-Err-write_all.ensures.ends ports),
+      refl,
+      cut_cause (repack_walk words) (text ∷ []) (pack_header c.in-Ok.pack) (outside old out ports) after tt cut,
     )
 
 pub returns-in-Err-clause-laws : goal.returns-in-Err-clause-laws

@@ -1,4 +1,4 @@
-use Rattle.std.proofs.Common.{◌≡◌, ◌+◌, List, take, refl, sym, ◌∙◌, subst}
+use Rattle.std.proofs.Common.{◌≡◌, List, take, refl, sym, ◌∙◌, subst}
 use Rattle.std.proofs.lemmas.List.{take_all}
 use Rattle.list_laws.proofs.Items.{member_at}
 use Rattle.list_laws.proofs.Members.{In-map}
@@ -7,9 +7,10 @@ use Rattle.run_text.specs.EventValue.{event_value, event_values}
 use Rattle.lut_sim.specs.declared.shape.Shape.{Shape}
 use Rattle.ppc_pack.specs.Pack.{PackValue}
 use Rattle.run_core.specs.Fits.{FitsPack, FitsShape}
-use Rattle.cmd_run.specs.GenCommand.Totals.{writes_of, output_of, Totals, none, more}
-use Rattle.cmd_stations.proofs.EventLemmas.{split_at, one_more}
+use Rattle.cmd_run.specs.GenCommand.Totals.{Totals, none}
+use Rattle.cmd_stations.proofs.EventLemmas.{one_more}
 use Rattle.cmd_run.proofs.GenLemmas.{total_more}
+use Rattle.cmd_run.proofs.TotalLemmas.{next_fits}
 use Rattle.cmd_run.proofs.gen_command.play.play_with.Goals as goal
 
 pub loop-event-init : goal.loop-event-init
@@ -33,39 +34,27 @@ loop-event-preserved g c =
     let i = c.loop-event.event-index in
     let item = c.event-item.result in
     let played = c.play.ensures.played in
-    let old = c.loop-event.totals in
-    let new = c.in_ok-totals.totals in
+    let new = c.with_event-totals.result in
     record {
       pack = played.host.pack ∙ c.loop-event.invariant.pack;
       shape = played.shape ∙ c.loop-event.invariant.shape;
       totals = subst (λ es. Totals c.args.machine.now es new.writes new.total c.play.new.self) (sym (one_more events i item c.loop-event-test.true c.event-item.is))
-          (total_more c.args.machine.now c.loop-event.machine c.play.new.self (event_values (take i events)) (event_value item) old.writes old.total new.writes new.total c.loop-event.invariant.totals played
-          c.in_ok-totals.ensures.writes c.in_ok-totals.ensures.total);
+          (total_more c.play.new.self (event_value item) new.writes new.total c.loop-event.invariant.totals played c.with_event-totals.ensures.writes c.with_event-totals.ensures.total);
     }
 
-pub returns-clause-totals : goal.returns-clause-totals
-returns-clause-totals g c =
+pub with_event-totals-requires-clause-writes : goal.with_event-totals-requires-clause-writes
+with_event-totals-requires-clause-writes g c =
+    let i = c.loop-event.event-index in
+    (next_fits c.args.machine.now c.args.events.now i c.event-item.result c.requires.small c.loop-event-test.true c.play.new.self c.loop-event.invariant.totals c.play.ensures.played).0
+
+pub with_event-totals-requires-clause-total : goal.with_event-totals-requires-clause-total
+with_event-totals-requires-clause-total g c =
+    let i = c.loop-event.event-index in
+    (next_fits c.args.machine.now c.args.events.now i c.event-item.result c.requires.small c.loop-event-test.true c.play.new.self c.loop-event.invariant.totals c.play.ensures.played).1
+
+pub returns : goal.returns
+returns g c =
     let events = c.args.events.now in
     let totals = c.loop-event.totals in
     let whole : take c.loop-event.event-index events ≡ events = take_all c.loop-event.event-index events c.loop-event-test.false in
     subst (λ (es : List Event). Totals c.args.machine.now (event_values es) totals.writes totals.total c.loop-event.machine) whole c.loop-event.invariant.totals
-
-pub returns-in_err-totals-clause-over : goal.returns-in_err-totals-clause-over
-returns-in_err-totals-clause-over g c =
-    let events = c.args.events.now in
-    let i = c.loop-event.event-index in
-    let item = c.event-item.result in
-    let old = c.loop-event.totals in
-    let new = c.play.new.self in
-    rw c.from_residual.ensures (
-    record {
-      before = event_values (take i events);
-      event = event_value item;
-      split = split_at events i item c.loop-event-test.true c.event-item.is;
-      writes = old.writes + writes_of (event_value item) new;
-      total = old.total + output_of (event_value item) new;
-      new = new;
-      totals = more (event_value item) c.loop-event.invariant.totals c.play.ensures.played;
-      over = c.in_err-totals.ensures.over;
-    }
-    )

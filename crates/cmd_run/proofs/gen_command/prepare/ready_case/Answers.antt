@@ -25,7 +25,7 @@ returns-in-Ok-start_machine-clause-ready c =
     let mapped = c.in-Ok.mapped in
     let events = event_values c.in-Ok-case_events.events.items in
     can_play (record { source = mapped.source; template = mapped.tables.template; events = events }) c.in-Ok-start_machine.machine (c.in-Ok-start_machine.ensures.start events)
-    c.in-Ok.ensures.tables.mapped.chosen.mapping.sum c.in-Ok-case_events.ensures.fit
+    c.in-Ok.ensures.tables.least.mapping.sum c.in-Ok-case_events.ensures.fit
 
 pub returns-in-Ok-start_machine-clause-prepared : goal.returns-in-Ok-start_machine-clause-prepared
 returns-in-Ok-start_machine-clause-prepared c files have =

@@ -1,10 +1,7 @@
-use Rattle.std.proofs.Common.{◌≡◌, ◌<◌, ◌^◌}
+use Rattle.std.proofs.Common.{◌≡◌}
 use Rattle.list_laws.specs.Digits.{number}
 use Rattle.cmd_run.proofs.NumberLemmas.{number_below}
 use Rattle.cmd_run.proofs.gen_command.totals.number_of.Given as goal
 
 abbrev pub invariant-loop-digit : goal.invariant-loop-digit
-invariant-loop-digit l = record {
-  fits : l.value < 2 ^ 128;
-  same : number_below l.value l.digit-iterator.iter.rest.now ≡ number l.digits;
-}
+invariant-loop-digit l = number_below l.value l.digit-iterator.iter.rest.now ≡ number l.digits

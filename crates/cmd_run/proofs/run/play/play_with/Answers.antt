@@ -19,7 +19,7 @@ loop-event-init g c = record {
   pack = refl;
   shape = refl;
   holds = c.requires.holds;
-  come = come_none (record { machine = c.args.machine.now; bank = bank_seen g.P.ConfigPort.port_seen c.args.bank.now }) (g.O.Sink.bytes c.args.out.now);
+  come = come_none (record { machine = c.args.machine.now; bank = bank_seen g.P.ConfigPort.port_seen c.args.bank.now }) (g.O.Sink.seen c.args.out.now).bytes;
   later = omega arith;
 }
 
@@ -45,9 +45,9 @@ returns-in_err-step-clause-ends g c =
     let mid : Stage = record { machine = c.loop-event.machine; bank = bank_seen g.P.ConfigPort.port_seen c.loop-event.bank } in
     let new : Stage = record { machine = c.step.new.self; bank = bank_seen g.P.ConfigPort.port_seen c.step.new.bank } in
     let ends = c.in_err-step.ensures in
-    rw (p.1, p.2) (events_end start mid new (event_values events) (event_values (take i events)) (event_value item) (g.O.Sink.bytes c.args.out.now) (g.O.Sink.bytes c.loop-event.out) (g.O.Sink.bytes c.step.new.out) c.in_err-step.field-0.0
+    rw (p.1, p.2) (events_end start mid new (event_values events) (event_values (take i events)) (event_value item) (g.O.Sink.seen c.args.out.now).bytes (g.O.Sink.seen c.loop-event.out).bytes (g.O.Sink.seen c.step.new.out).bytes c.in_err-step.field-0.0
     (split_at events i item c.loop-event-test.true c.event-item.is) c.loop-event.invariant.come
-    (record { played = ends.played; steady = ends.steady; sent = ends.sent; put = ends.put; moved = ends.moved; places = ends.places; held = c.loop-event.invariant.holds; holds = ends.holds }))
+    (record { played = ends.played; steady = ends.steady; sent = ends.sent; put = ends.put.grown; left = ends.left; places = ends.places; held = c.loop-event.invariant.holds; holds = ends.holds }))
 
 pub loop-event-preserved : goal.loop-event-preserved
 loop-event-preserved g c =
@@ -57,20 +57,20 @@ loop-event-preserved g c =
     let start : Stage = record { machine = c.args.machine.now; bank = bank_seen g.P.ConfigPort.port_seen c.args.bank.now } in
     let mid : Stage = record { machine = c.loop-event.machine; bank = bank_seen g.P.ConfigPort.port_seen c.loop-event.bank } in
     let new : Stage = record { machine = c.step.new.self; bank = bank_seen g.P.ConfigPort.port_seen c.step.new.bank } in
-    let first = g.O.Sink.bytes c.args.out.now in
-    let before = g.O.Sink.bytes c.loop-event.out in
-    let after = g.O.Sink.bytes c.step.new.out in
+    let first = (g.O.Sink.seen c.args.out.now).bytes in
+    let before = (g.O.Sink.seen c.loop-event.out).bytes in
+    let after = (g.O.Sink.seen c.step.new.out).bytes in
     let ends = c.in_ok-step.ensures in
     let step = whole_step (event_value item) mid new before after
-    (record { played = ends.played; steady = ends.steady; sent = ends.sent; put = ends.put; moved = ends.moved; places = ends.places; held = c.loop-event.invariant.holds; holds = ends.holds }) in
-    let later : g.O.Sink.faults c.args.out.now ≤ g.O.Sink.faults c.loop-event.out = c.loop-event.invariant.later in
-    let last : g.O.Sink.faults c.loop-event.out ≤ g.O.Sink.faults c.step.new.out = ends.cause in
+    (record { played = ends.played; steady = ends.steady; sent = ends.sent; put = ends.put.grown; left = ends.left; places = ends.places; held = c.loop-event.invariant.holds; holds = ends.holds }) in
+    let later : (g.O.Sink.seen c.args.out.now).faults ≤ (g.O.Sink.seen c.loop-event.out).faults = c.loop-event.invariant.later in
+    let last : (g.O.Sink.seen c.loop-event.out).faults ≤ (g.O.Sink.seen c.step.new.out).faults = ends.put.cause in
     record {
       pack = ends.played.host.pack ∙ c.loop-event.invariant.pack;
       shape = ends.played.shape ∙ c.loop-event.invariant.shape;
       holds = ends.holds c.loop-event.invariant.holds;
       come = subst (λ es. HaveCome start es first new after) (sym (one_more events i item c.loop-event-test.true c.event-item.is))
-          (come_more start mid new (event_values (take i events)) (event_value item) first before after c.loop-event.invariant.come step ends.put);
+          (come_more start mid new (event_values (take i events)) (event_value item) first before after c.loop-event.invariant.come step ends.put.grown);
       later = omega (arith, later, last);
     }
 
@@ -79,7 +79,7 @@ returns-clause-ends g c =
     let start : Stage = record { machine = c.args.machine.now; bank = bank_seen g.P.ConfigPort.port_seen c.args.bank.now } in
     let now : Stage = record { machine = c.loop-event.machine; bank = bank_seen g.P.ConfigPort.port_seen c.loop-event.bank } in
     let events = c.args.events.now in
-    let first = g.O.Sink.bytes c.args.out.now in
-    let after = g.O.Sink.bytes c.loop-event.out in
+    let first = (g.O.Sink.seen c.args.out.now).bytes in
+    let after = (g.O.Sink.seen c.loop-event.out).bytes in
     let whole : take c.loop-event.event-index events ≡ events = take_all c.loop-event.event-index events c.loop-event-test.false in
     come_all start now (event_values events) first after (subst (λ (es : List Event). HaveCome start (event_values es) first now after) whole c.loop-event.invariant.come)

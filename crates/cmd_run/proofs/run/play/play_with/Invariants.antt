@@ -10,7 +10,7 @@ invariant-loop-event g l = record {
   pack : l.machine.host.pack ≡ l.initial.machine.host.pack;
   shape : l.machine.sim.shape ≡ l.initial.machine.sim.shape;
   holds : Holds l.machine.host.state.config (bank_seen g.P.ConfigPort.port_seen l.bank);
-  come : HaveCome (record { machine = l.initial.machine; bank = bank_seen g.P.ConfigPort.port_seen l.initial.bank }) (event_values (take l.event-index l.events)) (g.O.Sink.bytes l.initial.out)
-      (record { machine = l.machine; bank = bank_seen g.P.ConfigPort.port_seen l.bank }) (g.O.Sink.bytes l.out);
-  later : g.O.Sink.faults l.initial.out ≤ g.O.Sink.faults l.out;
+  come : HaveCome (record { machine = l.initial.machine; bank = bank_seen g.P.ConfigPort.port_seen l.initial.bank }) (event_values (take l.event-index l.events)) (g.O.Sink.seen l.initial.out).bytes
+      (record { machine = l.machine; bank = bank_seen g.P.ConfigPort.port_seen l.bank }) (g.O.Sink.seen l.out).bytes;
+  later : (g.O.Sink.seen l.initial.out).faults ≤ (g.O.Sink.seen l.out).faults;
 }

@@ -28,7 +28,7 @@ returns-in-Ok-start_machine-clause-ready g c =
     let mapped = c.in-Ok.mapped in
     let events = event_values c.in-Ok-read_events.events.items in
     can_play (record { source = mapped.source; template = mapped.tables.template; events = events }) c.in-Ok-start_machine.machine (c.in-Ok-start_machine.ensures.start events)
-    c.in-Ok.ensures.tables.mapped.chosen.mapping.sum c.in-Ok-read_events.ensures.fit
+    c.in-Ok.ensures.tables.least.mapping.sum c.in-Ok-read_events.ensures.fit
 
 pub returns-in-Ok-start_machine-clause-prepared : goal.returns-in-Ok-start_machine-clause-prepared
 returns-in-Ok-start_machine-clause-prepared g c files told =

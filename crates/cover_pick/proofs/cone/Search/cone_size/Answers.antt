@@ -1,7 +1,7 @@
 use Rattle.std.proofs.Common.{arith, ◌≡◌, ◌∙◌, ◌/◌, ◌<◌, length, ap}
 use Rattle.aig_core.specs.Aig.{node_count, IsAnd}
 use Rattle.cover_pick.specs.Search.{reach}
-use Rattle.cover_pick.proofs.SearchLaws.{search_start, search_step, search_end, found_and}
+use Rattle.cover_pick.proofs.SearchLemmas.{search_start, search_step, search_end, found_and}
 use Rattle.cover_pick.proofs.cone.Search.cone_size.Goals as goal
 
 pub loop-next-init : goal.loop-next-init

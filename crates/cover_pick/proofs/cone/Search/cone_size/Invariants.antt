@@ -1,6 +1,6 @@
 use Rattle.std.proofs.Common.{◌-◌}
 use Rattle.aig_core.specs.Aig.{node_count}
-use Rattle.cover_pick.proofs.SearchLaws.{Found}
+use Rattle.cover_pick.proofs.SearchLemmas.{Found}
 use Rattle.cover_pick.proofs.cone.Search.cone_size.Given as goal
 
 abbrev pub invariant-loop-next : goal.invariant-loop-next

@@ -1,5 +1,5 @@
 use Rattle.port_bank.specs.Seen.{bank_seen}
-use Rattle.port_bank.proofs.PlayLemmas.{send_keeps, plays_places, plays_none, plays_lost, plays_cause}
+use Rattle.port_bank.proofs.PlayLemmas.{send_keeps, plays_places, plays_none, plays_lost, plays_left, plays_cause}
 use Rattle.port_bank.proofs.bank.PortBank.send.Goals as goal
 
 pub returns-clause-keeps : goal.returns-clause-keeps
@@ -17,3 +17,6 @@ returns-clause-cause g c = plays_cause _ _ _ _ c.send_writes.result c.send_write
 
 pub returns-clause-none : goal.returns-clause-none
 returns-clause-none g c = plays_none _ _ _ _ c.send_writes.result c.send_writes.ensures
+
+pub returns-clause-left : goal.returns-clause-left
+returns-clause-left g c = plays_left _ _ _ _ c.send_writes.result c.send_writes.ensures

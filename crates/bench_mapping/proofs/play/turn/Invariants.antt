@@ -1,0 +1,8 @@
+use Rattle.std.proofs.Common.{◌≡◌, length}
+use Rattle.bench_mapping.proofs.play.turn.Given as goal
+
+abbrev pub ghosts-turn_with : goal.ghosts-turn_with
+ghosts-turn_with a = record { name = a.blank.name; parts = a.blank.parts }
+
+abbrev pub invariant-loop : goal.invariant-loop
+invariant-loop l = length l.specialiser.state.params ≡ length l.initial.specialiser.state.params

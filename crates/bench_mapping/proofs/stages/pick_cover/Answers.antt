@@ -1,0 +1,4 @@
+use Rattle.bench_mapping.proofs.stages.pick_cover.Goals as goal
+
+pub returns-clause-mapping : goal.returns-clause-mapping
+returns-clause-mapping c = c.in-Ok.ensures.mapping c.in-Ok.template c.in-Ok.ensures.template c.args.k c.in_ok-table.ensures

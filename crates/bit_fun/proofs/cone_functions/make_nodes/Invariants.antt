@@ -1,0 +1,6 @@
+use Rattle.std.proofs.Common.{take, reverse}
+use Rattle.bit_fun.specs.ConeFunctions.{IsMadeOver}
+use Rattle.bit_fun.proofs.cone_functions.make_nodes.Given as goal
+
+abbrev pub invariant-loop-n : goal.invariant-loop-n
+invariant-loop-n l = IsMadeOver l.graph l.fn.pack l.fn.lits (reverse (take l.n-index l.order)) l.pack l.lits

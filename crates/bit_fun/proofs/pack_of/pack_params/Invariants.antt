@@ -1,6 +1,0 @@
-use Rattle.std.proofs.Common.{◌≡◌, map, take}
-use Rattle.bit_fun.specs.PackOf.{pack_param}
-use Rattle.bit_fun.proofs.pack_of.pack_params.Given as goal
-
-abbrev pub invariant-loop-param : goal.invariant-loop-param
-invariant-loop-param l = l.made.items ≡ map pack_param (take l.param-index l.param-items)

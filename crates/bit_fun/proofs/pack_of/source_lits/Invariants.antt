@@ -1,5 +1,0 @@
-use Rattle.bit_fun.specs.Pass.{HaveSourceLitsTo}
-use Rattle.bit_fun.proofs.pack_of.source_lits.Given as goal
-
-abbrev pub invariant-loop-i : goal.invariant-loop-i
-invariant-loop-i l = HaveSourceLitsTo l.graph l.i l.count l.lits.items

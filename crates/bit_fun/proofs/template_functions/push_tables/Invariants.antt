@@ -1,0 +1,10 @@
+use Rattle.std.proofs.Common.{◌≡◌, drop}
+use Rattle.aig_core.specs.Aig.{node_count}
+use Rattle.bit_fun.specs.ConeFunctions.{AreTablesMadeTo}
+use Rattle.bit_fun.proofs.template_functions.push_tables.Given as goal
+
+abbrev pub invariant-loop-table : goal.invariant-loop-table
+invariant-loop-table l = record {
+  so_far : AreTablesMadeTo l.graph l.tables (drop l.table-index l.tables) l.fn.pack l.pack l.lits l.bits.items;
+  count : l.walk.count ≡ node_count l.graph;
+}

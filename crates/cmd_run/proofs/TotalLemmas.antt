@@ -1,0 +1,78 @@
+-- What the events of a case add up to fits its types: a change writes no more bits than the tables have, and the outputs of a cycle are a number of as many digits.
+use Rattle.std.proofs.Common.{◌≡◌, ℕ, ◌+◌, ◌*◌, ◌^◌, ◌<◌, ◌≤◌, List, [], ◌∷◌, ◌++◌, length, take, refl, ap, ◌∙◌, subst, arith, length-append}
+use Rattle.std.specs.List.{filter, range_with_len}
+use Rattle.std.proofs.Math.Pow.{pow_mono}
+use Rattle.std.proofs.lemmas.List.{length-map, length-take-le}
+use Rattle.std.proofs.lemmas.List.FromFn.{length-range_with_len}
+use Rattle.std.proofs.lemmas.Nat.{pow_pos}
+use Rattle.list_laws.specs.Digits.{number}
+use Rattle.list_laws.proofs.Digits.{number-small}
+use Rattle.list_laws.proofs.Members.{length-filter_le}
+use Rattle.tl_io.specs.declared.Assign.{Assign}
+use Rattle.aig_core.specs.Roots.{lits_of}
+use Rattle.aig_core.specs.Value.{value_of}
+use Rattle.aig_core.specs.declared.lit.Lit.{Lit}
+use Rattle.cover_pick.specs.Template.{TemplateValue}
+use Rattle.ppc_pack.specs.Pack.{PackValue}
+use Rattle.run_text.specs.declared.event.Event.{Event}
+use Rattle.run_text.specs.EventValue.{EventValue, event_value, event_values, Set, Cycle, Upset, Scrub, Image}
+use Rattle.spec_core.specs.Differences.{differs_at, differences, write_of}
+use Rattle.spec_core.specs.Events.{IsSet}
+use Rattle.spec_core.specs.Specialiser.{SpecialiserValue}
+use Rattle.run_core.specs.Events.{MachineValue, IsPlayed}
+use Rattle.cmd_run.specs.GenCommand.Totals.{writes_of, output_of, Totals, none, more, IsSmall}
+use Rattle.cmd_run.proofs.GenLemmas.{total_more}
+
+-- one event
+set_few : (assigns : List Assign) (old new : SpecialiserValue) → IsSet old.pack assigns old.state new.writes new.state → length new.writes ≤ length old.pack.bits
+set_few assigns old new s =
+    let places : List ℕ = range_with_len 0 (length s.to) in
+    let are : length new.writes ≡ length (differences s.from s.to) = ap length s.are in
+    let some : length (differences s.from s.to) ≡ length (filter (differs_at s.from s.to) places) = length-map (filter (differs_at s.from s.to) places) (write_of s.to) in
+    let all : length (filter (differs_at s.from s.to) places) ≤ length places = length-filter_le (differs_at s.from s.to) places in
+    let ranged : length places ≡ length s.to = length-range_with_len 0 (length s.to) in
+    let bits : length s.to ≡ length old.pack.bits = ap length (s.after).are ∙ length-map (lits_of old.pack.bits) (value_of (s.after).values) ∙ length-map old.pack.bits (λ (l : Lit). l.0) in
+    omega (arith, are, some, all, ranged, bits)
+
+writes_few : (event : EventValue) (old new : MachineValue) → IsPlayed event old new → writes_of event new ≤ length old.host.pack.bits
+writes_few (Set assigns) old new played = set_few assigns old.host new.host played.host.is
+writes_few (Cycle values) old new played = omega arith
+writes_few (Upset address) old new played = omega arith
+writes_few Scrub old new played = omega arith
+writes_few Image old new played = omega arith
+
+output_small : (event : EventValue) (old new : MachineValue) → IsPlayed event old new → output_of event new < 2 ^ length old.sim.template.outputs
+output_small (Set assigns) old new played = pow_pos (length old.sim.template.outputs)
+output_small (Cycle values) old new played =
+    let outputs : List Lit = old.sim.template.outputs in
+    let same : length new.sim.outputs ≡ length outputs = ap length (played.clock).outputs_are ∙ length-map (lits_of outputs) (played.clock).value ∙ length-map outputs (λ (l : Lit). l.0) in
+    subst (λ (k : ℕ). number new.sim.outputs < 2 ^ k) same (number-small new.sim.outputs)
+output_small (Upset address) old new played = pow_pos (length old.sim.template.outputs)
+output_small Scrub old new played = pow_pos (length old.sim.template.outputs)
+output_small Image old new played = pow_pos (length old.sim.template.outputs)
+
+-- all of them
+totals_within : {old new : MachineValue} {events : List EventValue} {writes total : ℕ} → Totals old events writes total new → length old.host.pack.bits ≤ 2 ^ 25 → length old.sim.template.outputs ≤ 66
+    → (writes ≤ 2 ^ 25 * length events) × (total ≤ 2 ^ 66 * length events)
+totals_within none few short = (omega arith, omega arith)
+totals_within {old} {new} (more {writes = writes} {total = total} event mid played rest) few short =
+    let pack : length mid.host.pack.bits ≡ length old.host.pack.bits = ap (λ (p : PackValue). length p.bits) played.host.pack in
+    let template : length mid.sim.template.outputs ≡ length old.sim.template.outputs = ap (λ (t : TemplateValue). length t.outputs) played.template in
+    let others = totals_within rest (omega (arith, pack, few)) (omega (arith, template, short)) in
+    let written : writes_of event mid ≤ length old.host.pack.bits = writes_few event old mid played in
+    let put : output_of event mid < 2 ^ length old.sim.template.outputs = output_small event old mid played in
+    let most : 2 ^ length old.sim.template.outputs ≤ 2 ^ 66 = pow_mono short in
+    (omega (arith, others.0, written, few), omega (arith, others.1, put, most))
+
+-- so those up to each of them
+pub next_fits : (m : MachineValue) (events : List Event) (i : ℕ) (item : Event) → IsSmall (event_values events) m → i < length events → {mid : MachineValue} {writes total : ℕ} (new : MachineValue) → Totals m (event_values (take i events)) writes total mid
+    → IsPlayed (event_value item) mid new → (writes + writes_of (event_value item) new < 2 ^ 64) × (total + output_of (event_value item) new < 2 ^ 128)
+next_fits m events i item small here {writes = writes} {total = total} new totals played =
+    let event : EventValue = event_value item in
+    let first : List EventValue = event_values (take i events) in
+    let within = totals_within (total_more new event (writes + writes_of event new) (total + output_of event new) totals played refl refl) small.bits small.outputs in
+    let count : length (first ++ event ∷ []) ≡ length first + 1 = length-append first (event ∷ []) in
+    let before : length first ≡ i = length-map (take i events) event_value ∙ length-take-le i events (omega (arith, here)) in
+    let all : length (event_values events) ≡ length events = length-map events event_value in
+    let few : length (event_values events) ≤ 2 ^ 20 = small.few in
+    (omega (arith, within.0, count, before, all, few, here), omega (arith, within.1, count, before, all, few, here))

@@ -1,0 +1,221 @@
+-- What the walk, the marks and the searches find is the plan, the tables and the work by their own words.
+use Rattle.std.proofs.Common.{◌≡◌, ℕ, ◌-◌, ◌*◌, ◌/◌, ◌%◌, ◌<◌, ◌≤◌, Bool, true, false, cond, ltb, List, [], ◌∷◌, length, Option, Some, None, refl, sym, ap, ◌∙◌, subst, inl, inr, arith}
+use Rattle.std.specs.List.{slice_get}
+use Rattle.std.proofs.lemmas.List.Sums.{sum_by-cons}
+use Rattle.std.proofs.lemmas.Option.{same_Some, none-some}
+use Rattle.std.proofs.lemmas.Bool.{cases_lt, cases_eq, ltb-true, ltb-false, eq-eqb}
+use Rattle.aig_core.specs.Aig.{Aig, first_and, node_count, IsAnd, AreNormal}
+use Rattle.aig_core.specs.declared.lit.Kind.TheVariants.{Regular, Parameter}
+use Rattle.aig_core.specs.declared.lit.Lit.{Lit}
+use Rattle.aig_core.specs.Roots.{RootsValue, roots_of, AreRoots}
+use Rattle.list_laws.specs.Members.{In}
+use Rattle.list_laws.proofs.Choice.{choose}
+use Rattle.cut_enum.specs.Table.{row_at}
+use Rattle.depth_label.specs.Label.{IsCutTable}
+use Rattle.cover_pick.specs.declared.limits.TheConstants.{MOST_WORK}
+use Rattle.tl_fault.specs.OrMemory.{OrMemory}
+use Rattle.cover_pick.specs.Refusals.{refusal_of}
+use Rattle.cover_pick.specs.declared.lut.PickErr.{PickErr}
+use Rattle.cover_pick.specs.declared.lut.PickErr.TheVariants.{Work, Memory}
+use Rattle.cover_pick.specs.declared.lut.Lut.{Lut}
+use Rattle.cover_pick.specs.Target.{target}
+use Rattle.cover_pick.specs.Fewest.{choice_of}
+use Rattle.cover_pick.specs.Required.{need, chosen}
+use Rattle.cover_pick.specs.Schedule.{AtMost, IsPlan}
+use Rattle.cover_pick.specs.Planned.{cut_at, depths_of, IsPlanned}
+use Rattle.cover_pick.specs.Tables.{IsNeeded, root, leaf, IsLeaves, constant, parameter, source, node}
+use Rattle.cover_pick.specs.Marks.{IsMarked, root as marked_root, leaf as marked_leaf, leaves_of, source_leaves, Made, IsMade, tables_of, AreMade}
+use Rattle.cover_pick.specs.Cone.{cone_of, table_work, work_of}
+use Rattle.cover_pick.specs.Work.{IsWork, IsLight}
+use Rattle.cover_pick.specs.Template.{TablesWithin, AreChosen, IsTemplate, AreTimely, IsTooMuch}
+use Rattle.aig_core.proofs.NodeLemmas.{source_below}
+use Rattle.cover_pick.proofs.TableLemmas.{tables_needed}
+use Rattle.cover_pick.proofs.TemplateLemmas.{leaves_and, cut_in, in_cut, to_tables, tables_within, tables_exact, leaves_inside}
+use Rattle.cover_pick.proofs.MappingLemmas.{leaves_zero, leaves_source, kind_there, regular_leaves, cover_at}
+use Rattle.cover_pick.proofs.OnceLemmas.{depths_once}
+use Rattle.cover_pick.proofs.WorkLemmas.{cone_is}
+use Rattle.cover_pick.proofs.WalkLemmas.{need_in}
+
+-- the required depths of AND nodes alone
+abbrev pub and_depths : Aig → List (Option ℕ) → ℕ → Option ℕ
+and_depths g reqs n = cond (ltb n (first_and g)) None (need reqs n)
+
+and_depth : (g : Aig) (reqs : List (Option ℕ)) (n : ℕ) → first_and g ≤ n → and_depths g reqs n ≡ need reqs n
+and_depth g reqs n a = choose (λ o. o ≡ need reqs n) (ltb n (first_and g)) None (need reqs n) (λ t. absurd (let b : n < first_and g = ltb-true n (first_and g) t in omega arith)) (λ t. refl)
+
+depth_from : (g : Aig) (reqs : List (Option ℕ)) (n r : ℕ) → and_depths g reqs n ≡ Some r → (first_and g ≤ n) × (need reqs n ≡ Some r)
+depth_from g reqs n r e0 =
+    choose (λ o. o ≡ Some r → (first_and g ≤ n) × (need reqs n ≡ Some r)) (ltb n (first_and g)) None (need reqs n)
+    (λ t e. absurd (none-some r e)) (λ t e. (ltb-false n (first_and g) t, e)) e0
+
+none_of : (choice : ℕ → ℕ → List ℕ) (n : ℕ) (b : Bool) (o : Option ℕ) → cond b None o ≡ None → cond b None (chosen choice n o) ≡ None
+none_of choice n true o e = refl
+none_of choice n false None e = refl
+none_of choice n false (Some r) e = absurd (none-some r (sym e))
+
+module _ (g : Aig) (rows : List (List (List ℕ))) (label : ℕ → ℕ) (roots : List ℕ) (cuts : List (Option (List ℕ))) (p : IsPlanned g rows label roots cuts) where
+  reqs : List (Option ℕ)
+  reqs = depths_of g rows label roots
+
+  node_of : (n r : ℕ) → and_depths g (depths_of g rows label roots) n ≡ Some r → IsAnd g n
+  node_of n r e =
+      let d = depth_from g (depths_of g rows label roots) n r e in
+      let a : n < length (depths_of g rows label roots) = need_in (depths_of g rows label roots) n r d.1 in
+      let s : length (depths_of g rows label roots) ≡ node_count g = p.size in (d.0, omega arith)
+
+  cut_is : (n r : ℕ) → first_and g ≤ n → need (depths_of g rows label roots) n ≡ Some r → cut_at cuts n ≡ Some (choice_of (row_at rows) label n r)
+  cut_is n r a e = p.chosen n ∙ cover_at g (choice_of (row_at rows) label) (depths_of g rows label roots) n (Some r) a e
+
+  -- The walk's depths and cuts are the plan.
+  pub plan_is : IsPlan g rows label roots (and_depths g (depths_of g rows label roots)) (cut_at cuts)
+  plan_is = record {
+    schedule = record {
+      nodes = node_of;
+      low = λ n r e. p.schedule.low n r (node_of n r e) (depth_from g (depths_of g rows label roots) n r e).1;
+      root = λ l i and. subst (λ o. AtMost o (target g label roots)) (sym (and_depth g (depths_of g rows label roots) (l / 2) and.0)) (p.schedule.root l i and);
+      leaf = λ n r m c e at i and.
+          let d = depth_from g (depths_of g rows label roots) n r e in
+          let same : choice_of (row_at rows) label n r ≡ c = same_Some (choice_of (row_at rows) label n r) c (sym (cut_is n r d.0 d.1) ∙ at) in
+          subst (λ o. AtMost o (r - 1)) (sym (and_depth g (depths_of g rows label roots) m and.0)) (p.schedule.leaf n r m (node_of n r e) d.1 (subst (λ x. In x m) (sym same) i));
+      whence = λ n r e. elim (p.schedule.whence n r (depth_from g (depths_of g rows label roots) n r e).1) [
+        | inl f ↦ inl f
+        | inr f ↦ inr (record {
+          reader = f.reader;
+          depth = f.depth;
+          cut = choice_of (row_at rows) label f.reader f.depth;
+          needed = and_depth g (depths_of g rows label roots) f.reader f.and.0 ∙ f.needed;
+          chosen = cut_is f.reader f.depth f.and.0 f.needed;
+          leaf = f.leaf;
+          is = f.is;
+        })
+      ];
+    };
+    chosen = λ n r e.
+        let d = depth_from g (depths_of g rows label roots) n r e in
+        record { cut = choice_of (row_at rows) label n r; is = cut_is n r d.0 d.1; best = p.best n r (node_of n r e) d.1 };
+    none = λ n e. p.chosen n ∙ none_of (choice_of (row_at rows) label) n (ltb n (first_and g)) (need (depths_of g rows label roots) n) e;
+  }
+
+-- marks are of the needed literals
+pub marked_is : (roots : List ℕ) (cuts : List (Option (List ℕ))) (l : ℕ) → IsMarked roots cuts l → IsNeeded roots (cut_at cuts) l
+marked_is roots cuts l (marked_root i) = root i
+marked_is roots cuts l (marked_leaf c m i j e) = let r = in_cut cuts c i in leaf r.0 m c r.1 j e
+
+pub needed_is : (roots : List ℕ) (cuts : List (Option (List ℕ))) (l : ℕ) → IsNeeded roots (cut_at cuts) l → IsMarked roots cuts l
+needed_is roots cuts l (root i) = marked_root i
+needed_is roots cuts l (leaf n m c at i e) = marked_leaf c m (cut_in cuts n c at) i e
+
+-- the leaves of a table, as a relation
+leaves_are : (g : Aig) (cuts : List (Option (List ℕ))) (l : ℕ) (c : List ℕ) → l < 2 * node_count g → leaves_of g cuts l ≡ Some c → IsLeaves g (cut_at cuts) l c
+leaves_are g cuts l c b e = elim (cases_eq (l / 2) 0) [
+  | inl z ↦ constant z (sym (same_Some [] c (sym (leaves_zero g cuts l z) ∙ e)))
+  | inr d ↦ elim (cases_lt (l / 2) (first_and g)) [
+    | inl s ↦ elim (kind_there g (l / 2) d s) [
+      | inl r ↦ (let h = regular_leaves l c (sym (ap (λ o. source_leaves o (l / 2) (l % 2)) r.is) ∙ (sym (leaves_source g cuts l d s) ∙ e)) in source r h.0 h.1)
+      | inr r ↦ parameter r (sym (same_Some [] c (sym (ap (λ o. source_leaves o (l / 2) (l % 2)) r.is) ∙ (sym (leaves_source g cuts l d s) ∙ e))))
+    ]
+    | inr s ↦ node (let and : IsAnd g (l / 2) = (s, omega arith) in sym (leaves_and g cuts l and) ∙ e)
+  ]
+]
+
+source_there : (g : Aig) (cuts : List (Option (List ℕ))) (l : ℕ) → 1 ≤ l / 2 → l / 2 < first_and g → leaves_of g cuts l ≡ source_leaves (slice_get g.kinds (l / 2 - 1)) (l / 2) (l % 2)
+source_there g cuts l a b = leaves_source g cuts l (λ z. omega arith) b
+
+are_leaves : (g : Aig) (cuts : List (Option (List ℕ))) (l : ℕ) (c : List ℕ) → ((d : List ℕ) → cut_at cuts (l / 2) ≡ Some d → IsAnd g (l / 2)) → IsLeaves g (cut_at cuts) l c → leaves_of g cuts l ≡ Some c
+are_leaves g cuts l c nodes (constant z e) = leaves_zero g cuts l z ∙ ap (λ x. Some x) (sym e)
+are_leaves g cuts l c nodes (parameter s e) =
+    source_there g cuts l s.above (source_below g Parameter (l / 2) s) ∙ (ap (λ o. source_leaves o (l / 2) (l % 2)) s.is ∙ ap (λ x. Some x) (sym e))
+are_leaves g cuts l c nodes (source s o e) =
+    source_there g cuts l s.above (source_below g Regular (l / 2) s)
+    ∙ (ap (λ o. source_leaves o (l / 2) (l % 2)) s.is ∙ (ap (λ t. cond t (Some ((l / 2) ∷ [])) None) (eq-eqb (l % 2) 1 o) ∙ ap (λ x. Some x) (sym e)))
+are_leaves g cuts l c nodes (node at) = leaves_and g cuts l (nodes c at) ∙ at
+
+module _ (g : Aig) (rows : List (List (List ℕ))) (label : ℕ → ℕ) (roots : List ℕ) (made : Made) (t : IsCutTable g rows) (lits : AreRoots g roots) (a : IsMade g rows label roots made) where
+  cut_node : (n : ℕ) (c : List ℕ) → cut_at a.cuts n ≡ Some c → IsAnd g n
+  cut_node n c at = ((a.plan.least t.k t.are).is.cuts n c at).0
+
+  needed_lit : (l : ℕ) → IsNeeded roots (cut_at a.cuts) l → l < 2 * node_count g
+  needed_lit l (root i) = lits l i
+  needed_lit l (leaf n m c at i e) =
+      let both = (a.plan.least t.k t.are).is.cuts n c at in
+      let x : n < node_count g = both.0.1 in
+      let y : m < n = (both.1.below m i).0 in omega arith
+
+  -- The tables that are made are the chosen ones.
+  pub chosen_is : AreChosen g rows label roots made.luts made.bits
+  chosen_is = record {
+    reqs = and_depths g (depths_of g rows label roots);
+    cover = cut_at a.cuts;
+    plan = plan_is g rows label roots a.cuts a.plan;
+    tables = record {
+      needed = λ u i. marked_is roots a.cuts u.lit.0 (a.tables.only u i).0;
+      leaves = λ u i. leaves_are g a.cuts u.lit.0 u.leaves (a.tables.below u i) (a.tables.only u i).1;
+      all = λ l c needed leaves. a.tables.all l c (needed_lit l needed) (needed_is roots a.cuts l needed) (are_leaves g a.cuts l c (λ d at. cut_node (l / 2) d at) leaves);
+      ascending = a.tables.ascending;
+      bases = a.tables.bases;
+      sum = a.tables.sum;
+    };
+  }
+
+  -- Each is within its node's required depth.
+  pub timely_is : AreTimely g rows label roots made.luts
+  timely_is = record {
+    each = λ reqs cover plan u r i e.
+        let same : reqs (u.lit.0 / 2) ≡ and_depths g (depths_of g rows label roots) (u.lit.0 / 2) =
+        depths_once g rows label roots t reqs (and_depths g (depths_of g rows label roots)) cover (cut_at a.cuts) plan (plan_is g rows label roots a.cuts a.plan) (u.lit.0 / 2) in
+        let d = depth_from g (depths_of g rows label roots) (u.lit.0 / 2) r (sym same ∙ e) in
+        let and : IsAnd g (u.lit.0 / 2) = plan.schedule.nodes (u.lit.0 / 2) r e in
+        to_tables g t.k roots a.cuts made (a.plan.least t.k t.are).is a.tables (a.plan.timely (u.lit.0 / 2) r and d.1) u.lit.0 refl and (a.tables.only u i).0;
+  }
+
+-- the work of tables of literals of the graph
+pub work_is : (g : Aig) (ts : List Lut) → AreNormal (first_and g) g.pairs → ((t : Lut) → In ts t → t.lit.0 < 2 * node_count g) → IsWork g ts (work_of g ts)
+work_is g [] normal inside = refl
+work_is g (t ∷ ts) normal inside =
+    let b : t.lit.0 < 2 * node_count g = inside t (inl refl) in (
+      table_work g t.lit.0 t.leaves,
+      work_of g ts,
+      record { cone = cone_of g t.leaves (t.lit.0 / 2); is = cone_is g t.leaves (t.lit.0 / 2) normal (omega arith); work_is = refl },
+      work_is g ts normal (λ u i. inside u (inr i)),
+      sum_by-cons (λ (u : Lut). table_work g u.lit.0 u.leaves) t ts,
+    )
+
+pub light_is : (g : Aig) (rows : List (List (List ℕ))) (label : ℕ → ℕ) (roots : List ℕ) (made : Made) → AreNormal (first_and g) g.pairs → IsMade g rows label roots made → made.work ≤ MOST_WORK → IsLight g made.luts
+light_is g rows label roots made normal a l = record {
+  work = made.work;
+  is = subst (λ w. IsWork g made.luts w) (sym a.tables.work) (work_is g made.luts normal a.tables.below);
+  light = l;
+}
+
+-- where the work of the tables that would be made is too much
+pub too_much : (g : Aig) (rows : List (List (List ℕ))) (label : ℕ → ℕ) (roots : List ℕ) (cuts : List (Option (List ℕ))) → AreNormal (first_and g) g.pairs → IsCutTable g rows → IsPlanned g rows label roots cuts → AreRoots g roots
+    → MOST_WORK < (tables_of g roots cuts).work → IsTooMuch g rows label roots
+too_much g rows label roots cuts normal t plan lits l =
+    let are : AreMade g cuts (IsMarked roots cuts) (2 * node_count g) (tables_of g roots cuts) = tables_needed g roots cuts (leaves_inside g rows label roots cuts t plan) lits in
+    let made : IsMade g rows label roots (tables_of g roots cuts) = record { cuts = cuts; plan = plan; tables = are } in
+    record {
+      luts = (tables_of g roots cuts).luts;
+      bits = (tables_of g roots cuts).bits;
+      chosen = chosen_is g rows label roots (tables_of g roots cuts) t lits made;
+      work = (tables_of g roots cuts).work;
+      is = subst (λ w. IsWork g (tables_of g roots cuts).luts w) (sym are.work) (work_is g (tables_of g roots cuts).luts normal are.below);
+      past = l;
+    }
+
+pub too_much_told : (g : Aig) (rows : List (List (List ℕ))) (label : ℕ → ℕ) (roots : List ℕ) (cuts : List (Option (List ℕ))) → AreNormal (first_and g) g.pairs → IsCutTable g rows → IsPlanned g rows label roots cuts → AreRoots g roots
+    → (e : PickErr) → OrMemory refusal_of (λ _. MOST_WORK < (tables_of g roots cuts).work) e → OrMemory refusal_of (λ _. IsTooMuch g rows label roots) e
+too_much_told g rows label roots cuts normal t plan lits Work l = too_much g rows label roots cuts normal t plan lits l
+too_much_told g rows label roots cuts normal t plan lits Memory l = tt
+
+-- The whole template.
+pub template_is : (g : Aig) (rows : List (List (List ℕ))) (label : ℕ → ℕ) (roots : RootsValue) (made : Made) (outputs next : List Lit) (depth : ℕ) → IsCutTable g rows → AreRoots g (roots_of roots) → IsMade g rows label (roots_of roots) made
+    → outputs ≡ roots.outputs → next ≡ roots.next → depth ≡ target g label (roots_of roots)
+    → IsTemplate g rows label roots (record { luts = made.luts; outputs = outputs; next = next; bits = made.bits; depth = depth })
+template_is g rows label roots made outputs next depth t lits a o n e = record {
+  chosen = chosen_is g rows label (roots_of roots) made t lits a;
+  outputs = o;
+  next = n;
+  depth = e;
+  within = subst (λ d. TablesWithin g (roots_of roots) made.luts d) (sym e) (tables_within g rows label (roots_of roots) made t a);
+  exact = λ d w. let b : target g label (roots_of roots) ≤ d = tables_exact g rows label (roots_of roots) made t a d w in omega arith;
+}

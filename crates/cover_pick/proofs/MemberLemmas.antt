@@ -1,0 +1,67 @@
+-- Members of lists that grow at the end, and lists of numbers without repeats.
+use Rattle.std.proofs.Common.{◌≡◌, ℕ, zero, suc, ◌<◌, ◌≤◌, true, false, eqb, List, [], ◌∷◌, ◌++◌, length, refl, sym, ap, inl, inr, arith, get_or}
+use Rattle.std.specs.List.{IsDistinct, AllByRecursion, list_any}
+use Rattle.std.specs.Cmp.{IsEquivalence}
+use Rattle.std.proofs.lemmas.Bool.{cases_Bool, eqb-true, eq-eqb, ne_eqb, false≢true}
+use Rattle.std.proofs.lemmas.Map.Made.{length-from_same_keys}
+use Rattle.std.proofs.lemmas.Map.Steps.{length-le_from_distinct_below}
+use Rattle.list_laws.specs.Members.{In}
+use Rattle.list_laws.specs.Order.{IsDescending}
+use Rattle.list_laws.proofs.Choice.{same_test}
+
+-- where a member stands
+pub In-place : (xs : List ℕ) (m : ℕ) → In xs m → (j : ℕ) × (j < length xs) × (get_or xs j 0 ≡ m)
+In-place [] m i = elim i [ ]
+In-place (x ∷ xs) m (inl e) = (0, omega arith, sym e)
+In-place (x ∷ xs) m (inr i) = let r = In-place xs m i in (suc r.0, (let l : r.0 < length xs = r.1 in omega arith), r.2)
+
+pub get_or_any : {X : Type 0} (xs : List X) (i : ℕ) (d e : X) → i < length xs → get_or xs i d ≡ get_or xs i e
+get_or_any [] i d e l = absurd (omega arith)
+get_or_any (x ∷ xs) zero d e l = refl
+get_or_any (x ∷ xs) (suc i) d e l = get_or_any xs i d e (omega arith)
+
+-- membership by the test of equality
+pub In-any : (xs : List ℕ) (n : ℕ) → In xs n → list_any (eqb n) xs ≡ true
+In-any [] n i = elim i [ ]
+In-any (x ∷ xs) n (inl e) = rw (eq-eqb n x e) refl
+In-any (x ∷ xs) n (inr i) = elim (cases_Bool (eqb n x)) [ inl t ↦ rw t refl | inr t ↦ rw t (In-any xs n i) ]
+
+pub any_In : (xs : List ℕ) (n : ℕ) → list_any (eqb n) xs ≡ true → In xs n
+any_In [] n h = absurd (false≢true h)
+any_In (x ∷ xs) n h = elim (cases_Bool (eqb n x)) [ inl t ↦ inl (eqb-true n x t) | inr t ↦ inr (any_In xs n (rw t at h)) ]
+
+-- without repeats
+apart_push : (x : ℕ) (xs : List ℕ) (n : ℕ) → AllByRecursion (λ y. eqb x y ≡ false) xs → (x ≡ n → ⊥) → AllByRecursion (λ y. eqb x y ≡ false) (xs ++ n ∷ [])
+apart_push x [] n a d = (ne_eqb x n d, tt)
+apart_push x (y ∷ xs) n a d = (a.0, apart_push x xs n a.1 d)
+
+pub distinct_push : (xs : List ℕ) (n : ℕ) → IsDistinct eqb xs → (In xs n → ⊥) → IsDistinct eqb (xs ++ n ∷ [])
+unfolding IsDistinct
+distinct_push [] n d no_n = (tt, tt)
+distinct_push (x ∷ xs) n d no_n = (apart_push x xs n d.0 (λ e. no_n (inl (sym e))), distinct_push xs n d.1 (λ i. no_n (inr i)))
+
+apart_below : (x : ℕ) (xs : List ℕ) → ((m : ℕ) → In xs m → m < x) → AllByRecursion (λ y. eqb x y ≡ false) xs
+apart_below x [] b = tt
+apart_below x (y ∷ xs) b = (ne_eqb x y (λ e. let l : y < x = b y (inl refl) in omega arith), apart_below x xs (λ m i. b m (inr i)))
+
+pub distinct_descending : (xs : List ℕ) → IsDescending xs → IsDistinct eqb xs
+unfolding IsDistinct
+distinct_descending [] d = tt
+distinct_descending (x ∷ xs) d = (apart_below x xs d.0, distinct_descending xs d.1)
+
+eqb_laws : IsEquivalence eqb
+eqb_laws = record {
+  refl = λ x. eq-eqb x x refl;
+  symm = λ x y. same_test (eqb x y) (eqb y x) (λ t. eq-eqb y x (sym (eqb-true x y t))) (λ t. eq-eqb x y (sym (eqb-true y x t)));
+  congr = λ x y z t. ap (λ w. eqb w z) (eqb-true x y t);
+}
+
+-- two lists of the same numbers, each without repeats, are as long
+pub length_same : (xs ys : List ℕ) → IsDistinct eqb xs → IsDistinct eqb ys → ((n : ℕ) → In xs n → In ys n) → ((n : ℕ) → In ys n → In xs n) → length xs ≡ length ys
+length_same xs ys dx dy to from =
+    length-from_same_keys eqb_laws xs ys dx dy
+    (λ q. same_test (list_any (eqb q) xs) (list_any (eqb q) ys) (λ t. In-any ys q (to q (any_In xs q t))) (λ t. In-any xs q (from q (any_In ys q t))))
+
+-- numbers below n without repeats are at most n
+pub length_below : (xs : List ℕ) (n : ℕ) → IsDistinct eqb xs → ((m : ℕ) → In xs m → m < n) → length xs ≤ n
+length_below xs n d b = length-le_from_distinct_below xs n d (λ q t. b q (any_In xs q t))

@@ -1,0 +1,205 @@
+-- A graph has one plan and one chosen template for its table, labels and roots, and tables have one work.
+use Rattle.std.proofs.Common.{◌≡◌, ℕ, zero, suc, ◌+◌, ◌*◌, ◌/◌, ◌-◌, ◌^◌, ◌<◌, ◌≤◌, List, [], ◌∷◌, length, Option, Some, None, refl, sym, ap, ◌∙◌, subst, inl, inr, ◌⊎◌, arith, Result, Ok, Err, IfOk}
+use Rattle.std.proofs.lemmas.Option.{same_Some, none-some}
+use Rattle.std.proofs.lemmas.Bool.{false≢true}
+use Rattle.aig_core.specs.Aig.{Aig, node_count, IsAnd}
+use Rattle.aig_core.specs.declared.lit.Lit.{Lit}
+use Rattle.aig_core.specs.Roots.{RootsValue, roots_of}
+use Rattle.list_laws.specs.Members.{In}
+use Rattle.cut_enum.specs.Table.{row_at}
+use Rattle.cut_enum.proofs.SetLemmas.{lex_trans, lex-same}
+use Rattle.depth_label.specs.Label.{IsCutTable}
+use Rattle.cover_pick.specs.declared.limits.TheConstants.{MOST_WORK}
+use Rattle.cover_pick.specs.declared.lut.Lut.{Lut}
+use Rattle.cover_pick.specs.declared.lut.PickErr.{PickErr}
+use Rattle.cover_pick.specs.declared.lut.PickErr.TheVariants.{Work, Memory}
+use Rattle.cover_pick.specs.Mapping.{AscendByLit, HaveBases, bits_of}
+use Rattle.cover_pick.specs.Target.{target}
+use Rattle.cover_pick.specs.Choice.{Precedes, fewer, lower, before, IsChosen}
+use Rattle.cover_pick.specs.Schedule.{AtMost, HasChosen, IsPlan}
+use Rattle.cover_pick.specs.Tables.{IsNeeded, root, leaf, IsLeaves, constant, parameter, source, node, HasTable}
+use Rattle.cover_pick.specs.Work.{IsCone, IsWork, IsLight}
+use Rattle.cover_pick.specs.Template.{TemplateValue, AreChosen, IsTemplate, IsTooMuch}
+use Rattle.cover_pick.proofs.MemberLemmas.{distinct_descending, length_same}
+
+-- two cuts of which each is chosen before the other are the same
+precedes_same : (label : ℕ → ℕ) (c d : List ℕ) → Precedes label c d → Precedes label d c → c ≡ d
+precedes_same label c d (fewer l) (fewer m) = absurd (omega arith)
+precedes_same label c d (fewer l) (lower e m) = absurd (omega arith)
+precedes_same label c d (fewer l) (before e m o) = absurd (omega arith)
+precedes_same label c d (lower e l) (fewer m) = absurd (omega arith)
+precedes_same label c d (lower e l) (lower f m) = absurd (omega arith)
+precedes_same label c d (lower e l) (before f m o) = absurd (omega arith)
+precedes_same label c d (before e l o) (fewer m) = absurd (omega arith)
+precedes_same label c d (before e l o) (lower f m) = absurd (omega arith)
+precedes_same label c d (before e l (inl q)) (before f m p) = q
+precedes_same label c d (before e l (inr q)) (before f m (inl p)) = sym p
+precedes_same label c d (before e l (inr q)) (before f m (inr p)) = absurd (false≢true (sym (lex-same c) ∙ lex_trans c d c q p))
+
+-- one cut is chosen
+pub cut_once : (label : ℕ → ℕ) (r : ℕ) (cs : List (List ℕ)) (c d : List ℕ) → IsChosen label r cs c → IsChosen label r cs d → c ≡ d
+cut_once label r cs c d a b = precedes_same label c d (a.first d b.one b.low) (b.first c a.one a.low)
+
+-- two plans agree at a node
+record PlansAgree (reqs other : ℕ → Option ℕ) (cover more : ℕ → Option (List ℕ)) (n : ℕ) : Type 0 where
+  depth : reqs n ≡ other n
+  cut : cover n ≡ more n
+
+module _ (g : Aig) (rows : List (List (List ℕ))) (label : ℕ → ℕ) (roots : List ℕ) (t : IsCutTable g rows) where
+  -- a chosen cut's leaves are below its node
+  leaf_below : (reqs : ℕ → Option ℕ) (cover : ℕ → Option (List ℕ)) → IsPlan g rows label roots reqs cover → (n r m : ℕ) (c : List ℕ) → reqs n ≡ Some r → cover n ≡ Some c → In c m → m < n
+  leaf_below reqs cover p n r m c e at i =
+      let h : HasChosen label r (row_at rows n) (cover n) = p.chosen n r e in
+      let and : IsAnd g n = p.schedule.nodes n r e in
+      let same : h.cut ≡ c = same_Some h.cut c (sym h.is ∙ at) in
+      (((t.are.each n and.1 and).only h.cut h.best.one).cut.below m (subst (λ x. In x m) (sym same) i)).0
+
+  -- where two plans agree above a node, the one has no greater depth there
+  depth_most : (reqs other : ℕ → Option ℕ) (cover more : ℕ → Option (List ℕ)) → IsPlan g rows label roots reqs cover → IsPlan g rows label roots other more
+      → (n r : ℕ) → ((m : ℕ) → n < m → PlansAgree reqs other cover more m) → reqs n ≡ Some r → AtMost (other n) r
+  depth_most reqs other cover more p q n r above e =
+      let and : IsAnd g n = p.schedule.nodes n r e in
+      elim (p.schedule.whence n r e) [
+        | inl f ↦ (let a : AtMost (other n) (target g label roots) = subst (λ m. AtMost (other m) (target g label roots)) f.node (q.schedule.root f.root f.is_root (subst (λ m. IsAnd g m) (sym f.node) and)) in subst (λ d. AtMost (other n) d) (sym f.is) a)
+        | inr f ↦ (
+            let same = above f.reader (leaf_below reqs cover p f.reader f.depth n f.cut f.needed f.chosen f.leaf) in
+            let a : AtMost (other n) (f.depth - 1) = q.schedule.leaf f.reader f.depth n f.cut (sym same.depth ∙ f.needed) (sym same.cut ∙ f.chosen) f.leaf and in
+            subst (λ d. AtMost (other n) d) (sym f.is) a)
+      ]
+
+  module _ (reqs other : ℕ → Option ℕ) (cover more : ℕ → Option (List ℕ)) (p : IsPlan g rows label roots reqs cover) (q : IsPlan g rows label roots other more) where
+    same_depth : (n : ℕ) (o x : Option ℕ) → reqs n ≡ o → other n ≡ x → ((r : ℕ) → reqs n ≡ Some r → AtMost (other n) r) → ((r : ℕ) → other n ≡ Some r → AtMost (reqs n) r) → o ≡ x
+    same_depth n None None e f a b = refl
+    same_depth n None (Some s) e f a b = let m = b s f in absurd (none-some m.by (sym e ∙ m.is))
+    same_depth n (Some r) None e f a b = let m = a r e in absurd (none-some m.by (sym f ∙ m.is))
+    same_depth n (Some r) (Some s) e f a b =
+        let m = a r e in
+        let k = b s f in
+        let x : s ≡ m.by = same_Some s m.by (sym f ∙ m.is) in
+        let y : r ≡ k.by = same_Some r k.by (sym e ∙ k.is) in
+        let v : m.by ≤ r = m.le in
+        let w : k.by ≤ s = k.le in
+        ap (λ i. Some i) (let z : r ≡ s = omega arith in z)
+
+    same_cut : (n : ℕ) (o : Option ℕ) → reqs n ≡ o → other n ≡ o → cover n ≡ more n
+    same_cut n None e f = p.none n e ∙ sym (q.none n f)
+    same_cut n (Some r) e f =
+        let a = p.chosen n r e in
+        let b = q.chosen n r f in
+        a.is ∙ (ap (λ c. Some c) (cut_once label r (row_at rows n) a.cut b.cut a.best b.best) ∙ sym b.is)
+
+    agree_at : (n : ℕ) → ((r : ℕ) → reqs n ≡ Some r → AtMost (other n) r) → ((r : ℕ) → other n ≡ Some r → AtMost (reqs n) r) → PlansAgree reqs other cover more n
+    agree_at n a b = let d : reqs n ≡ other n = same_depth n (reqs n) (other n) refl refl a b in record { depth = d; cut = same_cut n (reqs n) refl (sym d) }
+
+    agree_above : (f n : ℕ) → node_count g ≤ n + f → PlansAgree reqs other cover more n
+    agree_above zero n l = agree_at n (λ r e. absurd (let a : n < node_count g = (p.schedule.nodes n r e).1 in omega arith)) (λ r e. absurd (let a : n < node_count g = (q.schedule.nodes n r e).1 in omega arith))
+    agree_above (suc f) n l =
+        agree_at n (λ r e. depth_most reqs other cover more p q n r (λ m k. agree_above f m (omega arith)) e)
+        (λ r e. depth_most other reqs more cover q p n r (λ m k. let a = agree_above f m (omega arith) in record { depth = sym a.depth; cut = sym a.cut }) e)
+
+    -- A graph has one plan.
+    pub depths_once : (n : ℕ) → reqs n ≡ other n
+    depths_once n = (agree_above (node_count g) n (omega arith)).depth
+
+    pub cuts_once : (n : ℕ) → cover n ≡ more n
+    cuts_once n = (agree_above (node_count g) n (omega arith)).cut
+
+lut_same : (x y : Lut) → x.lit.0 ≡ y.lit.0 → x.leaves ≡ y.leaves → x.base ≡ y.base → x ≡ y
+lut_same x y l c b =
+    let make : ℕ → List ℕ → ℕ → Lut = λ i d p. record { lit = record { 0 = i }; leaves = d; base = p } in
+    ap (λ i. make i x.leaves x.base) l ∙ (ap (λ d. make y.lit.0 d x.base) c ∙ ap (λ p. make y.lit.0 y.leaves p) b)
+
+-- the tables of one list are of the literals of the other, with the same leaves
+abbrev Matches : List Lut → List Lut → Type 0
+Matches xs ys = (t : Lut) → In xs t → HasTable ys t.lit.0 t.leaves
+
+-- the first tables of two such lists are the same
+heads_of : (x y : Lut) (xs ys : List Lut) (p : ℕ) → AscendByLit (x ∷ xs) → AscendByLit (y ∷ ys) → HaveBases p (x ∷ xs) → HaveBases p (y ∷ ys) → (h : HasTable (y ∷ ys) x.lit.0 x.leaves) → (k : HasTable (x ∷ xs) y.lit.0 y.leaves)
+    → In (y ∷ ys) h.by → In (x ∷ xs) k.by → x ≡ y
+heads_of x y xs ys p ax ay bx by h k (inl e) j = lut_same x y (sym h.lit_is ∙ ap (λ (t : Lut). t.lit.0) e) (sym h.leaves_are ∙ ap (λ (t : Lut). t.leaves) e) (bx.0 ∙ sym by.0)
+heads_of x y xs ys p ax ay bx by h k (inr i) (inl e) =
+    absurd (let a : y.lit.0 < h.by.lit.0 = ay.0 h.by i in let b : h.by.lit.0 ≡ x.lit.0 = h.lit_is in let c : k.by.lit.0 ≡ x.lit.0 = ap (λ (t : Lut). t.lit.0) e in let d : k.by.lit.0 ≡ y.lit.0 = k.lit_is in omega arith)
+heads_of x y xs ys p ax ay bx by h k (inr i) (inr j) =
+    absurd (let a : y.lit.0 < h.by.lit.0 = ay.0 h.by i in let b : h.by.lit.0 ≡ x.lit.0 = h.lit_is in let c : x.lit.0 < k.by.lit.0 = ax.0 k.by j in let d : k.by.lit.0 ≡ y.lit.0 = k.lit_is in omega arith)
+
+-- and the others match again
+tail_matches : (x y : Lut) (xs ys : List Lut) → x ≡ y → AscendByLit (x ∷ xs) → Matches (x ∷ xs) (y ∷ ys) → Matches xs ys
+tail_matches x y xs ys same ax m t i =
+    let h = m t (inr i) in
+    elim h.in' [
+      | inl e ↦ absurd (let a : x.lit.0 < t.lit.0 = ax.0 t i in let b : h.by.lit.0 ≡ t.lit.0 = h.lit_is in let c : h.by.lit.0 ≡ y.lit.0 = ap (λ (u : Lut). u.lit.0) e in let d : x.lit.0 ≡ y.lit.0 = ap (λ (u : Lut). u.lit.0) same in omega arith)
+      | inr j ↦ record { by = h.by; in' = j; lit_is = h.lit_is; leaves_are = h.leaves_are }
+    ]
+
+lists_same : (xs ys : List Lut) (p : ℕ) → AscendByLit xs → AscendByLit ys → HaveBases p xs → HaveBases p ys → Matches xs ys → Matches ys xs → xs ≡ ys
+lists_same [] [] p ax ay bx by m n = refl
+lists_same [] (y ∷ ys) p ax ay bx by m n = absurd (n y (inl refl)).in'
+lists_same (x ∷ xs) [] p ax ay bx by m n = absurd (m x (inl refl)).in'
+lists_same (x ∷ xs) (y ∷ ys) p ax ay bx by m n =
+    let h = m x (inl refl) in
+    let k = n y (inl refl) in
+    let e : x ≡ y = heads_of x y xs ys p ax ay bx by h k h.in' k.in' in
+    let rest : xs ≡ ys = lists_same xs ys (p + 2 ^ length x.leaves) ax.1 ay.1 bx.1 (subst (λ (t : Lut). HaveBases (p + 2 ^ length t.leaves) ys) (sym e) by.1) (tail_matches x y xs ys e ax m) (tail_matches y x ys xs (sym e) ay n) in
+    ap (λ t. t ∷ xs) e ∙ ap (λ ts. y ∷ ts) rest
+
+-- the same chosen cuts need the same literals, and give them the same leaves
+needed_same : (roots : List ℕ) (cover more : ℕ → Option (List ℕ)) (l : ℕ) → ((n : ℕ) → cover n ≡ more n) → IsNeeded roots cover l → IsNeeded roots more l
+needed_same roots cover more l same (root i) = root i
+needed_same roots cover more l same (leaf n m c at i e) = leaf n m c (sym (same n) ∙ at) i e
+
+leaves_same : (g : Aig) (cover more : ℕ → Option (List ℕ)) (l : ℕ) (c : List ℕ) → ((n : ℕ) → cover n ≡ more n) → IsLeaves g cover l c → IsLeaves g more l c
+leaves_same g cover more l c same (constant z e) = constant z e
+leaves_same g cover more l c same (parameter s e) = parameter s e
+leaves_same g cover more l c same (source s o e) = source s o e
+leaves_same g cover more l c same (node at) = node (sym (same (l / 2)) ∙ at)
+
+module _ (g : Aig) (rows : List (List (List ℕ))) (label : ℕ → ℕ) (roots : List ℕ) (t : IsCutTable g rows) where
+  chosen_matches : (xs ys : List Lut) (a b : ℕ) → AreChosen g rows label roots xs a → AreChosen g rows label roots ys b → Matches xs ys
+  chosen_matches xs ys a b x y u i =
+      let same : (n : ℕ) → x.cover n ≡ y.cover n = cuts_once g rows label roots t x.reqs y.reqs x.cover y.cover x.plan y.plan in
+      y.tables.all u.lit.0 u.leaves (needed_same roots x.cover y.cover u.lit.0 same (x.tables.needed u i)) (leaves_same g x.cover y.cover u.lit.0 u.leaves same (x.tables.leaves u i))
+
+  -- The chosen tables are the only ones.
+  pub chosen_once : (xs ys : List Lut) (a b : ℕ) → AreChosen g rows label roots xs a → AreChosen g rows label roots ys b → xs ≡ ys
+  chosen_once xs ys a b x y =
+      lists_same xs ys 0 x.tables.ascending y.tables.ascending x.tables.bases y.tables.bases (chosen_matches xs ys a b x y) (chosen_matches ys xs b a y x)
+
+-- So is the whole template.
+pub template_once : (g : Aig) (rows : List (List (List ℕ))) (label : ℕ → ℕ) (roots : RootsValue) → IsCutTable g rows → (t u : TemplateValue) → IsTemplate g rows label roots t → IsTemplate g rows label roots u → t ≡ u
+template_once g rows label roots table t u x y =
+    let make : List Lut → List Lit → List Lit → ℕ → ℕ → TemplateValue = λ ls o n b d. record { luts = ls; outputs = o; next = n; bits = b; depth = d } in
+    let luts : t.luts ≡ u.luts = chosen_once g rows label (roots_of roots) table t.luts u.luts t.bits u.bits x.chosen y.chosen in
+    let outputs : t.outputs ≡ u.outputs = x.outputs ∙ sym y.outputs in
+    let next : t.next ≡ u.next = x.next ∙ sym y.next in
+    let bits : t.bits ≡ u.bits = x.chosen.tables.sum ∙ (ap (λ ls. bits_of ls) luts ∙ sym y.chosen.tables.sum) in
+    let depth : t.depth ≡ u.depth = x.depth ∙ sym y.depth in
+    ap (λ ls. make ls t.outputs t.next t.bits t.depth) luts
+    ∙ (ap (λ o. make u.luts o t.next t.bits t.depth) outputs
+    ∙ (ap (λ n. make u.luts u.outputs n t.bits t.depth) next ∙ (ap (λ b. make u.luts u.outputs u.next b t.depth) bits ∙ ap (λ d. make u.luts u.outputs u.next u.bits d) depth)))
+
+-- A node has one cone, so tables have one work.
+pub cone_once : (g : Aig) (leaves : List ℕ) (n : ℕ) (xs ys : List ℕ) → IsCone g leaves n xs → IsCone g leaves n ys → length xs ≡ length ys
+cone_once g leaves n xs ys a b = length_same xs ys (distinct_descending xs a.descending) (distinct_descending ys b.descending) (λ m i. b.all m (a.only m i)) (λ m i. a.all m (b.only m i))
+
+pub work_once : (g : Aig) (ts : List Lut) (v w : ℕ) → IsWork g ts v → IsWork g ts w → v ≡ w
+work_once g [] v w a b = a ∙ sym b
+work_once g (t ∷ ts) v w a b =
+    let first : a.0 ≡ b.0 = a.2.work_is ∙ (ap (λ n. 2 ^ length t.leaves * (1 + n)) (cone_once g t.leaves (t.lit.0 / 2) a.2.cone b.2.cone a.2.is b.2.is) ∙ sym b.2.work_is) in
+    let rest : a.1 ≡ b.1 = work_once g ts a.1 b.1 a.3 b.3 in
+    let x : v ≡ a.0 + a.1 = a.4 in
+    let y : w ≡ b.0 + b.1 = b.4 in omega arith
+
+-- No template within the limit stands where the work is too much.
+pub light_or_too_much : (g : Aig) (rows : List (List (List ℕ))) (label : ℕ → ℕ) (roots : RootsValue) → IsCutTable g rows → (t : TemplateValue) → IsTemplate g rows label roots t → IsLight g t.luts → IsTooMuch g rows label (roots_of roots) → ⊥
+light_or_too_much g rows label roots table t is light much =
+    let e : t.luts ≡ much.luts = chosen_once g rows label (roots_of roots) table t.luts much.luts t.bits much.bits is.chosen much.chosen in
+    let same : light.work ≡ much.work = work_once g much.luts light.work much.work (subst (λ ts. IsWork g ts light.work) e light.is) much.is in
+    let low : light.work ≤ MOST_WORK = light.light in
+    let past : MOST_WORK < much.work = much.past in omega arith
+
+-- An answer that is a template within the limit, or an error, is an error where the work is too much.
+pub too_much_answer : (g : Aig) (rows : List (List (List ℕ))) (label : ℕ → ℕ) (roots : RootsValue) → IsCutTable g rows → (r : Result TemplateValue PickErr) → IfOk r (λ t. IsTemplate g rows label roots t) → IfOk r (λ t. IsLight g t.luts)
+    → IsTooMuch g rows label (roots_of roots) → (r ≡ Err Work) ⊎ (r ≡ Err Memory)
+too_much_answer g rows label roots table (Ok t) is light much = absurd (light_or_too_much g rows label roots table t is light much)
+too_much_answer g rows label roots table (Err Work) is light much = inl refl
+too_much_answer g rows label roots table (Err Memory) is light much = inr refl

@@ -1,0 +1,226 @@
+-- A search reaches exactly the cone of its top, each node once.
+use Rattle.std.proofs.Common.{◌≡◌, ℕ, ◌+◌, ◌/◌, ◌<◌, ◌≤◌, true, false, cond, eqb, List, [], ◌∷◌, ◌++◌, length, Some, refl, sym, ap, ◌∙◌, subst, inl, inr, ◌⊎◌, arith, get_or-set_same, get_or-set_other, slice_set, replicate, length-append}
+use Rattle.std.proofs.lemmas.List.{get_or-replicate, get_or_past, length-replicate}
+use Rattle.std.specs.List.{IsDistinct}
+use Rattle.std.proofs.Math.ListN.{length-set, get_or-append}
+use Rattle.std.proofs.lemmas.Option.{same_Some}
+use Rattle.std.proofs.lemmas.Bool.{cases_lt, cases_eq, eqb-true, eqb-false, both_ways}
+use Rattle.aig_core.specs.Aig.{Aig, first_and, node_count, IsAnd, pair_of, IsNormal, AreNormal}
+use Rattle.aig_core.specs.declared.lit.Pair.{Pair}
+use Rattle.list_laws.specs.Members.{In}
+use Rattle.list_laws.proofs.Members.{In-get_or, In-left, In-push, In-pushed}
+use Rattle.list_laws.proofs.Choice.{choose}
+use Rattle.cover_pick.specs.Cone.{is_stop, cone_of}
+use Rattle.cover_pick.specs.Work.{IsInner, Path, here, left, right, IsCone}
+use Rattle.cover_pick.specs.Search.{SearchValue, stamp_at, reach}
+use Rattle.cover_pick.proofs.MemberLemmas.{In-place, distinct_push, distinct_descending, length_same, length_below}
+use Rattle.cover_pick.proofs.WorkLemmas.{stop_inner, inner_stop, cone_is, past_sources}
+
+-- a node ends the way down, or is reached
+abbrev pub Taken : Aig → List ℕ → List ℕ → ℕ → Type 0
+Taken g c reached n = (is_stop g c n ≡ true) ⊎ In reached n
+
+-- what a search keeps, of which the first i nodes that were reached have their fan-ins taken
+pub record IsReached (g : Aig) (c : List ℕ) (top stamp : ℕ) (s : SearchValue) (i : ℕ) : Type 0 where
+  pub size : length s.stamps ≡ node_count g
+  pub most : (m : ℕ) → stamp_at s.stamps m ≤ stamp
+  pub stamped : (m : ℕ) → In s.reached m → stamp_at s.stamps m ≡ stamp
+  pub known : (m : ℕ) → stamp_at s.stamps m ≡ stamp → In s.reached m
+  pub apart : IsDistinct eqb s.reached
+  pub inside : (m : ℕ) → In s.reached m → (is_stop g c m ≡ false) × (m < node_count g)
+  pub path : (m : ℕ) → In s.reached m → Path g c m top
+  pub within : i ≤ length s.reached
+  pub closed : (j : ℕ) (p : Pair) → j < i → pair_of g (stamp_at s.reached j) ≡ Some p → Taken g c s.reached (p.x.0 / 2) × Taken g c s.reached (p.y.0 / 2)
+
+stamp_same : (xs : List ℕ) (n v : ℕ) → n < length xs → stamp_at (slice_set xs n v) n ≡ v
+stamp_same xs n v l = rw get_or-set_same refl
+
+stamp_other : (xs : List ℕ) (n m v : ℕ) → (m ≡ n → ⊥) → stamp_at (slice_set xs n v) m ≡ stamp_at xs m
+stamp_other xs n m v d = rw get_or-set_other refl
+
+-- nothing is reached yet
+pub reached_none : (g : Aig) (c : List ℕ) (top stamp : ℕ) (stamps : List ℕ) → length stamps ≡ node_count g → ((m : ℕ) → stamp_at stamps m < stamp) → IsReached g c top stamp (record { stamps = stamps; reached = [] }) 0
+unfolding IsDistinct
+reached_none g c top stamp stamps e fresh = record {
+  size = e;
+  most = λ m. let l : stamp_at stamps m < stamp = fresh m in omega arith;
+  stamped = λ m i. absurd i;
+  known = λ m q. absurd (let l : stamp_at stamps m < stamp = fresh m in omega arith);
+  apart = tt;
+  inside = λ m i. absurd i;
+  path = λ m i. absurd i;
+  within = omega arith;
+  closed = λ j p l. absurd (omega arith);
+}
+
+-- a way down, one node longer
+path_left : (g : Aig) (c : List ℕ) (m : ℕ) (p : Pair) → pair_of g m ≡ Some p → IsInner g c (p.x.0 / 2) → {n : ℕ} → Path g c m n → Path g c (p.x.0 / 2) n
+path_left g c m p at free (here t e) = left p t (record { above = t.and.0; is = subst (λ i. pair_of g i ≡ Some p) (sym e) at }) (here free refl)
+path_left g c m p at free (left q t e r) = left q t e (path_left g c m p at free r)
+path_left g c m p at free (right q t e r) = right q t e (path_left g c m p at free r)
+
+path_right : (g : Aig) (c : List ℕ) (m : ℕ) (p : Pair) → pair_of g m ≡ Some p → IsInner g c (p.y.0 / 2) → {n : ℕ} → Path g c m n → Path g c (p.y.0 / 2) n
+path_right g c m p at free (here t e) = right p t (record { above = t.and.0; is = subst (λ i. pair_of g i ≡ Some p) (sym e) at }) (here free refl)
+path_right g c m p at free (left q t e r) = left q t e (path_right g c m p at free r)
+path_right g c m p at free (right q t e r) = right q t e (path_right g c m p at free r)
+
+-- what a step keeps: the facts of the search, what was reached, and that the node is taken
+pub record Keeps (g : Aig) (c : List ℕ) (top stamp : ℕ) (old new : SearchValue) (i n : ℕ) : Type 0 where
+  pub is : IsReached g c top stamp new i
+  pub old' : (m : ℕ) → In old.reached m → In new.reached m
+  pub longer : length old.reached ≤ length new.reached
+  pub places : (j : ℕ) → j < length old.reached → stamp_at new.reached j ≡ stamp_at old.reached j
+  pub taken : Taken g c new.reached n
+
+taken_more : (g : Aig) (c xs ys : List ℕ) (n : ℕ) → ((m : ℕ) → In xs m → In ys m) → Taken g c xs n → Taken g c ys n
+taken_more g c xs ys n more (inl s) = inl s
+taken_more g c xs ys n more (inr i) = inr (more n i)
+
+module _ (g : Aig) (c : List ℕ) (top stamp : ℕ) where
+  new_reached : (s : SearchValue) (i n : ℕ) → IsReached g c top stamp s i → n < node_count g → is_stop g c n ≡ false → (stamp_at s.stamps n ≡ stamp → ⊥) → Path g c n top
+      → Keeps g c top stamp s (record { stamps = slice_set s.stamps n stamp; reached = s.reached ++ n ∷ [] }) i n
+  new_reached s i n w l free fresh p =
+      let size : length s.stamps ≡ node_count g = w.size in
+      let same : stamp_at (slice_set s.stamps n stamp) n ≡ stamp = stamp_same s.stamps n stamp (omega arith) in
+      let place : (j : ℕ) → j < length s.reached → stamp_at (s.reached ++ n ∷ []) j ≡ stamp_at s.reached j = (λ j b. get_or-append s.reached (n ∷ []) 0 j b) in
+      let longer : length (s.reached ++ n ∷ []) ≡ length s.reached + 1 = length-append s.reached (n ∷ []) in
+      let w_in : i ≤ length s.reached = w.within in
+      record {
+        is = record {
+          size = length-set s.stamps n stamp ∙ w.size;
+          most = λ m. elim (cases_eq m n) [
+            | inl e ↦ (let a : stamp_at (slice_set s.stamps n stamp) m ≡ stamp = subst (λ k. stamp_at (slice_set s.stamps n stamp) k ≡ stamp) (sym e) same in omega arith)
+            | inr d ↦ (let a : stamp_at (slice_set s.stamps n stamp) m ≡ stamp_at s.stamps m = stamp_other s.stamps n m stamp d in let b : stamp_at s.stamps m ≤ stamp = w.most m in omega arith)
+          ];
+          stamped = λ m j. elim (cases_eq m n) [
+            | inl e ↦ subst (λ k. stamp_at (slice_set s.stamps n stamp) k ≡ stamp) (sym e) same
+            | inr d ↦ elim (In-push s.reached n m j) [ inl k ↦ stamp_other s.stamps n m stamp d ∙ w.stamped m k | inr e ↦ absurd (d e) ]
+          ];
+          known = λ m e. elim (cases_eq m n) [
+            | inl q ↦ subst (λ k. In (s.reached ++ n ∷ []) k) (sym q) (In-pushed s.reached n)
+            | inr d ↦ In-left s.reached (n ∷ []) m (w.known m (sym (stamp_other s.stamps n m stamp d) ∙ e))
+          ];
+          apart = distinct_push s.reached n w.apart (λ j. fresh (w.stamped n j));
+          inside = λ m j. elim (In-push s.reached n m j) [ inl k ↦ w.inside m k | inr e ↦ subst (λ k. (is_stop g c k ≡ false) × (k < node_count g)) (sym e) (free, l) ];
+          path = λ m j. elim (In-push s.reached n m j) [ inl k ↦ w.path m k | inr e ↦ subst (λ k. Path g c k top) (sym e) p ];
+          within = omega arith;
+          closed = λ j q b e.
+              let both = w.closed j q b (subst (λ k. pair_of g k ≡ Some q) (place j (omega arith)) e) in
+              (taken_more g c s.reached (s.reached ++ n ∷ []) (q.x.0 / 2) (λ m k. In-left s.reached (n ∷ []) m k) both.0, taken_more g c s.reached (s.reached ++ n ∷ []) (q.y.0 / 2) (λ m k. In-left s.reached (n ∷ []) m k) both.1);
+        };
+        old' = λ m k. In-left s.reached (n ∷ []) m k;
+        longer = omega arith;
+        places = place;
+        taken = inr (In-pushed s.reached n);
+      }
+
+  -- a step
+  pub reach_keeps : (s : SearchValue) (i n : ℕ) → IsReached g c top stamp s i → n < node_count g → (is_stop g c n ≡ false → Path g c n top) → Keeps g c top stamp s (reach g c stamp s n) i n
+  reach_keeps s i n w l p =
+      let new : SearchValue = record { stamps = slice_set s.stamps n stamp; reached = s.reached ++ n ∷ [] } in
+      choose (λ r. Keeps g c top stamp s r i n) (is_stop g c n) s (cond (eqb (stamp_at s.stamps n) stamp) s new)
+      (λ t. record { is = w; old' = λ m k. k; longer = omega arith; places = λ j b. refl; taken = inl t })
+      (λ t. choose (λ r. Keeps g c top stamp s r i n) (eqb (stamp_at s.stamps n) stamp) s new
+      (λ e. record { is = w; old' = λ m k. k; longer = omega arith; places = λ j b. refl; taken = inr (w.known n (eqb-true (stamp_at s.stamps n) stamp e)) })
+      (λ e. new_reached s i n w l t (eqb-false (stamp_at s.stamps n) stamp e) (p t)))
+
+  -- the first node that is reached
+  pub top_keeps : (s : SearchValue) → IsReached g c top stamp s 0 → top < node_count g → Keeps g c top stamp s (reach g c stamp s top) 0 top
+  top_keeps s w l = reach_keeps s 0 top w l (λ t. here (stop_inner g c top l t) refl)
+
+  -- the fan-ins of the next node
+  pub fan_ins_keep : (s : SearchValue) (i : ℕ) (p : Pair) → IsReached g c top stamp s i → i < length s.reached → pair_of g (stamp_at s.reached i) ≡ Some p → IsNormal (stamp_at s.reached i) p → Taken g c s.reached top
+      → IsReached g c top stamp (reach g c stamp (reach g c stamp s (p.x.0 / 2)) (p.y.0 / 2)) (i + 1) × Taken g c (reach g c stamp (reach g c stamp s (p.x.0 / 2)) (p.y.0 / 2)).reached top
+  fan_ins_keep s i p w l at normal start =
+      let m : ℕ = stamp_at s.reached i in
+      let here_in : In s.reached m = In-get_or s.reached i 0 l in
+      let both = w.inside m here_in in
+      let m_in : m < node_count g = both.1 in
+      let y_below : p.y.0 / 2 < m = normal.below in
+      let x_below : p.x.0 / 2 < p.y.0 / 2 = normal.ordered in
+      let a = reach_keeps s i (p.x.0 / 2) w (omega arith) (λ t. path_left g c m p at (stop_inner g c (p.x.0 / 2) (omega arith) t) (w.path m here_in)) in
+      let mid : SearchValue = reach g c stamp s (p.x.0 / 2) in
+      let b = reach_keeps mid i (p.y.0 / 2) a.is (omega arith) (λ t. path_right g c m p at (stop_inner g c (p.y.0 / 2) (omega arith) t) (w.path m here_in)) in
+      let new : SearchValue = reach g c stamp mid (p.y.0 / 2) in
+      let more : (k : ℕ) → In s.reached k → In new.reached k = (λ k j. b.old' k (a.old' k j)) in
+      let longer_a : length s.reached ≤ length mid.reached = a.longer in
+      let longer_b : length mid.reached ≤ length new.reached = b.longer in
+      let place : (j : ℕ) → j < length s.reached → stamp_at new.reached j ≡ stamp_at s.reached j = (λ j q. b.places j (omega arith) ∙ a.places j q) in
+      let x_taken : Taken g c new.reached (p.x.0 / 2) = taken_more g c mid.reached new.reached (p.x.0 / 2) b.old' a.taken in (
+        record {
+          size = b.is.size;
+          most = b.is.most;
+          stamped = b.is.stamped;
+          known = b.is.known;
+          apart = b.is.apart;
+          inside = b.is.inside;
+          path = b.is.path;
+          within = omega arith;
+          closed = λ j q h e. elim (cases_lt j i) [
+            | inl o ↦ b.is.closed j q o e
+            | inr o ↦ (
+                let k : j ≡ i = omega arith in
+                let same : p ≡ q = same_Some p q (sym at ∙ subst (λ z. pair_of g z ≡ Some q) (ap (λ z. stamp_at new.reached z) k ∙ place i l) e) in
+                subst (λ (r : Pair). Taken g c new.reached (r.x.0 / 2) × Taken g c new.reached (r.y.0 / 2)) same (x_taken, b.taken))
+          ];
+        },
+        taken_more g c s.reached new.reached top more start,
+      )
+
+-- where all that were reached are closed, each node of the cone is reached
+all_reached : (g : Aig) (c : List ℕ) (top stamp : ℕ) (s : SearchValue) → IsReached g c top stamp s (length s.reached) → (m : ℕ) → {n : ℕ} → Path g c m n → Taken g c s.reached n → In s.reached m
+all_reached g c top stamp s w m {n} (here t e) (inl h) = absurd (both_ways (is_stop g c n) (inner_stop g c n t) h)
+all_reached g c top stamp s w m {n} (here t e) (inr i) = subst (λ k. In s.reached k) e i
+all_reached g c top stamp s w m {n} (left p t e q) (inl h) = absurd (both_ways (is_stop g c n) (inner_stop g c n t) h)
+all_reached g c top stamp s w m {n} (left p t e q) (inr i) =
+    let r = In-place s.reached n i in
+    all_reached g c top stamp s w m q (w.closed r.0 p r.1 (subst (λ k. pair_of g k ≡ Some p) (sym r.2) e.is)).0
+all_reached g c top stamp s w m {n} (right p t e q) (inl h) = absurd (both_ways (is_stop g c n) (inner_stop g c n t) h)
+all_reached g c top stamp s w m {n} (right p t e q) (inr i) =
+    let r = In-place s.reached n i in
+    all_reached g c top stamp s w m q (w.closed r.0 p r.1 (subst (λ k. pair_of g k ≡ Some p) (sym r.2) e.is)).1
+
+-- no more nodes than there are
+pub reached_few : (g : Aig) (c : List ℕ) (top stamp : ℕ) (s : SearchValue) (i : ℕ) → IsReached g c top stamp s i → length s.reached ≤ node_count g
+reached_few g c top stamp s i w = length_below s.reached (node_count g) w.apart (λ m j. (w.inside m j).1)
+
+-- The search ends with as many nodes as the cone has.
+pub reached_all : (g : Aig) (c : List ℕ) (top stamp : ℕ) (s : SearchValue) (i : ℕ) → AreNormal (first_and g) g.pairs → top < node_count g → IsReached g c top stamp s i → length s.reached ≤ i → Taken g c s.reached top → length s.reached ≡ length (cone_of g c top)
+reached_all g c top stamp s i normal inside w end start =
+    let in_i : i ≤ length s.reached = w.within in
+    let all : IsReached g c top stamp s (length s.reached) = subst (λ k. IsReached g c top stamp s k) (let e : i ≡ length s.reached = omega arith in e) w in
+    let cone : IsCone g c top (cone_of g c top) = cone_is g c top normal inside in
+    length_same s.reached (cone_of g c top) w.apart (distinct_descending (cone_of g c top) cone.descending)
+    (λ n j. cone.all n (w.path n j)) (λ n j. all_reached g c top stamp s all n (cone.only n j) start)
+
+-- what the loop of a search keeps
+pub record Found (g : Aig) (c : List ℕ) (top stamp : ℕ) (s : SearchValue) (i : ℕ) : Type 0 where
+  pub is : IsReached g c top stamp s i
+  pub start : Taken g c s.reached top
+  pub few : length s.reached ≤ node_count g
+
+pub search_start : (g : Aig) (c : List ℕ) (top stamp : ℕ) (stamps : List ℕ) (new : SearchValue) → length stamps ≡ node_count g → ((m : ℕ) → stamp_at stamps m < stamp) → top < node_count g
+    → new ≡ reach g c stamp (record { stamps = stamps; reached = [] }) top → Found g c top stamp new 0
+search_start g c top stamp stamps new e fresh l q =
+    let old : SearchValue = record { stamps = stamps; reached = [] } in
+    let k = top_keeps g c top stamp old (reached_none g c top stamp stamps e fresh) l in
+    subst (λ s. Found g c top stamp s 0) (sym q) (record { is = k.is; start = k.taken; few = reached_few g c top stamp (reach g c stamp old top) 0 k.is })
+
+pub search_step : (g : Aig) (c : List ℕ) (top stamp : ℕ) (s new : SearchValue) (i n : ℕ) (p : Pair) → Found g c top stamp s i → i < length s.reached → n ≡ stamp_at s.reached i → pair_of g n ≡ Some p → IsNormal n p
+    → new ≡ reach g c stamp (reach g c stamp s (p.x.0 / 2)) (p.y.0 / 2) → Found g c top stamp new (i + 1)
+search_step g c top stamp s new i n p f l e at normal q =
+    let r = fan_ins_keep g c top stamp s i p f.is l (subst (λ k. pair_of g k ≡ Some p) e at) (subst (λ k. IsNormal k p) e normal) f.start in
+    subst (λ s. Found g c top stamp s (i + 1)) (sym q) (record { is = r.0; start = r.1; few = reached_few g c top stamp (reach g c stamp (reach g c stamp s (p.x.0 / 2)) (p.y.0 / 2)) (i + 1) r.0 })
+
+-- a node that is reached is an AND node
+pub found_and : (g : Aig) (c : List ℕ) (top stamp : ℕ) (s : SearchValue) (i n : ℕ) → Found g c top stamp s i → i < length s.reached → n ≡ stamp_at s.reached i → IsAnd g n
+found_and g c top stamp s i n f l e =
+    let both = f.is.inside (stamp_at s.reached i) (In-get_or s.reached i 0 l) in
+    subst (λ k. IsAnd g k) (sym e) (past_sources g c (stamp_at s.reached i) both.0, both.1)
+
+pub search_end : (g : Aig) (c : List ℕ) (top stamp : ℕ) (s : SearchValue) (i : ℕ) → AreNormal (first_and g) g.pairs → top < node_count g → Found g c top stamp s i → length s.reached ≤ i → length s.reached ≡ length (cone_of g c top)
+search_end g c top stamp s i normal inside f end = reached_all g c top stamp s i normal inside f.is end f.start
+
+-- no node has a stamp at the start
+pub stamps_none : (n m : ℕ) → stamp_at (replicate n 0) m ≡ 0
+stamps_none n m = let none : ℕ = 0 in elim (cases_lt m n) [ inl l ↦ get_or-replicate n m 0 0 l | inr l ↦ get_or_past (replicate n 0) m 0 (rw (length-replicate n none) l) ]

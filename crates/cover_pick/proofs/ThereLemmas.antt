@@ -1,0 +1,61 @@
+-- The chosen template is there, whether it is found or not; and as there is one, each template maps the graph with the least depth.
+use Rattle.std.proofs.Common.{◌≡◌, ℕ, zero, suc, ◌+◌, ◌<◌, List, [], ◌∷◌, length, Option, refl, ap, ◌∙◌, subst, arith}
+use Rattle.aig_core.specs.Aig.{Aig, first_and, node_count, AreNormal}
+use Rattle.aig_core.specs.Roots.{RootsValue, roots_of, AreRoots}
+use Rattle.cut_enum.specs.Table.{AreRows, row_at}
+use Rattle.depth_label.specs.Label.{IsCutTable, AreLabels}
+use Rattle.cover_pick.specs.Mapping.{IsMapping, IsLeast}
+use Rattle.cover_pick.specs.Marks.{Made, IsMade, tables_of}
+use Rattle.cover_pick.specs.Planned.{cut_at, plan_of, IsPlanned}
+use Rattle.cover_pick.specs.Target.{target}
+use Rattle.cover_pick.specs.Template.{TemplateValue, IsTemplate}
+use Rattle.cover_pick.proofs.ChosenLemmas.{template_is}
+use Rattle.cover_pick.proofs.MappingLemmas.{mapping_is, least_is}
+use Rattle.cover_pick.proofs.OnceLemmas.{template_once}
+use Rattle.cover_pick.proofs.PlanLemmas.{plan_all, roots_inside}
+use Rattle.cover_pick.proofs.TableLemmas.{tables_needed}
+use Rattle.cover_pick.proofs.TemplateLemmas.{leaves_inside}
+
+-- the cuts of a plan as a list of one a node
+abbrev cuts_from : (ℕ → Option (List ℕ)) → ℕ → ℕ → List (Option (List ℕ))
+cuts_from plan from zero = []
+cuts_from plan from (suc count) = plan from ∷ cuts_from plan (from + 1) count
+
+cuts_long : (plan : ℕ → Option (List ℕ)) (from count : ℕ) → length (cuts_from plan from count) ≡ count
+cuts_long plan from zero = refl
+cuts_long plan from (suc count) = ap suc (cuts_long plan (from + 1) count)
+
+cuts_at : (plan : ℕ → Option (List ℕ)) (from count n : ℕ) → n < count → cut_at (cuts_from plan from count) n ≡ plan (from + n)
+cuts_at plan from zero n l = absurd (omega arith)
+cuts_at plan from (suc count) zero l = let here : from ≡ from + 0 = omega arith in ap plan here
+cuts_at plan from (suc count) (suc n) l = let next : from + 1 + n ≡ from + suc n = omega arith in cuts_at plan (from + 1) count n (omega arith) ∙ ap plan next
+
+module _ (g : Aig) (rows : List (List (List ℕ))) (label : ℕ → ℕ) (roots : RootsValue) (normal : AreNormal (first_and g) g.pairs) (table : IsCutTable g rows) (labels : AreLabels g (row_at rows) label) (lits : AreRoots g (roots_of roots)) where
+  abbrev cuts : List (Option (List ℕ))
+  cuts = cuts_from (plan_of g rows label (roots_of roots)) 0 (node_count g)
+
+  planned : IsPlanned g rows label (roots_of roots) cuts
+  planned =
+      plan_all g rows label (roots_of roots) (roots_inside g (roots_of roots) lits) labels normal cuts table (cuts_long (plan_of g rows label (roots_of roots)) 0 (node_count g))
+      (λ n l. let here : 0 + n ≡ n = omega arith in cuts_at (plan_of g rows label (roots_of roots)) 0 (node_count g) n l ∙ ap (plan_of g rows label (roots_of roots)) here)
+
+  abbrev made : Made
+  made = tables_of g (roots_of roots) cuts
+
+  is_made : IsMade g rows label (roots_of roots) made
+  is_made = record { cuts = cuts; plan = planned; tables = tables_needed g (roots_of roots) cuts (leaves_inside g rows label (roots_of roots) cuts table planned) lits }
+
+  abbrev there : TemplateValue
+  there = record { luts = made.luts; outputs = roots.outputs; next = roots.next; bits = made.bits; depth = target g label (roots_of roots) }
+
+  is_there : IsTemplate g rows label roots there
+  is_there = template_is g rows label roots made roots.outputs roots.next (target g label (roots_of roots)) table lits is_made refl refl refl
+
+  same : (t : TemplateValue) → IsTemplate g rows label roots t → there ≡ t
+  same t is = template_once g rows label roots table there t is_there is
+
+  pub each_maps : (t : TemplateValue) → IsTemplate g rows label roots t → (k : ℕ) → AreRows g k (node_count g) rows → IsMapping g k (roots_of roots) t.luts t.bits
+  each_maps t is k are = subst (λ (u : TemplateValue). IsMapping g k (roots_of roots) u.luts u.bits) (same t is) (mapping_is g rows label (roots_of roots) made is_made k are lits)
+
+  pub each_least : (t : TemplateValue) → IsTemplate g rows label roots t → (k : ℕ) → AreRows g k (node_count g) rows → IsLeast g k (roots_of roots) t.luts t.depth
+  each_least t is k are = subst (λ (u : TemplateValue). IsLeast g k (roots_of roots) u.luts u.depth) (same t is) (least_is g rows label (roots_of roots) made is_made k are lits)

@@ -1,9 +1,0 @@
-use Rattle.std.proofs.Common.{◌≡◌, ◌+◌, ◌≤◌, drop}
-use Rattle.bit_fun.specs.Parameters.{param_count}
-use Rattle.stage_bench.proofs.sources.param_count.Given as goal
-
-abbrev pub invariant-loop-i : goal.invariant-loop-i
-invariant-loop-i l = record {
-  rest : l.count + param_count (drop l.i l.graph.kinds) ≡ param_count l.graph.kinds;
-  few : l.count ≤ l.i;
-}

@@ -1,5 +1,0 @@
-use Rattle.std.proofs.Common.{refl}
-use Rattle.stage_bench.proofs.time_graph.Goals as goal
-
-pub play_cycles-requires-clause-playable : goal.play_cycles-requires-clause-playable
-play_cycles-requires-clause-playable c = c.in-Some.ensures.playable c.in-Some.shape refl

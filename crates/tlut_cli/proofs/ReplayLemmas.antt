@@ -1,0 +1,48 @@
+-- A job of `map` that is done wrote what `bits` plays as `run` plays its tables.
+use Rattle.std.proofs.Common.{◌≡◌, List, ◌∷◌, length, Ok, Some, sym, ap, ◌∙◌, subst}
+use Rattle.std.specs.FinMap.{get}
+use Rattle.std.specs.List.{concat}
+use Rattle.tl_io.specs.Content.{extended}
+use Rattle.tl_io.specs.Shelf.{Files}
+use Rattle.cmd_base.specs.Outside.{Outside}
+use Rattle.cmd_base.specs.Writing.{AreWritten}
+use Rattle.cmd_stations.specs.Machine.{IsStart, machine_header, HasCome}
+use Rattle.cmd_stations.specs.Packs.{present_bytes, pack_names}
+use Rattle.cmd_stations.specs.Script.{names_of}
+use Rattle.cmd_stations.specs.Settled.{IsSourceSettled}
+use Rattle.cmd_stations.specs.Source.{HasMapped}
+use Rattle.cmd_stations.proofs.OnceLemmas.{settled_once, template_once}
+use Rattle.cmd_stations.proofs.ReplayLemmas.{file_same, pack_at, mapped_there, script_same, params_same}
+use Rattle.cmd_run.specs.Run.Words.{RunWords}
+use Rattle.cmd_run.specs.Run.Bank.{bank_of}
+use Rattle.cmd_run.specs.Run.Ends.{HasRun}
+use Rattle.cmd_map.specs.Map.Words.{MapWords}
+use Rattle.cmd_map.specs.Map.Verdict.{HasMap}
+use Rattle.cmd_pack.specs.Bits.Words.{BitsWords}
+use Rattle.cmd_pack.specs.Bits.Replay.{IsPlayedOn}
+use Rattle.cmd_pack.specs.Bits.Verdict.{pack_header}
+use Rattle.tlut_cli.specs.Replay.{PutTheSameLines, HaveTheSameSource, ReplaysRun}
+
+module _ (files : Files) (written : MapWords) (before after : Outside) (done : HasMap files written (λ texts line. AreWritten texts line before after)) (settled : IsSourceSettled files written.source) where
+  same_lines : (first others : Files) (run : RunWords) (bits : BitsWords) → HaveTheSameSource files written first run → get others bits.pack ≡ Some (present_bytes done.pack) → get others bits.script ≡ get first run.script
+      → (old new other later : Outside) → HasRun first run old new (Ok tt) → IsPlayedOn others bits other later → PutTheSameLines old new other later
+  same_lines first others run bits same pack script old new other later r b =
+      let has : HasMapped files written.source r.job.source r.job.template = mapped_there first files run.source written.source r.job.source r.job.template same.k same.netlist same.params r.is_job.mapped in
+      let source = settled_once files written.source r.job.source done.source settled has.has done.mapped.has in
+      let template = template_once files written.source r.job.source done.source r.job.template done.template settled has done.mapped in
+      let packs = file_same (present_bytes done.pack) b.pack done.pack (pack_at others bits.pack (present_bytes done.pack) b.pack pack b.is_job.pack) done.replays.file in
+      let start = subst (λ t. IsStart (record { source = done.source; template = t; events = r.job.events }) r.machine) template (subst (λ s. IsStart (record { source = s; template = r.job.template; events = r.job.events }) r.machine) source r.start) in
+      let params = ap (λ s. (names_of s r.job.template.bits).params) source ∙ params_same done.source done.template done.pack b.pack done.tunable packs in
+      let events = script_same first others run.script bits.script (names_of r.job.source r.job.template.bits) (pack_names b.pack) r.job.events b.events script params r.is_job.script b.is_job.script in
+      let come = subst (λ es. HasCome r.machine (bank_of run.ports old.ports) es r.ends.lines r.ends.stage) events r.ends.come in
+      let lines = done.replays.lines others bits.pack b.pack pack b.is_job.pack b.host b.ends.end b.events b.ends.lines b.start b.ends.steps r.job.events r.machine start (bank_of run.ports old.ports) r.ends.lines r.ends.stage come in
+      record {
+        header = machine_header r.machine;
+        other_header = pack_header b.host.pack;
+        lines = r.ends.lines;
+        put = r.ends.bytes;
+        other_put = subst (λ ls. later.bytes ≡ extended other.bytes (concat (pack_header b.host.pack ∷ ls))) lines b.ends.bytes;
+      }
+
+  pub replays_run : ReplaysRun files written before after
+  replays_run = record { done = done; lines = same_lines }
