@@ -23,7 +23,7 @@ import tempfile
 TOP = os.path.dirname(os.path.dirname(os.path.abspath(__file__)))
 EXAMPLES = f"{TOP}/crates/tlut_examples/data"
 PROGRAM = f"{TOP}/crates/bench_mapping/out/bench_mapping"
-STAGES = ["read", "flatten", "graph", "cuts", "labels", "cover", "functions", "cycles", "changes"]
+STAGES = ["read", "flatten", "graph", "cuts", "labels", "certificate", "cover", "functions", "cycles", "changes"]
 EVENTS = 1000
 RUNS = 80
 ABC_RUNS = 10

@@ -61,6 +61,7 @@ FILES = {
     "mux.par": b"p 0\n",
     "mux.scr": b"set p=1\ncycle 10\nupset 3\nscrub\nimage\n",
     "host.scr": b"set p=1\nimage\n",
+    "one.cert": b"depth 1\nclaim 6 1\npath 1 4 6\n",
     "one.ppc": bytes.fromhex("545050430001000100017000000000000000000400000000000000020000000300000001"),
 }
 
@@ -70,6 +71,8 @@ CALLS = [
     "map 2 mux.blif mux.par t.blif m.ppc",
     "bits one.ppc host.scr",
     "repack one.ppc two.ppc",
+    "prove 2 mux.blif mux.par mux.cert",
+    "audit 2 mux.blif mux.par one.cert",
     "gen 1 0",
     "gen 2 1",
 ]

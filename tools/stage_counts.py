@@ -206,6 +206,7 @@ def expected(files, k):
     lines.append(f"graph: {netlist.graph.sources} sources, {len(netlist.graph.pairs)} AND nodes")
     lines.append(f"cuts: {sum(map(len, cuts))} cuts")
     lines.append(f"labels: greatest {max(labels)}, K {k}")
+    lines.append(f"certificate: depth {depth}")
     lines.append(f"cover: {len(tables)} tables, depth {depth}")
     lines.append(f"functions: {len(bits)} bits, {len(pack.pairs)} pack nodes")
     lines.append(f"cycles: {EVENTS}, {count_ones(netlist)} outputs were 1")

@@ -27,6 +27,7 @@ use blif_read::read;
 use cover_pick::{Template, pick};
 use cut_enum::{CutTable, enumerate};
 use depth_label::{Labels, labels};
+use flow_cert::certify;
 use netlist::{Flat, Library};
 use param_list::Params;
 use ppc_pack::Pack;
@@ -144,6 +145,29 @@ pub fn label_nodes(
     Ok(labels)
 }
 
+// The certificate of the least depth.
+fn time_certificate(
+    meter: Meter<'_>,
+    graph: &Graph,
+    roots: &Roots,
+    table: &CutTable,
+    labels: &Labels,
+    k: u8,
+) -> Result<(), BenchErr>
+    requires least { 2 ≤ k }
+    requires roots { AreRoots graph.now (roots_of roots.now) }
+    requires table { AreRows graph.now k (node_count graph.now) table.now }
+    requires labels { AreLabelled graph.now table.now labels.now }
+{
+    let start = meter.start()?;
+    let cert = certify(meter.rt.alloc(), graph, roots, table, labels, k)?;
+    let took = meter.took(start)?;
+    let depth = cert.depth;
+    let counts = format!(in meter.rt.alloc(); "depth {depth}")?;
+    meter.show("certificate", counts.as_str(), took)?;
+    Ok(())
+}
+
 /// The chosen template of a graph for its roots.
 pub fn pick_cover(
     meter: Meter<'_>,
@@ -161,6 +185,7 @@ pub fn pick_cover(
 {
     let table = list_cuts(meter, graph, k)?;
     let labels = label_nodes(meter, graph, &table, k)?;
+    time_certificate(meter, graph, roots, &table, &labels, k)?;
     let start = meter.start()?;
     let Ok(template) = pick(meter.rt.alloc(), graph, roots, &table, &labels) else {
         return Err(BenchErr::Refused);

@@ -4,14 +4,15 @@ mod StampLemmas
 mod StepLemmas
 mod InTurnLemmas
 mod FaultLemmas
-mod LeastLemmas
-mod CheckLemmas
+pub mod LeastLemmas
+pub mod CheckLemmas
 mod ReadLemmas
 mod LineLemmas
-mod OnceLemmas
+pub mod OnceLemmas
 mod WriteLemmas
 mod NumberLemmas
-mod RoundTrip
+pub mod RoundTrip
 mod CertExample
 mod TextExample
 mod FormedLemmas
+pub mod BareLemmas

@@ -73,7 +73,9 @@ impl CertErr {
             CertErr::BadClaim(line) => Some(Refusal::new("C2", "BadClaim", Details::Line(line))),
             CertErr::BadPath(line) => Some(Refusal::new("C3", "BadPath", Details::Line(line))),
             CertErr::PathCount(line) => Some(Refusal::new("C4", "PathCount", Details::Line(line))),
-            CertErr::Shared(line, _) => Some(Refusal::new("C5", "Shared", Details::Line(line))),
+            CertErr::Shared(line, node) => {
+                Some(Refusal::new("C5", "Shared", Details::NodeIn(line, node)))
+            }
             CertErr::NotReached => Some(Refusal::new("C6", "NotReached", Details::Nothing)),
             CertErr::Memory => None,
         }

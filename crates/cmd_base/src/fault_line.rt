@@ -81,6 +81,7 @@ fn put_details<E: Sink>(err: &mut E, details: &Details) -> Result<(), Failed>
         Details::Node(node) => put_words(err, &[b"node", digits.format(*node).as_bytes()]),
         Details::Width(line, width) => put_counted(err, *line, b"width", *width),
         Details::Bits(line, bits) => put_counted(err, *line, b"bits", *bits),
+        Details::NodeIn(line, node) => put_counted(err, *line, b"node", *node),
         Details::Byte(offset) => put_words(err, &[b"byte", digits.format(*offset).as_bytes()]),
     }
 }

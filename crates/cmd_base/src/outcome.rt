@@ -12,6 +12,7 @@ pub enum File {
     Params,
     Script,
     Pack,
+    Cert,
 }
 
 /// How a call ends.

@@ -54,18 +54,21 @@ pack_part words told = record {
     is_read file.Params h = absurd h
     is_read file.Script h = absurd h
     is_read file.Pack h = tt
+    is_read file.Cert h = absurd h
 
     same_word : (f : File) → IsPackItself f → words.pack ≡ bits_word words f
     same_word file.Netlist h = absurd h
     same_word file.Params h = absurd h
     same_word file.Script h = absurd h
     same_word file.Pack h = refl
+    same_word file.Cert h = absurd h
 
     reaches : (files : Files) (f : File) → IsPackItself f → ReachesBits files words f
     reaches files file.Netlist h = absurd h
     reaches files file.Params h = absurd h
     reaches files file.Script h = absurd h
     reaches files file.Pack h = tt
+    reaches files file.Cert h = absurd h
 
 pub pack_to_bits : (words : BitsWords) (old new : ShelfSeen) (o : Outcome) → Explains (pack_reading words.pack) old new o → Explains (bits_reading words) old new o
 pack_to_bits words old new o h = Explains_lift (pack_reading words.pack) (bits_reading words) old new (pack_part words old.files) o h
@@ -92,18 +95,21 @@ module _ (words : BitsWords) (pack : PackValue) where
       is_read file.Params h = absurd h
       is_read file.Script h = tt
       is_read file.Pack h = absurd h
+      is_read file.Cert h = absurd h
 
       same_word : (f : File) → IsScriptFile f → words.script ≡ bits_word words f
       same_word file.Netlist h = absurd h
       same_word file.Params h = absurd h
       same_word file.Script h = refl
       same_word file.Pack h = absurd h
+      same_word file.Cert h = absurd h
 
       reaches : (files : Files) (f : File) → IsScriptFile f → HasPack files words.pack pack → ReachesBits files words f
       reaches files file.Netlist h there = absurd h
       reaches files file.Params h there = absurd h
       reaches files file.Script h there = (pack, there)
       reaches files file.Pack h there = absurd h
+      reaches files file.Cert h there = absurd h
 
 pub script_to_bits : (words : BitsWords) (old new : ShelfSeen) (o : Outcome) (pack : PackValue) → Told old.files (λ files. HasPack files words.pack pack × IsPackSettled files words.pack)
     → Explains (script_reading words.script (pack_names pack)) old new o → Explains (bits_reading words) old new o

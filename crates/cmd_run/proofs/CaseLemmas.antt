@@ -28,13 +28,14 @@ use Rattle.cmd_stations.specs.Texts.{HasText, IsNetlistText, NetlistRefusal, IsP
 use Rattle.cmd_stations.specs.Mapped.{IsUnmapped}
 use Rattle.cmd_stations.specs.Script.{script_reading}
 use Rattle.cmd_stations.specs.Settled.{IsTextSettled, IsMappingSettled, source_reading}
+use Rattle.cmd_stations.specs.Aims.{ToTables}
 use Rattle.cmd_stations.specs.Tables.{ComesFrom, ComesWith}
 use Rattle.cmd_run.specs.Run.Job.{IsRefused, IsSettled, run_reading}
 use Rattle.cmd_run.specs.Run.Ready.{IsReadyFor}
 use Rattle.cmd_run.specs.GenCommand.Case.{case_words, case_files}
 use Rattle.cmd_run.specs.GenCommand.Texts.{shelf_of, HaveSource, HaveCase}
 use Rattle.cmd_run.specs.GenCommand.Verdict.{gen_reading}
-use Rattle.cmd_stations.proofs.StationLemmas.{text_settles, list_settles, netlist_explains, params_explains, map_explains, script_explains}
+use Rattle.cmd_stations.proofs.StationLemmas.{text_settles, list_settles, netlist_explains, params_explains, made_explains, script_explains}
 
 -- What is so of some files is told by a shelf that has them.
 module _ (files : Files) where
@@ -46,9 +47,9 @@ module _ (files : Files) where
 
   -- a netlist's text that stops the walk
   pub netlist_stops : (netlist params : List ℕ) (s : Stop) → HaveSource files netlist params → Stops (NetlistRefusal netlist) s → Stops (λ _. IsTextSettled netlist) s
-      → Explains (source_reading case_words.source) (shelf_of files) (shelf_of files) (outcome_at file.Netlist s)
+      → Explains (source_reading ToTables case_words.source) (shelf_of files) (shelf_of files) (outcome_at file.Netlist s)
   netlist_stops netlist params s have refused settled =
-      netlist_explains case_words.source (shelf_of files) (shelf_of files) netlist s (nothing_given (most_bytes file.Netlist)) (told_of (λ fs. HasText fs case_words.source.netlist netlist) have.has_netlist) refused settled
+      netlist_explains ToTables case_words.source (shelf_of files) (shelf_of files) netlist s (nothing_given (most_bytes file.Netlist)) (told_of (λ fs. HasText fs case_words.source.netlist netlist) have.has_netlist) refused settled
 
   -- the walk comes past a netlist's text
   netlist_comes : (netlist params : List ℕ) (n : NetlistValue) → HaveSource files netlist params → IsNetlistText netlist n → IsTextSettled netlist → ComesFrom files case_words.source n
@@ -59,9 +60,9 @@ module _ (files : Files) where
 
   -- a text of its parameters that stops it
   pub params_stop : (netlist params : List ℕ) (n : NetlistValue) (s : Stop) → HaveSource files netlist params → IsNetlistText netlist n → IsTextSettled netlist → HasOneReading n.flat params → Stops (IsParamsRefusal n.flat params) s
-      → Explains (source_reading case_words.source) (shelf_of files) (shelf_of files) (outcome_at file.Params s)
+      → Explains (source_reading ToTables case_words.source) (shelf_of files) (shelf_of files) (outcome_at file.Params s)
   params_stop netlist params n s have is settled one refused =
-      params_explains case_words.source (shelf_of files) (shelf_of files) n (told_of (λ fs. ComesFrom fs case_words.source n) (netlist_comes netlist params n have is settled)) params s
+      params_explains ToTables case_words.source (shelf_of files) (shelf_of files) n (told_of (λ fs. ComesFrom fs case_words.source n) (netlist_comes netlist params n have is settled)) params s
       (nothing_given (most_bytes file.Params)) (told_of (λ fs. HasText fs case_words.source.params params) have.has_params) one refused
 
   -- the walk comes past both
@@ -77,9 +78,9 @@ module _ (files : Files) where
 
   -- a mapping that stops it
   pub mapping_stops : (source : Source) (s : Stop) → ComesWith files case_words.source source → Stops (IsUnmapped source case_words.source.k) s → Stops (λ _. IsMappingSettled source case_words.source.k) s
-      → Explains (source_reading case_words.source) (shelf_of files) (shelf_of files) (outcome_at file.Netlist s)
+      → Explains (source_reading ToTables case_words.source) (shelf_of files) (shelf_of files) (outcome_at file.Netlist s)
   mapping_stops source s comes refused settled =
-      map_explains case_words.source (shelf_of files) (shelf_of files) source s (nothing_given (most_bytes file.Netlist)) (told_of (λ fs. ComesWith fs case_words.source source) comes) refused settled
+      made_explains ToTables case_words.source (shelf_of files) (shelf_of files) source s (nothing_given (most_bytes file.Netlist)) (told_of (λ fs. ComesWith fs case_words.source source) comes) refused settled
 
   -- a script that stops it
   pub script_stops : (script : List ℕ) (names : NamesValue) (s : Stop) → HasText files case_words.script script → script_text.HasOneReading names script → Stops (IsScriptRefusal names script) s

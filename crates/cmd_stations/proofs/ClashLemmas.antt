@@ -12,8 +12,8 @@ use Rattle.cmd_stations.specs.declared.netlist_text.Netlist.{Netlist as NetlistV
 use Rattle.cmd_stations.specs.declared.source.Source.{Source}
 use Rattle.cmd_stations.specs.Words.{SourceWords}
 use Rattle.cmd_stations.specs.Texts.{HasText, IsNetlistText, NetlistRefusal, IsParamsRefusal}
-use Rattle.cmd_stations.specs.Mapped.{IsMapped, IsUnmapped}
-use Rattle.cmd_stations.specs.Source.{HasNetlist, HasParams, HasSource, HasMapped, IsSourceRefused, long_netlist, netlist, long_params, params, mapping}
+use Rattle.cmd_stations.specs.Aims.{Aim, ToTables, IsUnmade}
+use Rattle.cmd_stations.specs.Source.{HasNetlist, HasParams, HasSource, HasMapped, IsSourceRefused, long_netlist, netlist, long_params, params, unmade}
 use Rattle.cmd_stations.specs.Script.{HasScript, IsScriptRefused, IsScriptSettled}
 use Rattle.cmd_stations.specs.Script as script
 use Rattle.cmd_stations.specs.Settled.{IsSourceSettled}
@@ -21,7 +21,7 @@ use Rattle.cmd_stations.proofs.FileLemmas.{text_once, short_or_long}
 use Rattle.cmd_stations.proofs.TextLemmas.{params_or_refused, script_or_refused}
 use Rattle.cmd_stations.proofs.OnceLemmas.{netlist_once, settled_once}
 
-module _ (files : Files) (words : SourceWords) (settled : IsSourceSettled files words) where
+module _ {aim : Aim} (files : Files) (words : SourceWords) (settled : IsSourceSettled aim files words) where
   -- a netlist is read or refused
   pub read_or_not : (n : NetlistValue) (text : List ℕ) (r : RefusalValue) → HasNetlist files words n → HasText files words.netlist text → NetlistRefusal text r → ⊥
   read_or_not n text r has there refused =
@@ -35,17 +35,17 @@ module _ (files : Files) (words : SourceWords) (settled : IsSourceSettled files 
       params_or_refused n.flat text source.params.list r (settled.params n own text there)
       (subst (λ ts. IsParamsText n.flat ts source.params.list) (text_once files words.params here.text text here.there there) here.is) refused
 
-  -- the walk comes past the mapping or it doesn't
-  pub mapped_or_not : (a b : Source) (t : TemplateValue) (r : RefusalValue) → HasMapped files words a t → HasSource files words b → IsUnmapped b words.k r → ⊥
-  mapped_or_not a b t r past has u = (settled.mapping b has).not_both t r (subst (λ s. IsMapped s words.k t) (settled_once files words a b settled past.has has) past.mapped) u
+  -- so a source circuit that is read isn't refused, unless for what is made of it
+  pub refused_unmade : (source : Source) (f : File) (r : RefusalValue) → HasSource files words source → IsSourceRefused aim files words f r → IsUnmade aim source words.k r
+  refused_unmade source f r has (long_netlist at long is) = absurd (short_or_long files words.netlist has.netlist.text has.netlist.there long)
+  refused_unmade source f r has (netlist at text there refused) = absurd (read_or_not source.netlist text r has.netlist there refused)
+  refused_unmade source f r has (long_params at n own long is) = absurd (short_or_long files words.params has.params.text has.params.there long)
+  refused_unmade source f r has (params at n text own there refused) = absurd (list_or_not source n text r has own there refused)
+  refused_unmade source f r has (unmade at other own u) = subst (λ s. IsUnmade aim s words.k r) (settled_once files words other source settled own has) u
 
-  -- so a source circuit that is mapped isn't refused, at any of its files, for any reason
-  pub source_or_not : (source : Source) (t : TemplateValue) (f : File) (r : RefusalValue) → HasMapped files words source t → IsSourceRefused files words f r → ⊥
-  source_or_not source t f r past (long_netlist at long is) = short_or_long files words.netlist past.has.netlist.text past.has.netlist.there long
-  source_or_not source t f r past (netlist at text there refused) = read_or_not source.netlist text r past.has.netlist there refused
-  source_or_not source t f r past (long_params at n has long is) = short_or_long files words.params past.has.params.text past.has.params.there long
-  source_or_not source t f r past (params at n text has there refused) = list_or_not source n text r past.has has there refused
-  source_or_not source t f r past (mapping at other has u) = mapped_or_not source other t r past has u
+-- and one that is mapped isn't refused, at any of its files, for any reason
+pub source_or_not : (files : Files) (words : SourceWords) → IsSourceSettled ToTables files words → (source : Source) (t : TemplateValue) (f : File) (r : RefusalValue) → HasMapped files words source t → IsSourceRefused ToTables files words f r → ⊥
+source_or_not files words settled source t f r past refused = (settled.made source past.has).not_both t r past.mapped (refused_unmade files words settled source f r past.has refused)
 
 -- nor is a script that is read
 pub events_or_not : (files : Files) (name : List ℕ) (names : NamesValue) (events : List EventValue) (f : File) (r : RefusalValue) → IsScriptSettled files name names → HasScript files name names events → IsScriptRefused files name names f r → ⊥

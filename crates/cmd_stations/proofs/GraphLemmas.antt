@@ -20,8 +20,9 @@ use Rattle.cover_pick.specs.declared.lut.PickErr.{PickErr}
 use Rattle.cover_pick.specs.declared.lut.PickErr.TheVariants as pick_err
 use Rattle.tl_fault.specs.RefusalValue.{RefusalValue}
 use Rattle.cmd_stations.specs.declared.source.Source.{Source}
-use Rattle.cmd_stations.specs.Mapped.{IsChosen, IsUnchosen, cuts, work, IsLeastMapping, IsMapped, IsUnmappedGraph, IsUnmapped, too_many, unchosen}
-use Rattle.cmd_stations.specs.Settled.{IsGraphSettled, IsMappingSettled}
+use Rattle.cmd_stations.specs.Mapped.{IsLabelled, IsChosen, IsUnchosen, cuts, work, IsLeastMapping, IsMapped, IsUnmappedGraph, IsUnmapped, too_many, unchosen}
+use Rattle.cmd_stations.specs.Aims.{IsBuilt, IsUnlabelled, unbuilt, many_cuts}
+use Rattle.cmd_stations.specs.Settled.{IsGraphSettled, IsMappingSettled, IsBuildingSettled, IsLabellingSettled}
 use Rattle.cmd_stations.specs.Tables.{AreMade, AreTables}
 use Rattle.cmd_stations.specs.declared.tables.Tables.{Tables}
 use Rattle.cmd_stations.proofs.LeastLemmas.{least_mapping}
@@ -106,7 +107,7 @@ module _ (source : Source) (one : HasOneGraph source.netlist.library source.netl
       let max : g.max ≡ h.max = a.max ∙ sym b.max in
       ap (λ ks. record { kinds = ks; pairs = g.pairs; max = g.max }) kinds ∙ ap (λ ps. record { kinds = h.kinds; pairs = ps; max = g.max }) pairs ∙ ap (λ n. record { kinds = h.kinds; pairs = h.pairs; max = n }) max
 
-  same_roots : (g h : Aig) (roots others : RootsValue) → IsGraph g roots → IsGraph h others → roots ≡ others
+  pub same_roots : (g h : Aig) (roots others : RootsValue) → IsGraph g roots → IsGraph h others → roots ≡ others
   same_roots g h roots others a b =
       let made : a.made ≡ b.made = one.only a.made b.made a.are_made b.are_made in
       let parts = same_parts roots.outputs others.outputs roots.next others.next (a.outputs ∙ sym b.outputs) (a.literals ∙ ap (λ (m : Literals). m.lits) made ∙ sym b.literals) in
@@ -119,6 +120,46 @@ module _ (source : Source) (one : HasOneGraph source.netlist.library source.netl
       let count : length g.pairs ≡ length over.made.pairs = ap length (a.pairs ∙ ap (λ (m : Literals). m.pairs) made) in
       let many : MOST_NODES < length over.made.pairs = over.many in
       omega arith
+
+  -- So it is settled.
+  pub building_settled : IsBuildingSettled source
+  building_settled = record { one_graph = one; not_both = λ g roots r built u. few_or_many g roots built.is_graph built.nodes u.too_many }
+
+  -- Its labels are settled where it has too many nodes,
+  pub full_labelling : (k : ℕ) → HasTooManyNodes source.netlist.library source.netlist.flat source.params.list → IsLabellingSettled source k
+  full_labelling k over = record {
+    building = building_settled;
+    not_both = λ g roots rows labels r built labelled u. few_or_many g roots built.is_graph built.nodes over;
+    one_refusal = once;
+  }
+    where
+      once : (r s : RefusalValue) → IsUnlabelled source k r → IsUnlabelled source k s → r ≡ s
+      once r s (unbuilt u) (unbuilt v) = same_Some r s (sym u.tells ∙ v.tells)
+      once r s (many_cuts u) other = absurd (few_or_many u.graph u.roots u.built.is_graph u.built.nodes over)
+      once r s some (many_cuts u) = absurd (few_or_many u.graph u.roots u.built.is_graph u.built.nodes over)
+
+  -- and where a graph of it stands, as the limits on cuts are.
+  pub labelling_settled : (k : ℕ) (g : Aig) (roots : RootsValue) → IsGraph g roots → length g.pairs ≤ MOST_NODES → ((e f : CutErr) → IsLimit g k e → IsLimit g k f → e ≡ f)
+      → ((e : CutErr) (rows : List (List (List ℕ))) → IsLimit g k e → AreRows g k (node_count g) rows → ⊥) → IsLabellingSettled source k
+  labelling_settled k g roots is few limit_once excluded = record {
+    building = building_settled;
+    not_both = labelled_or;
+    one_refusal = once;
+  }
+    where
+      limit_here : (h : Aig) (others : RootsValue) (e : CutErr) → IsGraph h others → IsLimit h k e → IsLimit g k e
+      limit_here h others e a l = subst (λ x. IsLimit x k e) (same_graph h g others roots a is) l
+
+      labelled_or : (h : Aig) (others : RootsValue) (rows : List (List (List ℕ))) (labels : LabelsValue) (r : RefusalValue) → IsBuilt source h others → IsLabelled h k rows labels → IsUnlabelled source k r → ⊥
+      labelled_or h others rows labels r built labelled (unbuilt u) = few_or_many g roots is few u.too_many
+      labelled_or h others rows labels r built labelled (many_cuts u) =
+          excluded u.e rows (limit_here u.graph u.roots u.e u.built.is_graph u.limit) (subst (λ x. AreRows x k (node_count x) rows) (same_graph h g others roots built.is_graph is) labelled.rows_are)
+
+      once : (r s : RefusalValue) → IsUnlabelled source k r → IsUnlabelled source k s → r ≡ s
+      once r s (unbuilt u) other = absurd (few_or_many g roots is few u.too_many)
+      once r s some (unbuilt u) = absurd (few_or_many g roots is few u.too_many)
+      once r s (many_cuts u) (many_cuts v) =
+          same_Some r s (sym u.tells ∙ (ap (λ x. cut_refusal x) (limit_once u.e v.e (limit_here u.graph u.roots u.e u.built.is_graph u.limit) (limit_here v.graph v.roots v.e v.built.is_graph v.limit)) ∙ v.tells))
 
   -- A source circuit with too many nodes is settled.
   pub full_settled : (k : ℕ) → HasTooManyNodes source.netlist.library source.netlist.flat source.params.list → IsMappingSettled source k

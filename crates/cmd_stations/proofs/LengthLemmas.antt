@@ -36,6 +36,7 @@ use Rattle.cmd_base.specs.Refusals.{too_long}
 use Rattle.cmd_stations.specs.declared.source.Source.{Source}
 use Rattle.cmd_stations.specs.Texts.{NetlistRefusal, fault, unsound, IsParamsRefusal, IsScriptRefusal}
 use Rattle.cmd_stations.specs.Mapped.{IsUnchosen, cuts, work, IsUnmapped, too_many, unchosen}
+use Rattle.cmd_stations.specs.Aims.{Aim, ToGraph, ToLabels, ToTables, IsUnlabelled, unbuilt, many_cuts, IsUnmade}
 use Rattle.cmd_stations.specs.Packs.{IsPackRefusal}
 
 -- the code of an overlong file, and no other one's
@@ -142,9 +143,18 @@ unchosen_not_long : (g : Aig) (k : ℕ) (roots : RootsValue) (r : RefusalValue) 
 unchosen_not_long g k roots r (cuts e limit tells) is = cuts_code e (tells ∙ ap Some is)
 unchosen_not_long g k roots r (work over tells) is = pick_code pick_err.Work (tells ∙ ap Some is)
 
-pub unmapped_not_long : (source : Source) (k : ℕ) (r : RefusalValue) → IsUnmapped source k r → r ≡ too_long → ⊥
+unmapped_not_long : (source : Source) (k : ℕ) (r : RefusalValue) → IsUnmapped source k r → r ≡ too_long → ⊥
 unmapped_not_long source k r (too_many over tells) is = build_code build_err.TooManyNodes (tells ∙ ap Some is)
 unmapped_not_long source k r (unchosen graph) is = unchosen_not_long graph.graph k graph.roots r graph.unchosen is
+
+unlabelled_not_long : (source : Source) (k : ℕ) (r : RefusalValue) → IsUnlabelled source k r → r ≡ too_long → ⊥
+unlabelled_not_long source k r (unbuilt u) is = build_code build_err.TooManyNodes (u.tells ∙ ap Some is)
+unlabelled_not_long source k r (many_cuts u) is = cuts_code u.e (u.tells ∙ ap Some is)
+
+pub unmade_not_long : (aim : Aim) (source : Source) (k : ℕ) (r : RefusalValue) → IsUnmade aim source k r → r ≡ too_long → ⊥
+unmade_not_long ToGraph source k r u is = build_code build_err.TooManyNodes (u.tells ∙ ap Some is)
+unmade_not_long ToLabels source k r u is = unlabelled_not_long source k r u is
+unmade_not_long ToTables source k r u is = unmapped_not_long source k r u is
 
 pub pack_not_long : (bytes : List ℕ) (r : RefusalValue) → IsPackRefusal bytes r → r ≡ too_long → ⊥
 pack_not_long bytes r refused is = pack_code refused.e (refused.tells ∙ ap Some is)

@@ -1,6 +1,6 @@
 -- of texts and files, and of the stops at them,
 mod StopLemmas
-mod FileLemmas
+pub mod FileLemmas
 mod TextLemmas
 mod LengthLemmas
 pub mod OnceLemmas
@@ -15,7 +15,7 @@ mod SourceLemmas
 pub mod ShowLemmas
 pub mod InitLemmas
 -- of what is written,
-mod WriteLemmas
+pub mod WriteLemmas
 pub mod WriteAllLemmas
 mod WrittenTableLemmas
 mod WrittenCycleLemmas

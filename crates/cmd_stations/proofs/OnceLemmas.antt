@@ -9,6 +9,7 @@ use Rattle.cmd_stations.specs.declared.source.Source.{Source}
 use Rattle.cmd_stations.specs.Words.{SourceWords}
 use Rattle.cmd_stations.specs.Texts.{IsNetlistText}
 use Rattle.cmd_stations.specs.Mapped.{IsMapped}
+use Rattle.cmd_stations.specs.Aims.{Aim, ToTables}
 use Rattle.cmd_stations.specs.Source.{HasNetlist, HasParams, HasSource, HasMapped, IsLeastMapped}
 use Rattle.cmd_stations.specs.Settled.{IsNetlistSettled, AreParamsSettled, IsSourceSettled}
 use Rattle.cmd_stations.proofs.FileLemmas.{text_once}
@@ -31,17 +32,17 @@ source_once files words a b one settled x y =
     ap (λ n. record { netlist = n; params = a.params }) same ∙ ap (λ ps. record { netlist = b.netlist; params = record { list = ps } }) lists
 
 -- where all its files are settled
-pub settled_once : (files : Files) (words : SourceWords) (a b : Source) → IsSourceSettled files words → HasSource files words a → HasSource files words b → a ≡ b
+pub settled_once : {aim : Aim} (files : Files) (words : SourceWords) (a b : Source) → IsSourceSettled aim files words → HasSource files words a → HasSource files words b → a ≡ b
 settled_once files words a b settled x y = source_once files words a b settled.netlist (settled.params b.netlist y.netlist) x y
 
 -- and its template
-pub template_once : (files : Files) (words : SourceWords) (a b : Source) (t u : TemplateValue) → IsSourceSettled files words → HasMapped files words a t → HasMapped files words b u → t ≡ u
+pub template_once : (files : Files) (words : SourceWords) (a b : Source) (t u : TemplateValue) → IsSourceSettled ToTables files words → HasMapped files words a t → HasMapped files words b u → t ≡ u
 template_once files words a b t u settled x y =
-    (settled.mapping b y.has).one_template t u (subst (λ s. IsMapped s words.k t) (settled_once files words a b settled x.has y.has) x.mapped) y.mapped
+    (settled.made b y.has).one_template t u (subst (λ s. IsMapped s words.k t) (settled_once files words a b settled x.has y.has) x.mapped) y.mapped
 
 -- a source circuit that files hold is sound, and its template maps it with the least depth
-pub least_mapped : (files : Files) (words : SourceWords) (source : Source) (template : TemplateValue) → IsSourceSettled files words → (has : HasMapped files words source template) → IsLeastMapped files words source template has
+pub least_mapped : (files : Files) (words : SourceWords) (source : Source) (template : TemplateValue) → IsSourceSettled ToTables files words → (has : HasMapped files words source template) → IsLeastMapped files words source template has
 least_mapped files words source template settled has = record {
   sound = (settled.netlist has.has.netlist.text has.has.netlist.there).sound source.netlist has.has.netlist.is;
-  least = (settled.mapping source has.has).maps template has.mapped;
+  least = (settled.made source has.has).maps template has.mapped;
 }

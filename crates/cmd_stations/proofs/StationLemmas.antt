@@ -16,17 +16,17 @@ use Rattle.cmd_stations.specs.declared.netlist_text.Netlist.{Netlist as NetlistV
 use Rattle.cmd_stations.specs.declared.source.Source.{Source}
 use Rattle.cmd_stations.specs.Words.{SourceWords}
 use Rattle.cmd_stations.specs.Texts.{HasText, IsLongText, IsNetlistText, NetlistRefusal, IsParamsRefusal, IsScriptRefusal}
-use Rattle.cmd_stations.specs.Mapped.{IsUnmapped}
-use Rattle.cmd_stations.specs.Source.{HasNetlist, HasParams, HasSource, long_netlist, netlist, long_params, params, mapping}
+use Rattle.cmd_stations.specs.Aims.{Aim, IsUnmade}
+use Rattle.cmd_stations.specs.Source.{HasNetlist, HasParams, HasSource, long_netlist, netlist, long_params, params, unmade}
 use Rattle.cmd_stations.specs.Script.{IsScriptSettled, script_reading}
 use Rattle.cmd_stations.specs.Script as script
-use Rattle.cmd_stations.specs.Settled.{IsTextSettled, IsNetlistSettled, AreParamsSettled, IsMappingSettled, IsSourceSettled, source_reading}
+use Rattle.cmd_stations.specs.Settled.{IsTextSettled, IsNetlistSettled, AreParamsSettled, IsMakingSettled, IsSourceSettled, source_reading}
 use Rattle.cmd_stations.specs.Tables.{ComesFrom, ComesWith}
 use Rattle.cmd_stations.specs.Unread.{IsUnread}
 use Rattle.cmd_stations.specs.Unread as unread
 use Rattle.cmd_stations.proofs.FileLemmas.{text_once, short_or_long}
 use Rattle.cmd_stations.proofs.TextLemmas.{params_or_refused}
-use Rattle.cmd_stations.proofs.LengthLemmas.{netlist_not_long, params_not_long, unmapped_not_long, script_not_long}
+use Rattle.cmd_stations.proofs.LengthLemmas.{netlist_not_long, params_not_long, unmade_not_long, script_not_long}
 use Rattle.cmd_stations.proofs.OnceLemmas.{netlist_once, source_once}
 
 -- what a text settles, and what is refused, settles what the walk comes to
@@ -37,31 +37,33 @@ module _ (files : Files) (words : SourceWords) where
   pub list_settles : (n : NetlistValue) (text : List ℕ) → HasText files words.params text → HasOneReading n.flat text → AreParamsSettled files words n
   list_settles n text there settled other has = subst (λ ts. HasOneReading n.flat ts) (text_once files words.params text other there has) settled
 
+-- and with that what is made of it
+module _ (aim : Aim) (files : Files) (words : SourceWords) where
   -- where no netlist is read, nothing comes after it
-  unread_settles : IsNetlistSettled files words → ((n : NetlistValue) → HasNetlist files words n → ⊥) → IsSourceSettled files words
-  unread_settles settled none = record { netlist = settled; params = λ n has. absurd (none n has); mapping = λ source has. absurd (none source.netlist has.netlist) }
+  unread_settles : IsNetlistSettled files words → ((n : NetlistValue) → HasNetlist files words n → ⊥) → IsSourceSettled aim files words
+  unread_settles settled none = record { netlist = settled; params = λ n has. absurd (none n has); made = λ source has. absurd (none source.netlist has.netlist) }
 
-  long_netlist_settles : IsLongText files words.netlist → IsSourceSettled files words
+  long_netlist_settles : IsLongText files words.netlist → IsSourceSettled aim files words
   long_netlist_settles long = unread_settles (λ text there. absurd (short_or_long files words.netlist text there long)) (λ n has. short_or_long files words.netlist has.text has.there long)
 
-  netlist_settles : (text : List ℕ) (r : RefusalValue) → HasText files words.netlist text → IsTextSettled text → NetlistRefusal text r → IsSourceSettled files words
+  netlist_settles : (text : List ℕ) (r : RefusalValue) → HasText files words.netlist text → IsTextSettled text → NetlistRefusal text r → IsSourceSettled aim files words
   netlist_settles text r there settled refused =
-      unread_settles (text_settles text there settled) (λ n has. settled.not_both n r (subst (λ ts. IsNetlistText ts n) (text_once files words.netlist has.text text has.there there) has.is) refused)
+      unread_settles (text_settles files words text there settled) (λ n has. settled.not_both n r (subst (λ ts. IsNetlistText ts n) (text_once files words.netlist has.text text has.there there) has.is) refused)
 
   -- where no list of the netlist's is read, nor
-  unlisted_settles : (n : NetlistValue) → ComesFrom files words n → AreParamsSettled files words n → ((source : Source) → HasSource files words source → ⊥) → IsSourceSettled files words
+  unlisted_settles : (n : NetlistValue) → ComesFrom files words n → AreParamsSettled files words n → ((source : Source) → HasSource files words source → ⊥) → IsSourceSettled aim files words
   unlisted_settles n comes settled none = record {
     netlist = comes.settled;
     params = λ m has. subst (λ x. AreParamsSettled files words x) (netlist_once files words n m comes.settled comes.netlist has) settled;
-    mapping = λ source has. absurd (none source has);
+    made = λ source has. absurd (none source has);
   }
 
-  long_params_settles : (n : NetlistValue) → ComesFrom files words n → IsLongText files words.params → IsSourceSettled files words
+  long_params_settles : (n : NetlistValue) → ComesFrom files words n → IsLongText files words.params → IsSourceSettled aim files words
   long_params_settles n comes long =
       unlisted_settles n comes (λ text there. absurd (short_or_long files words.params text there long)) (λ source has. short_or_long files words.params has.params.text has.params.there long)
 
-  params_settles : (n : NetlistValue) (text : List ℕ) (r : RefusalValue) → ComesFrom files words n → HasText files words.params text → HasOneReading n.flat text → IsParamsRefusal n.flat text r → IsSourceSettled files words
-  params_settles n text r comes there one refused = unlisted_settles n comes (list_settles n text there one) none
+  params_settles : (n : NetlistValue) (text : List ℕ) (r : RefusalValue) → ComesFrom files words n → HasText files words.params text → HasOneReading n.flat text → IsParamsRefusal n.flat text r → IsSourceSettled aim files words
+  params_settles n text r comes there one refused = unlisted_settles n comes (list_settles files words n text there one) none
     where
       none : (source : Source) → HasSource files words source → ⊥
       none source has =
@@ -69,70 +71,70 @@ module _ (files : Files) (words : SourceWords) where
           let here : HasParams files words n.flat source.params.list = subst (λ (m : NetlistValue). HasParams files words m.flat source.params.list) same has.params in
           params_or_refused n.flat text source.params.list r one (subst (λ ts. IsParamsText n.flat ts source.params.list) (text_once files words.params here.text text here.there there) here.is) refused
 
-  pub mapping_settles : (source : Source) → ComesWith files words source → IsMappingSettled source words.k → IsSourceSettled files words
-  mapping_settles source comes mapped = record {
+  pub making_settles : (source : Source) → ComesWith files words source → IsMakingSettled aim source words.k → IsSourceSettled aim files words
+  making_settles source comes settled = record {
     netlist = comes.netlist;
     params = λ m has. subst (λ x. AreParamsSettled files words x) (netlist_once files words source.netlist m comes.netlist comes.has.netlist has) comes.params;
-    mapping = λ other has. subst (λ x. IsMappingSettled x words.k) (sym (source_once files words other source comes.netlist comes.params has comes.has)) mapped;
+    made = λ other has. subst (λ x. IsMakingSettled aim x words.k) (sym (source_once files words other source comes.netlist comes.params has comes.has)) settled;
   }
 
 -- what the stations of a source circuit answer explains how it ends
-module _ (words : SourceWords) (old new : ShelfSeen) where
-  pub netlist_unread : (o : Outcome) → IsUnread words.netlist file.Netlist old new o → Explains (source_reading words) old new o
-  netlist_unread o (unread.IsUnread.too_long at given long) = subst (λ x. Explains (source_reading words) old new x) (sym at) (record {
+module _ (aim : Aim) (words : SourceWords) (old new : ShelfSeen) where
+  pub netlist_unread : (o : Outcome) → IsUnread words.netlist file.Netlist old new o → Explains (source_reading aim words) old new o
+  netlist_unread o (unread.IsUnread.too_long at given long) = subst (λ x. Explains (source_reading aim words) old new x) (sym at) (record {
     given = given;
     is_read = tt;
     is = λ files told. long_netlist refl (long files told) refl;
-    settled = λ files told. long_netlist_settles files words (long files told);
+    settled = λ files told. long_netlist_settles aim files words (long files told);
   })
   netlist_unread o (unread.IsUnread.fault at given fault) =
-      subst (λ x. Explains (source_reading words) old new x) (sym at) (record { given = given; is_read = tt; fault = fault; reached = λ files told. tt })
-  netlist_unread o (unread.IsUnread.memory at) = subst (λ x. Explains (source_reading words) old new x) (sym at) tt
+      subst (λ x. Explains (source_reading aim words) old new x) (sym at) (record { given = given; is_read = tt; fault = fault; reached = λ files told. tt })
+  netlist_unread o (unread.IsUnread.memory at) = subst (λ x. Explains (source_reading aim words) old new x) (sym at) tt
 
   pub netlist_explains : (text : List ℕ) (s : Stop) → new.given ≤ MOST_BYTES → Told old.files (λ files. HasText files words.netlist text) → Stops (NetlistRefusal text) s → Stops (λ _. IsTextSettled text) s
-      → Explains (source_reading words) old new (outcome_at file.Netlist s)
+      → Explains (source_reading aim words) old new (outcome_at file.Netlist s)
   netlist_explains text (Refused r) g there u settled = record {
     given = g;
     is_read = tt;
     not_long = netlist_not_long text r u;
     is = λ files told. netlist refl text (there files told) u;
-    settled = λ files told. netlist_settles files words text r (there files told) settled u;
+    settled = λ files told. netlist_settles aim files words text r (there files told) settled u;
   }
   netlist_explains text Memory g there u settled = tt
 
   module _ (n : NetlistValue) (comes : Told old.files (λ files. ComesFrom files words n)) where
-    pub params_unread : (o : Outcome) → IsUnread words.params file.Params old new o → Explains (source_reading words) old new o
-    params_unread o (unread.IsUnread.too_long at given long) = subst (λ x. Explains (source_reading words) old new x) (sym at) (record {
+    pub params_unread : (o : Outcome) → IsUnread words.params file.Params old new o → Explains (source_reading aim words) old new o
+    params_unread o (unread.IsUnread.too_long at given long) = subst (λ x. Explains (source_reading aim words) old new x) (sym at) (record {
       given = given;
       is_read = tt;
       is = λ files told. long_params refl n (comes files told).netlist (long files told) refl;
-      settled = λ files told. long_params_settles files words n (comes files told) (long files told);
+      settled = λ files told. long_params_settles aim files words n (comes files told) (long files told);
     })
     params_unread o (unread.IsUnread.fault at given fault) =
-        subst (λ x. Explains (source_reading words) old new x) (sym at) (record { given = given; is_read = tt; fault = fault; reached = λ files told. (n, (comes files told).netlist) })
-    params_unread o (unread.IsUnread.memory at) = subst (λ x. Explains (source_reading words) old new x) (sym at) tt
+        subst (λ x. Explains (source_reading aim words) old new x) (sym at) (record { given = given; is_read = tt; fault = fault; reached = λ files told. (n, (comes files told).netlist) })
+    params_unread o (unread.IsUnread.memory at) = subst (λ x. Explains (source_reading aim words) old new x) (sym at) tt
 
     pub params_explains : (text : List ℕ) (s : Stop) → new.given ≤ MOST_BYTES → Told old.files (λ files. HasText files words.params text) → HasOneReading n.flat text → Stops (IsParamsRefusal n.flat text) s
-        → Explains (source_reading words) old new (outcome_at file.Params s)
+        → Explains (source_reading aim words) old new (outcome_at file.Params s)
     params_explains text (Refused r) g there one u = record {
       given = g;
       is_read = tt;
       not_long = params_not_long n.flat text r u;
       is = λ files told. params refl n text (comes files told).netlist (there files told) u;
-      settled = λ files told. params_settles files words n text r (comes files told) (there files told) one u;
+      settled = λ files told. params_settles aim files words n text r (comes files told) (there files told) one u;
     }
     params_explains text Memory g there one u = tt
 
-  pub map_explains : (source : Source) (s : Stop) → new.given ≤ MOST_BYTES → Told old.files (λ files. ComesWith files words source) → Stops (IsUnmapped source words.k) s → Stops (λ _. IsMappingSettled source words.k) s
-      → Explains (source_reading words) old new (outcome_at file.Netlist s)
-  map_explains source (Refused r) g comes u settled = record {
+  pub made_explains : (source : Source) (s : Stop) → new.given ≤ MOST_BYTES → Told old.files (λ files. ComesWith files words source) → Stops (IsUnmade aim source words.k) s → Stops (λ _. IsMakingSettled aim source words.k) s
+      → Explains (source_reading aim words) old new (outcome_at file.Netlist s)
+  made_explains source (Refused r) g comes u settled = record {
     given = g;
     is_read = tt;
-    not_long = unmapped_not_long source words.k r u;
-    is = λ files told. mapping refl source (comes files told).has u;
-    settled = λ files told. mapping_settles files words source (comes files told) settled;
+    not_long = unmade_not_long aim source words.k r u;
+    is = λ files told. unmade refl source (comes files told).has u;
+    settled = λ files told. making_settles aim files words source (comes files told) settled;
   }
-  map_explains source Memory g comes u settled = tt
+  made_explains source Memory g comes u settled = tt
 
 -- and so do those of a script
 module _ (name : List ℕ) (names : NamesValue) (old new : ShelfSeen) where

@@ -31,6 +31,10 @@ settled_anyway (Ok x) q = q
 settled_anyway (Err (Refused r)) q = q
 settled_anyway (Err Memory) q = tt
 
+pub stops_anyway : {Q : Type 0} (s : Stop) → Q → Stops (λ _. Q) s
+stops_anyway (Refused r) q = q
+stops_anyway Memory q = tt
+
 -- what follows from an answer
 pub ok_to : {T E : Type 0} (P Q : T → Type 0) (r : Result T E) → ((v : T) → P v → Q v) → IfOk r P → IfOk r Q
 ok_to P Q (Ok v) h p = h v p

@@ -3,6 +3,7 @@ pub mod Words
 pub mod Texts
 pub mod SourceCircuit
 pub mod Mapped
+pub mod Aims
 pub mod Source
 -- of a script and of a pack,
 pub mod Script
@@ -24,3 +25,4 @@ pub mod FileWrites
 pub mod ReadNetlist
 pub mod Drafts
 pub mod Tables
+pub mod Built

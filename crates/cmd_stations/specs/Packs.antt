@@ -13,7 +13,7 @@ use Rattle.run_text.specs.NamesValue.{NamesValue}
 use Rattle.cmd_base.specs.Walk.{Reading}
 use Rattle.cmd_base.specs.Refusals.{most_bytes, too_long}
 use Rattle.cmd_base.specs.declared.outcome.File.{File}
-use Rattle.cmd_base.specs.declared.outcome.File.TheVariants.{Netlist, Params, Script, Pack}
+use Rattle.cmd_base.specs.declared.outcome.File.TheVariants.{Netlist, Params, Script, Pack, Cert}
 use Rattle.cmd_stations.specs.Texts.{HasBytes, IsOverlong}
 
 -- the file of this name is the file of a pack
@@ -42,6 +42,7 @@ IsPackItself Netlist = ⊥
 IsPackItself Params = ⊥
 IsPackItself Script = ⊥
 IsPackItself Pack = Unit {0}
+IsPackItself Cert = ⊥
 
 -- how it is read
 abbrev pub pack_reading : List ℕ → Reading

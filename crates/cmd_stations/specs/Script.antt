@@ -9,7 +9,7 @@ use Rattle.run_text.specs.ScriptText.{IsScript, HasOneReading}
 use Rattle.cmd_base.specs.Walk.{Reading}
 use Rattle.cmd_base.specs.Refusals.{most_bytes, too_long}
 use Rattle.cmd_base.specs.declared.outcome.File.{File}
-use Rattle.cmd_base.specs.declared.outcome.File.TheVariants.{Netlist, Params, Script, Pack}
+use Rattle.cmd_base.specs.declared.outcome.File.TheVariants.{Netlist, Params, Script, Pack, Cert}
 use Rattle.cmd_stations.specs.declared.source.Source.{Source}
 use Rattle.cmd_stations.specs.SourceCircuit.{width_of}
 use Rattle.cmd_stations.specs.Texts.{HasText, IsLongText, IsScriptRefusal}
@@ -43,6 +43,7 @@ IsScriptFile Netlist = ⊥
 IsScriptFile Params = ⊥
 IsScriptFile Script = Unit {0}
 IsScriptFile Pack = ⊥
+IsScriptFile Cert = ⊥
 
 -- how it is read
 abbrev pub script_reading : List ℕ → NamesValue → Reading

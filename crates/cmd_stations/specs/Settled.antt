@@ -4,18 +4,21 @@ use Rattle.tl_fault.specs.RefusalValue.{RefusalValue}
 use Rattle.tl_io.specs.Shelf.{Files}
 use Rattle.aig_core.specs.Aig.{Aig}
 use Rattle.aig_core.specs.Roots.{RootsValue}
+use Rattle.aig_build.specs.NetlistGraph.{HasOneGraph}
+use Rattle.depth_label.specs.Label.{LabelsValue}
 use Rattle.cover_pick.specs.Template.{TemplateValue}
 use Rattle.netlist.specs.Sound.{IsSound}
 use Rattle.param_list.specs.ParamsText.{HasOneReading}
 use Rattle.cmd_base.specs.Walk.{Reading}
 use Rattle.cmd_base.specs.Refusals.{most_bytes}
 use Rattle.cmd_base.specs.declared.outcome.File.{File}
-use Rattle.cmd_base.specs.declared.outcome.File.TheVariants.{Netlist, Params, Script, Pack}
+use Rattle.cmd_base.specs.declared.outcome.File.TheVariants.{Netlist, Params, Script, Pack, Cert}
 use Rattle.cmd_stations.specs.declared.netlist_text.Netlist.{Netlist as NetlistValue}
 use Rattle.cmd_stations.specs.declared.source.Source.{Source}
 use Rattle.cmd_stations.specs.Words.{SourceWords}
 use Rattle.cmd_stations.specs.Texts.{HasText, IsNetlistText, NetlistRefusal}
-use Rattle.cmd_stations.specs.Mapped.{IsChosen, IsUnchosen, IsLeastMapping, IsMapped, IsUnmapped}
+use Rattle.cmd_stations.specs.Mapped.{IsLabelled, IsChosen, IsUnchosen, IsLeastMapping, IsMapped, IsUnmapped}
+use Rattle.cmd_stations.specs.Aims.{Aim, ToGraph, ToLabels, ToTables, IsBuilt, IsUnbuilt, IsUnlabelled}
 use Rattle.cmd_stations.specs.Source.{HasNetlist, HasSource, ReachesSource, IsSourceRefused}
 
 -- a netlist's text
@@ -39,6 +42,23 @@ pub record IsMappingSettled (source : Source) (k : ℕ) : Type 0 where
   pub not_both : (t : TemplateValue) (r : RefusalValue) → IsMapped source k t → IsUnmapped source k r → ⊥
   pub one_refusal : (r s : RefusalValue) → IsUnmapped source k r → IsUnmapped source k s → r ≡ s
 
+-- the graph of a source circuit
+pub record IsBuildingSettled (source : Source) : Type 0 where
+  pub one_graph : HasOneGraph source.netlist.library source.netlist.flat source.params.list
+  pub not_both : (g : Aig) (roots : RootsValue) (r : RefusalValue) → IsBuilt source g roots → IsUnbuilt source r → ⊥
+
+-- the labels of its nodes
+pub record IsLabellingSettled (source : Source) (k : ℕ) : Type 0 where
+  pub building : IsBuildingSettled source
+  pub not_both : (g : Aig) (roots : RootsValue) (rows : List (List (List ℕ))) (labels : LabelsValue) (r : RefusalValue) → IsBuilt source g roots → IsLabelled g k rows labels → IsUnlabelled source k r → ⊥
+  pub one_refusal : (r s : RefusalValue) → IsUnlabelled source k r → IsUnlabelled source k s → r ≡ s
+
+-- what a command makes of a source circuit
+abbrev pub IsMakingSettled : Aim → Source → ℕ → Type 0
+IsMakingSettled ToGraph source k = IsBuildingSettled source
+IsMakingSettled ToLabels source k = IsLabellingSettled source k
+IsMakingSettled ToTables source k = IsMappingSettled source k
+
 -- the netlist that files hold
 abbrev pub IsNetlistSettled : Files → SourceWords → Type 0
 IsNetlistSettled files words = (text : List ℕ) → HasText files words.netlist text → IsTextSettled text
@@ -47,11 +67,11 @@ IsNetlistSettled files words = (text : List ℕ) → HasText files words.netlist
 abbrev pub AreParamsSettled : Files → SourceWords → NetlistValue → Type 0
 AreParamsSettled files words n = (text : List ℕ) → HasText files words.params text → HasOneReading n.flat text
 
--- the source circuit that files hold, mapped, as far as its walk comes
-pub record IsSourceSettled (files : Files) (words : SourceWords) : Type 0 where
+-- the source circuit that files hold, and what is made of it, as far as its walk comes
+pub record IsSourceSettled (aim : Aim) (files : Files) (words : SourceWords) : Type 0 where
   pub netlist : IsNetlistSettled files words
   pub params : (n : NetlistValue) → HasNetlist files words n → AreParamsSettled files words n
-  pub mapping : (source : Source) → HasSource files words source → IsMappingSettled source words.k
+  pub made : (source : Source) → HasSource files words source → IsMakingSettled aim source words.k
 
 -- its files, and the word that names each; it has no script and no pack
 abbrev pub IsOfSource : File → Type 0
@@ -59,20 +79,21 @@ IsOfSource Netlist = Unit {0}
 IsOfSource Params = Unit {0}
 IsOfSource Script = ⊥
 IsOfSource Pack = ⊥
+IsOfSource Cert = ⊥
 
 abbrev pub source_word : SourceWords → File → List ℕ
 source_word words Netlist = words.netlist
 source_word words file = words.params
 
 -- how its files are read
-abbrev pub source_reading : SourceWords → Reading
-source_reading words = record {
+abbrev pub source_reading : Aim → SourceWords → Reading
+source_reading aim words = record {
   HasFiles = λ told files. told ≡ Some files;
   IsRead = IsOfSource;
   word = source_word words;
   last = Params;
   HasGiven = λ file given. given ≤ most_bytes file;
   Reaches = λ files file. ReachesSource files words file;
-  IsRefused = λ files file refusal. IsSourceRefused files words file refusal;
-  IsSettled = λ files. IsSourceSettled files words;
+  IsRefused = λ files file refusal. IsSourceRefused aim files words file refusal;
+  IsSettled = λ files. IsSourceSettled aim files words;
 }

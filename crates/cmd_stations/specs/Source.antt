@@ -1,4 +1,4 @@
--- The source circuit that files hold, mapped: the walk through NETLIST, PARAMS and the mapping.
+-- The source circuit that files hold, and its tables: the walk through NETLIST, PARAMS and what a command makes of them.
 use Rattle.std.specs.Prelude.{◌≡◌, ℕ, List}
 use Rattle.tl_fault.specs.RefusalValue.{RefusalValue}
 use Rattle.tl_io.specs.Shelf.{Files}
@@ -6,15 +6,19 @@ use Rattle.netlist.specs.FlatValue.{FlatValue}
 use Rattle.netlist.specs.Sound.{IsSound}
 use Rattle.param_list.specs.declared.params.Param.{Param}
 use Rattle.param_list.specs.ParamsText.{IsParamsText}
+use Rattle.aig_core.specs.Aig.{Aig}
+use Rattle.aig_core.specs.Roots.{RootsValue}
+use Rattle.depth_label.specs.Label.{LabelsValue}
 use Rattle.cover_pick.specs.Template.{TemplateValue}
 use Rattle.cmd_base.specs.Refusals.{too_long}
 use Rattle.cmd_base.specs.declared.outcome.File.{File}
-use Rattle.cmd_base.specs.declared.outcome.File.TheVariants.{Netlist, Params, Script, Pack}
+use Rattle.cmd_base.specs.declared.outcome.File.TheVariants.{Netlist, Params, Script, Pack, Cert}
 use Rattle.cmd_stations.specs.declared.netlist_text.Netlist.{Netlist as NetlistValue}
 use Rattle.cmd_stations.specs.declared.source.Source.{Source}
 use Rattle.cmd_stations.specs.Words.{SourceWords}
 use Rattle.cmd_stations.specs.Texts.{HasText, IsLongText, IsNetlistText, NetlistRefusal, IsParamsRefusal}
-use Rattle.cmd_stations.specs.Mapped.{IsLeastMapping, IsMapped, IsUnmapped}
+use Rattle.cmd_stations.specs.Mapped.{IsLabelled, IsLeastMapping, IsMapped}
+use Rattle.cmd_stations.specs.Aims.{Aim, IsBuilt, IsUnmade}
 
 -- the netlist that is read
 pub record HasNetlist (files : Files) (words : SourceWords) (n : NetlistValue) : Type 0 where
@@ -33,7 +37,19 @@ pub record HasSource (files : Files) (words : SourceWords) (source : Source) : T
   pub netlist : HasNetlist files words source.netlist
   pub params : HasParams files words source.netlist.flat source.params.list
 
--- the walk comes past the netlist, the list and the mapping
+-- the walk comes past the netlist, the list and the graph
+pub record HasGraph (files : Files) (words : SourceWords) (source : Source) (graph : Aig) (roots : RootsValue) : Type 0 where
+  pub has : HasSource files words source
+  pub built : IsBuilt source graph roots
+
+-- past the labels of the graph's nodes
+pub record HasLabels (files : Files) (words : SourceWords) (source : Source) (graph : Aig) (roots : RootsValue) : Type 0 where
+  pub graph_is : HasGraph files words source graph roots
+  pub rows : List (List (List ℕ))
+  pub labels : LabelsValue
+  pub labelled : IsLabelled graph words.k rows labels
+
+-- past the netlist, the list and the mapping
 pub record HasMapped (files : Files) (words : SourceWords) (source : Source) (template : TemplateValue) : Type 0 where
   pub has : HasSource files words source
   pub mapped : IsMapped source words.k template
@@ -55,11 +71,12 @@ ReachesSource files words Netlist = Unit {0}
 ReachesSource files words Params = (n : NetlistValue) × HasNetlist files words n
 ReachesSource files words Script = (source : Source) × (template : TemplateValue) × HasMapped files words source template
 ReachesSource files words Pack = ⊥
+ReachesSource files words Cert = ⊥
 
--- the first refusal up to the mapping, at a file
-pub data IsSourceRefused (files : Files) (words : SourceWords) (file : File) (refusal : RefusalValue) : Type 0 where
-  long_netlist : file ≡ Netlist → IsLongText files words.netlist → refusal ≡ too_long → IsSourceRefused files words file refusal
-  netlist : file ≡ Netlist → (text : List ℕ) → HasText files words.netlist text → NetlistRefusal text refusal → IsSourceRefused files words file refusal
-  long_params : file ≡ Params → (n : NetlistValue) → HasNetlist files words n → IsLongText files words.params → refusal ≡ too_long → IsSourceRefused files words file refusal
-  params : file ≡ Params → (n : NetlistValue) (text : List ℕ) → HasNetlist files words n → HasText files words.params text → IsParamsRefusal n.flat text refusal → IsSourceRefused files words file refusal
-  mapping : file ≡ Netlist → (source : Source) → HasSource files words source → IsUnmapped source words.k refusal → IsSourceRefused files words file refusal
+-- the first refusal up to what a command makes of a source circuit, at a file
+pub data IsSourceRefused (aim : Aim) (files : Files) (words : SourceWords) (file : File) (refusal : RefusalValue) : Type 0 where
+  long_netlist : file ≡ Netlist → IsLongText files words.netlist → refusal ≡ too_long → IsSourceRefused aim files words file refusal
+  netlist : file ≡ Netlist → (text : List ℕ) → HasText files words.netlist text → NetlistRefusal text refusal → IsSourceRefused aim files words file refusal
+  long_params : file ≡ Params → (n : NetlistValue) → HasNetlist files words n → IsLongText files words.params → refusal ≡ too_long → IsSourceRefused aim files words file refusal
+  params : file ≡ Params → (n : NetlistValue) (text : List ℕ) → HasNetlist files words n → HasText files words.params text → IsParamsRefusal n.flat text refusal → IsSourceRefused aim files words file refusal
+  unmade : file ≡ Netlist → (source : Source) → HasSource files words source → IsUnmade aim source words.k refusal → IsSourceRefused aim files words file refusal

@@ -23,6 +23,7 @@ use Rattle.cmd_stations.specs.Tunable.{IsTunable}
 use Rattle.cmd_stations.specs.ReadNetlist.{IsReadNetlist}
 use Rattle.cmd_stations.specs.Source.{HasNetlist, HasSource, HasMapped}
 use Rattle.cmd_stations.specs.Settled.{IsNetlistSettled, AreParamsSettled, IsSourceSettled}
+use Rattle.cmd_stations.specs.Aims.{ToTables}
 use Rattle.cmd_stations.specs.declared.netlist_text.Netlist.{Netlist as NetlistValue}
 
 -- the template of a source circuit's graph, whose cycles are the source circuit's
@@ -72,4 +73,4 @@ pub record ComesWith (files : Files) (words : SourceWords) (source : Source) : T
 -- and past its mapping
 pub record ComesPast (files : Files) (words : SourceWords) (m : MappedSource) : Type 0 where
   pub has : HasMapped files words m.source m.tables.template
-  pub settled : IsSourceSettled files words
+  pub settled : IsSourceSettled ToTables files words

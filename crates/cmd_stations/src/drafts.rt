@@ -7,6 +7,7 @@ ghost use Rattle.cmd_base.specs.Ends.{Told, Explains};
 ghost use Rattle.cmd_stations.specs.Words.{source_seen};
 ghost use Rattle.cmd_stations.specs.Settled.{source_reading};
 ghost use Rattle.cmd_stations.specs.Tables.{IsReadSource, AreTables, ComesPast};
+ghost use Rattle.cmd_stations.specs.Aims.{ToTables};
 ghost use Rattle.cmd_stations.specs.Drafts.{IsDraft};
 
 use crate::mapped::{MappedSource, read_mapped};
@@ -64,7 +65,7 @@ pub fn read_draft<S: Shelf>(
     ensures tables { IfOk result (λ d. AreTables d.mapped.source words.now.k d.mapped.tables) }
     ensures comes { IfOk result (λ d. Told (S.seen shelf.old).files (λ files. ComesPast files (source_seen words.now) d.mapped)) }
     ensures given { OnOk result ((S.seen shelf.new).given ≤ MOST_BYTES) }
-    ensures err { IfErr result (Explains (source_reading (source_seen words.now)) (S.seen shelf.old) (S.seen shelf.new)) }
+    ensures err { IfErr result (Explains (source_reading ToTables (source_seen words.now)) (S.seen shelf.old) (S.seen shelf.new)) }
     ensures later { (S.seen shelf.old).read_faults ≤ (S.seen shelf.new).read_faults }
     ensures files { (S.seen shelf.new).files ≡ (S.seen shelf.old).files }
     ensures write_faults { (S.seen shelf.new).write_faults ≡ (S.seen shelf.old).write_faults }

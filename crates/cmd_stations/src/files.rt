@@ -25,6 +25,7 @@ fn limit(file: File) -> u64
         File::Params => MOST_TEXT,
         File::Script => MOST_TEXT,
         File::Pack => MOST_PACK,
+        File::Cert => MOST_TEXT,
     }
 }
 

@@ -5,8 +5,8 @@
 //! source circuit that is ready to be written. A *stop* is why a text isn't read, or a source circuit isn't mapped; at a file it
 //! is an outcome.
 //!
-//! - From a netlist to its mapping: `files.rt`, `netlist_text.rt`, `params.rt`, `mapping.rt`, `mapped.rt`, and `words.rt`, the words
-//!   that name them.
+//! - From a netlist to its graph, the graph's labels or its mapping: `files.rt`, `netlist_text.rt`, `params.rt`, `graphs.rt`,
+//!   `labelling.rt`, `mapping.rt`, `mapped.rt`, and `words.rt`, the words that name them.
 //! - What is written of it: `drafts.rt`, `netlist_files.rt`, `pack_files.rt`, and `header.rt`, its line.
 //! - What is played: `packs.rt` and `script.rt`.
 //!
@@ -16,7 +16,9 @@
 
 mod drafts;
 mod files;
+mod graphs;
 mod header;
+mod labelling;
 mod mapped;
 mod mapping;
 mod netlist_files;
@@ -32,7 +34,9 @@ mod words;
 
 pub use drafts::{Draft, read_draft};
 pub use files::read_file;
+pub use graphs::{BuiltSource, read_graph};
 pub use header::put_template_header;
+pub use labelling::{LabelledSource, read_labelled};
 pub use mapped::{MappedSource, read_mapped};
 pub use mapping::map_source;
 pub use netlist_files::{write_specialised, write_template};

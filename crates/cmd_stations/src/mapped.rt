@@ -6,6 +6,7 @@ ghost use Rattle.cut_enum.specs.declared.limits.TheConstants.{MOST_LEAVES};
 ghost use Rattle.cmd_base.specs.Ends.{Told, Explains};
 ghost use Rattle.cmd_stations.specs.Words.{source_seen};
 ghost use Rattle.cmd_stations.specs.Settled.{source_reading};
+ghost use Rattle.cmd_stations.specs.Aims.{ToTables};
 ghost use Rattle.cmd_stations.specs.Tables.{IsReadSource, AreTables, ComesPast};
 
 use crate::mapping::map_source;
@@ -39,7 +40,7 @@ pub fn read_mapped<S: Shelf>(
     ensures tables { IfOk result (λ m. AreTables m.source words.now.k m.tables) }
     ensures comes { IfOk result (λ m. Told (S.seen shelf.old).files (λ files. ComesPast files (source_seen words.now) m)) }
     ensures given { OnOk result ((S.seen shelf.new).given ≤ MOST_BYTES) }
-    ensures err { IfErr result (Explains (source_reading (source_seen words.now)) (S.seen shelf.old) (S.seen shelf.new)) }
+    ensures err { IfErr result (Explains (source_reading ToTables (source_seen words.now)) (S.seen shelf.old) (S.seen shelf.new)) }
     ensures later { (S.seen shelf.old).read_faults ≤ (S.seen shelf.new).read_faults }
     ensures files { (S.seen shelf.new).files ≡ (S.seen shelf.old).files }
     ensures write_faults { (S.seen shelf.new).write_faults ≡ (S.seen shelf.old).write_faults }

@@ -16,10 +16,10 @@ ghost use Rattle.cmd_stations.specs.Mapped.{IsChosen, IsLeastMapping, IsUnchosen
 ghost use Rattle.cmd_stations.specs.Settled.{IsGraphSettled, IsMappingSettled};
 ghost use Rattle.cmd_stations.specs.Tables.{HasTables, IsReadSource, AreMade, AreTables};
 
+use crate::graphs::source_graph;
 use crate::source::Source;
 use crate::stop::Stop;
 use crate::tables::Tables;
-use aig_build::{BuildErr, build};
 use aig_core::{Graph, Roots};
 use bit_fun::functions;
 use cover_pick::{Template, pick};
@@ -79,23 +79,6 @@ fn tabulate(
         pack,
         shape,
     })
-}
-
-// The graph of a source circuit, and its roots.
-fn source_graph(alloc: Global, source: &Source) -> Result<(Graph, Roots), BuildErr>
-    requires read { IsReadSource source.now }
-    ensures graph { IfOk result (λ made. IsGraphOf source.now.netlist.library source.now.netlist.flat source.now.params.list made.0 made.1) }
-    ensures lits { IfOk result (λ made. AreRoots made.0 (roots_of made.1)) }
-    ensures cycles { IfOk result (λ made. HasSourceCycles source.now.netlist.library source.now.netlist.flat source.now.params.list made.0 made.1) }
-    ensures nodes { IfOk result (λ made. length made.0.pairs ≤ MOST_NODES) }
-    ensures normal { IfOk result (λ made. AreNormal (first_and made.0) made.0.pairs) }
-    ensures err { IfErr result (OrMemory refusal_of (λ e. HasTooManyNodes source.now.netlist.library source.now.netlist.flat source.now.params.list)) }
-    ensures one { HasOneGraph source.now.netlist.library source.now.netlist.flat source.now.params.list }
-{
-    let netlist = &source.netlist;
-    let (graph, roots) = build(alloc, &netlist.library, &netlist.flat, &source.params)?;
-    let _count = graph.len();
-    Ok((graph, roots))
 }
 
 /// Maps a source circuit to tables of at most `k` inputs, with the least depth.

@@ -10,6 +10,7 @@ ghost use Rattle.cmd_stations.specs.Words.{source_seen};
 ghost use Rattle.cmd_stations.specs.Texts.{IsParamsRefusal};
 ghost use Rattle.cmd_stations.specs.ReadNetlist.{IsReadNetlist};
 ghost use Rattle.cmd_stations.specs.Source.{HasNetlist, HasParams};
+ghost use Rattle.cmd_stations.specs.Aims.{Aim};
 ghost use Rattle.cmd_stations.specs.Settled.{IsNetlistSettled, AreParamsSettled, source_reading};
 ghost use Rattle.cmd_stations.specs.Tables.{IsReadSource, ComesFrom, ComesWith};
 
@@ -33,7 +34,7 @@ fn read_netlist_file<S: Shelf>(
     ensures netlist { IfOk result (λ n. Told (S.seen shelf.old).files (λ files. HasNetlist files (source_seen words.now) n)) }
     ensures settled { OnOk result (Told (S.seen shelf.old).files (λ files. IsNetlistSettled files (source_seen words.now))) }
     ensures given { OnOk result ((S.seen shelf.new).given ≤ MOST_BYTES) }
-    ensures err { IfErr result (Explains (source_reading (source_seen words.now)) (S.seen shelf.old) (S.seen shelf.new)) }
+    ensures err { IfErr result (λ o. (aim : Aim) → Explains (source_reading aim (source_seen words.now)) (S.seen shelf.old) (S.seen shelf.new) o) }
     ensures later { (S.seen shelf.old).read_faults ≤ (S.seen shelf.new).read_faults }
     ensures files { (S.seen shelf.new).files ≡ (S.seen shelf.old).files }
     ensures write_faults { (S.seen shelf.new).write_faults ≡ (S.seen shelf.old).write_faults }
@@ -78,7 +79,7 @@ fn read_params_file<S: Shelf>(
     ensures are { IfOk result (λ params. AreParameters netlist.now.flat params.list) }
     ensures settled { OnOk result (Told (S.seen shelf.old).files (λ files. AreParamsSettled files (source_seen words.now) netlist.now)) }
     ensures given { OnOk result ((S.seen shelf.new).given ≤ MOST_BYTES) }
-    ensures err { IfErr result (Explains (source_reading (source_seen words.now)) (S.seen shelf.old) (S.seen shelf.new)) }
+    ensures err { IfErr result (λ o. (aim : Aim) → Explains (source_reading aim (source_seen words.now)) (S.seen shelf.old) (S.seen shelf.new) o) }
     ensures later { (S.seen shelf.old).read_faults ≤ (S.seen shelf.new).read_faults }
     ensures files { (S.seen shelf.new).files ≡ (S.seen shelf.old).files }
     ensures write_faults { (S.seen shelf.new).write_faults ≡ (S.seen shelf.old).write_faults }
@@ -106,7 +107,7 @@ pub fn read_source<S: Shelf>(
     ensures read { IfOk result IsReadSource }
     ensures source { IfOk result (λ source. Told (S.seen shelf.old).files (λ files. ComesWith files (source_seen words.now) source)) }
     ensures given { OnOk result ((S.seen shelf.new).given ≤ MOST_BYTES) }
-    ensures err { IfErr result (Explains (source_reading (source_seen words.now)) (S.seen shelf.old) (S.seen shelf.new)) }
+    ensures err { IfErr result (λ o. (aim : Aim) → Explains (source_reading aim (source_seen words.now)) (S.seen shelf.old) (S.seen shelf.new) o) }
     ensures later { (S.seen shelf.old).read_faults ≤ (S.seen shelf.new).read_faults }
     ensures files { (S.seen shelf.new).files ≡ (S.seen shelf.old).files }
     ensures write_faults { (S.seen shelf.new).write_faults ≡ (S.seen shelf.old).write_faults }

@@ -47,6 +47,6 @@ pub fn source_name<'a>(words: &SourceWords<'a>, file: File) -> &'a str
 {
     match file {
         File::Netlist => words.netlist,
-        File::Params | File::Script | File::Pack => words.params,
+        File::Params | File::Script | File::Pack | File::Cert => words.params,
     }
 }

@@ -7,7 +7,7 @@ use Rattle.tl_io.specs.Shelf.{with_file}
 use Rattle.cmd_stations.specs.Words.{SourceWords}
 use Rattle.cmd_base.specs.Outside.{Outside}
 use Rattle.cmd_base.specs.Writing.{FileText, AreWritten, IsCutInFile, IsCutInLine}
-use Rattle.tlut_cli.specs.Commands.{Spec, Map, Bits, Gen, Repack, command_of}
+use Rattle.tlut_cli.specs.Commands.{Spec, Map, Bits, Gen, Repack, Prove, Audit, command_of}
 use Rattle.cmd_run.specs.GenCommand.Verdict.{first_line, last_line}
 
 -- the words K NETLIST PARAMS, for tables of six inputs
@@ -32,6 +32,12 @@ a_multiplier = refl
 
 a_repack : command_of 4 (codes "repack" ∷ codes "m" ∷ codes "n" ∷ []) ≡ Some (Repack (record { old = codes "m"; new = codes "n" }))
 a_repack = refl
+
+a_proof : command_of 4 (codes "prove" ∷ six ++ codes "c" ∷ []) ≡ Some (Prove (record { source = source; cert = codes "c" }))
+a_proof = refl
+
+an_audit : command_of 4 (codes "audit" ∷ six ++ codes "c" ∷ []) ≡ Some (Audit (record { source = source; cert = codes "c" }))
+an_audit = refl
 
 -- and words of no form: one file for both, no digit or too many, too great a seed, a word too many
 one_file_of_map : command_of 4 (codes "map" ∷ six ++ codes "t" ∷ codes "t" ∷ []) ≡ None

@@ -3,7 +3,7 @@ use Rattle.std.specs.Prelude.{ℕ, Bool, nat_eq, List, [], ◌∷◌, ◌++◌, 
 use Rattle.std.specs.List.{starts_with}
 use Rattle.tl_fault.specs.RefusalValue.{RefusalValue}
 use Rattle.tl_fault.specs.declared.refusal.Details.{Details}
-use Rattle.tl_fault.specs.declared.refusal.Details.TheVariants.{Nothing, Line, Named, Located, One, Two, Listed, Node, Width, Bits, Byte}
+use Rattle.tl_fault.specs.declared.refusal.Details.TheVariants.{Nothing, Line, Named, Located, One, Two, Listed, Node, Width, Bits, NodeIn, Byte}
 
 -- the words of the details
 abbrev pub details_words : Details → List (List ℕ)
@@ -17,6 +17,7 @@ details_words (Listed names) = names
 details_words (Node node) = codes "node" ∷ decimal node ∷ []
 details_words (Width number width) = codes "line" ∷ decimal number ∷ codes "width" ∷ decimal width ∷ []
 details_words (Bits number bits) = codes "line" ∷ decimal number ∷ codes "bits" ∷ decimal bits ∷ []
+details_words (NodeIn number node) = codes "line" ∷ decimal number ∷ codes "node" ∷ decimal node ∷ []
 details_words (Byte offset) = codes "byte" ∷ decimal offset ∷ []
 
 -- words, each after a blank

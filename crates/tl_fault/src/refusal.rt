@@ -26,6 +26,8 @@ pub enum Details {
     Width(u32, u32),
     /// A line, and how many configuration bits there are.
     Bits(u32, u32),
+    /// A line, and a node of a graph that stands in it.
+    NodeIn(u32, u32),
     /// The offset of a byte in a file, from 0.
     Byte(u32),
 }

@@ -10,6 +10,7 @@ use Rattle.cmd_stations.specs.Machine.{IsStart, machine_header, HasCome}
 use Rattle.cmd_stations.specs.Packs.{present_bytes, pack_names}
 use Rattle.cmd_stations.specs.Script.{names_of}
 use Rattle.cmd_stations.specs.Settled.{IsSourceSettled}
+use Rattle.cmd_stations.specs.Aims.{ToTables}
 use Rattle.cmd_stations.specs.Source.{HasMapped}
 use Rattle.cmd_stations.proofs.OnceLemmas.{settled_once, template_once}
 use Rattle.cmd_stations.proofs.ReplayLemmas.{file_same, pack_at, mapped_there, script_same, params_same}
@@ -23,7 +24,7 @@ use Rattle.cmd_pack.specs.Bits.Replay.{IsPlayedOn}
 use Rattle.cmd_pack.specs.Bits.Verdict.{pack_header}
 use Rattle.tlut_cli.specs.Replay.{PutTheSameLines, HaveTheSameSource, ReplaysRun}
 
-module _ (files : Files) (written : MapWords) (before after : Outside) (done : HasMap files written (λ texts line. AreWritten texts line before after)) (settled : IsSourceSettled files written.source) where
+module _ (files : Files) (written : MapWords) (before after : Outside) (done : HasMap files written (λ texts line. AreWritten texts line before after)) (settled : IsSourceSettled ToTables files written.source) where
   same_lines : (first others : Files) (run : RunWords) (bits : BitsWords) → HaveTheSameSource files written first run → get others bits.pack ≡ Some (present_bytes done.pack) → get others bits.script ≡ get first run.script
       → (old new other later : Outside) → HasRun first run old new (Ok tt) → IsPlayedOn others bits other later → PutTheSameLines old new other later
   same_lines first others run bits same pack script old new other later r b =

@@ -17,6 +17,7 @@ ghost use Rattle.tlut_cli.specs.FaultLine.{line_of};
 
 use crate::command::{Command, file_name, read_command, report};
 use cmd_base::{File, Outcome, Status};
+use cmd_cert::{audit_job, prove_job};
 use cmd_map::{map_job, spec_job};
 use cmd_pack::{bits_job, repack_job};
 use cmd_run::{gen_job, run_job};
@@ -48,6 +49,8 @@ fn run_command<S: Shelf, O: Sink, P: ConfigPort>(
         Command::Bits(words) => bits_job::<S, O, P>(alloc, words, shelf, out),
         Command::Gen(words) => gen_job(alloc, words, out),
         Command::Repack(words) => repack_job(alloc, words, shelf, out),
+        Command::Prove(words) => prove_job(alloc, words, shelf, out),
+        Command::Audit(words) => audit_job(alloc, words, shelf, out),
     }
 }
 
@@ -114,6 +117,8 @@ fn run_words<'a, S: Shelf, O: Sink, P: ConfigPort>(
 /// - `bits PACK SCRIPT` plays a script of the host on a pack alone.
 /// - `gen N SEED` maps a generated multiplier, and changes its coefficient a hundred times.
 /// - `repack OLD NEW` writes a pack in version 2.
+/// - `prove K NETLIST PARAMS CERT` writes the certificate that no cover is less deep than the mapper's.
+/// - `audit K NETLIST PARAMS CERT` checks a certificate against the netlist.
 ///
 /// The status says how the call ended. On every status but `Done` one line stands on `err`; a failing `err`
 /// changes no status. Want of memory is the one free answer, and comes only before the first byte of `out` and before a file is

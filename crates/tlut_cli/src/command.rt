@@ -2,10 +2,11 @@
 ghost use Rattle.std.specs.Prelude.{◌≡◌, ℕ, map, string_bytes, IfSome};
 ghost use Rattle.std.specs.Option.{option_map};
 ghost use Rattle.cmd_base.specs.FaultLine.{Reports};
-ghost use Rattle.tlut_cli.specs.Commands.{command_of, other_commands, walk_of, command_seen, HasRange};
+ghost use Rattle.tlut_cli.specs.Commands.{command_of, other_commands, cert_commands, walk_of, command_seen, HasRange};
 ghost use Rattle.tlut_cli.specs.FaultLine.{line_of};
 
 use cmd_base::{File, Outcome};
+use cmd_cert::{CertWords, cert_name, read_audit, read_prove};
 use cmd_map::{MapWords, SpecWords, read_map, read_spec};
 use cmd_pack::{BitsWords, RepackWords, bits_name, read_bits, read_repack};
 use cmd_run::{GenWords, RunWords, read_gen, read_run, run_name};
@@ -21,6 +22,22 @@ pub enum Command<'a> {
     Bits(BitsWords<'a>),
     Gen(GenWords),
     Repack(RepackWords<'a>),
+    Prove(CertWords<'a>),
+    Audit(CertWords<'a>),
+}
+
+// The command of words that aren't those of an earlier one.
+fn read_cert_command(words: &[String]) -> Option<Command<'_>>
+    ensures value { option_map (λ c. command_seen c) result ≡ cert_commands (map string_bytes words.now) }
+    ensures range { (ports : ℕ) → IfSome result (HasRange ports) }
+{
+    if let Some(words) = read_prove(words) {
+        return Some(Command::Prove(words));
+    }
+    match read_audit(words) {
+        Some(words) => Some(Command::Audit(words)),
+        None => None,
+    }
 }
 
 // The command of words that aren't those of `run`.
@@ -42,7 +59,7 @@ fn read_other(words: &[String]) -> Option<Command<'_>>
     }
     match read_repack(words) {
         Some(words) => Some(Command::Repack(words)),
-        None => None,
+        None => read_cert_command(words),
     }
 }
 
@@ -68,6 +85,8 @@ pub fn file_name<'a>(command: &Command<'a>, file: File) -> &'a str
         Command::Bits(words) => bits_name(words, file),
         Command::Gen(_) => "gen",
         Command::Repack(words) => words.old,
+        Command::Prove(words) => source_name(&words.source, file),
+        Command::Audit(words) => cert_name(words, file),
     }
 }
 
@@ -85,6 +104,8 @@ pub fn report<E: Sink>(err: &mut E, name: &[u8], outcome: &Outcome)
             b", bits PACK SCRIPT",
             b", gen N SEED",
             b", repack OLD NEW",
+            b", prove K NETLIST PARAMS CERT",
+            b", audit K NETLIST PARAMS CERT",
             b"\n",
         ],
         name,

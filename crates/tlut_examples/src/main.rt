@@ -25,7 +25,7 @@ struct Example {
     taken: &'static [&'static str],
 }
 
-const EXAMPLES: [Example; 10] = [
+const EXAMPLES: [Example; 12] = [
     Example {
         words: "run 2 and2/and2.blif and2/none.par and2/one.scr 0 0",
         printed: "and2/expected.txt",
@@ -74,6 +74,16 @@ const EXAMPLES: [Example; 10] = [
     Example {
         words: "run 4 guard/guard.blif guard/none.par guard/four.scr 0 0",
         printed: "guard/expected.txt",
+        taken: &[],
+    },
+    Example {
+        words: "audit 2 xor/xor.blif xor/none.par xor/two.cert",
+        printed: "xor/expected.txt",
+        taken: &[],
+    },
+    Example {
+        words: "audit 4 fir/fir.blif fir/fir.par fir/depth.cert",
+        printed: "fir/expected_audit.txt",
         taken: &[],
     },
 ];

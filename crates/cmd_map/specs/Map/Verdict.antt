@@ -14,6 +14,7 @@ use Rattle.cmd_stations.specs.Tunable.{IsTunable}
 use Rattle.cmd_stations.specs.Written.{IsTuned, template_of}
 use Rattle.cmd_map.specs.Map.Replay.{ReplaysMachine}
 use Rattle.cmd_map.specs.Map.Words.{MapWords}
+use Rattle.cmd_stations.specs.Aims.{ToTables}
 use Rattle.cmd_stations.specs.Packs.{present_bytes}
 
 -- The source circuit that the files hold was mapped, with the least depth. One file has the netlist of its tables with their bits as inputs; the other is the file, in version 2, of the pack of these bits as functions of the parameters. Read again, the
@@ -31,7 +32,7 @@ pub record HasMap (files : Files) (words : MapWords) (Ends : List FileText → L
 
 abbrev pub map_walk : MapWords → Walk
 map_walk words = record {
-  reading = source_reading words.source;
+  reading = source_reading ToTables words.source;
   IsAccepted = λ files. IsMappedFrom files words.source;
   IsDone = λ files old new. HasMap files words (λ texts line. AreWritten texts line old new);
   IsCutOff = λ files old new. HasMap files words (λ texts line. IsCut texts line old new);

@@ -11,6 +11,7 @@ use Rattle.cmd_stations.specs.declared.source.Source.{Source}
 use Rattle.cmd_stations.specs.Mapped.{template_header}
 use Rattle.cmd_stations.specs.Source.{HasMapped, IsLeastMapped, IsMappedFrom}
 use Rattle.cmd_stations.specs.Settled.{source_reading}
+use Rattle.cmd_stations.specs.Aims.{ToTables}
 use Rattle.cmd_stations.specs.Written.{RunsAs, specialised_of}
 use Rattle.cmd_map.specs.Spec.Words.{SpecWords}
 
@@ -27,7 +28,7 @@ pub record HasSpec (files : Files) (words : SpecWords) (Ends : List FileText →
 
 abbrev pub spec_walk : SpecWords → Walk
 spec_walk words = record {
-  reading = source_reading words.source;
+  reading = source_reading ToTables words.source;
   IsAccepted = λ files. IsMappedFrom files words.source;
   IsDone = λ files old new. HasSpec files words (λ texts line. AreWritten texts line old new);
   IsCutOff = λ files old new. HasSpec files words (λ texts line. IsCut texts line old new);

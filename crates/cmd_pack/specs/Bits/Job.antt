@@ -7,7 +7,7 @@ use Rattle.run_text.specs.EventValue.{EventValue}
 use Rattle.cmd_base.specs.Walk.{Reading}
 use Rattle.cmd_base.specs.Refusals.{most_bytes}
 use Rattle.cmd_base.specs.declared.outcome.File.{File}
-use Rattle.cmd_base.specs.declared.outcome.File.TheVariants.{Netlist, Params, Script, Pack}
+use Rattle.cmd_base.specs.declared.outcome.File.TheVariants.{Netlist, Params, Script, Pack, Cert}
 use Rattle.cmd_stations.specs.Packs.{HasPack, IsPackRefused, IsPackSettled, pack_names}
 use Rattle.cmd_stations.specs.Script.{HasScript, IsScriptRefused, IsScriptSettled}
 use Rattle.cmd_pack.specs.Bits.Words.{BitsWords}
@@ -33,6 +33,7 @@ IsOfBits Netlist = ⊥
 IsOfBits Params = ⊥
 IsOfBits Script = Unit {0}
 IsOfBits Pack = Unit {0}
+IsOfBits Cert = ⊥
 
 abbrev pub bits_word : BitsWords → File → List ℕ
 bits_word words Script = words.script
@@ -44,6 +45,7 @@ ReachesBits files words Netlist = ⊥
 ReachesBits files words Params = ⊥
 ReachesBits files words Script = (pack : PackValue) × HasPack files words.pack pack
 ReachesBits files words Pack = Unit {0}
+ReachesBits files words Cert = ⊥
 
 -- how its files are read
 abbrev pub bits_reading : BitsWords → Reading

@@ -32,6 +32,6 @@ pub fn file_name<'a>(words: &BitsWords<'a>, file: File) -> &'a str
 {
     match file {
         File::Script => words.script,
-        File::Netlist | File::Params | File::Pack => words.pack,
+        File::Netlist | File::Params | File::Pack | File::Cert => words.pack,
     }
 }

@@ -6,12 +6,13 @@ use Rattle.cover_pick.specs.Template.{TemplateValue}
 use Rattle.cmd_base.specs.Walk.{Reading}
 use Rattle.cmd_base.specs.Refusals.{most_bytes}
 use Rattle.cmd_base.specs.declared.outcome.File.{File}
-use Rattle.cmd_base.specs.declared.outcome.File.TheVariants.{Netlist, Params, Script, Pack}
+use Rattle.cmd_base.specs.declared.outcome.File.TheVariants.{Netlist, Params, Script, Pack, Cert}
 use Rattle.cmd_stations.specs.declared.source.Source.{Source}
 use Rattle.cmd_stations.specs.Source.{HasMapped, ReachesSource, IsSourceRefused}
 use Rattle.cmd_stations.specs.Script.{names_of, HasScript, IsScriptRefused, IsScriptSettled}
 use Rattle.cmd_stations.specs.Settled.{source_word, IsSourceSettled}
 use Rattle.cmd_run.specs.Run.Words.{RunWords}
+use Rattle.cmd_stations.specs.Aims.{ToTables}
 use Rattle.cmd_stations.specs.Machine.{Job}
 
 -- the files hold it
@@ -21,12 +22,12 @@ pub record IsJob (files : Files) (words : RunWords) (job : Job) : Type 0 where
 
 -- the first refusal of its walk, at a file: up to the mapping, then the script's
 pub data IsRefused (files : Files) (words : RunWords) (file : File) (refusal : RefusalValue) : Type 0 where
-  source : IsSourceRefused files words.source file refusal → IsRefused files words file refusal
+  source : IsSourceRefused ToTables files words.source file refusal → IsRefused files words file refusal
   script : (source : Source) (template : TemplateValue) → HasMapped files words.source source template → IsScriptRefused files words.script (names_of source template.bits) file refusal → IsRefused files words file refusal
 
 -- each of its files says one thing, or is refused for one reason
 pub record IsSettled (files : Files) (words : RunWords) : Type 0 where
-  pub source : IsSourceSettled files words.source
+  pub source : IsSourceSettled ToTables files words.source
   pub script : (source : Source) (template : TemplateValue) → HasMapped files words.source source template → IsScriptSettled files words.script (names_of source template.bits)
 
 -- its files, and the word that names each; it has no pack
@@ -35,6 +36,7 @@ IsOfRun Netlist = Unit {0}
 IsOfRun Params = Unit {0}
 IsOfRun Script = Unit {0}
 IsOfRun Pack = ⊥
+IsOfRun Cert = ⊥
 
 abbrev pub run_word : RunWords → File → List ℕ
 run_word words Script = words.script

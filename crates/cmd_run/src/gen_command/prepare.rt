@@ -9,6 +9,7 @@ ghost use Rattle.cmd_base.specs.Ends.{Explains};
 ghost use Rattle.cmd_stations.specs.Texts.{HasText};
 ghost use Rattle.cmd_stations.specs.Script.{names_of, HasScript, IsScriptSettled, script_reading};
 ghost use Rattle.cmd_stations.specs.Settled.{source_reading};
+ghost use Rattle.cmd_stations.specs.Aims.{ToTables};
 ghost use Rattle.cmd_stations.specs.Tables.{IsReadSource, AreMade, AreTables, ComesWith, ComesPast};
 ghost use Rattle.cmd_run.specs.Run.Job.{run_reading};
 ghost use Rattle.cmd_run.specs.Run.Ready.{CanPlay, IsReadyFor};
@@ -34,7 +35,7 @@ fn read_case(alloc: Global, netlist_text: &[u8], params_text: &[u8]) -> Result<S
     requires params { length params_text.now ≤ MOST_BYTES }
     ensures read { IfOk result IsReadSource }
     ensures comes { IfOk result (λ source. (files : Files) → HaveSource files netlist_text.now params_text.now → ComesWith files case_words.source source) }
-    ensures err { IfErr result (λ o. (files : Files) → HaveSource files netlist_text.now params_text.now → Explains (source_reading case_words.source) (shelf_of files) (shelf_of files) o) }
+    ensures err { IfErr result (λ o. (files : Files) → HaveSource files netlist_text.now params_text.now → Explains (source_reading ToTables case_words.source) (shelf_of files) (shelf_of files) o) }
 {
     let netlist = match read_netlist(alloc, netlist_text) {
         Ok(netlist) => netlist,
@@ -53,7 +54,7 @@ fn map_case(alloc: Global, netlist_text: &[u8], params_text: &[u8]) -> Result<Ma
     ensures read { IfOk result (λ m. IsReadSource m.source) }
     ensures tables { IfOk result (λ m. AreTables m.source 4 m.tables) }
     ensures comes { IfOk result (λ m. (files : Files) → HaveSource files netlist_text.now params_text.now → ComesPast files case_words.source m) }
-    ensures err { IfErr result (λ o. (files : Files) → HaveSource files netlist_text.now params_text.now → Explains (source_reading case_words.source) (shelf_of files) (shelf_of files) o) }
+    ensures err { IfErr result (λ o. (files : Files) → HaveSource files netlist_text.now params_text.now → Explains (source_reading ToTables case_words.source) (shelf_of files) (shelf_of files) o) }
 {
     let source = match read_case(alloc, netlist_text, params_text) {
         Ok(source) => source,

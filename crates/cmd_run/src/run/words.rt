@@ -92,6 +92,8 @@ pub fn file_name<'a>(words: &RunWords<'a>, file: File) -> &'a str
 {
     match file {
         File::Script => words.script,
-        File::Netlist | File::Params | File::Pack => source_name(&words.source, file),
+        File::Netlist | File::Params | File::Pack | File::Cert => {
+            source_name(&words.source, file)
+        },
     }
 }

@@ -1,21 +1,25 @@
 use Rattle.std.proofs.Common.{sym, subst}
 use Rattle.cmd_stations.specs.Words.{source_seen}
 use Rattle.cmd_base.specs.Ends.{Explains}
+use Rattle.cmd_stations.specs.Aims.{ToTables}
 use Rattle.cmd_stations.specs.Settled.{source_reading}
-use Rattle.cmd_stations.proofs.StationLemmas.{map_explains, mapping_settles}
+use Rattle.cmd_stations.proofs.StationLemmas.{made_explains, making_settles}
 use Rattle.cmd_stations.proofs.mapped.read_mapped.Goals as goal
+
+pub returns-in-Err-clause-err : goal.returns-in-Err-clause-err
+returns-in-Err-clause-err g c = c.in-Err.ensures.err ToTables
 
 pub returns-in-Ok-map_source-clause-comes : goal.returns-in-Ok-map_source-clause-comes
 returns-in-Ok-map_source-clause-comes g c files told =
     let comes = c.in-Ok.ensures.source files told in
     record {
       has = record { has = comes.has; mapped = c.in-Ok-map_source.ensures.tables.mapped };
-      settled = mapping_settles files (source_seen c.args.words.now) c.in-Ok.source comes c.in-Ok-map_source.ensures.settled;
+      settled = making_settles ToTables files (source_seen c.args.words.now) c.in-Ok.source comes c.in-Ok-map_source.ensures.settled;
     }
 
 pub returns-in-Err-map_source-clause-err : goal.returns-in-Err-map_source-clause-err
 returns-in-Err-map_source-clause-err g c =
     let words = source_seen c.args.words.now in
-    subst (λ o. Explains (source_reading words) (g.S.Shelf.seen c.args.shelf.now) (g.S.Shelf.seen c.read_source.new.shelf) o) (sym c.at.ensures)
-    (map_explains words (g.S.Shelf.seen c.args.shelf.now) (g.S.Shelf.seen c.read_source.new.shelf) c.in-Ok.source c.in-Err-map_source.stop c.in-Ok.ensures.given
+    subst (λ o. Explains (source_reading ToTables words) (g.S.Shelf.seen c.args.shelf.now) (g.S.Shelf.seen c.read_source.new.shelf) o) (sym c.at.ensures)
+    (made_explains ToTables words (g.S.Shelf.seen c.args.shelf.now) (g.S.Shelf.seen c.read_source.new.shelf) c.in-Ok.source c.in-Err-map_source.stop c.in-Ok.ensures.given
     c.in-Ok.ensures.source c.in-Err-map_source.ensures.err c.in-Err-map_source.ensures.settled)

@@ -7,12 +7,12 @@ use Rattle.cmd_stations.proofs.StationLemmas.{params_unread, params_explains}
 use Rattle.cmd_stations.proofs.params.read_params_file.Goals as goal
 
 pub returns-in-Err-clause-err : goal.returns-in-Err-clause-err
-returns-in-Err-clause-err g c =
-    params_unread (source_seen c.args.words.now) (g.S.Shelf.seen c.args.shelf.now) (g.S.Shelf.seen c.read_file.new.shelf) c.args.netlist.now c.requires.comes c.in-Err.outcome c.in-Err.ensures.err
+returns-in-Err-clause-err g c aim =
+    params_unread aim (source_seen c.args.words.now) (g.S.Shelf.seen c.args.shelf.now) (g.S.Shelf.seen c.read_file.new.shelf) c.args.netlist.now c.requires.comes c.in-Err.outcome c.in-Err.ensures.err
 
 pub returns-clause-err : goal.returns-clause-err
-returns-clause-err g c =
+returns-clause-err g c aim =
     let words = source_seen c.args.words.now in
-    subst (λ o. Explains (source_reading words) (g.S.Shelf.seen c.args.shelf.now) (g.S.Shelf.seen c.read_file.new.shelf) o) (sym c.at.ensures)
-    (params_explains words (g.S.Shelf.seen c.args.shelf.now) (g.S.Shelf.seen c.read_file.new.shelf) c.args.netlist.now c.requires.comes c.deref.result.now c.in-Err-list_params.stop c.in-Ok.ensures.given
+    subst (λ o. Explains (source_reading aim words) (g.S.Shelf.seen c.args.shelf.now) (g.S.Shelf.seen c.read_file.new.shelf) o) (sym c.at.ensures)
+    (params_explains aim words (g.S.Shelf.seen c.args.shelf.now) (g.S.Shelf.seen c.read_file.new.shelf) c.args.netlist.now c.requires.comes c.deref.result.now c.in-Err-list_params.stop c.in-Ok.ensures.given
     (λ files told. subst (λ text. HasText files words.params text) (sym c.deref.ensures.value) (c.in-Ok.ensures.text files told)) c.in-Err-list_params.ensures.one c.in-Err-list_params.ensures.err)

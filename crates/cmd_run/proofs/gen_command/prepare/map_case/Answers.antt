@@ -1,10 +1,11 @@
 use Rattle.std.proofs.Common.{sym, subst}
 use Rattle.cmd_base.specs.Ends.{Explains}
+use Rattle.cmd_stations.specs.Aims.{ToTables}
 use Rattle.cmd_stations.specs.Settled.{source_reading}
 use Rattle.cmd_run.specs.GenCommand.Case.{case_words}
 use Rattle.cmd_run.specs.GenCommand.Texts.{shelf_of}
 use Rattle.cmd_run.proofs.CaseLemmas.{mapping_stops}
-use Rattle.cmd_stations.proofs.StationLemmas.{mapping_settles}
+use Rattle.cmd_stations.proofs.StationLemmas.{making_settles}
 use Rattle.cmd_run.proofs.gen_command.prepare.map_case.Goals as goal
 
 pub returns-in-Ok-map_source-clause-comes : goal.returns-in-Ok-map_source-clause-comes
@@ -12,10 +13,10 @@ returns-in-Ok-map_source-clause-comes c files have =
     let comes = c.in-Ok.ensures.comes files have in
     record {
       has = record { has = comes.has; mapped = c.in-Ok-map_source.ensures.tables.mapped };
-      settled = mapping_settles files case_words.source c.in-Ok.source comes c.in-Ok-map_source.ensures.settled;
+      settled = making_settles ToTables files case_words.source c.in-Ok.source comes c.in-Ok-map_source.ensures.settled;
     }
 
 pub returns-in-Err-map_source-clause-err : goal.returns-in-Err-map_source-clause-err
 returns-in-Err-map_source-clause-err c files have =
-    subst (λ o. Explains (source_reading case_words.source) (shelf_of files) (shelf_of files) o) (sym c.at.ensures)
+    subst (λ o. Explains (source_reading ToTables case_words.source) (shelf_of files) (shelf_of files) o) (sym c.at.ensures)
     (mapping_stops files c.in-Ok.source c.in-Err-map_source.stop (c.in-Ok.ensures.comes files have) c.in-Err-map_source.ensures.err c.in-Err-map_source.ensures.settled)

@@ -1,5 +1,6 @@
 use Rattle.run_text.specs.EventValue.{event_values}
 use Rattle.cmd_stations.specs.Source.{HasMapped}
+use Rattle.cmd_stations.specs.Aims.{ToTables}
 use Rattle.cmd_stations.specs.Settled.{IsSourceSettled}
 use Rattle.cmd_run.specs.GenCommand.Case.{case_words}
 use Rattle.cmd_run.specs.GenCommand.Texts.{shelf_of}
@@ -17,7 +18,7 @@ returns-in-Err-case_events-clause-err c files have =
     let mapped = c.in-Ok.mapped in
     let past = c.in-Ok.ensures.comes files have.source in
     script_to_run case_words (shelf_of files) (shelf_of files) c.in-Err-case_events.outcome mapped.source mapped.tables.template
-    (told_of files (λ others. HasMapped others case_words.source mapped.source mapped.tables.template × IsSourceSettled others case_words.source) (past.has, past.settled))
+    (told_of files (λ others. HasMapped others case_words.source mapped.source mapped.tables.template × IsSourceSettled ToTables others case_words.source) (past.has, past.settled))
     (c.in-Err-case_events.ensures.err files have.has_script)
 
 pub returns-in-Ok-start_machine-clause-ready : goal.returns-in-Ok-start_machine-clause-ready

@@ -1,0 +1,78 @@
+-- The reading of a source circuit up to its graph is part of that of `audit`; and behind it the certificate is settled.
+use Rattle.std.proofs.Common.{◌≡◌, Option, refl, subst}
+use Rattle.tl_io.specs.Shelf.{Files, ShelfSeen}
+use Rattle.aig_core.specs.Aig.{Aig, first_and, AreNormal}
+use Rattle.aig_core.specs.Roots.{RootsValue, roots_of}
+use Rattle.cert_check.proofs.CheckLemmas.{one_verdict}
+use Rattle.cert_check.proofs.OnceLemmas.{one_reading}
+use Rattle.cmd_base.specs.Ends.{Explains}
+use Rattle.cmd_base.specs.declared.outcome.File.{File}
+use Rattle.cmd_base.specs.declared.outcome.File.TheVariants as file
+use Rattle.cmd_base.specs.declared.outcome.Outcome.{Outcome}
+use Rattle.cmd_base.proofs.EndLemmas.{IsPart, Explains_lift}
+use Rattle.cmd_stations.specs.declared.source.Source.{Source}
+use Rattle.cmd_stations.specs.Aims.{ToGraph, IsBuilt}
+use Rattle.cmd_stations.specs.Source.{HasGraph, ReachesSource}
+use Rattle.cmd_stations.specs.Settled.{IsOfSource, source_word, source_reading, IsSourceSettled}
+use Rattle.cmd_stations.proofs.ClashLemmas.{refused_unmade}
+use Rattle.cmd_stations.proofs.GraphLemmas.{same_graph}
+use Rattle.cmd_stations.proofs.OnceLemmas.{settled_once}
+use Rattle.cmd_cert.specs.Words.{CertWords, cert_word}
+use Rattle.cmd_cert.specs.Audit.{IsOfAudit, ReachesAudit, IsAuditSettled, audit_reading}
+use Rattle.cmd_cert.specs.Audit as audit
+
+module _ (files : Files) (words : CertWords) (settled : IsSourceSettled ToGraph files words.source) where
+  -- files hold one graph
+  pub graph_once : (a b : Source) (g h : Aig) (roots others : RootsValue) → HasGraph files words.source a g roots → HasGraph files words.source b h others → g ≡ h
+  graph_once a b g h roots others x y =
+      let here : IsBuilt b g roots = subst (λ s. IsBuilt s g roots) (settled_once files words.source a b settled x.has y.has) x.built in
+      same_graph b (settled.made b y.has).one_graph g h roots others here.is_graph y.built.is_graph
+
+  -- where that is normal, the certificate is settled
+  pub cert_settles : (b : Source) (g : Aig) (roots : RootsValue) → HasGraph files words.source b g roots → AreNormal (first_and g) g.pairs → IsAuditSettled files words
+  cert_settles b g roots has normal = record {
+    source = settled;
+    cert = λ s h others text is there. record {
+      one_reading = one_reading text;
+      one_verdict = λ cert _. one_verdict h (roots_of others) words.source.k cert (subst (λ (x : Aig). AreNormal (first_and x) x.pairs) (graph_once b s g h roots others has is) normal);
+    };
+  }
+
+-- where no graph is made, nothing comes after it
+unbuilt_settles : (files : Files) (words : CertWords) → IsSourceSettled ToGraph files words.source → ((s : Source) (g : Aig) (roots : RootsValue) → HasGraph files words.source s g roots → ⊥) → IsAuditSettled files words
+unbuilt_settles files words settled none = record { source = settled; cert = λ s g roots text has there. absurd (none s g roots has) }
+
+source_part : (words : CertWords) (told : Option Files) → IsPart (source_reading ToGraph words.source) (audit_reading words) told
+source_part words told = record {
+  read = is_read;
+  word = same_word;
+  given = λ f n h. h;
+  files = λ files told. told;
+  reaches = λ files told f h reached. reaches files f h reached;
+  refused = λ files told f r refused. audit.IsAuditRefused.source refused;
+  settled = λ files told f r settled refused. unbuilt_settles files words settled (λ s g roots has. (settled.made s has.has).not_both g roots r has.built (refused_unmade files words.source settled s f r has.has refused));
+}
+  where
+    is_read : (f : File) → IsOfSource f → IsOfAudit f
+    is_read file.Netlist h = tt
+    is_read file.Params h = tt
+    is_read file.Script h = absurd h
+    is_read file.Pack h = absurd h
+    is_read file.Cert h = absurd h
+
+    same_word : (f : File) → IsOfSource f → source_word words.source f ≡ cert_word words f
+    same_word file.Netlist h = refl
+    same_word file.Params h = refl
+    same_word file.Script h = absurd h
+    same_word file.Pack h = absurd h
+    same_word file.Cert h = absurd h
+
+    reaches : (files : Files) (f : File) → IsOfSource f → ReachesSource files words.source f → ReachesAudit files words f
+    reaches files file.Netlist h reached = reached
+    reaches files file.Params h reached = reached
+    reaches files file.Script h reached = absurd h
+    reaches files file.Pack h reached = absurd h
+    reaches files file.Cert h reached = absurd h
+
+pub source_to_audit : (words : CertWords) (old new : ShelfSeen) (o : Outcome) → Explains (source_reading ToGraph words.source) old new o → Explains (audit_reading words) old new o
+source_to_audit words old new o h = Explains_lift (source_reading ToGraph words.source) (audit_reading words) old new (source_part words old.files) o h

@@ -1,0 +1,4 @@
+mod ProveLemmas
+mod GraphWalkLemmas
+mod CertWalkLemmas
+mod AuditLemmas

@@ -1,0 +1,97 @@
+-- A job of `prove`: a source circuit that is labelled is accepted, and its certificate is the verdict's, whole or cut off.
+use Rattle.std.proofs.Common.{◌≡◌, ◌≤◌, ℕ, List, [], ◌∷◌, Some, refl, sym, ap, ◌∙◌, subst}
+use Rattle.std.specs.Prelude.{string_bytes}
+use Rattle.tl_text.specs.declared.logical_lines.TheConstants.{MOST_BYTES}
+use Rattle.tl_fault.specs.RefusalValue.{RefusalValue}
+use Rattle.tl_io.specs.Port.{PortSeen}
+use Rattle.tl_io.specs.Shelf.{Files, ShelfSeen}
+use Rattle.tl_io.specs.Sink.{SinkSeen}
+use Rattle.aig_core.specs.Roots.{roots_of}
+use Rattle.cut_enum.specs.Covers.{IsLeastDepth}
+use Rattle.cert_check.specs.CertificateValue.{CertificateValue}
+use Rattle.cert_check.specs.WrittenText.{cert_text}
+use Rattle.cert_check.proofs.BareLemmas.{same_valid}
+use Rattle.cert_check.proofs.RoundTrip.{reads_back}
+use Rattle.cmd_base.specs.Outside.{outside}
+use Rattle.cmd_base.specs.Writing.{FileText, AreWritten, IsCut}
+use Rattle.cmd_base.specs.Ends.{Told, IsBegun, IsBegunFrom, Ends}
+use Rattle.cmd_base.specs.WalkLaws.{HasLaws}
+use Rattle.cmd_base.specs.declared.outcome.File.{File}
+use Rattle.cmd_base.specs.declared.outcome.Outcome.TheVariants as outcome
+use Rattle.cmd_stations.specs.declared.labelling.LabelledSource.{LabelledSource}
+use Rattle.cmd_stations.specs.Aims.{ToLabels}
+use Rattle.cmd_stations.specs.Source.{IsSourceRefused}
+use Rattle.cmd_stations.specs.Settled.{IsSourceSettled}
+use Rattle.cmd_stations.specs.Built.{ComesToLabels}
+use Rattle.cmd_stations.proofs.WriteAllLemmas.{cut_cause}
+use Rattle.cmd_stations.proofs.ClashLemmas.{refused_unmade}
+use Rattle.cmd_stations.proofs.RefusedLemmas.{source_refused_once}
+use Rattle.cmd_cert.specs.declared.prove.job.Proof.{Proof}
+use Rattle.cmd_cert.specs.Words.{CertWords}
+use Rattle.cmd_cert.specs.Certs.{proved_line}
+use Rattle.cmd_cert.specs.Proofs.{IsProof}
+use Rattle.cmd_cert.specs.Prove.{HasProof, HasProveJob, prove_walk}
+
+prove_begun : (files : Files) (words : CertWords) (l : LabelledSource) → ComesToLabels files words.source l → IsBegun (prove_walk words) files
+prove_begun files words l past = record { accepted = record { source = l.built.source; graph = l.built.graph; roots = l.built.roots; has = past.has }; settled = past.settled }
+
+module _ (words : CertWords) (p : Proof) (is : IsProof words.source.k p) where
+  abbrev texts : List FileText
+  texts = record { name = words.cert; bytes = cert_text p.cert } ∷ []
+
+  -- a job that came past its labels, and wrote
+  module _ (old mid new : ShelfSeen) (same : (out : SinkSeen) (ports : List PortSeen) → outside mid out ports ≡ outside old out ports) (few : mid.given ≤ MOST_BYTES) (given : new.given ≡ mid.given) (comes : Told old.files (λ files. ComesToLabels files words.source p.labelled))
+      (before after : SinkSeen) (ports : List PortSeen) where
+    begun_from : IsBegunFrom (prove_walk words) old new
+    begun_from = record { given = subst (λ n. n ≤ MOST_BYTES) (sym given) few; begun = λ files told. prove_begun files words p.labelled (comes files told) }
+
+    has_proof : (files : Files) → old.files ≡ Some files → (P : List FileText → List ℕ → Type 0) → P texts (string_bytes p.line) → HasProof files words P
+    has_proof files told P ends =
+        let past = comes files told in
+        let built = p.labelled.built in
+        let netlist = past.has.graph_is.has.netlist in
+        let back = reads_back p.cert is.writable in
+        let depth : p.cert.depth ≡ back.read.depth = ap (λ (c : CertificateValue). c.depth) (sym back.same) in
+        record {
+          source = built.source;
+          graph = built.graph;
+          roots = built.roots;
+          has = past.has.graph_is;
+          sound = (past.settled.netlist netlist.text netlist.there).sound built.source.netlist netlist.is;
+          text = cert_text p.cert;
+          cert = back.read;
+          is_text = back.is;
+          valid = same_valid built.graph (roots_of built.roots) words.source.k p.cert back.read (sym back.same) is.valid;
+          least = subst (λ d. IsLeastDepth built.graph words.source.k (roots_of built.roots) d) depth is.least;
+          ends = subst (λ line. P texts line) (is.line ∙ ap proved_line depth) ends;
+        }
+
+    pub prove_done : AreWritten texts (string_bytes p.line) (outside mid before ports) (outside new after ports) → Ends (prove_walk words) old new (outside old before ports) (outside new after ports) outcome.Done
+    prove_done all = (
+      begun_from,
+      λ files told. has_proof files told (λ ts line. AreWritten ts line (outside old before ports) (outside new after ports))
+          (subst (λ w. AreWritten texts (string_bytes p.line) w (outside new after ports)) (same before ports) all),
+      refl,
+    )
+
+    pub prove_cut : IsCut texts (string_bytes p.line) (outside mid before ports) (outside new after ports) → Ends (prove_walk words) old new (outside old before ports) (outside new after ports) outcome.WriteFault
+    prove_cut part =
+        let cut = subst (λ w. IsCut texts (string_bytes p.line) w (outside new after ports)) (same before ports) part in (
+          begun_from,
+          λ files told. has_proof files told (λ ts line. IsCut ts line (outside old before ports) (outside new after ports)) cut,
+          refl,
+          cut_cause (prove_walk words) texts (string_bytes p.line) (outside old before ports) (outside new after ports) tt cut,
+        )
+
+-- a source circuit that is labelled isn't refused
+labelled_or : (files : Files) (words : CertWords) → IsSourceSettled ToLabels files words.source → (job : HasProveJob files words.source) (f : File) (r : RefusalValue) → IsSourceRefused ToLabels files words.source f r → ⊥
+labelled_or files words settled job f r refused =
+    let has = job.has in
+    (settled.made job.source has.graph_is.has).not_both job.graph job.roots has.rows has.labels r has.graph_is.built has.labelled (refused_unmade files words.source settled job.source f r has.graph_is.has refused)
+
+pub prove_laws : (words : CertWords) → HasLaws (prove_walk words)
+prove_laws words = record {
+  not_both = λ files settled job f r refused. labelled_or files words settled job f r refused;
+  one_refusal = λ files settled f e r s one other. source_refused_once files words.source settled f e r s one other;
+  shows = λ files old new done. tt;
+}

@@ -1,0 +1,8 @@
+use Rattle.std.proofs.Common.{sym, subst}
+use Rattle.cmd_stations.specs.Built.{ComesToLabels}
+use Rattle.cmd_stations.specs.Words.{source_seen}
+use Rattle.cmd_cert.proofs.prove.job.read_proof.Goals as goal
+
+pub returns-in-Ok-make_proof-clause-comes : goal.returns-in-Ok-make_proof-clause-comes
+returns-in-Ok-make_proof-clause-comes g c files told =
+    subst (λ l. ComesToLabels files (source_seen c.args.words.now.source) l) (sym c.in-Ok-make_proof.ensures.labelled) (c.in-Ok.ensures.comes files told)

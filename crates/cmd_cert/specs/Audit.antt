@@ -1,0 +1,98 @@
+-- The walk of `audit`: the graph of a source circuit is made, and a certificate is checked against it.
+use Rattle.std.specs.Prelude.{◌≡◌, ◌≤◌, ℕ, List, [], Some}
+use Rattle.tl_fault.specs.RefusalValue.{RefusalValue}
+use Rattle.tl_io.specs.Shelf.{Files}
+use Rattle.aig_core.specs.Aig.{Aig}
+use Rattle.aig_core.specs.Roots.{RootsValue, roots_of}
+use Rattle.netlist.specs.Sound.{IsSound}
+use Rattle.cert_check.specs.CertificateValue.{CertificateValue}
+use Rattle.cert_check.specs.Valid.{IsValid}
+use Rattle.cert_check.specs.LowerBound.{IsLowerBound}
+use Rattle.cmd_base.specs.Walk.{Reading, Walk}
+use Rattle.cmd_base.specs.Writing.{AreWritten, IsCutInLine}
+use Rattle.cmd_base.specs.Refusals.{most_bytes, too_long}
+use Rattle.cmd_base.specs.declared.outcome.File.{File}
+use Rattle.cmd_base.specs.declared.outcome.File.TheVariants.{Netlist, Params, Script, Pack, Cert}
+use Rattle.cmd_stations.specs.declared.source.Source.{Source}
+use Rattle.cmd_stations.specs.Texts.{HasText, IsLongText}
+use Rattle.cmd_stations.specs.Aims.{ToGraph}
+use Rattle.cmd_stations.specs.Source.{HasGraph, IsSourceRefused, ReachesSource}
+use Rattle.cmd_stations.specs.Settled.{IsSourceSettled}
+use Rattle.cmd_cert.specs.Words.{CertWords, cert_word}
+use Rattle.cmd_cert.specs.Certs.{HasCert, IsCertRefusal, IsCertSettled, audited_line}
+
+-- the files hold a certificate that is valid for the graph of their source circuit
+pub record IsAudit (files : Files) (words : CertWords) (source : Source) (graph : Aig) (roots : RootsValue) (cert : CertificateValue) : Type 0 where
+  pub has : HasGraph files words.source source graph roots
+  pub has_cert : HasCert files words.cert cert
+  pub valid : IsValid graph (roots_of roots) words.source.k cert
+
+-- so no cover of the graph is less deep than the certificate says, and its depth is told
+pub record HasAudit (files : Files) (words : CertWords) (Ends : List ℕ → Type 0) : Type 0 where
+  pub source : Source
+  pub graph : Aig
+  pub roots : RootsValue
+  pub cert : CertificateValue
+  pub audit : IsAudit files words source graph roots cert
+  pub sound : IsSound source.netlist.library
+  pub least : IsLowerBound graph words.source.k (roots_of roots) cert.depth
+  pub ends : Ends (audited_line cert.depth)
+
+-- an accepted job
+pub record HasAuditJob (files : Files) (words : CertWords) : Type 0 where
+  pub source : Source
+  pub graph : Aig
+  pub roots : RootsValue
+  pub cert : CertificateValue
+  pub audit : IsAudit files words source graph roots cert
+
+-- the first refusal, at a file: the source circuit's up to its graph, then the certificate's
+pub data IsAuditRefused (files : Files) (words : CertWords) (file : File) (refusal : RefusalValue) : Type 0 where
+  source : IsSourceRefused ToGraph files words.source file refusal → IsAuditRefused files words file refusal
+  long_cert : file ≡ Cert → (source : Source) (graph : Aig) (roots : RootsValue) → HasGraph files words.source source graph roots → IsLongText files words.cert → refusal ≡ too_long → IsAuditRefused files words file refusal
+  cert : file ≡ Cert → (source : Source) (graph : Aig) (roots : RootsValue) (text : List ℕ) → HasGraph files words.source source graph roots → HasText files words.cert text
+      → IsCertRefusal graph roots words.source.k text refusal → IsAuditRefused files words file refusal
+
+-- each of its files says one thing, or is refused for one reason
+pub record IsAuditSettled (files : Files) (words : CertWords) : Type 0 where
+  pub source : IsSourceSettled ToGraph files words.source
+  pub cert : (source : Source) (graph : Aig) (roots : RootsValue) (text : List ℕ) → HasGraph files words.source source graph roots → HasText files words.cert text → IsCertSettled graph roots words.source.k text
+
+-- its files
+abbrev pub IsOfAudit : File → Type 0
+IsOfAudit Netlist = Unit {0}
+IsOfAudit Params = Unit {0}
+IsOfAudit Script = ⊥
+IsOfAudit Pack = ⊥
+IsOfAudit Cert = Unit {0}
+
+-- the walk comes to a file
+abbrev pub ReachesAudit : Files → CertWords → File → Type 0
+ReachesAudit files words Cert = (source : Source) × (graph : Aig) × (roots : RootsValue) × HasGraph files words.source source graph roots
+ReachesAudit files words file = ReachesSource files words.source file
+
+-- how they are read
+abbrev pub audit_reading : CertWords → Reading
+audit_reading words = record {
+  HasFiles = λ told files. told ≡ Some files;
+  IsRead = IsOfAudit;
+  word = cert_word words;
+  last = Cert;
+  HasGiven = λ file given. given ≤ most_bytes file;
+  Reaches = λ files file. ReachesAudit files words file;
+  IsRefused = λ files file refusal. IsAuditRefused files words file refusal;
+  IsSettled = λ files. IsAuditSettled files words;
+}
+
+abbrev pub audit_walk : CertWords → Walk
+audit_walk words = record {
+  reading = audit_reading words;
+  IsAccepted = λ files. HasAuditJob files words;
+  IsDone = λ files old new. HasAudit files words (λ line. AreWritten [] line old new);
+  IsCutOff = λ files old new. HasAudit files words (λ line. IsCutInLine [] line old new);
+  IsLost = λ files old new. ⊥;
+  Shows = λ files old new. Unit {0};
+  WritesFiles = ⊥;
+  KeepsPorts = λ old new. new.ports ≡ old.ports;
+  HasPortFault = λ old new. ⊥;
+}

@@ -1,0 +1,42 @@
+-- What a certificate's file says, and what it is refused for.
+use Rattle.std.specs.Prelude.{◌≡◌, ℕ, List, [], ◌∷◌, Some, codes, decimal}
+use Rattle.std.specs.List.{concat}
+use Rattle.tl_fault.specs.RefusalValue.{RefusalValue}
+use Rattle.tl_io.specs.Shelf.{Files}
+use Rattle.aig_core.specs.Aig.{Aig}
+use Rattle.aig_core.specs.Roots.{RootsValue, roots_of}
+use Rattle.cert_check.specs.CertificateValue.{CertificateValue}
+use Rattle.cert_check.specs.CertText.{IsCertText, IsCertTextFault, HasOneReading}
+use Rattle.cert_check.specs.Faults.{IsFault, HasOneVerdict}
+use Rattle.cert_check.specs.Refusals.{refusal_of}
+use Rattle.cert_check.specs.declared.cert_err.CertErr.{CertErr}
+use Rattle.cmd_stations.specs.Texts.{HasText}
+
+-- the certificate that a file has
+pub record HasCert (files : Files) (name : List ℕ) (cert : CertificateValue) : Type 0 where
+  pub text : List ℕ
+  pub there : HasText files name text
+  pub is : IsCertText text cert
+
+-- a text has a fault as a certificate of a graph and its roots: its lines', else the certificate's first one
+pub data IsCertFault (g : Aig) (roots : RootsValue) (k : ℕ) (text : List ℕ) (e : CertErr) : Type 0 where
+  malformed : IsCertTextFault text e → IsCertFault g roots k text e
+  invalid : (cert : CertificateValue) → IsCertText text cert → IsFault g (roots_of roots) k cert e → IsCertFault g roots k text e
+
+-- and is refused for it
+pub record IsCertRefusal (g : Aig) (roots : RootsValue) (k : ℕ) (text : List ℕ) (refusal : RefusalValue) : Type 0 where
+  pub e : CertErr
+  pub fault : IsCertFault g roots k text e
+  pub tells : refusal_of e ≡ Some refusal
+
+-- a text is one certificate, which is valid or has one fault, or it is refused for one reason
+pub record IsCertSettled (g : Aig) (roots : RootsValue) (k : ℕ) (text : List ℕ) : Type 0 where
+  pub one_reading : HasOneReading text
+  pub one_verdict : (cert : CertificateValue) → IsCertText text cert → HasOneVerdict g (roots_of roots) k cert
+
+-- the line that `prove` prints, and that of `audit`
+abbrev pub proved_line : ℕ → List ℕ
+proved_line depth = concat (codes "depth " ∷ decimal depth ∷ codes "\n" ∷ [])
+
+abbrev pub audited_line : ℕ → List ℕ
+audited_line depth = concat (codes "depth at least " ∷ decimal depth ∷ codes "\n" ∷ [])

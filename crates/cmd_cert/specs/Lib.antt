@@ -1,0 +1,10 @@
+-- What public clauses say: of the words of both commands,
+pub mod Words
+-- of a certificate's file,
+pub mod Certs
+-- and of each walk.
+pub mod Prove
+pub mod Audit
+-- What only bodies are compared with.
+pub mod Ended
+pub mod Proofs

@@ -1,0 +1,121 @@
+//! The command `prove`.
+ghost use Rattle.std.specs.Prelude.{◌≡◌, ◌≤◌, List, [], ◌∷◌, false, string_bytes, IfOk, IfErr, OnOk};
+ghost use Rattle.tl_text.specs.declared.logical_lines.TheConstants.{MOST_BYTES};
+ghost use Rattle.tl_io.specs.Port.{PortSeen};
+ghost use Rattle.aig_core.specs.Roots.{roots_of};
+ghost use Rattle.cut_enum.specs.Covers.{IsLeastDepth};
+ghost use Rattle.cert_check.specs.Valid.{IsValid};
+ghost use Rattle.cert_check.specs.WrittenText.{IsWritable, cert_text};
+ghost use Rattle.cmd_base.specs.Outside.{outside};
+ghost use Rattle.cmd_base.specs.Ends.{Ends, Explains, Told};
+ghost use Rattle.cmd_base.specs.WalkLaws.{HasLaws};
+ghost use Rattle.cmd_stations.specs.Words.{IsTableSize};
+ghost use Rattle.cmd_stations.specs.Aims.{ToLabels};
+ghost use Rattle.cmd_stations.specs.Settled.{source_reading};
+ghost use Rattle.cmd_stations.specs.Built.{IsLabelledSource, ComesToLabels};
+ghost use Rattle.cmd_stations.specs.FileWrites.{WritesAll};
+ghost use Rattle.cmd_cert.specs.Words.{cert_seen};
+ghost use Rattle.cmd_cert.specs.Certs as told;
+ghost use Rattle.cmd_cert.specs.Prove.{prove_walk};
+ghost use Rattle.cmd_cert.specs.Proofs.{IsProof};
+
+use crate::certs::write_cert;
+use crate::lines::{proved_line, put_line};
+use crate::words::CertWords;
+use cert_check::Certificate;
+use cmd_base::Outcome;
+use cmd_stations::{LabelledSource, read_labelled};
+use flow_cert::certify;
+use std::alloc::{AllocError, Global};
+use tl_io::{Failed, Shelf, Sink};
+
+/// A labelled source circuit, the certificate of its least depth, and the line that tells it.
+#[derive(Drop)]
+pub struct Proof {
+    pub labelled: LabelledSource,
+    pub cert: Certificate,
+    pub line: String,
+}
+
+// The certificate of a labelled source circuit, and its line.
+fn make_proof(alloc: Global, labelled: LabelledSource, k: u8) -> Result<Proof, AllocError>
+    requires size { IsTableSize k }
+    requires labelled { IsLabelledSource k labelled }
+    ensures labelled { IfOk result (λ p. p.labelled ≡ labelled) }
+    ensures proof { IfOk result (IsProof k) }
+{
+    let built = &labelled.built;
+    let cert = certify(
+        alloc,
+        &built.graph,
+        &built.roots,
+        &labelled.table,
+        &labelled.labels,
+        k,
+    )?;
+    let line = proved_line(alloc, cert.depth)?;
+    Ok(Proof {
+        labelled,
+        cert,
+        line,
+    })
+}
+
+// Reads a source circuit, and makes its certificate.
+fn read_proof<S: Shelf>(alloc: Global, words: &CertWords, shelf: &mut S) -> Result<Proof, Outcome>
+    requires { IsTableSize words.now.source.k }
+    ensures proof { IfOk result (IsProof words.now.source.k) }
+    ensures comes { IfOk result (λ p. Told (S.seen shelf.old).files (λ files. ComesToLabels files (cert_seen words.now).source p.labelled)) }
+    ensures given { OnOk result ((S.seen shelf.new).given ≤ MOST_BYTES) }
+    ensures err { IfErr result (Explains (source_reading ToLabels (cert_seen words.now).source) (S.seen shelf.old) (S.seen shelf.new)) }
+    ensures later { (S.seen shelf.old).read_faults ≤ (S.seen shelf.new).read_faults }
+    ensures files { (S.seen shelf.new).files ≡ (S.seen shelf.old).files }
+    ensures write_faults { (S.seen shelf.new).write_faults ≡ (S.seen shelf.old).write_faults }
+    ensures not_writing { (S.seen shelf.new).is_writing ≡ false }
+{
+    let labelled = match read_labelled(alloc, &words.source, shelf) {
+        Ok(labelled) => labelled,
+        Err(outcome) => return Err(outcome),
+    };
+    match make_proof(alloc, labelled, words.source.k) {
+        Ok(proof) => Ok(proof),
+        Err(_) => Err(Outcome::Memory),
+    }
+}
+
+// Writes the certificate, and puts the line.
+fn write_out<S: Shelf, O: Sink>(
+    proof: &Proof,
+    name: &str,
+    shelf: &mut S,
+    out: &mut O,
+) -> Result<(), Failed>
+    ensures ends { (ports : List PortSeen) → WritesAll (record { name = name.now; bytes = cert_text proof.now.cert } ∷ []) (string_bytes proof.now.line) (outside (S.seen shelf.old) (O.seen out.old) ports) (outside (S.seen shelf.new) (O.seen out.new) ports) result }
+    ensures given { (S.seen shelf.new).given ≡ (S.seen shelf.old).given }
+{
+    match write_cert(&proof.cert, name, shelf) {
+        Ok(()) => put_line(proof.line.as_str(), out),
+        Err(failed) => Err(failed),
+    }
+}
+
+/// Runs the command: labels a source circuit, and writes the certificate of its least depth.
+pub fn prove_job<S: Shelf, O: Sink>(
+    alloc: Global,
+    words: &CertWords,
+    shelf: &mut S,
+    out: &mut O,
+) -> Outcome
+    requires { IsTableSize words.now.source.k }
+    ensures ends { (ports : List PortSeen) → Ends (prove_walk (cert_seen words.now)) (S.seen shelf.old) (S.seen shelf.new) (outside (S.seen shelf.old) (O.seen out.old) ports) (outside (S.seen shelf.new) (O.seen out.new) ports) result }
+    ensures laws { HasLaws (prove_walk (cert_seen words.now)) }
+{
+    let proof = match read_proof(alloc, words, shelf) {
+        Ok(proof) => proof,
+        Err(outcome) => return outcome,
+    };
+    match write_out(&proof, words.cert, shelf, out) {
+        Ok(()) => Outcome::Done,
+        Err(_) => Outcome::WriteFault,
+    }
+}

@@ -1,0 +1,57 @@
+//! The words of `prove` and `audit`.
+ghost use Rattle.std.specs.Prelude.{◌≡◌, map, string_bytes, codes, IfSome};
+ghost use Rattle.std.specs.Option.{option_map};
+ghost use Rattle.cmd_stations.specs.Words.{IsTableSize};
+ghost use Rattle.cmd_cert.specs.Words.{cert_words_of, cert_seen, cert_word};
+
+use cmd_base::File;
+use cmd_stations::{SourceWords, read_source_words, source_name};
+
+/// The source circuit, and the word that names the certificate's file.
+#[derive(Clone, Copy)]
+pub struct CertWords<'a> {
+    pub source: SourceWords<'a>,
+    pub cert: &'a str,
+}
+
+// The words of a command with this name.
+fn read_words<'a>(name: &str, words: &'a [String]) -> Option<CertWords<'a>>
+    ensures value { option_map (λ w. cert_seen w) result ≡ cert_words_of name.now (map string_bytes words.now) }
+    ensures range { IfSome result (λ w. IsTableSize w.source.k) }
+{
+    match words {
+        [command, k, netlist, params, cert] if command.as_str() == name => Some(CertWords {
+            source: read_source_words(k.as_str(), netlist.as_str(), params.as_str())?,
+            cert: cert.as_str(),
+        }),
+        _ => None,
+    }
+}
+
+/// The words `prove K NETLIST PARAMS CERT`; `None` exactly where they aren't of this form.
+pub fn read_prove(words: &[String]) -> Option<CertWords<'_>>
+    ensures value { option_map (λ w. cert_seen w) result ≡ cert_words_of (codes "prove") (map string_bytes words.now) }
+    ensures range { IfSome result (λ w. IsTableSize w.source.k) }
+{
+    read_words("prove", words)
+}
+
+/// The words `audit K NETLIST PARAMS CERT`; `None` exactly where they aren't of this form.
+pub fn read_audit(words: &[String]) -> Option<CertWords<'_>>
+    ensures value { option_map (λ w. cert_seen w) result ≡ cert_words_of (codes "audit") (map string_bytes words.now) }
+    ensures range { IfSome result (λ w. IsTableSize w.source.k) }
+{
+    read_words("audit", words)
+}
+
+/// The word that names a file.
+pub fn cert_name<'a>(words: &CertWords<'a>, file: File) -> &'a str
+    ensures { result.now ≡ cert_word (cert_seen words.now) file }
+{
+    match file {
+        File::Cert => words.cert,
+        File::Netlist | File::Params | File::Script | File::Pack => {
+            source_name(&words.source, file)
+        }
+    }
+}

@@ -1,0 +1,97 @@
+//! The graph of a source circuit.
+ghost use Rattle.std.specs.Prelude.{◌≡◌, ◌≤◌, false, length, IfOk, IfErr, OnOk};
+ghost use Rattle.tl_fault.specs.OrMemory.{OrMemory};
+ghost use Rattle.tl_text.specs.declared.logical_lines.TheConstants.{MOST_BYTES};
+ghost use Rattle.aig_core.specs.Aig.{first_and, AreNormal};
+ghost use Rattle.aig_core.specs.Roots.{AreRoots, roots_of};
+ghost use Rattle.aig_build.specs.declared.TheConstants.{MOST_NODES};
+ghost use Rattle.aig_build.specs.NetlistGraph.{IsGraphOf, HasTooManyNodes, HasOneGraph};
+ghost use Rattle.aig_build.specs.NetlistCycle.{HasSourceCycles};
+ghost use Rattle.aig_build.specs.Refusals.{refusal_of};
+ghost use Rattle.cmd_base.specs.Ends.{Told, Explains};
+ghost use Rattle.cmd_stations.specs.Words.{source_seen};
+ghost use Rattle.cmd_stations.specs.Stops.{Stops};
+ghost use Rattle.cmd_stations.specs.Aims.{ToGraph, IsBuilt, IsUnbuilt};
+ghost use Rattle.cmd_stations.specs.Settled.{IsBuildingSettled, source_reading};
+ghost use Rattle.cmd_stations.specs.Tables.{IsReadSource};
+ghost use Rattle.cmd_stations.specs.Built.{IsBuiltSource, ComesToGraph};
+
+use crate::params::read_source;
+use crate::source::Source;
+use crate::stop::Stop;
+use crate::words::SourceWords;
+use aig_build::{BuildErr, build};
+use aig_core::{Graph, Roots};
+use cmd_base::{File, Outcome};
+use std::alloc::Global;
+use tl_io::Shelf;
+
+/// A source circuit with its graph, and the graph's roots.
+#[derive(Drop)]
+pub struct BuiltSource {
+    pub source: Source,
+    pub graph: Graph,
+    pub roots: Roots,
+}
+
+// The graph of a source circuit, and its roots.
+pub(crate) fn source_graph(alloc: Global, source: &Source) -> Result<(Graph, Roots), BuildErr>
+    requires read { IsReadSource source.now }
+    ensures graph { IfOk result (λ made. IsGraphOf source.now.netlist.library source.now.netlist.flat source.now.params.list made.0 made.1) }
+    ensures lits { IfOk result (λ made. AreRoots made.0 (roots_of made.1)) }
+    ensures cycles { IfOk result (λ made. HasSourceCycles source.now.netlist.library source.now.netlist.flat source.now.params.list made.0 made.1) }
+    ensures nodes { IfOk result (λ made. length made.0.pairs ≤ MOST_NODES) }
+    ensures normal { IfOk result (λ made. AreNormal (first_and made.0) made.0.pairs) }
+    ensures err { IfErr result (OrMemory refusal_of (λ e. HasTooManyNodes source.now.netlist.library source.now.netlist.flat source.now.params.list)) }
+    ensures one { HasOneGraph source.now.netlist.library source.now.netlist.flat source.now.params.list }
+{
+    let netlist = &source.netlist;
+    let (graph, roots) = build(alloc, &netlist.library, &netlist.flat, &source.params)?;
+    let _count = graph.len();
+    Ok((graph, roots))
+}
+
+// The graph of a source circuit, and its roots, or why there is none.
+fn build_source(alloc: Global, source: &Source) -> Result<(Graph, Roots), Stop>
+    requires read { IsReadSource source.now }
+    ensures built { IfOk result (λ made. IsBuilt source.now made.0 made.1) }
+    ensures lits { IfOk result (λ made. AreRoots made.0 (roots_of made.1)) }
+    ensures normal { IfOk result (λ made. AreNormal (first_and made.0) made.0.pairs) }
+    ensures err { IfErr result (Stops (IsUnbuilt source.now)) }
+    ensures settled { IsBuildingSettled source.now }
+{
+    let made = source_graph(alloc, source)?;
+    Ok(made)
+}
+
+/// Reads a source circuit, and makes its graph.
+///
+/// # Errors
+/// The outcome of a command whose walk ends there.
+pub fn read_graph<S: Shelf>(
+    alloc: Global,
+    words: &SourceWords,
+    shelf: &mut S,
+) -> Result<BuiltSource, Outcome>
+    ensures built { IfOk result IsBuiltSource }
+    ensures comes { IfOk result (λ b. Told (S.seen shelf.old).files (λ files. ComesToGraph files (source_seen words.now) b)) }
+    ensures given { OnOk result ((S.seen shelf.new).given ≤ MOST_BYTES) }
+    ensures err { IfErr result (Explains (source_reading ToGraph (source_seen words.now)) (S.seen shelf.old) (S.seen shelf.new)) }
+    ensures later { (S.seen shelf.old).read_faults ≤ (S.seen shelf.new).read_faults }
+    ensures files { (S.seen shelf.new).files ≡ (S.seen shelf.old).files }
+    ensures write_faults { (S.seen shelf.new).write_faults ≡ (S.seen shelf.old).write_faults }
+    ensures not_writing { (S.seen shelf.new).is_writing ≡ false }
+{
+    let source = match read_source(alloc, words, shelf) {
+        Ok(source) => source,
+        Err(outcome) => return Err(outcome),
+    };
+    match build_source(alloc, &source) {
+        Ok((graph, roots)) => Ok(BuiltSource {
+            source,
+            graph,
+            roots,
+        }),
+        Err(stop) => Err(stop.at(File::Netlist)),
+    }
+}

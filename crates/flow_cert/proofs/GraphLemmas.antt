@@ -1,0 +1,119 @@
+-- Fan-ins of a graph.
+use Rattle.std.proofs.Common.{◌≡◌, ℕ, ◌-◌, ◌/◌, ◌<◌, ◌≤◌, List, [], ◌∷◌, ◌++◌, length, get_or, Some, refl, sym, ◌∙◌, ap, subst, inl, inr, ◌⊎◌, arith}
+use Rattle.std.proofs.lemmas.Option.{slice_get_within, slice_get-get_or}
+use Rattle.std.proofs.lemmas.Bool.{cases_eq, cases_lt}
+use Rattle.std.specs.List.{slice_get}
+use Rattle.aig_core.specs.Aig.{Aig, first_and, node_count, IsAnd, IsNode, IsNormal, IsSource, AreNormal}
+use Rattle.aig_core.specs.declared.lit.Kind.{Kind}
+use Rattle.aig_core.specs.declared.lit.Kind.TheVariants.{Regular, Parameter}
+use Rattle.aig_core.specs.declared.lit.Pair.{Pair}
+use Rattle.aig_core.proofs.NodeLemmas.{source_below, node_normal, same_pair}
+use Rattle.list_laws.specs.Members.{In}
+use Rattle.cut_enum.specs.Cuts.{Blocks, member, constant, parameter, fan_ins, CanBeLeaf}
+use Rattle.cert_check.specs.Paths.{IsFanIn, first, second, Climbs, IsPath}
+
+-- a node with a pair is an AND node
+node_and : (g : Aig) (p : Pair) (n : ℕ) → IsNode g p n → IsAnd g n
+node_and g p n is = let l : n - first_and g < length g.pairs = slice_get_within g.pairs (n - first_and g) p is.is in let a : first_and g ≤ n = is.above in (a, omega arith)
+
+pub reader_and : (g : Aig) (m n : ℕ) → IsFanIn g m n → IsAnd g n
+reader_and g m n (first p is e) = node_and g p n is
+reader_and g m n (second p is e) = node_and g p n is
+
+pub fan_in_below : (g : Aig) (m n : ℕ) → AreNormal (first_and g) g.pairs → IsFanIn g m n → m < n
+fan_in_below g m n normal (first p is e) = let k : IsNormal n p = node_normal g n p normal is in let a : p.y.0 / 2 < n = k.below in let b : p.x.0 / 2 < p.y.0 / 2 = k.ordered in omega arith
+fan_in_below g m n normal (second p is e) = let k : IsNormal n p = node_normal g n p normal is in let a : p.y.0 / 2 < n = k.below in omega arith
+
+-- a fan-in is one of the pair
+pub fan_in_of : (g : Aig) (m n : ℕ) (p : Pair) → IsNode g p n → IsFanIn g m n → (m ≡ p.x.0 / 2) ⊎ (m ≡ p.y.0 / 2)
+fan_in_of g m n p is (first q at e) = inl (e ∙ ap (λ (r : Pair). r.x.0 / 2) (same_pair g q p n at is))
+fan_in_of g m n p is (second q at e) = inr (e ∙ ap (λ (r : Pair). r.y.0 / 2) (same_pair g q p n at is))
+
+-- an AND node has a pair
+and_pair : (g : Aig) (n : ℕ) → IsAnd g n → (p : Pair) × IsNode g p n
+and_pair g n and =
+    let d : Pair = record { x = record { 0 = 0 }; y = record { 0 = 0 } } in
+    let a : first_and g ≤ n = and.0 in
+    let b : n < node_count g = and.1 in
+    (get_or g.pairs (n - first_and g) d, record { above = a; is = slice_get-get_or g.pairs (n - first_and g) d (omega arith) })
+
+source_kind : (g : Aig) (c : List ℕ) (m : ℕ) (kind : Kind) → 1 ≤ m → slice_get g.kinds (m - 1) ≡ Some kind → Blocks g c m ⊎ CanBeLeaf g m
+source_kind g c m Regular a e = inr (inl (record { above = a; is = e }))
+source_kind g c m Parameter a e = inl (parameter (record { above = a; is = e }))
+
+-- a node costs nothing or can be a leaf
+pub free_or_leaf : (g : Aig) (c : List ℕ) (m : ℕ) → m < node_count g → Blocks g c m ⊎ CanBeLeaf g m
+free_or_leaf g c m l = elim (cases_eq m 0) [
+  | inl e ↦ inl (constant e)
+  | inr ne ↦ elim (cases_lt m (first_and g)) [
+    | inl s ↦ source_kind g c m (get_or g.kinds (m - 1) Regular) (omega arith) (slice_get-get_or g.kinds (m - 1) Regular (omega arith))
+    | inr a ↦ inr (inr (a, l))
+  ]
+]
+
+-- a set that blocks all leaves that an AND node reads blocks the node
+pub blocks_by_leaves : (g : Aig) (c : List ℕ) (n : ℕ) → AreNormal (first_and g) g.pairs → IsAnd g n → ((m : ℕ) → IsFanIn g m n → CanBeLeaf g m → Blocks g c m) → Blocks g c n
+blocks_by_leaves g c n normal and leaves =
+    let p = and_pair g n and in
+    let x : IsFanIn g (p.0.x.0 / 2) n = first p.0 p.1 refl in
+    let y : IsFanIn g (p.0.y.0 / 2) n = second p.0 p.1 refl in
+    let b : n < node_count g = and.1 in
+    let x_below : p.0.x.0 / 2 < n = fan_in_below g (p.0.x.0 / 2) n normal x in
+    let y_below : p.0.y.0 / 2 < n = fan_in_below g (p.0.y.0 / 2) n normal y in
+    fan_ins p.0 p.1 (elim (free_or_leaf g c (p.0.x.0 / 2) (omega arith)) [ inl f ↦ f | inr f ↦ leaves (p.0.x.0 / 2) x f ])
+    (elim (free_or_leaf g c (p.0.y.0 / 2) (omega arith)) [ inl f ↦ f | inr f ↦ leaves (p.0.y.0 / 2) y f ])
+
+-- leaves are not the constant
+pub leaf_pos : (g : Aig) (m : ℕ) → CanBeLeaf g m → 0 < m
+leaf_pos g m (inl s) = let l : 1 ≤ m = s.above in omega arith
+leaf_pos g m (inr a) = let l : first_and g ≤ m = a.0 in omega arith
+
+pub leaf_inside : (g : Aig) (m : ℕ) → CanBeLeaf g m → m < node_count g
+leaf_inside g m (inl s) = let l : m < first_and g = source_below g Regular m s in omega arith
+leaf_inside g m (inr a) = a.1
+
+-- no regular source is an AND node
+pub source_not_and : (g : Aig) (s : ℕ) → IsSource g Regular s → IsAnd g s → ⊥
+source_not_and g s source a = let l : s < first_and g = source_below g Regular s source in let b : first_and g ≤ s = a.0 in absurd (omega arith)
+
+-- a path with one more node
+climbs_push : (g : Aig) (m : ℕ) (ms : List ℕ) (n x : ℕ) → Climbs g m ms n → IsFanIn g n x → Climbs g m (ms ++ x ∷ []) x
+climbs_push g m [] n x c f = (subst (λ y. IsFanIn g y x) (sym c) f, refl)
+climbs_push g m (y ∷ ys) n x c f = (c.0, climbs_push g y ys n x c.1 f)
+
+pub path_push : (g : Aig) (n x : ℕ) (path : List ℕ) → IsPath g n path → IsFanIn g n x → IsPath g x (path ++ x ∷ [])
+path_push g n x [] p f = absurd p
+path_push g n x (m ∷ ms) p f = (p.0, climbs_push g m ms n x p.1 f)
+
+-- a path has its last node
+climbs_last : (g : Aig) (m : ℕ) (ms : List ℕ) (n : ℕ) → Climbs g m ms n → In (m ∷ ms) n
+climbs_last g m [] n c = inl (sym c)
+climbs_last g m (x ∷ xs) n c = inr (climbs_last g x xs n c.1)
+
+pub path_last : (g : Aig) (n : ℕ) (path : List ℕ) → IsPath g n path → In path n
+path_last g n [] p = absurd p
+path_last g n (m ∷ ms) p = climbs_last g m ms n p.1
+
+-- a path to an AND node has two nodes at least
+pub path_two : (g : Aig) (n : ℕ) (path : List ℕ) → IsAnd g n → IsPath g n path → 2 ≤ length path
+path_two g n [] and p = absurd p
+path_two g n (m ∷ []) and p = absurd (source_not_and g m p.0 (subst (λ x. IsAnd g x) (sym p.1) and))
+path_two g n (m ∷ x ∷ xs) and p = omega arith
+
+-- the nodes of a path are not above its end
+climbs_below : (g : Aig) (m : ℕ) (ms : List ℕ) (n x : ℕ) → AreNormal (first_and g) g.pairs → Climbs g m ms n → In (m ∷ ms) x → (x ≤ n) × (m ≤ n)
+climbs_below g m [] n x normal c (inl e) = let q : m ≡ n = c in (omega arith, omega arith)
+climbs_below g m [] n x normal c (inr b) = absurd b
+climbs_below g m (y ∷ ys) n x normal c (inl e) = let r : y ≤ n = (climbs_below g y ys n y normal c.1 (inl refl)).0 in let l : m < y = fan_in_below g m y normal c.0 in (omega arith, omega arith)
+climbs_below g m (y ∷ ys) n x normal c (inr i) = let r = climbs_below g y ys n x normal c.1 i in let s : y ≤ n = r.1 in let l : m < y = fan_in_below g m y normal c.0 in (r.0, omega arith)
+
+pub path_below : (g : Aig) (n : ℕ) (p : List ℕ) (x : ℕ) → AreNormal (first_and g) g.pairs → IsPath g n p → In p x → x ≤ n
+path_below g n [] x normal path i = absurd path
+path_below g n (m ∷ ms) x normal path i = (climbs_below g m ms n x normal path.1 i).0
+
+-- what blocks an AND node has the node, or blocks its fan-ins
+pub blocked_below : (g : Aig) (c : List ℕ) (m n : ℕ) → IsFanIn g m n → Blocks g c n → In c n ⊎ Blocks g c m
+blocked_below g c m n f (member i) = inl i
+blocked_below g c m n f (constant e) = absurd (let a : first_and g ≤ n = (reader_and g m n f).0 in omega arith)
+blocked_below g c m n f (parameter s) = absurd (let a : first_and g ≤ n = (reader_and g m n f).0 in let b : n < first_and g = source_below g Parameter n s in omega arith)
+blocked_below g c m n f (fan_ins p is x y) = elim (fan_in_of g m n p is f) [ inl e ↦ inr (subst (λ l. Blocks g c l) (sym e) x) | inr e ↦ inr (subst (λ l. Blocks g c l) (sym e) y) ]

@@ -1,0 +1,70 @@
+-- From labels that are right to the net of a node, and from its paths to what shows the label.
+use Rattle.std.proofs.Common.{◌≡◌, ℕ, ◌+◌, ◌<◌, ◌≤◌, eqb, List, [], ◌∷◌, length, refl, sym, ◌∙◌, subst, inl, inr, arith}
+use Rattle.std.proofs.lemmas.Bool.{eqb-true, eqb-false}
+use Rattle.std.proofs.lemmas.Option.{slice_get_within}
+use Rattle.aig_core.specs.Aig.{Aig, first_and, IsAnd, AreNormal}
+use Rattle.list_laws.proofs.Choice.{choose}
+use Rattle.depth_label.specs.Label.{LabelsValue, label_of}
+use Rattle.cert_check.specs.CertificateValue.{PathValue}
+use Rattle.cert_check.specs.Paths.{IsPath}
+use Rattle.cert_check.specs.Valid.{path_count}
+use Rattle.flow_cert.specs.Net.{SiteValue, net_at, net_of, IsNet, AreReaders, AreRight}
+use Rattle.flow_cert.specs.Links.{owner_in, AreLinks}
+use Rattle.flow_cert.specs.Ways.{AreWays}
+use Rattle.flow_cert.specs.Justify.{AreShowing, IsStepOf}
+use Rattle.flow_cert.proofs.LabelLemmas.{label_rises, source_or_and}
+use Rattle.flow_cert.proofs.WayLemmas.{ways_share, ways_paths}
+
+-- the net of a node with a label of at least 2
+pub net_is : (g : Aig) (k n : ℕ) (ls : LabelsValue) (readers : List ℕ) → AreRight g k (label_of ls) → AreNormal (first_and g) g.pairs → IsAnd g n → 2 ≤ label_of ls n → AreReaders (net_at g ls n readers) → IsNet (net_at g ls n readers)
+net_is g k n ls readers right normal and high r = record {
+  and = and;
+  high = high;
+  is = refl;
+  normal = normal;
+  rising = label_rises g k (label_of ls) normal right;
+  sources = source_or_and g k (label_of ls) normal right;
+  readers = r;
+}
+
+-- the paths of the links show the label
+pub shown : (site : SiteValue) (k : ℕ) (owners starts : List ℕ) (paths : List PathValue) → IsNet (net_of site) → AreLinks site owners starts → AreWays (net_of site) (owner_in site owners) starts paths → length starts ≡ k + 1
+    → AreShowing site.graph k (label_of site.labels) site.node paths
+shown site k owners starts paths is links ways e = record {
+  count = ways.count ∙ e;
+  each = ways_paths (net_of site) (owner_in site owners) starts paths ways;
+  apart = λ i j m p q l a b c d ne. ways_share (net_of site) is (owner_in site owners) links.chosen (length starts) links.routed.linked starts paths links.routed.begin ways i j m p q l a b c d;
+}
+
+-- how many paths show a claim
+pub count_one : (k claim : ℕ) → claim ≡ 1 → path_count k claim ≡ 1
+count_one k claim e = choose (λ v. v ≡ 1) (eqb claim 1) 1 (k + 1) (λ _. refl) (λ f. absurd (eqb-false claim 1 f e))
+
+count_more : (k claim : ℕ) → 2 ≤ claim → path_count k claim ≡ k + 1
+count_more k claim two = choose (λ v. v ≡ k + 1) (eqb claim 1) 1 (k + 1) (λ e. let one : claim ≡ 1 = eqb-true claim 1 e in absurd (omega arith)) (λ _. refl)
+
+-- one path shows a label of 1
+pub low_shown : (g : Aig) (k : ℕ) (label : ℕ → ℕ) (n : ℕ) (p : PathValue) → IsAnd g n → label n ≡ 1 → IsPath g n p.nodes → IsStepOf g k label (record { line = 0; node = n; claim = 1; paths = p ∷ [] })
+low_shown g k label n p and one path = record {
+  and = and;
+  claim = sym one;
+  positive = omega arith;
+  justified = record {
+    count = sym (count_one k 1 refl);
+    paths = λ q i. elim i [ inl e ↦ subst (λ (r : PathValue). IsPath g n r.nodes) (sym e) path | inr b ↦ absurd b ];
+    apart = λ i j m q r l a b c d ne. let w : j < 1 = slice_get_within (p ∷ []) j r b in let v : i < 1 = slice_get_within (p ∷ []) i q a in absurd (omega arith);
+  };
+}
+
+-- k + 1 paths show a label of 2 or more
+pub high_shown : (g : Aig) (k : ℕ) (label : ℕ → ℕ) (n claim : ℕ) (paths : List PathValue) → IsAnd g n → claim ≡ label n → 2 ≤ claim → AreShowing g k label n paths → IsStepOf g k label (record { line = 0; node = n; claim = claim; paths = paths })
+high_shown g k label n claim paths and e two show = record {
+  and = and;
+  claim = e;
+  positive = omega arith;
+  justified = record {
+    count = show.count ∙ sym (count_more k claim two);
+    paths = show.each;
+    apart = λ i j m p q l a b c d ne. let h : label n ≤ label m + 1 = show.apart i j m p q l a b c d ne in omega arith;
+  };
+}

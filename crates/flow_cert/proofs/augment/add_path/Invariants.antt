@@ -1,0 +1,16 @@
+use Rattle.std.proofs.Common.{◌≡◌, ◌∷◌, [], ◌++◌, length, get_or}
+use Rattle.aig_core.specs.Aig.{node_count}
+use Rattle.flow_cert.specs.Net.{net_of}
+use Rattle.flow_cert.specs.Links.{owner_in}
+use Rattle.flow_cert.proofs.TurnLemmas.{IsTurning}
+use Rattle.flow_cert.proofs.augment.add_path.Given as goal
+
+abbrev pub invariant-loop-links : goal.invariant-loop-links
+invariant-loop-links l = record {
+  turning : IsTurning (net_of l.site) (length l.fn.links.starts.items) (owner_in l.site l.fn.links.owners) l.search.queue.items l.place (owner_in l.site l.links.owners) l.j;
+  size : length l.links.owners ≡ node_count l.site.graph;
+  starts : l.links.starts.items ≡ l.fn.links.starts.items ++ get_or l.search.queue.items l.place 0 ∷ [];
+}
+
+abbrev pub decreases-loop-links : goal.decreases-loop-links
+decreases-loop-links l = l.j

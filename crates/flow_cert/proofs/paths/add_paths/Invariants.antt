@@ -1,0 +1,11 @@
+use Rattle.std.proofs.Common.{◌≡◌, length}
+use Rattle.aig_core.specs.Aig.{node_count}
+use Rattle.flow_cert.specs.Links.{AreLinks}
+use Rattle.flow_cert.proofs.paths.add_paths.Given as goal
+
+abbrev pub invariant-loop-i : goal.invariant-loop-i
+invariant-loop-i l = record {
+  linked : AreLinks l.site l.links.owners l.links.starts.items;
+  count : length l.links.starts.items ≡ l._i;
+  room : length l.search.seen ≡ node_count l.site.graph;
+}

@@ -1,0 +1,7 @@
+use Rattle.std.proofs.Common.{◌≡◌, ap, ◌∙◌, length}
+use Rattle.flow_cert.specs.Stamps.{zeros}
+use Rattle.flow_cert.proofs.StampLemmas.{length_zeros}
+use Rattle.flow_cert.proofs.stamped.Stamped.new.Goals as goal
+
+pub returns : goal.returns
+returns c = let z : c.in_ok-values.values.items ≡ zeros c.args.count = c.in_ok-values.ensures.items_if_clones_equal (λ y e. e) in c.of.ensures ∙ ap zeros (ap length z ∙ length_zeros c.args.count)

@@ -1,0 +1,12 @@
+use Rattle.std.proofs.Common.{◌+◌, ◌-◌}
+use Rattle.aig_core.specs.Aig.{node_count}
+use Rattle.depth_label.specs.Label.{label_of}
+use Rattle.flow_cert.specs.Justify.{IsScratch}
+use Rattle.flow_cert.specs.Steps.{AreDoneTo}
+use Rattle.flow_cert.proofs.steps.steps_down.Given as goal
+
+abbrev pub invariant-loop-i : goal.invariant-loop-i
+invariant-loop-i l = record {
+  room : IsScratch (node_count l.graph) l.scratch.walk.readers l.scratch.links.owners l.scratch.search.seen l.scratch.met;
+  done : AreDoneTo l.graph l.k (label_of l.labels) l.begin (l.first + (l.count - l.i)) l.marks.items l.steps.items;
+}

@@ -1,0 +1,11 @@
+use Rattle.std.proofs.Common.{List, Bool}
+use Rattle.aig_core.specs.Aig.{first_and}
+use Rattle.depth_label.specs.Label.{label_of}
+use Rattle.flow_cert.specs.Steps.{AreDoneTo}
+use Rattle.flow_cert.proofs.StepLemmas.{steps_turned}
+use Rattle.flow_cert.proofs.steps.steps_of.Goals as goal
+
+pub returns : goal.returns
+returns c =
+    let d : (marks : List Bool) × AreDoneTo c.args.graph.now c.args.k (label_of c.args.labels.now) c.args.begin (first_and c.args.graph.now) marks c.in_ok-steps.steps.items = c.in_ok-steps.ensures in
+    rw c.reverse.ensures.items (steps_turned c.args.graph.now c.args.k (label_of c.args.labels.now) c.args.begin d.0 c.in_ok-steps.steps.items d.1)

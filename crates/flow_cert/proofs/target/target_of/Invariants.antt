@@ -1,0 +1,8 @@
+use Rattle.std.proofs.Common.{take}
+use Rattle.aig_core.specs.Roots.{lits_of}
+use Rattle.depth_label.specs.Label.{label_of}
+use Rattle.flow_cert.specs.Target.{IsTarget}
+use Rattle.flow_cert.proofs.target.target_of.Given as goal
+
+abbrev pub invariant-loop-root : goal.invariant-loop-root
+invariant-loop-root l = IsTarget l.graph (label_of l.labels) (lits_of (take l.root-index l.roots)) l.best.depth l.best.begin

@@ -1,0 +1,15 @@
+use Rattle.std.proofs.Common.{◌≡◌, ◌≤◌, ◌+◌, ◌-◌, length}
+use Rattle.aig_core.specs.Aig.{node_count}
+use Rattle.flow_cert.specs.Net.{net_at}
+use Rattle.flow_cert.specs.Walks.{IsWalked}
+use Rattle.flow_cert.proofs.walk.walk_down.Given as goal
+
+abbrev pub invariant-loop-place : goal.invariant-loop-place
+invariant-loop-place l = record {
+  walked : IsWalked (net_at l.graph l.labels l.n l.walk.readers) l.walk.uppers.items l.walk.ends.items l.place;
+  size : length l.walk.readers ≡ node_count l.graph;
+  short : length l.walk.uppers.items ≤ l.n + 1;
+}
+
+abbrev pub decreases-loop-place : goal.decreases-loop-place
+decreases-loop-place l = l.n + 1 - l.place

@@ -1,0 +1,22 @@
+use Rattle.std.proofs.Common.{◌<◌, sym, subst, length, get_or}
+use Rattle.aig_core.specs.Aig.{IsSource}
+use Rattle.aig_core.specs.declared.lit.Kind.TheVariants.{Regular}
+use Rattle.list_laws.proofs.Members.{In-get_or}
+use Rattle.flow_cert.specs.Net.{net_of}
+use Rattle.flow_cert.specs.Links.{owner_in}
+use Rattle.flow_cert.specs.Ways.{IsWayTo}
+use Rattle.flow_cert.proofs.WayLemmas.{ways_push}
+use Rattle.flow_cert.proofs.ways.paths_of.Goals as goal
+
+pub path_from-requires-clause-source : goal.path_from-requires-clause-source
+path_from-requires-clause-source c = subst (λ xs. IsSource c.args.site.now.graph Regular (get_or xs c.loop-s.s-index 0)) (sym c.deref-s-items.ensures.value)
+    (c.requires.routed.begin.source _ (In-get_or c.args.links.now.starts.items c.loop-s.s-index 0 (subst (λ xs. c.loop-s.s-index < length xs) c.deref-s-items.ensures.value c.loop-s-test.true)))
+
+pub path_from-requires-clause-owned : goal.path_from-requires-clause-owned
+path_from-requires-clause-owned c = subst (λ xs. 0 < owner_in c.args.site.now c.args.links.now.owners (get_or xs c.loop-s.s-index 0)) (sym c.deref-s-items.ensures.value)
+    (c.requires.routed.begin.owned _ (In-get_or c.args.links.now.starts.items c.loop-s.s-index 0 (subst (λ xs. c.loop-s.s-index < length xs) c.deref-s-items.ensures.value c.loop-s-test.true)))
+
+pub loop-s-preserved : goal.loop-s-preserved
+loop-s-preserved c = rw c.in_ok-push.ensures.items
+    (ways_push (net_of c.args.site.now) (owner_in c.args.site.now c.args.links.now.owners) c.args.links.now.starts.items c.loop-s.s-index c.loop-s.paths.items (record { line = 0; nodes = c.in_ok-nodes.nodes.items }) c.loop-s.invariant
+    (subst (λ xs. IsWayTo (net_of c.args.site.now) (owner_in c.args.site.now c.args.links.now.owners) (get_or xs c.loop-s.s-index 0) c.args.site.now.node c.in_ok-nodes.nodes.items) c.deref-s-items.ensures.value c.in_ok-nodes.ensures))

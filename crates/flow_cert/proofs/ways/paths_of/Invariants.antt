@@ -1,0 +1,7 @@
+use Rattle.flow_cert.specs.Net.{net_of}
+use Rattle.flow_cert.specs.Links.{owner_in}
+use Rattle.flow_cert.specs.Ways.{AreWaysTo}
+use Rattle.flow_cert.proofs.ways.paths_of.Given as goal
+
+abbrev pub invariant-loop-s : goal.invariant-loop-s
+invariant-loop-s l = AreWaysTo (net_of l.site) (owner_in l.site l.links.owners) l.links.starts.items l.s-index l.paths.items

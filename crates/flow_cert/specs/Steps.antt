@@ -1,0 +1,44 @@
+-- The steps of the needed nodes, from above.
+use Rattle.std.specs.Prelude.{◌≡◌, ℕ, ◌≤◌, Bool, true, List, length, map, ◌⊎◌}
+use Rattle.aig_core.specs.Aig.{Aig, node_count, IsAnd}
+use Rattle.list_laws.specs.Members.{In}
+use Rattle.list_laws.specs.Order.{IsAscending, IsDescending}
+use Rattle.cert_check.specs.CertificateValue.{StepValue}
+use Rattle.flow_cert.specs.Justify.{IsStepOf}
+use Rattle.flow_cert.specs.Marks.{mark}
+use Rattle.flow_cert.specs.Needed.{IsShared}
+
+-- the node where the certificate begins: 0 for none, or an AND node with a label of 1 at least
+abbrev pub CanBegin : Aig → (ℕ → ℕ) → ℕ → Type 0
+CanBegin g label begin = (begin ≡ 0) ⊎ (IsAnd g begin × (1 ≤ label begin))
+
+-- m is where it begins, or stands in two paths of a step above it
+pub data IsWanted (begin : ℕ) (steps : List StepValue) (m : ℕ) : Type 0 where
+  first : m ≡ begin → IsWanted begin steps m
+  shared : (t : StepValue) → In steps t → IsShared t m → IsWanted begin steps m
+
+-- there is a step of a node
+pub record HasStep (steps : List StepValue) (m : ℕ) : Type 0 where
+  pub step : StepValue
+  pub there : In steps step
+  pub is : step.node ≡ m
+
+-- the nodes from the limit on have their steps, and these have marked what they need
+pub record AreDoneTo (g : Aig) (k : ℕ) (label : ℕ → ℕ) (begin limit : ℕ) (marks : List Bool) (steps : List StepValue) : Type 0 where
+  pub size : length marks ≡ node_count g
+  pub descending : IsDescending (map (λ s. s.node) steps)
+  pub above : (s : StepValue) → In steps s → limit ≤ s.node
+  pub each : (s : StepValue) → In steps s → IsStepOf g k label s
+  pub why : (s : StepValue) → In steps s → IsWanted begin steps s.node
+  pub marked : (m : ℕ) → mark marks m ≡ true → IsAnd g m × (1 ≤ label m) × IsWanted begin steps m
+  pub have : (m : ℕ) → limit ≤ m → mark marks m ≡ true → HasStep steps m
+  pub shares : (s : StepValue) (m : ℕ) → In steps s → IsShared s m → mark marks m ≡ true
+  pub begun : IsAnd g begin → mark marks begin ≡ true
+
+-- the steps of a certificate, in ascending order
+pub record AreSteps (g : Aig) (k : ℕ) (label : ℕ → ℕ) (begin : ℕ) (steps : List StepValue) : Type 0 where
+  pub ascending : IsAscending (map (λ s. s.node) steps)
+  pub each : (s : StepValue) → In steps s → IsStepOf g k label s
+  pub why : (s : StepValue) → In steps s → IsWanted begin steps s.node
+  pub shares : (s : StepValue) (m : ℕ) → In steps s → IsShared s m → HasStep steps m
+  pub begun : IsAnd g begin → HasStep steps begin

@@ -1,0 +1,57 @@
+//! The nodes that stand in two paths of a step.
+//!
+//! A node that was met has the place behind that of the first path in which it stands.
+ghost use Rattle.std.specs.Prelude.{◌≡◌, ℕ, ◌<◌, ◌≤◌, ◌+◌, ◌^◌, Bool, List, [], length, Some, slice_get};
+ghost use Rattle.flow_cert.specs.Marks.{HasTaken, AreTaken, AreMarkedTo, AreMarked, FitStep};
+
+use crate::stamped::Stamped;
+use cert_check::{NodePath, Step};
+
+// Takes a node of the path at a place: it is marked where it was met in an earlier path, and is not the path's end.
+fn take_node(marks: &mut Vec<bool>, met: &mut Stamped, node: u32, place: u32, m: u32)
+    requires marks { m < length marks.old.items }
+    requires met { m < length met.old }
+    requires small { place < 2 ^ 30 }
+    ensures { HasTaken node place m marks.old.items met.old marks.new.items met.new }
+{
+    let first = met.get(m);
+    if first == 0 {
+        met.set(m, place + 1);
+        return;
+    }
+    if first == place + 1 || m == node {
+        return;
+    }
+    marks[m as usize] = true;
+}
+
+// Takes the path at a place.
+fn mark_path(marks: &mut Vec<bool>, met: &mut Stamped, step: &Step, place: u32, path: &NodePath)
+    requires fit { FitStep step.now (length marks.old.items) }
+    requires room { length met.old ≡ length marks.old.items }
+    requires path { slice_get step.now.paths place ≡ Some path.now }
+    requires small { place < 2 ^ 30 }
+    requires taken { AreTaken step.now place [] met.old }
+    ensures size { length marks.new.items ≡ length marks.old.items }
+    ensures room { length met.new ≡ length met.old }
+    ensures taken { AreTaken step.now (place + 1) [] met.new }
+    ensures marked { (old : List Bool) → AreMarkedTo step.now place [] old marks.old.items → AreMarkedTo step.now (place + 1) [] old marks.new.items }
+{
+    for m in &path.nodes {
+        take_node(marks, met, step.node, place, *m);
+    }
+}
+
+/// Marks each node that stands in two paths of a step and is not their end.
+pub fn mark_shared(marks: &mut Vec<bool>, met: &mut Stamped, step: &Step)
+    requires fit { FitStep step.now (length marks.old.items) }
+    requires room { length met.old ≡ length marks.old.items }
+    requires few { length step.now.paths < 2 ^ 30 }
+    ensures room { length met.new ≡ length met.old }
+    ensures marked { AreMarked step.now marks.old.items marks.new.items }
+{
+    met.clear();
+    for place in 0..step.paths.len() as u32 {
+        mark_path(marks, met, step, place, &step.paths[place as usize]);
+    }
+}

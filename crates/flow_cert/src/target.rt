@@ -1,0 +1,64 @@
+//! The depth of some roots.
+ghost use Rattle.std.specs.Prelude.{◌≡◌, ◌<◌, ◌≤◌, ◌^◌};
+ghost use Rattle.aig_core.specs.Aig.{IsLit};
+ghost use Rattle.aig_core.specs.Roots.{lits_of, AreRoots};
+ghost use Rattle.depth_label.specs.Label.{label_of};
+ghost use Rattle.flow_cert.specs.Target.{IsLevel, IsTarget, IsDeeper};
+
+use aig_core::{Graph, Kind, Lit};
+use depth_label::Labels;
+
+/// The depth, and the AND node of the first root that needs it: 0 where none does, or where it is the complement of a source.
+#[derive(Clone, Copy)]
+pub struct Target {
+    pub depth: u32,
+    pub begin: u32,
+}
+
+// The depth that a root needs.
+fn level(graph: &Graph, labels: &Labels, root: Lit) -> u32
+    requires { IsLit graph.now root.0 }
+    ensures { IsLevel graph.now (label_of labels.now) root.0 result }
+{
+    let n = root.0 / 2;
+    if n == 0 {
+        return 0;
+    }
+    if n > graph.sources() {
+        return labels.label(n);
+    }
+    match graph.kind(n) {
+        Kind::Regular => root.0 % 2,
+        Kind::Parameter => 0,
+    }
+}
+
+// The deeper of what was found and one more root, the first where they are as deep.
+fn deeper(graph: &Graph, labels: &Labels, best: Target, root: Lit) -> Target
+    requires { IsLit graph.now root.0 }
+    ensures { IsDeeper graph.now (label_of labels.now) root.0 best.depth best.begin result.depth result.begin }
+{
+    let depth = level(graph, labels, root);
+    if depth <= best.depth {
+        return best;
+    }
+    if root.0 / 2 > graph.sources() {
+        return Target {
+            depth,
+            begin: root.0 / 2,
+        };
+    }
+    Target { depth, begin: 0 }
+}
+
+/// The depth that the roots need, and where their certificate begins.
+pub fn target_of(graph: &Graph, labels: &Labels, roots: &[Lit]) -> Target
+    requires { AreRoots graph.now (lits_of roots.now) }
+    ensures { IsTarget graph.now (label_of labels.now) (lits_of roots.now) result.depth result.begin }
+{
+    let mut best = Target { depth: 0, begin: 0 };
+    for root in roots {
+        best = deeper(graph, labels, best, *root);
+    }
+    best
+}

@@ -1,0 +1,81 @@
+#!/usr/bin/env python3
+"""Proves the least depth of each example at each K, and audits what was written; then spoils it, and audits that.
+
+    python3 tools/certificates.py [PROGRAM]
+
+`./tlut` must have built the program. Each certificate must be accepted with the depth that `prove` printed. With one of its paths
+dropped, with a node of a path changed, and with its depth raised it must be refused. The last line is `N passed, M failed`.
+"""
+import glob
+import os
+import subprocess
+import sys
+import tempfile
+
+TOP = os.path.dirname(os.path.dirname(os.path.abspath(__file__)))
+PROGRAM = os.path.abspath(sys.argv[1]) if len(sys.argv) > 1 else f"{TOP}/crates/tlut/out/tlut"
+
+
+def tlut(*words):
+    """The status of a call, and what it printed."""
+    ran = subprocess.run([PROGRAM, *words], capture_output=True, text=True, check=False)
+    return ran.returncode, ran.stdout.strip()
+
+
+def without_a_path(lines):
+    """The lines without the first path."""
+    at = next(i for i, line in enumerate(lines) if line.startswith("path"))
+    return lines[:at] + lines[at + 1 :]
+
+
+def with_another_node(lines):
+    """The lines, with the first path beginning at the constant."""
+    at = next(i for i, line in enumerate(lines) if line.startswith("path"))
+    words = lines[at].split()
+    return lines[:at] + [" ".join(["path", "0", *words[2:]])] + lines[at + 1 :]
+
+
+def with_more_depth(lines):
+    """The lines, with a depth that is one more."""
+    return [f"depth {int(lines[0].split()[1]) + 1}"] + lines[1:]
+
+
+def is_refused(words, lines, name):
+    """Whether a certificate of these lines is refused."""
+    with open(name, "w", encoding="utf-8") as file:
+        file.write("\n".join(lines) + "\n")
+    return tlut("audit", *words, name)[0] == 3
+
+
+def outcomes(words, name):
+    """Whether each thing that is asked of one netlist, list and K holds, with its name."""
+    status, printed = tlut("prove", *words, name)
+    yield "prove", status == 0 and printed.startswith("depth ")
+    if status != 0:
+        return
+    depth = printed.split()[1]
+    yield "audit", tlut("audit", *words, name) == (0, f"depth at least {depth}")
+    with open(name, encoding="utf-8") as file:
+        lines = file.read().splitlines()
+    yield "depth raised", is_refused(words, with_more_depth(lines), name)
+    if len(lines) > 1:
+        yield "path dropped", is_refused(words, without_a_path(lines), name)
+        yield "node changed", is_refused(words, with_another_node(lines), name)
+
+
+def main():
+    passed = failed = 0
+    with tempfile.TemporaryDirectory() as folder:
+        for netlist in sorted(glob.glob(f"{TOP}/examples/*/*.blif")):
+            for params in sorted(glob.glob(f"{os.path.dirname(netlist)}/*.par")):
+                for k in "23456":
+                    for what, holds in outcomes((k, netlist, params), f"{folder}/cert"):
+                        passed, failed = passed + holds, failed + (not holds)
+                        if not holds:
+                            print(f"{os.path.relpath(netlist, TOP)} {os.path.basename(params)} K {k}: {what}")
+    print(f"{passed} passed, {failed} failed")
+    return failed > 0
+
+
+if __name__ == "__main__":
+    sys.exit(main())
