@@ -1,0 +1,7 @@
+use Rattle.std.proofs.Common.{decimal}
+use Rattle.tl_piece.proofs.AddedLemmas.{added_as, added_twice}
+use Rattle.aiger_io.proofs.WrittenLemmas.{symbol_line}
+use Rattle.aiger_io.proofs.written_line.add_symbol.Goals as goal
+
+pub returns : goal.returns
+returns g c = added_as (symbol_line c.args.letter (decimal c.args.ordinal) c.args.name.now) (added_twice c.add_byte.ensures (added_twice c.add_number.ensures (added_twice c.add_byte-2.ensures (added_twice c.add_text.ensures c.add_byte-3.ensures))))

@@ -1,0 +1,14 @@
+use Rattle.std.proofs.Common.{◌≡◌, ◌+◌, ◌-◌, Some, subst, arith}
+use Rattle.std.specs.Prelude.{slice_get}
+use Rattle.aig_core.specs.Aig.{first_and}
+use Rattle.aig_core.specs.declared.lit.Pair.{Pair}
+use Rattle.aiger_io.specs.GraphCircuit.{gate_item}
+use Rattle.aiger_io.specs.WrittenText.{item_text}
+use Rattle.aiger_io.proofs.WrittenLemmas.{added_numbered}
+use Rattle.aiger_io.proofs.written_text.add_gates.Goals as goal
+
+pub loop-i-preserved : goal.loop-i-preserved
+loop-i-preserved g c =
+    let z : 1 + c.sources-first.result + c.loop-i.i - first_and c.args.graph.now ≡ c.loop-i.i = omega arith in
+    let at : slice_get c.args.graph.now.pairs c.loop-i.i ≡ Some c.pair_at-pair.result = subst (λ n. slice_get c.args.graph.now.pairs n ≡ Some c.pair_at-pair.result) z c.pair_at-pair.ensures.pair in
+    added_numbered (λ n (p : Pair). item_text (gate_item n p)) (first_and c.args.graph.now) c.args.graph.now.pairs c.loop-i.i (1 + c.sources-first.result + c.loop-i.i) c.pair_at-pair.result at (omega arith) c.loop-i.invariant c.add_gate.ensures

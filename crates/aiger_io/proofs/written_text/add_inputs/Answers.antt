@@ -1,0 +1,8 @@
+use Rattle.std.proofs.Common.{ℕ, ◌+◌, refl}
+use Rattle.tl_piece.proofs.PartLemmas.{added_next}
+use Rattle.aiger_io.specs.GraphCircuit.{input_item}
+use Rattle.aiger_io.specs.WrittenText.{item_text}
+use Rattle.aiger_io.proofs.written_text.add_inputs.Goals as goal
+
+pub loop-i-preserved : goal.loop-i-preserved
+loop-i-preserved g c = added_next (λ (n : ℕ). item_text (input_item n)) 1 c.loop-i.i (1 + c.loop-i.i) refl c.loop-i.invariant c.add_literal.ensures.input

@@ -1,0 +1,8 @@
+use Rattle.std.proofs.Common.{take}
+use Rattle.tl_piece.specs.Added.{IsAdded}
+use Rattle.param_list.specs.declared.params.Param.{Param}
+use Rattle.aiger_io.specs.WrittenText.{numbered_text, symbol_text}
+use Rattle.aiger_io.proofs.written_text.add_params.Given as goal
+
+abbrev pub invariant-loop-k : goal.invariant-loop-k
+invariant-loop-k g l = IsAdded g.O.Sink.seen l.fn.writer (numbered_text (λ k (p : Param). symbol_text 105 k p.name) l.first (take l.k l.params)) l.writer

@@ -1,0 +1,11 @@
+use Rattle.std.proofs.Common.{ℕ, [], arith, ap}
+use Rattle.std.specs.Prelude.{slice_index_or}
+use Rattle.std.proofs.lemmas.Option.{slice_get-get_or}
+use Rattle.tl_piece.proofs.AddedLemmas.{added_as}
+use Rattle.aiger_io.specs.WrittenText.{symbol_text}
+use Rattle.aiger_io.proofs.WrittenLemmas.{added_numbered}
+use Rattle.aiger_io.proofs.written_text.add_regular.Goals as goal
+
+pub loop-k-preserved : goal.loop-k-preserved
+loop-k-preserved g c = added_numbered (λ k (i : ℕ). symbol_text 105 k (slice_index_or c.args.inputs.now i [])) 0 c.args.regular.now c.loop-k.k c.loop-k.k _ (slice_get-get_or c.args.regular.now c.loop-k.k 0 c.loop-k-test.true) (omega arith) c.loop-k.invariant
+    (added_as (ap (symbol_text 105 c.loop-k.k) c.name_at.ensures) c.add_symbol.ensures)

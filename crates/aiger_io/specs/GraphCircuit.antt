@@ -1,0 +1,65 @@
+-- The circuit of a graph: a variable for each source, in the order of their indices, and for each AND node. Inputs are the regular inputs, and then the parameters.
+use Rattle.std.specs.Prelude.{◌≡◌, ℕ, ◌+◌, ◌*◌, ◌^◌, ◌<◌, List, [], ◌++◌, length, map, slice_index_or}
+use Rattle.std.specs.List.{range_with_len}
+use Rattle.list_laws.specs.Members.{In}
+use Rattle.aig_core.specs.Aig.{Aig, first_and}
+use Rattle.aig_core.specs.Roots.{RootsValue}
+use Rattle.aig_core.specs.declared.lit.Lit.{Lit}
+use Rattle.aig_core.specs.declared.lit.Pair.{Pair}
+use Rattle.netlist.specs.FlatValue.{FlatValue}
+use Rattle.netlist.specs.declared.flat.FlatLatch.{FlatLatch}
+use Rattle.netlist.specs.declared.flat.OutPort.{OutPort}
+use Rattle.param_list.specs.declared.params.Param.{Param}
+use Rattle.aiger_io.specs.Circuit.{Circuit}
+use Rattle.aiger_io.specs.WrittenText.{numbered}
+use Rattle.aiger_io.specs.declared.header.Header.{Header}
+use Rattle.aiger_io.specs.declared.item.Item.{Item}
+use Rattle.aiger_io.specs.declared.item.Item.TheVariants.{Input, Latch, Output, And}
+
+-- how many inputs there are, where the places of the regular ones are given
+abbrev pub input_count : List ℕ → List Param → ℕ
+input_count regular params = length regular + length params
+
+abbrev pub lit_at : List Lit → ℕ → ℕ
+lit_at lits k = (slice_index_or lits k (record { 0 = 0 })).0
+
+abbrev pub input_item : ℕ → Item
+input_item n = Input (2 * n)
+
+-- a latch by its ordinal, behind so many inputs
+abbrev pub latch_item : ℕ → List Lit → ℕ → FlatLatch → Item
+latch_item inputs next k latch = Latch (2 * (1 + inputs + k)) (lit_at next k) latch.init
+
+abbrev pub output_item : Lit → Item
+output_item l = Output l.0
+
+-- an AND node by its index, with the higher literal first
+abbrev pub gate_item : ℕ → Pair → Item
+gate_item n p = And (2 * n) p.y.0 p.x.0
+
+abbrev pub graph_items : ℕ → List FlatLatch → Aig → RootsValue → List Item
+graph_items inputs latches g roots =
+    map input_item (range_with_len 1 inputs) ++ (numbered (latch_item inputs roots.next) 0 latches ++ (map output_item roots.outputs ++ numbered gate_item (first_and g) g.pairs))
+
+abbrev pub input_at : FlatValue → ℕ → List ℕ
+input_at flat i = slice_index_or flat.inputs i []
+
+abbrev pub graph_header : ℕ → FlatValue → Aig → RootsValue → Header
+graph_header inputs flat g roots =
+    record { variables = inputs + length flat.latches + length g.pairs; inputs = inputs; latches = length flat.latches; outputs = length roots.outputs; ands = length g.pairs }
+
+abbrev pub graph_circuit : FlatValue → List Param → List ℕ → Aig → RootsValue → Circuit
+graph_circuit flat params regular g roots = record {
+  header = graph_header (input_count regular params) flat g roots;
+  items = graph_items (input_count regular params) flat.latches g roots;
+  inputs = map (input_at flat) regular ++ map (λ (p : Param). p.name) params;
+  outputs = map (λ (o : OutPort). o.name) flat.outputs;
+}
+
+-- what was made from one library: the places of the regular inputs, a source for each input and each latch, and a root for each output and each latch
+pub record IsWrittenFrom (flat : FlatValue) (params : List Param) (regular : List ℕ) (g : Aig) (roots : RootsValue) : Type 0 where
+  pub places : (i : ℕ) → In regular i → i < length flat.inputs
+  pub sources : length g.kinds ≡ input_count regular params + length flat.latches
+  pub outputs : length roots.outputs ≡ length flat.outputs
+  pub next : length roots.next ≡ length flat.latches
+  pub few : length flat.outputs < 2 ^ 32

@@ -1,0 +1,71 @@
+//! Why a text is no circuit.
+use std::alloc::{AllocError, AllocFailed};
+use tl_fault::{Details, Name, Refusal};
+
+/// Why a text is no circuit. Lines are counted from 1.
+#[derive(Debug, Drop, thiserror::Error)]
+pub enum AagErr {
+    /// A1: the first line isn't `aag` and five numbers, or its numbers don't go together.
+    #[error("bad header in line 1")]
+    Header,
+    /// A2: the line isn't of its form, or isn't there.
+    #[error("malformed line {0}")]
+    Malformed(u32),
+    /// A3: a literal of the line is out of range.
+    #[error("literal out of range in line {0}")]
+    Range(u32),
+    /// A4: the ordinal or the name of the symbol may not stand there.
+    #[error("bad symbol in line {0}")]
+    BadSymbol(u32, Name),
+    /// A5: the first line is that of a later version of the format.
+    #[error("unsupported header in line 1")]
+    Unsupported,
+    /// There is no memory.
+    #[error("out of memory")]
+    Memory,
+}
+
+impl<T: Drop> From<AllocFailed<T>> for AagErr {
+    ghost use Rattle.std.specs.Prelude.{◌≡◌};
+    ghost use Rattle.aiger_io.specs.declared.aag_err.AagErr.TheVariants.{Memory};
+
+    ghost from_gives = { λ _ e. e ≡ Memory };
+
+    fn from(_: AllocFailed<T>) -> AagErr {
+        AagErr::Memory
+    }
+}
+
+impl From<AllocError> for AagErr {
+    ghost use Rattle.std.specs.Prelude.{◌≡◌};
+    ghost use Rattle.aiger_io.specs.declared.aag_err.AagErr.TheVariants.{Memory};
+
+    ghost from_gives = { λ _ e. e ≡ Memory };
+
+    fn from(_: AllocError) -> AagErr {
+        AagErr::Memory
+    }
+}
+
+impl AagErr {
+    ghost use Rattle.std.specs.Prelude.{◌≡◌};
+    ghost use Rattle.aiger_io.specs.Refusals.{refusal_of};
+
+    /// What the refusal tells; none for want of memory.
+    pub fn refusal(self) -> Option<Refusal>
+        ensures { result ≡ refusal_of self }
+    {
+        match self {
+            AagErr::Header => Some(Refusal::new("A1", "Header", Details::Line(1))),
+            AagErr::Malformed(line) => Some(Refusal::new("A2", "Malformed", Details::Line(line))),
+            AagErr::Range(line) => Some(Refusal::new("A3", "Range", Details::Line(line))),
+            AagErr::BadSymbol(line, name) => Some(Refusal::new(
+                "A4",
+                "BadSymbol",
+                Details::Named(line, name),
+            )),
+            AagErr::Unsupported => Some(Refusal::new("A5", "Unsupported", Details::Line(1))),
+            AagErr::Memory => None,
+        }
+    }
+}

@@ -1,0 +1,54 @@
+//! Sequential circuits in the AIGER ASCII format.
+//!
+//! An AIGER circuit has inputs, latches, outputs and AND gates. Each input, latch and gate has a *variable*, a number; a *literal* is
+//! twice a variable, and one more where it stands for the complement. Variable 0 is constant 0.
+//!
+//! A text has the header `aag M I L O A`: the greatest variable, and how many inputs, latches, outputs and gates there are. Behind it
+//! stand I lines with an input's literal, L lines `lhs next` or `lhs next init`, O lines with an output's literal, and A lines
+//! `lhs rhs0 rhs1`; then symbols, the lines `i`, `l` or `o` with an ordinal, a blank, and a name; then, behind a line `c`, a comment.
+//! A latch starts at 1 exactly where its init is `1`.
+//!
+//! Which circuit a text is, or what refuses it first, stands in `specs/Circuit.antt`, over `specs/Header.antt`, `specs/Items.antt`,
+//! `specs/Symbols.antt` and `specs/PortNames.antt`. What the circuit does is told by its lines alone, in `specs/Run.antt`.
+//! `proofs/ReadExample.antt` reads some texts.
+//!
+//! [`read_aag`] reads a text as a netlist library (`specs/CircuitLibrary.antt`), whose cycles and runs are those of the circuit:
+//! [`aag_law`]. [`put_aag`] writes the circuit of a graph (`specs/GraphCircuit.antt`), with a symbol for each input and each output
+//! (`specs/WrittenText.antt`).
+//!
+//! - `read_text.rt` has `read_aag`, and `aag_err.rt` the refusals.
+//! - `rows.rt` and `number.rt` have a text's lines, their words, and numbers; `header.rt` the first line.
+//! - `item.rt` and `item_line.rt` read one line of an input, a latch, an output or a gate, and `items.rt` all of them.
+//! - `symbol.rt` and `symbols.rt` read the symbols, and `port_names.rt` finds names that stand twice.
+//! - `own_name.rt`, `command.rt` and `model.rt` make the library.
+//! - `law.rt` has the law.
+//! - `written_text.rt` has `put_aag`, and `written_line.rt` the lines that it adds.
+//!
+//! # Source
+//!
+//! Biere, "The AIGER And-Inverter Graph (AIG) Format Version 20071012", and for the inits of latches Biere, Heljanko and Wieringa, "AIGER
+//! 1.9 And Beyond", 2011.
+#![tactic(auto)]
+
+mod aag_err;
+mod command;
+mod header;
+mod item;
+mod item_line;
+mod items;
+mod law;
+mod model;
+mod number;
+mod own_name;
+mod port_names;
+mod read_text;
+mod rows;
+mod symbol;
+mod symbols;
+mod written_line;
+mod written_text;
+
+pub use aag_err::AagErr;
+pub use law::aag_law;
+pub use read_text::read_aag;
+pub use written_text::put_aag;

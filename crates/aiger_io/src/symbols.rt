@@ -1,0 +1,153 @@
+//! All symbols.
+ghost use Rattle.std.specs.Prelude.{◌≡◌, ◌+◌, ◌<◌, ◌^◌, ◌&&◌, not, nat_lt, length, map, replicate, slice_index_or, Some, None, Ok, Err, IfOk, MatchResult, IsTrue};
+ghost use Rattle.std.specs.Option.{is_some};
+ghost use Rattle.tl_fault.specs.OrMemory.{OrMemory};
+ghost use Rattle.aiger_io.specs.Bodies.{AreSized, named_count, symbol_value};
+ghost use Rattle.aiger_io.specs.Refusals.{refusal_of};
+ghost use Rattle.aiger_io.specs.Symbols.{count_of, first_of, place_of, no_name, no_symbols, with_symbol, may_stand as may_stand_by, symbols_from, symbol_at};
+ghost use Rattle.aiger_io.specs.PortNames.{name_at};
+
+use crate::aag_err::AagErr;
+use crate::header::Header;
+use crate::item::Kind;
+use crate::symbol::{Symbol, is_bad, read_symbol};
+use std::alloc::{AllocError, Global};
+use std::marker::Model;
+use tl_text::Name;
+
+/// What symbols say: the name at each place of an input, a latch or an output that has one, and the places in the order of the lines.
+#[derive(Drop)]
+pub struct Symbols {
+    pub names: Vec<Option<Name>>,
+    pub places: Vec<u32>,
+}
+
+impl Model for Symbols {
+    ghost use Rattle.aiger_io.specs.Symbols.{SymbolsValue};
+
+    ghost Value = { SymbolsValue };
+
+    ghost view = { λ s. record { names = s.names.items; places = s.places.items } };
+}
+
+// No name at so many places.
+fn no_names(alloc: Global, count: u64) -> Result<Vec<Option<Name>>, AllocError>
+    ensures { IfOk result (λ names. names.items ≡ replicate count no_name) }
+{
+    let mut names = Vec::new(alloc);
+    for _ in 0..count {
+        names.push(None)?;
+    }
+    Ok(names)
+}
+
+// How many of a kind may have a symbol.
+fn count(header: &Header, kind: Kind) -> u32
+    ensures { result ≡ count_of header.now kind }
+{
+    match kind {
+        Kind::Input => header.inputs,
+        Kind::Latch => header.latches,
+        Kind::Output => header.outputs,
+        Kind::And => 0,
+    }
+}
+
+// The place of an ordinal.
+fn place(header: &Header, s: &Symbol) -> u32
+    requires below { s.now.ordinal < count_of header.now s.now.kind }
+    requires few { named_count header.now < 2 ^ 32 }
+    ensures value { result ≡ place_of header.now (symbol_value s.now) }
+    ensures within { result < named_count header.now }
+{
+    match s.kind {
+        Kind::Input => s.ordinal,
+        Kind::Latch => header.inputs + s.ordinal,
+        Kind::Output => header.inputs + header.latches + s.ordinal,
+        Kind::And => 0,
+    }
+}
+
+// May a symbol stand behind others?
+fn may_stand(header: &Header, said: &Symbols, s: &Symbol) -> bool
+    requires few { named_count header.now < 2 ^ 32 }
+    requires size { length said.now.names ≡ named_count header.now }
+    ensures value { result ≡ may_stand_by header.now said.now (symbol_value s.now) }
+    ensures below { IsTrue result → s.now.ordinal < count_of header.now s.now.kind }
+{
+    if s.ordinal >= count(header, s.kind) {
+        return false;
+    }
+    let place = place(header, s) as usize;
+    said.names[place].is_none() && !is_bad(s.name)
+}
+
+// Adds what a line says.
+fn add(
+    alloc: Global,
+    header: &Header,
+    line: u32,
+    said: &mut Symbols,
+    s: &Symbol,
+) -> Result<(), AagErr>
+    requires few { named_count header.now < 2 ^ 32 }
+    requires size { length said.old.names ≡ named_count header.now }
+    ensures { MatchResult result
+        (λ _. symbol_at header.now line said.old (Some (symbol_value s.now)) ≡ Ok said.new)
+        (OrMemory refusal_of (λ e. symbol_at header.now line said.old (Some (symbol_value s.now)) ≡ Err e)) }
+{
+    let name = Name::make(alloc, s.name)?;
+    if !may_stand(header, said, s) {
+        return Err(AagErr::BadSymbol(line, name));
+    }
+    let place = place(header, s);
+    said.names[place as usize] = Some(name);
+    said.places.push(place)?;
+    Ok(())
+}
+
+/// The symbol at a place, and no bytes where there is none.
+pub(crate) fn symbol_at_place(said: &Symbols, place: u32) -> &[u8]
+    ensures { result.now ≡ name_at said.now place }
+{
+    match said.names.get(place as usize) {
+        Some(Some(name)) => name.bytes(),
+        _ => b"".as_slice(),
+    }
+}
+
+/// What the lines behind the items say, up to the comment; the first of them has this number.
+///
+/// # Errors
+/// A2 and A4 at the first line that has one, but for names that are alike; `Memory` where there is none.
+pub(crate) fn read_symbols(
+    alloc: Global,
+    header: &Header,
+    line: u32,
+    rows: &[&[u8]],
+) -> Result<Symbols, AagErr>
+    requires few { named_count header.now < 2 ^ 32 }
+    requires lines { line + length rows.now < 2 ^ 32 }
+    ensures sized { IfOk result (λ said. AreSized header.now said (length rows.now)) }
+    ensures symbols { MatchResult result
+        (λ said. symbols_from header.now line (no_symbols header.now) (map (λ row. row.now) rows.now) ≡ Ok said)
+        (OrMemory refusal_of (λ e. symbols_from header.now line (no_symbols header.now) (map (λ row. row.now) rows.now) ≡ Err e)) }
+{
+    let count = header.inputs as u64 + header.latches as u64 + header.outputs as u64;
+    let mut said = Symbols {
+        names: no_names(alloc, count)?,
+        places: Vec::new(alloc),
+    };
+    let mut number = line;
+    for row in rows {
+        if *row == b"c".as_slice() {
+            return Ok(said);
+        }
+        let Some(s) = read_symbol(row) else {
+            return Err(AagErr::Malformed(number));
+        };
+        add(alloc, header, number, &mut said, &s)?;
+        number += 1;
+    }
+    Ok(said)
+}
