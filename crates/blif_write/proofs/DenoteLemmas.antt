@@ -1,14 +1,11 @@
 -- The text of a netlist without hierarchy denotes its one model.
-use Rattle.std.proofs.Common.{◌≡◌, ℕ, suc, ◌+◌, ◌-◌, ◌<◌, Bool, true, false, cond, eqb, ◌||◌, List, [], ◌∷◌, ◌++◌, length, map, get_or, codes, bytes_eq, Option, Some, None, refl, sym, ap, subst, ◌∙◌, inl, inr, arith, append_assoc, append-nil}
+use Rattle.std.proofs.Common.{◌≡◌, ℕ, suc, ◌+◌, ◌-◌, Bool, true, false, cond, List, [], ◌∷◌, ◌++◌, length, map, codes, bytes_eq, Option, Some, None, refl, sym, ap, subst, ◌∙◌, inl, inr, arith, append_assoc, append-nil}
 use Rattle.std.specs.List.{list_any, flat_map}
 use Rattle.std.proofs.lemmas.List.{map-append, length-map}
 use Rattle.std.proofs.lemmas.Slice.Eq.{bytes_eq-Decides}
-use Rattle.std.proofs.lemmas.Bool.{ne_eqb}
 use Rattle.list_laws.specs.Members.{In}
-use Rattle.list_laws.proofs.Members.{In-append, In-get_or}
+use Rattle.list_laws.proofs.Members.{In-append}
 use Rattle.tl_text.specs.LineValue.{LineValue, words_line}
-use Rattle.tl_text.specs.Lines.{is_bad}
-use Rattle.tl_text.specs.Tokens.{is_blank}
 use Rattle.tl_text.specs.Clean.{IsClean}
 use Rattle.tl_text.specs.Once.{AreOnce}
 use Rattle.netlist.specs.declared.cell.Cell.{Cell}
@@ -21,11 +18,12 @@ use Rattle.netlist.specs.LibraryValue.{Ports, input_ports, output_ports, clock_p
 use Rattle.blif_read.specs.Statement.{StatementValue, statement_at, statement_of, statements}
 use Rattle.blif_read.specs.Rows.{cell_character, output_token, IsRow, alone, behind, AreRows, none, more}
 use Rattle.blif_read.specs.Latches.{Starts, one, zero_, Controls, nil, net, IsLatch, with_init, whole}
-use Rattle.blif_read.specs.Denotes.{names_in, port_names, IsCoverLine, AreCommands, IsModel, AreLibrary, Denotes}
+use Rattle.blif_read.specs.Denotes.{names_in, IsCoverLine, AreCommands, IsModel, AreLibrary, Denotes}
 use Rattle.netlist.specs.HasCleanNames.{IsCleanBody}
 use Rattle.blif_read.specs.Denotes as denotes
 use Rattle.blif_read.proofs.PortLemmas.{names_in-append}
 use Rattle.blif_write.specs.PlainNetlist.{PlainNetlist, IsPlain, all_inputs, control_words, latch_line, row_line, cover_lines, netlist_lines, netlist_text, read_control, read_latch, latch_commands, cover_commands, model_of, library_of}
+use Rattle.tl_text.proofs.WordLemmas.{is_special, one_clean, word_clean}
 use Rattle.tl_text.proofs.WrittenLineLemmas.{IsCleanLine as IsWritable, AreCleanLines as AreWritable, numbered, numbered-append, ReadsAgain, reads_again}
 
 -- statements of lines, the first of which has this number
@@ -215,53 +213,23 @@ library_is n h = record {
 }
 
 -- the words are clean
-abbrev pub is_odd : ℕ → Bool
-is_odd b = is_blank b || (is_bad b || (eqb b 35 || eqb b 92))
-
-part_free : (a b : Bool) → (a || b) ≡ false → (a ≡ false) × (b ≡ false)
-part_free true b h = absurd (let wrong : ⊥ = cc in wrong)
-part_free false b h = (refl, h)
-
-even_there : (w : List ℕ) → list_any is_odd w ≡ false → (b : ℕ) → In w b → is_odd b ≡ false
-even_there [] h b i = elim i [ ]
-even_there (c ∷ w) h b (inl e) = ap is_odd e ∙ (part_free (is_odd c) (list_any is_odd w) h).0
-even_there (c ∷ w) h b (inr i) = even_there w (part_free (is_odd c) (list_any is_odd w) h).1 b i
-
-pub even_clean : (w : List ℕ) → 0 < length w → ((b : ℕ) → In w b → is_odd b ≡ false) → IsClean w
-even_clean w some h = record {
-  bytes = record {
-    some = some;
-    no_blank = λ b i. (part_free (is_blank b) (is_bad b || (eqb b 35 || eqb b 92)) (h b i)).0;
-    no_bad = λ b i. (part_free (is_bad b) (eqb b 35 || eqb b 92) (part_free (is_blank b) (is_bad b || (eqb b 35 || eqb b 92)) (h b i)).1).0;
-    no_comment = λ b i e. let f : is_odd b ≡ false = h b i in let t : is_odd b ≡ true = ap is_odd e in let wrong : ⊥ = cc in wrong;
-  };
-  no_slash = ne_eqb (get_or w (length w - 1) 0) 92 (λ e. let f : is_odd (get_or w (length w - 1) 0) ≡ false = h _ (In-get_or w (length w - 1) 0 (omega (arith, some))) in let t : is_odd (get_or w (length w - 1) 0) ≡ true = ap is_odd e in let wrong : ⊥ = cc in wrong);
-}
-
-token_clean : (w : List ℕ) → 0 < length w → list_any is_odd w ≡ false → IsClean w
-token_clean w some h = even_clean w some (even_there w h)
-
 output_clean : (b : Bool) → IsClean (output_token b)
-output_clean true = token_clean (codes "1") (omega arith) refl
-output_clean false = token_clean (codes "0") (omega arith) refl
+output_clean true = word_clean (codes "1") (omega arith) refl
+output_clean false = word_clean (codes "0") (omega arith) refl
 
-cells_even : (cells : List Cell) → list_any is_odd (map cell_character cells) ≡ false
-cells_even [] = refl
-cells_even (Zero ∷ cells) = cells_even cells
-cells_even (One ∷ cells) = cells_even cells
-cells_even (Any ∷ cells) = cells_even cells
+cells_ordinary : (cells : List Cell) → list_any is_special (map cell_character cells) ≡ false
+cells_ordinary [] = refl
+cells_ordinary (Zero ∷ cells) = cells_ordinary cells
+cells_ordinary (One ∷ cells) = cells_ordinary cells
+cells_ordinary (Any ∷ cells) = cells_ordinary cells
 
 headed : (word : List ℕ) (words : List (List ℕ)) → IsClean word → ((w : List ℕ) → In words w → IsClean w) → IsWritable (word ∷ words)
 headed word words c h w (inl e) = subst IsClean (sym e) c
 headed word words c h w (inr i) = h w i
 
-one_clean : (word : List ℕ) → IsClean word → (w : List ℕ) → In (word ∷ []) w → IsClean w
-one_clean word c w (inl e) = subst IsClean (sym e) c
-one_clean word c w (inr i) = elim i [ ]
-
 row_writable : (cells : List Cell) → IsWritable (row_line cells)
 row_writable [] = one_clean (codes "1") (output_clean true)
-row_writable (cell ∷ cells) = headed (map cell_character (cell ∷ cells)) (codes "1" ∷ []) (token_clean (map cell_character (cell ∷ cells)) (omega arith) (cells_even (cell ∷ cells))) (one_clean (codes "1") (output_clean true))
+row_writable (cell ∷ cells) = headed (map cell_character (cell ∷ cells)) (codes "1" ∷ []) (word_clean (map cell_character (cell ∷ cells)) (omega arith) (cells_ordinary (cell ∷ cells))) (one_clean (codes "1") (output_clean true))
 
 rows_writable : (rows : List RowValue) → AreWritable (map (λ row. row_line row.cells) rows)
 rows_writable [] words i = elim i [ ]
@@ -276,7 +244,7 @@ either_clean xs ys a b w i = elim (In-append xs ys w i) [ inl j ↦ a w j | inr 
 
 cover_writable : (c : CoverValue) → IsCleanBody (Cover c) → AreWritable (cover_lines c)
 cover_writable c h words (inl e) =
-    subst IsWritable (sym e) (headed (codes ".names") (c.inputs ++ c.output ∷ []) (token_clean (codes ".names") (omega arith) refl) (either_clean c.inputs (c.output ∷ []) h.0 (one_clean c.output h.1)))
+    subst IsWritable (sym e) (headed (codes ".names") (c.inputs ++ c.output ∷ []) (word_clean (codes ".names") (omega arith) refl) (either_clean c.inputs (c.output ∷ []) h.0 (one_clean c.output h.1)))
 cover_writable c h words (inr i) = rows_writable c.rows words i
 
 covers_writable : (cs : List CoverValue) → ((c : CoverValue) → In cs c → IsCleanBody (Cover c)) → AreWritable (flat_map cover_lines cs)
@@ -285,13 +253,13 @@ covers_writable (c ∷ cs) h words i = either_writable (cover_lines c) (flat_map
 
 control_clean : (control : Option (List ℕ)) → ((name : List ℕ) → control ≡ Some name → IsClean name) → (w : List ℕ) → In (control_words control) w → IsClean w
 control_clean None h w i = elim i [ ]
-control_clean (Some name) h w (inl e) = subst IsClean (sym e) (token_clean (codes "re") (omega arith) refl)
+control_clean (Some name) h w (inl e) = subst IsClean (sym e) (word_clean (codes "re") (omega arith) refl)
 control_clean (Some name) h w (inr (inl e)) = subst IsClean (sym e) (h name refl)
 control_clean (Some name) h w (inr (inr i)) = elim i [ ]
 
 latch_writable : (l : LatchValue) → IsCleanBody (Latch l) → IsWritable (latch_line l)
 latch_writable l h =
-    headed (codes ".latch") (l.input ∷ l.output ∷ (control_words l.control ++ output_token l.init ∷ [])) (token_clean (codes ".latch") (omega arith) refl)
+    headed (codes ".latch") (l.input ∷ l.output ∷ (control_words l.control ++ output_token l.init ∷ [])) (word_clean (codes ".latch") (omega arith) refl)
     (either_clean (l.input ∷ l.output ∷ []) (control_words l.control ++ output_token l.init ∷ []) (either_clean (l.input ∷ []) (l.output ∷ []) (one_clean l.input h.0) (one_clean l.output h.1))
     (either_clean (control_words l.control) (output_token l.init ∷ []) (control_clean l.control h.2) (one_clean (output_token l.init) (output_clean l.init))))
 
@@ -302,7 +270,7 @@ latches_writable (l ∷ ls) h words (inr i) = latches_writable ls (λ d j. h d (
 
 inputs_writable : (inputs : List (List (List ℕ))) → ((names : List (List ℕ)) → In inputs names → (w : List ℕ) → In names w → IsClean w) → AreWritable (map (λ names. codes ".inputs" ∷ names) inputs)
 inputs_writable [] h words i = elim i [ ]
-inputs_writable (names ∷ inputs) h words (inl e) = subst IsWritable (sym e) (headed (codes ".inputs") names (token_clean (codes ".inputs") (omega arith) refl) (h names (inl refl)))
+inputs_writable (names ∷ inputs) h words (inl e) = subst IsWritable (sym e) (headed (codes ".inputs") names (word_clean (codes ".inputs") (omega arith) refl) (h names (inl refl)))
 inputs_writable (names ∷ inputs) h words (inr i) = inputs_writable inputs (λ d j. h d (inr j)) words i
 
 one_writable : (words : List (List ℕ)) → IsWritable words → AreWritable (words ∷ [])
@@ -311,12 +279,12 @@ one_writable words h other (inr i) = elim i [ ]
 
 lines_writable : (n : PlainNetlist) → IsPlain n → AreWritable (netlist_lines n)
 lines_writable n h =
-    either_writable ((codes ".model" ∷ n.name ∷ []) ∷ []) (body_lines n) (one_writable (codes ".model" ∷ n.name ∷ []) (headed (codes ".model") (n.name ∷ []) (token_clean (codes ".model") (omega arith) refl) (one_clean n.name h.name)))
+    either_writable ((codes ".model" ∷ n.name ∷ []) ∷ []) (body_lines n) (one_writable (codes ".model" ∷ n.name ∷ []) (headed (codes ".model") (n.name ∷ []) (word_clean (codes ".model") (omega arith) refl) (one_clean n.name h.name)))
     (either_writable (map (λ (names : List (List ℕ)). codes ".inputs" ∷ names) n.inputs) _ (inputs_writable n.inputs h.inputs)
-    (either_writable ((codes ".outputs" ∷ n.outputs) ∷ []) _ (one_writable (codes ".outputs" ∷ n.outputs) (headed (codes ".outputs") n.outputs (token_clean (codes ".outputs") (omega arith) refl) h.outputs))
+    (either_writable ((codes ".outputs" ∷ n.outputs) ∷ []) _ (one_writable (codes ".outputs" ∷ n.outputs) (headed (codes ".outputs") n.outputs (word_clean (codes ".outputs") (omega arith) refl) h.outputs))
     (either_writable (map latch_line n.latches) _ (latches_writable n.latches h.latches)
     (either_writable (flat_map cover_lines n.covers) ((codes ".end" ∷ []) ∷ []) (covers_writable n.covers h.covers)
-    (one_writable (codes ".end" ∷ []) (headed (codes ".end") [] (token_clean (codes ".end") (omega arith) refl) (λ w i. elim i [ ])))))))
+    (one_writable (codes ".end" ∷ []) (headed (codes ".end") [] (word_clean (codes ".end") (omega arith) refl) (λ w i. elim i [ ])))))))
 
 statements_words : (text : List ℕ) (lines : List LineValue) → statements text lines ≡ map statement_of (map (words_line text) lines)
 statements_words text [] = refl

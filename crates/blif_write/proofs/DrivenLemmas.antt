@@ -1,14 +1,8 @@
 -- The names of a written netlist's parts: of which kind they are, and that each stands once.
-use Rattle.std.proofs.Common.{◌≡◌, ℕ, zero, suc, ◌+◌, ◌^◌, ◌<◌, ◌≤◌, Bool, true, false, not, cond, eqb, ◌&&◌, ◌||◌, nat_lt, List, [], ◌∷◌, ◌++◌, length, map, replicate, slice_get, bytes_eq, Option, Some, refl, sym, ap, subst, ◌∙◌, inl, inr, arith, decimal}
+use Rattle.std.proofs.Common.{◌≡◌, ℕ, suc, ◌+◌, ◌^◌, ◌<◌, ◌≤◌, Bool, true, false, cond, List, [], ◌∷◌, ◌++◌, length, map, slice_get, bytes_eq, Option, Some, refl, sym, inl, inr, arith, decimal}
 use Rattle.std.proofs.lemmas.Slice.Eq.{bytes_eq-Decides}
-use Rattle.std.proofs.lemmas.Bool.{ne_eqb, ltb-true, or_from}
-use Rattle.std.proofs.lemmas.Fmt.{decimal-digits_of, decimal_digit}
-use Rattle.std.proofs.lemmas.Int.Digits.{all_below_base_digits_of}
-use Rattle.std.specs.Int.Digits.{digits_of, AllBelowBase}
 use Rattle.list_laws.specs.Members.{In}
 use Rattle.list_laws.proofs.Members.{In-append, from_map}
-use Rattle.tl_text.specs.Lines.{is_bad}
-use Rattle.tl_text.specs.Tokens.{is_blank}
 use Rattle.tl_text.specs.Clean.{IsClean}
 use Rattle.tl_text.specs.Once.{AreOnce}
 use Rattle.netlist.specs.declared.latch.Latch.{Latch as LatchValue}
@@ -20,43 +14,12 @@ use Rattle.cover_pick.specs.declared.lut.Lut.{Lut}
 use Rattle.cover_pick.specs.Mapping.{AscendByLit}
 use Rattle.blif_write.specs.OwnNames.{Naming, own_name, table_name, latch_name, literal_name}
 use Rattle.blif_write.specs.Netlists.{wire_of, wire, wires, written_latches}
-use Rattle.blif_write.proofs.DenoteLemmas.{is_odd, even_clean}
-use Rattle.blif_write.proofs.RowValueLemmas.{not_true}
+use Rattle.tl_text.proofs.WordLemmas.{is_special, ordinary_clean, marked_ordinary, decimal_ordinary}
 use Rattle.blif_write.proofs.OwnNameLemmas.{own_number}
 
 -- own names are clean
-not_below : (a b : ℕ) → b ≤ a → nat_lt a b ≡ false
-not_below a b h = not_true (nat_lt a b) (λ t. let e : a < b = ltb-true a b t in omega (arith, e, h))
-
-digit_even : (b : ℕ) → 48 ≤ b → b ≤ 57 → is_odd b ≡ false
-digit_even b low high =
-    or_from (is_blank b) (is_bad b || (eqb b 35 || eqb b 92)) (or_from (eqb b 32) (eqb b 9) (ne_eqb b 32 (λ e. omega (arith, e, low))) (ne_eqb b 9 (λ e. omega (arith, e, low))))
-    (or_from (is_bad b) (eqb b 35 || eqb b 92)
-    (or_from (nat_lt b 32 && not (eqb b 9)) (eqb b 127) (ap (λ (t : Bool). t && not (eqb b 9)) (not_below b 32 (omega (arith, low)))) (ne_eqb b 127 (λ e. omega (arith, e, high))))
-    (or_from (eqb b 35) (eqb b 92) (ne_eqb b 35 (λ e. omega (arith, e, low))) (ne_eqb b 92 (λ e. omega (arith, e, high)))))
-
-digits_even : (ds : List ℕ) → AllBelowBase 10 ds → (b : ℕ) → In (map (λ d. 48 + d) ds) b → is_odd b ≡ false
-digits_even [] h b i = elim i [ ]
-digits_even (d ∷ ds) h b (inl e) = let s : d < 10 = h.0 in digit_even b (omega (arith, e)) (omega (arith, e, s))
-digits_even (d ∷ ds) h b (inr i) = digits_even ds h.1 b i
-
-zero_even : (b : ℕ) → In ((48 + 0) ∷ []) b → is_odd b ≡ false
-zero_even b (inl e) = ap is_odd e
-zero_even b (inr i) = elim i [ ]
-
-number_even : (n : ℕ) → n < 2 ^ 64 → (b : ℕ) → In (decimal n) b → is_odd b ≡ false
-number_even zero small b i = zero_even b (subst (λ (l : List ℕ). In l b) (decimal_digit 0 (omega arith)) i)
-number_even (suc n) small b i =
-    digits_even (digits_of 10 (suc n)) (all_below_base_digits_of 10 (suc n) (omega arith)) b (subst (λ (l : List ℕ). In l b) (decimal-digits_of (suc n) (omega arith) small) i)
-
-repeated_even : (count letter : ℕ) (rest : List ℕ) → is_odd letter ≡ false → ((b : ℕ) → In rest b → is_odd b ≡ false) → (b : ℕ) → In (replicate count 95 ++ letter ∷ rest) b → is_odd b ≡ false
-repeated_even zero letter rest h k b (inl e) = ap is_odd e ∙ h
-repeated_even zero letter rest h k b (inr i) = k b i
-repeated_even (suc count) letter rest h k b (inl e) = ap is_odd e
-repeated_even (suc count) letter rest h k b (inr i) = repeated_even count letter rest h k b i
-
-pub own_clean : (g : Naming) (letter number : ℕ) → is_odd letter ≡ false → number < 2 ^ 64 → IsClean (own_name g letter number)
-own_clean g letter number h small = even_clean (own_name g letter number) (omega arith) (repeated_even (suc g.under) letter (decimal number) h (number_even number small))
+pub own_clean : (g : Naming) (letter number : ℕ) → is_special letter ≡ false → number < 2 ^ 64 → IsClean (own_name g letter number)
+own_clean g letter number h small = ordinary_clean (own_name g letter number) (omega arith) (marked_ordinary (suc g.under) letter (decimal number) h (decimal_ordinary number small))
 
 -- latches
 pub latch_output : (g : Naming) (control : Option (List ℕ)) (ordinal : ℕ) (ls : List FlatLatch) (nexts : List Lit) (name : List ℕ) → In (map (λ (l : LatchValue). l.output) (written_latches g control ordinal ls nexts)) name

@@ -10,7 +10,6 @@ mod ReadLemmas
 mod LineLemmas
 pub mod OnceLemmas
 mod WriteLemmas
-mod NumberLemmas
 pub mod RoundTrip
 mod CertExample
 mod TextExample

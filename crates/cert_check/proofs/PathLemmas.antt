@@ -1,9 +1,7 @@
 -- The nodes of a path are no higher than its end, and a set that blocks this has one of them.
-use Rattle.std.proofs.Common.{◌≡◌, ℕ, ◌+◌, ◌-◌, ◌/◌, ◌<◌, ◌≤◌, List, [], ◌∷◌, length, refl, sym, ap, ◌∙◌, subst, inl, inr, ◌⊎◌, arith}
-use Rattle.std.proofs.lemmas.Option.{slice_get_within, same_Some}
-use Rattle.aig_core.specs.Aig.{Aig, first_and, IsNode, IsNormal, AreNormal, IsSource}
-use Rattle.aig_core.specs.declared.lit.Kind.{Kind}
-use Rattle.aig_core.specs.declared.lit.Kind.TheVariants.{Regular, Parameter}
+use Rattle.std.proofs.Common.{◌≡◌, ℕ, ◌+◌, ◌-◌, ◌/◌, ◌<◌, ◌≤◌, List, [], ◌∷◌, refl, sym, ap, ◌∙◌, subst, inl, inr, ◌⊎◌, arith}
+use Rattle.aig_core.specs.Aig.{Aig, first_and, IsNode, IsNormal, AreNormal}
+use Rattle.aig_core.specs.declared.lit.Kind.TheVariants.{Parameter}
 use Rattle.aig_core.specs.declared.lit.Pair.{Pair}
 use Rattle.aig_core.proofs.NodeLemmas.{source_below, same_pair}
 use Rattle.list_laws.specs.Members.{In}

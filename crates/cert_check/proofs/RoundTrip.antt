@@ -1,20 +1,23 @@
 -- What is written as the text of a certificate is read back as the same certificate, but for the numbers of its lines.
-use Rattle.std.proofs.Common.{◌≡◌, ℕ, suc, ◌+◌, ◌^◌, ◌<◌, ◌≤◌, eqb, List, [], ◌∷◌, ◌++◌, length, map, Some, None, codes, decimal, refl, sym, ap, ◌∙◌, subst, inl, inr, arith}
+use Rattle.std.proofs.Common.{◌≡◌, ℕ, suc, ◌+◌, ◌^◌, ◌<◌, ◌≤◌, eqb, leb, List, [], ◌∷◌, ◌++◌, length, map, Some, None, codes, decimal, refl, sym, ap, ◌∙◌, subst, inl, inr, arith}
 use Rattle.std.specs.Option.{option_and_then}
-use Rattle.std.proofs.lemmas.Bool.{cond-false, ne_eqb}
+use Rattle.std.proofs.lemmas.Bool.{cond-true, cond-false, ne_eqb, le-leb}
 use Rattle.std.proofs.lemmas.List.{map-append, length-map}
 use Rattle.list_laws.specs.Members.{In}
 use Rattle.list_laws.proofs.Members.{In-append}
 use Rattle.tl_text.specs.Clean.{IsClean}
 use Rattle.tl_text.specs.LineValue.{WordsLine}
 use Rattle.cert_check.specs.CertificateValue.{PathValue, StepValue, CertificateValue}
-use Rattle.cert_check.specs.CertText.{Saying, says_depth, says_claim, says_path, number_of, in_front, numbers_of, saying_by, path_with, said_of, SaidLine, path_said, steps_said, AreSaid, AreLinesOf}
+use Rattle.cert_check.specs.CertText.{Saying, says_depth, says_claim, says_path, small, number_of, in_front, numbers_of, saying_by, path_with, said_of, SaidLine, path_said, steps_said, AreSaid, AreLinesOf}
 use Rattle.cert_check.specs.WrittenText.{saying_words, cert_lines, cert_text, bare_path, bare_step, IsWritablePath, IsWritableStep, IsWritable, ReadsBack}
 use Rattle.cert_check.proofs.FormedLemmas.{IsReadable}
+use Rattle.tl_text.proofs.WordLemmas.{decimal_back, decimal_clean, word_clean}
 use Rattle.tl_text.proofs.WrittenLineLemmas.{IsCleanLine, AreCleanLines, numbered, ReadsAgain, reads_again, numbered-append}
-use Rattle.cert_check.proofs.NumberLemmas.{plain_clean, tested_plain, number_back, number_clean}
 
 -- each is said by its words
+number_back : (n : ℕ) → n < 2 ^ 32 → number_of (decimal n) ≡ Some n
+number_back n l = ap (option_and_then small) (decimal_back n (omega arith)) ∙ cond-true (leb n 4294967295) (Some n) None (le-leb n 4294967295 (omega arith))
+
 numbers_back : (ns : List ℕ) → ((m : ℕ) → In ns m → m < 2 ^ 32) → numbers_of (map decimal ns) ≡ Some ns
 numbers_back [] h = refl
 numbers_back (n ∷ ns) h = ap (λ o. in_front o (numbers_of (map decimal ns))) (number_back n (h n (inl refl))) ∙ ap (in_front (Some n)) (numbers_back ns (λ m i. h m (inr i)))
@@ -34,17 +37,17 @@ says_back (says_path ns) f = ap (option_and_then (saying_by (codes "path"))) (nu
 
 -- and these are clean
 word_depth : IsClean (codes "depth")
-word_depth = plain_clean (codes "depth") (omega arith) (tested_plain (codes "depth") refl)
+word_depth = word_clean (codes "depth") (omega arith) refl
 
 word_claim : IsClean (codes "claim")
-word_claim = plain_clean (codes "claim") (omega arith) (tested_plain (codes "claim") refl)
+word_claim = word_clean (codes "claim") (omega arith) refl
 
 word_path : IsClean (codes "path")
-word_path = plain_clean (codes "path") (omega arith) (tested_plain (codes "path") refl)
+word_path = word_clean (codes "path") (omega arith) refl
 
 decimals_clean : (ns : List ℕ) → ((m : ℕ) → In ns m → m < 2 ^ 32) → (w : List ℕ) → In (map decimal ns) w → IsClean w
 decimals_clean [] h w i = absurd i
-decimals_clean (n ∷ ns) h w (inl e) = let l : n < 2 ^ 32 = h n (inl refl) in subst IsClean (sym e) (number_clean n (omega arith))
+decimals_clean (n ∷ ns) h w (inl e) = let l : n < 2 ^ 32 = h n (inl refl) in subst IsClean (sym e) (decimal_clean n (omega arith))
 decimals_clean (n ∷ ns) h w (inr i) = decimals_clean ns (λ m j. h m (inr j)) w i
 
 words_clean : (first : List ℕ) (ns : List ℕ) → IsClean first → ((m : ℕ) → In ns m → m < 2 ^ 32) → IsCleanLine (first ∷ map decimal ns)
