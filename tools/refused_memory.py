@@ -57,6 +57,7 @@ __attribute__((destructor)) static void tell(void) {
 """
 
 FILES = {
+    "one.aag": b"aag 6 3 0 1 3\n2\n4\n6\n13\n8 6 2\n10 7 4\n12 11 9\ni0 a\ni1 b\ni2 p\no0 y\n",
     "mux.blif": b".model mux\n.inputs a b p\n.outputs y\n.names p a b y\n11- 1\n0-1 1\n.end\n",
     "mux.par": b"p 0\n",
     "mux.scr": b"set p=1\ncycle 10\nupset 3\nscrub\nimage\n",
@@ -73,6 +74,8 @@ CALLS = [
     "repack one.ppc two.ppc",
     "prove 2 mux.blif mux.par mux.cert",
     "audit 2 mux.blif mux.par one.cert",
+    "graph mux.blif mux.par mux.aag",
+    "run 2 one.aag mux.par mux.scr 0 0",
     "gen 1 0",
     "gen 2 1",
 ]

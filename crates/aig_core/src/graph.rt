@@ -97,11 +97,13 @@ impl Graph {
 
     /// How many sources there are: they have the indices from 1 on.
     ///
-    /// It also tells that the graph is normal, as every graph is.
+    /// It also tells that the graph is normal, as every graph is, and that under any values of the sources one list of values fits
+    /// the graph, and no other.
     pub fn sources(&self) -> u32
         ensures count { result ≡ length self.now.kinds }
         ensures small { result < 2 ^ 30 }
         ensures normal { AreNormal (first_and self.now) self.now.pairs }
+        ensures one { (given : List Bool) → length given ≡ length self.now.kinds → HasOneFit self.now given }
     {
         self.kinds.len() as u32
     }

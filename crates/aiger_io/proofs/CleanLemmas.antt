@@ -1,11 +1,10 @@
 -- The names in the library of a text are clean, and those of its ports short.
-use Rattle.std.proofs.Common.{◌≡◌, lit<, ℕ, zero, suc, ◌+◌, ◌-◌, ◌*◌, ◌/◌, ◌%◌, ◌^◌, ◌<◌, ◌≤◌, Bool, true, ◌&&◌, ◌⊎◌, get_or, List, [], ◌∷◌, ◌++◌, length, drop, Ok, decimal, codes, inl, inr, sym, ap, subst, arith, length-append, length-drop}
-use Rattle.std.specs.Prelude.{replicate}
+use Rattle.std.proofs.Common.{◌≡◌, lit<, ℕ, ◌+◌, ◌-◌, ◌*◌, ◌/◌, ◌^◌, ◌<◌, ◌≤◌, Bool, true, false, ◌&&◌, ◌⊎◌, List, [], ◌∷◌, ◌++◌, length, drop, Ok, decimal, codes, inl, inr, refl, sym, ap, subst, arith, length-append, length-drop}
 use Rattle.std.specs.Str.Lines.{lines}
-use Rattle.std.proofs.lemmas.Bool.{and_parts, ne_eqb}
-use Rattle.std.proofs.lemmas.Fmt.{decimal_by_steps, decimal_nonempty, length-decimal-le}
+use Rattle.std.proofs.lemmas.Bool.{and_parts}
+use Rattle.std.proofs.lemmas.Fmt.{length-decimal-le}
 use Rattle.list_laws.specs.Members.{In}
-use Rattle.list_laws.proofs.Members.{In-append, In-get_or, In-left, In-right}
+use Rattle.list_laws.proofs.Members.{In-get_or, In-left, In-right}
 use Rattle.netlist.specs.Flat.{most_underscores}
 use Rattle.netlist.specs.HasCleanNames.{AreClean, IsCleanBody, IsCleanModel, HasCleanNames}
 use Rattle.netlist.specs.LibraryValue.{ModelValue, LibraryValue, Ports, ports_of, input_ports, output_ports, clock_ports}
@@ -14,6 +13,7 @@ use Rattle.netlist.specs.declared.cell.Cell.{Cell}
 use Rattle.netlist.specs.declared.cell.Cell.TheVariants.{One}
 use Rattle.netlist.specs.declared.command.Command.{Command}
 use Rattle.tl_text.specs.Clean.{IsClean}
+use Rattle.tl_text.proofs.WordLemmas.{is_special, ordinary_clean, word_clean, one_clean, more_clean, byte_ordinary, decimal_ordinary, marked_ordinary}
 use Rattle.aiger_io.specs.Bodies.{named_count}
 use Rattle.aiger_io.specs.Circuit.{Circuit, circuit_of}
 use Rattle.aiger_io.specs.CircuitLibrary.{mark_of, own_name, variable_name, next_name, cell_of, cover_command, zero_command, latch_command, port_name, item_commands, commands_of, model_of, library_of}
@@ -25,87 +25,25 @@ use Rattle.aiger_io.specs.declared.header.Header.{Header}
 use Rattle.aiger_io.specs.declared.item.Item.{Item}
 use Rattle.aiger_io.specs.declared.item.Item.TheVariants.{Input, Latch, Output, And}
 use Rattle.aiger_io.proofs.FormedLemmas.{all_commands, small_names, said_size, said_named}
-use Rattle.aiger_io.proofs.NamedLemmas.{AreNamed, IsGoodByte, bytes_clean, within_get}
+use Rattle.aiger_io.proofs.NamedLemmas.{AreNamed, within_get}
 use Rattle.aiger_io.proofs.PlaceLemmas.{AreItems, IsItemAt, of_input, of_output, literal_low, variable_low, items_known}
 use Rattle.aiger_io.proofs.PortLemmas.{IsPortName, by_symbol, by_default, port_name_of, inputs_length, outputs_length}
 use Rattle.aiger_io.proofs.ReadLemmas.{circuit_read}
 use Rattle.aiger_io.proofs.CappedLemmas.{header_small}
 use Rattle.aiger_io.proofs.RowLemmas.{lines_few}
 
--- a byte from `0` to `z` that is no `\`
-record IsPlain (b : ℕ) : Type 0 where
-  low : 48 ≤ b
-  high : b < 123
-  other : b ≡ 92 → ⊥
+-- letters and digits, behind marks
+letter_ordinary : (b : ℕ) → 93 ≤ b → b < 123 → is_special b ≡ false
+letter_ordinary b low high = byte_ordinary b (omega arith) high (λ e. let q : b ≡ 92 = e in omega arith)
 
-plain_good : (b : ℕ) → IsPlain b → IsGoodByte b
-plain_good b p = let l : 48 ≤ b = p.low in let h : b < 123 = p.high in record { low = omega arith; comment = λ e. let q : b ≡ 35 = e in omega arith; delete = λ e. let q : b ≡ 127 = e in omega arith }
-
-plain_clean : (w : List ℕ) → 0 < length w → ((b : ℕ) → In w b → IsPlain b) → IsClean w
-plain_clean w some plain = bytes_clean w some (λ b i. plain_good b (plain b i)) (ne_eqb (get_or w (length w - 1) 0) 92 (plain (get_or w (length w - 1) 0) (In-get_or w (length w - 1) 0 (omega arith))).other)
-
--- digits
-record IsDigits (n : ℕ) (ds : List ℕ) : Type 0 where
-  digits : (b : ℕ) → In ds b → IsPlain b
-
-digit_plain : (d b : ℕ) → d < 10 → b ≡ 48 + d → IsPlain b
-digit_plain d b l e = record { low = omega arith; high = omega arith; other = λ q. let z : b ≡ 92 = q in omega arith }
-
-one_digit : (n : ℕ) → n < 10 → IsDigits n ((48 + n) ∷ [])
-one_digit n l = record { digits = λ b i. elim i [ inl e ↦ digit_plain n b l e | inr j ↦ absurd j ] }
-
-more_digits : (n : ℕ) (ds : List ℕ) → 10 ≤ n → IsDigits (n / 10) ds → IsDigits n (ds ++ ((48 + n % 10) ∷ []))
-more_digits n ds l k = record {
-  digits = λ b i. elim (In-append ds ((48 + n % 10) ∷ []) b i) [
-    | inl j ↦ k.digits b j
-    | inr j ↦ elim j [ inl e ↦ digit_plain (n % 10) b (omega arith) e | inr x ↦ absurd x ]
-  ];
-}
-
-decimal_plain : (n : ℕ) → n < 2 ^ 64 → (b : ℕ) → In (decimal n) b → IsPlain b
-decimal_plain n l = (decimal_by_steps IsDigits one_digit more_digits n l).digits
-
-letter_plain : (letter : ℕ) → IsPlain letter → (n : ℕ) → n < 2 ^ 64 → (b : ℕ) → In (letter ∷ decimal n) b → IsPlain b
-letter_plain letter p n l b (inl e) = subst IsPlain (sym e) p
-letter_plain letter p n l b (inr i) = decimal_plain n l b i
-
-pub decimal_clean : (n : ℕ) → n < 2 ^ 64 → IsClean (decimal n)
-decimal_clean n l = plain_clean (decimal n) (decimal_nonempty n l) (decimal_plain n l)
-
-pub letter_clean : (b : ℕ) → 48 ≤ b → b < 92 → IsClean (b ∷ [])
-letter_clean b low high = plain_clean (b ∷ []) (lit< tt) (λ d i. elim i [
-  | inl e ↦ (let q : d ≡ b = e in record { low = omega arith; high = omega arith; other = λ z. let y : d ≡ 92 = z in omega arith })
-  | inr j ↦ absurd j
-])
-
--- a letter behind `\`
-plain_letter : (b : ℕ) → 93 ≤ b → b < 123 → IsPlain b
-plain_letter b l h = record { low = omega arith; high = h; other = λ e. let q : b ≡ 92 = e in omega arith }
-
-mark_plain : (k b : ℕ) → In (replicate k 95) b → IsPlain b
-mark_plain zero b i = absurd i
-mark_plain (suc k) b (inl e) = let q : b ≡ 95 = e in plain_letter b (omega arith) (omega arith)
-mark_plain (suc k) b (inr i) = mark_plain k b i
-
-own_clean : (names : List (List ℕ)) (letter n : ℕ) → IsPlain letter → n < 2 ^ 64 → IsClean (own_name (mark_of names) letter n)
-own_clean names letter n p l = plain_clean (own_name (mark_of names) letter n) (omega (arith, length-append (mark_of names) (letter ∷ decimal n))) (λ b i. elim (In-append (mark_of names) (letter ∷ decimal n) b i) [
-  | inl j ↦ mark_plain (1 + most_underscores names) b j
-  | inr j ↦ letter_plain letter p n l b j
-])
+default_by : (letter k : ℕ) → 93 ≤ letter → letter < 123 → k < 2 ^ 64 → IsClean (default_name letter k)
+default_by letter k low high l = ordinary_clean (default_name letter k) (omega arith) (marked_ordinary 0 letter (decimal k) (letter_ordinary letter low high) (decimal_ordinary k l))
 
 pub default_clean : (letter k : ℕ) → (letter ≡ 105) ⊎ (letter ≡ 111) → k < 2 ^ 64 → IsClean (default_name letter k)
-default_clean letter k (inl e) l = let q : letter ≡ 105 = e in plain_clean (default_name letter k) (omega arith) (letter_plain letter (plain_letter letter (omega arith) (omega arith)) k l)
-default_clean letter k (inr e) l = let q : letter ≡ 111 = e in plain_clean (default_name letter k) (omega arith) (letter_plain letter (plain_letter letter (omega arith) (omega arith)) k l)
+default_clean letter k (inl e) l = let q : letter ≡ 105 = e in default_by letter k (omega arith) (omega arith) l
+default_clean letter k (inr e) l = let q : letter ≡ 111 = e in default_by letter k (omega arith) (omega arith) l
 
 -- names of commands
-one_clean : (x : List ℕ) → IsClean x → AreClean (x ∷ [])
-one_clean x c y (inl e) = subst IsClean (sym e) c
-one_clean x c y (inr i) = absurd i
-
-two_clean : (x y : List ℕ) → IsClean x → IsClean y → AreClean (x ∷ y ∷ [])
-two_clean x y c d z (inl e) = subst IsClean (sym e) c
-two_clean x y c d z (inr i) = one_clean y d z i
-
 cover_clean : (line : ℕ) (inputs : List (List ℕ)) (output : List ℕ) (cells : List Cell) (c : Command) → AreClean inputs → IsClean output → c ≡ cover_command line inputs output cells → IsCleanBody c.body
 cover_clean line inputs output cells c i o same = subst (λ (d : Command). IsCleanBody d.body) (sym same) (i, o)
 
@@ -116,13 +54,7 @@ latch_clean : (line : ℕ) (input output : List ℕ) (init : Bool) (c : Command)
 latch_clean line input output init c i o same = subst (λ (d : Command). IsCleanBody d.body) (sym same) (i, o, (λ control e. absurd (cc)))
 
 pub aag_word : IsClean (codes "aag")
-aag_word = plain_clean (codes "aag") (lit< tt) (λ b i. elim i [
-  | inl e ↦ (let q : b ≡ 97 = e in plain_letter b (omega arith) (omega arith))
-  | inr j ↦ elim j [
-    | inl e ↦ (let q : b ≡ 97 = e in plain_letter b (omega arith) (omega arith))
-    | inr k ↦ elim k [ inl e ↦ (let q : b ≡ 103 = e in plain_letter b (omega arith) (omega arith)) | inr m ↦ absurd m ]
-  ]
-])
+aag_word = word_clean (codes "aag") (lit< tt) refl
 
 -- what a circuit that was read keeps
 pub record IsKept (c : Circuit) : Type 0 where
@@ -137,7 +69,9 @@ pub record IsKept (c : Circuit) : Type 0 where
 
 module _ (c : Circuit) (kept : IsKept c) where
   name_clean : (letter n : ℕ) → 93 ≤ letter → letter < 123 → n < 2 ^ 64 → IsClean (own_name (mark_of (c.inputs ++ c.outputs)) letter n)
-  name_clean letter n low high l = own_clean (c.inputs ++ c.outputs) letter n (plain_letter letter low high) l
+  name_clean letter n low high l =
+      ordinary_clean (own_name (mark_of (c.inputs ++ c.outputs)) letter n) (omega (arith, length-append (mark_of (c.inputs ++ c.outputs)) (letter ∷ decimal n)))
+      (marked_ordinary (1 + most_underscores (c.inputs ++ c.outputs)) letter (decimal n) (letter_ordinary letter low high) (decimal_ordinary n l))
 
   read_clean : (l : ℕ) → is_literal c.header.variables l ≡ true → IsClean (variable_name (mark_of (c.inputs ++ c.outputs)) (l / 2))
   read_clean l t = let m : c.header.variables ≤ 1073741824 = kept.most in let u : l ≤ 2 * c.header.variables + 1 = literal_low c.header.variables l t in name_clean 118 (l / 2) (omega arith) (omega arith) (omega arith)
@@ -176,7 +110,7 @@ module _ (c : Circuit) (kept : IsKept c) where
       let r = and_parts (is_variable c.header.variables own) (is_literal c.header.variables left && is_literal c.header.variables right) at.range in
       let t = and_parts (is_literal c.header.variables left) (is_literal c.header.variables right) r.1 in
       cover_clean (0 + q + 2) (variable_name (mark_of (c.inputs ++ c.outputs)) (right / 2) ∷ variable_name (mark_of (c.inputs ++ c.outputs)) (left / 2) ∷ []) (variable_name (mark_of (c.inputs ++ c.outputs)) (own / 2)) (cell_of right ∷ cell_of left ∷ []) d
-      (two_clean (variable_name (mark_of (c.inputs ++ c.outputs)) (right / 2)) (variable_name (mark_of (c.inputs ++ c.outputs)) (left / 2)) (read_clean right t.1) (read_clean left t.0)) (own_variable own r.0) same
+      (more_clean (variable_name (mark_of (c.inputs ++ c.outputs)) (right / 2)) (variable_name (mark_of (c.inputs ++ c.outputs)) (left / 2) ∷ []) (read_clean right t.1) (one_clean (variable_name (mark_of (c.inputs ++ c.outputs)) (left / 2)) (read_clean left t.0))) (own_variable own r.0) same
   item_clean q (And own left right) d l at (inr i) = absurd i
 
   commands_clean : (d : Command) → In (commands_of (mark_of (c.inputs ++ c.outputs)) c) d → IsCleanBody d.body

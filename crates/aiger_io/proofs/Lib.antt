@@ -3,6 +3,11 @@ mod CappedLemmas
 mod CleanLemmas
 mod FitLemmas
 mod FormedLemmas
+mod GraphExample
+mod GraphFitLemmas
+mod GraphFormLemmas
+mod GraphItemLemmas
+mod GraphRunLemmas
 mod ItemLemmas
 mod LatchLemmas
 mod LawLemmas

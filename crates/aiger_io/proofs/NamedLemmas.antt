@@ -32,10 +32,10 @@ none_of test [] e x i = absurd i
 none_of test (y ∷ ys) e x (inl q) = subst (λ z. test z ≡ false) (sym q) (both_false (test y) (list_any test ys) e).0
 none_of test (y ∷ ys) e x (inr i) = none_of test ys (both_false (test y) (list_any test ys) e).1 x i
 
-pub record IsGoodByte (b : ℕ) : Type 0 where
-  pub low : 33 ≤ b
-  pub comment : b ≡ 35 → ⊥
-  pub delete : b ≡ 127 → ⊥
+record IsGoodByte (b : ℕ) : Type 0 where
+  low : 33 ≤ b
+  comment : b ≡ 35 → ⊥
+  delete : b ≡ 127 → ⊥
 
 good_byte : (b : ℕ) → is_bad_byte b ≡ false → IsGoodByte b
 good_byte b e =
@@ -49,7 +49,7 @@ not_blank b g = let l : 33 ≤ b = g.low in or_from (eqb b 32) (eqb b 9) (ne_eqb
 not_bad : (b : ℕ) → IsGoodByte b → is_bad b ≡ false
 not_bad b g = let l : 33 ≤ b = g.low in or_from (ltb b 32 && not (eqb b 9)) (eqb b 127) (ap (λ t. t && not (eqb b 9)) (le-ltb b 32 (omega arith))) (ne_eqb b 127 g.delete)
 
-pub bytes_clean : (name : List ℕ) → 0 < length name → ((b : ℕ) → In name b → IsGoodByte b) → ends_in 92 name ≡ false → IsClean name
+bytes_clean : (name : List ℕ) → 0 < length name → ((b : ℕ) → In name b → IsGoodByte b) → ends_in 92 name ≡ false → IsClean name
 bytes_clean name some good no_slash = record {
   bytes = record {
     some = some;

@@ -1,8 +1,8 @@
 -- The items that were read: each is of the kind of its place, with its literals in range.
-use Rattle.std.proofs.Common.{◌≡◌, ℕ, ◌+◌, ◌*◌, ◌%◌, ◌<◌, ◌≤◌, Bool, true, false, ◌&&◌, eqb, leb, ltb, List, [], ◌∷◌, ◌++◌, length, Option, Some, None, Result, Ok, Err, inl, inr, refl, sym, ◌∙◌, subst}
+use Rattle.std.proofs.Common.{◌≡◌, ℕ, ◌+◌, ◌*◌, ◌%◌, ◌<◌, ◌≤◌, Bool, true, false, ◌&&◌, eqb, leb, ltb, List, [], ◌∷◌, ◌++◌, length, Option, Some, None, Result, Ok, Err, inl, inr, refl, sym, ◌∙◌, subst, arith}
 use Rattle.std.specs.Prelude.{slice_get}
 use Rattle.std.specs.Option.{option_map}
-use Rattle.std.proofs.lemmas.Bool.{ltb-true, ltb-false, leb-true, and_parts, cond-true, cond-false, cases_Bool}
+use Rattle.std.proofs.lemmas.Bool.{ltb-true, ltb-false, leb-true, le-leb, eq-eqb, and_parts, and_from, cond-true, cond-false, cases_Bool}
 use Rattle.list_laws.proofs.Places.{get_pushed}
 use Rattle.aiger_io.specs.Items.{item_count, kind_at, one_number, latch_with, latch_of, and_with, and_of, item_of, is_literal, is_variable, is_in_range, item_with, item_at, items_from, init_of}
 use Rattle.aiger_io.specs.Numbers.{words_of, number_of, and_then}
@@ -148,6 +148,39 @@ module _ (h : Header) (p : ℕ) where
     | and_place k l ↦ absurd (cc)
   ]
 
+  -- and back
+  pub input_here : p < h.inputs → kind.Input ≡ kind_at h p
+  input_here l = elim (place_kind h p) [
+    | input_place k a ↦ sym k
+    | latch_place k a b ↦ absurd (omega arith)
+    | output_place k a b ↦ absurd (omega arith)
+    | and_place k a ↦ absurd (omega arith)
+  ]
+
+  pub latch_here : h.inputs ≤ p → p < h.inputs + h.latches → kind.Latch ≡ kind_at h p
+  latch_here l m = elim (place_kind h p) [
+    | input_place k a ↦ absurd (omega arith)
+    | latch_place k a b ↦ sym k
+    | output_place k a b ↦ absurd (omega arith)
+    | and_place k a ↦ absurd (omega arith)
+  ]
+
+  pub output_here : h.inputs + h.latches ≤ p → p < h.inputs + h.latches + h.outputs → kind.Output ≡ kind_at h p
+  output_here l m = elim (place_kind h p) [
+    | input_place k a ↦ absurd (omega arith)
+    | latch_place k a b ↦ absurd (omega arith)
+    | output_place k a b ↦ sym k
+    | and_place k a ↦ absurd (omega arith)
+  ]
+
+  pub gate_here : h.inputs + h.latches + h.outputs ≤ p → kind.And ≡ kind_at h p
+  gate_here l = elim (place_kind h p) [
+    | input_place k a ↦ absurd (omega arith)
+    | latch_place k a b ↦ absurd (omega arith)
+    | output_place k a b ↦ absurd (omega arith)
+    | and_place k a ↦ sym k
+  ]
+
 -- literals in range
 pub literal_low : (most l : ℕ) → is_literal most l ≡ true → l ≤ 2 * most + 1
 literal_low most l t = leb-true l (2 * most + 1) t
@@ -156,3 +189,12 @@ pub variable_low : (most l : ℕ) → is_variable most l ≡ true → (2 ≤ l) 
 variable_low most l t =
     let p = and_parts (eqb (l % 2) 0) (leb 2 l && leb l (2 * most)) t in
     let q = and_parts (leb 2 l) (leb l (2 * most)) p.1 in (leb-true 2 l q.0, leb-true l (2 * most) q.1)
+
+-- and back
+pub variable_in : (most n : ℕ) → 1 ≤ n → n ≤ most → is_variable most (2 * n) ≡ true
+variable_in most n low high =
+    let even : (2 * n) % 2 ≡ 0 = omega arith in
+    and_from (eqb ((2 * n) % 2) 0) (leb 2 (2 * n) && leb (2 * n) (2 * most)) (eq-eqb ((2 * n) % 2) 0 even) (and_from (leb 2 (2 * n)) (leb (2 * n) (2 * most)) (le-leb 2 (2 * n) (omega arith)) (le-leb (2 * n) (2 * most) (omega arith)))
+
+pub literal_in : (most l : ℕ) → l ≤ 2 * most + 1 → is_literal most l ≡ true
+literal_in most l low = le-leb l (2 * most + 1) low

@@ -81,7 +81,7 @@ drop_at zero xs i x e = let z : i ≡ 0 + i = omega arith in subst (λ k. slice_
 drop_at (suc n) [] i x e = absurd (cc)
 drop_at (suc n) (y ∷ ys) i x e = let z : suc (n + i) ≡ suc n + i = omega arith in subst (λ k. slice_get (y ∷ ys) k ≡ Some x) z (drop_at n ys i x e)
 
-append_at : {A : Type 0} (xs ys : List A) (i : ℕ) (x : A) → slice_get (xs ++ ys) i ≡ Some x → ((i < length xs) × (slice_get xs i ≡ Some x)) ⊎ ((k : ℕ) × (i ≡ length xs + k) × (slice_get ys k ≡ Some x))
+pub append_at : {A : Type 0} (xs ys : List A) (i : ℕ) (x : A) → slice_get (xs ++ ys) i ≡ Some x → ((i < length xs) × (slice_get xs i ≡ Some x)) ⊎ ((k : ℕ) × (i ≡ length xs + k) × (slice_get ys k ≡ Some x))
 append_at {A = A} [] ys i x e = inr (i, (let z : i ≡ length {A = A} [] + i = omega arith in z), e)
 append_at (y ∷ xs) ys zero x e = inl (omega arith, e)
 append_at (y ∷ xs) ys (suc i) x e = elim (append_at xs ys i x e) [

@@ -1,4 +1,4 @@
--- A circuit's text is read back as the circuit.
+-- A circuit's text: where its names are clean it is of the format, and it is read back where no two of them are alike.
 use Rattle.std.proofs.Common.{◌≡◌, ℕ, zero, suc, ◌+◌, ◌^◌, ◌<◌, ◌≤◌, true, false, ◌&&◌, ◌||◌, not, eqb, ltb, get_or, take, drop, List, [], ◌∷◌, ◌++◌, length, map, Option, Some, None, Ok, Err, decimal, codes, inl, inr, refl, sym, ap, ◌∙◌, subst, arith, append_assoc, append-nil, length-append}
 use Rattle.std.specs.Prelude.{bytes_eq, slice_set, slice_index_or, replicate}
 use Rattle.std.specs.Cmp.Lexicographic.{bytes_decides}
@@ -16,23 +16,26 @@ use Rattle.tl_text.specs.Tokens.{is_blank}
 use Rattle.tl_text.specs.NameSets.{has_name}
 use Rattle.tl_text.specs.Once.{AreOnce}
 use Rattle.tl_text.proofs.NameSetLemmas.{has_in}
-use Rattle.aiger_io.specs.Circuit.{Circuit, circuit_with, unless, named_circuit, named_behind, circuit_behind, circuit_under, circuit_in, circuit_of}
+use Rattle.netlist.specs.HasCleanNames.{AreClean}
+use Rattle.aiger_io.specs.Circuit.{Circuit, circuit_with, unless, named_circuit, circuit_behind, circuit_under, circuit_of}
+use Rattle.aiger_io.specs.Header.{is_header, header_in}
 use Rattle.aiger_io.specs.Items.{item_count, is_in_range, items_from}
 use Rattle.aiger_io.specs.Numbers.{and_then}
 use Rattle.aiger_io.specs.PortNames.{names_from, input_names, output_names, port_names, is_twice, is_port, name_at, first_twice}
+use Rattle.aiger_io.specs.Reading.{IsOfFormat}
 use Rattle.aiger_io.specs.Symbols.{SymbolsValue, no_name, no_symbols, kind_of, symbol_by, symbol_with, symbol_of, is_bad_byte, is_bad_name, count_of, first_of, may_stand, with_symbol, symbol_at, symbols_from}
-use Rattle.aiger_io.specs.WrittenText.{IsWritable, item_kind, numbered, numbered_text, header_words, item_words, symbol_text, circuit_text}
+use Rattle.aiger_io.specs.WrittenText.{numbered, numbered_text, header_words, item_words, symbol_text, circuit_text}
 use Rattle.aiger_io.specs.declared.aag_err.AagErr.TheVariants as aag_err
 use Rattle.aiger_io.specs.declared.header.Header.{Header}
 use Rattle.aiger_io.specs.declared.item.Item.{Item}
-use Rattle.aiger_io.specs.declared.item.Item.TheVariants.{Input, Latch, Output, And}
 use Rattle.aiger_io.specs.declared.item.Kind.{Kind}
 use Rattle.aiger_io.specs.declared.item.Kind.TheVariants as kind
 use Rattle.aiger_io.proofs.CleanLemmas.{default_clean}
 use Rattle.aiger_io.proofs.CappedLemmas.{header_small}
 use Rattle.aiger_io.proofs.SymbolLemmas.{symbols_next}
-use Rattle.aiger_io.proofs.PlaceLemmas.{IsItemAt, kind_of_item}
-use Rattle.aiger_io.proofs.RowBackLemmas.{number_back, word_byte, AllClean, row_of, line_back, one_clean, more_clean, items_back, item_lines, header_clean, header_back}
+use Rattle.aiger_io.proofs.PlaceLemmas.{IsItemAt, AreItems}
+use Rattle.tl_text.proofs.WordLemmas.{AllClean, one_clean, more_clean}
+use Rattle.aiger_io.proofs.RowBackLemmas.{number_back, word_byte, row_of, line_back, items_back, item_lines, header_clean, header_back}
 
 get_front : (w ys : List ℕ) (k : ℕ) → k < length w → get_or (w ++ ys) k 0 ≡ get_or w k 0
 get_front [] ys k l = absurd (let e : k < length {A = ℕ} [] = l in omega arith)
@@ -180,7 +183,17 @@ drop_options : {A : Type 0} (xs ys : List A) → drop (length xs) (xs ++ ys) ≡
 drop_options [] ys = refl
 drop_options (x ∷ xs) ys = drop_options xs ys
 
-module _ (c : Circuit) (w : IsWritable c) where
+-- A circuit that goes together: its header does, its items are as many as the header says, of the kinds of their places and in range, and it has a name for
+-- each input and each output.
+pub record IsFormed (c : Circuit) : Type 0 where
+  pub header : is_header c.header ≡ true
+  pub few : c.header.outputs < 2 ^ 64
+  pub count : length c.items ≡ item_count c.header
+  pub items : AreItems c.header c.items
+  pub inputs : length c.inputs ≡ c.header.inputs
+  pub outputs : length c.outputs ≡ c.header.outputs
+
+module _ (c : Circuit) (w : IsFormed c) where
   -- the symbols that are read
   abbrev said : SymbolsValue
   said = record { names = given c.inputs ++ (replicate c.header.latches no_name ++ (given c.outputs ++ [])); places = places_from 0 c.inputs ++ places_from (length (given c.inputs ++ replicate c.header.latches no_name)) c.outputs }
@@ -200,19 +213,13 @@ module _ (c : Circuit) (w : IsWritable c) where
       ap (names_from 111 0) (ap (λ k. drop k said.names) (sym front_length) ∙ ap (drop (length (given c.inputs ++ replicate c.header.latches no_name))) (sym (append_assoc (given c.inputs) (replicate c.header.latches no_name) (given c.outputs ++ [])))
       ∙ drop_options (given c.inputs ++ replicate c.header.latches no_name) (given c.outputs ++ []) ∙ append-nil (given c.outputs)) ∙ names_given 111 0 c.outputs
 
-kinds_same : (item : Item) → kind_of_item item ≡ item_kind item
-kinds_same (Input own) = refl
-kinds_same (Latch own next init) = refl
-kinds_same (Output l) = refl
-kinds_same (And own left right) = refl
-
 input_keys : (k : ℕ) → k < 2 ^ 64 → IsClean (105 ∷ decimal k)
 input_keys k l = default_clean 105 k (inl refl) l
 
 output_keys : (k : ℕ) → k < 2 ^ 64 → IsClean (111 ∷ decimal k)
 output_keys k l = default_clean 111 k (inr refl) l
 
-module _ (c : Circuit) (w : IsWritable c) where
+module _ (c : Circuit) (w : IsFormed c) (clean : AreClean (c.inputs ++ c.outputs)) where
   most : c.header.variables ≤ 1073741824
   most = (header_small c.header w.header).most
 
@@ -226,13 +233,13 @@ module _ (c : Circuit) (w : IsWritable c) where
   symbol_rows = numbered (symbol_row 105) 0 c.inputs ++ (numbered (symbol_row 111) 0 c.outputs ++ [])
 
   inputs_clean : AllClean c.inputs
-  inputs_clean x i = w.clean x (In-left c.inputs c.outputs x i)
+  inputs_clean x i = clean x (In-left c.inputs c.outputs x i)
 
   outputs_clean : AllClean c.outputs
-  outputs_clean x i = w.clean x (In-right c.inputs c.outputs x i)
+  outputs_clean x i = clean x (In-right c.inputs c.outputs x i)
 
   range_of : (item : Item) → In c.items item → is_in_range c.header.variables item ≡ true
-  range_of item i = let p = place_in c.items item i in w.ranges p.0 item p.1
+  range_of item i = let p = place_in c.items item i in (w.items p.0 item p.1).range
 
   output_rows : lines (numbered_text (symbol_text 111) 0 c.outputs) ≡ numbered (symbol_row 111) 0 c.outputs ++ []
   output_rows =
@@ -251,7 +258,7 @@ module _ (c : Circuit) (w : IsWritable c) where
 
   items_there : items_from c.header [] (item_rows ++ symbol_rows) ≡ Ok c.items
   items_there = items_back c.header most [] c.items symbol_rows
-      (λ q item e. let z : q ≡ length {A = Item} [] + q = omega arith in subst (λ n. IsItemAt c.header n item) z (record { kind = kinds_same item ∙ w.kinds q item e; range = w.ranges q item e }))
+      (λ q item e. let z : q ≡ length {A = Item} [] + q = omega arith in subst (λ n. IsItemAt c.header n item) z (w.items q item e))
       (let n : length c.items ≡ item_count c.header = w.count in omega arith)
 
   no_names : (no_symbols c.header).names ≡ replicate (length c.inputs) no_name ++ (replicate c.header.latches no_name ++ replicate (length c.outputs) no_name)
@@ -274,19 +281,27 @@ module _ (c : Circuit) (w : IsWritable c) where
       (front_length c w ∙ (let z : c.header.inputs + c.header.latches ≡ c.header.inputs + c.header.latches + 0 = omega arith in z)) (omega arith) w.few outputs_clean
       ∙ ap (λ ns. Ok (record { names = ns; places = places_from 0 c.inputs ++ places_from (length (given c.inputs ++ replicate c.header.latches no_name)) c.outputs })) (append_assoc (given c.inputs) (replicate c.header.latches no_name) (given c.outputs ++ []))
 
-  named_there : named_circuit c.header c.items (said c w) ≡ Ok c
-  named_there =
-      let ports : port_names c.header (said c w) ≡ c.inputs ++ c.outputs = ap (λ l. l ++ output_names c.header (said c w)) (inputs_said c w) ∙ ap (λ l. c.inputs ++ l) (outputs_said c w) in
-      ap (λ o. unless o (circuit_with c.header c.items (said c w))) (none_twice c.header (said c w) (item_count c.header + 2) (said c w).places (subst AreOnce (sym ports) w.once))
-      ∙ ap (λ (l : List (List ℕ)). Ok (record { header = c.header; items = c.items; inputs = l; outputs = output_names c.header (said c w) })) (inputs_said c w)
-      ∙ ap (λ (l : List (List ℕ)). Ok (record { header = c.header; items = c.items; inputs = c.inputs; outputs = l })) (outputs_said c w)
-
-  pub text_back : circuit_of (circuit_text c) ≡ Ok c
-  text_back =
+  pub text_format : IsOfFormat (circuit_text c) c
+  text_format =
       let count : item_count c.header ≡ length item_rows = sym w.count ∙ sym (length-map c.items (λ (item : Item). row_of (item_words item))) in
-      ap circuit_in text_rows
-      ∙ ap (and_then (circuit_under (item_rows ++ symbol_rows))) (header_back c.header most w.header w.few (item_rows ++ symbol_rows))
-      ∙ ap (and_then (circuit_behind c.header (item_rows ++ symbol_rows))) items_there
-      ∙ ap (named_behind c.header c.items) (ap (λ n. drop n (item_rows ++ symbol_rows)) count ∙ drop_options item_rows symbol_rows)
-      ∙ ap (and_then (named_circuit c.header c.items)) symbols_there
-      ∙ named_there
+      record {
+        said = said c w;
+        header = ap header_in text_rows ∙ header_back c.header most w.header w.few (item_rows ++ symbol_rows);
+        items = ap (λ rows. items_from c.header [] (drop 1 rows)) text_rows ∙ items_there;
+        symbols = ap (λ rows. symbols_from c.header (item_count c.header + 2) (no_symbols c.header) (drop (item_count c.header) (drop 1 rows))) text_rows
+            ∙ ap (symbols_from c.header (item_count c.header + 2) (no_symbols c.header)) (ap (λ n. drop n (item_rows ++ symbol_rows)) count ∙ drop_options item_rows symbol_rows)
+            ∙ symbols_there;
+        inputs = sym (inputs_said c w);
+        outputs = sym (outputs_said c w);
+      }
+
+-- a text of the format is its circuit's, where no two names are alike
+pub format_read : (text : List ℕ) (c : Circuit) → IsOfFormat text c → AreOnce (c.inputs ++ c.outputs) → circuit_of text ≡ Ok c
+format_read text c f once =
+    let ports : c.inputs ++ c.outputs ≡ port_names c.header f.said = ap (λ l. l ++ c.outputs) f.inputs ∙ ap (λ l. input_names c.header f.said ++ l) f.outputs in
+    ap (and_then (circuit_under (drop 1 (lines text)))) f.header
+    ∙ ap (and_then (circuit_behind c.header (drop 1 (lines text)))) f.items
+    ∙ ap (and_then (named_circuit c.header c.items)) f.symbols
+    ∙ ap (λ o. unless o (circuit_with c.header c.items f.said)) (none_twice c.header f.said (item_count c.header + 2) f.said.places (subst AreOnce ports once))
+    ∙ ap (λ (l : List (List ℕ)). Ok (record { header = c.header; items = c.items; inputs = l; outputs = output_names c.header f.said })) (sym f.inputs)
+    ∙ ap (λ (l : List (List ℕ)). Ok (record { header = c.header; items = c.items; inputs = c.inputs; outputs = l })) (sym f.outputs)

@@ -1,18 +1,18 @@
 -- Numbers, words and lines are read back as they were written.
-use Rattle.std.proofs.Common.{◌≡◌, lit<, lit≤, ℕ, zero, suc, ◌+◌, ◌-◌, ◌*◌, ◌/◌, ◌%◌, ◌^◌, ◌<◌, ◌≤◌, Bool, true, false, ◌&&◌, ◌||◌, not, eqb, leb, get_or, take, List, [], ◌∷◌, ◌++◌, length, map, Some, None, Ok, Err, decimal, codes, inl, inr, refl, sym, ap, ◌∙◌, subst, arith, append_assoc, append-nil, length-append}
+use Rattle.std.proofs.Common.{◌≡◌, lit<, ℕ, zero, suc, ◌+◌, ◌-◌, ◌*◌, ◌^◌, ◌<◌, ◌≤◌, Bool, true, false, ◌&&◌, eqb, get_or, take, List, [], ◌∷◌, ◌++◌, length, map, Some, None, Ok, Err, decimal, codes, inl, inr, refl, sym, ap, ◌∙◌, subst, arith, append_assoc, append-nil, length-append}
 use Rattle.std.specs.Prelude.{slice_get}
-use Rattle.std.specs.List.{flat_map, list_all, slice_split}
+use Rattle.std.specs.List.{flat_map, slice_split}
 use Rattle.std.specs.Option.{option_map}
 use Rattle.std.specs.Str.Lines.{lines, lines_of_parts, strip_carriage_return}
-use Rattle.std.proofs.lemmas.Bool.{and_from, and_parts, or_left, or_right, not_from_false, true≢false, le-leb, eq-eqb, ne_eqb, cond-true, cond-false, cases_eq, cases_Bool}
-use Rattle.std.proofs.lemmas.Fmt.{decimal_by_steps}
+use Rattle.std.proofs.lemmas.Bool.{and_parts, or_left, true≢false, ne_eqb, cond-true, cond-false, cases_Bool}
 use Rattle.std.proofs.lemmas.List.Splits.{slice_split_none, slice_split_at, length-slice_split}
 use Rattle.list_laws.specs.Members.{In}
 use Rattle.list_laws.proofs.Members.{In-append, In-get_or}
 use Rattle.tl_text.specs.Clean.{IsClean}
-use Rattle.tl_text.specs.Decimal.{is_digit, is_decimal, number_from}
+use Rattle.tl_text.specs.Decimal.{is_decimal, number_from}
 use Rattle.tl_text.specs.Lines.{is_bad}
 use Rattle.tl_text.specs.WrittenText.{words_text, line_text}
+use Rattle.tl_text.proofs.WordLemmas.{AllClean, one_clean, more_clean, word_clean, decimal_form, decimal_value, decimal_clean}
 use Rattle.aiger_io.specs.Header.{is_header, header_in, header_of, header_by}
 use Rattle.aiger_io.specs.Items.{item_count, kind_at, latch_with, and_with, item_of, is_literal, is_variable, is_in_range, item_with, item_at, items_from}
 use Rattle.aiger_io.specs.Numbers.{words_of, in_front, number_of}
@@ -21,68 +21,14 @@ use Rattle.aiger_io.specs.declared.aag_err.AagErr.TheVariants as aag_err
 use Rattle.aiger_io.specs.declared.header.Header.{Header}
 use Rattle.aiger_io.specs.declared.item.Item.{Item}
 use Rattle.aiger_io.specs.declared.item.Item.TheVariants.{Input, Latch, Output, And}
-use Rattle.aiger_io.proofs.CleanLemmas.{decimal_clean, letter_clean, aag_word}
+use Rattle.aiger_io.proofs.CleanLemmas.{aag_word}
 use Rattle.aiger_io.proofs.CappedLemmas.{header_small}
 use Rattle.aiger_io.proofs.ItemLemmas.{items_next, items_full}
 use Rattle.aiger_io.proofs.PlaceLemmas.{IsItemAt, kind_of_item, literal_low, variable_low}
 
 -- numbers as they are written
-record IsNumeral (n : ℕ) (ds : List ℕ) : Type 0 where
-  digits : (b : ℕ) → In ds b → (48 ≤ b) × (b ≤ 57)
-  some : 0 < length ds
-  first : 0 < n → get_or ds 0 0 ≡ 48 → ⊥
-  one : n ≡ 0 → length ds ≡ 1
-  value : number_from 0 ds ≡ n
-
-number_from-push : (ds : List ℕ) (m d : ℕ) → number_from m (ds ++ d ∷ []) ≡ 10 * number_from m ds + (d - 48)
-number_from-push [] m d = refl
-number_from-push (b ∷ bs) m d = number_from-push bs (10 * m + (b - 48)) d
-
-one_digit : (n : ℕ) → n < 10 → IsNumeral n ((48 + n) ∷ [])
-one_digit n l = record {
-  digits = λ b i. elim i [ inl e ↦ (let q : b ≡ 48 + n = e in (omega arith, omega arith)) | inr j ↦ absurd j ];
-  some = omega arith;
-  first = λ p e. let q : 48 + n ≡ 48 = e in omega arith;
-  one = λ z. refl;
-  value = (let q : 10 * 0 + (48 + n - 48) ≡ n = omega arith in q);
-}
-
-first_digit : (ds : List ℕ) (d : ℕ) → 0 < length ds → get_or (ds ++ d ∷ []) 0 0 ≡ get_or ds 0 0
-first_digit [] d l = absurd (omega arith)
-first_digit (b ∷ bs) d l = refl
-
-more_digits : (n : ℕ) (ds : List ℕ) → 10 ≤ n → IsNumeral (n / 10) ds → IsNumeral n (ds ++ ((48 + n % 10) ∷ []))
-more_digits n ds l k =
-    let v : number_from 0 ds ≡ n / 10 = k.value in
-    record {
-      digits = λ b i. elim (In-append ds ((48 + n % 10) ∷ []) b i) [
-        | inl j ↦ k.digits b j
-        | inr j ↦ elim j [ inl e ↦ (let q : b ≡ 48 + n % 10 = e in (omega arith, omega arith)) | inr x ↦ absurd x ]
-      ];
-      some = omega (arith, length-append ds ((48 + n % 10) ∷ []));
-      first = λ p e. k.first (omega arith) (sym (first_digit ds (48 + n % 10) k.some) ∙ e);
-      one = λ z. absurd (omega arith);
-      value = number_from-push ds 0 (48 + n % 10) ∙ (let q : 10 * number_from 0 ds + (48 + n % 10 - 48) ≡ n = omega arith in q);
-    }
-
-all_digits : (ds : List ℕ) → ((b : ℕ) → In ds b → (48 ≤ b) × (b ≤ 57)) → list_all is_digit ds ≡ true
-all_digits [] h = refl
-all_digits (b ∷ bs) h =
-    let r = h b (inl refl) in
-    and_from (is_digit b) (list_all is_digit bs) (and_from (leb 48 b) (leb b 57) (le-leb 48 b r.0) (le-leb b 57 r.1)) (all_digits bs (λ c i. h c (inr i)))
-
-decimal_form : (n : ℕ) (ds : List ℕ) → IsNumeral n ds → is_decimal ds ≡ true
-decimal_form n [] k = absurd (let s : 0 < length {A = ℕ} [] = k.some in omega (arith, s))
-decimal_form n (b ∷ bs) k =
-    and_from (list_all is_digit (b ∷ bs)) (not (eqb b 48) || eqb (length bs) 0) (all_digits (b ∷ bs) k.digits) (elim (cases_eq n 0) [
-      | inl z ↦ or_right (not (eqb b 48)) (eqb (length bs) 0) (eq-eqb (length bs) 0 (let e : length (b ∷ bs) ≡ 1 = k.one z in omega arith))
-      | inr ne ↦ or_left (not (eqb b 48)) (eqb (length bs) 0) (not_from_false (eqb b 48) (ne_eqb b 48 (k.first (omega (arith, ne)))))
-    ])
-
 pub number_back : (n : ℕ) → n < 2 ^ 64 → number_of (decimal n) ≡ Some n
-number_back n l =
-    let k : IsNumeral n (decimal n) = decimal_by_steps IsNumeral one_digit more_digits n l in
-    cond-true (is_decimal (decimal n)) (Some (number_from 0 (decimal n))) None (decimal_form n (decimal n) k) ∙ ap (λ x. Some x) k.value
+number_back n l = cond-true (is_decimal (decimal n)) (Some (number_from 0 (decimal n))) None (decimal_form n l) ∙ ap (λ x. Some x) (decimal_value n l)
 
 -- clean words have no line feed, no blank and no carriage return
 pub record IsWordByte (b : ℕ) : Type 0 where
@@ -99,9 +45,6 @@ word_byte w b c i = record {
   no_blank = (elim (cases_Bool (eqb b 32)) [ inl t ↦ absurd (true≢false (sym (or_left (eqb b 32) (eqb b 9) t) ∙ c.bytes.no_blank b i)) | inr f ↦ f ]);
   no_return = no_bad_byte b 13 (c.bytes.no_bad b i) refl;
 }
-
-abbrev pub AllClean : List (List ℕ) → Type 0
-AllClean ws = (w : List ℕ) → In ws w → IsClean w
 
 abbrev pub row_of : List (List ℕ) → List ℕ
 row_of [] = []
@@ -159,16 +102,8 @@ small_literal most l m t = let u : l ≤ 2 * most + 1 = literal_low most l t in 
 small_variable : (most l : ℕ) → most ≤ 1073741824 → is_variable most l ≡ true → l < 2 ^ 64
 small_variable most l m t = let u : l ≤ 2 * most = (variable_low most l t).1 in omega arith
 
-pub one_clean : (x : List ℕ) → IsClean x → AllClean (x ∷ [])
-one_clean x c y (inl e) = subst IsClean (sym e) c
-one_clean x c y (inr i) = absurd i
-
-pub more_clean : (x : List ℕ) (xs : List (List ℕ)) → IsClean x → AllClean xs → AllClean (x ∷ xs)
-more_clean x xs c d y (inl e) = subst IsClean (sym e) c
-more_clean x xs c d y (inr i) = d y i
-
 init_clean : (init : Bool) → AllClean (init_words init)
-init_clean true = one_clean (codes "1") (letter_clean 49 (lit≤ tt) (lit< tt))
+init_clean true = one_clean (codes "1") (word_clean (codes "1") (lit< tt) refl)
 init_clean false = λ w i. absurd i
 
 module _ (h : Header) (most : h.variables ≤ 1073741824) where

@@ -1,17 +1,24 @@
 -- The circuit of a graph: a variable for each source, in the order of their indices, and for each AND node. Inputs are the regular inputs, and then the parameters.
-use Rattle.std.specs.Prelude.{◌≡◌, ℕ, ◌+◌, ◌*◌, ◌^◌, ◌<◌, List, [], ◌++◌, length, map, slice_index_or}
+use Rattle.std.specs.Prelude.{◌≡◌, ℕ, ◌+◌, ◌*◌, ◌^◌, ◌<◌, List, [], ◌++◌, length, map, Some, Ok, slice_get, slice_index_or}
 use Rattle.std.specs.List.{range_with_len}
-use Rattle.list_laws.specs.Members.{In}
+use Rattle.tl_text.specs.Once.{AreOnce}
 use Rattle.aig_core.specs.Aig.{Aig, first_and}
-use Rattle.aig_core.specs.Roots.{RootsValue}
+use Rattle.aig_core.specs.Roots.{RootsValue, roots_of, AreRoots}
 use Rattle.aig_core.specs.declared.lit.Lit.{Lit}
 use Rattle.aig_core.specs.declared.lit.Pair.{Pair}
+use Rattle.aig_build.specs.NetlistCycle.{HasSourceCycles}
+use Rattle.netlist.specs.FlatCycle.{HasCycles}
 use Rattle.netlist.specs.FlatValue.{FlatValue}
+use Rattle.netlist.specs.HasCleanNames.{AreClean}
+use Rattle.netlist.specs.LibraryValue.{LibraryValue}
 use Rattle.netlist.specs.declared.flat.FlatLatch.{FlatLatch}
 use Rattle.netlist.specs.declared.flat.OutPort.{OutPort}
 use Rattle.param_list.specs.declared.params.Param.{Param}
-use Rattle.aiger_io.specs.Circuit.{Circuit}
-use Rattle.aiger_io.specs.WrittenText.{numbered}
+use Rattle.param_list.specs.Parameters.{regular_names}
+use Rattle.aiger_io.specs.Circuit.{Circuit, circuit_of}
+use Rattle.aiger_io.specs.Reading.{IsOfFormat}
+use Rattle.aiger_io.specs.Run.{HasOneFit, HasSameRuns}
+use Rattle.aiger_io.specs.WrittenText.{numbered, circuit_text}
 use Rattle.aiger_io.specs.declared.header.Header.{Header}
 use Rattle.aiger_io.specs.declared.item.Item.{Item}
 use Rattle.aiger_io.specs.declared.item.Item.TheVariants.{Input, Latch, Output, And}
@@ -58,8 +65,17 @@ graph_circuit flat params regular g roots = record {
 
 -- what was made from one library: the places of the regular inputs, a source for each input and each latch, and a root for each output and each latch
 pub record IsWrittenFrom (flat : FlatValue) (params : List Param) (regular : List ℕ) (g : Aig) (roots : RootsValue) : Type 0 where
-  pub places : (i : ℕ) → In regular i → i < length flat.inputs
+  pub names : map (slice_get flat.inputs) regular ≡ map (λ name. Some name) (regular_names flat params)
   pub sources : length g.kinds ≡ input_count regular params + length flat.latches
   pub outputs : length roots.outputs ≡ length flat.outputs
   pub next : length roots.next ≡ length flat.latches
+  pub literals : AreRoots g (roots_of roots)
   pub few : length flat.outputs < 2 ^ 32
+
+-- What the circuit of a graph keeps. Where its names are clean, its text is of the format, and is read back where no two of them are alike. Values
+-- that fit its lines are there, and agree on what the lines define. Its cycles and runs are those of the library whose graph it is.
+pub record IsGraphsCircuit (flat : FlatValue) (params : List Param) (g : Aig) (roots : RootsValue) (c : Circuit) : Type 0 where
+  pub format : AreClean (c.inputs ++ c.outputs) → IsOfFormat (circuit_text c) c
+  pub reads_back : AreClean (c.inputs ++ c.outputs) → AreOnce (c.inputs ++ c.outputs) → circuit_of (circuit_text c) ≡ Ok c
+  pub fit : HasOneFit c
+  pub runs : (library : LibraryValue) → HasCycles library flat → HasSourceCycles library flat params g roots → HasSameRuns c library

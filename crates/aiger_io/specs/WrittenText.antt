@@ -1,16 +1,9 @@
 -- The text that a circuit is written as: its header, its lines, and the symbols of all inputs and outputs.
-use Rattle.std.specs.Prelude.{◌≡◌, ℕ, suc, ◌^◌, ◌<◌, Bool, true, false, length, Some, slice_get, List, [], ◌∷◌, ◌++◌, codes, decimal}
+use Rattle.std.specs.Prelude.{ℕ, suc, Bool, true, false, List, [], ◌∷◌, ◌++◌, codes, decimal}
 use Rattle.std.specs.List.{flat_map}
-use Rattle.list_laws.specs.Members.{In}
-use Rattle.tl_text.specs.Clean.{IsClean}
-use Rattle.tl_text.specs.Once.{AreOnce}
 use Rattle.tl_text.specs.WrittenText.{line_text}
 use Rattle.aiger_io.specs.Circuit.{Circuit}
-use Rattle.aiger_io.specs.Header.{is_header}
-use Rattle.aiger_io.specs.Items.{item_count, kind_at, is_in_range}
 use Rattle.aiger_io.specs.declared.header.Header.{Header}
-use Rattle.aiger_io.specs.declared.item.Kind.{Kind}
-use Rattle.aiger_io.specs.declared.item.Kind.TheVariants as kind
 use Rattle.aiger_io.specs.declared.item.Item.{Item}
 use Rattle.aiger_io.specs.declared.item.Item.TheVariants.{Input, Latch, Output, And}
 
@@ -46,23 +39,3 @@ symbol_text letter ordinal name = line_text ((letter ∷ decimal ordinal) ∷ na
 -- the letters are `i` (105) and `o` (111)
 abbrev pub circuit_text : Circuit → List ℕ
 circuit_text c = line_text (header_words c.header) ++ (flat_map item_text c.items ++ (numbered_text (symbol_text 105) 0 c.inputs ++ numbered_text (symbol_text 111) 0 c.outputs))
-
--- the kind of an item
-abbrev pub item_kind : Item → Kind
-item_kind (Input own) = kind.Input
-item_kind (Latch own next init) = kind.Latch
-item_kind (Output l) = kind.Output
-item_kind (And own left right) = kind.And
-
--- A circuit whose text is read back: its header goes together, its items are as many as the header says, of the kinds of their places and in range, and the
--- names of its inputs and outputs are clean, and no two of them alike.
-pub record IsWritable (c : Circuit) : Type 0 where
-  pub header : is_header c.header ≡ true
-  pub few : c.header.outputs < 2 ^ 64
-  pub count : length c.items ≡ item_count c.header
-  pub kinds : (p : ℕ) (item : Item) → slice_get c.items p ≡ Some item → item_kind item ≡ kind_at c.header p
-  pub ranges : (p : ℕ) (item : Item) → slice_get c.items p ≡ Some item → is_in_range c.header.variables item ≡ true
-  pub inputs : length c.inputs ≡ c.header.inputs
-  pub outputs : length c.outputs ≡ c.header.outputs
-  pub clean : (name : List ℕ) → In (c.inputs ++ c.outputs) name → IsClean name
-  pub once : AreOnce (c.inputs ++ c.outputs)

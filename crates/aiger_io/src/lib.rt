@@ -14,14 +14,14 @@
 //!
 //! [`read_aag`] reads a text as a netlist library (`specs/CircuitLibrary.antt`), whose cycles and runs are those of the circuit:
 //! [`aag_law`]. [`put_aag`] writes the circuit of a graph (`specs/GraphCircuit.antt`), with a symbol for each input and each output
-//! (`specs/WrittenText.antt`).
+//! (`specs/WrittenText.antt`); its cycles and runs are those of the library whose graph it is: [`graph_law`].
 //!
 //! - `read_text.rt` has `read_aag`, and `aag_err.rt` the refusals.
 //! - `rows.rt` and `number.rt` have a text's lines, their words, and numbers; `header.rt` the first line.
 //! - `item.rt` and `item_line.rt` read one line of an input, a latch, an output or a gate, and `items.rt` all of them.
 //! - `symbol.rt` and `symbols.rt` read the symbols, and `port_names.rt` finds names that stand twice.
 //! - `own_name.rt`, `command.rt` and `model.rt` make the library.
-//! - `law.rt` has the law.
+//! - `law.rt` has the laws.
 //! - `written_text.rt` has `put_aag`, and `written_line.rt` the lines that it adds.
 //!
 //! # Source
@@ -49,6 +49,6 @@ mod written_line;
 mod written_text;
 
 pub use aag_err::AagErr;
-pub use law::aag_law;
+pub use law::{aag_law, graph_law};
 pub use read_text::read_aag;
 pub use written_text::put_aag;

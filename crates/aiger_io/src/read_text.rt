@@ -79,6 +79,18 @@ fn library_under(alloc: Global, header: &Header, rows: &[&[u8]]) -> Result<Libra
     Ok(made)
 }
 
+// The library of a text, or its first refusal.
+fn library_of_text(alloc: Global, text: &[u8]) -> Result<Library, AagErr>
+    requires { length text.now ≤ MOST_BYTES }
+    ensures library { IfOk result (λ library. IsLibraryOf text.now library) }
+    ensures refusal { IfErr result (OrMemory refusal_of (IsRefused text.now)) }
+{
+    let rows = rows(alloc, text)?;
+    let header = read_header(alloc, &rows)?;
+    let made = library_under(alloc, &header, rows_behind(&rows, 1))?;
+    Ok(made)
+}
+
 /// The library of the circuit that a text is: one model `aag`, with a cover or a latch for each of the lines (`specs/CircuitLibrary.antt`).
 /// It takes time and memory linear in the text and in the library, on average over the hashes of names. The library's names can be longer
 /// than the text's lines, where an input or an output has a name that begins with many underscores.
@@ -102,8 +114,5 @@ pub fn read_aag(alloc: Global, text: &[u8]) -> Result<Library, AagErr>
     ensures few { (library : LibraryValue) → IsLibraryOf text.now library → length library.models ≡ 1 }
     ensures short { (library : LibraryValue) → IsLibraryOf text.now library → HasShortPorts library }
 {
-    let rows = rows(alloc, text)?;
-    let header = read_header(alloc, &rows)?;
-    let made = library_under(alloc, &header, rows_behind(&rows, 1))?;
-    Ok(made)
+    library_of_text(alloc, text)
 }

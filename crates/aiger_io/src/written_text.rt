@@ -1,15 +1,13 @@
 //! The text of a graph.
-ghost use Rattle.std.specs.Prelude.{Ok, ◌≡◌, ◌+◌, ◌<◌, ◌≤◌, ◌^◌, ℕ, [], length, slice_index_or};
+ghost use Rattle.std.specs.Prelude.{◌≡◌, ◌+◌, ◌<◌, ◌≤◌, ◌^◌, ℕ, [], length, slice_index_or};
 ghost use Rattle.std.specs.List.{flat_map, range_with_len};
 ghost use Rattle.aig_core.specs.Aig.{first_and};
-ghost use Rattle.list_laws.specs.Members.{In};
 ghost use Rattle.tl_io.specs.Sink.{IsPut};
 ghost use Rattle.tl_piece.specs.Added.{IsAdded};
 ghost use Rattle.netlist.specs.declared.flat.OutPort.{OutPort as OutPortValue};
 ghost use Rattle.param_list.specs.declared.params.Param.{Param as ParamValue};
-ghost use Rattle.aiger_io.specs.GraphCircuit.{input_count, input_item, latch_item, output_item, gate_item, input_at, graph_circuit, IsWrittenFrom};
-ghost use Rattle.aiger_io.specs.Circuit.{circuit_of};
-ghost use Rattle.aiger_io.specs.WrittenText.{numbered_text, item_text, symbol_text, circuit_text, IsWritable};
+ghost use Rattle.aiger_io.specs.GraphCircuit.{input_count, input_item, latch_item, output_item, gate_item, graph_circuit, IsWrittenFrom};
+ghost use Rattle.aiger_io.specs.WrittenText.{numbered_text, item_text, symbol_text, circuit_text};
 ghost use Rattle.aiger_io.specs.Writing.{lines_text, symbols_text};
 
 use crate::header::Header;
@@ -156,7 +154,9 @@ fn add_symbols<O: Sink>(flat: &Flat, params: &Params, regular: &[u32], writer: &
 
 /// Puts the text of the circuit of a graph (`specs/GraphCircuit.antt`), in pieces of 4,096 bytes of which the last may be shorter. Its
 /// inputs are the regular ones, whose places are handed in, and then the parameters; it has a symbol for each input and each output.
-/// It takes no memory, and time linear in the text. Where the circuit is writable, its text is read back as the same circuit.
+/// It takes no memory, and time linear in the text.
+///
+/// [`graph_law`](crate::graph_law) says what this circuit keeps.
 ///
 /// # Errors
 /// `Failed` only where the sink's count of faults rose: then a prefix of the text stands.
@@ -170,7 +170,6 @@ pub fn put_aag<O: Sink>(
 ) -> Result<(), Failed>
     requires { IsWrittenFrom flat.now params.now.list regular.now graph.now roots.now }
     ensures put { IsPut (O.seen out.old) (circuit_text (graph_circuit flat.now params.now.list regular.now graph.now roots.now)) (O.seen out.new) result }
-    ensures reads_back { IsWritable (graph_circuit flat.now params.now.list regular.now graph.now roots.now) → circuit_of (circuit_text (graph_circuit flat.now params.now.list regular.now graph.now roots.now)) ≡ Ok (graph_circuit flat.now params.now.list regular.now graph.now roots.now) }
 {
     let _sources = graph.sources();
     let inputs = count_inputs(regular, params);

@@ -1,5 +1,5 @@
 -- A case that is ready is so small that what its events add up to fits its types.
-use Rattle.std.proofs.Common.{◌≡◌, ℕ, ◌+◌, ◌^◌, ◌≤◌, true, leb, List, [], ◌∷◌, length, map, Option, Some, None, refl, sym, ap, ◌∙◌, subst, inl, inr, arith}
+use Rattle.std.proofs.Common.{◌≡◌, ℕ, ◌+◌, ◌^◌, ◌≤◌, true, false, leb, List, [], ◌∷◌, length, map, Option, Some, None, refl, sym, ap, ◌∙◌, subst, inl, inr, arith}
 use Rattle.std.specs.Option.{option_and_then}
 use Rattle.std.proofs.lemmas.Bool.{cases_lt, le-leb}
 use Rattle.std.proofs.lemmas.Option.{none-some, same_Some, slice_get-get_or}
@@ -18,7 +18,9 @@ use Rattle.run_text.specs.declared.event.TheConstants.{MOST_EVENTS}
 use Rattle.run_text.specs.declared.script_err.ScriptErr.TheVariants.{Events}
 use Rattle.gen_case.specs.Lines.{text_of}
 use Rattle.gen_case.specs.Netlist.{netlist_lines}
+use Rattle.cmd_stations.specs.LibraryText.{is_aag, DenotesLibrary}
 use Rattle.cmd_stations.specs.Source.{HasNetlist}
+use Rattle.cmd_stations.proofs.LibraryTextLemmas.{blif_denotes}
 use Rattle.cmd_run.specs.declared.gen_command.words.GenWords.{GenWords}
 use Rattle.cmd_run.specs.declared.run.prepare.Ready.{Ready}
 use Rattle.cmd_run.specs.Run.Ready.{IsReadyFor}
@@ -59,6 +61,11 @@ events_few names text events is =
     let few : length lines ≤ 2 ^ 20 = no_line_there names lines (2 ^ 20) (omega arith) ((is.are).no_refusal (2 ^ 20)) in
     omega (arith, each, few)
 
+-- a generated netlist begins with `.model`, and so is BLIF
+generated_is_blif : (digits : ℕ) → is_aag (text_of (netlist_lines digits)) ≡ false
+unfolding netlist_lines
+generated_is_blif digits = refl
+
 module _ (words : GenWords) (has : HasDigits words) (ready : Ready) (is : IsReadyFor (case_files words) case_words ready) where
   -- its template has at most two outputs a digit, and those of the full adder
   template_short : length (is.job).template.outputs ≤ 66
@@ -66,7 +73,8 @@ module _ (words : GenWords) (has : HasDigits words) (ready : Ready) (is : IsRead
       let mapped = ((is.is_job).mapped).mapped in
       let netlist : HasNetlist (case_files words) case_words.source ((is.job).source).netlist = (((is.is_job).mapped).has).netlist in
       let text : netlist.text ≡ text_of (netlist_lines words.digits) = same_Some netlist.text _ (sym (netlist.there).is ∙ netlist_there words) in
-      let denotes : Denotes (text_of (netlist_lines words.digits)) (((is.job).source).netlist).library = subst (λ (t : List ℕ). Denotes t (((is.job).source).netlist).library) text (netlist.is).denotes in
+      let denotes : Denotes (text_of (netlist_lines words.digits)) (((is.job).source).netlist).library =
+      blif_denotes (text_of (netlist_lines words.digits)) (((is.job).source).netlist).library (generated_is_blif words.digits) (subst (λ (t : List ℕ). DenotesLibrary t (((is.job).source).netlist).library) text (netlist.is).denotes) in
       let flat = few_outputs words.digits _ _ has.most denotes (netlist.is).flat in
       let chosen : length (is.job).template.outputs ≡ length (mapped.roots).outputs = ap (λ (ls : List Lit). length ls) ((mapped.chosen).chosen).outputs in
       let graph = (mapped.is_graph).outputs in

@@ -1,5 +1,5 @@
 -- Hosts of packs with the same configurations put the same lines for the same events.
-use Rattle.std.proofs.Common.{◌≡◌, ℕ, ◌+◌, Bool, not, List, [], ◌∷◌, length, get_or, drop, refl, sym, ap, ◌∙◌, subst, arith}
+use Rattle.std.proofs.Common.{◌≡◌, ℕ, Bool, not, List, [], ◌∷◌, length, get_or, drop, refl, sym, ap, ◌∙◌, subst, arith}
 use Rattle.tl_io.specs.declared.Assign.{Assign}
 use Rattle.tl_io.specs.declared.Write.{Write}
 use Rattle.tl_io.specs.Assigns.{assigned}

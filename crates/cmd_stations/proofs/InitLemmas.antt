@@ -6,7 +6,7 @@ use Rattle.netlist.specs.LibraryValue.{LibraryValue}
 use Rattle.netlist.specs.declared.flat.FlatLatch.{FlatLatch}
 use Rattle.netlist.specs.Flat.{Places, IsFlatLatch}
 use Rattle.netlist.specs.FlatCycle.{flat_inits}
-use Rattle.netlist.specs.Places.{Place, latch_at}
+use Rattle.netlist.specs.Places.{Place}
 use Rattle.netlist.specs.Runs.{init_state, inits_of}
 use Rattle.netlist.proofs.PlaceLemmas.{latch_at-some}
 use Rattle.param_list.specs.declared.params.Param.{Param}

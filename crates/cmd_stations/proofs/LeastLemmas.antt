@@ -1,5 +1,5 @@
 -- The tables of a mapping of the least depth have few leaves.
-use Rattle.std.proofs.Common.{◌≡◌, ℕ, ◌≤◌, ◌-◌, ◌/◌, ◌&&◌, leb, bytes_eq, codes, List, [], ◌∷◌, length, Option, Some, None, sym, ap, subst, inl, inr, arith}
+use Rattle.std.proofs.Common.{◌≡◌, ℕ, ◌≤◌, ◌/◌, [], ◌∷◌, length, sym, ap, subst, inl, inr, arith}
 use Rattle.list_laws.specs.Members.{In}
 use Rattle.aig_core.specs.declared.lit.Kind.TheVariants.{Regular}
 use Rattle.aig_core.specs.Aig.{Aig, IsSource}

@@ -11,6 +11,9 @@ use Rattle.tl_text.specs.Refusals.{refusal_of as text_refusal}
 use Rattle.blif_read.specs.declared.blif_err.BlifErr.{BlifErr}
 use Rattle.blif_read.specs.declared.blif_err.BlifErr.TheVariants as blif_err
 use Rattle.blif_read.specs.Refusals.{refusal_of as blif_refusal}
+use Rattle.aiger_io.specs.declared.aag_err.AagErr.{AagErr}
+use Rattle.aiger_io.specs.declared.aag_err.AagErr.TheVariants as aag_err
+use Rattle.aiger_io.specs.Refusals.{refusal_of as aag_refusal}
 use Rattle.blif_flat.specs.declared.flat_err.FlatErr.{FlatErr}
 use Rattle.blif_flat.specs.declared.flat_err.FlatErr.TheVariants as flat_err
 use Rattle.blif_flat.specs.Refusals.{refusal_of as flat_refusal}
@@ -34,6 +37,8 @@ use Rattle.ppc_file.specs.declared.pack_err.PackErr.TheVariants as pack_err
 use Rattle.ppc_file.specs.Refusals.{refusal_of as pack_refusal}
 use Rattle.cmd_base.specs.Refusals.{too_long}
 use Rattle.cmd_stations.specs.declared.source.Source.{Source}
+use Rattle.cmd_stations.specs.LibraryText.{LibraryRefusal}
+use Rattle.cmd_stations.specs.LibraryText as form
 use Rattle.cmd_stations.specs.Texts.{NetlistRefusal, fault, unsound, IsParamsRefusal, IsScriptRefusal}
 use Rattle.cmd_stations.specs.Mapped.{IsUnchosen, cuts, work, IsUnmapped, too_many, unchosen}
 use Rattle.cmd_stations.specs.Aims.{Aim, ToGraph, ToLabels, ToTables, IsUnlabelled, unbuilt, many_cuts, IsUnmade}
@@ -68,6 +73,14 @@ blif_code (blif_err.DuplicatePort line name) h = not_long (ap is_long h)
 blif_code (blif_err.BadConnection line) h = not_long (ap is_long h)
 blif_code blif_err.NoModel h = not_long (ap is_long h)
 blif_code blif_err.Memory h = not_long (ap is_long h)
+
+aag_code : (e : AagErr) → aag_refusal e ≡ Some too_long → ⊥
+aag_code aag_err.Header h = not_long (ap is_long h)
+aag_code (aag_err.Malformed line) h = not_long (ap is_long h)
+aag_code (aag_err.Range line) h = not_long (ap is_long h)
+aag_code (aag_err.BadSymbol line name) h = not_long (ap is_long h)
+aag_code aag_err.Unsupported h = not_long (ap is_long h)
+aag_code aag_err.Memory h = not_long (ap is_long h)
 
 flat_code : (e : FlatErr) → flat_refusal e ≡ Some too_long → ⊥
 flat_code (flat_err.UnknownModel model line name) h = not_long (ap is_long h)
@@ -129,8 +142,12 @@ pack_code (pack_err.Trailing at) h = not_long (ap is_long h)
 pack_code (pack_err.BadNumber at) h = not_long (ap is_long h)
 pack_code pack_err.Memory h = not_long (ap is_long h)
 
+library_not_long : (text : List ℕ) (r : RefusalValue) → LibraryRefusal text r → r ≡ too_long → ⊥
+library_not_long text r (form.LibraryRefusal.blif off e stands tells) is = blif_code e (tells ∙ ap Some is)
+library_not_long text r (form.LibraryRefusal.aiger begins_so e stands tells) is = aag_code e (tells ∙ ap Some is)
+
 pub netlist_not_long : (text : List ℕ) (r : RefusalValue) → NetlistRefusal text r → r ≡ too_long → ⊥
-netlist_not_long text r (fault e stands tells) is = blif_code e (tells ∙ ap Some is)
+netlist_not_long text r (fault refused) is = library_not_long text r refused is
 netlist_not_long text r (unsound library e denotes stands tells) is = flat_code e (tells ∙ ap Some is)
 
 pub params_not_long : (flat : FlatValue) (text : List ℕ) (r : RefusalValue) → IsParamsRefusal flat text r → r ≡ too_long → ⊥

@@ -1,6 +1,7 @@
 -- of texts and files, and of the stops at them,
 mod StopLemmas
 pub mod FileLemmas
+pub mod LibraryTextLemmas
 mod TextLemmas
 mod LengthLemmas
 pub mod OnceLemmas
@@ -12,6 +13,7 @@ mod LeastLemmas
 pub mod GraphLemmas
 mod InputLemmas
 mod SourceLemmas
+pub mod CountLemmas
 pub mod ShowLemmas
 pub mod InitLemmas
 -- of what is written,

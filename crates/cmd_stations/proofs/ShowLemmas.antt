@@ -1,28 +1,21 @@
 -- The tables of a source circuit's graph, under the configuration of any values of the parameters, play the source circuit's cycles.
-use Rattle.std.proofs.Common.{◌≡◌, ℕ, ◌+◌, Bool, List, ◌∷◌, ◌++◌, length, map, sym, ap, ◌∙◌, subst, subst₂, arith}
-use Rattle.std.proofs.lemmas.List.{length-map, length-append}
+use Rattle.std.proofs.Common.{◌≡◌, ℕ, Bool, List, length, map, sym, ap, ◌∙◌, subst, subst₂}
+use Rattle.std.proofs.lemmas.List.{length-map}
 use Rattle.std.proofs.lemmas.Simd.{map-map}
 use Rattle.list_laws.specs.Members.{In}
 use Rattle.list_laws.proofs.Members.{In-left, In-right}
 use Rattle.tl_text.specs.Once.{AreOnce}
-use Rattle.netlist.specs.LibraryValue.{LibraryValue}
-use Rattle.netlist.specs.declared.flat.FlatLatch.{FlatLatch}
-use Rattle.netlist.specs.declared.flat.Net.{Net}
-use Rattle.netlist.specs.declared.flat.OutPort.{OutPort}
-use Rattle.netlist.specs.FlatValue.{FlatValue}
 use Rattle.netlist.specs.Runs.{IsCycle}
 use Rattle.param_list.specs.declared.params.Param.{Param}
 use Rattle.ppc_pack.specs.declared.pack.PackParam.{PackParam}
 use Rattle.param_list.specs.Parameters.{param_names, param_inits}
 use Rattle.param_list.proofs.RegularLemmas.{is_split}
 use Rattle.aig_core.specs.declared.lit.Lit.{Lit}
-use Rattle.aig_core.specs.declared.lit.Pair.{Pair}
 use Rattle.aig_core.specs.Aig.{Aig, first_and, AreNormal}
 use Rattle.aig_core.specs.Roots.{roots_of, lits_of}
 use Rattle.aig_core.specs.Value.{value_of, HasOneFit}
 use Rattle.aig_core.proofs.FitLemmas.{one_fit}
-use Rattle.aig_build.specs.CoverGraph.{Literals}
-use Rattle.aig_build.specs.NetlistGraph.{MakesAll, none, more, input_names}
+use Rattle.aig_build.specs.NetlistGraph.{input_names}
 use Rattle.aig_build.specs.NetlistCycle.{source_values, literal_values}
 use Rattle.cover_pick.specs.declared.lut.Lut.{Lut}
 use Rattle.cover_pick.specs.Template.{TemplateValue}
@@ -37,6 +30,7 @@ use Rattle.cmd_stations.specs.declared.source.Source.{Source}
 use Rattle.cmd_stations.specs.SourceCircuit.{width_of, shape_of}
 use Rattle.cmd_stations.specs.Tables.{HasTables, IsReadSource}
 use Rattle.cmd_stations.specs.Tunable.{HasSourceTables}
+use Rattle.cmd_stations.proofs.CountLemmas.{next_roots}
 use Rattle.cmd_stations.proofs.InputLemmas.{input_at, parts_are}
 use Rattle.cmd_stations.proofs.SourceLemmas.{source_shape, source_params, source_values_are, source_values_count}
 
@@ -55,31 +49,9 @@ outputs_among source g t h l i = In-left (lits_of h.roots.outputs) (lits_of h.ro
 pub next_among : (source : Source) (g : Aig) (t : TemplateValue) (h : HasTables source g t) (l : ℕ) → In (lits_of t.next) l → In (roots_of h.roots) l
 next_among source g t h l i = In-right (lits_of h.roots.outputs) (lits_of h.roots.next) l (subst (λ ls. In (lits_of ls) l) h.chosen.chosen.next i)
 
--- there is a literal for each net that is made
-made_count : (library : LibraryValue) (flat : FlatValue) (params : List Param) {pairs : List Pair} {nets : List Net} {made : Literals} → MakesAll library flat params pairs nets made → length made.lits ≡ length nets
-made_count library flat params (none no_nets is) = ap (λ (m : Literals). length m.lits) is ∙ sym (ap (λ (ns : List Net). length ns) no_nets)
-made_count library flat params {nets = nets} {made = made} (more net rest this others are one all is) =
-    let later : length others.lits ≡ length rest = made_count library flat params all in
-    let here : length made.lits ≡ length (record { 0 = this.lit } ∷ others.lits) = ap (λ (m : Literals). length m.lits) is in
-    let there : length nets ≡ length (net ∷ rest) = ap (λ (ns : List Net). length ns) are in
-    omega arith
-
--- so there is a next state for each latch
+-- there is a next state for each latch
 pub next_count : (source : Source) (g : Aig) (t : TemplateValue) → HasTables source g t → length t.next ≡ length source.netlist.flat.latches
-next_count source g t h =
-    let flat = source.netlist.flat in
-    let made = h.is_graph.made in
-    let outs = map (λ (o : OutPort). o.net) flat.outputs in
-    let ins = map (λ (l : FlatLatch). l.input) flat.latches in
-    let a : length made.lits ≡ length (outs ++ ins) = made_count source.netlist.library flat source.params.list h.is_graph.are_made in
-    let b : length (outs ++ ins) ≡ length outs + length ins = length-append outs ins in
-    let c : length outs ≡ length flat.outputs = length-map flat.outputs (λ (o : OutPort). o.net) in
-    let d : length ins ≡ length flat.latches = length-map flat.latches (λ (l : FlatLatch). l.input) in
-    let e : length (h.roots.outputs ++ h.roots.next) ≡ length made.lits = ap (λ (ls : List Lit). length ls) h.is_graph.literals in
-    let f : length (h.roots.outputs ++ h.roots.next) ≡ length h.roots.outputs + length h.roots.next = length-append h.roots.outputs h.roots.next in
-    let k : length h.roots.outputs ≡ length flat.outputs = h.is_graph.outputs in
-    let n : length t.next ≡ length h.roots.next = ap (λ (ls : List Lit). length ls) h.chosen.chosen.next in
-    omega arith
+next_count source g t h = ap (λ (ls : List Lit). length ls) h.chosen.chosen.next ∙ next_roots source g h.roots h.is_graph
 
 -- the pack of tables has the parameters of the list, and a bit of it for each bit of the template
 pub pack_param_names : (g : Aig) (luts : List Lut) (list : List Param) (pack : PackValue) → IsPackOf g luts list pack → map (λ (p : PackParam). p.name) pack.params ≡ param_names list

@@ -51,6 +51,11 @@ passed_stops P Q (Ok v) e is h p = tt
 passed_stops P Q (Err s) (Refused told) is h p = subst (λ x. Stops Q x) (sym is) (h told p)
 passed_stops P Q (Err s) Memory is h p = subst (λ x. Stops Q x) (sym is) tt
 
+pub passed_settles : {T : Type 0} (P : RefusalValue → Type 0) (Q : Type 0) (r : Result T Stop) (e : Stop) → IsErrAnd r (λ s. s ≡ e) → ((told : RefusalValue) → P told → Q) → Stops P e → MatchResult r (λ _. Q) (Stops (λ _. Q))
+passed_settles P Q (Ok v) e is h p = absurd is
+passed_settles P Q (Err s) (Refused told) is h p = subst (λ x. Stops (λ _. Q) x) (sym is) (h told p)
+passed_settles P Q (Err s) Memory is h p = subst (λ x. Stops (λ _. Q) x) (sym is) tt
+
 pub passed_anyway : {T : Type 0} (P Q : Type 0) (r : Result T Stop) (e : Stop) → IsErrAnd r (λ s. s ≡ e) → (P → Q) → Stops (λ _. P) e → MatchResult r (λ _. Q) (Stops (λ _. Q))
 passed_anyway P Q (Ok v) e is h p = absurd is
 passed_anyway P Q (Err s) (Refused told) is h p = subst (λ x. Stops (λ _. Q) x) (sym is) (h p)

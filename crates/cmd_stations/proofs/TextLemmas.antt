@@ -1,12 +1,7 @@
 -- Each text of a job says one thing, or is refused for one reason.
-use Rattle.std.proofs.Common.{◌≡◌, ℕ, List, Some, sym, ap, ◌∙◌, subst}
-use Rattle.std.proofs.lemmas.Option.{same_Some, none-some}
-use Rattle.blif_read.specs.declared.blif_err.BlifErr.{BlifErr}
+use Rattle.std.proofs.Common.{◌≡◌, ℕ, List, sym, ap, ◌∙◌, subst}
+use Rattle.std.proofs.lemmas.Option.{same_Some}
 use Rattle.netlist.specs.LibraryValue.{LibraryValue}
-use Rattle.blif_read.specs.Denotes.{Denotes}
-use Rattle.blif_read.specs.HasOneReading.{HasOneReading}
-use Rattle.blif_read.specs.ReadFault.{read_fault}
-use Rattle.blif_read.specs.Refusals.{refusal_of as blif_refusal}
 use Rattle.blif_flat.specs.declared.flat_err.FlatErr.{FlatErr}
 use Rattle.blif_flat.specs.Faults.{IsFault, HasOneFault}
 use Rattle.netlist.specs.FlatValue.{FlatValue}
@@ -25,45 +20,44 @@ use Rattle.run_text.specs.ScriptText as script_text
 use Rattle.run_text.specs.ScriptRefusals.{refusal_of as script_refusal}
 use Rattle.tl_fault.specs.RefusalValue.{RefusalValue}
 use Rattle.cmd_stations.specs.declared.netlist_text.Netlist.{Netlist}
+use Rattle.cmd_stations.specs.LibraryText.{DenotesLibrary, LibraryRefusal, HasOneLibrary}
 use Rattle.cmd_stations.specs.Settled.{IsTextSettled}
 use Rattle.cmd_stations.specs.Texts.{IsNetlistText, NetlistRefusal, IsParamsRefusal, IsScriptRefusal}
 use Rattle.cmd_stations.specs.Texts as texts
 
--- a text with a refusal denotes no library
-fault_alone : (text : List ℕ) (e : BlifErr) (library : LibraryValue) → HasOneReading text → read_fault text ≡ Some e → Denotes text library → ⊥
-fault_alone text e library one h d = none-some e (sym (one.not_both library d) ∙ h)
-
-fault_refused : (text : List ℕ) (e : BlifErr) (r s : RefusalValue) → HasOneReading text → read_fault text ≡ Some e → NetlistRefusal text r → NetlistRefusal text s → r ≡ s
-fault_refused text e r s one h (texts.NetlistRefusal.fault d f is) (texts.NetlistRefusal.fault d2 f2 is2) =
-    let same : d ≡ d2 = same_Some d d2 (sym f ∙ f2) in
-    same_Some r s (sym is ∙ (ap (λ x. blif_refusal x) same ∙ is2))
-fault_refused text e r s one h (texts.NetlistRefusal.fault d f is) (texts.NetlistRefusal.unsound library d2 den f2 is2) = absurd (fault_alone text e library one h den)
-fault_refused text e r s one h (texts.NetlistRefusal.unsound library d den f is) other = absurd (fault_alone text e library one h den)
-
 -- A text that is refused itself is settled.
-pub fault_settled : (text : List ℕ) (e : BlifErr) → HasOneReading text → read_fault text ≡ Some e → IsTextSettled text
-fault_settled text e one h = record {
-  sound = λ n a. absurd (fault_alone text e n.library one h a.denotes);
-  one_netlist = λ n m a b. absurd (fault_alone text e n.library one h a.denotes);
-  not_both = λ n r a refused. fault_alone text e n.library one h a.denotes;
-  one_refusal = λ r s refused other. fault_refused text e r s one h refused other;
-}
+module _ (text : List ℕ) (told : RefusalValue) (one : HasOneLibrary text) (refused : LibraryRefusal text told) where
+  alone : (library : LibraryValue) → DenotesLibrary text library → ⊥
+  alone library d = one.not_both library told d refused
+
+  refused_once : (r s : RefusalValue) → NetlistRefusal text r → NetlistRefusal text s → r ≡ s
+  refused_once r s (texts.NetlistRefusal.fault a) (texts.NetlistRefusal.fault b) = one.one_refusal r s a b
+  refused_once r s (texts.NetlistRefusal.fault a) (texts.NetlistRefusal.unsound library e d f is) = absurd (alone library d)
+  refused_once r s (texts.NetlistRefusal.unsound library e d f is) other = absurd (alone library d)
+
+  pub fault_settled : IsTextSettled text
+  fault_settled = record {
+    sound = λ n a. absurd (alone n.library a.denotes);
+    one_netlist = λ n m a b. absurd (alone n.library a.denotes);
+    not_both = λ n r a other. alone n.library a.denotes;
+    one_refusal = refused_once;
+  }
 
 -- the netlist of a text
-module _ (text : List ℕ) (library : LibraryValue) (one : HasOneReading text) (denotes : Denotes text library) (flat : HasOneFault library)
+module _ (text : List ℕ) (library : LibraryValue) (one : HasOneLibrary text) (denotes : DenotesLibrary text library) (flat : HasOneFault library)
     (circuit : IsSound library → HasOneFlat library) (sound : ((fault : FlatErr) → ¬ (IsFault library fault)) → IsSound library) where
   -- every library of the text is this one
-  here : (other : LibraryValue) → Denotes text other → other ≡ library
+  here : (other : LibraryValue) → DenotesLibrary text other → other ≡ library
   here other d = one.once other library d denotes
 
-  no_fault : (e : BlifErr) → read_fault text ≡ Some e → ⊥
-  no_fault e f = fault_alone text e library one f denotes
+  no_fault : (r : RefusalValue) → LibraryRefusal text r → ⊥
+  no_fault r refused = one.not_both library r denotes refused
 
-  fault_here : (other : LibraryValue) (e : FlatErr) → Denotes text other → IsFault other e → IsFault library e
+  fault_here : (other : LibraryValue) (e : FlatErr) → DenotesLibrary text other → IsFault other e → IsFault library e
   fault_here other e d f = subst (λ l. IsFault l e) (here other d) f
 
   -- what flattens isn't refused
-  clean_or_not : (other : LibraryValue) (e : FlatErr) → Denotes text other → ((fault : FlatErr) → ¬ (IsFault other fault)) → IsFault library e → ⊥
+  clean_or_not : (other : LibraryValue) (e : FlatErr) → DenotesLibrary text other → ((fault : FlatErr) → ¬ (IsFault other fault)) → IsFault library e → ⊥
   clean_or_not other e d clean fault = clean e (subst (λ l. IsFault l e) (sym (here other d)) fault)
 
   -- and is sound
@@ -71,12 +65,12 @@ module _ (text : List ℕ) (library : LibraryValue) (one : HasOneReading text) (
   sound_here n a = sound (λ e fault. clean_or_not n.library e a.denotes a.clean fault)
 
   netlist_or_not : (n : Netlist) (r : RefusalValue) → IsNetlistText text n → NetlistRefusal text r → ⊥
-  netlist_or_not n r a (texts.NetlistRefusal.fault e f is) = no_fault e f
+  netlist_or_not n r a (texts.NetlistRefusal.fault refused) = no_fault r refused
   netlist_or_not n r a (texts.NetlistRefusal.unsound other e d f is) = clean_or_not n.library e a.denotes a.clean (fault_here other e d f)
 
   netlist_refused : (r s : RefusalValue) → NetlistRefusal text r → NetlistRefusal text s → r ≡ s
-  netlist_refused r s (texts.NetlistRefusal.fault e f is) other = absurd (no_fault e f)
-  netlist_refused r s one (texts.NetlistRefusal.fault e f is) = absurd (no_fault e f)
+  netlist_refused r s (texts.NetlistRefusal.fault refused) other = absurd (no_fault r refused)
+  netlist_refused r s other (texts.NetlistRefusal.fault refused) = absurd (no_fault s refused)
   netlist_refused r s (texts.NetlistRefusal.unsound l e d f is) (texts.NetlistRefusal.unsound l2 e2 d2 f2 is2) =
       same_Some r s (sym is ∙ (ap (λ x. flat_refusal x) (flat.once e e2 (fault_here l e d f) (fault_here l2 e2 d2 f2)) ∙ is2))
 

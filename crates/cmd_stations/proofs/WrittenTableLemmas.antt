@@ -1,10 +1,8 @@
 -- The tables of a source circuit that was read can be written: they are few, their numbers are small, and an output that is a regular input has this input as its root.
-use Rattle.std.proofs.Common.{◌≡◌, ℕ, zero, suc, ◌+◌, ◌-◌, ◌*◌, ◌/◌, ◌^◌, ◌<◌, ◌≤◌, Bool, true, cond, ◌&&◌, leb, ltb, List, [], ◌∷◌, length, map, Some, refl, sym, ap, ◌∙◌, inl, inr, subst, subst₂, arith}
+use Rattle.std.proofs.Common.{◌≡◌, ℕ, zero, suc, ◌+◌, ◌-◌, ◌*◌, ◌/◌, ◌^◌, ◌<◌, ◌≤◌, Bool, true, cond, ◌&&◌, leb, ltb, List, [], length, map, Some, refl, sym, ap, ◌∙◌, inl, inr, subst, subst₂, arith}
 use Rattle.std.specs.Prelude.{slice_get, slice_index_or}
 use Rattle.std.specs.Option.{option_map}
-use Rattle.std.proofs.Math.Nat.{le-mul_of_pos_right}
 use Rattle.std.proofs.lemmas.Bool.{and_from, or_left, le-leb}
-use Rattle.std.proofs.lemmas.List.Sums.{sum_by-cons}
 use Rattle.std.proofs.lemmas.Option.{none-some, same_Some, slice_get-map, slice_get_within, get_or_from_slice_get}
 use Rattle.list_laws.specs.Members.{In}
 use Rattle.list_laws.proofs.Members.{place_in, length-filter_le}
@@ -16,7 +14,7 @@ use Rattle.netlist.specs.declared.flat.Net.{Net as FlatNet}
 use Rattle.netlist.specs.declared.flat.Net.TheVariants.{Input, Latch}
 use Rattle.netlist.specs.declared.flat.OutPort.{OutPort}
 use Rattle.netlist.specs.FlatValue.{FlatValue}
-use Rattle.netlist.specs.Flat.{Places, IsFlat, IsNumbered, an_input, a_latch, a_cover, IsNetOf, AreNetsOf}
+use Rattle.netlist.specs.Flat.{Places, IsFlat, IsNumbered, IsNetOf, AreNetsOf}
 use Rattle.netlist.specs.Flat as flat_fields
 use Rattle.netlist.specs.Instances.{IsMainInput}
 use Rattle.netlist.specs.Models.{has_name}
@@ -29,7 +27,6 @@ use Rattle.param_list.specs.Parameters.{param_names, regular_names}
 use Rattle.param_list.proofs.OnceLemmas.{one_place}
 use Rattle.param_list.proofs.RegularLemmas.{is_split}
 use Rattle.aig_core.specs.declared.lit.Lit.{Lit}
-use Rattle.aig_core.specs.declared.lit.Kind.{Kind}
 use Rattle.aig_core.specs.declared.lit.Pair.{Pair}
 use Rattle.aig_core.specs.Aig.{Aig, node_count}
 use Rattle.aig_core.specs.And.{Answer}
@@ -41,7 +38,6 @@ use Rattle.cover_pick.specs.declared.lut.Lut.{Lut}
 use Rattle.cover_pick.specs.Mapping.{IsTableOf, bits_of}
 use Rattle.cover_pick.specs.Mapping as mapping
 use Rattle.cover_pick.specs.Template.{TemplateValue}
-use Rattle.cover_pick.specs.Work.{IsTableWork, IsWork}
 use Rattle.cover_pick.proofs.BitsLemmas.{bits_worked}
 use Rattle.lut_sim.specs.Playable.{IsPlayable}
 use Rattle.lut_sim.specs.Sources.{is_regular, last_source}
@@ -51,10 +47,10 @@ use Rattle.blif_write.specs.Writable.{CanBeNamed, AreRootsOf}
 use Rattle.blif_write.proofs.OwnNameLemmas.{source_literal}
 use Rattle.blif_write.proofs.PortLemmas.{ports_there}
 use Rattle.cmd_stations.specs.declared.source.Source.{Source}
-use Rattle.cmd_stations.specs.SourceCircuit.{width_of, shape_of}
+use Rattle.cmd_stations.specs.SourceCircuit.{shape_of}
 use Rattle.cmd_stations.specs.Tables.{HasTables, IsReadSource}
+use Rattle.cmd_stations.proofs.CountLemmas.{source_count}
 use Rattle.cmd_stations.proofs.ShowLemmas.{next_count}
-use Rattle.cmd_stations.proofs.SourceLemmas.{three_count}
 
 -- the net of an output is made into the root at its place
 record IsMade (library : LibraryValue) (flat : FlatValue) (params : List Param) (net : FlatNet) (lit : ℕ) : Type 0 where
@@ -201,7 +197,7 @@ module _ (source : Source) (read : IsReadSource source) where
     -- there are few sources
     few_kinds : length g.kinds ≤ 8454143
     few_kinds =
-        let kinds : length g.kinds ≡ length (regular_names flat params) + length params + length flat.latches = ap (λ (ks : List Kind). length ks) tables.is_graph.kinds ∙ three_count (width_of source) (length params) (length flat.latches) in
+        let kinds : length g.kinds ≡ length (regular_names flat params) + length params + length flat.latches = source_count source g tables.roots tables.is_graph in
         let regular : length (regular_names flat params) ≤ length flat.inputs = length-filter_le _ flat.inputs in
         let inputs : length flat.inputs ≤ 4194304 = read.netlist.bounds.few_inputs in
         let latches : length flat.latches ≤ 4194304 = read.netlist.bounds.few_latches in

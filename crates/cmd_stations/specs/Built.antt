@@ -1,6 +1,7 @@
 -- A source circuit with its graph, and with the labels of the graph's nodes, as the code makes them.
 use Rattle.std.specs.Prelude.{ℕ}
 use Rattle.tl_io.specs.Shelf.{Files}
+use Rattle.aig_build.specs.NetlistCycle.{HasSourceCycles}
 use Rattle.aig_core.specs.Aig.{first_and, AreNormal}
 use Rattle.aig_core.specs.Roots.{AreRoots, roots_of}
 use Rattle.cmd_stations.specs.declared.graphs.BuiltSource.{BuiltSource}
@@ -15,6 +16,7 @@ use Rattle.cmd_stations.specs.Tables.{IsReadSource}
 pub record IsBuiltSource (b : BuiltSource) : Type 0 where
   pub read : IsReadSource b.source
   pub built : IsBuilt b.source b.graph b.roots
+  pub cycles : HasSourceCycles b.source.netlist.library b.source.netlist.flat b.source.params.list b.graph b.roots
   pub lits : AreRoots b.graph (roots_of b.roots)
   pub normal : AreNormal (first_and b.graph) b.graph.pairs
 

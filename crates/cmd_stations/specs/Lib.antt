@@ -1,5 +1,6 @@
 -- What public clauses say of the stations: the words and the texts of a source circuit,
 pub mod Words
+pub mod LibraryText
 pub mod Texts
 pub mod SourceCircuit
 pub mod Mapped

@@ -1,5 +1,5 @@
 -- The machine of a job with its ports: at the start, and behind events.
-use Rattle.std.specs.Prelude.{◌≡◌, ℕ, ◌+◌, Bool, List, [], ◌∷◌, length, Ok}
+use Rattle.std.specs.Prelude.{◌≡◌, ℕ, Bool, List, [], ◌∷◌, length, Ok}
 use Rattle.tl_io.specs.Writes.{writes_from}
 use Rattle.ppc_pack.specs.Pack.{IsConf, HasOneConf}
 use Rattle.run_text.specs.EventValue.{EventValue}

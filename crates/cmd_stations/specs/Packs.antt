@@ -1,5 +1,5 @@
 -- The pack that a file holds.
-use Rattle.std.specs.Prelude.{◌≡◌, ℕ, ◌≤◌, List, [], length, map, Option, None, Some}
+use Rattle.std.specs.Prelude.{◌≡◌, ℕ, ◌≤◌, List, length, map, Option, None, Some}
 use Rattle.tl_fault.specs.RefusalValue.{RefusalValue}
 use Rattle.tl_io.specs.Shelf.{Files}
 use Rattle.ppc_pack.specs.declared.pack.PackParam.{PackParam}

@@ -1,5 +1,5 @@
 -- What the calls below say of a job: each of its files says one thing, or is refused for one reason; a netlist that is read is sound, and a template that is chosen maps its graph with the least depth.
-use Rattle.std.specs.Prelude.{◌≡◌, ℕ, ◌≤◌, List, [], Some}
+use Rattle.std.specs.Prelude.{◌≡◌, ℕ, ◌≤◌, List, Some}
 use Rattle.tl_fault.specs.RefusalValue.{RefusalValue}
 use Rattle.tl_io.specs.Shelf.{Files}
 use Rattle.aig_core.specs.Aig.{Aig}

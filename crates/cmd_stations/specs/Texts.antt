@@ -4,11 +4,7 @@ use Rattle.std.specs.FinMap.{get}
 use Rattle.tl_text.specs.declared.logical_lines.TheConstants.{MOST_BYTES}
 use Rattle.tl_fault.specs.RefusalValue.{RefusalValue}
 use Rattle.tl_io.specs.Shelf.{Files}
-use Rattle.blif_read.specs.declared.blif_err.BlifErr.{BlifErr}
-use Rattle.blif_read.specs.Refusals.{refusal_of as blif_refusal}
 use Rattle.netlist.specs.LibraryValue.{LibraryValue}
-use Rattle.blif_read.specs.Denotes.{Denotes}
-use Rattle.blif_read.specs.ReadFault.{read_fault}
 use Rattle.blif_flat.specs.declared.flat_err.FlatErr.{FlatErr}
 use Rattle.blif_flat.specs.Refusals.{refusal_of as flat_refusal}
 use Rattle.blif_flat.specs.Faults.{IsFault}
@@ -22,6 +18,7 @@ use Rattle.run_text.specs.ScriptRefusals.{refusal_of as script_refusal}
 use Rattle.run_text.specs.ScriptText.{IsScriptFault}
 use Rattle.run_text.specs.NamesValue.{NamesValue}
 use Rattle.cmd_stations.specs.declared.netlist_text.Netlist.{Netlist}
+use Rattle.cmd_stations.specs.LibraryText.{DenotesLibrary, LibraryRefusal}
 
 -- a file of this name is there and short enough, with these bytes
 pub record HasBytes (most : ℕ) (files : Files) (name bytes : List ℕ) : Type 0 where
@@ -43,14 +40,14 @@ IsLongText files name = IsOverlong MOST_BYTES files name
 
 -- a text denotes this library, no fault stands in it, its weight's neither, and this is its flat circuit
 pub record IsNetlistText (text : List ℕ) (n : Netlist) : Type 0 where
-  pub denotes : Denotes text n.library
+  pub denotes : DenotesLibrary text n.library
   pub clean : (fault : FlatErr) → ¬ (IsFault n.library fault)
   pub flat : IsFlat n.library n.flat
 
 -- a netlist's text is refused: by its first refusal, else by its library's
 pub data NetlistRefusal (text : List ℕ) (refusal : RefusalValue) : Type 0 where
-  fault : (e : BlifErr) → read_fault text ≡ Some e → blif_refusal e ≡ Some refusal → NetlistRefusal text refusal
-  unsound : (library : LibraryValue) (e : FlatErr) → Denotes text library → IsFault library e → flat_refusal e ≡ Some refusal → NetlistRefusal text refusal
+  fault : LibraryRefusal text refusal → NetlistRefusal text refusal
+  unsound : (library : LibraryValue) (e : FlatErr) → DenotesLibrary text library → IsFault library e → flat_refusal e ≡ Some refusal → NetlistRefusal text refusal
 
 -- a list of parameters of a flat circuit is refused: by its one refusal
 pub record IsParamsRefusal (flat : FlatValue) (text : List ℕ) (refusal : RefusalValue) : Type 0 where

@@ -55,6 +55,7 @@ pub(crate) fn source_graph(alloc: Global, source: &Source) -> Result<(Graph, Roo
 fn build_source(alloc: Global, source: &Source) -> Result<(Graph, Roots), Stop>
     requires read { IsReadSource source.now }
     ensures built { IfOk result (λ made. IsBuilt source.now made.0 made.1) }
+    ensures cycles { IfOk result (λ made. HasSourceCycles source.now.netlist.library source.now.netlist.flat source.now.params.list made.0 made.1) }
     ensures lits { IfOk result (λ made. AreRoots made.0 (roots_of made.1)) }
     ensures normal { IfOk result (λ made. AreNormal (first_and made.0) made.0.pairs) }
     ensures err { IfErr result (Stops (IsUnbuilt source.now)) }

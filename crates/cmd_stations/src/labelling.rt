@@ -11,6 +11,7 @@ ghost use Rattle.cmd_stations.specs.Settled.{IsLabellingSettled, source_reading}
 ghost use Rattle.cmd_stations.specs.Tables.{IsReadSource};
 ghost use Rattle.aig_core.specs.Aig.{first_and, AreNormal};
 ghost use Rattle.aig_core.specs.Roots.{AreRoots, roots_of};
+ghost use Rattle.aig_build.specs.NetlistCycle.{HasSourceCycles};
 ghost use Rattle.cmd_stations.specs.Built.{IsLabelledSource, ComesToLabels};
 
 use crate::graphs::{BuiltSource, source_graph};
@@ -48,6 +49,7 @@ fn label_source(alloc: Global, source: &Source, k: u8) -> Result<LabelledGraph, 
     requires most { k ≤ MOST_LEAVES }
     requires read { IsReadSource source.now }
     ensures built { IfOk result (λ l. IsBuilt source.now l.graph l.roots) }
+    ensures cycles { IfOk result (λ l. HasSourceCycles source.now.netlist.library source.now.netlist.flat source.now.params.list l.graph l.roots) }
     ensures lits { IfOk result (λ l. AreRoots l.graph (roots_of l.roots)) }
     ensures normal { IfOk result (λ l. AreNormal (first_and l.graph) l.graph.pairs) }
     ensures labelled { IfOk result (λ l. IsLabelled l.graph k l.table l.labels) }

@@ -5,8 +5,8 @@
 //! source circuit that is ready to be written. A *stop* is why a text isn't read, or a source circuit isn't mapped; at a file it
 //! is an outcome.
 //!
-//! - From a netlist to its graph, the graph's labels or its mapping: `files.rt`, `netlist_text.rt`, `params.rt`, `graphs.rt`,
-//!   `labelling.rt`, `mapping.rt`, `mapped.rt`, and `words.rt`, the words that name them.
+//! - From a netlist to its graph, the graph's labels or its mapping: `files.rt`, `library_text.rt`, `netlist_text.rt`,
+//!   `params.rt`, `graphs.rt`, `labelling.rt`, `mapping.rt`, `mapped.rt`, and `words.rt`, the words that name them.
 //! - What is written of it: `drafts.rt`, `netlist_files.rt`, `pack_files.rt`, and `header.rt`, its line.
 //! - What is played: `packs.rt` and `script.rt`.
 //!
@@ -19,6 +19,7 @@ mod files;
 mod graphs;
 mod header;
 mod labelling;
+mod library_text;
 mod mapped;
 mod mapping;
 mod netlist_files;

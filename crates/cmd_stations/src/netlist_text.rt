@@ -6,9 +6,10 @@ ghost use Rattle.cmd_stations.specs.ReadNetlist.{IsReadNetlist};
 ghost use Rattle.cmd_stations.specs.Settled.{IsTextSettled};
 ghost use Rattle.cmd_stations.specs.Stops.{Stops};
 
+use crate::library_text::read_library;
 use crate::stop::Stop;
 use blif_flat::{Flat, flatten};
-use blif_read::{Library, read};
+use netlist::Library;
 use std::alloc::Global;
 
 /// A netlist: the library that a text denotes, and its flat circuit.
@@ -29,7 +30,7 @@ pub fn read_netlist(alloc: Global, text: &[u8]) -> Result<Netlist, Stop>
     ensures err { IfErr result (Stops (NetlistRefusal text.now)) }
     ensures settled { MatchResult result (λ _. IsTextSettled text.now) (Stops (λ _. IsTextSettled text.now)) }
 {
-    let library = read(alloc, text)?;
+    let library = read_library(alloc, text)?;
     let flat = flatten(alloc, &library)?;
     Ok(Netlist { library, flat })
 }

@@ -1,5 +1,6 @@
 //! Why a text isn't read, or a source circuit isn't mapped.
 use aig_build::BuildErr;
+use aiger_io::AagErr;
 use blif_flat::FlatErr;
 use blif_read::BlifErr;
 use cmd_base::{File, Outcome};
@@ -87,6 +88,18 @@ impl From<BlifErr> for Stop {
     ghost from_gives = { λ error stop. refusal_of stop ≡ refusal_there error };
 
     fn from(error: BlifErr) -> Stop {
+        Stop::of(error.refusal())
+    }
+}
+
+impl From<AagErr> for Stop {
+    ghost use Rattle.std.specs.Prelude.{◌≡◌};
+    ghost use Rattle.aiger_io.specs.Refusals.{refusal_of as refusal_there};
+    ghost use Rattle.cmd_stations.specs.Stops.{refusal_of};
+
+    ghost from_gives = { λ error stop. refusal_of stop ≡ refusal_there error };
+
+    fn from(error: AagErr) -> Stop {
         Stop::of(error.refusal())
     }
 }

@@ -157,7 +157,7 @@ long_line = refl
 read_line : line_of (codes "p.par") (outcome.ReadFault file.Params) ≡ codes "tlut: p.par: read failed\n"
 read_line = refl
 
-usage_line : line_of [] outcome.Usage ≡ codes "tlut: usage: run K NETLIST PARAMS SCRIPT PORTS SPARES, spec K NETLIST PARAMS OUT, map K NETLIST PARAMS TEMPLATE PACK, bits PACK SCRIPT, gen N SEED, repack OLD NEW, prove K NETLIST PARAMS CERT, audit K NETLIST PARAMS CERT\n"
+usage_line : line_of [] outcome.Usage ≡ codes "tlut: usage: run K NETLIST PARAMS SCRIPT PORTS SPARES, spec K NETLIST PARAMS OUT, map K NETLIST PARAMS TEMPLATE PACK, bits PACK SCRIPT, gen N SEED, repack OLD NEW, prove K NETLIST PARAMS CERT, audit K NETLIST PARAMS CERT, graph NETLIST PARAMS OUT\n"
 usage_line = refl
 
 port_line : line_of [] outcome.PortFault ≡ codes "tlut: port failed\n"

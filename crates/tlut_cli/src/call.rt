@@ -18,6 +18,7 @@ ghost use Rattle.tlut_cli.specs.FaultLine.{line_of};
 use crate::command::{Command, file_name, read_command, report};
 use cmd_base::{File, Outcome, Status};
 use cmd_cert::{audit_job, prove_job};
+use cmd_graph::graph_job;
 use cmd_map::{map_job, spec_job};
 use cmd_pack::{bits_job, repack_job};
 use cmd_run::{gen_job, run_job};
@@ -51,6 +52,7 @@ fn run_command<S: Shelf, O: Sink, P: ConfigPort>(
         Command::Repack(words) => repack_job(alloc, words, shelf, out),
         Command::Prove(words) => prove_job(alloc, words, shelf, out),
         Command::Audit(words) => audit_job(alloc, words, shelf, out),
+        Command::Graph(words) => graph_job(alloc, words, shelf, out),
     }
 }
 
@@ -119,6 +121,9 @@ fn run_words<'a, S: Shelf, O: Sink, P: ConfigPort>(
 /// - `repack OLD NEW` writes a pack in version 2.
 /// - `prove K NETLIST PARAMS CERT` writes the certificate that no cover is less deep than the mapper's.
 /// - `audit K NETLIST PARAMS CERT` checks a certificate against the netlist.
+/// - `graph NETLIST PARAMS OUT` writes the netlist's graph in AIGER's ASCII form.
+///
+/// A netlist is BLIF, or AIGER's ASCII form where it begins with `aag` and a blank.
 ///
 /// The status says how the call ended. On every status but `Done` one line stands on `err`; a failing `err`
 /// changes no status. Want of memory is the one free answer, and comes only before the first byte of `out` and before a file is

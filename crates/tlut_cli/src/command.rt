@@ -2,11 +2,12 @@
 ghost use Rattle.std.specs.Prelude.{◌≡◌, ℕ, map, string_bytes, IfSome};
 ghost use Rattle.std.specs.Option.{option_map};
 ghost use Rattle.cmd_base.specs.FaultLine.{Reports};
-ghost use Rattle.tlut_cli.specs.Commands.{command_of, other_commands, cert_commands, walk_of, command_seen, HasRange};
+ghost use Rattle.tlut_cli.specs.Commands.{command_of, other_commands, later_commands, cert_commands, walk_of, command_seen, HasRange};
 ghost use Rattle.tlut_cli.specs.FaultLine.{line_of};
 
 use cmd_base::{File, Outcome};
 use cmd_cert::{CertWords, cert_name, read_audit, read_prove};
+use cmd_graph::{GraphWords, read_graph_words};
 use cmd_map::{MapWords, SpecWords, read_map, read_spec};
 use cmd_pack::{BitsWords, RepackWords, bits_name, read_bits, read_repack};
 use cmd_run::{GenWords, RunWords, read_gen, read_run, run_name};
@@ -24,9 +25,10 @@ pub enum Command<'a> {
     Repack(RepackWords<'a>),
     Prove(CertWords<'a>),
     Audit(CertWords<'a>),
+    Graph(GraphWords<'a>),
 }
 
-// The command of words that aren't those of an earlier one.
+// The command of certificates.
 fn read_cert_command(words: &[String]) -> Option<Command<'_>>
     ensures value { option_map (λ c. command_seen c) result ≡ cert_commands (map string_bytes words.now) }
     ensures range { (ports : ℕ) → IfSome result (HasRange ports) }
@@ -36,6 +38,20 @@ fn read_cert_command(words: &[String]) -> Option<Command<'_>>
     }
     match read_audit(words) {
         Some(words) => Some(Command::Audit(words)),
+        None => None,
+    }
+}
+
+// The command of words that aren't those of an earlier one.
+fn read_later(words: &[String]) -> Option<Command<'_>>
+    ensures value { option_map (λ c. command_seen c) result ≡ later_commands (map string_bytes words.now) }
+    ensures range { (ports : ℕ) → IfSome result (HasRange ports) }
+{
+    if let Some(command) = read_cert_command(words) {
+        return Some(command);
+    }
+    match read_graph_words(words) {
+        Some(words) => Some(Command::Graph(words)),
         None => None,
     }
 }
@@ -59,7 +75,7 @@ fn read_other(words: &[String]) -> Option<Command<'_>>
     }
     match read_repack(words) {
         Some(words) => Some(Command::Repack(words)),
-        None => read_cert_command(words),
+        None => read_later(words),
     }
 }
 
@@ -87,6 +103,7 @@ pub fn file_name<'a>(command: &Command<'a>, file: File) -> &'a str
         Command::Repack(words) => words.old,
         Command::Prove(words) => source_name(&words.source, file),
         Command::Audit(words) => cert_name(words, file),
+        Command::Graph(words) => source_name(&words.source, file),
     }
 }
 
@@ -106,6 +123,7 @@ pub fn report<E: Sink>(err: &mut E, name: &[u8], outcome: &Outcome)
             b", repack OLD NEW",
             b", prove K NETLIST PARAMS CERT",
             b", audit K NETLIST PARAMS CERT",
+            b", graph NETLIST PARAMS OUT",
             b"\n",
         ],
         name,

@@ -7,7 +7,8 @@ and `yosys-abc` (or `berkeley-abc`) are installed; where they are not, it says s
 For each netlist of examples/ that lists parameters, at tables of 4 and of 6 inputs:
 - Yosys reads both files (`read_blif -sop`) and checks them, and ABC reads the specialised one;
 - ABC shows the specialised netlist equal to the source with constants for its parameters (`cec`, with latches `dsec`);
-- ABC shows the template with the bits of `image` as constants equal to the source under each of some values of its parameters.
+- ABC shows the template with the bits of `image` as constants equal to the source under each of some values of its parameters;
+- Yosys reads the graph that is written in AIGER's form, and ABC shows it equal to the source.
 ABC doesn't read a cover with inputs and no rows, so its files go through `abc_form`, which writes it without its inputs.
 The last line is `N passed, M failed`, and the exit status is 1 where M isn't 0.
 """
@@ -68,6 +69,7 @@ class Case:
             run([PROGRAM, "spec", size, f"{data}/{name}.blif", f"{data}/{params}", "spec.blif"], folder),
             run([PROGRAM, "map", size, f"{data}/{name}.blif", f"{data}/{params}", "template.blif", "bits.ppc"], folder),
         ]
+        run([PROGRAM, "graph", f"{data}/{name}.blif", f"{data}/{params}", "graph.aag"], folder)
 
     def put(self, name, text):
         """Writes a file in the form that ABC reads."""
@@ -89,6 +91,11 @@ class Case:
         self.put("there.blif", with_constants(self.source, values))
         told = run([ABC, "-c", f"{'dsec' if self.has_latches else 'cec'} here.blif there.blif"], self.folder)
         return "are equivalent" in told
+
+    def graph(self):
+        """The netlist that Yosys makes of the graph; its clock is an input of the source that the graph doesn't have."""
+        run([YOSYS, "-q", "-p", "read_aiger -clk_name clk -module_name graph graph.aag; write_blif graph.blif"], self.folder)
+        return self.read("graph.blif")
 
     def configured(self, values):
         """The template with the configuration of these values as constants: its bits are those that `bits` shows."""
@@ -112,6 +119,9 @@ def results(case):
     for _ in range(3):
         values = {name: chance.randrange(2) for name in case.listed}
         yield "the template is the source", case.is_same(case.configured(values), values)
+
+
+    yield "the graph is the source", case.is_same(case.graph(), {})
 
 
 def main():

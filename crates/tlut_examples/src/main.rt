@@ -25,7 +25,7 @@ struct Example {
     taken: &'static [&'static str],
 }
 
-const EXAMPLES: [Example; 12] = [
+const EXAMPLES: [Example; 13] = [
     Example {
         words: "run 2 and2/and2.blif and2/none.par and2/one.scr 0 0",
         printed: "and2/expected.txt",
@@ -74,6 +74,11 @@ const EXAMPLES: [Example; 12] = [
     Example {
         words: "run 4 guard/guard.blif guard/none.par guard/four.scr 0 0",
         printed: "guard/expected.txt",
+        taken: &[],
+    },
+    Example {
+        words: "run 4 vote/vote.aag vote/vote.par vote/votes.scr 0 0",
+        printed: "vote/expected.txt",
         taken: &[],
     },
     Example {

@@ -1,42 +1,40 @@
-use Rattle.std.proofs.Common.{◌≡◌, Some}
-use Rattle.blif_read.specs.ReadFault.{read_fault}
-use Rattle.blif_read.specs.Refusals.{refusal_of as blif_refusal}
 use Rattle.blif_flat.specs.Faults.{IsFault}
 use Rattle.blif_flat.specs.Refusals.{refusal_of as flat_refusal}
+use Rattle.cmd_stations.specs.LibraryText.{LibraryRefusal}
 use Rattle.cmd_stations.specs.Settled.{IsTextSettled}
 use Rattle.cmd_stations.specs.Texts.{NetlistRefusal}
 use Rattle.cmd_stations.specs.Texts as texts
-use Rattle.cmd_stations.proofs.StopLemmas.{passed_stop, passed_settled}
+use Rattle.cmd_stations.proofs.StopLemmas.{passed_stop, passed_stops, passed_settled, passed_settles}
 use Rattle.cmd_stations.proofs.TextLemmas.{fault_settled, library_settled}
 use Rattle.cmd_stations.proofs.netlist_text.read_netlist.Goals as goal
 
 pub returns-in_err-library-clause-err : goal.returns-in_err-library-clause-err
 returns-in_err-library-clause-err c =
-    passed_stop blif_refusal (λ e. read_fault c.args.text.now ≡ Some e) (NetlistRefusal c.args.text.now) c.from_residual.result c.in_err-library.field-0.0 c.in_err-library.ensures.fault c.from_residual.ensures.1
-    (λ r told fault. texts.NetlistRefusal.fault c.in_err-library.field-0.0 fault told)
+    passed_stops (LibraryRefusal c.args.text.now) (NetlistRefusal c.args.text.now) c.from_residual.result c.in_err-library.field-0.0 c.from_residual.ensures.1
+    (λ r refused. texts.NetlistRefusal.fault refused) c.in_err-library.ensures.refusal
 
 pub returns-in_err-library-clause-settled : goal.returns-in_err-library-clause-settled
 returns-in_err-library-clause-settled c =
-    passed_settled blif_refusal (λ e. read_fault c.args.text.now ≡ Some e) (IsTextSettled c.args.text.now) c.from_residual.result c.in_err-library.field-0.0 c.in_err-library.ensures.fault c.from_residual.ensures.1
-    (λ r told fault. fault_settled c.args.text.now c.in_err-library.field-0.0 c.read.ensures.one_reading fault)
+    passed_settles (LibraryRefusal c.args.text.now) (IsTextSettled c.args.text.now) c.from_residual.result c.in_err-library.field-0.0 c.from_residual.ensures.1
+    (λ r refused. fault_settled c.args.text.now r c.read_library.ensures.one_library refused) c.in_err-library.ensures.refusal
 
 pub returns-in_err-flat-clause-err : goal.returns-in_err-flat-clause-err
 returns-in_err-flat-clause-err c =
     passed_stop flat_refusal (IsFault c.in_ok-library.library) (NetlistRefusal c.args.text.now) c.from_residual-in_err-flat.result c.in_err-flat.field-0.0 c.in_err-flat.ensures.err c.from_residual-in_err-flat.ensures.1
-    (λ r told fault. texts.NetlistRefusal.unsound c.in_ok-library.library c.in_err-flat.field-0.0 c.in_ok-library.ensures.denoted fault told)
+    (λ r told fault. texts.NetlistRefusal.unsound c.in_ok-library.library c.in_err-flat.field-0.0 c.in_ok-library.ensures.library fault told)
 
 pub returns-in_err-flat-clause-settled : goal.returns-in_err-flat-clause-settled
 returns-in_err-flat-clause-settled c =
     passed_settled flat_refusal (IsFault c.in_ok-library.library) (IsTextSettled c.args.text.now) c.from_residual-in_err-flat.result c.in_err-flat.field-0.0 c.in_err-flat.ensures.err c.from_residual-in_err-flat.ensures.1
-    (λ r told fault. library_settled c.args.text.now c.in_ok-library.library c.read.ensures.one_reading c.in_ok-library.ensures.denoted c.flatten.ensures.once c.flatten.ensures.one (λ clean. absurd (clean c.in_err-flat.field-0.0 fault)))
+    (λ r told fault. library_settled c.args.text.now c.in_ok-library.library c.read_library.ensures.one_library c.in_ok-library.ensures.library c.flatten.ensures.once c.flatten.ensures.one (λ clean. absurd (clean c.in_err-flat.field-0.0 fault)))
 
 pub returns-clause-ok : goal.returns-clause-ok
 returns-clause-ok c = record {
-  denotes = c.in_ok-library.ensures.denoted;
+  denotes = c.in_ok-library.ensures.library;
   clean = c.in_ok-flat.ensures.clean.none;
   flat = c.in_ok-flat.ensures.values.fields;
 }
 
 pub returns-clause-settled : goal.returns-clause-settled
 returns-clause-settled c =
-    library_settled c.args.text.now c.in_ok-library.library c.read.ensures.one_reading c.in_ok-library.ensures.denoted c.flatten.ensures.once c.flatten.ensures.one (λ clean. c.in_ok-flat.ensures.sound)
+    library_settled c.args.text.now c.in_ok-library.library c.read_library.ensures.one_library c.in_ok-library.ensures.library c.flatten.ensures.once c.flatten.ensures.one (λ clean. c.in_ok-flat.ensures.sound)

@@ -1,0 +1,172 @@
+-- The circuit of a graph keeps what is said of it: its text is of the format and is read back, its lines have one fit, and its cycles and runs are those of
+-- the library whose graph it is.
+use Rattle.std.proofs.Common.{◌≡◌, ℕ, ◌+◌, ◌*◌, ◌/◌, ◌^◌, ◌<◌, ◌≤◌, Bool, false, List, [], ◌∷◌, ◌++◌, length, map, get_or, replicate, Some, refl, sym, ap, ◌∙◌, subst, arith, length-append}
+use Rattle.std.specs.Prelude.{slice_get}
+use Rattle.std.proofs.lemmas.List.{length-map, length-replicate}
+use Rattle.std.proofs.lemmas.Option.{same_Some, get_or_from_slice_get}
+use Rattle.list_laws.specs.Members.{In}
+use Rattle.list_laws.proofs.Members.{In-left, In-right, map_agree}
+use Rattle.aig_core.specs.Aig.{Aig, first_and, node_count, IsLit, AreNormal}
+use Rattle.aig_core.specs.Roots.{RootsValue, lits_of}
+use Rattle.aig_core.specs.Value.{node_value, value_of, FitsGraph, HasOneFit}
+use Rattle.aig_build.specs.NetlistCycle.{source_values, literal_values, HasSourceCycles}
+use Rattle.aig_build.specs.NetlistGraph.{input_names}
+use Rattle.netlist.specs.Evaluation.{net_value, flat_values}
+use Rattle.netlist.specs.FlatCycle.{flat_outputs, flat_next, flat_inits, run_outputs, run_states, input_values, HasCycles}
+use Rattle.netlist.specs.FlatValue.{FlatValue}
+use Rattle.netlist.specs.LibraryValue.{LibraryValue}
+use Rattle.netlist.specs.Places.{Place, is_latch, FlatOrder}
+use Rattle.netlist.specs.Runs.{IsCycle, IsRun}
+use Rattle.netlist.specs.declared.flat.FlatLatch.{FlatLatch}
+use Rattle.netlist.proofs.OrderLemmas.{order_once}
+use Rattle.param_list.specs.declared.params.Param.{Param}
+use Rattle.param_list.specs.Parameters.{regular_names, param_names}
+use Rattle.aiger_io.specs.Circuit.{Circuit}
+use Rattle.aiger_io.specs.GraphCircuit.{input_count, input_at, graph_circuit, IsWrittenFrom, IsGraphsCircuit}
+use Rattle.aiger_io.specs.Run.{literal_value, output_literals, next_literals, init_bits, IsCircuitCycle, CircuitRuns, HasSameRuns}
+use Rattle.aiger_io.specs.WrittenText.{circuit_text}
+use Rattle.aiger_io.proofs.GraphFitLemmas.{literal_same, node_list, node_at, lines_fit, nodes_fit, given_list, written_fit}
+use Rattle.aiger_io.proofs.GraphFormLemmas.{written_formed}
+use Rattle.aiger_io.proofs.GraphItemLemmas.{output_literals_are, next_literals_are, init_bits_are}
+use Rattle.aiger_io.proofs.RoundTripLemmas.{text_format, format_read}
+
+-- names by their places
+names_at : (names : List (List ℕ)) (places : List ℕ) (all : List (List ℕ)) → map (slice_get names) places ≡ map (λ name. Some name) all → map (λ i. get_or names i []) places ≡ all
+names_at names [] [] e = refl
+names_at names [] (name ∷ all) e = absurd (cc)
+names_at names (i ∷ places) [] e = absurd (cc)
+names_at names (i ∷ places) (name ∷ all) e =
+    let here : slice_get names i ≡ Some name = cc in
+    let rest : map (slice_get names) places ≡ map (λ (n : List ℕ). Some n) all = cc in
+    ap (λ n. n ∷ map (λ j. get_or names j []) places) (get_or_from_slice_get names i name [] here) ∙ ap (λ ns. name ∷ ns) (names_at names places all rest)
+
+-- all cycles of a library have as many states
+states_once : (library : LibraryValue) (x y : List ℕ → Bool) (s t outputs next others more : List Bool) → IsCycle library x s outputs next → IsCycle library y t others more → length s ≡ length t
+states_once library x y s t outputs next others more a b =
+    let main : a.main ≡ b.main = same_Some a.main b.main (sym (a.are_latches).at ∙ (b.are_latches).at) in
+    let same : a.latches ≡ b.latches = order_once library is_latch (subst (λ m. FlatOrder library is_latch [] m a.latches) main (a.are_latches).order) (b.are_latches).order in
+    a.states ∙ ap (λ (places : List Place). length places) same ∙ sym b.states
+
+-- the inputs' values
+abbrev all_inputs : Circuit → List (List ℕ → Bool) → List (List Bool)
+all_inputs c xs = map (λ (x : List ℕ → Bool). map x c.inputs) xs
+
+module _ (flat : FlatValue) (params : List Param) (regular : List ℕ) (g : Aig) (roots : RootsValue) (from : IsWrittenFrom flat params regular g roots) (normal : AreNormal (first_and g) g.pairs)
+    (one : (given : List Bool) → length given ≡ length g.kinds → HasOneFit g given) where
+  abbrev written : Circuit
+  written = graph_circuit flat params regular g roots
+
+  -- its inputs
+  inputs_named : written.inputs ≡ input_names flat params
+  inputs_named = ap (λ names. names ++ param_names params) (names_at flat.inputs regular (regular_names flat params) from.names)
+
+  inputs_count : length written.inputs ≡ input_count regular params
+  inputs_count = omega (arith, length-append (map (input_at flat) regular) (map (λ (p : Param). p.name) params), length-map regular (input_at flat), length-map params (λ (p : Param). p.name))
+
+  -- the sources of the graph, where the inputs have their values by their names
+  sources_are : (x : List ℕ → Bool) (s : List Bool) → map x written.inputs ++ s ≡ source_values flat params x s
+  sources_are x s = ap (λ names. map x names ++ s) inputs_named
+
+  -- the values of roots, from those of variables
+  roots_same : (value : ℕ → Bool) (values : List Bool) (lits : List ℕ) → ((n : ℕ) → n < node_count g → node_value values n ≡ value n) → ((l : ℕ) → In lits l → IsLit g l) → map (value_of values) lits ≡ map (literal_value value) lits
+  roots_same value values lits same low = map_agree (value_of values) (literal_value value) lits (λ l i. let b : l < 2 * node_count g = low l i in literal_same values value l (same (l / 2) (omega arith)))
+
+  outputs_same : (value : ℕ → Bool) (values : List Bool) → ((n : ℕ) → n < node_count g → node_value values n ≡ value n) → literal_values values roots.outputs ≡ map (literal_value value) (output_literals written.items)
+  outputs_same value values same =
+      roots_same value values (lits_of roots.outputs) same (λ l i. from.literals l (In-left (lits_of roots.outputs) (lits_of roots.next) l i))
+      ∙ ap (map (literal_value value)) (sym (output_literals_are (input_count regular params) flat.latches g roots))
+
+  nexts_same : (value : ℕ → Bool) (values : List Bool) → ((n : ℕ) → n < node_count g → node_value values n ≡ value n) → literal_values values roots.next ≡ map (literal_value value) (next_literals written.items)
+  nexts_same value values same =
+      roots_same value values (lits_of roots.next) same (λ l i. from.literals l (In-right (lits_of roots.outputs) (lits_of roots.next) l i))
+      ∙ ap (map (literal_value value)) (sym (next_literals_are (input_count regular params) flat.latches g roots from.next))
+
+  module _ (library : LibraryValue) (cycles : HasCycles library flat) (sources : HasSourceCycles library flat params g roots) where
+    -- a cycle has a state for each latch
+    states_count : (x : List ℕ → Bool) (s outputs next : List Bool) → IsCycle library x s outputs next → length s ≡ length flat.latches
+    states_count x s outputs next cycle =
+        let n : length (replicate (length flat.latches) false) ≡ length flat.latches = length-replicate (length flat.latches) false in
+        states_once library x x s (replicate (length flat.latches) false) outputs next _ _ cycle (cycles.is_cycle x (replicate (length flat.latches) false) n) ∙ n
+
+    -- from the circuit's cycle to the library's
+    library_cycle : (x : List ℕ → Bool) (s outputs next : List Bool) → IsCircuitCycle written (map x written.inputs) s outputs next → IsCycle library x s outputs next
+    library_cycle x s outputs next cycle =
+        let fits : FitsGraph g (source_values flat params x s) (node_list g cycle.value) =
+        subst (λ given. FitsGraph g given (node_list g cycle.value)) (given_list flat params regular g roots from (map x written.inputs) s cycle.value cycle.fits cycle.inputs cycle.states ∙ sources_are x s)
+        (nodes_fit flat params regular g roots from (map x written.inputs) s cycle.value cycle.fits normal) in
+        let o : literal_values (node_list g cycle.value) roots.outputs ≡ outputs = outputs_same cycle.value (node_list g cycle.value) (node_at g cycle.value) ∙ sym cycle.outputs_are in
+        let n : literal_values (node_list g cycle.value) roots.next ≡ next = nexts_same cycle.value (node_list g cycle.value) (node_at g cycle.value) ∙ sym cycle.next_are in
+        subst (λ more. IsCycle library x s outputs more) n (subst (λ these. IsCycle library x s these (literal_values (node_list g cycle.value) roots.next)) o (sources.is_cycle x s (node_list g cycle.value) cycle.states fits))
+
+    -- and back
+    circuit_cycle : (x : List ℕ → Bool) (s outputs next : List Bool) → IsCycle library x s outputs next → IsCircuitCycle written (map x written.inputs) s outputs next
+    circuit_cycle x s outputs next cycle =
+        let count : length s ≡ length flat.latches = states_count x s outputs next cycle in
+        let inputs : length (map x written.inputs) ≡ input_count regular params = length-map written.inputs x ∙ inputs_count in
+        let kinds : length g.kinds ≡ input_count regular params + length flat.latches = from.sources in
+        let fit = one (map x written.inputs ++ s) (omega (arith, length-append (map x written.inputs) s)) in
+        let fits : FitsGraph g (source_values flat params x s) fit.values = subst (λ given. FitsGraph g given fit.values) (sources_are x s) fit.fits in
+        record {
+          inputs = inputs;
+          states = count;
+          value = node_value fit.values;
+          fits = lines_fit flat params regular g roots from (map x written.inputs) s fit.values inputs count fit.fits;
+          outputs_are = sources.outputs x s fit.values outputs next cycle fits ∙ outputs_same (node_value fit.values) fit.values (λ n l. refl);
+          next_are = sources.next x s fit.values outputs next cycle fits ∙ nexts_same (node_value fit.values) fit.values (λ n l. refl);
+        }
+
+    -- the circuit's run is the flat circuit's
+    runs_are : (s : List Bool) (xs : List (List ℕ → Bool)) (outputs states : List (List Bool)) → CircuitRuns written s (all_inputs written xs) outputs states
+        → (outputs ≡ run_outputs library flat s (map (input_values flat) xs)) × (states ≡ run_states library flat s (map (input_values flat) xs))
+    runs_are s [] [] [] r = (refl, refl)
+    runs_are s [] [] (n ∷ ns) r = absurd r
+    runs_are s [] (o ∷ os) ns r = absurd r
+    runs_are s (x ∷ xs) [] ns r = absurd r
+    runs_are s (x ∷ xs) (o ∷ os) [] r = absurd r
+    runs_are s (x ∷ xs) (o ∷ os) (n ∷ ns) r =
+        let cycle = library_cycle x s o n r.0 in
+        let first : o ≡ flat_outputs library flat (input_values flat x) s = cycles.outputs x s o n cycle in
+        let next : n ≡ flat_next library flat (input_values flat x) s = cycles.states x s o n cycle in
+        let later = runs_are n xs os ns r.1 in (
+          ap (λ l. l ∷ os) first ∙ ap (λ ls. flat_outputs library flat (input_values flat x) s ∷ ls) (later.0 ∙ ap (λ t. run_outputs library flat t (map (input_values flat) xs)) next),
+          ap (λ l. l ∷ ns) next ∙ ap (λ ls. flat_next library flat (input_values flat x) s ∷ ls) (later.1 ∙ ap (λ t. run_states library flat t (map (input_values flat) xs)) next),
+        )
+
+    -- and the flat circuit's is the circuit's
+    flat_runs : (s : List Bool) (xs : List (List ℕ → Bool)) → length s ≡ length flat.latches → CircuitRuns written s (all_inputs written xs) (run_outputs library flat s (map (input_values flat) xs)) (run_states library flat s (map (input_values flat) xs))
+    flat_runs s [] count = tt
+    flat_runs s (x ∷ xs) count = (
+      circuit_cycle x s (flat_outputs library flat (input_values flat x) s) (flat_next library flat (input_values flat x) s) (cycles.is_cycle x s count),
+      flat_runs (flat_next library flat (input_values flat x) s) xs (length-map flat.latches (λ (l : FlatLatch). net_value (input_values flat x) s (flat_values library flat (input_values flat x) s) l.input)),
+    )
+
+    -- runs start at the same states
+    inits_are : init_bits written.items ≡ flat_inits flat
+    inits_are = init_bits_are (input_count regular params) flat.latches g roots
+
+    -- so runs are the same
+    run_of_circuit : (xs : List (List ℕ → Bool)) (outputs states : List (List Bool)) → CircuitRuns written (init_bits written.items) (all_inputs written xs) outputs states → IsRun library xs outputs states
+    run_of_circuit xs outputs states r =
+        let are = runs_are (flat_inits flat) xs outputs states (subst (λ s. CircuitRuns written s (all_inputs written xs) outputs states) inits_are r) in
+        subst (λ o. IsRun library xs o states) (sym are.0) (subst (λ t. IsRun library xs (run_outputs library flat (flat_inits flat) (map (input_values flat) xs)) t) (sym are.1) (cycles.is_run xs))
+
+    run_of_library : (xs : List (List ℕ → Bool)) (outputs states : List (List Bool)) → IsRun library xs outputs states → CircuitRuns written (init_bits written.items) (all_inputs written xs) outputs states
+    run_of_library xs outputs states r =
+        let there = flat_runs (flat_inits flat) xs (length-map flat.latches (λ (l : FlatLatch). l.init)) in
+        subst (λ s. CircuitRuns written s (all_inputs written xs) outputs states) (sym inits_are)
+        (subst (λ o. CircuitRuns written (flat_inits flat) (all_inputs written xs) o states) (sym (cycles.all_outputs xs outputs states r))
+        (subst (λ t. CircuitRuns written (flat_inits flat) (all_inputs written xs) (run_outputs library flat (flat_inits flat) (map (input_values flat) xs)) t) (sym (cycles.all_states xs outputs states r)) there))
+
+    same_runs : HasSameRuns written library
+    same_runs = record { is_cycle = library_cycle; cycle_is = circuit_cycle; is_run = run_of_circuit; run_is = run_of_library }
+
+  -- all of it
+  pub graphs_circuit : node_count g ≤ 2 ^ 30 → IsGraphsCircuit flat params g roots written
+  graphs_circuit small =
+      let formed = written_formed flat params regular g roots from normal small in
+      record {
+        format = λ clean. text_format written formed clean;
+        reads_back = λ clean once. format_read (circuit_text written) written (text_format written formed clean) once;
+        fit = written_fit flat params regular g roots from formed normal one;
+        runs = same_runs;
+      }

@@ -1,0 +1,87 @@
+-- A job of `graph`: a source circuit that has a graph is accepted, and the circuit of its graph is the verdict's, whole or cut off.
+use Rattle.std.proofs.Common.{◌≡◌, ◌≤◌, ℕ, List, [], ◌∷◌, Some, refl, sym, subst}
+use Rattle.std.specs.Prelude.{string_bytes}
+use Rattle.tl_text.specs.declared.logical_lines.TheConstants.{MOST_BYTES}
+use Rattle.tl_fault.specs.RefusalValue.{RefusalValue}
+use Rattle.tl_io.specs.Port.{PortSeen}
+use Rattle.tl_io.specs.Shelf.{Files, ShelfSeen}
+use Rattle.tl_io.specs.Sink.{SinkSeen}
+use Rattle.aiger_io.specs.Circuit.{Circuit}
+use Rattle.aiger_io.specs.WrittenText.{circuit_text}
+use Rattle.cmd_base.specs.Outside.{outside}
+use Rattle.cmd_base.specs.Writing.{FileText, AreWritten, IsCut}
+use Rattle.cmd_base.specs.Ends.{Told, IsBegun, IsBegunFrom, Ends}
+use Rattle.cmd_base.specs.WalkLaws.{HasLaws}
+use Rattle.cmd_base.specs.declared.outcome.File.{File}
+use Rattle.cmd_base.specs.declared.outcome.Outcome.TheVariants as outcome
+use Rattle.cmd_stations.specs.declared.graphs.BuiltSource.{BuiltSource}
+use Rattle.cmd_stations.specs.Aims.{ToGraph}
+use Rattle.cmd_stations.specs.Source.{IsSourceRefused}
+use Rattle.cmd_stations.specs.Settled.{IsSourceSettled}
+use Rattle.cmd_stations.specs.Built.{ComesToGraph}
+use Rattle.cmd_stations.proofs.WriteAllLemmas.{cut_cause}
+use Rattle.cmd_stations.proofs.ClashLemmas.{refused_unmade}
+use Rattle.cmd_stations.proofs.RefusedLemmas.{source_refused_once}
+use Rattle.cmd_graph.specs.declared.export.Export.{Export}
+use Rattle.cmd_graph.specs.Words.{GraphWords}
+use Rattle.cmd_graph.specs.Exports.{IsExport}
+use Rattle.cmd_graph.specs.Graph.{circuit_at, HasExport, HasGraphJob, graph_walk}
+
+-- a source circuit whose graph was made is accepted
+graph_begun : (files : Files) (words : GraphWords) (b : BuiltSource) → ComesToGraph files words.source b → IsBegun (graph_walk words) files
+graph_begun files words b past = record { accepted = record { source = b.source; graph = b.graph; roots = b.roots; has = past.has }; settled = past.settled }
+
+module _ (words : GraphWords) (e : Export) (is : IsExport e) where
+  abbrev circuit : Circuit
+  circuit = circuit_at e.built.source e.regular.items e.built.graph e.built.roots
+
+  abbrev texts : List FileText
+  texts = record { name = words.out; bytes = circuit_text circuit } ∷ []
+
+  -- a job that came past its graph, and wrote
+  module _ (old mid new : ShelfSeen) (same : (out : SinkSeen) (ports : List PortSeen) → outside mid out ports ≡ outside old out ports) (few : mid.given ≤ MOST_BYTES) (given : new.given ≡ mid.given) (comes : Told old.files (λ files. ComesToGraph files words.source e.built))
+      (before after : SinkSeen) (ports : List PortSeen) where
+    begun_from : IsBegunFrom (graph_walk words) old new
+    begun_from = record { given = subst (λ n. n ≤ MOST_BYTES) (sym given) few; begun = λ files told. graph_begun files words e.built (comes files told) }
+
+    has_export : (files : Files) → old.files ≡ Some files → (P : List FileText → List ℕ → Type 0) → P texts (string_bytes e.line) → HasExport files words P
+    has_export files told P ends = record {
+      source = e.built.source;
+      graph = e.built.graph;
+      roots = e.built.roots;
+      has = (comes files told).has;
+      sound = is.built.read.netlist.sound;
+      regular = e.regular.items;
+      places = is.places;
+      exported = is.exported;
+      ends = subst (λ line. P texts line) is.line ends;
+    }
+
+    pub graph_done : AreWritten texts (string_bytes e.line) (outside mid before ports) (outside new after ports) → Ends (graph_walk words) old new (outside old before ports) (outside new after ports) outcome.Done
+    graph_done all = (
+      begun_from,
+      λ files told. has_export files told (λ ts line. AreWritten ts line (outside old before ports) (outside new after ports))
+          (subst (λ w. AreWritten texts (string_bytes e.line) w (outside new after ports)) (same before ports) all),
+      refl,
+    )
+
+    pub graph_cut : IsCut texts (string_bytes e.line) (outside mid before ports) (outside new after ports) → Ends (graph_walk words) old new (outside old before ports) (outside new after ports) outcome.WriteFault
+    graph_cut part =
+        let cut = subst (λ w. IsCut texts (string_bytes e.line) w (outside new after ports)) (same before ports) part in (
+          begun_from,
+          λ files told. has_export files told (λ ts line. IsCut ts line (outside old before ports) (outside new after ports)) cut,
+          refl,
+          cut_cause (graph_walk words) texts (string_bytes e.line) (outside old before ports) (outside new after ports) tt cut,
+        )
+
+-- a source circuit that has a graph isn't refused
+built_or : (files : Files) (words : GraphWords) → IsSourceSettled ToGraph files words.source → (job : HasGraphJob files words.source) (f : File) (r : RefusalValue) → IsSourceRefused ToGraph files words.source f r → ⊥
+built_or files words settled job f r refused =
+    (settled.made job.source job.has.has).not_both job.graph job.roots r job.has.built (refused_unmade files words.source settled job.source f r job.has.has refused)
+
+pub graph_laws : (words : GraphWords) → HasLaws (graph_walk words)
+graph_laws words = record {
+  not_both = λ files settled job f r refused. built_or files words settled job f r refused;
+  one_refusal = λ files settled f e r s one other. source_refused_once files words.source settled f e r s one other;
+  shows = λ files old new done. tt;
+}

@@ -1,0 +1,13 @@
+use Rattle.std.proofs.Common.{ap, rules}
+use Rattle.tl_io.proofs.PutLemmas.{put_as}
+use Rattle.aiger_io.specs.WrittenText.{circuit_text}
+use Rattle.cmd_stations.proofs.WriteLemmas.{written_over}
+use Rattle.cmd_graph.specs.Graph.{circuit_at}
+use Rattle.cmd_graph.proofs.export.write_export.Goals as goal
+
+pub returns-clause-written : goal.returns-clause-written
+returns-clause-written g c =
+    let e = c.args.export.now in
+    let put = put_as (ap (λ places. circuit_text (circuit_at e.built.source places e.built.graph e.built.roots)) c.deref.ensures.value) c.put_aag.ensures.put in
+    written_over g.S.Shelf.seen (record { name = c.args.name.now; bytes = circuit_text (circuit_at e.built.source e.regular.items e.built.graph e.built.roots) }) c.args.shelf.now c.begin_write.new.self c.over-file.result.shelf.now c.put_aag.new.out.shelf.now _ c.put_aag.result
+    c.over-file.ensures.value (search rules) c.in_ok-begin_write.ensures.begins.1 c.in_ok-begin_write.ensures.begins.2 put.grown put.others

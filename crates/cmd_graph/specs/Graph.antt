@@ -1,0 +1,75 @@
+-- The walk of `graph`: a source circuit is read, and its graph is written as the text of its circuit.
+use Rattle.std.specs.Prelude.{◌≡◌, ℕ, List, [], ◌∷◌, Ok, codes, decimal}
+use Rattle.std.specs.List.{concat}
+use Rattle.list_laws.specs.Members.{In}
+use Rattle.tl_io.specs.Shelf.{Files}
+use Rattle.aig_core.specs.Aig.{Aig}
+use Rattle.aig_core.specs.Roots.{RootsValue}
+use Rattle.netlist.specs.Sound.{IsSound}
+use Rattle.param_list.specs.RegularPlaces.{AreRegularPlaces}
+use Rattle.aiger_io.specs.Circuit.{Circuit, circuit_of}
+use Rattle.aiger_io.specs.GraphCircuit.{graph_circuit}
+use Rattle.aiger_io.specs.Reading.{IsOfFormat}
+use Rattle.aiger_io.specs.Run.{HasOneFit, HasSameRuns}
+use Rattle.aiger_io.specs.WrittenText.{circuit_text}
+use Rattle.aiger_io.specs.declared.header.Header.{Header}
+use Rattle.cmd_base.specs.Walk.{Walk}
+use Rattle.cmd_base.specs.Writing.{FileText, AreWritten, IsCut}
+use Rattle.cmd_stations.specs.declared.source.Source.{Source}
+use Rattle.cmd_stations.specs.Words.{SourceWords}
+use Rattle.cmd_stations.specs.Aims.{ToGraph}
+use Rattle.cmd_stations.specs.Source.{HasGraph}
+use Rattle.cmd_stations.specs.Settled.{source_reading}
+use Rattle.cmd_graph.specs.Words.{GraphWords}
+
+-- the line that it prints
+abbrev pub graph_line : Header → List ℕ
+graph_line h = concat (codes "inputs " ∷ decimal h.inputs ∷ codes " latches " ∷ decimal h.latches ∷ codes " ands " ∷ decimal h.ands ∷ codes "\n" ∷ [])
+
+-- The circuit of a source circuit's graph, where these are the places of its regular inputs.
+abbrev pub circuit_at : Source → List ℕ → Aig → RootsValue → Circuit
+circuit_at source regular graph roots = graph_circuit source.netlist.flat source.params.list regular graph roots
+
+-- No output has the name of an input.
+abbrev pub HasOtherNames : Circuit → Type 0
+HasOtherNames c = (name : List ℕ) → In c.inputs name → In c.outputs name → ⊥
+
+-- The text of such a circuit is of the format, and is read back where no output has the name of an input; values that fit its lines are there, and its
+-- cycles and runs, with values of the regular inputs and then of the parameters, are those of the source circuit.
+pub record IsExported (source : Source) (c : Circuit) : Type 0 where
+  pub format : IsOfFormat (circuit_text c) c
+  pub reads_back : HasOtherNames c → circuit_of (circuit_text c) ≡ Ok c
+  pub fit : HasOneFit c
+  pub runs : HasSameRuns c source.netlist.library
+
+-- The source circuit that the files hold has this graph. The file has the text of its circuit, and the line tells its counts.
+pub record HasExport (files : Files) (words : GraphWords) (Ends : List FileText → List ℕ → Type 0) : Type 0 where
+  pub source : Source
+  pub graph : Aig
+  pub roots : RootsValue
+  pub has : HasGraph files words.source source graph roots
+  pub sound : IsSound source.netlist.library
+  pub regular : List ℕ
+  pub places : AreRegularPlaces source.netlist.flat source.params.list regular
+  pub exported : IsExported source (circuit_at source regular graph roots)
+  pub ends : Ends (record { name = words.out; bytes = circuit_text (circuit_at source regular graph roots) } ∷ []) (graph_line (circuit_at source regular graph roots).header)
+
+-- the files hold a source circuit that has a graph
+pub record HasGraphJob (files : Files) (words : SourceWords) : Type 0 where
+  pub source : Source
+  pub graph : Aig
+  pub roots : RootsValue
+  pub has : HasGraph files words source graph roots
+
+abbrev pub graph_walk : GraphWords → Walk
+graph_walk words = record {
+  reading = source_reading ToGraph words.source;
+  IsAccepted = λ files. HasGraphJob files words.source;
+  IsDone = λ files old new. HasExport files words (λ texts line. AreWritten texts line old new);
+  IsCutOff = λ files old new. HasExport files words (λ texts line. IsCut texts line old new);
+  IsLost = λ files old new. ⊥;
+  Shows = λ files old new. Unit {0};
+  WritesFiles = Unit {0};
+  KeepsPorts = λ old new. new.ports ≡ old.ports;
+  HasPortFault = λ old new. ⊥;
+}

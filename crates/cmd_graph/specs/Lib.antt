@@ -1,0 +1,6 @@
+-- What public clauses say: of the words,
+pub mod Words
+-- and of the walk.
+pub mod Graph
+-- What only bodies are compared with.
+pub mod Exports

@@ -1,0 +1,100 @@
+//! A source circuit's graph that is ready to be written.
+ghost use Rattle.std.specs.Prelude.{◌≡◌, IfOk, string_bytes};
+ghost use Rattle.param_list.specs.RegularPlaces.{AreRegularPlaces};
+ghost use Rattle.aiger_io.specs.GraphCircuit.{IsWrittenFrom};
+ghost use Rattle.tl_io.specs.Causes.{HasCause};
+ghost use Rattle.aiger_io.specs.WrittenText.{circuit_text};
+ghost use Rattle.cmd_stations.specs.Built.{IsBuiltSource};
+ghost use Rattle.cmd_stations.specs.FileWrites.{WritesFile};
+ghost use Rattle.cmd_graph.specs.Graph.{graph_line, circuit_at, IsExported};
+ghost use Rattle.cmd_graph.specs.Exports.{IsExport};
+
+use aiger_io::{graph_law, put_aag};
+use cmd_stations::BuiltSource;
+use param_list::regular;
+use std::alloc::{AllocError, Global};
+use tl_io::{Failed, FileSink, Shelf};
+
+/// A source circuit with its graph, the places of its regular inputs, and the line that tells the graph's counts.
+#[derive(Drop)]
+pub struct Export {
+    pub built: BuiltSource,
+    pub regular: Vec<u32>,
+    pub line: String,
+}
+
+// The places of the regular inputs, with which the graph can be written.
+fn regular_places(alloc: Global, built: &BuiltSource) -> Result<Vec<u32>, AllocError>
+    requires { IsBuiltSource built.now }
+    ensures places { IfOk result (λ places. AreRegularPlaces built.now.source.netlist.flat built.now.source.params.list places.items) }
+    ensures written { IfOk result (λ places. IsWrittenFrom built.now.source.netlist.flat built.now.source.params.list places.items built.now.graph built.now.roots) }
+{
+    let places = regular(alloc, &built.source.netlist.flat, &built.source.params)?;
+    Ok(places)
+}
+
+// The line that tells the graph's counts.
+fn counts_line(alloc: Global, built: &BuiltSource, regular: &[u32]) -> Result<String, AllocError>
+    requires { IsWrittenFrom built.now.source.netlist.flat built.now.source.params.list regular.now built.now.graph built.now.roots }
+    ensures { IfOk result (λ line. string_bytes line ≡ graph_line (circuit_at built.now.source regular.now built.now.graph built.now.roots).header) }
+{
+    let inputs = regular.len() + built.source.params.list.len();
+    let latches = built.source.netlist.flat.latches.len();
+    let ands = built.graph.len() - 1 - built.graph.sources();
+    format!(in alloc; "inputs {} latches {} ands {}\n", inputs, latches, ands)
+}
+
+// The law of the circuit that is written: it is that of the source circuit. There is nothing to do: the call is its contract.
+fn export_law(built: &BuiltSource, regular: &[u32])
+    requires built { IsBuiltSource built.now }
+    requires written { IsWrittenFrom built.now.source.netlist.flat built.now.source.params.list regular.now built.now.graph built.now.roots }
+    ensures { IsExported built.now.source (circuit_at built.now.source regular.now built.now.graph built.now.roots) }
+{
+    let source = &built.source;
+    graph_law(
+        &source.netlist.flat,
+        &source.params,
+        regular,
+        &built.graph,
+        &built.roots,
+    );
+}
+
+/// What is made ready before a source circuit's graph is written. `Err` comes only for want of memory.
+pub fn make_export(alloc: Global, built: BuiltSource) -> Result<Export, AllocError>
+    requires { IsBuiltSource built }
+    ensures built { IfOk result (λ e. e.built ≡ built) }
+    ensures export { IfOk result IsExport }
+{
+    let regular = regular_places(alloc, &built)?;
+    let line = counts_line(alloc, &built, &regular)?;
+    export_law(&built, &regular);
+    Ok(Export {
+        built,
+        regular,
+        line,
+    })
+}
+
+/// Writes the file of a graph.
+///
+/// # Errors
+/// `Failed` only where the count of write faults rose: then the file has a prefix of its bytes, or is as before.
+pub fn write_export<S: Shelf>(export: &Export, name: &str, shelf: &mut S) -> Result<(), Failed>
+    requires { IsExport export.now }
+    ensures cause { HasCause (S.seen shelf.old).write_faults (S.seen shelf.new).write_faults result }
+    ensures written { WritesFile (record { name = name.now; bytes = circuit_text (circuit_at export.now.built.source export.now.regular.items export.now.built.graph export.now.built.roots) }) (S.seen shelf.old).files (S.seen shelf.new).files result }
+    ensures given { (S.seen shelf.new).given ≡ (S.seen shelf.old).given }
+{
+    let source = &export.built.source;
+    shelf.begin_write(name)?;
+    let mut file = FileSink::over(shelf);
+    put_aag(
+        &source.netlist.flat,
+        &source.params,
+        &export.regular,
+        &export.built.graph,
+        &export.built.roots,
+        &mut file,
+    )
+}

@@ -1,0 +1,84 @@
+//! The command `graph`.
+ghost use Rattle.std.specs.Prelude.{◌≡◌, ◌≤◌, List, [], ◌∷◌, false, string_bytes, IfOk, IfErr, OnOk};
+ghost use Rattle.tl_text.specs.declared.logical_lines.TheConstants.{MOST_BYTES};
+ghost use Rattle.tl_io.specs.Port.{PortSeen};
+ghost use Rattle.aiger_io.specs.WrittenText.{circuit_text};
+ghost use Rattle.cmd_base.specs.Outside.{outside};
+ghost use Rattle.cmd_base.specs.Ends.{Ends, Explains, Told};
+ghost use Rattle.cmd_base.specs.WalkLaws.{HasLaws};
+ghost use Rattle.cmd_stations.specs.Aims.{ToGraph};
+ghost use Rattle.cmd_stations.specs.Settled.{source_reading};
+ghost use Rattle.cmd_stations.specs.Built.{ComesToGraph};
+ghost use Rattle.cmd_stations.specs.FileWrites.{WritesAll};
+ghost use Rattle.cmd_graph.specs.Words.{graph_seen};
+ghost use Rattle.cmd_graph.specs.Graph.{circuit_at, graph_walk};
+ghost use Rattle.cmd_graph.specs.Exports.{IsExport};
+
+use crate::export::{Export, make_export, write_export};
+use crate::words::GraphWords;
+use cmd_base::Outcome;
+use cmd_stations::read_graph;
+use std::alloc::Global;
+use tl_io::{Failed, Shelf, Sink};
+
+// Reads a source circuit, and makes ready what is written of its graph.
+fn read_export<S: Shelf>(
+    alloc: Global,
+    words: &GraphWords,
+    shelf: &mut S,
+) -> Result<Export, Outcome>
+    ensures export { IfOk result IsExport }
+    ensures comes { IfOk result (λ e. Told (S.seen shelf.old).files (λ files. ComesToGraph files (graph_seen words.now).source e.built)) }
+    ensures given { OnOk result ((S.seen shelf.new).given ≤ MOST_BYTES) }
+    ensures err { IfErr result (Explains (source_reading ToGraph (graph_seen words.now).source) (S.seen shelf.old) (S.seen shelf.new)) }
+    ensures later { (S.seen shelf.old).read_faults ≤ (S.seen shelf.new).read_faults }
+    ensures files { (S.seen shelf.new).files ≡ (S.seen shelf.old).files }
+    ensures write_faults { (S.seen shelf.new).write_faults ≡ (S.seen shelf.old).write_faults }
+    ensures not_writing { (S.seen shelf.new).is_writing ≡ false }
+{
+    let built = match read_graph(alloc, &words.source, shelf) {
+        Ok(built) => built,
+        Err(outcome) => return Err(outcome),
+    };
+    match make_export(alloc, built) {
+        Ok(export) => Ok(export),
+        Err(_) => Err(Outcome::Memory),
+    }
+}
+
+// Writes the file, and puts the line.
+fn write_out<S: Shelf, O: Sink>(
+    export: &Export,
+    name: &str,
+    shelf: &mut S,
+    out: &mut O,
+) -> Result<(), Failed>
+    requires { IsExport export.now }
+    ensures ends { (ports : List PortSeen) → WritesAll (record { name = name.now; bytes = circuit_text (circuit_at export.now.built.source export.now.regular.items export.now.built.graph export.now.built.roots) } ∷ []) (string_bytes export.now.line) (outside (S.seen shelf.old) (O.seen out.old) ports) (outside (S.seen shelf.new) (O.seen out.new) ports) result }
+    ensures given { (S.seen shelf.new).given ≡ (S.seen shelf.old).given }
+{
+    match write_export(export, name, shelf) {
+        Ok(()) => out.put(export.line.as_bytes()),
+        Err(failed) => Err(failed),
+    }
+}
+
+/// Runs the command: makes the graph of a source circuit, and writes it.
+pub fn graph_job<S: Shelf, O: Sink>(
+    alloc: Global,
+    words: &GraphWords,
+    shelf: &mut S,
+    out: &mut O,
+) -> Outcome
+    ensures ends { (ports : List PortSeen) → Ends (graph_walk (graph_seen words.now)) (S.seen shelf.old) (S.seen shelf.new) (outside (S.seen shelf.old) (O.seen out.old) ports) (outside (S.seen shelf.new) (O.seen out.new) ports) result }
+    ensures laws { HasLaws (graph_walk (graph_seen words.now)) }
+{
+    let export = match read_export(alloc, words, shelf) {
+        Ok(export) => export,
+        Err(outcome) => return outcome,
+    };
+    match write_out(&export, words.out, shelf, out) {
+        Ok(()) => Outcome::Done,
+        Err(_) => Outcome::WriteFault,
+    }
+}

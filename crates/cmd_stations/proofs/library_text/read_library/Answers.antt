@@ -1,0 +1,23 @@
+use Rattle.std.proofs.Common.{◌≡◌, Some, sym, ◌∙◌}
+use Rattle.blif_read.specs.ReadFault.{read_fault}
+use Rattle.blif_read.specs.Refusals.{refusal_of as blif_refusal}
+use Rattle.aiger_io.specs.Reading.{IsRefused}
+use Rattle.aiger_io.specs.Refusals.{refusal_of as aag_refusal}
+use Rattle.cmd_stations.specs.LibraryText.{LibraryRefusal}
+use Rattle.cmd_stations.specs.LibraryText as form
+use Rattle.cmd_stations.proofs.StopLemmas.{passed_stop}
+use Rattle.cmd_stations.proofs.LibraryTextLemmas.{blif_once}
+use Rattle.cmd_stations.proofs.library_text.read_library.Goals as goal
+
+pub returns-in_err-library-clause-refusal : goal.returns-in_err-library-clause-refusal
+returns-in_err-library-clause-refusal c =
+    passed_stop aag_refusal (IsRefused c.args.text.now) (LibraryRefusal c.args.text.now) c.from_residual.result c.in_err-library.field-0.0 c.in_err-library.ensures.refusal c.from_residual.ensures.1
+    (λ r told fault. form.LibraryRefusal.aiger (sym c.is_aag.ensures ∙ c.if-is_aag.true) c.in_err-library.field-0.0 fault told)
+
+pub returns-in_err-library-2-clause-refusal : goal.returns-in_err-library-2-clause-refusal
+returns-in_err-library-2-clause-refusal c =
+    passed_stop blif_refusal (λ e. read_fault c.args.text.now ≡ Some e) (LibraryRefusal c.args.text.now) c.from_residual-in_err-library-2.result c.in_err-library-2.field-0.0 c.in_err-library-2.ensures.fault c.from_residual-in_err-library-2.ensures.1
+    (λ r told fault. form.LibraryRefusal.blif (sym c.is_aag.ensures ∙ c.if-is_aag.false) c.in_err-library-2.field-0.0 fault told)
+
+pub returns-in_err-library-2-clause-one_library : goal.returns-in_err-library-2-clause-one_library
+returns-in_err-library-2-clause-one_library c = blif_once c.args.text.now (sym c.is_aag.ensures ∙ c.if-is_aag.false) c.read.ensures.one_reading
