@@ -13,12 +13,51 @@ import shutil
 import subprocess
 import sys
 import tempfile
+import threading
 import time
 
 TOP = os.path.dirname(os.path.dirname(os.path.abspath(__file__)))
 PROGRAM = "tlut"
 # What a check reads of a crate, and what its program is run on.
 PARTS = ["src", "specs", "proofs", "stdin", "stdout", "args", "status", "data"]
+# After so many seconds without a line one says that the work goes on.
+SILENCE = 25
+
+
+class Voice:
+    """Tells on standard error how far the work is: each crate that is proved, and that it goes on where that takes long."""
+
+    def __init__(self, count, silence=SILENCE):
+        self.count, self.silence, self.done = count, silence, 0
+        self.begun = self.told = time.monotonic()
+        self.lock, self.ended = threading.Lock(), threading.Event()
+        self.watch = threading.Thread(target=self.beat, daemon=True)
+
+    def __enter__(self):
+        self.watch.start()
+        return self
+
+    def __exit__(self, *_):
+        self.ended.set()
+        self.watch.join()
+
+    def say(self, text):
+        """Puts a line."""
+        with self.lock:
+            self.told = time.monotonic()
+            print(f"tlut: {text}", file=sys.stderr, flush=True)
+
+    def step(self, name):
+        """A crate is proved."""
+        self.done += 1
+        self.say(f"{name} ({self.done} of {self.count})")
+
+    def beat(self):
+        """Says that the work goes on, whenever there was silence, until it has ended."""
+        while not self.ended.wait(self.silence / 10):
+            if time.monotonic() - self.told >= self.silence:
+                minutes, seconds = divmod(int(time.monotonic() - self.begun), 60)
+                self.say(f"at work for {minutes} min {seconds:02} s, {self.done} of {self.count} crates are proved")
 
 
 def read_lines():
@@ -56,9 +95,8 @@ def copy_crates(room):
     return len(names)
 
 
-def prove(room, count, log):
+def prove(room, voice, log):
     """Runs the gate in the room, tells of each crate that is proved, and returns whether all was."""
-    done = 0
     with subprocess.Popen(
         ["rt", "ci"], cwd=room, stdin=subprocess.DEVNULL, stdout=subprocess.PIPE, stderr=subprocess.STDOUT, text=True
     ) as gate:
@@ -66,8 +104,7 @@ def prove(room, count, log):
             log.write(line)
             found = re.match(r"rt: (\w+) (proved$|is kept)", line)
             if found:
-                done += 1
-                print(f"tlut: {found[1]} ({done} of {count})", file=sys.stderr, flush=True)
+                voice.step(found[1])
     return gate.returncode == 0
 
 
@@ -87,7 +124,9 @@ def main():
         return 1
     begun = time.time()
     with open(sys.argv[1], "w", encoding="utf-8") as log, tempfile.TemporaryDirectory(prefix="tlut-") as room:
-        if not prove(room, copy_crates(room), log):
+        with Voice(copy_crates(room)) as voice:
+            is_proved = prove(room, voice, log)
+        if not is_proved:
             print(f"tlut: the program was not proved; see {sys.argv[1]}", file=sys.stderr)
             return 1
         place(f"{room}/crates/{PROGRAM}/out/{PROGRAM}", begun)

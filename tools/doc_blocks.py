@@ -3,19 +3,23 @@
 
     python3 tools/doc_blocks.py
 
-A block ```sh with a line `./tlut ..` is run in a folder of its own, where `./tlut` and `examples` are those of the repository;
-its lines that begin with `rt` are left out. Each plain block of README.md, and each one of docs/ behind such a command, must stand
+A block ```sh with a line `./tlut ..` or `./flow ..` is run in a folder of its own, where `./tlut`, `./flow` and `examples` are those of
+the repository; its lines that begin with `rt` are left out. Where a line calls for a tool that isn't there, the block and the plain
+ones behind it are left out, and the run says so. Each plain block of README.md, and each one of docs/ behind such a command, must stand
 line by line in what a command before it printed, in a file that one wrote, or in a file of examples/.
 The last line tells how many commands and blocks there were, and the status is 0 where all are as shown.
 """
 
 import os
 import re
+import shutil
 import subprocess
 import sys
 import tempfile
 
 TOP = os.path.dirname(os.path.dirname(os.path.abspath(__file__)))
+# What some lines call for.
+TOOLS = [("./flow verilog", ("yosys",)), ("./flow check", ("yosys-abc", "berkeley-abc", "abc")), ("--simulate", ("iverilog",)), ("make ", ("make",))]
 BLOCK = re.compile(r"^```(\w*)\n(.*?)^```$", re.MULTILINE | re.DOTALL)
 
 
@@ -43,15 +47,24 @@ def stands_in(block, lines):
     return any(lines[i : i + len(block)] == block for i in range(len(lines) - len(block) + 1))
 
 
+def missing_tool(lines):
+    """The first tool that some lines call for and that isn't there, or None."""
+    for part, names in TOOLS:
+        if any(part in line for line in lines) and not any(shutil.which(name) for name in names):
+            return names[0]
+    return None
+
+
 class Page:
     """A page while its blocks are looked at: the folder where its commands run, and what they printed."""
 
     def __init__(self, name, folder):
         self.name, self.folder, self.printed, self.failed = name, folder, [], 0
         os.symlink(f"{TOP}/examples", f"{folder}/examples")
-        with open(f"{folder}/tlut", "w", encoding="utf-8") as file:
-            file.write(f'#!/bin/sh\nexec "{TOP}/tlut" "$@"\n')
-        os.chmod(f"{folder}/tlut", 0o755)
+        for program in ("tlut", "flow"):
+            with open(f"{folder}/{program}", "w", encoding="utf-8") as file:
+                file.write(f'#!/bin/sh\nexec "{TOP}/{program}" "$@"\n')
+            os.chmod(f"{folder}/{program}", 0o755)
 
     def say(self, line, what):
         print(f"{self.name}:{line}: {what}")
@@ -71,11 +84,16 @@ class Page:
 def look_at(name, page):
     """Runs the commands of a page and looks for its blocks. Returns how many commands and blocks there were."""
     commands = blocks = 0
+    missing = None
     for line, kind, lines in blocks_of(name):
-        if kind == "sh" and any(it.startswith("./tlut") for it in lines):
+        if kind == "sh" and any(it.startswith(("./tlut", "./flow")) for it in lines):
+            missing = missing_tool(lines)
+            if missing:
+                print(f"{name}:{line}: left out, since {missing} isn't there")
+                continue
             commands += 1
             page.run(line, [it for it in lines if not it.startswith("rt ")])
-        elif not kind and (name == "README.md" or page.printed):
+        elif not kind and not missing and (name == "README.md" or page.printed):
             blocks += 1
             if not page.is_shown(lines):
                 page.say(line, "no command before it prints or writes these lines, and no example has them")

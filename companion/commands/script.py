@@ -1,0 +1,73 @@
+"""`flow script`: a script from events with values of buses."""
+
+from __future__ import annotations
+
+import argparse
+
+from companion.buses import Bus, assigned, buses_of
+from companion.faults import Fault
+from companion.parameters import Interface, read_interface
+from companion.script import WORDS, bits_text
+from companion.text import Line, logical_lines, read_input
+
+HELP = "a script from events with values of buses"
+DESCRIPTION = """Reads events on standard input, one a line, and puts the script for `tlut run` out:
+
+  cycle x=-3 rst=0     the clock ticks; an input that isn't named keeps its value, at first 0
+  set coef=0x12        parameters change
+  upset 3, scrub, image
+                       as in a script
+
+A bus is a name with all its indices, and its lowest index is the lowest digit; a single net may be named too. A value is decimal,
+as 18 or -3, or 0x12, 0b10010 or 8'h12. What is behind # is a comment."""
+EXAMPLE = """example:
+  printf 'cycle x=1\\ncycle x=2\\nset c1=7\\ncycle x=3\\n' | flow script fir.blif fir.par > fir.scr"""
+
+
+class Writer:
+    """Makes lines of a script; it keeps the values of the inputs."""
+
+    def __init__(self, interface: Interface):
+        self.regular = interface.regular
+        self.inputs = buses_of(interface.regular)
+        self.parameters = buses_of(interface.parameters)
+        self.kept = {name: 0 for name in interface.regular}
+
+    def line_of(self, event: Line) -> str:
+        """The line of an event."""
+        word, others = event.tokens[0], event.tokens[1:]
+        if word == "cycle":
+            self.kept.update(assigned(others, self.inputs, "inputs"))
+            return f"cycle {bits_text([self.kept[name] for name in self.regular])}"
+        if word == "set":
+            return set_line(others, self.parameters)
+        if word not in WORDS:
+            raise Fault(f"{word} is no event; these are: {', '.join(WORDS)}")
+        if word == "upset" and not (len(others) == 1 and others[0].isdecimal()):
+            raise Fault("upset has one address behind it, a decimal number")
+        if word != "upset" and others:
+            raise Fault(f"{word} has nothing behind it")
+        return " ".join(event.tokens)
+
+
+def set_line(words: list[str], parameters: dict[str, Bus]) -> str:
+    """The line of a set."""
+    bits = assigned(words, parameters, "parameters")
+    if not bits:
+        raise Fault("set has one NAME=VALUE or more behind it")
+    return " ".join(["set", *(f"{net}={bit}" for net, bit in bits.items())])
+
+
+def add_words(parser: argparse.ArgumentParser) -> None:
+    parser.add_argument("netlist", metavar="NETLIST")
+    parser.add_argument("params", metavar="PARAMS")
+
+
+def run(given: argparse.Namespace) -> int:
+    writer = Writer(read_interface(given.netlist, given.params))
+    for event in logical_lines(read_input()):
+        try:
+            print(writer.line_of(event))
+        except Fault as fault:
+            raise Fault(f"line {event.number} of standard input: {fault}") from None
+    return 0

@@ -1,0 +1,5 @@
+"""The one way in which a subcommand fails."""
+
+
+class Fault(Exception):
+    """Why a subcommand can't go on: one clear line, which is shown on standard error."""

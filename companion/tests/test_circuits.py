@@ -1,0 +1,130 @@
+"""Mapped circuits, what a report tells of them, and their drawings."""
+
+import json
+import re
+import unittest
+
+from companion.circuit import circuit_of
+from companion.drawing import drawing
+from companion.faults import Fault
+from companion.netlist import parse_library
+from companion.output import parse_output
+from companion.pack import parse_pack
+from companion.parameters import read_interface
+from companion.script import bits_text, read_script
+from companion.statistics import statistics
+from companion.tests.helpers import DATA, EXAMPLES, MUX_PACK, MUX_TEMPLATE, InFolder, cycle_of, example, flow, mapped, mux, needs
+from companion.tools import DOT
+
+RUNS = (("fir", "ten", "expected"), ("fir", "changing", "expected_changing"), ("matcher", "patterns", "expected"), ("coder", "keys", "expected"))
+
+
+class Circuits(unittest.TestCase):
+    def test_mux(self):
+        circuit = mux()
+        self.assertEqual((circuit.inputs, circuit.clock, circuit.roots), (["a", "b"], None, {"y": "_n13"}))
+        self.assertEqual([(it.net, it.leaves, list(it.addresses)) for it in circuit.tables], [("_n13", ["a", "b"], [0, 1, 2, 3])])
+        self.assertEqual((circuit.depth, circuit.longest_path(), circuit.cone(["_n13"])), (1, ["a", "_n13", "y"], {"a", "b", "_n13"}))
+
+    def test_tables_play_the_runs_of_the_examples(self):
+        """Tables, leaves, addresses and latches are those of the runs: with the runs' writes they have the runs' cycles."""
+        for name, script, printed in RUNS:
+            circuit = mapped(name)
+            interface = read_interface(f"{EXAMPLES}/{name}/{name}.blif", f"{EXAMPLES}/{name}/{name}.par")
+            self.assertEqual((circuit.inputs, circuit.clock), (interface.regular, "clk"))
+            output = parse_output(example(f"{name}/{printed}.txt"), name)
+            self.assertEqual((len(circuit.tables), len(circuit.pack.bits), circuit.depth), (output.header.tables, output.header.bits, output.header.depth))
+            bits = circuit.pack.configuration()
+            states = bits_text([latch.start for latch in circuit.latches])
+            for event, line in zip(read_script(f"{EXAMPLES}/{name}/{script}.scr", interface.regular), output.events):
+                for address, bit in line.writes:
+                    bits[address] = bit
+                if event.word == "cycle":
+                    inputs = "".join(map(str, event.values.values()))
+                    self.assertEqual(cycle_of(circuit, bits, inputs, states), (line.outputs, line.states))
+                    states = line.states
+                elif event.word == "image":
+                    self.assertEqual(line.text, f"image {bits_text(bits)}")
+
+    def test_files_that_dont_belong_together(self):
+        for template, pack in ((MUX_TEMPLATE, "54505043 0002 00 00 01 00"), (MUX_TEMPLATE.replace("_c3\n", "\n"), MUX_PACK.hex())):
+            with self.assertRaises(Fault):
+                circuit_of(parse_library(template, "t"), parse_pack(bytes.fromhex(pack), "p"), "p")
+
+
+class Reports(InFolder):
+    def test_counts_of_the_matcher(self):
+        """README has the matcher: its pattern and mask are in the 16 bits of one table of four inputs, and three tables count."""
+        found = statistics(mapped("matcher"))
+        self.assertEqual((found.tables, found.bits, found.depth, found.parameters, found.latches), (4, 44, 2, 8, 6))
+        self.assertEqual(found.tables_by_kind, {"constant": 3, "one parameter": 0, "several parameters": 1})
+        self.assertEqual(found.bits_by_kind, {"constant": 28, "one parameter": 0, "several parameters": 16})
+        self.assertEqual({(it.bits, it.tables) for it in found.reach.values()}, {(16, 1)})
+
+    def test_counts_of_the_coder(self):
+        """README has the coder: the key is in the bits of four tables that mix and of four that replace. Key 0 needs no table that mixes."""
+        found = statistics(mapped("coder"))
+        self.assertEqual((found.tables_by_leaves, found.tables_by_depth), ({2: 4, 4: 4}, {1: 4, 2: 4}))
+        self.assertEqual((found.reach["key[7]"].bits, found.reach["key[7]"].tables), (16, 1))
+        self.assertEqual(sum(found.bits_by_kind.values()), 80)
+
+    def test_text_and_functions(self):
+        template, pack = self.put("t.blif", MUX_TEMPLATE), self.put("p.ppc", MUX_PACK)
+        lines = flow("report", template, pack, "--bits").stdout.splitlines()
+        self.assertEqual(lines[:2], ["mux: 2 inputs, 1 output, 0 latches, 1 parameter", "1 table of depth 1, 4 configuration bits, 0 AND nodes in the pack"])
+        self.assertIn("a longest path: a > _n13 > y", lines)
+        self.assertEqual(lines[-5:], ["table _n13: a, b", "  0  00  0", "  1  10  p", "  2  01  !p", "  3  11  1"])
+        self.assert_fault(flow("report", template, pack, "--bits", "--table", "x"), "no table of this net")
+        matcher = flow("report", f"{DATA}/matcher_t.blif", f"{DATA}/matcher.ppc").stdout.splitlines()
+        self.assertEqual([line.split() for line in matcher if " each " in line][0], ["pattern[0]", "to", "pattern[3],", "each", "16", "1"])
+
+    def test_json(self):
+        template, pack = self.put("t.blif", MUX_TEMPLATE), self.put("p.ppc", MUX_PACK)
+        found = json.loads(flow("report", template, pack, "--json").stdout)
+        self.assertEqual((found["tables"], found["bits"], found["reach"]), (1, 4, {"p": {"bits": 2, "tables": 1}}))
+        self.assertEqual(found["table_list"][0]["functions"], ["0", "p", "!p", "1"])
+        self.assertEqual((found["output_roots"], found["parameter_values"]), ({"y": "_n13"}, {"p": 0}))
+
+    def test_a_circuit_without_tables(self):
+        template = self.put("t.blif", ".model w\n.inputs a\n.outputs a\n.end\n")
+        pack = self.put("p.ppc", bytes.fromhex("54505043 0002 00 00 00"))
+        ran = flow("report", template, pack, "--bits")
+        self.assertEqual((ran.returncode, ran.stdout.splitlines()[-1]), (0, "no tables"), ran.stderr)
+
+
+class Drawings(InFolder):
+    def test_mux(self):
+        text = drawing(mux())
+        for part in ('"a" -> "_n13"', '"b" -> "_n13"', '"_n13" -> "output y"', 'label="_n13\\nbits 0..3\\np"'):
+            self.assertIn(part, text)
+
+    def test_marks(self):
+        text = drawing(mapped("matcher"))
+        lines = {re.match(r'\s*"([^"]+)"( -> "([^"]+)")?', line).group(1, 3): line for line in text.splitlines() if re.match(r'\s*"', line)}
+        self.assertIn("#ffd08a", lines["_n68", None])
+        self.assertIn("#e8e8e8", lines["_n75", None])
+        self.assertIn("#d01c1c", lines["d", "_n68"])
+        self.assertIn("style=dashed", lines["_n75", "_l0"])
+        self.assertNotIn("#d01c1c", lines["_l3", "_n68"])
+
+    def test_cone(self):
+        files = f"{DATA}/matcher_t.blif", f"{DATA}/matcher.ppc"
+        text = flow("draw", *files, "--cone", "hit").stdout
+        self.assertIn('"_n68" -> "output hit"', text)
+        self.assertNotIn("_n91", text)
+        # The longest path is that of the cone, and ends at its output.
+        self.assertRegex(text, '"_n68" -> "output hit" .*#d01c1c')
+        self.assertIn('"_n91"', flow("draw", *files, "--cone", "_l2").stdout)
+        self.assert_fault(flow("draw", *files, "--cone", "no"), "no output, latch or table")
+
+    @needs(DOT)
+    def test_picture(self):
+        out = f"{self.folder}/m.svg"
+        ran = flow("draw", f"{DATA}/matcher_t.blif", f"{DATA}/matcher.ppc", "--out", out)
+        self.assertEqual(ran.returncode, 0, ran.stderr)
+        with open(out, encoding="utf-8") as file:
+            self.assertIn("<svg", file.read())
+
+    def test_without_graphviz(self):
+        ran = flow("draw", f"{DATA}/matcher_t.blif", f"{DATA}/matcher.ppc", "--out", f"{self.folder}/m.svg", PATH=self.folder)
+        self.assert_fault(ran, "Graphviz (dot) isn't on the PATH")

@@ -1,0 +1,107 @@
+"""The wrapper `tlut`: its own words, what it passes on, links to it, an installation, and the voice of the first call."""
+
+import contextlib
+import importlib.util
+import io
+import os
+import re
+import shutil
+import subprocess
+import time
+import unittest
+
+from companion.tests.helpers import TOP, InFolder
+
+# Stands for the program: it shows its words, and ends with a status of its own.
+PROGRAM = '#!/bin/sh\nfor word in "$@"; do printf "<%s>" "$word"; done\nprintf fault >&2\nexit 7\n'
+
+
+class Wrapper(InFolder):
+    def setUp(self) -> None:
+        super().setUp()
+        self.top = f"{self.folder}/top"
+        for name in ("tlut", "flow"):
+            os.makedirs(self.top, exist_ok=True)
+            shutil.copy(f"{TOP}/{name}", f"{self.top}/{name}")
+        shutil.copytree(f"{TOP}/tools", f"{self.top}/tools", ignore=shutil.ignore_patterns("__pycache__"))
+        shutil.copytree(f"{TOP}/companion", f"{self.top}/companion", ignore=shutil.ignore_patterns("__pycache__"))
+        os.makedirs(f"{self.top}/crates/tlut/out")
+        for name in ("crates.txt", "crates/tlut/main.rt"):
+            self.put(f"top/{name}", "")
+            os.utime(f"{self.top}/{name}", (1, 1))
+        os.chmod(self.put("top/crates/tlut/out/tlut", PROGRAM), 0o755)
+
+    def call(self, path: str, *words: str) -> subprocess.CompletedProcess:
+        return subprocess.run([path, *words], capture_output=True, text=True, cwd=self.folder, check=False)
+
+    def test_what_is_passed_on_is_exact(self):
+        for words in ((), ("",), ("run", "4", "a b", "*", "$x", "-", "\\", "é"), ("help", "run"), ("--help", ""), ("--version", "x"), ("-x",)):
+            ran = self.call(f"{self.top}/tlut", *words)
+            self.assertEqual((ran.returncode, ran.stdout, ran.stderr), (7, "".join(f"<{word}>" for word in words), "fault"))
+
+    def test_links(self):
+        os.makedirs(f"{self.folder}/a b")
+        os.symlink("../top/tlut", f"{self.folder}/a b/first")
+        os.symlink(f"{self.folder}/a b/first", f"{self.folder}/second")
+        for path in (f"{self.folder}/a b/first", f"{self.folder}/second", "./second"):
+            self.assertEqual(self.call(path, "x").stdout, "<x>")
+
+    def test_help_has_the_forms_of_the_pages(self):
+        texts = [self.call(f"{self.top}/tlut", word).stdout for word in ("help", "--help", "-h")]
+        self.assertEqual(len(set(texts)), 1)
+        forms = [line.strip() for line in texts[0].splitlines()]
+        with open(f"{TOP}/README.md", encoding="utf-8") as file:
+            page = file.read()
+        table = re.findall(r"^\| `([a-z]+ [^`]+)` \|", page.split("## Commands")[1].split("## ")[0], re.MULTILINE)
+        self.assertGreater(len(table), 7)
+        for form in table:
+            self.assertIn(form, forms)
+        statuses = re.findall(r"^\| (\d) \| (.+) \|$", page, re.MULTILINE)
+        self.assertEqual([line for line in forms if re.match(r"\d  ", line)], [f"{number}  {meaning}" for number, meaning in statuses])
+
+    def test_version(self):
+        self.assertEqual(self.call(f"{self.top}/tlut", "--version").stdout, "TLUT Flow, of no known commit\n")
+        git = ["git", "-C", self.top, "-c", "user.name=n", "-c", "user.email=e"]
+        for words in (["init", "-q"], ["add", "."], ["commit", "-qm", "x"]):
+            subprocess.run([*git, *words], check=True)
+        self.assertRegex(self.call(f"{self.top}/tlut", "--version").stdout, r"^TLUT Flow, commit [0-9a-f]+ of \d{4}-\d\d-\d\d\n$")
+
+    def test_installation(self):
+        prefix = f"{self.folder}/pre fix"
+        for _ in range(2):
+            ran = self.call(f"{self.top}/tlut", "install", prefix)
+            self.assertEqual(ran.returncode, 0, ran.stderr)
+        shutil.rmtree(self.top)
+        self.assertEqual(self.call(f"{prefix}/bin/tlut", "run", "x").stdout, "<run><x>")
+        self.assertEqual(self.call(f"{prefix}/bin/tlut", "--version").stdout, "TLUT Flow, of no known commit\n")
+        self.assertTrue(self.call(f"{prefix}/bin/tlut", "-h").stdout.startswith("TLUT Flow maps"))
+        self.assertIn("usage: tlut-flow", self.call(f"{prefix}/bin/tlut-flow", "--help").stdout)
+        with open(f"{prefix}/share/man/man1/tlut.1", encoding="utf-8") as file:
+            page = file.read()
+        for part in (".TH TLUT 1", ".SH NAME", ".SH COMMANDS", ".SH STATUS", "run K NETLIST PARAMS SCRIPT PORTS SPARES"):
+            self.assertIn(part, page)
+        self.assertEqual(self.call(f"{prefix}/bin/tlut", "install", "x").returncode, 2)
+
+    def test_words_of_install(self):
+        for words in (("install",), ("install", "a", "b")):
+            ran = self.call(f"{self.top}/tlut", *words)
+            self.assertEqual((ran.returncode, ran.stdout, ran.stderr), (2, "", "tlut: usage: install PREFIX, in the repository\n"))
+        self.put("file", "")
+        ran = self.call(f"{self.top}/tlut", "install", f"{self.folder}/file")
+        self.assertEqual((ran.returncode, ran.stderr.count("\n")), (1, 1))
+
+
+class FirstCall(unittest.TestCase):
+    def test_it_is_never_silent_for_long(self):
+        spec = importlib.util.spec_from_file_location("build_program", f"{TOP}/tools/build_program.py")
+        module = importlib.util.module_from_spec(spec)
+        spec.loader.exec_module(module)
+        self.assertLess(module.SILENCE * 1.1, 30)
+        told = io.StringIO()
+        with contextlib.redirect_stderr(told), module.Voice(2, 0.1) as voice:
+            voice.step("first")
+            time.sleep(0.5)
+            voice.step("second")
+        lines = told.getvalue().splitlines()
+        self.assertEqual((lines[0], lines[-1]), ("tlut: first (1 of 2)", "tlut: second (2 of 2)"))
+        self.assertIn("tlut: at work for 0 min 00 s, 1 of 2 crates are proved", lines[1:-1])

@@ -1,0 +1,68 @@
+"""Puts the program, its companion and its page below a prefix. `./tlut install PREFIX` calls it, once the program is built.
+
+    python3 tools/install.py PREFIX VERSION
+
+PREFIX/lib/tlut has the files, PREFIX/bin links to `tlut` and, as `tlut-flow`, to the companion, and PREFIX/share/man/man1/tlut.1 is the
+page, made from the text of `tlut --help`. What an earlier call left in PREFIX/lib/tlut is replaced.
+"""
+
+import os
+import shutil
+import sys
+
+TOP = os.path.dirname(os.path.dirname(os.path.abspath(__file__)))
+# What is copied, and where it goes below PREFIX/lib/tlut.
+FILES = [("tlut", "tlut"), ("flow", "flow"), ("crates/tlut/out/tlut", "program/tlut"), ("tools/help.txt", "tools/help.txt")]
+LINKS = [("bin/tlut", "../lib/tlut/tlut"), ("bin/tlut-flow", "../lib/tlut/flow")]
+
+
+def escaped(line):
+    """A line as the language of man pages has it."""
+    line = line.replace("\\", "\\e").replace("-", "\\-")
+    return f"\\&{line}" if line.startswith((".", "'")) else line
+
+
+def man_page(text, version):
+    """The page with the sections of a help text: lines in capitals begin one."""
+    first, rest = text.split("\n\n", 1)
+    lines = ['.TH TLUT 1 "" "%s"' % version.replace('"', ""), ".SH NAME", "tlut \\- map netlists to lookup tables with tunable configuration bits"]
+    lines += [".SH SYNOPSIS", "tlut COMMAND WORD ..", ".SH DESCRIPTION", *map(escaped, first.splitlines()), ".nf"]
+    for line in rest.replace("\n\n", "\n").splitlines():
+        lines += [".fi", f".SH {line}", ".nf"] if line.isupper() and not line.startswith(" ") else [escaped(line[2:])]
+    return "\n".join([*lines, ".fi", ""])
+
+
+def install(prefix, version):
+    """Writes all files and links."""
+    room = f"{prefix}/lib/tlut"
+    shutil.rmtree(room, ignore_errors=True)
+    for source, target in FILES:
+        os.makedirs(os.path.dirname(f"{room}/{target}"), exist_ok=True)
+        shutil.copy(f"{TOP}/{source}", f"{room}/{target}")
+    shutil.copytree(f"{TOP}/companion", f"{room}/companion", ignore=shutil.ignore_patterns("tests", "__pycache__"))
+    with open(f"{room}/VERSION", "w", encoding="utf-8") as file:
+        file.write(f"{version}\n")
+    for place, target in LINKS:
+        os.makedirs(os.path.dirname(f"{prefix}/{place}"), exist_ok=True)
+        if os.path.lexists(f"{prefix}/{place}"):
+            os.remove(f"{prefix}/{place}")
+        os.symlink(target, f"{prefix}/{place}")
+    page = f"{prefix}/share/man/man1/tlut.1"
+    os.makedirs(os.path.dirname(page), exist_ok=True)
+    with open(f"{TOP}/tools/help.txt", encoding="utf-8") as source, open(page, "w", encoding="utf-8") as file:
+        file.write(man_page(source.read(), version))
+
+
+def main():
+    prefix, version = os.path.abspath(sys.argv[1]), sys.argv[2]
+    try:
+        install(prefix, version)
+    except OSError as error:
+        print(f"tlut: {error.filename}: {error.strerror}", file=sys.stderr)
+        return 1
+    print(f"{prefix}/bin/tlut, {prefix}/bin/tlut-flow and {prefix}/share/man/man1/tlut.1 are there")
+    return 0
+
+
+if __name__ == "__main__":
+    sys.exit(main())
