@@ -19,7 +19,15 @@ import tempfile
 
 TOP = os.path.dirname(os.path.dirname(os.path.abspath(__file__)))
 # What some lines call for.
-TOOLS = [("./flow verilog", ("yosys",)), ("./flow check", ("yosys-abc", "berkeley-abc", "abc")), ("--simulate", ("iverilog",)), ("make ", ("make",))]
+ABC = ("yosys-abc", "berkeley-abc", "abc")
+TOOLS = [
+    ("./flow verilog", ("yosys",)),
+    ("./flow check", ABC),
+    ("./flow compare", ABC),
+    (".svg", ("dot",)),
+    ("--simulate", ("iverilog",)),
+    ("make ", ("make",)),
+]
 BLOCK = re.compile(r"^```(\w*)\n(.*?)^```$", re.MULTILINE | re.DOTALL)
 
 

@@ -62,6 +62,7 @@ FILES = {
     "mux.par": b"p 0\n",
     "mux.scr": b"set p=1\ncycle 10\nupset 3\nscrub\nimage\n",
     "host.scr": b"set p=1\nimage\n",
+    "pace.scr": b"ask p=1\ntick 10\ntick 10\ntick 10\n",
     "one.cert": b"depth 1\nclaim 6 1\npath 1 4 6\n",
     "one.ppc": bytes.fromhex("545050430001000100017000000000000000000400000000000000020000000300000001"),
 }
@@ -76,6 +77,7 @@ CALLS = [
     "audit 2 mux.blif mux.par one.cert",
     "graph mux.blif mux.par mux.aag",
     "run 2 one.aag mux.par mux.scr 0 0",
+    "pace 2 mux.blif mux.par pace.scr 1",
     "gen 1 0",
     "gen 2 1",
 ]

@@ -2,3 +2,4 @@ mod MachineReplayLemmas
 mod SpecLemmas
 mod MapLemmas
 mod SourceWalkLemmas
+mod TableLemmas

@@ -57,7 +57,7 @@ no_line_there names lines i past none = elim (cases_lt i (length lines)) [
 events_few : (names : NamesValue) (text : List ℕ) (events : List EventValue) → IsScript names text events → length events ≤ 2 ^ 20
 events_few names text events is =
     let lines : List WordsLine = map (words_line text) is.lines in
-    let each : length events ≡ length lines = each_length (line_event names.params) lines events (is.are).are in
+    let each : length events ≡ length lines = each_length (line_event names) lines events (is.are).are in
     let few : length lines ≤ 2 ^ 20 = no_line_there names lines (2 ^ 20) (omega arith) ((is.are).no_refusal (2 ^ 20)) in
     omega (arith, each, few)
 

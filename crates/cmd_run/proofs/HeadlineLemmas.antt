@@ -25,8 +25,8 @@ use Rattle.cmd_run.specs.Run.Bank.{bank_of}
 use Rattle.cmd_run.specs.Run.Ends.{HasRun}
 use Rattle.cmd_run.specs.Run.Headline.{IsNoUpset, ShowsSource, HasHeadline}
 use Rattle.cmd_stations.proofs.GraphLemmas.{same_graph}
-use Rattle.cmd_run.proofs.KeptLemmas.{IsKept, init_count, shape_fits}
-use Rattle.cmd_stations.proofs.InitLemmas.{init_params}
+use Rattle.cmd_run.proofs.KeptLemmas.{IsKept, shape_fits}
+use Rattle.cmd_stations.proofs.InitLemmas.{init_count, init_params}
 use Rattle.cmd_run.proofs.ShownLemmas.{shown_of, all_shown}
 
 -- the events of a script fit the circuit's tables

@@ -1,12 +1,6 @@
 -- What stays from one event of a script to the next while no bit stands upset: the pack and the tables, how many values and states there are, and that the configuration is the one specialised from scratch.
 use Rattle.std.proofs.Common.{◌≡◌, ℕ, Bool, List, length, sym, ap, ◌∙◌, subst}
-use Rattle.std.proofs.lemmas.List.{length-map}
 use Rattle.std.proofs.lemmas.Option.{same_Some}
-use Rattle.netlist.specs.LibraryValue.{LibraryValue, ModelValue}
-use Rattle.netlist.specs.Flat.{IsFlat}
-use Rattle.netlist.specs.Places.{Place, is_latch, latch_at, FlatOrder}
-use Rattle.netlist.specs.Runs.{init_state, IsCycle}
-use Rattle.netlist.proofs.OrderLemmas.{order_once}
 use Rattle.run_text.specs.EventValue.{EventValue, Set, Cycle, Upset, Scrub, Image}
 use Rattle.run_text.specs.Fits.{Fits}
 use Rattle.cover_pick.specs.Template.{TemplateValue}
@@ -21,24 +15,11 @@ use Rattle.run_core.specs.Fits.{FitsShape}
 use Rattle.cmd_stations.specs.declared.source.Source.{Source}
 use Rattle.cmd_stations.specs.Script.{names_of}
 use Rattle.cmd_stations.specs.SourceCircuit.{shape_of}
-use Rattle.cmd_stations.specs.SourceCycle.{IsSourceCycle, AreInits}
+use Rattle.cmd_stations.specs.SourceCycle.{IsSourceCycle}
 use Rattle.cmd_stations.specs.Tunable.{IsTunable}
 use Rattle.cmd_run.specs.Run.Headline.{IsNoUpset}
 use Rattle.cmd_stations.specs.Machine.{Stage, IsStep}
-use Rattle.cmd_stations.proofs.InitLemmas.{param_count}
-
--- there is an init for each latch
-pub init_count : (source : Source) (states : List Bool) → IsFlat source.netlist.library source.netlist.flat → AreInits source states → length states ≡ length source.netlist.flat.latches
-init_count source states flat inits =
-    let library = source.netlist.library in
-    let mains : inits.main ≡ flat.main = same_Some inits.main flat.main (sym inits.are_latches.at ∙ flat.is_main) in
-    let same : inits.latches ≡ flat.at.latches =
-    order_once library is_latch (subst (λ (m : ModelValue). FlatOrder library is_latch _ m inits.latches) mains inits.are_latches.order) flat.latches_order in
-    ap length inits.are ∙ length-map inits.latches (λ (p : Place). init_state (latch_at library p)) ∙ ap length same ∙ sym flat.latch_count
-
--- a cycle leaves as many states as there were
-cycle_count : (library : LibraryValue) (x : List ℕ → Bool) (states outputs next : List Bool) → IsCycle library x states outputs next → length next ≡ length states
-cycle_count library x states outputs next c = ap length c.next_are ∙ length-map c.latches _ ∙ sym c.states
+use Rattle.cmd_stations.proofs.InitLemmas.{cycle_count, param_count}
 
 -- the cycles that a script may name fit the circuit's tables
 pub shape_fits : (source : Source) (bits : ℕ) (event : EventValue) → Fits (names_of source bits) event → FitsShape (shape_of source) event

@@ -1,5 +1,4 @@
 -- of a job of `run`: its files, its machine, its playing, its ports and its end,
-mod RunEndLemmas
 mod ReadyLemmas
 mod KeptLemmas
 mod StartLemmas

@@ -1,13 +1,15 @@
--- The inits of a source circuit that was read: those of its latches, and the values of its parameters.
-use Rattle.std.proofs.Common.{◌≡◌, ℕ, suc, Bool, List, [], ◌∷◌, length, map, Some, refl, sym, ap, ap₂, ◌∙◌, arith}
+-- The inits of a source circuit that was read: those of its latches, and the values of its parameters; and how many states a cycle leaves.
+use Rattle.std.proofs.Common.{◌≡◌, ℕ, suc, Bool, List, [], ◌∷◌, length, map, Some, refl, sym, ap, ap₂, ◌∙◌, subst, arith}
 use Rattle.std.specs.Prelude.{slice_get}
 use Rattle.std.proofs.lemmas.List.{length-map}
-use Rattle.netlist.specs.LibraryValue.{LibraryValue}
+use Rattle.std.proofs.lemmas.Option.{same_Some}
+use Rattle.netlist.specs.LibraryValue.{LibraryValue, ModelValue}
 use Rattle.netlist.specs.declared.flat.FlatLatch.{FlatLatch}
-use Rattle.netlist.specs.Flat.{Places, IsFlatLatch}
+use Rattle.netlist.specs.Flat.{Places, IsFlatLatch, IsFlat}
 use Rattle.netlist.specs.FlatCycle.{flat_inits}
-use Rattle.netlist.specs.Places.{Place}
-use Rattle.netlist.specs.Runs.{init_state, inits_of}
+use Rattle.netlist.specs.Places.{Place, is_latch, latch_at, FlatOrder}
+use Rattle.netlist.specs.Runs.{init_state, inits_of, IsCycle}
+use Rattle.netlist.proofs.OrderLemmas.{order_once}
 use Rattle.netlist.proofs.PlaceLemmas.{latch_at-some}
 use Rattle.param_list.specs.declared.params.Param.{Param}
 use Rattle.param_list.specs.Parameters.{param_inits}
@@ -40,6 +42,19 @@ inits_are source states read is =
       are_latches = record { at = fields.is_main; order = fields.latches_order };
       are = is ∙ inits_at source.netlist.library fields.at fields.at.latches source.netlist.flat.latches fields.latch_count fields.latches;
     }
+
+-- there is an init for each latch
+pub init_count : (source : Source) (states : List Bool) → IsFlat source.netlist.library source.netlist.flat → AreInits source states → length states ≡ length source.netlist.flat.latches
+init_count source states flat inits =
+    let library = source.netlist.library in
+    let mains : inits.main ≡ flat.main = same_Some inits.main flat.main (sym inits.are_latches.at ∙ flat.is_main) in
+    let same : inits.latches ≡ flat.at.latches =
+    order_once library is_latch (subst (λ (m : ModelValue). FlatOrder library is_latch _ m inits.latches) mains inits.are_latches.order) flat.latches_order in
+    ap length inits.are ∙ length-map inits.latches (λ (p : Place). init_state (latch_at library p)) ∙ ap length same ∙ sym flat.latch_count
+
+-- a cycle leaves as many states as there were
+pub cycle_count : (library : LibraryValue) (x : List ℕ → Bool) (states outputs next : List Bool) → IsCycle library x states outputs next → length next ≡ length states
+cycle_count library x states outputs next c = ap length c.next_are ∙ length-map c.latches _ ∙ sym c.states
 
 -- the pack of a source circuit's tables has the parameters of its list
 module _ (source : Source) (template : TemplateValue) (pack : PackValue) (tunable : IsTunable source template pack) where

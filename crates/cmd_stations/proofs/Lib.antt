@@ -8,6 +8,7 @@ pub mod OnceLemmas
 pub mod ClashLemmas
 pub mod RefusedLemmas
 pub mod StationLemmas
+pub mod ScriptedLemmas
 -- of the graph and the tables of a source circuit,
 mod LeastLemmas
 pub mod GraphLemmas

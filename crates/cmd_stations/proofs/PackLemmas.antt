@@ -9,6 +9,7 @@ use Rattle.ppc_pack.specs.Pack.{PackValue}
 use Rattle.ppc_file.specs.PackFile.{IsPackFile, AreSame, HasOneReading}
 use Rattle.ppc_file.specs.Refusals.{refusal_of as pack_refusal}
 use Rattle.run_text.specs.NamesValue.{NamesValue}
+use Rattle.run_text.specs.declared.event.Forms.{Forms}
 use Rattle.cmd_stations.specs.Stops.{Stops, outcome_at}
 use Rattle.cmd_base.specs.Refusals.{most_bytes}
 use Rattle.cmd_base.specs.Ends.{Told, Explains}
@@ -20,14 +21,14 @@ use Rattle.cmd_stations.specs.declared.stop.Stop.TheVariants.{Refused, Memory}
 use Rattle.cmd_stations.specs.Texts.{HasBytes}
 use Rattle.cmd_stations.specs.Unread.{IsUnread}
 use Rattle.cmd_stations.specs.Unread as unread
-use Rattle.cmd_stations.specs.Packs.{HasPack, IsPackRefusal, IsPackRefused, IsPackSettled, pack_reading, names_by, pack_names}
+use Rattle.cmd_stations.specs.Packs.{HasPack, IsPackRefusal, IsPackRefused, IsPackSettled, pack_reading, names_on, pack_names}
 use Rattle.cmd_stations.specs.Packs as packs
 use Rattle.param_list.specs.Parameters.{param_names}
 use Rattle.lut_sim.specs.declared.shape.Shape.{Shape}
 use Rattle.cmd_stations.specs.declared.source.Source.{Source}
 use Rattle.cmd_stations.specs.declared.tables.Tables.{Tables}
 use Rattle.cmd_stations.specs.SourceCircuit.{width_of}
-use Rattle.cmd_stations.specs.Script.{names_of}
+use Rattle.cmd_stations.specs.Script.{names_in}
 use Rattle.cmd_stations.specs.Tables.{AreMade}
 use Rattle.cmd_stations.proofs.LengthLemmas.{pack_not_long}
 use Rattle.cmd_stations.proofs.FileLemmas.{text_once, short_or_long}
@@ -65,14 +66,14 @@ same_names p q same =
     ∙ ap (λ (ls : List Lit). let n : NamesValue = pack_names (record p { params = q.params; bits = ls }) in n) same.bits
 
 -- the pack of a mapped source circuit has the names of its script
-abbrev names_with : List (List ℕ) → ℕ → ℕ → NamesValue
-names_with params width bits = record { params = params; width = Some width; bits = bits }
+abbrev names_with : Forms → List (List ℕ) → ℕ → ℕ → NamesValue
+names_with forms params width bits = record { forms = forms; params = params; width = Some width; bits = bits }
 
-pub made_names : (source : Source) (t : Tables) → AreMade source t → names_by t.pack (Some t.shape.regular) ≡ names_of source t.template.bits
-made_names source t made =
-    ap (λ params. names_with params t.shape.regular (length t.pack.bits)) made.names
-    ∙ ap (λ (s : Shape). names_with (param_names source.params.list) s.regular (length t.pack.bits)) made.shape
-    ∙ ap (names_with (param_names source.params.list) (width_of source)) made.bits
+pub made_names : (forms : Forms) (source : Source) (t : Tables) → AreMade source t → names_on forms t.pack (Some t.shape.regular) ≡ names_in forms source t.template.bits
+made_names forms source t made =
+    ap (λ params. names_with forms params t.shape.regular (length t.pack.bits)) made.names
+    ∙ ap (λ (s : Shape). names_with forms (param_names source.params.list) s.regular (length t.pack.bits)) made.shape
+    ∙ ap (names_with forms (param_names source.params.list) (width_of source)) made.bits
 
 -- what the station of a pack answers explains how a command ends there
 module _ (name : List ℕ) (old new : ShelfSeen) where

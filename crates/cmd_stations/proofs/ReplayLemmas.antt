@@ -1,8 +1,10 @@
 -- Hosts that start on the same pack are alike, and a file is of one pack.
 use Rattle.std.proofs.Common.{◌≡◌, ℕ, Bool, List, length, map, Some, Ok, sym, ap, ◌∙◌, subst, inr, refl}
 use Rattle.std.specs.FinMap.{get}
+use Rattle.std.specs.Option.{option_and_then}
 use Rattle.std.proofs.lemmas.List.{length-map}
 use Rattle.std.proofs.lemmas.Option.{same_Some}
+use Rattle.std.proofs.Math.Path.{fun_ext}
 use Rattle.tl_io.specs.Shelf.{Files}
 use Rattle.aig_core.specs.Aig.{Aig}
 use Rattle.aig_core.specs.Value.{FitsGraph}
@@ -27,8 +29,9 @@ use Rattle.cover_pick.specs.Template.{TemplateValue}
 use Rattle.run_text.specs.Each.{each_of}
 use Rattle.run_text.specs.EventValue.{EventValue}
 use Rattle.run_text.specs.NamesValue.{NamesValue}
-use Rattle.run_text.specs.ScriptText.{line_event}
-use Rattle.tl_text.specs.LineValue.{words_line}
+use Rattle.run_text.specs.Sayings.{said_of}
+use Rattle.run_text.specs.ScriptText.{event_of, line_event}
+use Rattle.tl_text.specs.LineValue.{WordsLine, words_line}
 use Rattle.tl_text.specs.Lines.{lines_of}
 use Rattle.cmd_stations.specs.Replay.{SamePacksReplay}
 use Rattle.cmd_stations.proofs.AlikeLemmas.{AreAlike, StandAlike, same_conf, come_alike}
@@ -112,18 +115,20 @@ mapped_there first files from to source template k netlist params has =
       mapped = subst (λ k. IsMapped source k template) k has.mapped;
     }
 
--- a text has the same events wherever the same parameters may be named
-pub script_same : (first others : Files) (name other : List ℕ) (a b : NamesValue) (es fs : List EventValue) → get others other ≡ get first name → a.params ≡ b.params → HasScript first name a es → HasScript others other b fs → es ≡ fs
-script_same first others name other a b es fs same params x y =
+-- a text has the same events wherever the same parameters may be named, by the same forms
+pub script_same : (first others : Files) (name other : List ℕ) (a b : NamesValue) (es fs : List EventValue) → get others other ≡ get first name → a.forms ≡ b.forms → a.params ≡ b.params → HasScript first name a es → HasScript others other b fs → es ≡ fs
+script_same first others name other a b es fs same forms params x y =
     let texts : x.text ≡ y.text = same_Some x.text y.text (sym x.there.is ∙ sym same ∙ y.there.is) in
     let reads : lines_of x.text ≡ Ok y.is.lines = ap (λ text. lines_of text) texts ∙ y.is.lines_are in
     let oks : Ok x.is.lines ≡ Ok y.is.lines = sym x.is.lines_are ∙ reads in
     let lines : x.is.lines ≡ y.is.lines = cc in
+    let events : (line : WordsLine) → line_event a line ≡ line_event b line = λ line.
+    ap (λ f. option_and_then (event_of a.params) (said_of f line.words)) forms ∙ ap (λ ps. option_and_then (event_of ps) (said_of b.forms line.words)) params in
     same_Some es fs
     (sym x.is.are.are
-    ∙ (ap (λ text. each_of (line_event a.params) (map (words_line text) x.is.lines)) texts
-    ∙ (ap (λ ls. each_of (line_event a.params) (map (words_line y.text) ls)) lines
-    ∙ (ap (λ ps. each_of (line_event ps) (map (words_line y.text) y.is.lines)) params ∙ y.is.are.are))))
+    ∙ (ap (λ text. each_of (line_event a) (map (words_line text) x.is.lines)) texts
+    ∙ (ap (λ ls. each_of (line_event a) (map (words_line y.text) ls)) lines
+    ∙ (ap (λ e. each_of e (map (words_line y.text) y.is.lines)) (fun_ext events) ∙ y.is.are.are))))
 
 -- what a script may name by a source circuit's tables has the parameters of a pack of their bits
 pub params_same : (source : Source) (template : TemplateValue) (pack p : PackValue) → IsTunable source template pack → AreSame p pack → (names_of source template.bits).params ≡ (pack_names p).params

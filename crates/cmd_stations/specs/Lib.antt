@@ -8,6 +8,7 @@ pub mod Aims
 pub mod Source
 -- of a script and of a pack,
 pub mod Script
+pub mod Scripted
 pub mod Packs
 -- what the tables, their bits and the written netlists mean,
 pub mod SourceCycle
@@ -26,4 +27,5 @@ pub mod FileWrites
 pub mod ReadNetlist
 pub mod Drafts
 pub mod Tables
+pub mod ScriptedMade
 pub mod Built

@@ -10,6 +10,8 @@ use Rattle.ppc_file.specs.declared.version.Version.TheVariants.{Two}
 use Rattle.ppc_file.specs.Bytes.{bytes_of}
 use Rattle.ppc_file.specs.PackFile.{IsPackFile, IsPackFault, HasOneReading}
 use Rattle.run_text.specs.NamesValue.{NamesValue}
+use Rattle.run_text.specs.declared.event.Forms.{Forms}
+use Rattle.run_text.specs.declared.event.Forms.TheVariants as forms
 use Rattle.cmd_base.specs.Walk.{Reading}
 use Rattle.cmd_base.specs.Refusals.{most_bytes, too_long}
 use Rattle.cmd_base.specs.declared.outcome.File.{File}
@@ -57,9 +59,13 @@ pack_reading name = record {
   IsSettled = λ files. IsPackSettled files name;
 }
 
--- what a script may name that is played on a pack, where the circuit has so many regular inputs
+-- what a script by these forms may name that is played on a pack, where the circuit has so many regular inputs
+abbrev pub names_on : Forms → PackValue → Option ℕ → NamesValue
+names_on forms pack width = record { forms = forms; params = map (λ (p : PackParam). p.name) pack.params; width = width; bits = length pack.bits }
+
+-- by those of a script that is run
 abbrev pub names_by : PackValue → Option ℕ → NamesValue
-names_by pack width = record { params = map (λ (p : PackParam). p.name) pack.params; width = width; bits = length pack.bits }
+names_by pack width = names_on forms.Run pack width
 
 -- and on a pack alone: its clock doesn't tick
 abbrev pub pack_names : PackValue → NamesValue

@@ -4,6 +4,8 @@ use Rattle.tl_fault.specs.RefusalValue.{RefusalValue}
 use Rattle.tl_io.specs.Shelf.{Files}
 use Rattle.run_text.specs.EventValue.{EventValue}
 use Rattle.run_text.specs.NamesValue.{NamesValue}
+use Rattle.run_text.specs.declared.event.Forms.{Forms}
+use Rattle.run_text.specs.declared.event.Forms.TheVariants.{Run}
 use Rattle.param_list.specs.Parameters.{param_names}
 use Rattle.run_text.specs.ScriptText.{IsScript, HasOneReading}
 use Rattle.cmd_base.specs.Walk.{Reading}
@@ -14,9 +16,13 @@ use Rattle.cmd_stations.specs.declared.source.Source.{Source}
 use Rattle.cmd_stations.specs.SourceCircuit.{width_of}
 use Rattle.cmd_stations.specs.Texts.{HasText, IsLongText, IsScriptRefusal}
 
--- what a script may name, where a source circuit is mapped to so many configuration bits
+-- what a script by these forms may name, where a source circuit is mapped to so many configuration bits
+abbrev pub names_in : Forms → Source → ℕ → NamesValue
+names_in forms source bits = record { forms = forms; params = param_names source.params.list; width = Some (width_of source); bits = bits }
+
+-- by those of a script that is run
 abbrev pub names_of : Source → ℕ → NamesValue
-names_of source bits = record { params = param_names source.params.list; width = Some (width_of source); bits = bits }
+names_of source bits = names_in Run source bits
 
 -- its events
 pub record HasScript (files : Files) (name : List ℕ) (names : NamesValue) (events : List EventValue) : Type 0 where
@@ -25,8 +31,8 @@ pub record HasScript (files : Files) (name : List ℕ) (names : NamesValue) (eve
   pub is : IsScript names text events
 
 -- an event of a script, behind others
-pub record IsSplit (events before : List EventValue) (event : EventValue) : Type 0 where
-  pub after : List EventValue
+pub record IsSplit {Event : Type 0} (events before : List Event) (event : Event) : Type 0 where
+  pub after : List Event
   pub is : events ≡ before ++ event ∷ after
 
 -- it is too long, or its text is refused

@@ -8,7 +8,7 @@
 //! - From a netlist to its graph, the graph's labels or its mapping: `files.rt`, `library_text.rt`, `netlist_text.rt`,
 //!   `params.rt`, `graphs.rt`, `labelling.rt`, `mapping.rt`, `mapped.rt`, and `words.rt`, the words that name them.
 //! - What is written of it: `drafts.rt`, `netlist_files.rt`, `pack_files.rt`, and `header.rt`, its line.
-//! - What is played: `packs.rt` and `script.rt`.
+//! - What is played: `packs.rt`, `script.rt`, and `scripted.rt`, a mapped source circuit with its script.
 //!
 //! The definitions of `specs/` bear the same names; `Machine.antt` and `Host.antt` say what the events of a script do to a
 //! machine and to its host.
@@ -28,6 +28,7 @@ mod pack_files;
 mod packs;
 mod params;
 mod script;
+mod scripted;
 mod source;
 mod stop;
 mod tables;
@@ -46,7 +47,8 @@ pub use pack_files::write_pack;
 pub use packs::{bit_count, read_pack, script_names};
 pub use params::{list_params, read_source};
 pub use script::{list_events, read_script_file};
-pub use source::Source;
+pub use scripted::{Scripted, ScriptedWords, mapped_names, read_scripted};
+pub use source::{Source, latch_inits};
 pub use stop::Stop;
 pub use tables::Tables;
 pub use words::{SourceWords, read_source_words, source_name, table_size};

@@ -6,14 +6,14 @@ ghost use Rattle.ppc_file.specs.PackFile.{IsPackFile, HasOneReading};
 ghost use Rattle.cmd_base.specs.Ends.{Told, Explains};
 ghost use Rattle.cmd_base.specs.Refusals.{most_bytes};
 ghost use Rattle.cmd_stations.specs.Stops.{Stops};
-ghost use Rattle.cmd_stations.specs.Packs.{HasPack, IsPackRefusal, IsPackSettled, pack_reading, names_by};
+ghost use Rattle.cmd_stations.specs.Packs.{HasPack, IsPackRefusal, IsPackSettled, pack_reading, names_on};
 
 use crate::files::read_file;
 use crate::stop::Stop;
 use cmd_base::{File, Outcome};
 use ppc_file::decode;
 use ppc_pack::{Pack, PackParam};
-use run_text::Names;
+use run_text::{Forms, Names};
 use std::alloc::{AllocError, Global};
 use tl_io::Shelf;
 use tl_text::Name;
@@ -71,16 +71,22 @@ fn names_of_params(alloc: Global, params: &[PackParam]) -> Result<Vec<Name>, All
     Ok(names)
 }
 
-/// What a script may name that is played on a pack: cycles too, where its circuit has so many regular inputs.
+/// What a script by these forms may name that is played on a pack: cycles too, where its circuit has so many regular inputs.
 ///
 /// `Err` comes only for want of memory.
-pub fn script_names(alloc: Global, pack: &Pack, width: Option<u32>) -> Result<Names, AllocError>
-    ensures names { IfOk result (λ names. names ≡ names_by pack.now width) }
+pub fn script_names(
+    alloc: Global,
+    forms: Forms,
+    pack: &Pack,
+    width: Option<u32>,
+) -> Result<Names, AllocError>
+    ensures names { IfOk result (λ names. names ≡ names_on forms pack.now width) }
     ensures kept { IsPack pack.now.params pack.now.graph pack.now.bits }
 {
     let params = names_of_params(alloc, pack.params())?;
     let bits = bit_count(pack);
     Ok(Names {
+        forms,
         params,
         width,
         bits,

@@ -1,10 +1,37 @@
 //! The source circuit of a job.
+ghost use Rattle.std.specs.Prelude.{◌≡◌, map, IfOk};
+ghost use Rattle.netlist.specs.declared.flat.FlatLatch.{FlatLatch as LatchValue};
+ghost use Rattle.netlist.specs.FlatCycle.{flat_inits};
+
 use crate::netlist_text::Netlist;
+use blif_flat::FlatLatch;
 use run_text::Params;
+use std::alloc::{AllocError, Global};
 
 /// The source circuit of a job: its netlist under its parameters.
 #[derive(Drop)]
 pub struct Source {
     pub netlist: Netlist,
     pub params: Params,
+}
+
+// The inits of latches.
+fn inits(alloc: Global, latches: &[FlatLatch]) -> Result<Vec<bool>, AllocError>
+    ensures { IfOk result (λ states. states.items ≡ map (λ (l : LatchValue). l.init) latches.now) }
+{
+    let mut states = Vec::with_capacity(alloc, latches.len())?;
+    for latch in latches {
+        states.push(latch.init)?;
+    }
+    Ok(states)
+}
+
+/// The states of a source circuit's latches at the start.
+///
+/// `Err` comes only for want of memory.
+pub fn latch_inits(alloc: Global, source: &Source) -> Result<Vec<bool>, AllocError>
+    ensures { IfOk result (λ states. states.items ≡ flat_inits source.now.netlist.flat) }
+{
+    let states = inits(alloc, &source.netlist.flat.latches)?;
+    Ok(states)
 }

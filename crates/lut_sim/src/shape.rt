@@ -9,6 +9,8 @@ ghost use Rattle.lut_sim.specs.GraphShape.{HasShape};
 ghost use Rattle.lut_sim.specs.Playable.{IsPlayable};
 ghost use Rattle.lut_sim.specs.Sources.{is_regular as regular_of, is_plain as plain_of};
 
+use cover_pick::Template;
+
 /// How many sources there are: the regular inputs first, then the parameters, then the latches.
 ///
 /// Index 0 of a graph is the constant, so the sources have the indices from 1 on. Regular inputs and latches
@@ -37,6 +39,15 @@ impl Shape {
             params,
             latches,
         }
+    }
+
+    /// How many tables a circuit of this shape has. Each has a bit at least.
+    pub fn table_count(&self, template: &Template) -> u32
+        requires { IsPlayable template.now self.now }
+        ensures { result ≡ length template.now.luts }
+    {
+        let _bits = template.bits;
+        template.luts.len() as u32
     }
 }
 

@@ -1,2 +1,1 @@
 mod HostLemmas
-pub mod TableLemmas

@@ -46,15 +46,6 @@ impl Model for Machine {
     ghost invariant = { λ m. Keeps m.host m.sim m.luts m.depth };
 }
 
-// How many tables a template has.
-fn table_count(template: &Template) -> u32
-    requires { length template.now.luts ≤ template.now.bits }
-    ensures { result ≡ length template.now.luts }
-{
-    let _bits = template.bits;
-    template.luts.len() as u32
-}
-
 impl Machine {
     /// A circuit of tables with its latches at `inits`, and the pack of its bits at the listed values, with their
     /// configuration. It takes all the memory that events need: `Err` comes only for want of it.
@@ -78,7 +69,7 @@ impl Machine {
         // Under any values of the parameters there is one configuration, and no other.
         ensures one { (given : List Bool) → length given ≡ length pack.params → HasOneConf pack given }
     {
-        let luts = table_count(&template);
+        let luts = shape.table_count(&template);
         let depth = template.depth;
         let host = Host::make(alloc, pack)?;
         let sim = Sim::make(alloc, template, shape, inits)?;

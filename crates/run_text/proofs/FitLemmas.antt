@@ -96,6 +96,6 @@ said_fits names number (Some images) event none is = subst (Fits names) (same_So
 pub events_fit : (names : NamesValue) (lines : List WordsLine) (events : List EventValue) → AreEventsOf names lines events → (event : EventValue) → In events event → Fits names event
 events_fit names lines events are event i =
     let p = place_in events event i in
-    let l = each_at (line_event names.params) lines events p.0 event are.are p.1 in
+    let l = each_at (line_event names) lines events p.0 event are.are p.1 in
     let none : line_refusal names p.0 l.source ≡ None = sym (ap (option_and_then (line_refusal names p.0)) l.there) ∙ are.no_refusal p.0 in
-    said_fits names (l.source).number (said_of (l.source).words) event (none_both (leb 1048576 p.0) (Events (l.source).number) _ none).1 l.is
+    said_fits names (l.source).number (said_of names.forms (l.source).words) event (none_both (leb 1048576 p.0) (Events (l.source).number) _ none).1 l.is

@@ -1,5 +1,5 @@
 mod LinesExample
-mod EachLemmas
+pub mod EachLemmas
 mod SettingLemmas
 mod ScriptReadLemmas
 pub mod ScriptOnceLemmas

@@ -6,21 +6,22 @@ use Rattle.tl_fault.specs.RefusalValue.{refusal as told}
 use Rattle.tl_fault.specs.declared.refusal.Details.TheVariants.{Line, Bits}
 use Rattle.tl_fault.specs.declared.refusal.Details.TheVariants as details
 use Rattle.tl_io.specs.declared.Assign.{Assign}
-use Rattle.tl_text.specs.LineValue.{LineValue, words_line}
+use Rattle.tl_text.specs.LineValue.{WordsLine, LineValue, words_line}
 use Rattle.tl_text.specs.Lines.{lines_of}
 use Rattle.run_text.specs.EventValue.{EventValue, event_values, Set, Cycle, Upset, Scrub, Image}
 use Rattle.run_text.specs.Fits.{Fits}
 use Rattle.run_text.specs.NamesValue.{NamesValue}
 use Rattle.run_text.specs.ScriptRefusals.{refusal_of}
 use Rattle.run_text.specs.Sayings.{split_last, setting_of, settings_of, bits_of, address_of}
-use Rattle.run_text.specs.ScriptText.{line_refusal, refusal_at, IsScript, IsScriptFault, at_line}
+use Rattle.run_text.specs.ScriptText.{line_refusal, line_event, refusal_at, IsScript, IsScriptFault, at_line}
 use Rattle.run_text.specs.declared.event.Event.TheVariants as event
+use Rattle.run_text.specs.declared.event.Forms.TheVariants as form
 use Rattle.run_text.specs.declared.script_err.ScriptErr.{ScriptErr}
 use Rattle.run_text.specs.declared.script_err.ScriptErr.TheVariants.{Malformed, NotHere, Width, NotParameter, RepeatedInSet, Address, Events, Memory}
 
 -- two parameters, two regular inputs, four bits
 abbrev names : NamesValue
-names = record { params = codes "p" ∷ codes "q" ∷ []; width = Some 2; bits = 4 }
+names = record { forms = form.Run; params = codes "p" ∷ codes "q" ∷ []; width = Some 2; bits = 4 }
 
 abbrev text : List ℕ
 text = codes "set q=1 p=0\n# no event\ncycle 10\nupset 3\nscrub\nimage\n"
@@ -101,7 +102,7 @@ later_word : refusal (codes "set" ∷ codes "z=1" ∷ codes "p=2" ∷ []) ≡ So
 later_word = refl
 
 -- S6 and S2: a cycle where there are none, and one with a value too few
-no_cycles : line_refusal (record { params = []; width = None; bits = 4 }) 3 (record { number = 7; words = codes "cycle" ∷ codes "1" ∷ [] }) ≡ Some (NotHere 7)
+no_cycles : line_refusal (record { forms = form.Run; params = []; width = None; bits = 4 }) 3 (record { number = 7; words = codes "cycle" ∷ codes "1" ∷ [] }) ≡ Some (NotHere 7)
 no_cycles = refl
 
 one_short : refusal (codes "cycle" ∷ codes "1" ∷ []) ≡ Some (Width 7 2)
@@ -150,6 +151,37 @@ second_refused = at_line three_lines refl (record {
   is = refl;
   none_before = λ i l. let z : i ≡ 0 = omega arith in subst (λ k. refusal_at names (map (words_line refused_text) three_lines) k ≡ None) (sym z) refl;
 })
+
+-- a script of asks and ticks: `ask` and `tick` are a set and a cycle, and no other form has a word, nor have these two their own ones
+abbrev paced : NamesValue
+paced = record { forms = form.Pace; params = codes "p" ∷ codes "q" ∷ []; width = Some 2; bits = 4 }
+
+abbrev paced_line : List (List ℕ) → WordsLine
+paced_line words = record { number = 7; words = words }
+
+ask_event : line_event paced (paced_line (codes "ask" ∷ codes "q=1" ∷ [])) ≡ Some (Set (record { param = 1; bit = true } ∷ []))
+ask_event = refl
+
+tick_event : line_event paced (paced_line (codes "tick" ∷ codes "10" ∷ [])) ≡ Some (Cycle (true ∷ false ∷ []))
+tick_event = refl
+
+ask_refused : line_refusal paced 3 (paced_line (codes "ask" ∷ codes "z=1" ∷ [])) ≡ Some (NotParameter 7 (codes "z"))
+ask_refused = refl
+
+tick_refused : line_refusal paced 3 (paced_line (codes "tick" ∷ codes "1" ∷ [])) ≡ Some (Width 7 2)
+tick_refused = refl
+
+no_set : line_refusal paced 3 (paced_line (codes "set" ∷ codes "q=1" ∷ [])) ≡ Some (Malformed 7)
+no_set = refl
+
+no_cycle : line_refusal paced 3 (paced_line (codes "cycle" ∷ codes "10" ∷ [])) ≡ Some (Malformed 7)
+no_cycle = refl
+
+no_image : line_refusal paced 3 (paced_line (codes "image" ∷ [])) ≡ Some (Malformed 7)
+no_image = refl
+
+no_ask : refusal (codes "ask" ∷ codes "q=1" ∷ []) ≡ Some (Malformed 7)
+no_ask = refl
 
 -- a set fits where its parameters are there, each once, and a cycle where it has a value for each regular input
 one_place : (i : ℕ) (a : Assign) → slice_get (record { param = 1; bit = true } ∷ []) i ≡ Some a → i ≡ 0

@@ -1,8 +1,8 @@
 -- A text is one script at most, or has one refusal at most, and never both.
-use Rattle.std.proofs.Common.{◌≡◌, ℕ, ◌<◌, List, map, Err, refl, sym, ap, ◌∙◌, subst, inl, inr, arith}
+use Rattle.std.proofs.Common.{◌≡◌, ℕ, List, map, Err, refl, sym, ◌∙◌, subst}
 use Rattle.std.proofs.lemmas.Option.{none-some}
 use Rattle.tl_fault.specs.OrMemory.{OrMemory}
-use Rattle.tl_text.specs.LineValue.{WordsLine, words_line}
+use Rattle.tl_text.specs.LineValue.{words_line}
 use Rattle.tl_text.specs.Lines.{lines_of}
 use Rattle.tl_text.specs.Refusals.{refusal_of as text_refusal}
 use Rattle.tl_text.specs.declared.text_err.TextErr.{TextErr}
@@ -21,7 +21,7 @@ module _ (names : NamesValue) (text : List ℕ) where
   one_script events others a b =
       let same : b.lines ≡ a.lines = cc (a.lines_are, b.lines_are) in
       let again : AreEventsOf names (map (words_line text) a.lines) others = subst (λ l. AreEventsOf names (map (words_line text) l) others) same b.are in
-      each_once (line_event names.params) (map (words_line text) a.lines) events others (a.are).are again.are
+      each_once (line_event names) (map (words_line text) a.lines) events others (a.are).are again.are
 
   one_fault : (e f : ScriptErr) → IsScriptFault names text e → IsScriptFault names text f → e ≡ f
   one_fault e f (bad_byte l a b) (bad_byte m c d) = cc (a, b, c, d)

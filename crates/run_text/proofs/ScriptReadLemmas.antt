@@ -18,7 +18,7 @@ use Rattle.run_text.proofs.EachLemmas.{each_next, each_all}
 -- the lines before a place have no refusal, and these are their events
 pub record AreRead (names : NamesValue) (lines : List WordsLine) (i : ℕ) (events : List EventValue) : Type 0 where
   pub none : (k : ℕ) → k < i → refusal_at names lines k ≡ None
-  pub are : each_of (line_event names.params) (take i lines) ≡ Some events
+  pub are : each_of (line_event names) (take i lines) ≡ Some events
 
 module _ (names : NamesValue) (lines : List WordsLine) where
   pub nothing_read : AreRead names lines 0 []
@@ -32,17 +32,17 @@ module _ (names : NamesValue) (lines : List WordsLine) where
       pub first_refusal : (e : ScriptErr) → line_refusal names i line ≡ Some e → IsFirstRefusal names lines e
       first_refusal e is = record { place = i; is = next_refusal ∙ is; none_before = read.none }
 
-      pub one_more : (event : EventValue) → line_refusal names i line ≡ None → line_event names.params line ≡ Some event → AreRead names lines (i + 1) (events ++ event ∷ [])
+      pub one_more : (event : EventValue) → line_refusal names i line ≡ None → line_event names line ≡ Some event → AreRead names lines (i + 1) (events ++ event ∷ [])
       one_more event none says = record {
         none = λ k l. elim (cases_lt k i) [ inl m ↦ read.none k m | inr m ↦ (let e : i ≡ k = omega arith in subst (λ j. refusal_at names lines j ≡ None) e (next_refusal ∙ none)) ];
-        are = each_next (line_event names.params) lines i line at events (events ++ event ∷ []) event says refl read.are;
+        are = each_next (line_event names) lines i line at events (events ++ event ∷ []) event says refl read.are;
       }
 
     -- all lines are read
     pub all_read : length lines ≤ i → AreEventsOf names lines events
     all_read past = record {
       no_refusal = λ k. elim (cases_lt k i) [ inl l ↦ read.none k l | inr l ↦ ap (option_and_then (line_refusal names k)) (slice_get_past lines k (omega arith)) ];
-      are = each_all (line_event names.params) lines i events read.are past;
+      are = each_all (line_event names) lines i events read.are past;
     }
 
 -- one more event

@@ -28,13 +28,25 @@ bits_header_line bits = concat (codes "bits " ∷ decimal bits ∷ codes "\n" �
 abbrev pub write_text : Write → List ℕ
 write_text write = codes " " ++ (decimal write.address ++ (codes "=" ++ (bit_digit write.bit ∷ [])))
 
--- the writes of a change of parameters, and how many they are
-abbrev pub set_line : List Write → List ℕ
-set_line writes = concat (codes "set " ∷ decimal (length writes) ∷ flat_map write_text writes ∷ codes "\n" ∷ [])
+-- writes behind a word, and how many they are
+abbrev pub writes_line : List ℕ → List Write → List ℕ
+writes_line word writes = concat (word ∷ decimal (length writes) ∷ flat_map write_text writes ∷ codes "\n" ∷ [])
 
--- the writes that set upset bits right, and how many they are
+-- those of a change of parameters
+abbrev pub set_line : List Write → List ℕ
+set_line writes = writes_line (codes "set ") writes
+
+-- those of a tick at which the circuit waits
+abbrev pub wait_line : List Write → List ℕ
+wait_line writes = writes_line (codes "wait ") writes
+
+-- how many configuration bits differ from those of the values that were asked for
+abbrev pub ask_line : ℕ → List ℕ
+ask_line count = concat (codes "ask " ∷ decimal count ∷ codes "\n" ∷ [])
+
+-- those that set upset bits right
 abbrev pub scrub_line : List Write → List ℕ
-scrub_line writes = concat (codes "scrub " ∷ decimal (length writes) ∷ flat_map write_text writes ∷ codes "\n" ∷ [])
+scrub_line writes = writes_line (codes "scrub ") writes
 
 -- a bit that was upset, with its new value
 abbrev pub upset_line : Write → List ℕ

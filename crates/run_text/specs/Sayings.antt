@@ -3,6 +3,8 @@ use Rattle.std.specs.Prelude.{ℕ, Bool, true, false, if◌then◌else◌, ◌==
 use Rattle.std.specs.Option.{option_map, option_and_then}
 use Rattle.tl_text.specs.Decimal.{bit_of, decimal_of}
 use Rattle.run_text.specs.Each.{each_of}
+use Rattle.run_text.specs.declared.event.Forms.{Forms}
+use Rattle.run_text.specs.declared.event.Forms.TheVariants.{Run, Pace}
 use Rattle.run_text.specs.declared.setting.Setting.{Setting}
 
 -- the forms of a line: values for parameters by their names, the values of a cycle, the address of a bit that is upset
@@ -69,7 +71,7 @@ abbrev pub alone : Saying → List (List ℕ) → Option Saying
 alone saying [] = Some saying
 alone saying (word ∷ words) = None
 
--- the five forms, each by its first word
+-- the five forms, each by its word in a script that is run
 abbrev pub said_by : List ℕ → List (List ℕ) → Option Saying
 said_by word rest =
     if bytes_eq word (codes "set") then option_map sets (settings_of rest)
@@ -79,6 +81,11 @@ said_by word rest =
     else if bytes_eq word (codes "image") then alone images rest
     else None
 
-abbrev pub said_of : List (List ℕ) → Option Saying
-said_of [] = None
-said_of (word ∷ rest) = said_by word rest
+-- Where changes are asked for and the clock ticks, `ask` and `tick` stand in the place of `set` and `cycle`, and no other form has a word.
+abbrev pub form_of : Forms → List ℕ → List ℕ
+form_of Run word = word
+form_of Pace word = if bytes_eq word (codes "ask") then codes "set" else if bytes_eq word (codes "tick") then codes "cycle" else []
+
+abbrev pub said_of : Forms → List (List ℕ) → Option Saying
+said_of forms [] = None
+said_of forms (word ∷ rest) = said_by (form_of forms word) rest

@@ -1,5 +1,5 @@
 -- A script as a text: the events of its lines, and its refusal, that of the first line that has one.
-use Rattle.std.specs.Prelude.{◌≡◌, ℕ, ◌<◌, Bool, not, nat_lt, nat_le, ◌==◌, if◌then◌else◌, List, [], ◌∷◌, ◌++◌, length, map, Option, Some, None, Ok, Err, slice_get}
+use Rattle.std.specs.Prelude.{◌≡◌, ℕ, Bool, not, nat_lt, nat_le, ◌==◌, if◌then◌else◌, List, [], ◌∷◌, ◌++◌, length, map, Option, Some, None, Ok, Err, slice_get}
 use Rattle.std.specs.Option.{option_map, option_and_then}
 use Rattle.tl_io.specs.declared.Assign.{Assign}
 use Rattle.tl_text.specs.FirstRefusal.{IsFirst}
@@ -46,7 +46,7 @@ saying_refusal names number (Some images) = None
 abbrev pub line_refusal : NamesValue → ℕ → WordsLine → Option ScriptErr
 line_refusal names earlier line =
     if nat_le MOST_EVENTS earlier then Some (Events line.number)
-    else saying_refusal names line.number (said_of line.words)
+    else saying_refusal names line.number (said_of names.forms line.words)
 
 -- the refusal of the line at a place
 abbrev pub refusal_at : NamesValue → List WordsLine → ℕ → Option ScriptErr
@@ -71,13 +71,13 @@ event_of params (upsets address) = Some (Upset address)
 event_of params scrubs = Some Scrub
 event_of params images = Some Image
 
-abbrev pub line_event : List (List ℕ) → WordsLine → Option EventValue
-line_event params line = option_and_then (event_of params) (said_of line.words)
+abbrev pub line_event : NamesValue → WordsLine → Option EventValue
+line_event names line = option_and_then (event_of names.params) (said_of names.forms line.words)
 
 -- the events of lines without a refusal, line by line
 pub record AreEventsOf (names : NamesValue) (lines : List WordsLine) (events : List EventValue) : Type 0 where
   pub no_refusal : (i : ℕ) → refusal_at names lines i ≡ None
-  pub are : each_of (line_event names.params) lines ≡ Some events
+  pub are : each_of (line_event names) lines ≡ Some events
 
 -- a text is a script of these events
 pub record IsScript (names : NamesValue) (text : List ℕ) (events : List EventValue) : Type 0 where

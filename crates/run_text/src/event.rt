@@ -21,9 +21,19 @@ pub enum Event {
     Image,
 }
 
-/// What a script may name.
+/// By which words a script has its forms.
+#[derive(Clone, Copy, Debug, PartialEq, Eq)]
+pub enum Forms {
+    /// `set`, `cycle`, `upset`, `scrub` and `image`.
+    Run,
+    /// `ask` and `tick`, in the place of `set` and `cycle`; no other form has a word.
+    Pace,
+}
+
+/// What a script may name, and by which words it has its forms.
 #[derive(Drop)]
 pub struct Names {
+    pub forms: Forms,
     /// The names of the parameters in order.
     pub params: Vec<Name>,
     /// How many regular inputs there are; `None` where the script may have no cycles.
@@ -37,5 +47,5 @@ impl Model for Names {
 
     ghost Value = { NamesValue };
 
-    ghost view = { λ n. record { params = n.params.items; width = n.width; bits = n.bits } };
+    ghost view = { λ n. record { forms = n.forms; params = n.params.items; width = n.width; bits = n.bits } };
 }

@@ -28,10 +28,10 @@ mod scripts;
 mod setting;
 mod write_lines;
 
-pub use event::{Event, MOST_EVENTS, Names};
+pub use event::{Event, Forms, MOST_EVENTS, Names};
 pub use line_buf::LineBuf;
 pub use lines::{put_bits_header, put_cycle, put_header, put_image};
 pub use param_list::{ParErr, Param, Params, read_params, regular};
 pub use script_err::ScriptErr;
 pub use scripts::read_script;
-pub use write_lines::{put_scrub, put_set, put_upset};
+pub use write_lines::{put_ask, put_scrub, put_set, put_upset, put_wait};

@@ -7,7 +7,7 @@ ghost use Rattle.tl_fault.specs.OrMemory.{OrMemory};
 ghost use Rattle.tl_text.specs.LineValue.{IsLineIn, IsWithin, token_bytes, words_line};
 ghost use Rattle.tl_text.specs.declared.token.Token.{Token as TokenValue};
 ghost use Rattle.run_text.specs.EventValue.{event_value};
-ghost use Rattle.run_text.specs.Sayings.{sets, cycles, upsets, settings_of, bits_of, address_of, only as only_word, said_by};
+ghost use Rattle.run_text.specs.Sayings.{sets, cycles, upsets, settings_of, bits_of, address_of, only as only_word, form_of, said_by};
 ghost use Rattle.run_text.specs.ScriptLines.{Reads};
 ghost use Rattle.run_text.specs.ScriptText.{line_refusal, line_event};
 ghost use Rattle.run_text.specs.ScriptRefusals.{refusal_of};
@@ -15,7 +15,7 @@ ghost use Rattle.run_text.specs.declared.script_err.ScriptErr.TheVariants.{Malfo
 
 use crate::assigns::read_assigns;
 use crate::cycle_values::read_values;
-use crate::event::{Event, MOST_EVENTS, Names};
+use crate::event::{Event, Forms, MOST_EVENTS, Names};
 use crate::script_err::ScriptErr;
 use crate::setting::read_settings;
 use std::alloc::Global;
@@ -162,6 +162,24 @@ fn read_event(
     Err(ScriptErr::Malformed(number))
 }
 
+// The word that a form has in a script that is run, where another script has this word for it; none where it has none.
+fn form(forms: Forms, word: &[u8]) -> &[u8]
+    ensures { result.now ≡ form_of forms word.now }
+{
+    match forms {
+        Forms::Run => word,
+        Forms::Pace => {
+            if word == b"ask".as_slice() {
+                return b"set".as_slice();
+            }
+            if word == b"tick".as_slice() {
+                return b"cycle".as_slice();
+            }
+            b"".as_slice()
+        }
+    }
+}
+
 /// The event of a line behind so many others, where the names of the parameters are indexed. It takes time linear in the line,
 /// on average over the hashes.
 ///
@@ -179,13 +197,13 @@ pub(crate) fn read_line(
     requires few { length params.now ≤ MOST_PARAMETERS }
     requires same { params.now ≡ names.now.params }
     ensures { MatchResult result
-        (λ event. (line_refusal names.now earlier (words_line text.now line.now) ≡ None) × (line_event names.now.params (words_line text.now line.now) ≡ Some (event_value event)))
+        (λ event. (line_refusal names.now earlier (words_line text.now line.now) ≡ None) × (line_event names.now (words_line text.now line.now) ≡ Some (event_value event)))
         (OrMemory refusal_of (λ e. line_refusal names.now earlier (words_line text.now line.now) ≡ Some e)) }
 {
     if earlier >= MOST_EVENTS {
         return Err(ScriptErr::Events(line.number));
     }
     let tokens = line.tokens.as_slice();
-    let word = tokens[0].bytes(text);
+    let word = form(names.forms, tokens[0].bytes(text));
     read_event(alloc, text, line.number, names, params, word, &tokens[1..])
 }

@@ -45,8 +45,9 @@ fn text_lines(alloc: Global, text: &[u8]) -> Result<Vec<Line>, ScriptErr>
 }
 
 /// The events of a script, a line for each: `set` and words `NAME=BIT`, each split at its last `=`; `cycle` and a string of a
-/// `0` or `1` for each regular input, or `-`; `upset` and an address; `scrub`; `image`. Each event fits what may be named. The
-/// names of the parameters differ.
+/// `0` or `1` for each regular input, or `-`; `upset` and an address; `scrub`; `image`. By the forms of [`Forms::Pace`] it is `ask`
+/// in the place of `set`, `tick` in the place of `cycle`, and no other form. Each event fits what may be named. The names of the
+/// parameters differ.
 ///
 /// It takes time and memory linear in the text and in the names of the parameters, on average over the hashes.
 ///

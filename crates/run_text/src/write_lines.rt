@@ -1,10 +1,28 @@
 //! The lines of writes: configuration bits, each with its address and its value.
 ghost use Rattle.tl_io.specs.Sink.{IsPut};
-ghost use Rattle.run_text.specs.Lines.{set_line, scrub_line, upset_line};
+ghost use Rattle.run_text.specs.Lines.{writes_line, set_line, scrub_line, upset_line, wait_line, ask_line};
 
 use crate::line_buf::LineBuf;
 use crate::part::{Part, put_line};
 use tl_io::{Failed, Sink, Write};
+
+// Puts a line of writes behind a word.
+fn put_writes<'a, O: Sink>(
+    word: &'a [u8],
+    writes: &'a [Write],
+    buf: &mut LineBuf,
+    out: &mut O,
+) -> Result<(), Failed>
+    ensures { IsPut (O.seen out.old) (writes_line word.now writes.now) (O.seen out.new) result }
+{
+    let parts = [
+        Part::Text(word),
+        Part::Number(writes.len() as u64),
+        Part::Writes(writes),
+        Part::Text(b"\n"),
+    ];
+    put_line(&parts, buf, out)
+}
 
 /// Puts the line `set COUNT` and each write as `ADDRESS=BIT`: how many bits a change of parameters wrote, and which.
 /// The bytes go in pieces of 4,096, of which the last may be shorter. It takes no memory.
@@ -18,10 +36,35 @@ pub fn put_set<'a, O: Sink>(
 ) -> Result<(), Failed>
     ensures { IsPut (O.seen out.old) (set_line writes.now) (O.seen out.new) result }
 {
+    put_writes(b"set ", writes, buf, out)
+}
+
+/// Puts the line `wait COUNT` and each write as `ADDRESS=BIT`: how many bits a tick wrote while the circuit waited, and which.
+/// The bytes go in pieces of 4,096, of which the last may be shorter. It takes no memory.
+///
+/// # Errors
+/// `Failed` only where the sink's count of faults rose: then a prefix of the line stands.
+pub fn put_wait<'a, O: Sink>(
+    writes: &'a [Write],
+    buf: &mut LineBuf,
+    out: &mut O,
+) -> Result<(), Failed>
+    ensures { IsPut (O.seen out.old) (wait_line writes.now) (O.seen out.new) result }
+{
+    put_writes(b"wait ", writes, buf, out)
+}
+
+/// Puts the line `ask COUNT`: how many configuration bits differ from those of the values that were asked for.
+/// The bytes go in pieces of 4,096, of which the last may be shorter. It takes no memory.
+///
+/// # Errors
+/// `Failed` only where the sink's count of faults rose: then a prefix of the line stands.
+pub fn put_ask<O: Sink>(count: u32, buf: &mut LineBuf, out: &mut O) -> Result<(), Failed>
+    ensures { IsPut (O.seen out.old) (ask_line count) (O.seen out.new) result }
+{
     let parts = [
-        Part::Text(b"set "),
-        Part::Number(writes.len() as u64),
-        Part::Writes(writes),
+        Part::Text(b"ask "),
+        Part::Number(count as u64),
         Part::Text(b"\n"),
     ];
     put_line(&parts, buf, out)
@@ -39,13 +82,7 @@ pub fn put_scrub<'a, O: Sink>(
 ) -> Result<(), Failed>
     ensures { IsPut (O.seen out.old) (scrub_line writes.now) (O.seen out.new) result }
 {
-    let parts = [
-        Part::Text(b"scrub "),
-        Part::Number(writes.len() as u64),
-        Part::Writes(writes),
-        Part::Text(b"\n"),
-    ];
-    put_line(&parts, buf, out)
+    put_writes(b"scrub ", writes, buf, out)
 }
 
 /// Puts the line `upset ADDRESS=BIT`: which bit was upset, and its new value.

@@ -15,6 +15,7 @@ use Rattle.blif_flat.specs.Refusals.{refusal_of as flat_refusal}
 use Rattle.blif_flat.specs.declared.flat_err.FlatErr.TheVariants as flat_err
 use Rattle.param_list.specs.Parameters.{regular_names, param_names}
 use Rattle.run_text.specs.ScriptRefusals.{refusal_of as script_refusal}
+use Rattle.run_text.specs.declared.event.Forms.TheVariants as script_forms
 use Rattle.run_text.specs.declared.script_err.ScriptErr.TheVariants as script_err
 use Rattle.tl_fault.specs.RefusalValue.{RefusalValue}
 use Rattle.cmd_base.specs.declared.outcome.File.{File}
@@ -109,7 +110,7 @@ two_regular_inputs = refl
 sources : shape_of source ≡ record { regular = 2; params = 1; latches = 0 }
 sources = refl
 
-named : names_of source 4 ≡ record { params = p ∷ []; width = Some 2; bits = 4 }
+named : names_of source 4 ≡ record { forms = script_forms.Run; params = p ∷ []; width = Some 2; bits = 4 }
 named = refl
 
 -- the values of the inputs by their names: a and p are 1, and b is 0
@@ -157,7 +158,7 @@ long_line = refl
 read_line : line_of (codes "p.par") (outcome.ReadFault file.Params) ≡ codes "tlut: p.par: read failed\n"
 read_line = refl
 
-usage_line : line_of [] outcome.Usage ≡ codes "tlut: usage: run K NETLIST PARAMS SCRIPT PORTS SPARES, spec K NETLIST PARAMS OUT, map K NETLIST PARAMS TEMPLATE PACK, bits PACK SCRIPT, gen N SEED, repack OLD NEW, prove K NETLIST PARAMS CERT, audit K NETLIST PARAMS CERT, graph NETLIST PARAMS OUT\n"
+usage_line : line_of [] outcome.Usage ≡ codes "tlut: usage: run K NETLIST PARAMS SCRIPT PORTS SPARES, spec K NETLIST PARAMS OUT, map K NETLIST PARAMS TEMPLATE PACK, bits PACK SCRIPT, gen N SEED, repack OLD NEW, prove K NETLIST PARAMS CERT, audit K NETLIST PARAMS CERT, graph NETLIST PARAMS OUT, pace K NETLIST PARAMS SCRIPT RATE\n"
 usage_line = refl
 
 port_line : line_of [] outcome.PortFault ≡ codes "tlut: port failed\n"

@@ -9,10 +9,8 @@ use Rattle.tl_io.specs.Shelf.{Files, ShelfSeen}
 use Rattle.tl_io.specs.Sink.{SinkSeen}
 use Rattle.cmd_base.specs.Outside.{Outside, outside}
 use Rattle.cmd_base.specs.Refusals.{too_long}
-use Rattle.cmd_run.specs.Run.Words.{RunWords}
-use Rattle.cmd_run.specs.Run.Headline.{HasHeadline}
 use Rattle.cmd_map.specs.Map.Words.{MapWords}
-use Rattle.tlut_cli.specs.Commands.{Command, Run, Map, command_of, walk_of}
+use Rattle.tlut_cli.specs.Commands.{Command, Map, command_of, walk_of}
 use Rattle.tlut_cli.specs.Replay.{ReplaysRun}
 use Rattle.cmd_base.specs.Ends.{Told, InFiles, Ends}
 use Rattle.cmd_base.specs.WalkLaws.{HasLaws}
@@ -156,11 +154,12 @@ module _ (words : List (List ℕ)) (old new : ShelfSeen) (out put : SinkSeen) (p
     answers (inl u) command is = absurd (none-some command (sym u.no_command ∙ is))
     answers (inr run) command is = refused_answered command (laws command is) o s e (ends_as o run.command command run.is is run.ends)
 
-  -- A job of `run` that is done shows the headline.
-  pub shown : HasWalkLaws (length ports) words → HasDone words before after → (run : RunWords) → command_of (length ports) words ≡ Some (Run run) → Told old.files (λ files. HasHeadline files run before after)
-  shown laws done run is files told =
-      let same : done.command ≡ Run run = one_command (length ports) words done.command (Run run) done.is is in
-      (laws (Run run) is).shows files before after (subst (λ c. InFiles (walk_of c).reading old.files (λ fs. (walk_of c).IsDone fs before after)) same done.holds files told)
+  -- A job that is done shows what its walk says.
+  pub shown : HasWalkLaws (length ports) words → HasDone words before after → (command : Command) → command_of (length ports) words ≡ Some command
+      → InFiles (walk_of command).reading old.files (λ files. (walk_of command).Shows files before after)
+  shown laws done command is files told =
+      let same : done.command ≡ command = one_command (length ports) words done.command command done.is is in
+      (laws command is).shows files before after (subst (λ c. InFiles (walk_of c).reading old.files (λ fs. (walk_of c).IsDone fs before after)) same done.holds files told)
 
   -- A job of `map` that is done wrote what `bits` plays as `run` plays its tables.
   pub replayed : (o : Outcome) (s : Status) → s ≡ status_of o → IsEnd words old new before after o → s ≡ status.Done → (written : MapWords) → command_of (length ports) words ≡ Some (Map written)

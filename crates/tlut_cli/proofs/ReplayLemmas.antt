@@ -1,5 +1,5 @@
 -- A job of `map` that is done wrote what `bits` plays as `run` plays its tables.
-use Rattle.std.proofs.Common.{◌≡◌, List, ◌∷◌, length, Ok, Some, sym, ap, ◌∙◌, subst}
+use Rattle.std.proofs.Common.{◌≡◌, List, ◌∷◌, length, Ok, Some, refl, sym, ap, ◌∙◌, subst}
 use Rattle.std.specs.FinMap.{get}
 use Rattle.std.specs.List.{concat}
 use Rattle.tl_io.specs.Content.{extended}
@@ -34,7 +34,7 @@ module _ (files : Files) (written : MapWords) (before after : Outside) (done : H
       let packs = file_same (present_bytes done.pack) b.pack done.pack (pack_at others bits.pack (present_bytes done.pack) b.pack pack b.is_job.pack) done.replays.file in
       let start = subst (λ t. IsStart (record { source = done.source; template = t; events = r.job.events }) r.machine) template (subst (λ s. IsStart (record { source = s; template = r.job.template; events = r.job.events }) r.machine) source r.start) in
       let params = ap (λ s. (names_of s r.job.template.bits).params) source ∙ params_same done.source done.template done.pack b.pack done.tunable packs in
-      let events = script_same first others run.script bits.script (names_of r.job.source r.job.template.bits) (pack_names b.pack) r.job.events b.events script params r.is_job.script b.is_job.script in
+      let events = script_same first others run.script bits.script (names_of r.job.source r.job.template.bits) (pack_names b.pack) r.job.events b.events script refl params r.is_job.script b.is_job.script in
       let come = subst (λ es. HasCome r.machine (bank_of run.ports old.ports) es r.ends.lines r.ends.stage) events r.ends.come in
       let lines = done.replays.lines others bits.pack b.pack pack b.is_job.pack b.host b.ends.end b.events b.ends.lines b.start b.ends.steps r.job.events r.machine start (bank_of run.ports old.ports) r.ends.lines r.ends.stage come in
       record {

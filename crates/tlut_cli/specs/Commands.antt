@@ -19,6 +19,8 @@ use Rattle.cmd_cert.specs.Prove.{prove_walk}
 use Rattle.cmd_cert.specs.Audit.{audit_walk}
 use Rattle.cmd_graph.specs.Words.{GraphWords, graph_words_of, graph_seen}
 use Rattle.cmd_graph.specs.Graph.{graph_walk}
+use Rattle.cmd_pace.specs.Words.{PaceWords, pace_of, pace_seen, IsInRange as IsPaceInRange}
+use Rattle.cmd_pace.specs.Verdict.{pace_walk}
 use Rattle.cmd_run.specs.GenCommand.Words.{gen_of, HasDigits}
 use Rattle.cmd_run.specs.GenCommand.Verdict.{gen_walk}
 use Rattle.cmd_pack.specs.Repack.Words.{RepackWords, repack_of, repack_seen}
@@ -35,6 +37,7 @@ pub data Command : Type 0 where
   Prove : CertWords → Command
   Audit : CertWords → Command
   Graph : GraphWords → Command
+  Pace : PaceWords → Command
 
 -- one command, or else another
 abbrev pub or_else : Option Command → Option Command → Option Command
@@ -45,7 +48,7 @@ abbrev pub cert_commands : List (List ℕ) → Option Command
 cert_commands words = or_else (option_map Prove (cert_words_of (codes "prove") words)) (option_map Audit (cert_words_of (codes "audit") words))
 
 abbrev pub later_commands : List (List ℕ) → Option Command
-later_commands words = or_else (cert_commands words) (option_map Graph (graph_words_of words))
+later_commands words = or_else (cert_commands words) (or_else (option_map Graph (graph_words_of words)) (option_map Pace (pace_of words)))
 
 -- the command of some words, where so many ports are handed in; none where they are of no command's form
 abbrev pub other_commands : List (List ℕ) → Option Command
@@ -65,6 +68,7 @@ walk_of (Repack words) = repack_walk words
 walk_of (Prove words) = prove_walk words
 walk_of (Audit words) = audit_walk words
 walk_of (Graph words) = graph_walk words
+walk_of (Pace words) = pace_walk words
 
 -- a command as it is read
 abbrev pub command_seen : CommandRead → Command
@@ -77,12 +81,14 @@ command_seen (read.Repack words) = Repack (repack_seen words)
 command_seen (read.Prove words) = Prove (cert_seen words)
 command_seen (read.Audit words) = Audit (cert_seen words)
 command_seen (read.Graph words) = Graph (graph_seen words)
+command_seen (read.Pace words) = Pace (pace_seen words)
 
 -- the line of words that are of no command's form, in pieces: it lists all forms
 abbrev pub usage : List (List ℕ)
 usage =
     codes "tlut: usage: " ∷ codes "run K NETLIST PARAMS SCRIPT PORTS SPARES" ∷ codes ", spec K NETLIST PARAMS OUT" ∷ codes ", map K NETLIST PARAMS TEMPLATE PACK" ∷ codes ", bits PACK SCRIPT" ∷ codes ", gen N SEED"
-    ∷ codes ", repack OLD NEW" ∷ codes ", prove K NETLIST PARAMS CERT" ∷ codes ", audit K NETLIST PARAMS CERT" ∷ codes ", graph NETLIST PARAMS OUT" ∷ codes "\n" ∷ []
+    ∷ codes ", repack OLD NEW" ∷ codes ", prove K NETLIST PARAMS CERT" ∷ codes ", audit K NETLIST PARAMS CERT" ∷ codes ", graph NETLIST PARAMS OUT"
+    ∷ codes ", pace K NETLIST PARAMS SCRIPT RATE" ∷ codes "\n" ∷ []
 
 -- its numbers are in range
 abbrev pub HasRange : ℕ → CommandRead → Type 0
@@ -95,3 +101,4 @@ HasRange ports (read.Repack words) = Unit {0}
 HasRange ports (read.Prove words) = IsTableSize words.source.k
 HasRange ports (read.Audit words) = IsTableSize words.source.k
 HasRange ports (read.Graph words) = Unit {0}
+HasRange ports (read.Pace words) = IsPaceInRange words

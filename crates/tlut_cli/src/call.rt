@@ -9,8 +9,10 @@ ghost use Rattle.cmd_base.specs.declared.outcome.Outcome.{Outcome as OutcomeValu
 ghost use Rattle.cmd_run.specs.Run.Headline.{HasHeadline};
 ghost use Rattle.cmd_run.specs.Run.Words.{RunWords};
 ghost use Rattle.cmd_map.specs.Map.Words.{MapWords};
+ghost use Rattle.cmd_pace.specs.Headline.{HasPaceHeadline};
+ghost use Rattle.cmd_pace.specs.Words.{PaceWords};
 ghost use Rattle.tlut_cli.specs.Replay.{ReplaysRun};
-ghost use Rattle.tlut_cli.specs.Commands.{Run, Map, command_of, command_seen, HasRange};
+ghost use Rattle.tlut_cli.specs.Commands.{Run, Map, Pace, command_of, command_seen, HasRange};
 ghost use Rattle.tlut_cli.specs.CommandEnds.{HasEnded, HasWalkLaws};
 ghost use Rattle.tlut_cli.specs.Call.{IsEnd, fault_file, word_at, fault_word, HasRefusal, HasDone, HasCutOff, HasLost, HasKeptPorts, HasFault, HasPortCause, HasWriteCause, IsAnswered, IsComplete, IsFinished, IsQuiet, WritesFiles};
 ghost use Rattle.tlut_cli.specs.FaultLine.{line_of};
@@ -20,6 +22,7 @@ use cmd_base::{File, Outcome, Status};
 use cmd_cert::{audit_job, prove_job};
 use cmd_graph::graph_job;
 use cmd_map::{map_job, spec_job};
+use cmd_pace::pace_job;
 use cmd_pack::{bits_job, repack_job};
 use cmd_run::{gen_job, run_job};
 use std::alloc::Global;
@@ -53,6 +56,7 @@ fn run_command<S: Shelf, O: Sink, P: ConfigPort>(
         Command::Prove(words) => prove_job(alloc, words, shelf, out),
         Command::Audit(words) => audit_job(alloc, words, shelf, out),
         Command::Graph(words) => graph_job(alloc, words, shelf, out),
+        Command::Pace(words) => pace_job(alloc, words, shelf, out),
     }
 }
 
@@ -122,6 +126,8 @@ fn run_words<'a, S: Shelf, O: Sink, P: ConfigPort>(
 /// - `prove K NETLIST PARAMS CERT` writes the certificate that no cover is less deep than the mapper's.
 /// - `audit K NETLIST PARAMS CERT` checks a certificate against the netlist.
 /// - `graph NETLIST PARAMS OUT` writes the netlist's graph in AIGER's ASCII form.
+/// - `pace K NETLIST PARAMS SCRIPT RATE` plays a script of asks and ticks, where the configuration port takes RATE bits a tick and the
+///   circuit waits while it is behind.
 ///
 /// A netlist is BLIF, or AIGER's ASCII form where it begins with `aag` and a blank.
 ///
@@ -153,6 +159,10 @@ pub fn tlut<S: Shelf, O: Sink, E: Sink>(
     // The headline of `run`: the source circuit's outputs and latch states cycle by cycle, at each change exactly the bits in which the
     // configurations specialised from scratch differ, tables of at most K inputs, and the least depth over all covers.
     ensures headline { result ≡ Status.Done → (run : RunWords) → command_of (length ports.old.items) (map string_bytes words.now) ≡ Some (Run run) → Told (S.seen shelf.old).files (λ files. HasHeadline files run (outside (S.seen shelf.old) (O.seen out.old) (map (λ port. port_seen port) ports.old.items)) (outside (S.seen shelf.new) (O.seen out.new) (map (λ port. port_seen port) ports.new.items))) }
+
+    // The headline of `pace`: the circuit steps only under the configuration that is specialised from scratch for the values that were
+    // asked for last, as the source circuit does, and waits exactly as long as its writes take at the rate of the port.
+    ensures paced { result ≡ Status.Done → (paced : PaceWords) → command_of (length ports.old.items) (map string_bytes words.now) ≡ Some (Pace paced) → Told (S.seen shelf.old).files (λ files. HasPaceHeadline files paced (outside (S.seen shelf.old) (O.seen out.old) (map (λ port. port_seen port) ports.old.items)) (outside (S.seen shelf.new) (O.seen out.new) (map (λ port. port_seen port) ports.new.items))) }
 
     // What `map` wrote is played by `bits` as `run` plays its tables, for each script without cycles.
     ensures replays { result ≡ Status.Done → (written : MapWords) → command_of (length ports.old.items) (map string_bytes words.now) ≡ Some (Map written) → Told (S.seen shelf.old).files (λ files. ReplaysRun files written (outside (S.seen shelf.old) (O.seen out.old) (map (λ port. port_seen port) ports.old.items)) (outside (S.seen shelf.new) (O.seen out.new) (map (λ port. port_seen port) ports.new.items))) }

@@ -9,6 +9,7 @@ use cmd_base::{File, Outcome};
 use cmd_cert::{CertWords, cert_name, read_audit, read_prove};
 use cmd_graph::{GraphWords, read_graph_words};
 use cmd_map::{MapWords, SpecWords, read_map, read_spec};
+use cmd_pace::{PaceWords, pace_name, read_pace_words};
 use cmd_pack::{BitsWords, RepackWords, bits_name, read_bits, read_repack};
 use cmd_run::{GenWords, RunWords, read_gen, read_run, run_name};
 use cmd_stations::source_name;
@@ -26,6 +27,7 @@ pub enum Command<'a> {
     Prove(CertWords<'a>),
     Audit(CertWords<'a>),
     Graph(GraphWords<'a>),
+    Pace(PaceWords<'a>),
 }
 
 // The command of certificates.
@@ -50,8 +52,11 @@ fn read_later(words: &[String]) -> Option<Command<'_>>
     if let Some(command) = read_cert_command(words) {
         return Some(command);
     }
-    match read_graph_words(words) {
-        Some(words) => Some(Command::Graph(words)),
+    if let Some(words) = read_graph_words(words) {
+        return Some(Command::Graph(words));
+    }
+    match read_pace_words(words) {
+        Some(words) => Some(Command::Pace(words)),
         None => None,
     }
 }
@@ -104,6 +109,7 @@ pub fn file_name<'a>(command: &Command<'a>, file: File) -> &'a str
         Command::Prove(words) => source_name(&words.source, file),
         Command::Audit(words) => cert_name(words, file),
         Command::Graph(words) => source_name(&words.source, file),
+        Command::Pace(words) => pace_name(words, file),
     }
 }
 
@@ -124,6 +130,7 @@ pub fn report<E: Sink>(err: &mut E, name: &[u8], outcome: &Outcome)
             b", prove K NETLIST PARAMS CERT",
             b", audit K NETLIST PARAMS CERT",
             b", graph NETLIST PARAMS OUT",
+            b", pace K NETLIST PARAMS SCRIPT RATE",
             b"\n",
         ],
         name,

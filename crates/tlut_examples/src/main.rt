@@ -25,7 +25,7 @@ struct Example {
     taken: &'static [&'static str],
 }
 
-const EXAMPLES: [Example; 13] = [
+const EXAMPLES: [Example; 15] = [
     Example {
         words: "run 2 and2/and2.blif and2/none.par and2/one.scr 0 0",
         printed: "and2/expected.txt",
@@ -79,6 +79,16 @@ const EXAMPLES: [Example; 13] = [
     Example {
         words: "run 4 vote/vote.aag vote/vote.par vote/votes.scr 0 0",
         printed: "vote/expected.txt",
+        taken: &[],
+    },
+    Example {
+        words: "pace 4 fir/fir.blif fir/fir.par fir/pace.scr 1",
+        printed: "fir/expected_pace1.txt",
+        taken: &[],
+    },
+    Example {
+        words: "pace 4 fir/fir.blif fir/fir.par fir/pace.scr 4",
+        printed: "fir/expected_pace4.txt",
         taken: &[],
     },
     Example {

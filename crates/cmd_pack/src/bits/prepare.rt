@@ -16,7 +16,7 @@ use cmd_base::Outcome;
 use cmd_stations::{bit_count, read_pack, read_script_file, script_names};
 use ppc_pack::Pack;
 use run_core::Host;
-use run_text::{Event, LineBuf};
+use run_text::{Event, Forms, LineBuf};
 use std::alloc::{AllocError, Global};
 use tl_io::Shelf;
 
@@ -45,7 +45,7 @@ fn read_events<S: Shelf>(
     ensures files { (S.seen shelf.new).files ≡ (S.seen shelf.old).files }
     ensures write_faults { (S.seen shelf.new).write_faults ≡ (S.seen shelf.old).write_faults }
 {
-    match script_names(alloc, pack, None) {
+    match script_names(alloc, Forms::Run, pack, None) {
         Ok(names) => read_script_file(alloc, words.script, &names, shelf),
         Err(_) => Err(Outcome::Memory),
     }

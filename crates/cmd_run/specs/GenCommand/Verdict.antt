@@ -12,7 +12,8 @@ use Rattle.cmd_run.specs.declared.gen_command.words.GenWords.{GenWords}
 use Rattle.cmd_stations.specs.Mapped.{template_header}
 use Rattle.cmd_stations.specs.Machine.{Job}
 use Rattle.cmd_stations.specs.Source.{IsLeastMapped}
-use Rattle.cmd_run.specs.Run.Job.{IsJob, IsRefused, IsSettled, IsOfRun}
+use Rattle.cmd_stations.specs.Scripted.{IsOfScripted}
+use Rattle.cmd_run.specs.Run.Job.{IsJob, IsRefused, IsSettled}
 use Rattle.cmd_stations.specs.Machine.{IsStart}
 use Rattle.cmd_run.specs.Run.Verdict.{HasJob}
 use Rattle.cmd_run.specs.GenCommand.Case.{case_words, case_files}
@@ -61,7 +62,7 @@ module _ (old new : Outside) (text : List ℕ) where
 abbrev pub gen_reading : GenWords → Reading
 gen_reading words = record {
   HasFiles = λ told files. files ≡ case_files words;
-  IsRead = IsOfRun;
+  IsRead = IsOfScripted;
   word = λ file. codes "gen";
   last = Netlist;
   HasGiven = λ file given. Unit {0};

@@ -2,9 +2,11 @@
 use Rattle.std.specs.Prelude.{ℕ, ◌+◌, ◌≤◌, nat_le, if◌then◌else◌, List, [], ◌∷◌, codes, bytes_eq, Option, Some, None}
 use Rattle.tl_text.specs.Decimal.{decimal_of}
 use Rattle.cut_enum.specs.declared.limits.TheConstants.{MOST_LEAVES}
+use Rattle.run_text.specs.declared.event.Forms.TheVariants.{Run}
 use Rattle.cmd_run.specs.declared.run.words.PortCounts.{PortCounts}
 use Rattle.cmd_run.specs.declared.run.words.RunWords.{RunWords as RunWordsRead}
 use Rattle.cmd_stations.specs.Words.{SourceWords, k_of, source_seen}
+use Rattle.cmd_stations.specs.Scripted.{ScriptedWords}
 
 -- the source circuit, the word that names the script, and the ports
 pub record RunWords : Type 0 where
@@ -32,6 +34,10 @@ run_of ports words = None
 -- words as they are read
 abbrev pub run_seen : RunWordsRead → RunWords
 run_seen words = record { source = source_seen words.source; script = words.script.now; ports = words.ports }
+
+-- its source circuit and its script, which has the forms of one that is run
+abbrev pub scripted_of : RunWords → ScriptedWords
+scripted_of words = record { source = words.source; script = words.script; forms = Run }
 
 -- the size of the tables is from 2 to the most leaves of a cut, and there are so many ports
 pub record IsInRange (ports : ℕ) (words : RunWordsRead) : Type 0 where

@@ -19,11 +19,13 @@ ghost use Rattle.cmd_run.specs.GenCommand.Texts.{shelf_of, HaveSource, HaveCase}
 ghost use Rattle.cmd_run.specs.GenCommand.Verdict.{gen_reading};
 
 use crate::gen_command::words::GenWords;
-use crate::run::prepare::{Ready, mapped_names, start_machine};
+use crate::run::prepare::{Ready, start_machine};
 use cmd_base::{File, Outcome};
-use cmd_stations::{MappedSource, Source, list_events, list_params, map_source, read_netlist};
+use cmd_stations::{
+    MappedSource, Source, list_events, list_params, map_source, mapped_names, read_netlist,
+};
 use gen_case::multiplier;
-use run_text::Event;
+use run_text::{Event, Forms};
 use std::alloc::Global;
 
 // The most inputs that a table may have.
@@ -80,7 +82,7 @@ fn case_events(
     ensures settled { OnOk result ((files : Files) → HasText files case_words.script script_text.now → IsScriptSettled files case_words.script (names_of mapped.now.source mapped.now.tables.template.bits)) }
     ensures err { IfErr result (λ o. (files : Files) → HasText files case_words.script script_text.now → Explains (script_reading case_words.script (names_of mapped.now.source mapped.now.tables.template.bits)) (shelf_of files) (shelf_of files) o) }
 {
-    let names = match mapped_names(alloc, mapped) {
+    let names = match mapped_names(alloc, Forms::Run, mapped) {
         Ok(names) => names,
         Err(_) => return Err(Outcome::Memory),
     };

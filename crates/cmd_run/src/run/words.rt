@@ -1,11 +1,13 @@
 //! The words of `run`.
 ghost use Rattle.std.specs.Prelude.{◌≡◌, ◌≤◌, ◌+◌, map, string_bytes, IfSome, Some};
 ghost use Rattle.std.specs.Option.{option_map};
-ghost use Rattle.cmd_run.specs.Run.Words.{counts_of, run_words, run_of, run_seen, IsInRange};
+ghost use Rattle.cmd_stations.specs.Scripted.{scripted_seen};
+ghost use Rattle.cmd_run.specs.Run.Words.{counts_of, run_words, run_of, run_seen, scripted_of, IsInRange};
 ghost use Rattle.cmd_run.specs.Run.Job.{run_word};
 
 use cmd_base::File;
-use cmd_stations::{SourceWords, source_name, table_size};
+use cmd_stations::{ScriptedWords, SourceWords, source_name, table_size};
+use run_text::Forms;
 use tl_text::decimal;
 
 /// How many of the ports that are handed in serve, and how many more stand by as spares.
@@ -83,6 +85,17 @@ pub fn read_run(ports: usize, words: &[String]) -> Option<RunWords<'_>>
             )
         }
         _ => None,
+    }
+}
+
+/// The source circuit and its script.
+pub fn scripted<'a>(words: &RunWords<'a>) -> ScriptedWords<'a>
+    ensures { scripted_seen result ≡ scripted_of (run_seen words.now) }
+{
+    ScriptedWords {
+        source: words.source,
+        script: words.script,
+        forms: Forms::Run,
     }
 }
 

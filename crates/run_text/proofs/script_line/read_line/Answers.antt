@@ -6,8 +6,8 @@ use Rattle.tl_text.specs.LineValue.{LineValue}
 use Rattle.tl_text.specs.declared.token.Token.{Token}
 use Rattle.run_text.proofs.script_line.read_line.Goals as goal
 
-pub bytes-word-requires : goal.bytes-word-requires
-bytes-word-requires c =
+pub bytes-requires : goal.bytes-requires
+bytes-requires c =
     let tokens : c.as_slice-tokens.result.now ≡ c.args.line.now.tokens = c.as_slice-tokens.ensures.value ∙ ap (λ (l : LineValue). l.tokens) c.line.view_is in
     let same : length c.as_slice-tokens.result.now ≡ length c.args.line.now.tokens = ap (λ (l : List Token). length l) tokens in
     let none : Token = record { start = 0; end = 0 } in

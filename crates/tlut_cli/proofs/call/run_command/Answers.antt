@@ -4,9 +4,10 @@ use Rattle.cmd_cert.specs.Words.{cert_seen}
 use Rattle.cmd_graph.specs.Words.{graph_seen}
 use Rattle.cmd_map.specs.Spec.Words.{spec_seen}
 use Rattle.cmd_map.specs.Map.Words.{map_seen}
+use Rattle.cmd_pace.specs.Words.{pace_seen}
 use Rattle.cmd_pack.specs.Bits.Words.{bits_seen}
 use Rattle.cmd_pack.specs.Repack.Words.{repack_seen}
-use Rattle.tlut_cli.specs.Commands.{Run, Spec, Map, Bits, Gen, Repack, Prove, Audit, Graph, command_seen}
+use Rattle.tlut_cli.specs.Commands.{Run, Spec, Map, Bits, Gen, Repack, Prove, Audit, Graph, Pace, command_seen}
 use Rattle.tlut_cli.proofs.CommandLemmas.{ended_as}
 use Rattle.tlut_cli.proofs.call.run_command.Goals as goal
 
@@ -36,3 +37,6 @@ returns-in-Audit g c = ended_as (Audit (cert_seen c.in-Audit.words)) (command_se
 
 pub returns-in-Graph : goal.returns-in-Graph
 returns-in-Graph g c = ended_as (Graph (graph_seen c.in-Graph.words)) (command_seen c.args.command.now) (ap command_seen (sym c.in-Graph.is)) (record { ends = c.graph_job.ensures.ends (map g.P.ConfigPort.port_seen c.args.ports.now.items); files = inr tt; laws = c.graph_job.ensures.laws })
+
+pub returns-in-Pace : goal.returns-in-Pace
+returns-in-Pace g c = ended_as (Pace (pace_seen c.in-Pace.words)) (command_seen c.args.command.now) (ap command_seen (sym c.in-Pace.is)) (record { ends = c.pace_job.ensures.ends (map g.P.ConfigPort.port_seen c.args.ports.now.items); files = inl c.pace_job.ensures.files; laws = c.pace_job.ensures.laws })

@@ -1,7 +1,7 @@
 use Rattle.std.proofs.Common.{◌≡◌, map, string_bytes, subst, sym, Some}
 use Rattle.std.proofs.lemmas.List.{length-map}
 use Rattle.cmd_base.specs.declared.status.Status.TheVariants as status
-use Rattle.tlut_cli.specs.Commands.{Run, Map, command_of}
+use Rattle.tlut_cli.specs.Commands.{Run, Map, Pace, command_of}
 use Rattle.tlut_cli.specs.Call.{HasRefusal, HasFault, IsAnswered}
 use Rattle.tlut_cli.specs.CommandEnds.{HasWalkLaws}
 use Rattle.tlut_cli.proofs.CallLemmas.{tells, refusal_is, kept_ports, completes, finishes, answers, shown, replayed}
@@ -36,7 +36,15 @@ returns-clause-headline g c done run is =
     let old = g.S.Shelf.seen c.args.shelf.now in
     let new = g.S.Shelf.seen c.run_words-ended.new.shelf in
     shown words old new (g.O.Sink.seen c.args.out.now) (g.O.Sink.seen c.run_words-ended.new.out) _ _ (subst (λ n. HasWalkLaws n words) (sym (length-map c.args.ports.now.items _)) c.run_words-ended.ensures.laws)
-    (tells _ _ _ (g.O.Sink.seen c.args.out.now) (g.O.Sink.seen c.run_words-ended.new.out) _ _ c.run_words-ended.result.outcome c.status.result status.Done c.status.ensures c.run_words-ended.ensures.end done).0 run (subst (λ n. command_of n words ≡ Some (Run run)) (sym (length-map c.args.ports.now.items _)) is)
+    (tells _ _ _ (g.O.Sink.seen c.args.out.now) (g.O.Sink.seen c.run_words-ended.new.out) _ _ c.run_words-ended.result.outcome c.status.result status.Done c.status.ensures c.run_words-ended.ensures.end done).0 (Run run) (subst (λ n. command_of n words ≡ Some (Run run)) (sym (length-map c.args.ports.now.items _)) is)
+
+pub returns-clause-paced : goal.returns-clause-paced
+returns-clause-paced g c done paced is =
+    let words = map string_bytes c.args.words.now in
+    let old = g.S.Shelf.seen c.args.shelf.now in
+    let new = g.S.Shelf.seen c.run_words-ended.new.shelf in
+    shown words old new (g.O.Sink.seen c.args.out.now) (g.O.Sink.seen c.run_words-ended.new.out) _ _ (subst (λ n. HasWalkLaws n words) (sym (length-map c.args.ports.now.items _)) c.run_words-ended.ensures.laws)
+    (tells _ _ _ (g.O.Sink.seen c.args.out.now) (g.O.Sink.seen c.run_words-ended.new.out) _ _ c.run_words-ended.result.outcome c.status.result status.Done c.status.ensures c.run_words-ended.ensures.end done).0 (Pace paced) (subst (λ n. command_of n words ≡ Some (Pace paced)) (sym (length-map c.args.ports.now.items _)) is)
 
 pub returns-clause-complete : goal.returns-clause-complete
 returns-clause-complete g c =

@@ -1,0 +1,66 @@
+-- A job that is done shows its source circuit, mapped with the least depth.
+use Rattle.std.proofs.Common.{◌≡◌, ℕ, ◌≤◌, ◌∷◌, map, ap, ◌∙◌, subst}
+use Rattle.std.specs.List.{concat}
+use Rattle.tl_io.specs.Content.{extended}
+use Rattle.tl_io.specs.Shelf.{Files}
+use Rattle.aig_core.specs.Aig.{Aig}
+use Rattle.cover_pick.specs.Template.{TemplateValue}
+use Rattle.netlist.specs.Flat.{IsFlat}
+use Rattle.param_list.specs.Parameters.{param_inits}
+use Rattle.pace_core.specs.Pace.{PacerValue, shown_line}
+use Rattle.cmd_base.specs.Outside.{Outside}
+use Rattle.cmd_stations.specs.Mapped.{template_header}
+use Rattle.cmd_stations.proofs.GraphLemmas.{same_graph}
+use Rattle.cmd_stations.proofs.InitLemmas.{init_count, init_params}
+use Rattle.cmd_pace.specs.Ends.{IsAllPaced, HasPace}
+use Rattle.cmd_pace.specs.Headline.{IsFirst, ShowAll, HasPaceHeadline}
+use Rattle.cmd_pace.specs.Job.{PaceJob, IsPaceStart}
+use Rattle.cmd_pace.specs.Words.{PaceWords}
+use Rattle.cmd_pace.proofs.FitLemmas.{script_fits}
+use Rattle.cmd_pace.proofs.ShownLemmas.{IsKept, stage_of, all_shown}
+use Rattle.cmd_pace.proofs.SteadyLemmas.{start_steady, stalls_anywhere}
+
+-- a machine at the start
+start_kept : (job : PaceJob) (rate : ℕ) (p : PacerValue) → IsFlat job.source.netlist.library job.source.netlist.flat → (s : IsPaceStart job rate p) → IsKept job.source job.template rate p.pack s.pack p
+start_kept job rate p flat s = record {
+  steady = start_steady p rate (param_inits job.source.params.list) s.rate_is s.params (init_params job.source job.template p.pack s.pack) s.config;
+  template_is = s.template;
+  shape_is = s.shape;
+  states = init_count job.source p.sim.states flat s.states;
+}
+
+start_shown : (job : PaceJob) (rate : ℕ) (p : PacerValue) → (s : IsPaceStart job rate p) → IsFirst job.source s.pack.graph job.template rate (stage_of p)
+start_shown job rate p s = record {
+  params = s.params;
+  config = s.pack.configurations.is (param_inits job.source.params.list) p.config (init_params job.source job.template p.pack s.pack) s.config;
+  states = s.states;
+}
+
+-- a job of `pace` that is done, where a tick writes a bit at least
+pub pace_headline : (files : Files) (words : PaceWords) (old new : Outside) → 1 ≤ words.rate → HasPace files words old new IsAllPaced → HasPaceHeadline files words old new
+pace_headline files words old new takes done =
+    let job = done.job in
+    let is = done.is_job.is in
+    let mapped = is.mapped.mapped in
+    let start = done.start in
+    let end = done.ends in
+    let lines = map shown_line end.shown in
+    let kept = start_kept job words.rate done.pacer is.mapped.has.netlist.is.flat start in
+    let graph : start.pack.graph ≡ mapped.graph = same_graph job.source start.pack.one_graph start.pack.graph mapped.graph start.pack.roots mapped.roots start.pack.is_graph mapped.is_graph in
+    record {
+      job = job;
+      is_job = done.is_job;
+      sound = done.law.sound;
+      least = done.law.least;
+      lines = lines;
+      bytes = end.bytes ∙ ap (λ (t : TemplateValue). extended old.bytes (concat (template_header t ∷ lines))) start.template;
+      first = stage_of done.pacer;
+      is_first = subst (λ (g : Aig). IsFirst job.source g job.template words.rate (stage_of done.pacer)) graph (start_shown job words.rate done.pacer start);
+      end = stage_of end.end;
+      shows = subst (λ (g : Aig). ShowAll job.source g job.template words.rate (stage_of done.pacer) job.events lines (stage_of end.end)) graph
+          (all_shown job.source job.template words.rate done.pacer.pack start.pack job.events end.shown done.pacer end.end kept end.are
+          (script_fits job.source job.template.bits is.script.text done.is_job.read job.events is.script.is done.is_job.events));
+      pacer = done.pacer;
+      start = start;
+      stalls = stalls_anywhere done.pacer.pack words.rate done.pacer takes start.one_config kept.steady;
+    }

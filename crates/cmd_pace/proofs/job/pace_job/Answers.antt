@@ -1,0 +1,53 @@
+use Rattle.std.proofs.Common.{refl, inl}
+use Rattle.pace_core.specs.EventValue.{pace_values}
+use Rattle.cmd_base.specs.Outside.{Outside, outside}
+use Rattle.cmd_base.proofs.EndLemmas.{explained_ends, only_read}
+use Rattle.cmd_pace.specs.Ends.{IsAllPaced, IsPaceCut}
+use Rattle.cmd_pace.specs.Verdict.{pace_walk}
+use Rattle.cmd_pace.specs.Words.{pace_seen}
+use Rattle.cmd_pace.proofs.PaceLemmas.{ready_begun, ready_pace}
+use Rattle.cmd_pace.proofs.PlayLemmas.{all_paced, cut_paced}
+use Rattle.cmd_pace.proofs.WalkLemmas.{pace_laws}
+use Rattle.cmd_pace.proofs.job.pace_job.Goals as goal
+
+pub returns-in-Err-clause-ends : goal.returns-in-Err-clause-ends
+returns-in-Err-clause-ends g c ports =
+    let old = g.S.Shelf.seen c.args.shelf.now in
+    let new = g.S.Shelf.seen c.prepare.new.shelf in
+    let out = g.O.Sink.seen c.args.out.now in
+    explained_ends (pace_walk (pace_seen c.args.words.now)) old new (outside old out ports) (outside new out ports) (only_read old new out ports c.prepare.ensures.files c.prepare.ensures.write_faults) (λ none. absurd none) c.in-Err.outcome c.in-Err.ensures.err
+
+pub returns-in-Ok-play-clause-ends : goal.returns-in-Ok-play-clause-ends
+returns-in-Ok-play-clause-ends g c ports =
+    let words = pace_seen c.args.words.now in
+    let ready = c.in-Ok.ready in
+    let before : Outside = outside (g.S.Shelf.seen c.args.shelf.now) (g.O.Sink.seen c.args.out.now) ports in
+    let after : Outside = outside (g.S.Shelf.seen c.prepare.new.shelf) (g.O.Sink.seen c.play.new.out) ports in (
+      record { given = c.in-Ok.ensures.given; begun = λ files told. ready_begun files words ready (c.in-Ok.ensures.prepared files told) },
+      λ files told. ready_pace files words ready (c.in-Ok.ensures.prepared files told) IsAllPaced before after c.prepare.ensures.files (refl {a = ports})
+          (all_paced ready.pacer (pace_values ready.events.items) before after c.in-Ok-play.ensures.ends),
+      refl {a = ports},
+    )
+
+pub returns-clause-ends : goal.returns-clause-ends
+returns-clause-ends g c ports =
+    let words = pace_seen c.args.words.now in
+    let ready = c.in-Ok.ready in
+    let before : Outside = outside (g.S.Shelf.seen c.args.shelf.now) (g.O.Sink.seen c.args.out.now) ports in
+    let after : Outside = outside (g.S.Shelf.seen c.prepare.new.shelf) (g.O.Sink.seen c.play.new.out) ports in
+    let rose = c.in-Err-play.ensures.cause.failed in (
+      record { given = c.in-Ok.ensures.given; begun = λ files told. ready_begun files words ready (c.in-Ok.ensures.prepared files told) },
+      λ files told. ready_pace files words ready (c.in-Ok.ensures.prepared files told) IsPaceCut before after c.prepare.ensures.files (refl {a = ports})
+          (cut_paced ready.pacer (pace_values ready.events.items) before after c.in-Err-play.ensures.ends rose),
+      refl {a = ports},
+      inl rose,
+    )
+
+pub returns-in-Err-clause-laws : goal.returns-in-Err-clause-laws
+returns-in-Err-clause-laws g c = pace_laws (pace_seen c.args.words.now) c.requires.rate
+
+pub returns-in-Ok-play-clause-laws : goal.returns-in-Ok-play-clause-laws
+returns-in-Ok-play-clause-laws g c = pace_laws (pace_seen c.args.words.now) c.requires.rate
+
+pub returns-clause-laws : goal.returns-clause-laws
+returns-clause-laws g c = pace_laws (pace_seen c.args.words.now) c.requires.rate

@@ -1,0 +1,61 @@
+use Rattle.std.proofs.Common.{◌≡◌, ◌≤◌, List, take, refl, sym, ◌∙◌, subst, arith}
+use Rattle.std.proofs.lemmas.List.{take_all}
+use Rattle.std.proofs.lemmas.Result.{err_from_is_err_and}
+use Rattle.list_laws.proofs.Items.{member_at}
+use Rattle.list_laws.proofs.Members.{In-map}
+use Rattle.pace_core.specs.declared.event.PaceEvent.{PaceEvent}
+use Rattle.pace_core.specs.EventValue.{pace_value, pace_values}
+use Rattle.cmd_stations.proofs.EventLemmas.{split_by, more_by}
+use Rattle.cmd_pace.proofs.PlayLemmas.{paced_form, fits_form, HaveCome, come_none, come_more, come_all, events_cut}
+use Rattle.cmd_pace.proofs.play.play_events.Goals as goal
+
+pub loop-event-init : goal.loop-event-init
+loop-event-init g c = record {
+  form = record { pack = refl; shape = refl };
+  come = come_none c.args.pacer.now (g.O.Sink.seen c.args.out.now).bytes;
+  later = omega arith;
+}
+
+pub step-requires : goal.step-requires
+step-requires g c =
+    let event = c.event-item.result in
+    let member = member_at c.args.events.now c.loop-event.event-index event c.loop-event-test.true c.event-item.is in
+    fits_form (pace_value event) c.args.pacer.now c.loop-event.pacer c.loop-event.invariant.form (c.requires (pace_value event) (In-map pace_value c.args.events.now event member))
+
+pub loop-event-preserved : goal.loop-event-preserved
+loop-event-preserved g c =
+    let events = c.args.events.now in
+    let i = c.loop-event.event-index in
+    let item = c.event-item.result in
+    let first = (g.O.Sink.seen c.args.out.now).bytes in
+    let before = (g.O.Sink.seen c.loop-event.out).bytes in
+    let after = (g.O.Sink.seen c.step.new.out).bytes in
+    let step = c.in_ok-step.ensures in
+    let form = paced_form (pace_value item) c.loop-event.pacer c.step.new.self step.0 step.1 in
+    let later : (g.O.Sink.seen c.args.out.now).faults ≤ (g.O.Sink.seen c.loop-event.out).faults = c.loop-event.invariant.later in
+    let last : (g.O.Sink.seen c.loop-event.out).faults ≤ (g.O.Sink.seen c.step.new.out).faults = step.2.cause.later in
+    record {
+      form = record { pack = form.pack ∙ c.loop-event.invariant.form.pack; shape = form.shape ∙ c.loop-event.invariant.form.shape };
+      come = subst (λ es. HaveCome c.args.pacer.now es first c.step.new.self after) (sym (more_by pace_value events i item c.loop-event-test.true c.event-item.is))
+          (come_more c.args.pacer.now c.loop-event.pacer c.step.new.self (pace_values (take i events)) (pace_value item) step.0 first before after c.loop-event.invariant.come step.1 step.2.grown);
+      later = omega (arith, later, last);
+    }
+
+pub returns-in_err-step-clause-ends : goal.returns-in_err-step-clause-ends
+returns-in_err-step-clause-ends g c =
+    let p = err_from_is_err_and c.from_residual.result c.from_residual.ensures.1 in
+    let events = c.args.events.now in
+    let i = c.loop-event.event-index in
+    let item = c.event-item.result in
+    let step = c.in_err-step.ensures in
+    let put = step.2.grown in
+    rw (p.1) (events_cut c.args.pacer.now c.loop-event.pacer c.step.new.self (pace_values events) (pace_values (take i events)) (pace_value item) step.0 (g.O.Sink.seen c.args.out.now).bytes (g.O.Sink.seen c.loop-event.out).bytes
+    (g.O.Sink.seen c.step.new.out).bytes put.0 (split_by pace_value events i item c.loop-event-test.true c.event-item.is) c.loop-event.invariant.come step.1 put.1 put.2)
+
+pub returns-clause-ends : goal.returns-clause-ends
+returns-clause-ends g c =
+    let events = c.args.events.now in
+    let first = (g.O.Sink.seen c.args.out.now).bytes in
+    let after = (g.O.Sink.seen c.loop-event.out).bytes in
+    let whole : take c.loop-event.event-index events ≡ events = take_all c.loop-event.event-index events c.loop-event-test.false in
+    come_all c.args.pacer.now c.loop-event.pacer (pace_values events) first after (subst (λ (es : List PaceEvent). HaveCome c.args.pacer.now (pace_values es) first c.loop-event.pacer after) whole c.loop-event.invariant.come)

@@ -1,0 +1,98 @@
+-- The headline of `pace`, in the field's words: whatever asks and ticks come, a tick writes at most as many bits as the port takes, and the circuit steps only where the device has the configuration that is specialised from scratch for the values that were asked for last; so each step is a cycle of the source circuit under these values.
+use Rattle.std.specs.Prelude.{◌≡◌, ℕ, ◌≤◌, ◌<◌, Bool, List, [], ◌∷◌, length, take}
+use Rattle.std.specs.List.{concat}
+use Rattle.tl_io.specs.Assigns.{assigned}
+use Rattle.tl_io.specs.Content.{extended}
+use Rattle.tl_io.specs.Shelf.{Files}
+use Rattle.tl_io.specs.Writes.{written}
+use Rattle.aig_core.specs.Aig.{Aig}
+use Rattle.cover_pick.specs.Template.{TemplateValue}
+use Rattle.netlist.specs.Sound.{IsSound}
+use Rattle.lut_sim.specs.Cycle.{IsOnlyTableCycle}
+use Rattle.bit_fun.specs.Configuration.{IsConfiguration}
+use Rattle.param_list.specs.Parameters.{param_inits}
+use Rattle.ppc_pack.specs.Pack.{IsConf}
+use Rattle.run_text.specs.Lines.{cycle_line, ask_line, wait_line}
+use Rattle.spec_core.specs.Differences.{differences}
+use Rattle.pace_core.specs.EventValue.{PaceValue, Ask, Tick}
+use Rattle.pace_core.specs.Pace.{PacerValue, Shown, ArePaced}
+use Rattle.pace_core.specs.Stalls.{HasStalls}
+use Rattle.cmd_base.specs.Outside.{Outside}
+use Rattle.cmd_stations.specs.declared.source.Source.{Source}
+use Rattle.cmd_stations.specs.Mapped.{IsLeastMapping, template_header}
+use Rattle.cmd_stations.specs.SourceCircuit.{shape_of}
+use Rattle.cmd_stations.specs.SourceCycle.{IsSourceCycle, AreInits}
+use Rattle.cmd_pace.specs.Job.{PaceJob, IsPaceJob, IsPaceStart}
+use Rattle.cmd_pace.specs.Words.{PaceWords}
+
+-- what is shown of a source circuit: the values that were asked for last, the configuration that the device has, and the latches' states
+pub record Stage : Type 0 where
+  pub params : List Bool
+  pub config : List Bool
+  pub states : List Bool
+
+module _ (source : Source) (g : Aig) (template : TemplateValue) (rate : ℕ) where
+  -- An ask: its line tells at how many addresses the device's configuration differs from the one specialised from scratch for the new values; nothing is written, and no state changes.
+  pub record ShowsAsk (asked : List Bool) (old : Stage) (line : List ℕ) (new : Stage) : Type 0 where
+    pub wanted : List Bool
+    pub is : IsConfiguration g template.luts asked wanted
+    pub line_is : line ≡ ask_line (length (differences old.config wanted))
+    pub becomes : new ≡ record old { params = asked }
+
+  -- A tick that steps: the device has the configuration specialised from scratch for the values that were asked for last, and the outputs and the states are those of the source circuit's cycle under them.
+  pub record ShowsStep (values : List Bool) (old : Stage) (line : List ℕ) (new : Stage) : Type 0 where
+    pub is : IsConfiguration g template.luts old.params old.config
+    pub outputs : List Bool
+    pub plays : IsOnlyTableCycle template (shape_of source) old.config values old.states outputs new.states
+    pub cycle : IsSourceCycle source old.params values old.states outputs new.states
+    pub line_is : line ≡ cycle_line outputs new.states
+    pub becomes : new ≡ record old { states = new.states }
+
+  -- A tick that waits: the device has another configuration; the first bits that differ are written, as many as the port takes or all where they are fewer, and no state changes.
+  pub record ShowsWait (old : Stage) (line : List ℕ) (new : Stage) : Type 0 where
+    pub wanted : List Bool
+    pub is : IsConfiguration g template.luts old.params wanted
+    pub behind : 0 < length (differences old.config wanted)
+    pub line_is : line ≡ wait_line (take rate (differences old.config wanted))
+    pub few : length (take rate (differences old.config wanted)) ≤ rate
+    pub becomes : new ≡ record old { config = written old.config (take rate (differences old.config wanted)) }
+
+  pub data ShowsTick (values : List Bool) (old : Stage) (line : List ℕ) (new : Stage) : Type 0 where
+    steps : ShowsStep values old line new → ShowsTick values old line new
+    waits : ShowsWait old line new → ShowsTick values old line new
+
+  abbrev pub Shows : PaceValue → Stage → List ℕ → Stage → Type 0
+  Shows (Ask assigns) old line new = ShowsAsk (assigned old.params assigns) old line new
+  Shows (Tick values) old line new = ShowsTick values old line new
+
+  -- some events one after the other, with their lines
+  pub data ShowAll : Stage → List PaceValue → List (List ℕ) → Stage → Type 0 where
+    none : {old : Stage} → ShowAll old [] [] old
+    more : {old new : Stage} {events : List PaceValue} {lines : List (List ℕ)} (event : PaceValue) (line : List ℕ) (mid : Stage) → Shows event old line mid → ShowAll mid events lines new
+        → ShowAll old (event ∷ events) (line ∷ lines) new
+
+  -- the parameters' listed values, their configuration specialised from scratch, and the latches' inits
+  pub record IsFirst (first : Stage) : Type 0 where
+    pub params : first.params ≡ param_inits source.params.list
+    pub config : IsConfiguration g template.luts (param_inits source.params.list) first.config
+    pub states : AreInits source first.states
+
+-- However the machine was asked and however it ticked, the ticks that come next wait while the bits that differ then aren't written, as many a tick as the port takes, and each later tick is a cycle.
+abbrev pub StallsAnywhere : PacerValue → Type 0
+StallsAnywhere pacer = (events : List PaceValue) (shown : List Shown) (mid : PacerValue) → ArePaced pacer events shown mid → (wanted : List Bool) → IsConf mid.pack mid.params wanted → HasStalls mid (length (differences mid.config wanted))
+
+-- A job that is done shows its source circuit, by the chosen template of this netlist, list and K, which is mapped with the least depth.
+pub record HasPaceHeadline (files : Files) (words : PaceWords) (old new : Outside) : Type 0 where
+  pub job : PaceJob
+  pub is_job : IsPaceJob files words job
+  pub sound : IsSound job.source.netlist.library
+  pub least : IsLeastMapping is_job.is.mapped.mapped.graph words.source.k is_job.is.mapped.mapped.roots job.template
+  pub lines : List (List ℕ)
+  pub bytes : new.bytes ≡ extended old.bytes (concat (template_header job.template ∷ lines))
+  pub first : Stage
+  pub is_first : IsFirst job.source is_job.is.mapped.mapped.graph job.template words.rate first
+  pub end : Stage
+  pub shows : ShowAll job.source is_job.is.mapped.mapped.graph job.template words.rate first job.events lines end
+  pub pacer : PacerValue
+  pub start : IsPaceStart job words.rate pacer
+  pub stalls : StallsAnywhere pacer

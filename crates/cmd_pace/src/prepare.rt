@@ -1,0 +1,82 @@
+//! The job of `pace`, made ready to be played.
+ghost use Rattle.std.specs.Prelude.{◌≡◌, ◌≤◌, IfOk, IfErr, OnOk};
+ghost use Rattle.tl_text.specs.declared.logical_lines.TheConstants.{MOST_BYTES};
+ghost use Rattle.run_text.specs.EventValue.{event_values};
+ghost use Rattle.pace_core.specs.EventValue.{pace_values, asks_and_ticks};
+ghost use Rattle.cmd_base.specs.Ends.{Told, Explains};
+ghost use Rattle.cmd_stations.specs.Scripted.{scripted_reading};
+ghost use Rattle.cmd_stations.specs.Tables.{IsReadSource, AreMade};
+ghost use Rattle.cmd_pace.specs.Words.{pace_seen, scripted_of, IsInRange};
+ghost use Rattle.cmd_pace.specs.Ready.{CanPace, StartsPace, IsReadyFor};
+
+use crate::words::{PaceWords, scripted};
+use cmd_base::Outcome;
+use cmd_stations::{MappedSource, Scripted, latch_inits, read_scripted};
+use pace_core::{PaceEvent, Pacer, pace_events};
+use std::alloc::{AllocError, Global};
+use tl_io::Shelf;
+
+/// A job that is ready to be played: all its memory is taken.
+#[derive(Drop)]
+pub struct Ready {
+    pub pacer: Pacer,
+    pub events: Vec<PaceEvent>,
+}
+
+// The machine of a mapped source circuit at the start.
+fn start_pacer(alloc: Global, mapped: MappedSource, rate: u32) -> Result<Pacer, AllocError>
+    requires read { IsReadSource mapped.source }
+    requires tables { AreMade mapped.source mapped.tables }
+    requires rate { 1 ≤ rate }
+    ensures { IfOk result (StartsPace mapped.source mapped.tables.template rate) }
+{
+    let states = latch_inits(alloc, &mapped.source)?;
+    let MappedSource { tables, .. } = mapped;
+    let pacer = Pacer::make(
+        alloc,
+        tables.template,
+        tables.pack,
+        tables.shape,
+        &states,
+        rate,
+    )?;
+    Ok(pacer)
+}
+
+// The machine and the asks and ticks of a mapped source circuit with its script.
+fn make_ready(alloc: Global, scripted: Scripted, rate: u32) -> Result<Ready, AllocError>
+    requires read { IsReadSource scripted.mapped.source }
+    requires tables { AreMade scripted.mapped.source scripted.mapped.tables }
+    requires rate { 1 ≤ rate }
+    ensures start { IfOk result (λ r. StartsPace scripted.mapped.source scripted.mapped.tables.template rate r.pacer) }
+    ensures events { IfOk result (λ r. pace_values r.events.items ≡ asks_and_ticks (event_values scripted.events.items)) }
+{
+    let Scripted { mapped, events } = scripted;
+    let events = pace_events(alloc, events)?;
+    let pacer = start_pacer(alloc, mapped, rate)?;
+    Ok(Ready { pacer, events })
+}
+
+/// Reads and maps the files of a job in the order of work, and takes all the memory that its events need.
+///
+/// # Errors
+/// The outcome of the command: the first refusal, a read fault, or want of memory.
+pub fn prepare<S: Shelf>(alloc: Global, words: &PaceWords, shelf: &mut S) -> Result<Ready, Outcome>
+    requires { IsInRange words.now }
+    ensures ready { IfOk result (λ r. CanPace (pace_values r.events.items) r.pacer) }
+    ensures prepared { IfOk result (λ r. Told (S.seen shelf.old).files (λ files. IsReadyFor files (pace_seen words.now) r)) }
+    ensures given { OnOk result ((S.seen shelf.new).given ≤ MOST_BYTES) }
+    ensures err { IfErr result (Explains (scripted_reading (scripted_of (pace_seen words.now))) (S.seen shelf.old) (S.seen shelf.new)) }
+    ensures later { (S.seen shelf.old).read_faults ≤ (S.seen shelf.new).read_faults }
+    ensures files { (S.seen shelf.new).files ≡ (S.seen shelf.old).files }
+    ensures write_faults { (S.seen shelf.new).write_faults ≡ (S.seen shelf.old).write_faults }
+{
+    let read = match read_scripted(alloc, &scripted(words), shelf) {
+        Ok(read) => read,
+        Err(outcome) => return Err(outcome),
+    };
+    match make_ready(alloc, read, words.rate) {
+        Ok(ready) => Ok(ready),
+        Err(_) => Err(Outcome::Memory),
+    }
+}

@@ -1,0 +1,89 @@
+//! The words of `pace`.
+ghost use Rattle.std.specs.Prelude.{◌≡◌, ◌≤◌, map, string_bytes, IfSome, Some};
+ghost use Rattle.std.specs.Option.{option_map};
+ghost use Rattle.cmd_stations.specs.Words.{source_seen};
+ghost use Rattle.cmd_stations.specs.Scripted.{scripted_seen, scripted_word};
+ghost use Rattle.cmd_pace.specs.Words.{rate_of, pace_words, pace_of, pace_seen, scripted_of, IsInRange};
+
+use cmd_base::File;
+use cmd_stations::{ScriptedWords, SourceWords, read_source_words, source_name};
+use run_text::Forms;
+use tl_text::decimal;
+
+/// The source circuit, the word that names the script, and how many bits the configuration port takes a tick.
+#[derive(Clone, Copy)]
+pub struct PaceWords<'a> {
+    pub source: SourceWords<'a>,
+    pub script: &'a str,
+    pub rate: u32,
+}
+
+// How many bits a tick a word says, one at least and fewer than 2^32.
+fn rate(word: &str) -> Option<u32>
+    ensures value { result ≡ rate_of word.now }
+    ensures range { IfSome result (λ rate. 1 ≤ rate) }
+{
+    let number = decimal(word.as_bytes())?;
+    if number < 1 || number > u32::MAX as u64 {
+        return None;
+    }
+    Some(number as u32)
+}
+
+// The words of `pace` from their parts.
+fn whole<'a>(
+    source: Option<SourceWords<'a>>,
+    script: &'a str,
+    rate: Option<u32>,
+) -> Option<PaceWords<'a>>
+    ensures value { option_map (λ w. pace_seen w) result ≡ pace_words (option_map (λ s. source_seen s) source.entry) script.now rate }
+    ensures source { IfSome result (λ w. source.entry ≡ Some w.source) }
+    ensures rate { IfSome result (λ w. rate ≡ Some w.rate) }
+{
+    match (source, rate) {
+        (Some(source), Some(rate)) => Some(PaceWords {
+            source,
+            script,
+            rate,
+        }),
+        _ => None,
+    }
+}
+
+/// The words `pace K NETLIST PARAMS SCRIPT RATE`; `None` exactly where they aren't of this form.
+pub fn read_pace_words(words: &[String]) -> Option<PaceWords<'_>>
+    ensures value { option_map (λ w. pace_seen w) result ≡ pace_of (map string_bytes words.now) }
+    ensures range { IfSome result IsInRange }
+{
+    match words {
+        [command, k, netlist, params, script, bits] if command.as_str() == "pace" => whole(
+            read_source_words(k.as_str(), netlist.as_str(), params.as_str()),
+            script.as_str(),
+            rate(bits.as_str()),
+        ),
+        _ => None,
+    }
+}
+
+/// The source circuit and its script.
+pub(crate) fn scripted<'a>(words: &PaceWords<'a>) -> ScriptedWords<'a>
+    ensures { scripted_seen result ≡ scripted_of (pace_seen words.now) }
+{
+    ScriptedWords {
+        source: words.source,
+        script: words.script,
+        forms: Forms::Pace,
+    }
+}
+
+/// The word that names a file.
+pub fn pace_name<'a>(words: &PaceWords<'a>, file: File) -> &'a str
+    ensures { result.now ≡ scripted_word (scripted_of (pace_seen words.now)) file }
+{
+    match file {
+        File::Script => words.script,
+        File::Netlist | File::Params | File::Pack | File::Cert => {
+            source_name(&words.source, file)
+        }
+    }
+}

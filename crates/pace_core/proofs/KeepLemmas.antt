@@ -1,0 +1,138 @@
+-- What a pacer keeps, once parameters are asked for or the clock ticks.
+use Rattle.std.proofs.Common.{◌≡◌, ℕ, ◌<◌, ◌≤◌, Bool, false, List, [], length, take, replicate, refl, sym, ap, ◌∙◌, subst, arith}
+use Rattle.std.proofs.lemmas.List.{length-map}
+use Rattle.tl_io.specs.declared.Assign.{Assign}
+use Rattle.tl_io.specs.declared.Write.{Write}
+use Rattle.tl_io.specs.Writes.{written}
+use Rattle.aig_core.specs.Roots.{lits_of}
+use Rattle.aig_core.specs.Value.{value_of}
+use Rattle.ppc_pack.specs.Pack.{PackValue, IsConf, HasOneConf, inits_of}
+use Rattle.cover_pick.specs.Template.{TemplateValue}
+use Rattle.lut_sim.specs.declared.shape.Shape.{Shape}
+use Rattle.lut_sim.specs.Cycle.{IsTableCycle, IsOnlyTableCycle}
+use Rattle.lut_sim.specs.Sim.{SimValue}
+use Rattle.spec_core.specs.Differences.{differences}
+use Rattle.spec_core.specs.Events.{IsSet}
+use Rattle.spec_core.specs.Specialiser.{SpecialiserValue}
+use Rattle.spec_core.proofs.AssignLemmas.{length-assigned}
+use Rattle.pace_core.specs.Backlog.{BacklogValue, IsBehind, AreTurns}
+use Rattle.pace_core.specs.Keeps.{Keeps}
+use Rattle.pace_core.specs.Pace.{waited, cycled, IsTicked, steps, waits}
+use Rattle.pace_core.specs.Stalls.{HasStalls}
+use Rattle.pace_core.proofs.BacklogLemmas.{behind_nothing}
+use Rattle.pace_core.proofs.DifferenceLemmas.{no_differences}
+use Rattle.pace_core.proofs.StallLemmas.{has_stalls}
+
+-- a configuration has a bit for each of the pack's
+pub conf_length : (pack : PackValue) (params bits : List Bool) → IsConf pack params bits → length bits ≡ length pack.bits
+conf_length pack params bits conf = ap length conf.are ∙ length-map (lits_of pack.bits) (value_of conf.values) ∙ length-map pack.bits _
+
+-- two configurations under the same values are one
+conf_once : (pack : PackValue) (params bits others : List Bool) → HasOneConf pack params → IsConf pack params bits → IsConf pack params others → bits ≡ others
+conf_once pack params bits others one a b = one.only bits a ∙ sym (one.only others b)
+
+-- a pacer is made
+pub made_keeps : (s : SpecialiserValue) (b : BacklogValue) (sim : SimValue) (rate luts depth : ℕ) (pack : PackValue) → s.pack ≡ pack → s.state.params ≡ inits_of pack.params → IsConf pack (inits_of pack.params) s.state.config
+    → ((given : List Bool) → length given ≡ length pack.params → HasOneConf pack given) → b ≡ record { config = s.state.config; marks = replicate (length s.state.config) false; waiting = 0; writes = [] }
+    → length pack.bits ≡ sim.template.bits → 1 ≤ rate → luts ≡ length sim.template.luts → depth ≡ sim.template.depth → Keeps s b sim rate luts depth
+made_keeps s b sim rate luts depth pack is params conf one device bits takes luts_are depth_is = record {
+  right = subst (λ (p : PackValue). IsConf p s.state.params s.state.config) (sym is) (subst (λ (ps : List Bool). IsConf pack ps s.state.config) (sym params) conf);
+  one = subst (λ (p : PackValue). (given : List Bool) → length given ≡ length p.params → HasOneConf p given) (sym is) one;
+  params = ap length params ∙ length-map pack.params _ ∙ ap (λ (p : PackValue). length p.params) (sym is);
+  behind = subst (λ (v : BacklogValue). IsBehind v s.state.config) (sym device) (behind_nothing s.state.config);
+  bits = ap (λ (p : PackValue). length p.bits) is ∙ bits;
+  takes = takes;
+  luts_are = luts_are;
+  depth_is = depth_is;
+}
+
+module _ (s : SpecialiserValue) (b : BacklogValue) (sim : SimValue) (rate luts depth : ℕ) (keeps : Keeps s b sim rate luts depth) where
+  -- no other configuration is asked for
+  pub only_wanted : (wanted : List Bool) → IsConf s.pack s.state.params wanted → wanted ≡ s.state.config
+  only_wanted wanted conf = conf_once s.pack s.state.params wanted s.state.config (keeps.one s.state.params keeps.params) conf keeps.right
+
+  -- so many bits of the device differ from it
+  pub waits_for : (wanted : List Bool) → IsConf s.pack s.state.params wanted → b.waiting ≡ length (differences b.config wanted)
+  waits_for wanted conf = keeps.behind.waiting ∙ ap (λ (c : List Bool). length (differences b.config c)) (sym (only_wanted wanted conf))
+
+  -- the device has as many bits as the tables
+  pub config_length : length b.config ≡ sim.template.bits
+  config_length = keeps.behind.same ∙ conf_length s.pack s.state.params s.state.config keeps.right ∙ keeps.bits
+
+  -- where none differs, it has it
+  pub config_right : b.waiting ≡ 0 → IsConf s.pack s.state.params b.config
+  config_right none = subst (IsConf s.pack s.state.params) (sym (no_differences b.config s.state.config keeps.behind.same (sym keeps.behind.waiting ∙ none))) keeps.right
+
+  -- so many bits stall the circuit
+  pub keeps_stalls : HasStalls (record { pack = s.pack; params = s.state.params; config = b.config; sim = sim; rate = rate }) b.waiting
+  keeps_stalls = has_stalls (record { pack = s.pack; params = s.state.params; config = b.config; sim = sim; rate = rate }) s.state.config b.waiting keeps.takes only_wanted keeps.behind.same keeps.behind.waiting
+
+  -- the clock ticks, and the device isn't behind
+  pub tick_steps : (after : SimValue) (values : List Bool) → b.waiting ≡ 0 → IsTableCycle sim.template sim.shape b.config values sim.states after.outputs after.states → IsOnlyTableCycle sim.template sim.shape b.config values sim.states after.outputs after.states
+      → after.template ≡ sim.template → after.shape ≡ sim.shape
+      → IsTicked values (record { pack = s.pack; params = s.state.params; config = b.config; sim = sim; rate = rate }) (record { pack = s.pack; params = s.state.params; config = b.config; sim = after; rate = rate }) (cycled after.outputs after.states)
+  tick_steps after values none cycle only template shape = steps (record {
+    right = config_right none;
+    outputs = after.outputs;
+    states = after.states;
+    cycle = cycle;
+    only = only;
+    shows = refl;
+    becomes = ap (λ (t : TemplateValue). record { pack = s.pack; params = s.state.params; config = b.config; sim = record { template = t; shape = after.shape; outputs = after.outputs; states = after.states }; rate = rate }) template
+        ∙ ap (λ (h : Shape). record { pack = s.pack; params = s.state.params; config = b.config; sim = record { template = sim.template; shape = h; outputs = after.outputs; states = after.states }; rate = rate }) shape;
+  })
+
+  -- it ticks, and the device is behind
+  pub tick_waits : (config : List Bool) (writes : List Write) (values : List Bool) → 0 < b.waiting → writes ≡ take rate (differences b.config s.state.config) → config ≡ written b.config (take rate (differences b.config s.state.config))
+      → IsTicked values (record { pack = s.pack; params = s.state.params; config = b.config; sim = sim; rate = rate }) (record { pack = s.pack; params = s.state.params; config = config; sim = sim; rate = rate }) (waited writes)
+  tick_waits config writes values some are becomes = waits (record {
+    wanted = s.state.config;
+    conf = keeps.right;
+    behind = (let w : b.waiting ≡ length (differences b.config s.state.config) = keeps.behind.waiting in omega arith);
+    shows = ap waited are;
+    becomes = ap (λ (c : List Bool). record { pack = s.pack; params = s.state.params; config = c; sim = sim; rate = rate }) becomes;
+  })
+
+  -- Parameters get values.
+  module _ (new : SpecialiserValue) (assigns : List Assign) (pack : new.pack ≡ s.pack) (set : IsSet s.pack assigns s.state new.writes new.state)
+      (steady : IsConf s.pack s.state.params s.state.config → IsConf s.pack new.state.params new.state.config) where
+    -- there are as many values as before
+    as_many : length new.state.params ≡ length s.pack.params
+    as_many = ap length set.params ∙ length-assigned assigns s.state.params ∙ keeps.params
+
+    -- the configuration before is the one that was asked for
+    from_is : set.from ≡ s.state.config
+    from_is = only_wanted set.from set.before
+
+    -- the one after is that of the new values
+    to_is : set.to ≡ new.state.config
+    to_is = conf_once s.pack new.state.params set.to new.state.config (keeps.one new.state.params as_many) set.after (steady keeps.right)
+
+    -- both have as many bits
+    same_lengths : length set.from ≡ length set.to
+    same_lengths = conf_length s.pack s.state.params set.from set.before ∙ sym (conf_length s.pack new.state.params set.to set.after)
+
+    -- the device is behind the first of them
+    behind_from : IsBehind b set.from
+    behind_from = subst (IsBehind b) (sym from_is) keeps.behind
+
+    -- the bits that change are those that turn
+    pub writes_turn : AreTurns b new.writes
+    writes_turn = record { from = set.from; behind = behind_from; to = set.to; same = same_lengths; are = set.are }
+
+    -- the device is behind the new configuration
+    pub asked_behind : (after : BacklogValue) → ((from to : List Bool) → IsBehind b from → new.writes ≡ differences from to → length from ≡ length to → IsBehind after to) → IsBehind after new.state.config
+    asked_behind after turns = subst (IsBehind after) to_is (turns set.from set.to behind_from set.are same_lengths)
+
+    -- and the pacer keeps what it must
+    pub asked_keeps : (after : BacklogValue) → IsBehind after new.state.config → Keeps new after sim rate luts depth
+    asked_keeps after behind = record {
+      right = subst (λ (p : PackValue). IsConf p new.state.params new.state.config) (sym pack) (steady keeps.right);
+      one = subst (λ (p : PackValue). (given : List Bool) → length given ≡ length p.params → HasOneConf p given) (sym pack) keeps.one;
+      params = as_many ∙ ap (λ (p : PackValue). length p.params) (sym pack);
+      behind = behind;
+      bits = ap (λ (p : PackValue). length p.bits) pack ∙ keeps.bits;
+      takes = keeps.takes;
+      luts_are = keeps.luts_are;
+      depth_is = keeps.depth_is;
+    }

@@ -1,0 +1,6 @@
+mod DifferenceLemmas
+mod BacklogLemmas
+pub mod StallLemmas
+pub mod KeepLemmas
+pub mod PaceTextLemmas
+mod PaceExample

@@ -1,0 +1,122 @@
+-- A script by the forms of `ask` and `tick` has no other event, and each of its events fits.
+use Rattle.std.proofs.Common.{◌≡◌, ◌⊎◌, ℕ, Bool, List, [], ◌∷◌, length, map, Option, Some, None, codes, bytes_eq, if◌then◌else◌, refl, sym, ap, ◌∙◌, subst, inl, inr}
+use Rattle.std.specs.List.{cons_option}
+use Rattle.std.specs.Option.{option_map, option_and_then}
+use Rattle.std.proofs.lemmas.Option.{none-some, same_Some}
+use Rattle.tl_io.specs.declared.Assign.{Assign}
+use Rattle.list_laws.specs.Members.{In}
+use Rattle.list_laws.proofs.Choice.{choose}
+use Rattle.list_laws.proofs.Members.{In-get, place_in}
+use Rattle.tl_text.specs.LineValue.{WordsLine, words_line}
+use Rattle.run_text.specs.Each.{in_front, each_of}
+use Rattle.run_text.specs.EventValue.{EventValue, Set, Cycle, Upset, Scrub, Image}
+use Rattle.run_text.specs.Fits.{Fits as RunFits}
+use Rattle.run_text.specs.NamesValue.{NamesValue}
+use Rattle.run_text.specs.Sayings.{sets, cycles, form_of, said_by, said_of, settings_of, bits_of, only}
+use Rattle.run_text.specs.ScriptText.{assign_of, event_of, line_event, IsScript}
+use Rattle.run_text.specs.declared.event.Forms.TheVariants.{Pace}
+use Rattle.run_text.specs.declared.setting.Setting.{Setting}
+use Rattle.run_text.proofs.EachLemmas.{each_at, each_once}
+use Rattle.run_text.proofs.ScriptOnceLemmas.{one_reading}
+use Rattle.pace_core.specs.EventValue.{PaceValue, Ask, Tick, pace_of, asks_and_ticks, Fits}
+use Rattle.pace_core.specs.PaceText.{ArePaced, HasOneReading}
+
+-- an event that is an ask or a tick
+pub record HasPace (event : EventValue) : Type 0 where
+  pub pace : PaceValue
+  pub is : pace_of event ≡ Some pace
+
+-- a set is an ask
+assigns_paced : (o : Option (List Assign)) (event : EventValue) → option_map Set o ≡ Some event → HasPace event
+assigns_paced None event is = absurd (none-some event is)
+assigns_paced (Some assigns) event is = subst HasPace (same_Some (Set assigns) event is) (record { pace = Ask assigns; is = refl })
+
+-- so the settings of a line are an ask
+settings_paced : (params : List (List ℕ)) (o : Option (List Setting)) (event : EventValue) → option_and_then (event_of params) (option_map sets o) ≡ Some event → HasPace event
+settings_paced params None event is = absurd (none-some event is)
+settings_paced params (Some settings) event is = assigns_paced (each_of (assign_of params) settings) event is
+
+-- a cycle is a tick
+values_paced : (params : List (List ℕ)) (o : Option (List Bool)) (event : EventValue) → option_and_then (event_of params) (option_map cycles o) ≡ Some event → HasPace event
+values_paced params None event is = absurd (none-some event is)
+values_paced params (Some values) event is = subst HasPace (same_Some (Cycle values) event is) (record { pace = Tick values; is = refl })
+
+-- what such a line says by its form is an ask or a tick
+abbrev Says : List (List ℕ) → List (List ℕ) → List ℕ → Type 0
+Says params rest form = (event : EventValue) → option_and_then (event_of params) (said_by form rest) ≡ Some event → HasPace event
+
+-- by these forms each word says one of them, or nothing
+form_paced : (params rest : List (List ℕ)) (word : List ℕ) → Says params rest (form_of Pace word)
+form_paced params rest word = choose (Says params rest) (bytes_eq word (codes "ask")) (codes "set") (if bytes_eq word (codes "tick") then codes "cycle" else [])
+    (λ ask event is. settings_paced params (settings_of rest) event is)
+    (λ other. choose (Says params rest) (bytes_eq word (codes "tick")) (codes "cycle") []
+    (λ tick event is. values_paced params (option_and_then bits_of (only rest)) event is)
+    (λ none event is. absurd (none-some event is)))
+
+-- so do the words of a line
+words_paced : (params words : List (List ℕ)) (event : EventValue) → option_and_then (event_of params) (said_of Pace words) ≡ Some event → HasPace event
+words_paced params [] event is = absurd (none-some event is)
+words_paced params (word ∷ rest) event is = form_paced params rest word event is
+
+-- so does a line of a script by these forms
+line_paced : (names : NamesValue) (line : WordsLine) (event : EventValue) → names.forms ≡ Pace → line_event names line ≡ Some event → HasPace event
+line_paced names line event forms is = words_paced names.params line.words event (ap (λ f. option_and_then (event_of names.params) (said_of f line.words)) (sym forms) ∙ is)
+
+-- where each event is an ask or a tick, those that are are all of them
+front_kept : (o : Option PaceValue) (rest : Option (List PaceValue)) (kept : List PaceValue) (pace : PaceValue) → o ≡ Some pace → rest ≡ Some kept → in_front o rest ≡ Some (cons_option o kept)
+front_kept None rest kept pace is later = absurd (none-some pace is)
+front_kept (Some first) rest kept pace is later = ap (in_front (Some first)) later
+
+each_paced : (events : List EventValue) → ((event : EventValue) → In events event → HasPace event) → ArePaced events (asks_and_ticks events)
+each_paced [] all = refl
+each_paced (event ∷ events) all =
+    let first = all event (inl refl) in
+    front_kept (pace_of event) (each_of pace_of events) (asks_and_ticks events) first.pace first.is (each_paced events (λ e i. all e (inr i)))
+
+-- and so are those of a script by these forms
+pub script_paced : (names : NamesValue) (text : List ℕ) (read : List EventValue) → names.forms ≡ Pace → IsScript names text read → ArePaced read (asks_and_ticks read)
+script_paced names text read forms script = each_paced read (λ event i.
+    let p = place_in read event i in
+    let l = each_at (line_event names) (map (words_line text) script.lines) read p.0 event (script.are).are p.1 in
+    line_paced names l.source event forms l.is)
+
+-- an event of a script that fits what may be named fits so many parameters and regular inputs
+event_fits : (names : NamesValue) (width : ℕ) (event : EventValue) (pace : PaceValue) → names.width ≡ Some width → pace_of event ≡ Some pace → RunFits names event → Fits (length names.params) width pace
+event_fits names width (Set assigns) pace wide is fits = subst (Fits (length names.params) width) (same_Some (Ask assigns) pace is) fits
+event_fits names width (Cycle values) pace wide is fits = subst (Fits (length names.params) width) (same_Some (Tick values) pace is) (same_Some (length values) width (sym fits ∙ wide))
+event_fits names width (Upset address) pace wide is fits = absurd (none-some pace is)
+event_fits names width Scrub pace wide is fits = absurd (none-some pace is)
+event_fits names width Image pace wide is fits = absurd (none-some pace is)
+
+-- so do all of them
+-- so the asks and the ticks among events that fit do
+front_from : (o : Option PaceValue) (kept : List PaceValue) (pace : PaceValue) → In (cons_option o kept) pace → (o ≡ Some pace) ⊎ In kept pace
+front_from None kept pace i = inr i
+front_from (Some first) kept pace (inl e) = inl (ap (λ p. Some p) (sym e))
+front_from (Some first) kept pace (inr i) = inr i
+
+pub kept_fit : (names : NamesValue) (width : ℕ) (read : List EventValue) → names.width ≡ Some width → ((event : EventValue) → In read event → RunFits names event)
+    → (pace : PaceValue) → In (asks_and_ticks read) pace → Fits (length names.params) width pace
+kept_fit names width [] wide fits pace i = absurd i
+kept_fit names width (event ∷ read) wide fits pace i = elim (front_from (pace_of event) (asks_and_ticks read) pace i) [
+  | inl e ↦ event_fits names width event pace wide e (fits event (inl refl))
+  | inr j ↦ kept_fit names width read wide (λ e k. fits e (inr k)) pace j
+]
+
+-- and those of a script
+pub events_fit : (names : NamesValue) (width : ℕ) (read : List EventValue) (paced : List PaceValue) → names.width ≡ Some width → ArePaced read paced → ((event : EventValue) → In read event → RunFits names event)
+    → (pace : PaceValue) → In paced pace → Fits (length names.params) width pace
+events_fit names width read paced wide are fits pace i =
+    let p = place_in paced pace i in
+    let e = each_at pace_of read paced p.0 pace are p.1 in
+    event_fits names width e.source pace wide e.is (fits e.source (In-get read p.0 e.source e.there))
+
+-- a text is one script at most, or has one refusal at most, and never both
+pub one_pace_reading : (names : NamesValue) (text : List ℕ) → HasOneReading names text
+one_pace_reading names text = record {
+  one_script = λ events others a b.
+      let same : a.read ≡ b.read = (one_reading names text).one_script a.read b.read a.is b.is in
+      each_once pace_of b.read events others (ap (each_of pace_of) (sym same) ∙ a.are) b.are;
+  one_fault = (one_reading names text).one_fault;
+  not_both = λ events e a. (one_reading names text).not_both a.read e a.is;
+}

@@ -1,0 +1,8 @@
+use Rattle.std.proofs.Common.{◌≡◌, ◌++◌}
+use Rattle.std.specs.Vec.Iter.{into_iter_items}
+use Rattle.run_text.specs.EventValue.{event_values}
+use Rattle.pace_core.specs.EventValue.{pace_values, asks_and_ticks}
+use Rattle.pace_core.proofs.text.pace_events.Given as goal
+
+abbrev pub invariant-loop-event : goal.invariant-loop-event
+invariant-loop-event l = pace_values l.events.items ++ asks_and_ticks (event_values (into_iter_items l.event-iterator)) ≡ asks_and_ticks (event_values l.fn.read.items)

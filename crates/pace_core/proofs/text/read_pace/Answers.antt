@@ -1,0 +1,21 @@
+use Rattle.std.proofs.Common.{List, sym, subst}
+use Rattle.run_text.specs.EventValue.{event_values}
+use Rattle.pace_core.specs.EventValue.{PaceValue, pace_values}
+use Rattle.pace_core.specs.PaceText.{ArePaced}
+use Rattle.pace_core.proofs.PaceTextLemmas.{script_paced, events_fit}
+use Rattle.pace_core.proofs.text.read_pace.Goals as goal
+
+pub returns-clause-events : goal.returns-clause-events
+returns-clause-events c =
+    let read = event_values c.in_ok-read.read.items in
+    record {
+      read = read;
+      is = c.in_ok-read.ensures.events;
+      are = subst (λ (es : List PaceValue). ArePaced read es) (sym c.in_ok-events.ensures) (script_paced c.args.names.now c.args.text.now read c.requires.forms c.in_ok-read.ensures.events);
+    }
+
+pub returns-clause-fit : goal.returns-clause-fit
+returns-clause-fit c = λ width wide.
+    let read = event_values c.in_ok-read.read.items in
+    events_fit c.args.names.now width read (pace_values c.in_ok-events.events.items) wide
+    (subst (λ (es : List PaceValue). ArePaced read es) (sym c.in_ok-events.ensures) (script_paced c.args.names.now c.args.text.now read c.requires.forms c.in_ok-read.ensures.events)) c.in_ok-read.ensures.fit

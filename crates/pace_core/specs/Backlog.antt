@@ -1,0 +1,59 @@
+-- A device and what it is behind by: marks at all addresses at which its configuration differs from the wanted one, and perhaps at others, and how many differ.
+use Rattle.std.specs.Prelude.{◌≡◌, ℕ, ◌-◌, ◌<◌, ◌≤◌, Bool, true, not, List, [], ◌∷◌, ◌++◌, length, slice_set}
+use Rattle.std.specs.List.{filter, range_with_len}
+use Rattle.tl_io.specs.declared.Write.{Write}
+use Rattle.tl_io.specs.Writes.{written}
+use Rattle.ppc_pack.specs.declared.pack.TheConstants.{MOST_PACK_BITS}
+use Rattle.dirty_idx.specs.Marks.{is_marked}
+use Rattle.spec_core.specs.Differences.{config_bit, differs_at, differences}
+
+pub record BacklogValue : Type 0 where
+  pub config : List Bool
+  pub marks : List Bool
+  pub waiting : ℕ
+  -- the writes of the last tick that waited
+  pub writes : List Write
+
+pub record IsBehind (b : BacklogValue) (wanted : List Bool) : Type 0 where
+  pub same : length b.config ≡ length wanted
+  pub marks : length b.marks ≡ length wanted
+  pub marked : (address : ℕ) → differs_at b.config wanted address ≡ true → is_marked b.marks address ≡ true
+  pub waiting : b.waiting ≡ length (differences b.config wanted)
+
+-- a configuration has no more bits than a pack, and there is room for a write of each
+pub record HasRoom (config : List Bool) (capacity : ℕ) : Type 0 where
+  pub few : length config ≤ MOST_PACK_BITS
+  pub room : length config ≤ capacity
+
+-- a wanted bit turns: the device is behind a configuration in which it is the other one
+pub record IsTurn (b : BacklogValue) (write : Write) : Type 0 where
+  pub from : List Bool
+  pub behind : IsBehind b from
+  pub within : write.address < length from
+  pub other : config_bit from write.address ≡ not write.bit
+
+-- the device is behind a configuration that these bits make another one of
+pub record AreTurns (b : BacklogValue) (changed : List Write) : Type 0 where
+  pub from : List Bool
+  pub behind : IsBehind b from
+  pub to : List Bool
+  pub same : length from ≡ length to
+  pub are : changed ≡ differences from to
+
+-- one more bit written, at an address at which the device was behind
+abbrev pub with_write : BacklogValue → ℕ → Bool → BacklogValue
+with_write b address bit = record b { config = slice_set b.config address bit; waiting = b.waiting - 1; writes = b.writes ++ record { address = address; bit = bit } ∷ [] }
+
+-- the marked addresses
+abbrev pub marked : List Bool → List ℕ
+marked marks = filter (is_marked marks) (range_with_len 0 (length marks))
+
+-- A mark is taken, with the first of the differences sent where it is the one at its address, else with none.
+pub record IsCaughtUp (wanted : List Bool) (old new : BacklogValue) : Type 0 where
+  pub behind : IsBehind new wanted
+  pub fewer : length (marked new.marks) < length (marked old.marks)
+  pub sent : List Write
+  pub few : length sent ≤ 1
+  pub before : differences old.config wanted ≡ sent ++ differences new.config wanted
+  pub writes : new.writes ≡ old.writes ++ sent
+  pub config : new.config ≡ written old.config sent

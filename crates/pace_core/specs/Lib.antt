@@ -1,0 +1,8 @@
+-- What public clauses say.
+pub mod EventValue
+pub mod PaceText
+pub mod Pace
+pub mod Stalls
+-- What only bodies are compared with.
+pub mod Backlog
+pub mod Keeps

@@ -1,0 +1,77 @@
+-- The machine at a limited rate, as a relation over configurations that are specialised from scratch (`IsConf`): the values that were asked for last, the configuration that the device has, and the circuit with its states.
+use Rattle.std.specs.Prelude.{◌≡◌, ℕ, ◌<◌, Bool, List, [], ◌∷◌, length, take}
+use Rattle.tl_io.specs.declared.Assign.{Assign}
+use Rattle.tl_io.specs.declared.Write.{Write}
+use Rattle.tl_io.specs.Assigns.{assigned}
+use Rattle.tl_io.specs.Writes.{written}
+use Rattle.ppc_pack.specs.Pack.{PackValue, IsConf}
+use Rattle.lut_sim.specs.Cycle.{IsTableCycle, IsOnlyTableCycle}
+use Rattle.lut_sim.specs.Sim.{SimValue}
+use Rattle.run_text.specs.Lines.{cycle_line, ask_line, wait_line}
+use Rattle.spec_core.specs.Differences.{differences}
+use Rattle.pace_core.specs.EventValue.{PaceValue, Ask, Tick, Fits}
+
+pub record PacerValue : Type 0 where
+  pub pack : PackValue
+  pub params : List Bool
+  pub config : List Bool
+  pub sim : SimValue
+  -- how many bits the port takes at a tick
+  pub rate : ℕ
+
+-- what an event shows: how many bits differ from those that are asked for, the bits that a tick wrote, or a cycle's outputs and the states after it
+pub data Shown : Type 0 where
+  asked : ℕ → Shown
+  waited : List Write → Shown
+  cycled : List Bool → List Bool → Shown
+
+-- its line
+abbrev pub shown_line : Shown → List ℕ
+shown_line (asked count) = ask_line count
+shown_line (waited writes) = wait_line writes
+shown_line (cycled outputs states) = cycle_line outputs states
+
+-- An ask: the values change, and nothing is written.
+pub record IsAsked (assigns : List Assign) (old new : PacerValue) (shown : Shown) : Type 0 where
+  pub wanted : List Bool
+  pub conf : IsConf old.pack (assigned old.params assigns) wanted
+  pub shows : shown ≡ asked (length (differences old.config wanted))
+  pub becomes : new ≡ record old { params = assigned old.params assigns }
+
+-- A tick at which the device has the configuration of the values: a cycle of the tables under it, and the only one.
+pub record IsStep (values : List Bool) (old new : PacerValue) (shown : Shown) : Type 0 where
+  pub right : IsConf old.pack old.params old.config
+  pub outputs : List Bool
+  pub states : List Bool
+  pub cycle : IsTableCycle old.sim.template old.sim.shape old.config values old.sim.states outputs states
+  pub only : IsOnlyTableCycle old.sim.template old.sim.shape old.config values old.sim.states outputs states
+  pub shows : shown ≡ cycled outputs states
+  pub becomes : new ≡ record old { sim = record old.sim { outputs = outputs; states = states } }
+
+-- A tick at which it has another one: the first bits that differ are written, and nothing else changes.
+pub record IsWait (old new : PacerValue) (shown : Shown) : Type 0 where
+  pub wanted : List Bool
+  pub conf : IsConf old.pack old.params wanted
+  pub behind : 0 < length (differences old.config wanted)
+  pub shows : shown ≡ waited (take old.rate (differences old.config wanted))
+  pub becomes : new ≡ record old { config = written old.config (take old.rate (differences old.config wanted)) }
+
+pub data IsTicked (values : List Bool) (old new : PacerValue) (shown : Shown) : Type 0 where
+  steps : IsStep values old new shown → IsTicked values old new shown
+  waits : IsWait old new shown → IsTicked values old new shown
+
+-- what an event makes of the machine, and what it shows
+abbrev pub IsPaced : PaceValue → PacerValue → PacerValue → Shown → Type 0
+IsPaced (Ask assigns) old new shown = IsAsked assigns old new shown
+IsPaced (Tick values) old new shown = IsTicked values old new shown
+
+-- events one after the other, what each shows, and the machine behind them
+abbrev pub ArePaced : PacerValue → List PaceValue → List Shown → PacerValue → Type 0
+ArePaced old [] [] new = new ≡ old
+ArePaced old [] (one ∷ shown) new = ⊥
+ArePaced old (event ∷ events) [] new = ⊥
+ArePaced old (event ∷ events) (one ∷ shown) new = (next : PacerValue) × IsPaced event old next one × ArePaced next events shown new
+
+-- an event fits the machine: it names parameters of the pack, each once, or has a value for each regular input
+abbrev pub FitsPacer : PacerValue → PaceValue → Type 0
+FitsPacer pacer event = Fits (length pacer.pack.params) pacer.sim.shape.regular event

@@ -1,0 +1,11 @@
+//! The events of a script at a limited rate.
+use tl_io::Assign;
+
+/// An event of a script at a limited rate.
+#[derive(Debug, Drop)]
+pub enum PaceEvent {
+    /// Some parameters get values, each parameter once; nothing is written yet.
+    Ask(Vec<Assign>),
+    /// The clock ticks, with these values of the regular inputs in their order.
+    Tick(Vec<bool>),
+}
