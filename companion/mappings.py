@@ -26,13 +26,15 @@ class Sizes:
         return [self.refusal, "", ""] if self.refusal else [str(self.tables), str(self.depth), str(self.bits)]
 
 
-def sizes_by_tlut(program: str, size: int, netlist: str, parameters: str, folder: str) -> Sizes:
-    """The sizes that `tlut map` tells for tables of so many inputs."""
+def sizes_by_tlut(program: str, size: int, netlist: str, parameters: str, folder: str, *rule: str) -> Sizes:
+    """The sizes that `tlut map` tells for tables of so many inputs; with a word for the rule where the program knows it."""
     files = [os.path.abspath(it) for it in (netlist, parameters)]
-    ran = tools.run([program, "map", str(size), *files, f"{folder}/template.blif", f"{folder}/bits.ppc"], folder)
+    ran = tools.run([program, *rule, "map", str(size), *files, f"{folder}/template.blif", f"{folder}/bits.ppc"], folder)
     header = parse_header(ran.stdout.strip())
     if ran.returncode == 0 and header and header.tables is not None and header.depth is not None:
         return Sizes(header.tables, header.depth, header.bits)
+    if rule and ran.returncode == 2:
+        return Sizes(refusal="-")
     told = (ran.stderr.strip().splitlines() or [f"{program} ended with status {ran.returncode}"])[-1]
     fault = parse_fault(told)
     if fault and fault.code.startswith("L"):

@@ -1,6 +1,6 @@
-"""Proves and builds the program, and tells on standard error how far it is. `./tlut` calls it.
+"""Proves and builds both programs, and tells on standard error how far it is. `./tlut` calls it.
 
-The crates that the program stands on are copied to a folder of their own, without wrong bodies, and the gate runs there: it proves
+The crates that the programs stand on are copied to a folder of their own, without wrong bodies, and the gate runs there: it proves
 independent crates side by side, gives idle processors to those that others wait for, and keeps on this machine what it proved.
 So a later gate, or a later call, proves none of it again.
 
@@ -17,7 +17,7 @@ import threading
 import time
 
 TOP = os.path.dirname(os.path.dirname(os.path.abspath(__file__)))
-PROGRAM = "tlut"
+PROGRAMS = ["tlut", "tlut_compact"]
 # What a check reads of a crate, and what its program is run on.
 PARTS = ["src", "specs", "proofs", "stdin", "stdout", "args", "status", "data"]
 # After so many seconds without a line one says that the work goes on.
@@ -67,9 +67,9 @@ def read_lines():
     return lines, {name: [it for it in line.split(":")[1].split() if it in lines] for name, line in lines.items()}
 
 
-def below(uses, name):
-    """Returns the crates that a crate stands on, with itself."""
-    found, left = set(), [name]
+def below(uses, names):
+    """Returns the crates that some crates stand on, with these."""
+    found, left = set(), list(names)
     while left:
         it = left.pop()
         if it not in found:
@@ -79,9 +79,9 @@ def below(uses, name):
 
 
 def copy_crates(room):
-    """Copies what the program is made from, and returns how many crates that are."""
+    """Copies what the programs are made from, and returns how many crates that are."""
     lines, uses = read_lines()
-    names = below(uses, PROGRAM)
+    names = below(uses, PROGRAMS)
     shutil.copy(f"{TOP}/HANDLES", room)
     with open(f"{room}/crates.txt", "w", encoding="utf-8") as file:
         file.writelines(lines[it] for it in lines if it in names)
@@ -108,14 +108,14 @@ def prove(room, voice, log):
     return gate.returncode == 0
 
 
-def place(made, begun):
-    """Puts the program that was made in its place, all at once, as old as the copy of the sources, so that a later edit tells."""
-    folder = f"{TOP}/crates/{PROGRAM}/out"
+def place(room, name, begun):
+    """Puts a program that was made in its place, all at once, as old as the copy of the sources, so that a later edit tells."""
+    folder = f"{TOP}/crates/{name}/out"
     os.makedirs(folder, exist_ok=True)
-    new = f"{folder}/{PROGRAM}.{os.getpid()}"
-    shutil.copy(made, new)
+    new = f"{folder}/{name}.{os.getpid()}"
+    shutil.copy(f"{room}/crates/{name}/out/{name}", new)
     os.utime(new, (begun, begun))
-    os.replace(new, f"{folder}/{PROGRAM}")
+    os.replace(new, f"{folder}/{name}")
 
 
 def main():
@@ -129,7 +129,8 @@ def main():
         if not is_proved:
             print(f"tlut: the program was not proved; see {sys.argv[1]}", file=sys.stderr)
             return 1
-        place(f"{room}/crates/{PROGRAM}/out/{PROGRAM}", begun)
+        for name in PROGRAMS:
+            place(room, name, begun)
     return 0
 
 

@@ -194,6 +194,10 @@ def size_rows(study: Study, room: str) -> list[tuple[str, Callable[[int], Sizes]
     write_text(f"{room}/constants.blif", abc_text(library, read_parameters(study.parameters)))
     return [
         (f"`tlut`, {study.title} as parameters", lambda k: sizes_by_tlut(program, k, study.netlist, study.parameters, room)),
+        (
+            f"`tlut-compact`, {study.title} as parameters",
+            lambda k: sizes_by_tlut(program, k, study.netlist, study.parameters, room, "--compact"),
+        ),
         (f"`tlut`, {study.title} as inputs", lambda k: sizes_by_tlut(program, k, study.netlist, f"{room}/none.par", room)),
         (f"ABC `if`, {study.title} as inputs", lambda k: sizes_by_abc(abc, k, "inputs.blif", "", room)),
         (f"ABC `if -a`, {study.title} as inputs", lambda k: sizes_by_abc(abc, k, "inputs.blif", " -a", room)),

@@ -1,8 +1,8 @@
-"""Puts the program, its companion and its page below a prefix. `./tlut install PREFIX` calls it, once the program is built.
+"""Puts the programs, their companion and their page below a prefix. `./tlut install PREFIX` calls it, once the programs are built.
 
     python3 tools/install.py PREFIX VERSION
 
-PREFIX/lib/tlut has the files, PREFIX/bin links to `tlut` and, as `tlut-flow`, to the companion, and PREFIX/share/man/man1/tlut.1 is the
+PREFIX/lib/tlut has the files, PREFIX/bin links to `tlut`, to it as `tlut-compact` and, as `tlut-flow`, to the companion, and PREFIX/share/man/man1/tlut.1 is the
 page, made from the text of `tlut --help`. What an earlier call left in PREFIX/lib/tlut is replaced.
 """
 
@@ -12,8 +12,14 @@ import sys
 
 TOP = os.path.dirname(os.path.dirname(os.path.abspath(__file__)))
 # What is copied, and where it goes below PREFIX/lib/tlut.
-FILES = [("tlut", "tlut"), ("flow", "flow"), ("crates/tlut/out/tlut", "program/tlut"), ("tools/help.txt", "tools/help.txt")]
-LINKS = [("bin/tlut", "../lib/tlut/tlut"), ("bin/tlut-flow", "../lib/tlut/flow")]
+FILES = [
+    ("tlut", "tlut"),
+    ("flow", "flow"),
+    ("crates/tlut/out/tlut", "program/tlut"),
+    ("crates/tlut_compact/out/tlut_compact", "program/tlut_compact"),
+    ("tools/help.txt", "tools/help.txt"),
+]
+LINKS = [("bin/tlut", "../lib/tlut/tlut"), ("bin/tlut-compact", "../lib/tlut/tlut"), ("bin/tlut-flow", "../lib/tlut/flow")]
 
 
 def escaped(line):
@@ -60,7 +66,7 @@ def main():
     except OSError as error:
         print(f"tlut: {error.filename}: {error.strerror}", file=sys.stderr)
         return 1
-    print(f"{prefix}/bin/tlut, {prefix}/bin/tlut-flow and {prefix}/share/man/man1/tlut.1 are there")
+    print(f"{prefix}/bin/tlut, {prefix}/bin/tlut-compact, {prefix}/bin/tlut-flow and {prefix}/share/man/man1/tlut.1 are there")
     return 0
 
 

@@ -19,6 +19,7 @@ HELP = "tables, depth and bits at each K beside ABC's"
 DESCRIPTION = """Maps a netlist at each K, and puts the sizes out in one table:
 
   tunable     by tlut, with the parameters of the list
+  compact     the same by tlut --compact; - where the program that is named is not the one that has both rules
   inputs      by tlut, with the parameters as ordinary inputs
   if, if -a   by ABC's mapper with the parameters as inputs, for little depth and for little area, over the same graph
 
@@ -35,13 +36,13 @@ def add_words(parser: argparse.ArgumentParser) -> None:
 
 
 def sizes(given: argparse.Namespace, program: str, abc: str, folder: str) -> dict[int, list[Sizes]]:
-    """For each K the sizes of the four columns."""
+    """For each K the sizes of the five columns."""
     write_text(f"{folder}/none.par", "")
     write_text(f"{folder}/source.blif", abc_text(read_library(given.netlist), {}))
     found = {}
     for size in given.k or range(2, 7):
-        lists = [given.params, f"{folder}/none.par"]
-        found[size] = [sizes_by_tlut(program, size, given.netlist, it, folder) for it in lists]
+        calls = [(given.params, ()), (given.params, ("--compact",)), (f"{folder}/none.par", ())]
+        found[size] = [sizes_by_tlut(program, size, given.netlist, listed, folder, *rule) for listed, rule in calls]
         found[size] += [sizes_by_abc(abc, size, "source.blif", words, folder) for words in ("", " -a")]
     return found
 
@@ -53,7 +54,7 @@ def run(given: argparse.Namespace) -> int:
     parameters = len(read_parameters(given.params))
     with tempfile.TemporaryDirectory(prefix="flow-") as folder:
         found = sizes(given, program, abc, folder)
-    heads = [["", *(cell for title in ("tunable", "inputs", "if", "if -a") for cell in (title, "", ""))], ["K", *["tables", "depth", "bits"] * 4]]
+    heads = [["", *(cell for title in ("tunable", "compact", "inputs", "if", "if -a") for cell in (title, "", ""))], ["K", *["tables", "depth", "bits"] * 5]]
     print(f"{os.path.basename(given.netlist)}, {count(parameters, 'parameter')}")
     print("\n".join(grid([*heads, *([str(size), *(cell for it in row for cell in it.cells())] for size, row in found.items())])))
     return 0

@@ -12,7 +12,9 @@ from companion.tests.helpers import DATA, EXAMPLES, MUX, MUX_PACK, MUX_TEMPLATE,
 from companion.tools import ABC
 
 # Stands for the program: `map` tells the same header for every list.
-FAKE = "#!/bin/sh\n[ $2 = 6 ] && { echo 'tlut: n.blif: L4 NodeCuts node 9' >&2; exit 4; }\necho luts 1 bits 4 depth 1\n"
+FAKE = "#!/bin/sh\n[ $1 = --compact ] && shift\n[ $2 = 6 ] && { echo 'tlut: n.blif: L4 NodeCuts node 9' >&2; exit 4; }\necho luts 1 bits 4 depth 1\n"
+# And for one that has one rule alone.
+ONE_RULE = "#!/bin/sh\n[ $1 = --compact ] && exit 2\necho luts 1 bits 4 depth 1\n"
 
 
 class Form(unittest.TestCase):
@@ -61,8 +63,8 @@ class Check(InFolder):
 
 
 class Compare(InFolder):
-    def fake(self) -> str:
-        path = self.put("tlut", FAKE)
+    def fake(self, text: str = FAKE) -> str:
+        path = self.put("tlut", text)
         os.chmod(path, stat.S_IRWXU)
         return path
 
@@ -72,8 +74,13 @@ class Compare(InFolder):
         ran = flow(*words)
         lines = [line.split() for line in ran.stdout.splitlines()]
         self.assertEqual(lines[0], ["n.blif,", "1", "parameter"], ran.stderr)
-        self.assertEqual(lines[3], ["3", "1", "1", "4", "1", "1", "4", "1", "1", "8", "1", "1", "8"])
-        self.assertEqual(lines[4], ["6", "L4", "L4", "1", "1", "8", "1", "1", "8"])
+        self.assertEqual(lines[3], ["3", *["1", "1", "4"] * 3, "1", "1", "8", "1", "1", "8"])
+        self.assertEqual(lines[4], ["6", "L4", "L4", "L4", "1", "1", "8", "1", "1", "8"])
+
+    @needs(ABC)
+    def test_a_program_of_one_rule(self):
+        words = ("compare", self.put("n.blif", MUX), self.put("n.par", "p 0\n"), "--tlut", self.fake(ONE_RULE), "--k", "3")
+        self.assertEqual(flow(*words).stdout.splitlines()[3].split()[:5], ["3", "1", "1", "4", "-"])
 
     @needs(ABC)
     def test_faults(self):

@@ -14,6 +14,8 @@ from companion.tests.helpers import TOP, InFolder
 
 # Stands for the program: it shows its words, and ends with a status of its own.
 PROGRAM = '#!/bin/sh\nfor word in "$@"; do printf "<%s>" "$word"; done\nprintf fault >&2\nexit 7\n'
+# And for the one for few tables.
+COMPACT = '#!/bin/sh\nprintf "compact"; for word in "$@"; do printf "<%s>" "$word"; done\nexit 3\n'
 
 
 class Wrapper(InFolder):
@@ -26,10 +28,12 @@ class Wrapper(InFolder):
         shutil.copytree(f"{TOP}/tools", f"{self.top}/tools", ignore=shutil.ignore_patterns("__pycache__"))
         shutil.copytree(f"{TOP}/companion", f"{self.top}/companion", ignore=shutil.ignore_patterns("__pycache__"))
         os.makedirs(f"{self.top}/crates/tlut/out")
+        os.makedirs(f"{self.top}/crates/tlut_compact/out")
         for name in ("crates.txt", "crates/tlut/main.rt"):
             self.put(f"top/{name}", "")
             os.utime(f"{self.top}/{name}", (1, 1))
         os.chmod(self.put("top/crates/tlut/out/tlut", PROGRAM), 0o755)
+        os.chmod(self.put("top/crates/tlut_compact/out/tlut_compact", COMPACT), 0o755)
 
     def call(self, path: str, *words: str) -> subprocess.CompletedProcess:
         return subprocess.run([path, *words], capture_output=True, text=True, cwd=self.folder, check=False)
@@ -38,6 +42,16 @@ class Wrapper(InFolder):
         for words in ((), ("",), ("run", "4", "a b", "*", "$x", "-", "\\", "é"), ("help", "run"), ("--help", ""), ("--version", "x"), ("-x",)):
             ran = self.call(f"{self.top}/tlut", *words)
             self.assertEqual((ran.returncode, ran.stdout, ran.stderr), (7, "".join(f"<{word}>" for word in words), "fault"))
+
+    def test_the_program_for_few_tables(self):
+        os.symlink("top/tlut", f"{self.folder}/tlut-compact")
+        for words in ((), ("run", "4", "a b"), ("--compact",), ("help", "run")):
+            shown = "compact" + "".join(f"<{word}>" for word in words)
+            ran = self.call(f"{self.top}/tlut", "--compact", *words)
+            self.assertEqual((ran.returncode, ran.stdout, ran.stderr), (3, shown, ""))
+        self.assertEqual(self.call("./tlut-compact", "x").stdout, "compact<x>")
+        self.assertEqual(self.call("./tlut-compact", "--compact", "x").stdout, "compact<x>")
+        self.assertTrue(self.call(f"{self.top}/tlut", "--compact", "--help").stdout.startswith("TLUT Flow maps"))
 
     def test_links(self):
         os.makedirs(f"{self.folder}/a b")
@@ -73,6 +87,8 @@ class Wrapper(InFolder):
             self.assertEqual(ran.returncode, 0, ran.stderr)
         shutil.rmtree(self.top)
         self.assertEqual(self.call(f"{prefix}/bin/tlut", "run", "x").stdout, "<run><x>")
+        self.assertEqual(self.call(f"{prefix}/bin/tlut", "--compact", "run", "x").stdout, "compact<run><x>")
+        self.assertEqual(self.call(f"{prefix}/bin/tlut-compact", "run", "x").stdout, "compact<run><x>")
         self.assertEqual(self.call(f"{prefix}/bin/tlut", "--version").stdout, "TLUT Flow, of no known commit\n")
         self.assertTrue(self.call(f"{prefix}/bin/tlut", "-h").stdout.startswith("TLUT Flow maps"))
         self.assertIn("usage: tlut-flow", self.call(f"{prefix}/bin/tlut-flow", "--help").stdout)

@@ -1,5 +1,6 @@
 -- The words of `prove` and `audit`.
 use Rattle.std.specs.Prelude.{ℕ, if◌then◌else◌, List, [], ◌∷◌, bytes_eq, Option, Some, None}
+use Rattle.cover_pick.specs.declared.rule.Rule.TheVariants.{FewestLeaves}
 use Rattle.cmd_base.specs.declared.outcome.File.{File}
 use Rattle.cmd_base.specs.declared.outcome.File.TheVariants.{Cert}
 use Rattle.cmd_cert.specs.declared.words.CertWords.{CertWords as CertWordsRead}
@@ -15,9 +16,9 @@ abbrev pub cert_words : Option SourceWords → List ℕ → Option CertWords
 cert_words None cert = None
 cert_words (Some source) cert = Some (record { source = source; cert = cert })
 
--- the words NAME K NETLIST PARAMS CERT
+-- the words NAME K NETLIST PARAMS CERT; no cover is chosen, so the fewest leaves stand for its rule
 abbrev pub cert_words_of : List ℕ → List (List ℕ) → Option CertWords
-cert_words_of name (command ∷ k ∷ netlist ∷ params ∷ cert ∷ []) = if bytes_eq command name then cert_words (source_words (k_of k) netlist params) cert else None
+cert_words_of name (command ∷ k ∷ netlist ∷ params ∷ cert ∷ []) = if bytes_eq command name then cert_words (source_words FewestLeaves (k_of k) netlist params) cert else None
 cert_words_of name words = None
 
 -- words as they are read

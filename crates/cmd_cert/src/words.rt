@@ -6,6 +6,7 @@ ghost use Rattle.cmd_cert.specs.Words.{cert_words_of, cert_seen, cert_word};
 
 use cmd_base::File;
 use cmd_stations::{SourceWords, read_source_words, source_name};
+use cover_pick::Rule;
 
 /// The source circuit, and the word that names the certificate's file.
 #[derive(Clone, Copy)]
@@ -14,14 +15,19 @@ pub struct CertWords<'a> {
     pub cert: &'a str,
 }
 
-// The words of a command with this name.
+// The words of a command with this name; no cover is chosen, so the fewest leaves stand for its rule.
 fn read_words<'a>(name: &str, words: &'a [String]) -> Option<CertWords<'a>>
     ensures value { option_map (λ w. cert_seen w) result ≡ cert_words_of name.now (map string_bytes words.now) }
     ensures range { IfSome result (λ w. IsTableSize w.source.k) }
 {
     match words {
         [command, k, netlist, params, cert] if command.as_str() == name => Some(CertWords {
-            source: read_source_words(k.as_str(), netlist.as_str(), params.as_str())?,
+            source: read_source_words(
+                Rule::FewestLeaves,
+                k.as_str(),
+                netlist.as_str(),
+                params.as_str(),
+            )?,
             cert: cert.as_str(),
         }),
         _ => None,

@@ -4,6 +4,7 @@ ghost use Rattle.std.specs.Option.{option_map};
 ghost use Rattle.cmd_graph.specs.Words.{graph_words_of, graph_seen};
 
 use cmd_stations::SourceWords;
+use cover_pick::Rule;
 
 /// The source circuit, and the word that names the file that is written.
 #[derive(Clone, Copy)]
@@ -12,7 +13,7 @@ pub struct GraphWords<'a> {
     pub out: &'a str,
 }
 
-// The size of tables that stands where none are made.
+// The size of tables that stands where none are made; the fewest leaves stand for their rule.
 const NO_TABLES: u8 = 0;
 
 /// The words `graph NETLIST PARAMS OUT`; `None` exactly where they aren't of this form.
@@ -22,6 +23,7 @@ pub fn read_graph_words(words: &[String]) -> Option<GraphWords<'_>>
     match words {
         [command, netlist, params, out] if command.as_str() == "graph" => Some(GraphWords {
             source: SourceWords {
+                rule: Rule::FewestLeaves,
                 k: NO_TABLES,
                 netlist: netlist.as_str(),
                 params: params.as_str(),

@@ -3,6 +3,7 @@ use Rattle.std.proofs.Common.{◌≡◌, ℕ, Bool, List, ◌∷◌, refl, sym, 
 use Rattle.list_laws.specs.Members.{In}
 use Rattle.aig_core.specs.Aig.{Aig}
 use Rattle.aig_core.specs.Roots.{roots_of}
+use Rattle.cover_pick.specs.declared.rule.Rule.{Rule}
 use Rattle.cover_pick.specs.Template.{TemplateValue}
 use Rattle.cover_pick.specs.Mapping.{IsMapping}
 use Rattle.ppc_pack.specs.Pack.{PackValue, IsConf}
@@ -27,8 +28,8 @@ use Rattle.cmd_stations.proofs.ReplayLemmas.{same_packs_replay, same_both, file_
 use Rattle.cmd_stations.specs.Packs.{present_bytes}
 
 -- the packs of a source circuit's tables are the same
-tunable_same : (source : Source) (k : ℕ) (template : TemplateValue) (p q : PackValue) (m : IsMapped source k template) → IsLeastMapping m.graph k m.roots template → IsTunable source template p → IsTunable source template q → AreSame p q
-tunable_same source k template p q mapped least a b =
+tunable_same : (rule : Rule) (source : Source) (k : ℕ) (template : TemplateValue) (p q : PackValue) (m : IsMapped rule source k template) → IsLeastMapping m.graph k m.roots template → IsTunable source template p → IsTunable source template q → AreSame p q
+tunable_same rule source k template p q mapped least a b =
     let list = source.params.list in
     let here = same_graph source a.one_graph mapped.graph a.graph mapped.roots a.roots mapped.is_graph a.is_graph in
     let there = same_graph source a.one_graph b.graph a.graph b.roots a.roots b.is_graph a.is_graph in
@@ -82,12 +83,12 @@ steps_of_host (more first mid step rest) event (inl is) = subst (λ e. IsOfHost 
 steps_of_host (more first mid step rest) event (inr i) = steps_of_host rest event i
 
 -- A pack of a source circuit's tables, whose file in version 2 is its own, replays on their machine.
-pub replays_machine : (source : Source) (k : ℕ) (template : TemplateValue) (pack : PackValue) (m : IsMapped source k template) → IsLeastMapping m.graph k m.roots template → IsTunable source template pack → IsPackFile (present_bytes pack) pack → ReplaysMachine source template pack
-replays_machine source k template pack mapped least tunable file = record {
+pub replays_machine : (rule : Rule) (source : Source) (k : ℕ) (template : TemplateValue) (pack : PackValue) (m : IsMapped rule source k template) → IsLeastMapping m.graph k m.roots template → IsTunable source template pack → IsPackFile (present_bytes pack) pack → ReplaysMachine source template pack
+replays_machine rule source k template pack mapped least tunable file = record {
   file = file;
   lines = λ files name p at has h end events lines here steps script m start ports machine_lines stage come.
       let first : AreSame p pack = file_same (present_bytes pack) p pack (pack_at files name (present_bytes pack) p at has) file in
-      let second : AreSame pack m.host.pack = tunable_same source k template pack m.host.pack mapped least tunable start.pack in
+      let second : AreSame pack m.host.pack = tunable_same rule source k template pack m.host.pack mapped least tunable start.pack in
       (same_packs_replay p m.host.pack (same_both p m.host.pack pack first second)).are h m.host here (machine_host (record { source = source; template = template; events = script }) m start) events lines machine_lines end stage.machine.host
       steps (host_steps come.steps (steps_of_host steps));
 }

@@ -47,7 +47,7 @@ module _ (m : MappedSource) (made : AreMade m.source m.tables) (means : IsTuned 
         tunable = made.tunable;
         ends = ends;
         means = means;
-        replays = replays_machine m.source words.source.k m.tables.template m.tables.pack past.has.mapped law.least made.tunable made.file;
+        replays = replays_machine words.source.rule m.source words.source.k m.tables.template m.tables.pack past.has.mapped law.least made.tunable made.file;
       }
 
   pub map_done : AreWritten (texts m words.template words.pack) (template_header m.tables.template) (outside mid before ports) (outside new after ports)

@@ -81,7 +81,7 @@ module _ (source : Source) (g : Aig) (template : TemplateValue) (rate : ℕ) whe
 abbrev pub StallsAnywhere : PacerValue → Type 0
 StallsAnywhere pacer = (events : List PaceValue) (shown : List Shown) (mid : PacerValue) → ArePaced pacer events shown mid → (wanted : List Bool) → IsConf mid.pack mid.params wanted → HasStalls mid (length (differences mid.config wanted))
 
--- A job that is done shows its source circuit, by the chosen template of this netlist, list and K, which is mapped with the least depth.
+-- A job that is done shows its source circuit, by the chosen template of this netlist, list, K and rule, which is mapped with the least depth.
 pub record HasPaceHeadline (files : Files) (words : PaceWords) (old new : Outside) : Type 0 where
   pub job : PaceJob
   pub is_job : IsPaceJob files words job

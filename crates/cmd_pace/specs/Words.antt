@@ -2,6 +2,7 @@
 use Rattle.std.specs.Prelude.{ℕ, ◌≤◌, ◌&&◌, nat_le, if◌then◌else◌, List, [], ◌∷◌, codes, bytes_eq, Option, Some, None}
 use Rattle.std.specs.Option.{option_and_then}
 use Rattle.tl_text.specs.Decimal.{decimal_of}
+use Rattle.cover_pick.specs.declared.rule.Rule.{Rule}
 use Rattle.run_text.specs.declared.event.Forms.TheVariants as forms
 use Rattle.cmd_stations.specs.Words.{SourceWords, source_words, k_of, source_seen, IsTableSize}
 use Rattle.cmd_stations.specs.Scripted.{ScriptedWords}
@@ -25,11 +26,11 @@ pace_words None script rate = None
 pace_words (Some source) script None = None
 pace_words (Some source) script (Some rate) = Some (record { source = source; script = script; rate = rate })
 
--- the words `pace K NETLIST PARAMS SCRIPT RATE`
-abbrev pub pace_of : List (List ℕ) → Option PaceWords
-pace_of (command ∷ k ∷ netlist ∷ params ∷ script ∷ rate ∷ []) =
-    if bytes_eq command (codes "pace") then pace_words (source_words (k_of k) netlist params) script (rate_of rate) else None
-pace_of words = None
+-- the words `pace K NETLIST PARAMS SCRIPT RATE`, where cuts are chosen by a rule
+abbrev pub pace_of : Rule → List (List ℕ) → Option PaceWords
+pace_of rule (command ∷ k ∷ netlist ∷ params ∷ script ∷ rate ∷ []) =
+    if bytes_eq command (codes "pace") then pace_words (source_words rule (k_of k) netlist params) script (rate_of rate) else None
+pace_of rule words = None
 
 -- words as they are read
 abbrev pub pace_seen : PaceWordsRead → PaceWords

@@ -7,6 +7,7 @@ ghost use Rattle.cmd_pace.specs.Words.{rate_of, pace_words, pace_of, pace_seen, 
 
 use cmd_base::File;
 use cmd_stations::{ScriptedWords, SourceWords, read_source_words, source_name};
+use cover_pick::Rule;
 use run_text::Forms;
 use tl_text::decimal;
 
@@ -50,14 +51,14 @@ fn whole<'a>(
     }
 }
 
-/// The words `pace K NETLIST PARAMS SCRIPT RATE`; `None` exactly where they aren't of this form.
-pub fn read_pace_words(words: &[String]) -> Option<PaceWords<'_>>
-    ensures value { option_map (λ w. pace_seen w) result ≡ pace_of (map string_bytes words.now) }
+/// The words `pace K NETLIST PARAMS SCRIPT RATE`, where cuts are chosen by a rule; `None` exactly where they aren't of this form.
+pub fn read_pace_words(rule: Rule, words: &[String]) -> Option<PaceWords<'_>>
+    ensures value { option_map (λ w. pace_seen w) result ≡ pace_of rule (map string_bytes words.now) }
     ensures range { IfSome result IsInRange }
 {
     match words {
         [command, k, netlist, params, script, bits] if command.as_str() == "pace" => whole(
-            read_source_words(k.as_str(), netlist.as_str(), params.as_str()),
+            read_source_words(rule, k.as_str(), netlist.as_str(), params.as_str()),
             script.as_str(),
             rate(bits.as_str()),
         ),

@@ -13,6 +13,7 @@ use Rattle.gen_case.specs.Script.{all_params, script_lines}
 use Rattle.run_text.specs.NamesValue.{NamesValue}
 use Rattle.param_list.specs.ParamsText.{IsParamsText, HasOneReading}
 use Rattle.run_text.specs.ScriptText as script_text
+use Rattle.cover_pick.specs.declared.rule.Rule.{Rule}
 use Rattle.cmd_stations.specs.Stops.{Stops, outcome_at}
 use Rattle.cmd_base.specs.Ends.{Told, Explains}
 use Rattle.cmd_base.specs.Refusals.{most_bytes}
@@ -45,48 +46,50 @@ module _ (files : Files) where
   nothing_given : (most : ℕ) → (shelf_of files).given ≤ most
   nothing_given most = omega arith
 
+  -- a script that stops the walk
+  pub script_stops : (script : List ℕ) (names : NamesValue) (s : Stop) → HasText files (codes "script") script → script_text.HasOneReading names script → Stops (IsScriptRefusal names script) s
+      → Explains (script_reading (codes "script") names) (shelf_of files) (shelf_of files) (outcome_at file.Script s)
+  script_stops script names s there one refused =
+      script_explains (codes "script") names (shelf_of files) (shelf_of files) script s (nothing_given (most_bytes file.Script)) (told_of (λ fs. HasText fs (codes "script") script) there) one refused
+
+-- the walk through a netlist, its parameters and the mapping, by a rule
+module _ (rule : Rule) (files : Files) where
   -- a netlist's text that stops the walk
   pub netlist_stops : (netlist params : List ℕ) (s : Stop) → HaveSource files netlist params → Stops (NetlistRefusal netlist) s → Stops (λ _. IsTextSettled netlist) s
-      → Explains (source_reading ToTables case_words.source) (shelf_of files) (shelf_of files) (outcome_at file.Netlist s)
+      → Explains (source_reading ToTables (case_words rule).source) (shelf_of files) (shelf_of files) (outcome_at file.Netlist s)
   netlist_stops netlist params s have refused settled =
-      netlist_explains ToTables case_words.source (shelf_of files) (shelf_of files) netlist s (nothing_given (most_bytes file.Netlist)) (told_of (λ fs. HasText fs case_words.source.netlist netlist) have.has_netlist) refused settled
+      netlist_explains ToTables (case_words rule).source (shelf_of files) (shelf_of files) netlist s (nothing_given files (most_bytes file.Netlist)) (told_of files (λ fs. HasText fs (case_words rule).source.netlist netlist) have.has_netlist) refused settled
 
   -- the walk comes past a netlist's text
-  netlist_comes : (netlist params : List ℕ) (n : NetlistValue) → HaveSource files netlist params → IsNetlistText netlist n → IsTextSettled netlist → ComesFrom files case_words.source n
+  netlist_comes : (netlist params : List ℕ) (n : NetlistValue) → HaveSource files netlist params → IsNetlistText netlist n → IsTextSettled netlist → ComesFrom files (case_words rule).source n
   netlist_comes netlist params n have is settled = record {
     netlist = record { text = netlist; there = have.has_netlist; is = is };
-    settled = text_settles files case_words.source netlist have.has_netlist settled;
+    settled = text_settles files (case_words rule).source netlist have.has_netlist settled;
   }
 
   -- a text of its parameters that stops it
   pub params_stop : (netlist params : List ℕ) (n : NetlistValue) (s : Stop) → HaveSource files netlist params → IsNetlistText netlist n → IsTextSettled netlist → HasOneReading n.flat params → Stops (IsParamsRefusal n.flat params) s
-      → Explains (source_reading ToTables case_words.source) (shelf_of files) (shelf_of files) (outcome_at file.Params s)
+      → Explains (source_reading ToTables (case_words rule).source) (shelf_of files) (shelf_of files) (outcome_at file.Params s)
   params_stop netlist params n s have is settled one refused =
-      params_explains ToTables case_words.source (shelf_of files) (shelf_of files) n (told_of (λ fs. ComesFrom fs case_words.source n) (netlist_comes netlist params n have is settled)) params s
-      (nothing_given (most_bytes file.Params)) (told_of (λ fs. HasText fs case_words.source.params params) have.has_params) one refused
+      params_explains ToTables (case_words rule).source (shelf_of files) (shelf_of files) n (told_of files (λ fs. ComesFrom fs (case_words rule).source n) (netlist_comes netlist params n have is settled)) params s
+      (nothing_given files (most_bytes file.Params)) (told_of files (λ fs. HasText fs (case_words rule).source.params params) have.has_params) one refused
 
   -- the walk comes past both
   pub source_comes : (netlist params : List ℕ) (source : Source) → HaveSource files netlist params → IsNetlistText netlist source.netlist → IsTextSettled netlist → IsParamsText source.netlist.flat params source.params.list
-      → HasOneReading source.netlist.flat params → ComesWith files case_words.source source
+      → HasOneReading source.netlist.flat params → ComesWith files (case_words rule).source source
   source_comes netlist params source have is settled listed one =
       let past = netlist_comes netlist params source.netlist have is settled in
       record {
         has = record { netlist = past.netlist; params = record { text = params; there = have.has_params; is = listed } };
         netlist = past.settled;
-        params = list_settles files case_words.source source.netlist params have.has_params one;
+        params = list_settles files (case_words rule).source source.netlist params have.has_params one;
       }
 
   -- a mapping that stops it
-  pub mapping_stops : (source : Source) (s : Stop) → ComesWith files case_words.source source → Stops (IsUnmapped source case_words.source.k) s → Stops (λ _. IsMappingSettled source case_words.source.k) s
-      → Explains (source_reading ToTables case_words.source) (shelf_of files) (shelf_of files) (outcome_at file.Netlist s)
+  pub mapping_stops : (source : Source) (s : Stop) → ComesWith files (case_words rule).source source → Stops (IsUnmapped rule source (case_words rule).source.k) s → Stops (λ _. IsMappingSettled rule source (case_words rule).source.k) s
+      → Explains (source_reading ToTables (case_words rule).source) (shelf_of files) (shelf_of files) (outcome_at file.Netlist s)
   mapping_stops source s comes refused settled =
-      made_explains ToTables case_words.source (shelf_of files) (shelf_of files) source s (nothing_given (most_bytes file.Netlist)) (told_of (λ fs. ComesWith fs case_words.source source) comes) refused settled
-
-  -- a script that stops it
-  pub script_stops : (script : List ℕ) (names : NamesValue) (s : Stop) → HasText files case_words.script script → script_text.HasOneReading names script → Stops (IsScriptRefusal names script) s
-      → Explains (script_reading case_words.script names) (shelf_of files) (shelf_of files) (outcome_at file.Script s)
-  script_stops script names s there one refused =
-      script_explains case_words.script names (shelf_of files) (shelf_of files) script s (nothing_given (most_bytes file.Script)) (told_of (λ fs. HasText fs case_words.script script) there) one refused
+      made_explains ToTables (case_words rule).source (shelf_of files) (shelf_of files) source s (nothing_given files (most_bytes file.Netlist)) (told_of files (λ fs. ComesWith fs (case_words rule).source source) comes) refused settled
 
 module _ (words : GenWords) where
   abbrev netlist_text : List ℕ
@@ -130,14 +133,14 @@ module _ (words : GenWords) where
   }
 
   -- As no byte of them was given and no read failed, a refusal alone can stop the walk, or want of memory.
-  pub case_explains : (o : Outcome) → Explains (run_reading case_words) (shelf_of (case_files words)) (shelf_of (case_files words)) o → (old new : ShelfSeen) → Explains (gen_reading words) old new o
+  pub case_explains : (o : Outcome) → Explains (run_reading (case_words words.rule)) (shelf_of (case_files words)) (shelf_of (case_files words)) o → (old new : ShelfSeen) → Explains (gen_reading words) old new o
   case_explains (outcome.TooLong f) h old new = let past : most_bytes f < 0 = h.given in absurd (omega arith)
   case_explains (outcome.Refused f r) h old new = record {
     given = tt;
     is_read = h.is_read;
     not_long = h.not_long;
-    is = λ files has. subst (λ fs. IsRefused fs case_words f r) (sym has) (h.is (case_files words) refl);
-    settled = λ files has. subst (λ fs. IsSettled fs case_words) (sym has) (h.settled (case_files words) refl);
+    is = λ files has. subst (λ fs. IsRefused fs (case_words words.rule) f r) (sym has) (h.is (case_files words) refl);
+    settled = λ files has. subst (λ fs. IsSettled fs (case_words words.rule)) (sym has) (h.settled (case_files words) refl);
   }
   case_explains (outcome.ReadFault f) h old new = let rose : 1 ≤ 0 = h.fault.rose in absurd (omega arith)
   case_explains outcome.Memory h old new = tt
@@ -148,11 +151,11 @@ module _ (words : GenWords) where
 
   -- So what is ready for these texts is the job of the case, and what stops them stops it.
   module _ (netlist params script : List ℕ) (have : HaveCase (case_files words) netlist params script) where
-    pub case_ready : (result : Result Ready Outcome) → IfOk result (λ r. (files : Files) → HaveCase files netlist params script → IsReadyFor files case_words r) → IfOk result (IsReadyFor (case_files words) case_words)
+    pub case_ready : (result : Result Ready Outcome) → IfOk result (λ r. (files : Files) → HaveCase files netlist params script → IsReadyFor files (case_words words.rule) r) → IfOk result (IsReadyFor (case_files words) (case_words words.rule))
     case_ready (Ok ready) is = is (case_files words) have
     case_ready (Err o) is = tt
 
-    pub case_stopped : (result : Result Ready Outcome) → IfErr result (λ o. (files : Files) → HaveCase files netlist params script → Explains (run_reading case_words) (shelf_of files) (shelf_of files) o)
+    pub case_stopped : (result : Result Ready Outcome) → IfErr result (λ o. (files : Files) → HaveCase files netlist params script → Explains (run_reading (case_words words.rule)) (shelf_of files) (shelf_of files) o)
         → IfErr result (λ o. (old new : ShelfSeen) → Explains (gen_reading words) old new o)
     case_stopped (Ok ready) stops = tt
     case_stopped (Err o) stops = case_explains o (stops (case_files words) have)

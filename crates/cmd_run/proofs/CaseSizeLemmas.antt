@@ -66,12 +66,12 @@ generated_is_blif : (digits : ℕ) → is_aag (text_of (netlist_lines digits)) �
 unfolding netlist_lines
 generated_is_blif digits = refl
 
-module _ (words : GenWords) (has : HasDigits words) (ready : Ready) (is : IsReadyFor (case_files words) case_words ready) where
+module _ (words : GenWords) (has : HasDigits words) (ready : Ready) (is : IsReadyFor (case_files words) (case_words words.rule) ready) where
   -- its template has at most two outputs a digit, and those of the full adder
   template_short : length (is.job).template.outputs ≤ 66
   template_short =
       let mapped = ((is.is_job).mapped).mapped in
-      let netlist : HasNetlist (case_files words) case_words.source ((is.job).source).netlist = (((is.is_job).mapped).has).netlist in
+      let netlist : HasNetlist (case_files words) (case_words words.rule).source ((is.job).source).netlist = (((is.is_job).mapped).has).netlist in
       let text : netlist.text ≡ text_of (netlist_lines words.digits) = same_Some netlist.text _ (sym (netlist.there).is ∙ netlist_there words) in
       let denotes : Denotes (text_of (netlist_lines words.digits)) (((is.job).source).netlist).library =
       blif_denotes (text_of (netlist_lines words.digits)) (((is.job).source).netlist).library (generated_is_blif words.digits) (subst (λ (t : List ℕ). DenotesLibrary t (((is.job).source).netlist).library) text (netlist.is).denotes) in

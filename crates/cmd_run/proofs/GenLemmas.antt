@@ -32,7 +32,7 @@ pub same_template : {old new : MachineValue} {events : List EventValue} {writes 
 same_template none = refl
 same_template (more event mid played rest) = same_template rest ∙ played.template
 
-module _ (words : GenWords) (ready : Ready) (is : IsReadyFor (case_files words) case_words ready) where
+module _ (words : GenWords) (ready : Ready) (is : IsReadyFor (case_files words) (case_words words.rule) ready) where
   -- a case that is ready is begun
   pub case_begun : (old : ShelfSeen) → IsBegunFrom (gen_walk words) old old
   case_begun old = record {
@@ -52,7 +52,7 @@ module _ (words : GenWords) (ready : Ready) (is : IsReadyFor (case_files words) 
     case_told P told = record {
       job = is.job;
       is_job = is.is_job;
-      law = least_mapped (case_files words) case_words.source is.job.source is.job.template is.settled.source is.is_job.mapped;
+      law = least_mapped (case_files words) (case_words words.rule).source is.job.source is.job.template is.settled.source is.is_job.mapped;
       machine = ready.machine;
       start = is.start;
       writes = writes;

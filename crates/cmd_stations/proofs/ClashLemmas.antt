@@ -36,12 +36,12 @@ module _ {aim : Aim} (files : Files) (words : SourceWords) (settled : IsSourceSe
       (subst (λ ts. IsParamsText n.flat ts source.params.list) (text_once files words.params here.text text here.there there) here.is) refused
 
   -- so a source circuit that is read isn't refused, unless for what is made of it
-  pub refused_unmade : (source : Source) (f : File) (r : RefusalValue) → HasSource files words source → IsSourceRefused aim files words f r → IsUnmade aim source words.k r
+  pub refused_unmade : (source : Source) (f : File) (r : RefusalValue) → HasSource files words source → IsSourceRefused aim files words f r → IsUnmade aim words.rule source words.k r
   refused_unmade source f r has (long_netlist at long is) = absurd (short_or_long files words.netlist has.netlist.text has.netlist.there long)
   refused_unmade source f r has (netlist at text there refused) = absurd (read_or_not source.netlist text r has.netlist there refused)
   refused_unmade source f r has (long_params at n own long is) = absurd (short_or_long files words.params has.params.text has.params.there long)
   refused_unmade source f r has (params at n text own there refused) = absurd (list_or_not source n text r has own there refused)
-  refused_unmade source f r has (unmade at other own u) = subst (λ s. IsUnmade aim s words.k r) (settled_once files words other source settled own has) u
+  refused_unmade source f r has (unmade at other own u) = subst (λ s. IsUnmade aim words.rule s words.k r) (settled_once files words other source settled own has) u
 
 -- and one that is mapped isn't refused, at any of its files, for any reason
 pub source_or_not : (files : Files) (words : SourceWords) → IsSourceSettled ToTables files words → (source : Source) (t : TemplateValue) (f : File) (r : RefusalValue) → HasMapped files words source t → IsSourceRefused ToTables files words f r → ⊥

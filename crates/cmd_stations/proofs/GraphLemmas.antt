@@ -12,6 +12,7 @@ use Rattle.cut_enum.specs.Table.{AreRows}
 use Rattle.cut_enum.specs.Refusals.{refusal_of as cut_refusal}
 use Rattle.cut_enum.specs.declared.table.CutErr.{CutErr}
 use Rattle.depth_label.specs.Label.{LabelsValue, label_of, AreLabelled, HasOneLabelling}
+use Rattle.cover_pick.specs.declared.rule.Rule.{Rule}
 use Rattle.cover_pick.specs.Mapping.{IsMapping, IsLeast}
 use Rattle.cover_pick.specs.Template.{TemplateValue, IsTemplate, IsTooMuch}
 use Rattle.cover_pick.specs.Work.{IsLight}
@@ -29,16 +30,16 @@ use Rattle.cmd_stations.proofs.LeastLemmas.{least_mapping}
 use Rattle.cmd_stations.proofs.InputLemmas.{same_parts}
 
 -- what the enumeration says of limits
-module _ (g : Aig) (k : ℕ) (roots : RootsValue)
+module _ (rule : Rule) (g : Aig) (k : ℕ) (roots : RootsValue)
     (once : (e f : CutErr) → IsLimit g k e → IsLimit g k f → e ≡ f)
     (excluded : (e : CutErr) (rows : List (List (List ℕ))) → IsLimit g k e → AreRows g k (node_count g) rows → ⊥) where
-  limit_refused : (e : CutErr) (r s : RefusalValue) → IsLimit g k e → IsUnchosen g k roots r → IsUnchosen g k roots s → r ≡ s
+  limit_refused : (e : CutErr) (r s : RefusalValue) → IsLimit g k e → IsUnchosen rule g k roots r → IsUnchosen rule g k roots s → r ≡ s
   limit_refused e r s l (cuts d m is) (cuts d2 m2 is2) = same_Some r s (sym is ∙ (ap (λ x. cut_refusal x) (once d d2 m m2) ∙ is2))
   limit_refused e r s l (work o is) other = absurd (excluded e o.rows l o.labelled.rows_are)
   limit_refused e r s l one (work o is) = absurd (excluded e o.rows l o.labelled.rows_are)
 
   -- A graph with too many cuts is settled.
-  pub limit_settled : (e : CutErr) → IsLimit g k e → IsGraphSettled g k roots
+  pub limit_settled : (e : CutErr) → IsLimit g k e → IsGraphSettled rule g k roots
   limit_settled e l = record {
     maps = λ t c. absurd (excluded e c.rows l c.labelled.rows_are);
     one_template = λ t u c d. absurd (excluded e c.rows l c.labelled.rows_are);
@@ -50,25 +51,25 @@ module _ (g : Aig) (k : ℕ) (roots : RootsValue)
   module _ (rows : List (List (List ℕ))) (are : AreRows g k (node_count g) rows)
       (one_table : (some other : List (List (List ℕ))) → AreRows g k (node_count g) some → AreRows g k (node_count g) other → some ≡ other)
       (labels : LabelsValue) (labelled : AreLabelled g rows labels) (one : HasOneLabelling g rows)
-      (same_template : (t u : TemplateValue) → IsTemplate g rows (label_of labels) roots t → IsTemplate g rows (label_of labels) roots u → t ≡ u)
-      (apart : (t : TemplateValue) → IsTemplate g rows (label_of labels) roots t → IsLight g t.luts → IsTooMuch g rows (label_of labels) (roots_of roots) → ⊥)
-      (big : 2 ≤ k) (mapping : (t : TemplateValue) → IsTemplate g rows (label_of labels) roots t → IsMapping g k (roots_of roots) t.luts t.bits)
-      (least : (t : TemplateValue) → IsTemplate g rows (label_of labels) roots t → IsLeast g k (roots_of roots) t.luts t.depth) where
+      (same_template : (t u : TemplateValue) → IsTemplate rule g rows (label_of labels) roots t → IsTemplate rule g rows (label_of labels) roots u → t ≡ u)
+      (apart : (t : TemplateValue) → IsTemplate rule g rows (label_of labels) roots t → IsLight g t.luts → IsTooMuch rule g rows (label_of labels) (roots_of roots) → ⊥)
+      (big : 2 ≤ k) (mapping : (t : TemplateValue) → IsTemplate rule g rows (label_of labels) roots t → IsMapping g k (roots_of roots) t.luts t.bits)
+      (least : (t : TemplateValue) → IsTemplate rule g rows (label_of labels) roots t → IsLeast g k (roots_of roots) t.luts t.depth) where
     labels_here : (other : LabelsValue) → AreLabelled g rows other → label_of other ≡ label_of labels
     labels_here other w = fun_ext (λ n. one.once other labels w labelled n)
 
-    template_here : (some : List (List (List ℕ))) (other : LabelsValue) (t : TemplateValue) → AreRows g k (node_count g) some → AreLabelled g some other → IsTemplate g some (label_of other) roots t → IsTemplate g rows (label_of labels) roots t
+    template_here : (some : List (List (List ℕ))) (other : LabelsValue) (t : TemplateValue) → AreRows g k (node_count g) some → AreLabelled g some other → IsTemplate rule g some (label_of other) roots t → IsTemplate rule g rows (label_of labels) roots t
     template_here some other t a w is =
         let same : some ≡ rows = one_table some rows a are in
-        subst (λ label. IsTemplate g rows label roots t) (labels_here other (subst (λ rs. AreLabelled g rs other) same w)) (subst (λ rs. IsTemplate g rs (label_of other) roots t) same is)
+        subst (λ label. IsTemplate rule g rows label roots t) (labels_here other (subst (λ rs. AreLabelled g rs other) same w)) (subst (λ rs. IsTemplate rule g rs (label_of other) roots t) same is)
 
-    much_here : (some : List (List (List ℕ))) (other : LabelsValue) → AreRows g k (node_count g) some → AreLabelled g some other → IsTooMuch g some (label_of other) (roots_of roots) → IsTooMuch g rows (label_of labels) (roots_of roots)
+    much_here : (some : List (List (List ℕ))) (other : LabelsValue) → AreRows g k (node_count g) some → AreLabelled g some other → IsTooMuch rule g some (label_of other) (roots_of roots) → IsTooMuch rule g rows (label_of labels) (roots_of roots)
     much_here some other a w is =
         let same : some ≡ rows = one_table some rows a are in
-        subst (λ label. IsTooMuch g rows label (roots_of roots)) (labels_here other (subst (λ rs. AreLabelled g rs other) same w)) (subst (λ rs. IsTooMuch g rs (label_of other) (roots_of roots)) same is)
+        subst (λ label. IsTooMuch rule g rows label (roots_of roots)) (labels_here other (subst (λ rs. AreLabelled g rs other) same w)) (subst (λ rs. IsTooMuch rule g rs (label_of other) (roots_of roots)) same is)
 
     -- A graph with a table is settled.
-    pub table_settled : IsGraphSettled g k roots
+    pub table_settled : IsGraphSettled rule g k roots
     table_settled = record {
       maps = λ t c. least_mapping g k roots t big (mapping t (chosen_here t c)) (least t (chosen_here t c));
       one_template = λ t u c d. same_template t u (chosen_here t c) (chosen_here u d);
@@ -76,15 +77,15 @@ module _ (g : Aig) (k : ℕ) (roots : RootsValue)
       one_refusal = table_refused;
     }
       where
-        chosen_here : (t : TemplateValue) → IsChosen g k roots t → IsTemplate g rows (label_of labels) roots t
+        chosen_here : (t : TemplateValue) → IsChosen rule g k roots t → IsTemplate rule g rows (label_of labels) roots t
         chosen_here t c = template_here c.rows c.labels t c.labelled.rows_are c.labelled.labels_are c.chosen
 
-        chosen_or : (t : TemplateValue) (r : RefusalValue) (some : List (List (List ℕ))) (other : LabelsValue) → AreRows g k (node_count g) some → AreLabelled g some other → IsTemplate g some (label_of other) roots t → IsLight g t.luts
-            → IsUnchosen g k roots r → ⊥
+        chosen_or : (t : TemplateValue) (r : RefusalValue) (some : List (List (List ℕ))) (other : LabelsValue) → AreRows g k (node_count g) some → AreLabelled g some other → IsTemplate rule g some (label_of other) roots t → IsLight g t.luts
+            → IsUnchosen rule g k roots r → ⊥
         chosen_or t r some other a w is light (cuts e l told) = excluded e some l a
         chosen_or t r some other a w is light (work o told) = apart t (template_here some other t a w is) light (much_here o.rows o.labels o.labelled.rows_are o.labelled.labels_are o.too_much)
 
-        table_refused : (r s : RefusalValue) → IsUnchosen g k roots r → IsUnchosen g k roots s → r ≡ s
+        table_refused : (r s : RefusalValue) → IsUnchosen rule g k roots r → IsUnchosen rule g k roots s → r ≡ s
         table_refused r s (cuts e l told) other = absurd (excluded e rows l are)
         table_refused r s one_ (cuts e l told) = absurd (excluded e rows l are)
         table_refused r s (work o told) (work p told2) = same_Some r s (sym told ∙ told2)
@@ -162,22 +163,22 @@ module _ (source : Source) (one : HasOneGraph source.netlist.library source.netl
           same_Some r s (sym u.tells ∙ (ap (λ x. cut_refusal x) (limit_once u.e v.e (limit_here u.graph u.roots u.e u.built.is_graph u.limit) (limit_here v.graph v.roots v.e v.built.is_graph v.limit)) ∙ v.tells))
 
   -- A source circuit with too many nodes is settled.
-  pub full_settled : (k : ℕ) → HasTooManyNodes source.netlist.library source.netlist.flat source.params.list → IsMappingSettled source k
-  full_settled k over = record {
+  pub full_settled : (rule : Rule) (k : ℕ) → HasTooManyNodes source.netlist.library source.netlist.flat source.params.list → IsMappingSettled rule source k
+  full_settled rule k over = record {
     maps = λ t m. absurd (few_or_many m.graph m.roots m.is_graph m.nodes over);
     one_template = λ t u m n. absurd (few_or_many m.graph m.roots m.is_graph m.nodes over);
     not_both = λ t r m u. few_or_many m.graph m.roots m.is_graph m.nodes over;
     one_refusal = once;
   }
     where
-      once : (r s : RefusalValue) → IsUnmapped source k r → IsUnmapped source k s → r ≡ s
+      once : (r s : RefusalValue) → IsUnmapped rule source k r → IsUnmapped rule source k s → r ≡ s
       once r s (too_many h e) (too_many h2 e2) = same_Some r s (sym e ∙ e2)
       once r s (unchosen u) other = absurd (few_or_many u.graph u.roots u.is_graph u.nodes over)
       once r s some (unchosen u) = absurd (few_or_many u.graph u.roots u.is_graph u.nodes over)
 
   -- So is one whose graph is settled.
-  pub mapping_settled : (k : ℕ) (g : Aig) (roots : RootsValue) → IsGraph g roots → length g.pairs ≤ MOST_NODES → IsGraphSettled g k roots → IsMappingSettled source k
-  mapping_settled k g roots is few graph = record {
+  pub mapping_settled : (rule : Rule) (k : ℕ) (g : Aig) (roots : RootsValue) → IsGraph g roots → length g.pairs ≤ MOST_NODES → IsGraphSettled rule g k roots → IsMappingSettled rule source k
+  mapping_settled rule k g roots is few graph = record {
     maps = λ t m.
         subst (λ x. IsLeastMapping x k m.roots t) (same_graph g m.graph roots m.roots is m.is_graph)
         (subst (λ x. IsLeastMapping g k x t) (same_roots g m.graph roots m.roots is m.is_graph) (graph.maps t (chosen_here m.graph m.roots t m.is_graph m.chosen)));
@@ -186,24 +187,24 @@ module _ (source : Source) (one : HasOneGraph source.netlist.library source.netl
     one_refusal = once;
   }
     where
-      chosen_here : (h : Aig) (others : RootsValue) (t : TemplateValue) → IsGraph h others → IsChosen h k others t → IsChosen g k roots t
-      chosen_here h others t a c = subst (λ x. IsChosen g k x t) (same_roots h g others roots a is) (subst (λ x. IsChosen x k others t) (same_graph h g others roots a is) c)
+      chosen_here : (h : Aig) (others : RootsValue) (t : TemplateValue) → IsGraph h others → IsChosen rule h k others t → IsChosen rule g k roots t
+      chosen_here h others t a c = subst (λ x. IsChosen rule g k x t) (same_roots h g others roots a is) (subst (λ x. IsChosen rule x k others t) (same_graph h g others roots a is) c)
 
-      refused_here : (r : RefusalValue) → IsUnmappedGraph source k r → IsUnchosen g k roots r
-      refused_here r u = subst (λ x. IsUnchosen g k x r) (same_roots u.graph g u.roots roots u.is_graph is) (subst (λ x. IsUnchosen x k u.roots r) (same_graph u.graph g u.roots roots u.is_graph is) u.unchosen)
+      refused_here : (r : RefusalValue) → IsUnmappedGraph rule source k r → IsUnchosen rule g k roots r
+      refused_here r u = subst (λ x. IsUnchosen rule g k x r) (same_roots u.graph g u.roots roots u.is_graph is) (subst (λ x. IsUnchosen rule x k u.roots r) (same_graph u.graph g u.roots roots u.is_graph is) u.unchosen)
 
-      mapped_or : (t : TemplateValue) (r : RefusalValue) → IsMapped source k t → IsUnmapped source k r → ⊥
+      mapped_or : (t : TemplateValue) (r : RefusalValue) → IsMapped rule source k t → IsUnmapped rule source k r → ⊥
       mapped_or t r m (too_many over e) = few_or_many g roots is few over
       mapped_or t r m (unchosen u) = graph.not_both t r (chosen_here m.graph m.roots t m.is_graph m.chosen) (refused_here r u)
 
-      once : (r s : RefusalValue) → IsUnmapped source k r → IsUnmapped source k s → r ≡ s
+      once : (r s : RefusalValue) → IsUnmapped rule source k r → IsUnmapped rule source k s → r ≡ s
       once r s (too_many over e) other = absurd (few_or_many g roots is few over)
       once r s some (too_many over e) = absurd (few_or_many g roots is few over)
       once r s (unchosen u) (unchosen v) = graph.one_refusal r s (refused_here r u) (refused_here s v)
 
 -- tables by the template that was chosen
-pub tables_as : (source : Source) (k : ℕ) (t : Tables) (template : TemplateValue) → t.template ≡ template → (m : IsMapped source k template) → IsLeastMapping m.graph k m.roots template → AreMade source t → AreTables source k t
-tables_as source k t template same m least made =
-    let both : (mapped : IsMapped source k t.template) × IsLeastMapping mapped.graph k mapped.roots t.template =
-    subst (λ x. (mapped : IsMapped source k x) × IsLeastMapping mapped.graph k mapped.roots x) (sym same) (m, least) in
+pub tables_as : (rule : Rule) (source : Source) (k : ℕ) (t : Tables) (template : TemplateValue) → t.template ≡ template → (m : IsMapped rule source k template) → IsLeastMapping m.graph k m.roots template → AreMade source t → AreTables rule source k t
+tables_as rule source k t template same m least made =
+    let both : (mapped : IsMapped rule source k t.template) × IsLeastMapping mapped.graph k mapped.roots t.template =
+    subst (λ x. (mapped : IsMapped rule source k x) × IsLeastMapping mapped.graph k mapped.roots x) (sym same) (m, least) in
     record { mapped = both.0; least = both.1; made = made }

@@ -29,6 +29,7 @@ use Rattle.aig_build.specs.Refusals.{refusal_of as build_refusal}
 use Rattle.cut_enum.specs.declared.table.CutErr.{CutErr}
 use Rattle.cut_enum.specs.declared.table.CutErr.TheVariants as cuts_err
 use Rattle.cut_enum.specs.Refusals.{refusal_of as cuts_refusal}
+use Rattle.cover_pick.specs.declared.rule.Rule.{Rule}
 use Rattle.cover_pick.specs.declared.lut.PickErr.{PickErr}
 use Rattle.cover_pick.specs.declared.lut.PickErr.TheVariants as pick_err
 use Rattle.cover_pick.specs.Refusals.{refusal_of as pick_refusal}
@@ -156,22 +157,22 @@ params_not_long flat text r refused is = list_code refused.e (refused.tells ∙ 
 pub script_not_long : (names : NamesValue) (text : List ℕ) (r : RefusalValue) → IsScriptRefusal names text r → r ≡ too_long → ⊥
 script_not_long names text r refused is = events_code refused.e (refused.tells ∙ ap Some is)
 
-unchosen_not_long : (g : Aig) (k : ℕ) (roots : RootsValue) (r : RefusalValue) → IsUnchosen g k roots r → r ≡ too_long → ⊥
-unchosen_not_long g k roots r (cuts e limit tells) is = cuts_code e (tells ∙ ap Some is)
-unchosen_not_long g k roots r (work over tells) is = pick_code pick_err.Work (tells ∙ ap Some is)
+unchosen_not_long : (rule : Rule) (g : Aig) (k : ℕ) (roots : RootsValue) (r : RefusalValue) → IsUnchosen rule g k roots r → r ≡ too_long → ⊥
+unchosen_not_long rule g k roots r (cuts e limit tells) is = cuts_code e (tells ∙ ap Some is)
+unchosen_not_long rule g k roots r (work over tells) is = pick_code pick_err.Work (tells ∙ ap Some is)
 
-unmapped_not_long : (source : Source) (k : ℕ) (r : RefusalValue) → IsUnmapped source k r → r ≡ too_long → ⊥
-unmapped_not_long source k r (too_many over tells) is = build_code build_err.TooManyNodes (tells ∙ ap Some is)
-unmapped_not_long source k r (unchosen graph) is = unchosen_not_long graph.graph k graph.roots r graph.unchosen is
+unmapped_not_long : (rule : Rule) (source : Source) (k : ℕ) (r : RefusalValue) → IsUnmapped rule source k r → r ≡ too_long → ⊥
+unmapped_not_long rule source k r (too_many over tells) is = build_code build_err.TooManyNodes (tells ∙ ap Some is)
+unmapped_not_long rule source k r (unchosen graph) is = unchosen_not_long rule graph.graph k graph.roots r graph.unchosen is
 
 unlabelled_not_long : (source : Source) (k : ℕ) (r : RefusalValue) → IsUnlabelled source k r → r ≡ too_long → ⊥
 unlabelled_not_long source k r (unbuilt u) is = build_code build_err.TooManyNodes (u.tells ∙ ap Some is)
 unlabelled_not_long source k r (many_cuts u) is = cuts_code u.e (u.tells ∙ ap Some is)
 
-pub unmade_not_long : (aim : Aim) (source : Source) (k : ℕ) (r : RefusalValue) → IsUnmade aim source k r → r ≡ too_long → ⊥
-unmade_not_long ToGraph source k r u is = build_code build_err.TooManyNodes (u.tells ∙ ap Some is)
-unmade_not_long ToLabels source k r u is = unlabelled_not_long source k r u is
-unmade_not_long ToTables source k r u is = unmapped_not_long source k r u is
+pub unmade_not_long : (aim : Aim) (rule : Rule) (source : Source) (k : ℕ) (r : RefusalValue) → IsUnmade aim rule source k r → r ≡ too_long → ⊥
+unmade_not_long ToGraph rule source k r u is = build_code build_err.TooManyNodes (u.tells ∙ ap Some is)
+unmade_not_long ToLabels rule source k r u is = unlabelled_not_long source k r u is
+unmade_not_long ToTables rule source k r u is = unmapped_not_long rule source k r u is
 
 pub pack_not_long : (bytes : List ℕ) (r : RefusalValue) → IsPackRefusal bytes r → r ≡ too_long → ⊥
 pack_not_long bytes r refused is = pack_code refused.e (refused.tells ∙ ap Some is)

@@ -38,7 +38,7 @@ settled_once files words a b settled x y = source_once files words a b settled.n
 -- and its template
 pub template_once : (files : Files) (words : SourceWords) (a b : Source) (t u : TemplateValue) → IsSourceSettled ToTables files words → HasMapped files words a t → HasMapped files words b u → t ≡ u
 template_once files words a b t u settled x y =
-    (settled.made b y.has).one_template t u (subst (λ s. IsMapped s words.k t) (settled_once files words a b settled x.has y.has) x.mapped) y.mapped
+    (settled.made b y.has).one_template t u (subst (λ s. IsMapped words.rule s words.k t) (settled_once files words a b settled x.has y.has) x.mapped) y.mapped
 
 -- a source circuit that files hold is sound, and its template maps it with the least depth
 pub least_mapped : (files : Files) (words : SourceWords) (source : Source) (template : TemplateValue) → IsSourceSettled ToTables files words → (has : HasMapped files words source template) → IsLeastMapped files words source template has

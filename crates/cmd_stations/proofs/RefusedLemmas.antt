@@ -4,6 +4,7 @@ use Rattle.std.proofs.lemmas.Option.{same_Some}
 use Rattle.tl_fault.specs.RefusalValue.{RefusalValue}
 use Rattle.tl_io.specs.Shelf.{Files}
 use Rattle.run_text.specs.NamesValue.{NamesValue}
+use Rattle.cover_pick.specs.declared.rule.Rule.{Rule}
 use Rattle.cmd_base.specs.Refusals.{too_long}
 use Rattle.cmd_base.specs.declared.outcome.File.{File}
 use Rattle.cmd_stations.specs.declared.netlist_text.Netlist.{Netlist as NetlistValue}
@@ -21,10 +22,10 @@ use Rattle.cmd_stations.proofs.OnceLemmas.{netlist_once, settled_once}
 use Rattle.cmd_stations.proofs.ClashLemmas.{read_or_not, list_or_not}
 
 -- what is made of a source circuit is refused for one reason
-unmade_once : (aim : Aim) (source : Source) (k : ℕ) (r s : RefusalValue) → IsMakingSettled aim source k → IsUnmade aim source k r → IsUnmade aim source k s → r ≡ s
-unmade_once ToGraph source k r s settled u v = same_Some r s (sym u.tells ∙ v.tells)
-unmade_once ToLabels source k r s settled u v = settled.one_refusal r s u v
-unmade_once ToTables source k r s settled u v = settled.one_refusal r s u v
+unmade_once : (aim : Aim) (rule : Rule) (source : Source) (k : ℕ) (r s : RefusalValue) → IsMakingSettled aim rule source k → IsUnmade aim rule source k r → IsUnmade aim rule source k s → r ≡ s
+unmade_once ToGraph rule source k r s settled u v = same_Some r s (sym u.tells ∙ v.tells)
+unmade_once ToLabels rule source k r s settled u v = settled.one_refusal r s u v
+unmade_once ToTables rule source k r s settled u v = settled.one_refusal r s u v
 
 module _ {aim : Aim} (files : Files) (words : SourceWords) (settled : IsSourceSettled aim files words) where
   netlist_short : {A : Type 0} (n : NetlistValue) → HasNetlist files words n → IsLongText files words.netlist → A
@@ -67,13 +68,13 @@ module _ {aim : Aim} (files : Files) (words : SourceWords) (settled : IsSourceSe
   params_refused f n text r s has there refused (unmade at source own u) = absurd (list_or_not files words settled source n text s own has there refused)
 
   -- and what is made of a source circuit
-  made_refused : (f : File) (source : Source) (r s : RefusalValue) → HasSource files words source → IsUnmade aim source words.k s → IsSourceRefused aim files words f r → r ≡ s
+  made_refused : (f : File) (source : Source) (r s : RefusalValue) → HasSource files words source → IsUnmade aim words.rule source words.k s → IsSourceRefused aim files words f r → r ≡ s
   made_refused f source r s has u (long_netlist at long is) = netlist_short source.netlist has.netlist long
   made_refused f source r s has u (netlist at text there refused) = absurd (read_or_not files words settled source.netlist text r has.netlist there refused)
   made_refused f source r s has u (long_params at n own long is) = absurd (short_or_long files words.params has.params.text has.params.there long)
   made_refused f source r s has u (params at n text own there refused) = absurd (list_or_not files words settled source n text r has own there refused)
   made_refused f source r s has u (unmade at other own v) =
-      unmade_once aim source words.k r s (settled.made source has) (subst (λ x. IsUnmade aim x words.k r) (settled_once files words other source settled own has) v) u
+      unmade_once aim words.rule source words.k r s (settled.made source has) (subst (λ x. IsUnmade aim words.rule x words.k r) (settled_once files words other source settled own has) v) u
 
   -- So a source circuit is refused for one reason.
   pub source_refused_once : (f e : File) (r s : RefusalValue) → IsSourceRefused aim files words f r → IsSourceRefused aim files words e s → r ≡ s

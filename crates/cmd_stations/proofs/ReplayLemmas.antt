@@ -1,5 +1,5 @@
 -- Hosts that start on the same pack are alike, and a file is of one pack.
-use Rattle.std.proofs.Common.{◌≡◌, ℕ, Bool, List, length, map, Some, Ok, sym, ap, ◌∙◌, subst, inr, refl}
+use Rattle.std.proofs.Common.{◌≡◌, ℕ, Bool, List, length, map, Some, Ok, sym, ap, ◌∙◌, subst, subst₂, inr, refl}
 use Rattle.std.specs.FinMap.{get}
 use Rattle.std.specs.Option.{option_and_then}
 use Rattle.std.proofs.lemmas.List.{length-map}
@@ -102,9 +102,9 @@ pub pack_at : (files : Files) (name bytes : List ℕ) (p : PackValue) → get fi
 pack_at files name bytes p at has = subst (λ bs. IsPackFile bs p) (same_Some has.bytes bytes (sym has.there.is ∙ at)) has.is
 
 -- the same texts hold the same source circuit, mapped
-pub mapped_there : (first files : Files) (from to : SourceWords) (source : Source) (template : TemplateValue) → from.k ≡ to.k → get first from.netlist ≡ get files to.netlist → get first from.params ≡ get files to.params
+pub mapped_there : (first files : Files) (from to : SourceWords) (source : Source) (template : TemplateValue) → from.k ≡ to.k → from.rule ≡ to.rule → get first from.netlist ≡ get files to.netlist → get first from.params ≡ get files to.params
     → HasMapped first from source template → HasMapped files to source template
-mapped_there first files from to source template k netlist params has =
+mapped_there first files from to source template k rule netlist params has =
     let n = has.has.netlist in
     let p = has.has.params in
     record {
@@ -112,7 +112,7 @@ mapped_there first files from to source template k netlist params has =
         netlist = record { text = n.text; there = record { is = sym netlist ∙ n.there.is; short = n.there.short }; is = n.is };
         params = record { text = p.text; there = record { is = sym params ∙ p.there.is; short = p.there.short }; is = p.is };
       };
-      mapped = subst (λ k. IsMapped source k template) k has.mapped;
+      mapped = subst₂ (λ r n. IsMapped r source n template) rule k has.mapped;
     }
 
 -- a text has the same events wherever the same parameters may be named, by the same forms

@@ -71,11 +71,11 @@ module _ (aim : Aim) (files : Files) (words : SourceWords) where
           let here : HasParams files words n.flat source.params.list = subst (λ (m : NetlistValue). HasParams files words m.flat source.params.list) same has.params in
           params_or_refused n.flat text source.params.list r one (subst (λ ts. IsParamsText n.flat ts source.params.list) (text_once files words.params here.text text here.there there) here.is) refused
 
-  pub making_settles : (source : Source) → ComesWith files words source → IsMakingSettled aim source words.k → IsSourceSettled aim files words
+  pub making_settles : (source : Source) → ComesWith files words source → IsMakingSettled aim words.rule source words.k → IsSourceSettled aim files words
   making_settles source comes settled = record {
     netlist = comes.netlist;
     params = λ m has. subst (λ x. AreParamsSettled files words x) (netlist_once files words source.netlist m comes.netlist comes.has.netlist has) comes.params;
-    made = λ other has. subst (λ x. IsMakingSettled aim x words.k) (sym (source_once files words other source comes.netlist comes.params has comes.has)) settled;
+    made = λ other has. subst (λ x. IsMakingSettled aim words.rule x words.k) (sym (source_once files words other source comes.netlist comes.params has comes.has)) settled;
   }
 
 -- what the stations of a source circuit answer explains how it ends
@@ -125,12 +125,12 @@ module _ (aim : Aim) (words : SourceWords) (old new : ShelfSeen) where
     }
     params_explains text Memory g there one u = tt
 
-  pub made_explains : (source : Source) (s : Stop) → new.given ≤ MOST_BYTES → Told old.files (λ files. ComesWith files words source) → Stops (IsUnmade aim source words.k) s → Stops (λ _. IsMakingSettled aim source words.k) s
+  pub made_explains : (source : Source) (s : Stop) → new.given ≤ MOST_BYTES → Told old.files (λ files. ComesWith files words source) → Stops (IsUnmade aim words.rule source words.k) s → Stops (λ _. IsMakingSettled aim words.rule source words.k) s
       → Explains (source_reading aim words) old new (outcome_at file.Netlist s)
   made_explains source (Refused r) g comes u settled = record {
     given = g;
     is_read = tt;
-    not_long = unmade_not_long aim source words.k r u;
+    not_long = unmade_not_long aim words.rule source words.k r u;
     is = λ files told. unmade refl source (comes files told).has u;
     settled = λ files told. making_settles aim files words source (comes files told) settled;
   }

@@ -10,6 +10,7 @@ use Rattle.aig_core.specs.Roots.{RootsValue}
 use Rattle.cut_enum.specs.Limits.{IsLimit}
 use Rattle.cut_enum.specs.Refusals.{refusal_of as cut_refusal}
 use Rattle.cut_enum.specs.declared.table.CutErr.{CutErr}
+use Rattle.cover_pick.specs.declared.rule.Rule.{Rule}
 use Rattle.cmd_stations.specs.declared.source.Source.{Source}
 use Rattle.cmd_stations.specs.Mapped.{IsUnmapped}
 
@@ -43,7 +44,7 @@ pub data IsUnlabelled (source : Source) (k : ℕ) (refusal : RefusalValue) : Typ
   many_cuts : HasManyCuts source k refusal → IsUnlabelled source k refusal
 
 -- what a source circuit is refused for on the way there
-abbrev pub IsUnmade : Aim → Source → ℕ → RefusalValue → Type 0
-IsUnmade ToGraph source k refusal = IsUnbuilt source refusal
-IsUnmade ToLabels source k refusal = IsUnlabelled source k refusal
-IsUnmade ToTables source k refusal = IsUnmapped source k refusal
+abbrev pub IsUnmade : Aim → Rule → Source → ℕ → RefusalValue → Type 0
+IsUnmade ToGraph rule source k refusal = IsUnbuilt source refusal
+IsUnmade ToLabels rule source k refusal = IsUnlabelled source k refusal
+IsUnmade ToTables rule source k refusal = IsUnmapped rule source k refusal

@@ -1,4 +1,4 @@
--- The template of a graph, and what a graph is refused for.
+-- The template of a graph by a rule, and what a graph is refused for.
 use Rattle.std.specs.Prelude.{◌≡◌, ℕ, ◌≤◌, List, length, Some}
 use Rattle.aig_build.specs.declared.TheConstants.{MOST_NODES}
 use Rattle.aig_build.specs.declared.build_err.BuildErr.TheVariants.{TooManyNodes}
@@ -13,6 +13,7 @@ use Rattle.cut_enum.specs.Limits.{IsLimit}
 use Rattle.cut_enum.specs.Refusals.{refusal_of as cut_refusal}
 use Rattle.cut_enum.specs.declared.table.CutErr.{CutErr}
 use Rattle.depth_label.specs.Label.{LabelsValue, AreLabelled, label_of}
+use Rattle.cover_pick.specs.declared.rule.Rule.{Rule}
 use Rattle.cover_pick.specs.declared.lut.Lut.{Lut}
 use Rattle.cover_pick.specs.Template.{TemplateValue, IsTemplate, IsTooMuch}
 use Rattle.cover_pick.specs.Mapping.{IsMapping, IsLeast}
@@ -28,12 +29,12 @@ pub record IsLabelled (g : Aig) (k : ℕ) (rows : List (List (List ℕ))) (label
   pub rows_are : AreRows g k (node_count g) rows
   pub labels_are : AreLabelled g rows labels
 
--- the chosen template of a graph, within the limit on its work
-pub record IsChosen (g : Aig) (k : ℕ) (roots : RootsValue) (t : TemplateValue) : Type 0 where
+-- the template of a graph whose cuts are chosen by a rule, within the limit on its work
+pub record IsChosen (rule : Rule) (g : Aig) (k : ℕ) (roots : RootsValue) (t : TemplateValue) : Type 0 where
   pub rows : List (List (List ℕ))
   pub labels : LabelsValue
   pub labelled : IsLabelled g k rows labels
-  pub chosen : IsTemplate g rows (label_of labels) roots t
+  pub chosen : IsTemplate rule g rows (label_of labels) roots t
   pub light : IsLight g t.luts
 
 -- at most k leaves, each a regular source or an AND node, and so none a parameter
@@ -52,34 +53,34 @@ abbrev pub template_header : TemplateValue → List ℕ
 template_header t = header_line (length t.luts) t.bits t.depth
 
 -- the work of the chosen tables is too much
-pub record IsOverworked (g : Aig) (k : ℕ) (roots : RootsValue) : Type 0 where
+pub record IsOverworked (rule : Rule) (g : Aig) (k : ℕ) (roots : RootsValue) : Type 0 where
   pub rows : List (List (List ℕ))
   pub labels : LabelsValue
   pub labelled : IsLabelled g k rows labels
-  pub too_much : IsTooMuch g rows (label_of labels) (roots_of roots)
+  pub too_much : IsTooMuch rule g rows (label_of labels) (roots_of roots)
 
 -- what a graph is refused for when it is mapped: too many cuts, else too much work
-pub data IsUnchosen (g : Aig) (k : ℕ) (roots : RootsValue) (refusal : RefusalValue) : Type 0 where
-  cuts : (e : CutErr) → IsLimit g k e → cut_refusal e ≡ Some refusal → IsUnchosen g k roots refusal
-  work : IsOverworked g k roots → pick_refusal Work ≡ Some refusal → IsUnchosen g k roots refusal
+pub data IsUnchosen (rule : Rule) (g : Aig) (k : ℕ) (roots : RootsValue) (refusal : RefusalValue) : Type 0 where
+  cuts : (e : CutErr) → IsLimit g k e → cut_refusal e ≡ Some refusal → IsUnchosen rule g k roots refusal
+  work : IsOverworked rule g k roots → pick_refusal Work ≡ Some refusal → IsUnchosen rule g k roots refusal
 
--- the template of a source circuit: that chosen for its graph, which has no more AND nodes than it may
-pub record IsMapped (source : Source) (k : ℕ) (t : TemplateValue) : Type 0 where
+-- the template of a source circuit by a rule: that chosen for its graph, which has no more AND nodes than it may
+pub record IsMapped (rule : Rule) (source : Source) (k : ℕ) (t : TemplateValue) : Type 0 where
   pub graph : Aig
   pub roots : RootsValue
   pub is_graph : IsGraphOf source.netlist.library source.netlist.flat source.params.list graph roots
   pub nodes : length graph.pairs ≤ MOST_NODES
-  pub chosen : IsChosen graph k roots t
+  pub chosen : IsChosen rule graph k roots t
 
 -- what its graph is refused for, when there are no too many nodes
-pub record IsUnmappedGraph (source : Source) (k : ℕ) (refusal : RefusalValue) : Type 0 where
+pub record IsUnmappedGraph (rule : Rule) (source : Source) (k : ℕ) (refusal : RefusalValue) : Type 0 where
   pub graph : Aig
   pub roots : RootsValue
   pub is_graph : IsGraphOf source.netlist.library source.netlist.flat source.params.list graph roots
   pub nodes : length graph.pairs ≤ MOST_NODES
-  pub unchosen : IsUnchosen graph k roots refusal
+  pub unchosen : IsUnchosen rule graph k roots refusal
 
 -- what a source circuit is refused for when it is mapped: too many AND nodes, else what its graph is refused for
-pub data IsUnmapped (source : Source) (k : ℕ) (refusal : RefusalValue) : Type 0 where
-  too_many : HasTooManyNodes source.netlist.library source.netlist.flat source.params.list → build_refusal TooManyNodes ≡ Some refusal → IsUnmapped source k refusal
-  unchosen : IsUnmappedGraph source k refusal → IsUnmapped source k refusal
+pub data IsUnmapped (rule : Rule) (source : Source) (k : ℕ) (refusal : RefusalValue) : Type 0 where
+  too_many : HasTooManyNodes source.netlist.library source.netlist.flat source.params.list → build_refusal TooManyNodes ≡ Some refusal → IsUnmapped rule source k refusal
+  unchosen : IsUnmappedGraph rule source k refusal → IsUnmapped rule source k refusal

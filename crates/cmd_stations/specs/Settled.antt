@@ -6,6 +6,7 @@ use Rattle.aig_core.specs.Aig.{Aig}
 use Rattle.aig_core.specs.Roots.{RootsValue}
 use Rattle.aig_build.specs.NetlistGraph.{HasOneGraph}
 use Rattle.depth_label.specs.Label.{LabelsValue}
+use Rattle.cover_pick.specs.declared.rule.Rule.{Rule}
 use Rattle.cover_pick.specs.Template.{TemplateValue}
 use Rattle.netlist.specs.Sound.{IsSound}
 use Rattle.param_list.specs.ParamsText.{HasOneReading}
@@ -29,18 +30,18 @@ pub record IsTextSettled (text : List ℕ) : Type 0 where
   pub one_refusal : (r s : RefusalValue) → NetlistRefusal text r → NetlistRefusal text s → r ≡ s
 
 -- a graph that is mapped
-pub record IsGraphSettled (g : Aig) (k : ℕ) (roots : RootsValue) : Type 0 where
-  pub maps : (t : TemplateValue) → IsChosen g k roots t → IsLeastMapping g k roots t
-  pub one_template : (t u : TemplateValue) → IsChosen g k roots t → IsChosen g k roots u → t ≡ u
-  pub not_both : (t : TemplateValue) (r : RefusalValue) → IsChosen g k roots t → IsUnchosen g k roots r → ⊥
-  pub one_refusal : (r s : RefusalValue) → IsUnchosen g k roots r → IsUnchosen g k roots s → r ≡ s
+pub record IsGraphSettled (rule : Rule) (g : Aig) (k : ℕ) (roots : RootsValue) : Type 0 where
+  pub maps : (t : TemplateValue) → IsChosen rule g k roots t → IsLeastMapping g k roots t
+  pub one_template : (t u : TemplateValue) → IsChosen rule g k roots t → IsChosen rule g k roots u → t ≡ u
+  pub not_both : (t : TemplateValue) (r : RefusalValue) → IsChosen rule g k roots t → IsUnchosen rule g k roots r → ⊥
+  pub one_refusal : (r s : RefusalValue) → IsUnchosen rule g k roots r → IsUnchosen rule g k roots s → r ≡ s
 
 -- a source circuit that is mapped
-pub record IsMappingSettled (source : Source) (k : ℕ) : Type 0 where
-  pub maps : (t : TemplateValue) (m : IsMapped source k t) → IsLeastMapping m.graph k m.roots t
-  pub one_template : (t u : TemplateValue) → IsMapped source k t → IsMapped source k u → t ≡ u
-  pub not_both : (t : TemplateValue) (r : RefusalValue) → IsMapped source k t → IsUnmapped source k r → ⊥
-  pub one_refusal : (r s : RefusalValue) → IsUnmapped source k r → IsUnmapped source k s → r ≡ s
+pub record IsMappingSettled (rule : Rule) (source : Source) (k : ℕ) : Type 0 where
+  pub maps : (t : TemplateValue) (m : IsMapped rule source k t) → IsLeastMapping m.graph k m.roots t
+  pub one_template : (t u : TemplateValue) → IsMapped rule source k t → IsMapped rule source k u → t ≡ u
+  pub not_both : (t : TemplateValue) (r : RefusalValue) → IsMapped rule source k t → IsUnmapped rule source k r → ⊥
+  pub one_refusal : (r s : RefusalValue) → IsUnmapped rule source k r → IsUnmapped rule source k s → r ≡ s
 
 -- the graph of a source circuit
 pub record IsBuildingSettled (source : Source) : Type 0 where
@@ -54,10 +55,10 @@ pub record IsLabellingSettled (source : Source) (k : ℕ) : Type 0 where
   pub one_refusal : (r s : RefusalValue) → IsUnlabelled source k r → IsUnlabelled source k s → r ≡ s
 
 -- what a command makes of a source circuit
-abbrev pub IsMakingSettled : Aim → Source → ℕ → Type 0
-IsMakingSettled ToGraph source k = IsBuildingSettled source
-IsMakingSettled ToLabels source k = IsLabellingSettled source k
-IsMakingSettled ToTables source k = IsMappingSettled source k
+abbrev pub IsMakingSettled : Aim → Rule → Source → ℕ → Type 0
+IsMakingSettled ToGraph rule source k = IsBuildingSettled source
+IsMakingSettled ToLabels rule source k = IsLabellingSettled source k
+IsMakingSettled ToTables rule source k = IsMappingSettled rule source k
 
 -- the netlist that files hold
 abbrev pub IsNetlistSettled : Files → SourceWords → Type 0
@@ -71,7 +72,7 @@ AreParamsSettled files words n = (text : List ℕ) → HasText files words.param
 pub record IsSourceSettled (aim : Aim) (files : Files) (words : SourceWords) : Type 0 where
   pub netlist : IsNetlistSettled files words
   pub params : (n : NetlistValue) → HasNetlist files words n → AreParamsSettled files words n
-  pub made : (source : Source) → HasSource files words source → IsMakingSettled aim source words.k
+  pub made : (source : Source) → HasSource files words source → IsMakingSettled aim words.rule source words.k
 
 -- its files, and the word that names each; it has no script and no pack
 abbrev pub IsOfSource : File → Type 0

@@ -52,7 +52,7 @@ pub record HasLabels (files : Files) (words : SourceWords) (source : Source) (gr
 -- past the netlist, the list and the mapping
 pub record HasMapped (files : Files) (words : SourceWords) (source : Source) (template : TemplateValue) : Type 0 where
   pub has : HasSource files words source
-  pub mapped : IsMapped source words.k template
+  pub mapped : IsMapped words.rule source words.k template
 
 -- what is so of it: the netlist is sound, and its template maps its graph with the least depth
 pub record IsLeastMapped (files : Files) (words : SourceWords) (source : Source) (template : TemplateValue) (has : HasMapped files words source template) : Type 0 where
@@ -79,4 +79,4 @@ pub data IsSourceRefused (aim : Aim) (files : Files) (words : SourceWords) (file
   netlist : file ≡ Netlist → (text : List ℕ) → HasText files words.netlist text → NetlistRefusal text refusal → IsSourceRefused aim files words file refusal
   long_params : file ≡ Params → (n : NetlistValue) → HasNetlist files words n → IsLongText files words.params → refusal ≡ too_long → IsSourceRefused aim files words file refusal
   params : file ≡ Params → (n : NetlistValue) (text : List ℕ) → HasNetlist files words n → HasText files words.params text → IsParamsRefusal n.flat text refusal → IsSourceRefused aim files words file refusal
-  unmade : file ≡ Netlist → (source : Source) → HasSource files words source → IsUnmade aim source words.k refusal → IsSourceRefused aim files words file refusal
+  unmade : file ≡ Netlist → (source : Source) → HasSource files words source → IsUnmade aim words.rule source words.k refusal → IsSourceRefused aim files words file refusal

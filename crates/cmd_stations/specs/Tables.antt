@@ -5,6 +5,7 @@ use Rattle.aig_core.specs.Aig.{Aig}
 use Rattle.aig_core.specs.Roots.{RootsValue}
 use Rattle.aig_build.specs.NetlistGraph.{IsGraphOf, HasOneGraph}
 use Rattle.aig_build.specs.NetlistCycle.{HasSourceCycles}
+use Rattle.cover_pick.specs.declared.rule.Rule.{Rule}
 use Rattle.cover_pick.specs.Template.{TemplateValue}
 use Rattle.cmd_stations.specs.declared.source.Source.{Source}
 use Rattle.cmd_stations.specs.declared.tables.Tables.{Tables}
@@ -28,12 +29,13 @@ use Rattle.cmd_stations.specs.declared.netlist_text.Netlist.{Netlist as NetlistV
 
 -- the template of a source circuit's graph, whose cycles are the source circuit's
 pub record HasTables (source : Source) (g : Aig) (t : TemplateValue) : Type 0 where
+  pub rule : Rule
   pub k : ℕ
   pub roots : RootsValue
   pub is_graph : IsGraphOf source.netlist.library source.netlist.flat source.params.list g roots
   pub one_graph : HasOneGraph source.netlist.library source.netlist.flat source.params.list
   pub cycles : HasSourceCycles source.netlist.library source.netlist.flat source.params.list g roots
-  pub chosen : IsChosen g k roots t
+  pub chosen : IsChosen rule g k roots t
   pub least : IsLeastMapping g k roots t
 
 -- the tables of a source circuit by a template of its graph: the pack of their bits, and their shape, which can be played and written; and the file of the pack is its own
@@ -49,8 +51,8 @@ pub record AreMade (source : Source) (t : Tables) : Type 0 where
   pub file : IsPackFile (present_bytes t.pack) t.pack
 
 -- its tables by the chosen template
-pub record AreTables (source : Source) (k : ℕ) (t : Tables) : Type 0 where
-  pub mapped : IsMapped source k t.template
+pub record AreTables (rule : Rule) (source : Source) (k : ℕ) (t : Tables) : Type 0 where
+  pub mapped : IsMapped rule source k t.template
   pub least : IsLeastMapping mapped.graph k mapped.roots t.template
   pub made : AreMade source t
 

@@ -62,7 +62,7 @@ pub fn read_draft<S: Shelf>(
     requires least { 2 ≤ words.now.k }
     requires most { words.now.k ≤ MOST_LEAVES }
     ensures draft { IfOk result IsDraft }
-    ensures tables { IfOk result (λ d. AreTables d.mapped.source words.now.k d.mapped.tables) }
+    ensures tables { IfOk result (λ d. AreTables words.now.rule d.mapped.source words.now.k d.mapped.tables) }
     ensures comes { IfOk result (λ d. Told (S.seen shelf.old).files (λ files. ComesPast files (source_seen words.now) d.mapped)) }
     ensures given { OnOk result ((S.seen shelf.new).given ≤ MOST_BYTES) }
     ensures err { IfErr result (Explains (source_reading ToTables (source_seen words.now)) (S.seen shelf.old) (S.seen shelf.new)) }

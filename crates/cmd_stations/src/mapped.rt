@@ -37,7 +37,7 @@ pub fn read_mapped<S: Shelf>(
     requires least { 2 ≤ words.now.k }
     requires most { words.now.k ≤ MOST_LEAVES }
     ensures read { IfOk result (λ m. IsReadSource m.source) }
-    ensures tables { IfOk result (λ m. AreTables m.source words.now.k m.tables) }
+    ensures tables { IfOk result (λ m. AreTables words.now.rule m.source words.now.k m.tables) }
     ensures comes { IfOk result (λ m. Told (S.seen shelf.old).files (λ files. ComesPast files (source_seen words.now) m)) }
     ensures given { OnOk result ((S.seen shelf.new).given ≤ MOST_BYTES) }
     ensures err { IfErr result (Explains (source_reading ToTables (source_seen words.now)) (S.seen shelf.old) (S.seen shelf.new)) }
@@ -50,7 +50,7 @@ pub fn read_mapped<S: Shelf>(
         Ok(source) => source,
         Err(outcome) => return Err(outcome),
     };
-    match map_source(alloc, &source, words.k) {
+    match map_source(alloc, words.rule, &source, words.k) {
         Ok(tables) => Ok(MappedSource { source, tables }),
         Err(stop) => Err(stop.at(File::Netlist)),
     }

@@ -22,25 +22,25 @@ use crate::stop::Stop;
 use crate::tables::Tables;
 use aig_core::{Graph, Roots};
 use bit_fun::functions;
-use cover_pick::{Template, pick};
+use cover_pick::{Rule, Template, pick_by};
 use cut_enum::enumerate;
 use depth_label::labels;
 use lut_sim::Shape;
 use std::alloc::{AllocError, Global};
 
-// The chosen template of a graph.
-fn choose(alloc: Global, graph: &Graph, roots: &Roots, k: u8) -> Result<Template, Stop>
+// The template of a graph that a rule chooses.
+fn choose(alloc: Global, rule: Rule, graph: &Graph, roots: &Roots, k: u8) -> Result<Template, Stop>
     requires least { 2 ≤ k }
     requires most { k ≤ MOST_LEAVES }
     requires roots { AreRoots graph.now (roots_of roots.now) }
-    ensures chosen { IfOk result (λ t. IsChosen graph.now k roots.now t) }
+    ensures chosen { IfOk result (λ t. IsChosen rule graph.now k roots.now t) }
     ensures least { IfOk result (λ t. IsLeastMapping graph.now k roots.now t) }
-    ensures err { IfErr result (Stops (IsUnchosen graph.now k roots.now)) }
-    ensures settled { MatchResult result (λ _. IsGraphSettled graph.now k roots.now) (Stops (λ _. IsGraphSettled graph.now k roots.now)) }
+    ensures err { IfErr result (Stops (IsUnchosen rule graph.now k roots.now)) }
+    ensures settled { MatchResult result (λ _. IsGraphSettled rule graph.now k roots.now) (Stops (λ _. IsGraphSettled rule graph.now k roots.now)) }
 {
     let table = enumerate(alloc, graph, k)?;
     let labels = labels(alloc, graph, &table)?;
-    let template = pick(alloc, graph, roots, &table, &labels)?;
+    let template = pick_by(alloc, rule, graph, roots, &table, &labels)?;
     Ok(template)
 }
 
@@ -81,20 +81,20 @@ fn tabulate(
     })
 }
 
-/// Maps a source circuit to tables of at most `k` inputs, with the least depth.
+/// Maps a source circuit to tables of at most `k` inputs, with the least depth, whose cuts are chosen by a rule.
 ///
 /// # Errors
 /// `Refused` for the first limit that its graph is over; `Memory` where there is none.
-pub fn map_source(alloc: Global, source: &Source, k: u8) -> Result<Tables, Stop>
+pub fn map_source(alloc: Global, rule: Rule, source: &Source, k: u8) -> Result<Tables, Stop>
     requires least { 2 ≤ k }
     requires most { k ≤ MOST_LEAVES }
     requires read { IsReadSource source.now }
-    ensures tables { IfOk result (AreTables source.now k) }
-    ensures err { IfErr result (Stops (IsUnmapped source.now k)) }
-    ensures settled { MatchResult result (λ _. IsMappingSettled source.now k) (Stops (λ _. IsMappingSettled source.now k)) }
+    ensures tables { IfOk result (AreTables rule source.now k) }
+    ensures err { IfErr result (Stops (IsUnmapped rule source.now k)) }
+    ensures settled { MatchResult result (λ _. IsMappingSettled rule source.now k) (Stops (λ _. IsMappingSettled rule source.now k)) }
 {
     let (graph, roots) = source_graph(alloc, source)?;
-    let template = choose(alloc, &graph, &roots, k)?;
+    let template = choose(alloc, rule, &graph, &roots, k)?;
     let tables = tabulate(alloc, source, &graph, template)?;
     Ok(tables)
 }

@@ -82,7 +82,7 @@ pub fn read_scripted<S: Shelf>(
 ) -> Result<Scripted, Outcome>
     requires { IsTableSize words.now.source.k }
     ensures read { IfOk result (λ s. IsReadSource s.mapped.source) }
-    ensures tables { IfOk result (λ s. AreTables s.mapped.source words.now.source.k s.mapped.tables) }
+    ensures tables { IfOk result (λ s. AreTables words.now.source.rule s.mapped.source words.now.source.k s.mapped.tables) }
     ensures comes { IfOk result (λ s. Told (S.seen shelf.old).files (λ files. ComesScripted files (scripted_seen words.now) s)) }
     ensures fit { IfOk result (λ s. (event : EventValue) → In (event_values s.events.items) event → Fits (names_in words.now.forms s.mapped.source s.mapped.tables.template.bits) event) }
     ensures given { OnOk result ((S.seen shelf.new).given ≤ MOST_BYTES) }

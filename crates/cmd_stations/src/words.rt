@@ -6,11 +6,13 @@ ghost use Rattle.cmd_stations.specs.Settled.{source_word};
 ghost use Rattle.cmd_stations.specs.Words.{k_of, source_words, source_seen, IsTableSize};
 
 use cmd_base::File;
+use cover_pick::Rule;
 use cut_enum::MOST_LEAVES;
 
-/// The words that name a source circuit's files, and the size of its tables.
+/// The words that name a source circuit's files, the size of its tables, and the rule by which their cuts are chosen.
 #[derive(Clone, Copy)]
 pub struct SourceWords<'a> {
+    pub rule: Rule,
     pub k: u8,
     pub netlist: &'a str,
     pub params: &'a str,
@@ -30,13 +32,23 @@ pub fn table_size(word: &str) -> Option<u8>
     }
 }
 
-/// The words of a source circuit; `None` exactly where the first isn't such a number.
-pub fn read_source_words<'a>(k: &str, netlist: &'a str, params: &'a str) -> Option<SourceWords<'a>>
-    ensures value { option_map (λ w. source_seen w) result ≡ source_words (k_of k.now) netlist.now params.now }
+/// The words of a source circuit, whose cuts are chosen by a rule; `None` exactly where the first word isn't such a number.
+pub fn read_source_words<'a>(
+    rule: Rule,
+    k: &str,
+    netlist: &'a str,
+    params: &'a str,
+) -> Option<SourceWords<'a>>
+    ensures value { option_map (λ w. source_seen w) result ≡ source_words rule (k_of k.now) netlist.now params.now }
     ensures range { IfSome result (λ w. IsTableSize w.k) }
 {
     match table_size(k) {
-        Some(k) => Some(SourceWords { k, netlist, params }),
+        Some(k) => Some(SourceWords {
+            rule,
+            k,
+            netlist,
+            params,
+        }),
         None => None,
     }
 }

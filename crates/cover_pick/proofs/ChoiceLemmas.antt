@@ -4,12 +4,10 @@ use Rattle.std.proofs.lemmas.Option.{same_Some, none-some}
 use Rattle.std.proofs.lemmas.Bool.{cases_order, ltb-true, ltb-false, eqb-true, and_parts, and_from, false≢true, both_ways, lt-ltb, eq-eqb}
 use Rattle.list_laws.specs.Members.{In}
 use Rattle.cut_enum.specs.Sets.{lex, before as comes_before, IsOrdered}
-use Rattle.depth_label.specs.Label.{height, AreLabels}
+use Rattle.depth_label.specs.Label.{height}
 use Rattle.list_laws.proofs.Choice.{choose}
-use Rattle.aig_core.specs.Aig.{Aig, IsAnd}
-use Rattle.cover_pick.specs.Fewest.{better, fewest, or_empty, choice_of}
+use Rattle.cover_pick.specs.Fewest.{better, fewest}
 use Rattle.cover_pick.specs.Choice.{Precedes, fewer, lower, before, IsChosen}
-use Rattle.cover_pick.specs.Planned.{Chooses}
 
 -- what `before` says
 before_says : (a b : List ℕ) → comes_before a b ≡ true → (length a < length b) ⊎ ((length a ≡ length b) × (lex a b ≡ true))
@@ -103,7 +101,7 @@ best_is label r cs c up e =
     record { one = elim s.one [ inl j ↦ absurd j | inr j ↦ j ]; low = s.low; first = λ d i l. s.first d (inr i) l }
 
 -- where a cut is chosen
-best_in : (label : ℕ → ℕ) (r : ℕ) (cs : List (List ℕ)) (o : Option (List ℕ)) (c : List ℕ) → fewest label r o cs ≡ Some c → In cs c ⊎ (o ≡ Some c)
+pub best_in : (label : ℕ → ℕ) (r : ℕ) (cs : List (List ℕ)) (o : Option (List ℕ)) (c : List ℕ) → fewest label r o cs ≡ Some c → In cs c ⊎ (o ≡ Some c)
 best_in label r [] o c h = inr h
 best_in label r (d ∷ cs) None c h =
     elim (best_in label r cs (better label r None d) c h) [
@@ -129,7 +127,7 @@ best_found label r (d ∷ cs) None b (inl e) l =
     (λ t. absurd (let f : height label b ≡ height label d = ap (λ x. height label x) e in let q : r < height label d = ltb-true r (height label d) t in omega arith)) (λ _. best_some label r cs d)
 best_found label r (d ∷ cs) None b (inr i) l = best_found label r cs (better label r None d) b i l
 
-best_low : (label : ℕ → ℕ) (r : ℕ) (cs : List (List ℕ)) (o : Option (List ℕ)) (c : List ℕ) → ((b : List ℕ) → o ≡ Some b → height label b ≤ r) → fewest label r o cs ≡ Some c → height label c ≤ r
+pub best_low : (label : ℕ → ℕ) (r : ℕ) (cs : List (List ℕ)) (o : Option (List ℕ)) (c : List ℕ) → ((b : List ℕ) → o ≡ Some b → height label b ≤ r) → fewest label r o cs ≡ Some c → height label c ≤ r
 best_low label r [] o c low h = low c h
 best_low label r (d ∷ cs) None c low h =
     best_low label r cs (better label r None d) c
@@ -141,23 +139,3 @@ best_low label r (d ∷ cs) (Some a) c low h =
     (λ t q. let u : height label d < height label a = ltb-true (height label d) (height label a) (and_parts (eqb (length d) (length a)) (ltb (height label d) (height label a)) t).1 in
     let v : height label a ≤ r = low a refl in let s : height label d ≡ height label b = ap (λ x. height label x) (same_Some d b q) in omega arith)
     (λ _ q. low b q) e) h
-
--- the choice is one of the cuts, low enough, wherever the label is
-pub Chooses-choice : (g : Aig) (cuts : ℕ → List (List ℕ)) (label : ℕ → ℕ) → AreLabels g cuts label → Chooses g cuts label (choice_of cuts label)
-Chooses-choice g cuts label labels =
-    let found : (n r : ℕ) → IsAnd g n → label n ≤ r → (c : List ℕ) × (fewest label r None (cuts n) ≡ Some c) =
-    (λ n r and l. let m = labels.met n and in let e : label n ≡ height label m.0 = m.2 in best_found label r (cuts n) None m.0 m.1 (omega arith)) in
-    record {
-      cut = λ n r and l. let f = found n r and l in
-          rw f.1 (elim (best_in label r (cuts n) None f.0 f.1) [ inl i ↦ i | inr e ↦ absurd (none-some f.0 e) ]);
-      low = λ n r and l. let f = found n r and l in
-          rw f.1 (best_low label r (cuts n) None f.0 (λ b e. absurd (none-some b e)) f.1);
-    }
-
--- a leaf of the choice is one of a cut of the node
-choice_leaf_of : (label : ℕ → ℕ) (cs : List (List ℕ)) (r size : ℕ) → ((c : List ℕ) (m : ℕ) → In cs c → In c m → m < size) → (o : Option (List ℕ)) → fewest label r None cs ≡ o → (m : ℕ) → In (or_empty o) m → m < size
-choice_leaf_of label cs r size below None e m i = absurd i
-choice_leaf_of label cs r size below (Some c) e m i = elim (best_in label r cs None c e) [ inl j ↦ below c m j i | inr q ↦ absurd (none-some c q) ]
-
-pub choice_leaf : (cuts : ℕ → List (List ℕ)) (label : ℕ → ℕ) (n r size : ℕ) → ((c : List ℕ) (m : ℕ) → In (cuts n) c → In c m → m < size) → (m : ℕ) → In (choice_of cuts label n r) m → m < size
-choice_leaf cuts label n r size below m i = choice_leaf_of label (cuts n) r size below (fewest label r None (cuts n)) refl m i

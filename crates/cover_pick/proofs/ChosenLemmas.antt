@@ -10,7 +10,6 @@ use Rattle.aig_core.specs.declared.lit.Lit.{Lit}
 use Rattle.aig_core.specs.Roots.{RootsValue, roots_of, AreRoots}
 use Rattle.list_laws.specs.Members.{In}
 use Rattle.list_laws.proofs.Choice.{choose}
-use Rattle.cut_enum.specs.Table.{row_at}
 use Rattle.depth_label.specs.Label.{IsCutTable}
 use Rattle.cover_pick.specs.declared.limits.TheConstants.{MOST_WORK}
 use Rattle.tl_fault.specs.OrMemory.{OrMemory}
@@ -19,7 +18,8 @@ use Rattle.cover_pick.specs.declared.lut.PickErr.{PickErr}
 use Rattle.cover_pick.specs.declared.lut.PickErr.TheVariants.{Work, Memory}
 use Rattle.cover_pick.specs.declared.lut.Lut.{Lut}
 use Rattle.cover_pick.specs.Target.{target}
-use Rattle.cover_pick.specs.Fewest.{choice_of}
+use Rattle.cover_pick.specs.declared.rule.Rule.{Rule}
+use Rattle.cover_pick.specs.Ruled.{choice_of}
 use Rattle.cover_pick.specs.Required.{need, chosen}
 use Rattle.cover_pick.specs.Schedule.{AtMost, IsPlan}
 use Rattle.cover_pick.specs.Planned.{cut_at, depths_of, IsPlanned}
@@ -53,37 +53,37 @@ none_of choice n true o e = refl
 none_of choice n false None e = refl
 none_of choice n false (Some r) e = absurd (none-some r (sym e))
 
-module _ (g : Aig) (rows : List (List (List ℕ))) (label : ℕ → ℕ) (roots : List ℕ) (cuts : List (Option (List ℕ))) (p : IsPlanned g rows label roots cuts) where
+module _ (rule : Rule) (g : Aig) (rows : List (List (List ℕ))) (label : ℕ → ℕ) (roots : List ℕ) (cuts : List (Option (List ℕ))) (p : IsPlanned rule g rows label roots cuts) where
   reqs : List (Option ℕ)
-  reqs = depths_of g rows label roots
+  reqs = depths_of rule g rows label roots
 
-  node_of : (n r : ℕ) → and_depths g (depths_of g rows label roots) n ≡ Some r → IsAnd g n
+  node_of : (n r : ℕ) → and_depths g (depths_of rule g rows label roots) n ≡ Some r → IsAnd g n
   node_of n r e =
-      let d = depth_from g (depths_of g rows label roots) n r e in
-      let a : n < length (depths_of g rows label roots) = need_in (depths_of g rows label roots) n r d.1 in
-      let s : length (depths_of g rows label roots) ≡ node_count g = p.size in (d.0, omega arith)
+      let d = depth_from g (depths_of rule g rows label roots) n r e in
+      let a : n < length (depths_of rule g rows label roots) = need_in (depths_of rule g rows label roots) n r d.1 in
+      let s : length (depths_of rule g rows label roots) ≡ node_count g = p.size in (d.0, omega arith)
 
-  cut_is : (n r : ℕ) → first_and g ≤ n → need (depths_of g rows label roots) n ≡ Some r → cut_at cuts n ≡ Some (choice_of (row_at rows) label n r)
-  cut_is n r a e = p.chosen n ∙ cover_at g (choice_of (row_at rows) label) (depths_of g rows label roots) n (Some r) a e
+  cut_is : (n r : ℕ) → first_and g ≤ n → need (depths_of rule g rows label roots) n ≡ Some r → cut_at cuts n ≡ Some (choice_of rule g rows label roots n r)
+  cut_is n r a e = p.chosen n ∙ cover_at g (choice_of rule g rows label roots) (depths_of rule g rows label roots) n (Some r) a e
 
   -- The walk's depths and cuts are the plan.
-  pub plan_is : IsPlan g rows label roots (and_depths g (depths_of g rows label roots)) (cut_at cuts)
+  pub plan_is : IsPlan rule g rows label roots (and_depths g (depths_of rule g rows label roots)) (cut_at cuts)
   plan_is = record {
     schedule = record {
       nodes = node_of;
-      low = λ n r e. p.schedule.low n r (node_of n r e) (depth_from g (depths_of g rows label roots) n r e).1;
-      root = λ l i and. subst (λ o. AtMost o (target g label roots)) (sym (and_depth g (depths_of g rows label roots) (l / 2) and.0)) (p.schedule.root l i and);
+      low = λ n r e. p.schedule.low n r (node_of n r e) (depth_from g (depths_of rule g rows label roots) n r e).1;
+      root = λ l i and. subst (λ o. AtMost o (target g label roots)) (sym (and_depth g (depths_of rule g rows label roots) (l / 2) and.0)) (p.schedule.root l i and);
       leaf = λ n r m c e at i and.
-          let d = depth_from g (depths_of g rows label roots) n r e in
-          let same : choice_of (row_at rows) label n r ≡ c = same_Some (choice_of (row_at rows) label n r) c (sym (cut_is n r d.0 d.1) ∙ at) in
-          subst (λ o. AtMost o (r - 1)) (sym (and_depth g (depths_of g rows label roots) m and.0)) (p.schedule.leaf n r m (node_of n r e) d.1 (subst (λ x. In x m) (sym same) i));
-      whence = λ n r e. elim (p.schedule.whence n r (depth_from g (depths_of g rows label roots) n r e).1) [
+          let d = depth_from g (depths_of rule g rows label roots) n r e in
+          let same : choice_of rule g rows label roots n r ≡ c = same_Some (choice_of rule g rows label roots n r) c (sym (cut_is n r d.0 d.1) ∙ at) in
+          subst (λ o. AtMost o (r - 1)) (sym (and_depth g (depths_of rule g rows label roots) m and.0)) (p.schedule.leaf n r m (node_of n r e) d.1 (subst (λ x. In x m) (sym same) i));
+      whence = λ n r e. elim (p.schedule.whence n r (depth_from g (depths_of rule g rows label roots) n r e).1) [
         | inl f ↦ inl f
         | inr f ↦ inr (record {
           reader = f.reader;
           depth = f.depth;
-          cut = choice_of (row_at rows) label f.reader f.depth;
-          needed = and_depth g (depths_of g rows label roots) f.reader f.and.0 ∙ f.needed;
+          cut = choice_of rule g rows label roots f.reader f.depth;
+          needed = and_depth g (depths_of rule g rows label roots) f.reader f.and.0 ∙ f.needed;
           chosen = cut_is f.reader f.depth f.and.0 f.needed;
           leaf = f.leaf;
           is = f.is;
@@ -91,9 +91,9 @@ module _ (g : Aig) (rows : List (List (List ℕ))) (label : ℕ → ℕ) (roots 
       ];
     };
     chosen = λ n r e.
-        let d = depth_from g (depths_of g rows label roots) n r e in
-        record { cut = choice_of (row_at rows) label n r; is = cut_is n r d.0 d.1; best = p.best n r (node_of n r e) d.1 };
-    none = λ n e. p.chosen n ∙ none_of (choice_of (row_at rows) label) n (ltb n (first_and g)) (need (depths_of g rows label roots) n) e;
+        let d = depth_from g (depths_of rule g rows label roots) n r e in
+        record { cut = choice_of rule g rows label roots n r; is = cut_is n r d.0 d.1; best = p.best n r (node_of n r e) d.1 };
+    none = λ n e. p.chosen n ∙ none_of (choice_of rule g rows label roots) n (ltb n (first_and g)) (need (depths_of rule g rows label roots) n) e;
   }
 
 -- marks are of the needed literals
@@ -130,7 +130,7 @@ are_leaves g cuts l c nodes (source s o e) =
     ∙ (ap (λ o. source_leaves o (l / 2) (l % 2)) s.is ∙ (ap (λ t. cond t (Some ((l / 2) ∷ [])) None) (eq-eqb (l % 2) 1 o) ∙ ap (λ x. Some x) (sym e)))
 are_leaves g cuts l c nodes (node at) = leaves_and g cuts l (nodes c at) ∙ at
 
-module _ (g : Aig) (rows : List (List (List ℕ))) (label : ℕ → ℕ) (roots : List ℕ) (made : Made) (t : IsCutTable g rows) (lits : AreRoots g roots) (a : IsMade g rows label roots made) where
+module _ (rule : Rule) (g : Aig) (rows : List (List (List ℕ))) (label : ℕ → ℕ) (roots : List ℕ) (made : Made) (t : IsCutTable g rows) (lits : AreRoots g roots) (a : IsMade rule g rows label roots made) where
   cut_node : (n : ℕ) (c : List ℕ) → cut_at a.cuts n ≡ Some c → IsAnd g n
   cut_node n c at = ((a.plan.least t.k t.are).is.cuts n c at).0
 
@@ -142,11 +142,11 @@ module _ (g : Aig) (rows : List (List (List ℕ))) (label : ℕ → ℕ) (roots 
       let y : m < n = (both.1.below m i).0 in omega arith
 
   -- The tables that are made are the chosen ones.
-  pub chosen_is : AreChosen g rows label roots made.luts made.bits
+  pub chosen_is : AreChosen rule g rows label roots made.luts made.bits
   chosen_is = record {
-    reqs = and_depths g (depths_of g rows label roots);
+    reqs = and_depths g (depths_of rule g rows label roots);
     cover = cut_at a.cuts;
-    plan = plan_is g rows label roots a.cuts a.plan;
+    plan = plan_is rule g rows label roots a.cuts a.plan;
     tables = record {
       needed = λ u i. marked_is roots a.cuts u.lit.0 (a.tables.only u i).0;
       leaves = λ u i. leaves_are g a.cuts u.lit.0 u.leaves (a.tables.below u i) (a.tables.only u i).1;
@@ -158,12 +158,12 @@ module _ (g : Aig) (rows : List (List (List ℕ))) (label : ℕ → ℕ) (roots 
   }
 
   -- Each is within its node's required depth.
-  pub timely_is : AreTimely g rows label roots made.luts
+  pub timely_is : AreTimely rule g rows label roots made.luts
   timely_is = record {
     each = λ reqs cover plan u r i e.
-        let same : reqs (u.lit.0 / 2) ≡ and_depths g (depths_of g rows label roots) (u.lit.0 / 2) =
-        depths_once g rows label roots t reqs (and_depths g (depths_of g rows label roots)) cover (cut_at a.cuts) plan (plan_is g rows label roots a.cuts a.plan) (u.lit.0 / 2) in
-        let d = depth_from g (depths_of g rows label roots) (u.lit.0 / 2) r (sym same ∙ e) in
+        let same : reqs (u.lit.0 / 2) ≡ and_depths g (depths_of rule g rows label roots) (u.lit.0 / 2) =
+        depths_once rule g rows label roots t reqs (and_depths g (depths_of rule g rows label roots)) cover (cut_at a.cuts) plan (plan_is rule g rows label roots a.cuts a.plan) (u.lit.0 / 2) in
+        let d = depth_from g (depths_of rule g rows label roots) (u.lit.0 / 2) r (sym same ∙ e) in
         let and : IsAnd g (u.lit.0 / 2) = plan.schedule.nodes (u.lit.0 / 2) r e in
         to_tables g t.k roots a.cuts made (a.plan.least t.k t.are).is a.tables (a.plan.timely (u.lit.0 / 2) r and d.1) u.lit.0 refl and (a.tables.only u i).0;
   }
@@ -180,42 +180,42 @@ work_is g (t ∷ ts) normal inside =
       sum_by-cons (λ (u : Lut). table_work g u.lit.0 u.leaves) t ts,
     )
 
-pub light_is : (g : Aig) (rows : List (List (List ℕ))) (label : ℕ → ℕ) (roots : List ℕ) (made : Made) → AreNormal (first_and g) g.pairs → IsMade g rows label roots made → made.work ≤ MOST_WORK → IsLight g made.luts
-light_is g rows label roots made normal a l = record {
+pub light_is : (rule : Rule) (g : Aig) (rows : List (List (List ℕ))) (label : ℕ → ℕ) (roots : List ℕ) (made : Made) → AreNormal (first_and g) g.pairs → IsMade rule g rows label roots made → made.work ≤ MOST_WORK → IsLight g made.luts
+light_is rule g rows label roots made normal a l = record {
   work = made.work;
   is = subst (λ w. IsWork g made.luts w) (sym a.tables.work) (work_is g made.luts normal a.tables.below);
   light = l;
 }
 
 -- where the work of the tables that would be made is too much
-pub too_much : (g : Aig) (rows : List (List (List ℕ))) (label : ℕ → ℕ) (roots : List ℕ) (cuts : List (Option (List ℕ))) → AreNormal (first_and g) g.pairs → IsCutTable g rows → IsPlanned g rows label roots cuts → AreRoots g roots
-    → MOST_WORK < (tables_of g roots cuts).work → IsTooMuch g rows label roots
-too_much g rows label roots cuts normal t plan lits l =
-    let are : AreMade g cuts (IsMarked roots cuts) (2 * node_count g) (tables_of g roots cuts) = tables_needed g roots cuts (leaves_inside g rows label roots cuts t plan) lits in
-    let made : IsMade g rows label roots (tables_of g roots cuts) = record { cuts = cuts; plan = plan; tables = are } in
+pub too_much : (rule : Rule) (g : Aig) (rows : List (List (List ℕ))) (label : ℕ → ℕ) (roots : List ℕ) (cuts : List (Option (List ℕ))) → AreNormal (first_and g) g.pairs → IsCutTable g rows → IsPlanned rule g rows label roots cuts → AreRoots g roots
+    → MOST_WORK < (tables_of g roots cuts).work → IsTooMuch rule g rows label roots
+too_much rule g rows label roots cuts normal t plan lits l =
+    let are : AreMade g cuts (IsMarked roots cuts) (2 * node_count g) (tables_of g roots cuts) = tables_needed g roots cuts (leaves_inside rule g rows label roots cuts t plan) lits in
+    let made : IsMade rule g rows label roots (tables_of g roots cuts) = record { cuts = cuts; plan = plan; tables = are } in
     record {
       luts = (tables_of g roots cuts).luts;
       bits = (tables_of g roots cuts).bits;
-      chosen = chosen_is g rows label roots (tables_of g roots cuts) t lits made;
+      chosen = chosen_is rule g rows label roots (tables_of g roots cuts) t lits made;
       work = (tables_of g roots cuts).work;
       is = subst (λ w. IsWork g (tables_of g roots cuts).luts w) (sym are.work) (work_is g (tables_of g roots cuts).luts normal are.below);
       past = l;
     }
 
-pub too_much_told : (g : Aig) (rows : List (List (List ℕ))) (label : ℕ → ℕ) (roots : List ℕ) (cuts : List (Option (List ℕ))) → AreNormal (first_and g) g.pairs → IsCutTable g rows → IsPlanned g rows label roots cuts → AreRoots g roots
-    → (e : PickErr) → OrMemory refusal_of (λ _. MOST_WORK < (tables_of g roots cuts).work) e → OrMemory refusal_of (λ _. IsTooMuch g rows label roots) e
-too_much_told g rows label roots cuts normal t plan lits Work l = too_much g rows label roots cuts normal t plan lits l
-too_much_told g rows label roots cuts normal t plan lits Memory l = tt
+pub too_much_told : (rule : Rule) (g : Aig) (rows : List (List (List ℕ))) (label : ℕ → ℕ) (roots : List ℕ) (cuts : List (Option (List ℕ))) → AreNormal (first_and g) g.pairs → IsCutTable g rows → IsPlanned rule g rows label roots cuts → AreRoots g roots
+    → (e : PickErr) → OrMemory refusal_of (λ _. MOST_WORK < (tables_of g roots cuts).work) e → OrMemory refusal_of (λ _. IsTooMuch rule g rows label roots) e
+too_much_told rule g rows label roots cuts normal t plan lits Work l = too_much rule g rows label roots cuts normal t plan lits l
+too_much_told rule g rows label roots cuts normal t plan lits Memory l = tt
 
 -- The whole template.
-pub template_is : (g : Aig) (rows : List (List (List ℕ))) (label : ℕ → ℕ) (roots : RootsValue) (made : Made) (outputs next : List Lit) (depth : ℕ) → IsCutTable g rows → AreRoots g (roots_of roots) → IsMade g rows label (roots_of roots) made
+pub template_is : (rule : Rule) (g : Aig) (rows : List (List (List ℕ))) (label : ℕ → ℕ) (roots : RootsValue) (made : Made) (outputs next : List Lit) (depth : ℕ) → IsCutTable g rows → AreRoots g (roots_of roots) → IsMade rule g rows label (roots_of roots) made
     → outputs ≡ roots.outputs → next ≡ roots.next → depth ≡ target g label (roots_of roots)
-    → IsTemplate g rows label roots (record { luts = made.luts; outputs = outputs; next = next; bits = made.bits; depth = depth })
-template_is g rows label roots made outputs next depth t lits a o n e = record {
-  chosen = chosen_is g rows label (roots_of roots) made t lits a;
+    → IsTemplate rule g rows label roots (record { luts = made.luts; outputs = outputs; next = next; bits = made.bits; depth = depth })
+template_is rule g rows label roots made outputs next depth t lits a o n e = record {
+  chosen = chosen_is rule g rows label (roots_of roots) made t lits a;
   outputs = o;
   next = n;
   depth = e;
-  within = subst (λ d. TablesWithin g (roots_of roots) made.luts d) (sym e) (tables_within g rows label (roots_of roots) made t a);
-  exact = λ d w. let b : target g label (roots_of roots) ≤ d = tables_exact g rows label (roots_of roots) made t a d w in omega arith;
+  within = subst (λ d. TablesWithin g (roots_of roots) made.luts d) (sym e) (tables_within rule g rows label (roots_of roots) made t a);
+  exact = λ d w. let b : target g label (roots_of roots) ≤ d = tables_exact rule g rows label (roots_of roots) made t a d w in omega arith;
 }

@@ -1,4 +1,4 @@
--- A worked example: the chosen table of the multiplexer whose choice is a parameter, with the complement of its last node as the root.
+-- Worked examples: the chosen table of the multiplexer whose choice is a parameter, with the complement of its last node as the root; its flows, and what a cut costs.
 use Rattle.std.proofs.Common.{◌≡◌, ℕ, ◌*◌, ◌/◌, ◌<◌, ◌≤◌, cond, eqb, List, [], ◌∷◌, Option, Some, None, refl, sym, ap, subst, inl, inr, arith}
 use Rattle.std.proofs.lemmas.Option.{same_Some, none-some}
 use Rattle.std.proofs.lemmas.Bool.{eqb-true}
@@ -12,7 +12,10 @@ use Rattle.depth_label.specs.Label.{height, label_of}
 use Rattle.depth_label.proofs.Examples.{mux_labels}
 use Rattle.cover_pick.specs.declared.lut.Lut.{Lut}
 use Rattle.cover_pick.specs.Choice.{Precedes, before, IsChosen}
-use Rattle.cover_pick.specs.Schedule.{AtMost, HasChosen, IsPlan}
+use Rattle.cover_pick.specs.declared.rule.Rule.TheVariants.{FewestLeaves}
+use Rattle.cover_pick.specs.Flow.{fan_out, flows_below, flow_of}
+use Rattle.cover_pick.specs.Sharing.{IsNeededAbove, shared, free as free_leaf, new, IsCost}
+use Rattle.cover_pick.specs.Schedule.{AtMost, HasRuled, IsPlan}
 use Rattle.cover_pick.specs.Tables.{IsNeeded, root, leaf, IsLeaves, constant, parameter, source, node, HasTable, AreTables}
 use Rattle.cover_pick.specs.Work.{IsCone, IsWork}
 use Rattle.cover_pick.proofs.WorkLemmas.{cone_is}
@@ -47,7 +50,7 @@ only_root : (l : ℕ) → In (13 ∷ []) l → l ≡ 13
 only_root l (inl e) = e
 only_root l (inr b) = absurd b
 
-pub mux_plan : IsPlan mux mux_rows (label_of mux_labels) (13 ∷ []) mux_depths mux_cover
+pub mux_plan : IsPlan FewestLeaves mux mux_rows (label_of mux_labels) (13 ∷ []) mux_depths mux_cover
 mux_plan = record {
   schedule = record {
     nodes = λ n r e. let six : n ≡ 6 = (depth_at n r e).0 in (omega arith, omega arith);
@@ -58,8 +61,8 @@ mux_plan = record {
   };
   chosen = λ n r e.
       let d = depth_at n r e in
-      subst (λ i. HasChosen (label_of mux_labels) r (row_at mux_rows i) (mux_cover i)) (sym d.0)
-      (subst (λ q. HasChosen (label_of mux_labels) q (row_at mux_rows 6) (mux_cover 6)) d.1 (record { cut = 1 ∷ 2 ∷ []; is = refl; best = mux_chosen }));
+      subst (λ i. HasRuled FewestLeaves (flow_of mux mux_rows) (IsNeededAbove (13 ∷ []) mux_cover i) (label_of mux_labels) r (row_at mux_rows i) (mux_cover i)) (sym d.0)
+      (subst (λ q. HasRuled FewestLeaves (flow_of mux mux_rows) (IsNeededAbove (13 ∷ []) mux_cover 6) (label_of mux_labels) q (row_at mux_rows 6) (mux_cover 6)) d.1 (record { cut = 1 ∷ 2 ∷ []; is = refl; best = mux_chosen }));
   none = λ n e. ap (λ b. cond b (Some (1 ∷ 2 ∷ [])) None) (none_then (eqb n 6) 1 e);
 }
 
@@ -109,3 +112,14 @@ mux_cone = cone_is mux (1 ∷ 2 ∷ []) 6 mux_normal (omega arith)
 
 pub mux_work : IsWork mux mux_luts 16
 mux_work = (16, 0, record { cone = 6 ∷ 5 ∷ 4 ∷ []; is = mux_cone; work_is = refl }, refl, refl)
+
+-- The flows: a table of one input above each of the two inputs, and one of both above them.
+pub mux_flows : flows_below mux mux_rows (fan_out mux) 7 ≡ 0 ∷ 0 ∷ 0 ∷ 0 ∷ 258 ∷ 258 ∷ 260 ∷ []
+mux_flows = refl
+
+-- A cut of an input and node 5 costs its four bits, and the flow of node 5 unless that is needed already.
+pub shared_cost : IsCost (flow_of mux mux_rows) (λ m. m ≡ 5) (1 ∷ 5 ∷ []) 4
+shared_cost = record { leaves = 0; are = (0, 0, free_leaf refl refl, (0, 0, shared refl refl, refl, refl), refl); is = refl }
+
+pub new_cost : IsCost (flow_of mux mux_rows) (λ m. ⊥) (1 ∷ 5 ∷ []) 262
+new_cost = record { leaves = 258; are = (0, 258, free_leaf refl refl, (258, 0, new (λ x. x) refl, refl, refl), refl); is = refl }

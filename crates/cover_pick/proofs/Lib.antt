@@ -2,7 +2,14 @@ mod MemberLemmas
 mod TargetLemmas
 mod ChoiceLemmas
 mod CandidateLemmas
+mod CheapestLemmas
+mod SharingLemmas
+mod FlowLemmas
+mod CountLemmas
+mod StateLemmas
 mod WalkLemmas
+mod NeededLemmas
+mod RuleLemmas
 mod PlaceLemmas
 mod PlanLemmas
 pub mod BitsLemmas

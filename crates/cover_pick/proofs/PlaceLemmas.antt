@@ -8,7 +8,7 @@ use Rattle.aig_core.specs.Aig.{Aig, node_count}
 use Rattle.cut_enum.specs.Table.{row_at}
 use Rattle.cover_pick.specs.Required.{need}
 use Rattle.cover_pick.specs.Planned.{cut_at}
-use Rattle.cover_pick.specs.Places.{place_at, cut_of, cuts_from, cuts_of, best_for, AreBestPlaces}
+use Rattle.cover_pick.specs.Places.{place_at, cut_of, cuts_from, cuts_of, found_for, AreBestPlaces}
 
 -- the cuts that places stand for
 pub cuts_length : (rows : List (List (List ℕ))) (n : ℕ) (places : List (Option ℕ)) → length (cuts_from rows n places) ≡ length places
@@ -33,9 +33,9 @@ cut_at_place rows places seen cuts n o p view same read is =
 no_place : Option ℕ
 no_place = None
 
-pub places_none : (g : Aig) (rows : List (List (List ℕ))) (label : ℕ → ℕ) (depths : List (Option ℕ)) → AreBestPlaces g rows label depths (node_count g) (replicate (node_count g) None)
+pub places_none : (g : Aig) (rows : List (List (List ℕ))) (found : ℕ → ℕ → Option (List ℕ)) (depths : List (Option ℕ)) → AreBestPlaces g rows found depths (node_count g) (replicate (node_count g) None)
 unfolding no_place
-places_none g rows label depths =
+places_none g rows found depths =
     let none : (n : ℕ) → place_at (replicate (node_count g) None) n ≡ None = (λ n. elim (cases_lt n (node_count g)) [
       | inl l ↦ get_or-replicate (node_count g) n None None l
       | inr l ↦ get_or_past (replicate (node_count g) None) n None (rw (length-replicate (node_count g) no_place) l)
@@ -48,10 +48,10 @@ places_none g rows label depths =
     }
 
 -- the place of the next node below, where no required depth above it changes
-pub places_next : (g : Aig) (rows : List (List (List ℕ))) (label : ℕ → ℕ) (depths next : List (Option ℕ)) (n m : ℕ) (places : List (Option ℕ)) (p : Option ℕ) → n + 1 ≡ m → n < node_count g
-    → AreBestPlaces g rows label depths m places → ((i : ℕ) → n ≤ i → need next i ≡ need depths i) → cut_of (row_at rows n) p ≡ best_for label (row_at rows n) (need depths n)
-    → ((i : ℕ) → p ≡ Some i → i < length (row_at rows n)) → AreBestPlaces g rows label next n (slice_set places n p)
-places_next g rows label depths next n m places p s l w above best inside =
+pub places_next : (g : Aig) (rows : List (List (List ℕ))) (found : ℕ → ℕ → Option (List ℕ)) (depths next : List (Option ℕ)) (n m : ℕ) (places : List (Option ℕ)) (p : Option ℕ) → n + 1 ≡ m → n < node_count g
+    → AreBestPlaces g rows found depths m places → ((i : ℕ) → n ≤ i → need next i ≡ need depths i) → cut_of (row_at rows n) p ≡ found_for (found n) (need depths n)
+    → ((i : ℕ) → p ≡ Some i → i < length (row_at rows n)) → AreBestPlaces g rows found next n (slice_set places n p)
+places_next g rows found depths next n m places p s l w above best inside =
     let c : length places ≡ node_count g = w.count in
     let here : (i : ℕ) → i ≡ n → place_at (slice_set places n p) i ≡ p = (λ i e. subst (λ j. place_at (slice_set places n p) j ≡ p) (sym e) (get_or-set_same places n p None (omega arith))) in
     let other : (i : ℕ) → (i ≡ n → ⊥) → place_at (slice_set places n p) i ≡ place_at places i = (λ i d. rw get_or-set_other refl) in
@@ -63,8 +63,8 @@ places_next g rows label depths next n m places p s l w above best inside =
       ];
       below = λ i b. other i (λ q. absurd (omega arith)) ∙ w.below i (omega arith);
       best = λ i a b. elim (cases_eq i n) [
-        | inl q ↦ subst (λ k. cut_of (row_at rows k) (place_at (slice_set places n p) k) ≡ best_for label (row_at rows k) (need next k)) (sym q)
-            (ap (λ o. cut_of (row_at rows n) o) (here n refl) ∙ (best ∙ ap (λ o. best_for label (row_at rows n) o) (sym (above n (omega arith)))))
-        | inr d ↦ ap (λ o. cut_of (row_at rows i) o) (other i d) ∙ (w.best i (omega arith) b ∙ ap (λ o. best_for label (row_at rows i) o) (sym (above i a)))
+        | inl q ↦ subst (λ k. cut_of (row_at rows k) (place_at (slice_set places n p) k) ≡ found_for (found k) (need next k)) (sym q)
+            (ap (λ o. cut_of (row_at rows n) o) (here n refl) ∙ (best ∙ ap (λ o. found_for (found n) o) (sym (above n (omega arith)))))
+        | inr d ↦ ap (λ o. cut_of (row_at rows i) o) (other i d) ∙ (w.best i (omega arith) b ∙ ap (λ o. found_for (found i) o) (sym (above i a)))
       ];
     }

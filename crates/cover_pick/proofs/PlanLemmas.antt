@@ -6,20 +6,23 @@ use Rattle.aig_core.specs.Aig.{Aig, first_and, node_count, IsAnd, AreNormal}
 use Rattle.aig_core.specs.declared.lit.Lit.{Lit}
 use Rattle.list_laws.specs.Members.{In}
 use Rattle.cut_enum.specs.Cuts.{AreMinimal}
-use Rattle.depth_label.specs.Label.{height, AreLabels, IsCutTable}
+use Rattle.depth_label.specs.Label.{AreLabels, IsCutTable}
 use Rattle.cut_enum.specs.Covers.{IsCover, HasDepth, source, free, table, RootsWithin}
 use Rattle.cut_enum.specs.Table.{AreRows, row_at}
 use Rattle.list_laws.proofs.Choice.{choose}
 use Rattle.aig_core.specs.Roots.{lits_of, AreRoots}
 use Rattle.cover_pick.specs.Target.{target}
-use Rattle.cover_pick.specs.Choice.{IsChosen}
-use Rattle.cover_pick.specs.Fewest.{or_empty, choice_of}
-use Rattle.cover_pick.specs.Places.{cut_of, cuts_of, best_for, AreBestPlaces}
+use Rattle.cover_pick.specs.declared.rule.Rule.{Rule}
+use Rattle.cover_pick.specs.Flow.{flow_of}
+use Rattle.cover_pick.specs.Sharing.{IsNeededAbove}
+use Rattle.cover_pick.specs.Schedule.{IsRuled}
+use Rattle.cover_pick.specs.Ruled.{or_empty, found_of, choice_of}
+use Rattle.cover_pick.specs.Places.{cut_of, cuts_of, found_for, AreBestPlaces}
 use Rattle.cover_pick.proofs.PlaceLemmas.{cut_is}
 use Rattle.cover_pick.specs.Required.{cover_of, chosen, need}
 use Rattle.cover_pick.specs.Planned.{Chooses, cut_at, plan_of, depths_of, IsLeastCover, IsPlanned}
-use Rattle.cover_pick.proofs.ChoiceLemmas.{Chooses-choice, best_is, best_found}
-use Rattle.cover_pick.proofs.WalkLemmas.{Walked, schedule_is, template_within, template_cover, target_least, required_walked, depth_le_required}
+use Rattle.cover_pick.proofs.RuleLemmas.{found_at, choice_keeps, walked, choice_ruled}
+use Rattle.cover_pick.proofs.WalkLemmas.{schedule_is, template_within, template_cover, target_least, depth_le_required}
 
 -- a root that is read
 pub root_in : (ls : List Lit) (i : ℕ) (l : Lit) → i < length ls → l ≡ get_or ls i l → In (lits_of ls) (l.0)
@@ -58,77 +61,67 @@ cover_past g choice reqs n e l =
     (λ _. subst (λ o. chosen choice n o ≡ None) (sym (get_or_past reqs n None (omega arith))) refl)
 
 -- the facts of a plan, of which the table's number k and the labels are given
-module _ (g : Aig) (rows : List (List (List ℕ))) (label : ℕ → ℕ) (roots : List ℕ) (inside : (l : ℕ) → In roots l → l / 2 < node_count g) (labels : AreLabels g (row_at rows) label) where
-  walked : (k : ℕ) → AreRows g k (node_count g) rows → Walked g label (choice_of (row_at rows) label) roots (target g label roots) 0 (depths_of g rows label roots)
-  walked k are = required_walked g k roots (row_at rows) label (choice_of (row_at rows) label) inside (λ n and. are.each n and.1 and) (Chooses-choice g (row_at rows) label labels)
-
-  pub depths_size : (k : ℕ) → AreRows g k (node_count g) rows → length (depths_of g rows label roots) ≡ node_count g
-  depths_size k are = (walked k are).size
+module _ (rule : Rule) (g : Aig) (rows : List (List (List ℕ))) (label : ℕ → ℕ) (roots : List ℕ) (inside : (l : ℕ) → In roots l → l / 2 < node_count g) (labels : AreLabels g (row_at rows) label) where
+  pub depths_size : (k : ℕ) → AreRows g k (node_count g) rows → length (depths_of rule g rows label roots) ≡ node_count g
+  depths_size k are = (walked rule g rows label roots inside labels k are).size
 
   -- the choice of a needed node, by the rule's own words
-  chosen_best : (k : ℕ) → AreRows g k (node_count g) rows → (n r : ℕ) → IsAnd g n → need (depths_of g rows label roots) n ≡ Some r → IsChosen label r (row_at rows n) (choice_of (row_at rows) label n r)
-  chosen_best k are n r and e =
-      let low : label n ≤ r = (walked k are).low n r and e in
-      let m = labels.met n and in
-      let h : label n ≡ height label m.0 = m.2 in
-      let f = best_found label r (row_at rows n) None m.0 m.1 (omega arith) in
-      subst (λ o. IsChosen label r (row_at rows n) (or_empty o)) (sym f.1) (best_is label r (row_at rows n) f.0 (are.each n and.1 and).ordered f.1)
+  chosen_best : (cuts : List (Option (List ℕ))) → ((n : ℕ) → cut_at cuts n ≡ plan_of rule g rows label roots n) → (k : ℕ) → AreRows g k (node_count g) rows → (n r : ℕ) → IsAnd g n → need (depths_of rule g rows label roots) n ≡ Some r
+      → IsRuled rule (flow_of g rows) (IsNeededAbove roots (cut_at cuts) n) label r (row_at rows n) (choice_of rule g rows label roots n r)
+  chosen_best cuts same k are n r and e = choice_ruled rule g rows label roots inside labels k are (cut_at cuts) same n r and ((walked rule g rows label roots inside labels k are).low n r and e)
 
-  -- the best cut of a node for its required depth is its choice
-  best_chosen : (k : ℕ) → AreRows g k (node_count g) rows → (n : ℕ) (o : Option ℕ) → IsAnd g n → need (depths_of g rows label roots) n ≡ o → best_for label (row_at rows n) o ≡ chosen (choice_of (row_at rows) label) n o
+  -- the cut that is found for a node's required depth is its choice
+  best_chosen : (k : ℕ) → AreRows g k (node_count g) rows → (n : ℕ) (o : Option ℕ) → IsAnd g n → need (depths_of rule g rows label roots) n ≡ o → found_for (found_of rule g rows label roots n) o ≡ chosen (choice_of rule g rows label roots) n o
   best_chosen k are n None and e = refl
   best_chosen k are n (Some r) and e =
-      let low : label n ≤ r = (walked k are).low n r and e in
-      let m = labels.met n and in
-      let h : label n ≡ height label m.0 = m.2 in
-      let f = best_found label r (row_at rows n) None m.0 m.1 (omega arith) in
-      f.1 ∙ ap (λ o. Some (or_empty o)) (sym f.1)
+      let f = found_at rule g rows label roots labels n r and ((walked rule g rows label roots inside labels k are).low n r and e) in
+      f.is ∙ ap (λ o. Some (or_empty o)) (sym f.is)
 
   -- The cuts at the best places are the plan.
-  pub places_plan : (k : ℕ) → AreRows g k (node_count g) rows → (places : List (Option ℕ)) → AreBestPlaces g rows label (depths_of g rows label roots) (first_and g) places
-      → (n : ℕ) → n < node_count g → cut_at (cuts_of rows places) n ≡ plan_of g rows label roots n
+  pub places_plan : (k : ℕ) → AreRows g k (node_count g) rows → (places : List (Option ℕ)) → AreBestPlaces g rows (found_of rule g rows label roots) (depths_of rule g rows label roots) (first_and g) places
+      → (n : ℕ) → n < node_count g → cut_at (cuts_of rows places) n ≡ plan_of rule g rows label roots n
   places_plan k are places best n l =
-      let depths : List (Option ℕ) = depths_of g rows label roots in
-      let choice : ℕ → ℕ → List ℕ = choice_of (row_at rows) label in
+      let depths : List (Option ℕ) = depths_of rule g rows label roots in
+      let choice : ℕ → ℕ → List ℕ = choice_of rule g rows label roots in
       cut_is rows places n ∙ elim (cases_lt n (first_and g)) [
         | inl s ↦ ap (λ p. cut_of (row_at rows n) p) (best.below n s) ∙ sym (cover_source g choice depths n s)
         | inr a ↦ best.best n a l ∙ (best_chosen k are n (need depths n) (a, l) refl ∙ sym (cover_node g choice depths n a))
       ]
 
-  plan_least : AreNormal (first_and g) g.pairs → (cuts : List (Option (List ℕ))) → ((n : ℕ) → cut_at cuts n ≡ plan_of g rows label roots n) → (k : ℕ) → AreRows g k (node_count g) rows → IsLeastCover g k roots (cut_at cuts) (target g label roots)
+  plan_least : AreNormal (first_and g) g.pairs → (cuts : List (Option (List ℕ))) → ((n : ℕ) → cut_at cuts n ≡ plan_of rule g rows label roots n) → (k : ℕ) → AreRows g k (node_count g) rows → IsLeastCover g k roots (cut_at cuts) (target g label roots)
   plan_least normal cuts e k are =
-      let choice : ℕ → ℕ → List ℕ = choice_of (row_at rows) label in
-      let chooses : Chooses g (row_at rows) label choice = Chooses-choice g (row_at rows) label labels in
+      let choice : ℕ → ℕ → List ℕ = choice_of rule g rows label roots in
+      let chooses : Chooses g (row_at rows) label choice = choice_keeps rule g rows label roots labels in
       let minimal : (n : ℕ) → IsAnd g n → AreMinimal g k n (row_at rows n) = (λ n and. are.each n and.1 and) in
-      let is_cover : IsCover g k roots (cut_at cuts) = IsCover-same g k roots (plan_of g rows label roots) (cut_at cuts) e (template_cover g k roots (row_at rows) label choice inside minimal chooses) in
-      let is_within : RootsWithin g (cut_at cuts) roots (target g label roots) = RootsWithin-same g roots (target g label roots) (plan_of g rows label roots) (cut_at cuts) e (template_within g k roots (row_at rows) label choice inside minimal chooses) in
+      let is_cover : IsCover g k roots (cut_at cuts) = IsCover-same g k roots (plan_of rule g rows label roots) (cut_at cuts) e (template_cover g k roots (row_at rows) label choice inside minimal chooses) in
+      let is_within : RootsWithin g (cut_at cuts) roots (target g label roots) = RootsWithin-same g roots (target g label roots) (plan_of rule g rows label roots) (cut_at cuts) e (template_within g k roots (row_at rows) label choice inside minimal chooses) in
       record {
         is = is_cover;
         within = is_within;
         least = record { cover = cut_at cuts; is = is_cover; within = is_within; least = λ other d is w. target_least g k roots (row_at rows) label choice inside minimal chooses normal labels other d is w };
       }
 
-  plan_timely : (cuts : List (Option (List ℕ))) → ((n : ℕ) → cut_at cuts n ≡ plan_of g rows label roots n) → (k : ℕ) → AreRows g k (node_count g) rows
-      → (n r : ℕ) → IsAnd g n → need (depths_of g rows label roots) n ≡ Some r → HasDepth g (cut_at cuts) n r
+  plan_timely : (cuts : List (Option (List ℕ))) → ((n : ℕ) → cut_at cuts n ≡ plan_of rule g rows label roots n) → (k : ℕ) → AreRows g k (node_count g) rows
+      → (n r : ℕ) → IsAnd g n → need (depths_of rule g rows label roots) n ≡ Some r → HasDepth g (cut_at cuts) n r
   plan_timely cuts e k are n r and at =
-      let choice : ℕ → ℕ → List ℕ = choice_of (row_at rows) label in
-      let chooses : Chooses g (row_at rows) label choice = Chooses-choice g (row_at rows) label labels in
+      let choice : ℕ → ℕ → List ℕ = choice_of rule g rows label roots in
+      let chooses : Chooses g (row_at rows) label choice = choice_keeps rule g rows label roots labels in
       let minimal : (n : ℕ) → IsAnd g n → AreMinimal g k n (row_at rows n) = (λ n and. are.each n and.1 and) in
-      HasDepth-same g (plan_of g rows label roots) (cut_at cuts) e
-      (depth_le_required g k roots (row_at rows) label choice inside minimal chooses (target g label roots) (depths_of g rows label roots) (walked k are) n r and at)
+      HasDepth-same g (plan_of rule g rows label roots) (cut_at cuts) e
+      (depth_le_required g k roots (row_at rows) label choice inside minimal chooses (target g label roots) (depths_of rule g rows label roots) (walked rule g rows label roots inside labels k are) n r and at)
 
   -- all nodes' cuts are the plan, where those of the graph are
   pub plan_all : AreNormal (first_and g) g.pairs → (cuts : List (Option (List ℕ))) → IsCutTable g rows → length cuts ≡ node_count g
-      → ((n : ℕ) → n < node_count g → cut_at cuts n ≡ plan_of g rows label roots n) → IsPlanned g rows label roots cuts
+      → ((n : ℕ) → n < node_count g → cut_at cuts n ≡ plan_of rule g rows label roots n) → IsPlanned rule g rows label roots cuts
   plan_all normal cuts t e below =
-      let same : (n : ℕ) → cut_at cuts n ≡ plan_of g rows label roots n = (λ n. elim (cases_lt n (node_count g)) [
+      let same : (n : ℕ) → cut_at cuts n ≡ plan_of rule g rows label roots n = (λ n. elim (cases_lt n (node_count g)) [
         | inl l ↦ below n l
-        | inr l ↦ get_or_past cuts n None (omega arith) ∙ sym (cover_past g (choice_of (row_at rows) label) (depths_of g rows label roots) n (depths_size t.k t.are) l)
+        | inr l ↦ get_or_past cuts n None (omega arith) ∙ sym (cover_past g (choice_of rule g rows label roots) (depths_of rule g rows label roots) n (depths_size t.k t.are) l)
       ]) in
       record {
         chosen = same;
-        schedule = schedule_is g t.k roots (row_at rows) label (choice_of (row_at rows) label) inside (λ n and. t.are.each n and.1 and) (Chooses-choice g (row_at rows) label labels) (target g label roots) (depths_of g rows label roots) (walked t.k t.are);
-        best = chosen_best t.k t.are;
+        schedule = schedule_is g t.k roots (row_at rows) label (choice_of rule g rows label roots) inside (λ n and. t.are.each n and.1 and) (choice_keeps rule g rows label roots labels) (target g label roots) (depths_of rule g rows label roots) (walked rule g rows label roots inside labels t.k t.are);
+        best = chosen_best cuts same t.k t.are;
         size = depths_size t.k t.are;
         timely = plan_timely cuts same t.k t.are;
         least = plan_least normal cuts same;

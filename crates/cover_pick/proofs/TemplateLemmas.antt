@@ -9,6 +9,7 @@ use Rattle.list_laws.specs.Members.{In}
 use Rattle.cut_enum.specs.Covers.{IsCover, HasDepth, source, free as no_leaves, table}
 use Rattle.list_laws.proofs.Choice.{choose}
 use Rattle.depth_label.specs.Label.{IsCutTable}
+use Rattle.cover_pick.specs.declared.rule.Rule.{Rule}
 use Rattle.cover_pick.specs.Target.{target}
 use Rattle.cover_pick.specs.Planned.{cut_at, IsPlanned}
 use Rattle.cover_pick.specs.Marks.{leaves_of, source_leaves, Made, AreMade, IsMarked, root, leaf, IsMade}
@@ -65,22 +66,22 @@ module _ (g : Aig) (k : ℕ) (roots : List ℕ) (cuts : List (Option (List ℕ))
       table c at (λ m i. elim (leaf_and n m c at i) [ inl s ↦ source s | inr a ↦ from_tables (sub m i a.0) m (omega arith) a ])
 
 -- the depth of the tables is the target
-pub tables_within : (g : Aig) (rows : List (List (List ℕ))) (label : ℕ → ℕ) (roots : List ℕ) (made : Made) → IsCutTable g rows → IsMade g rows label roots made → TablesWithin g roots made.luts (target g label roots)
-tables_within g rows label roots made t a =
+pub tables_within : (rule : Rule) (g : Aig) (rows : List (List (List ℕ))) (label : ℕ → ℕ) (roots : List ℕ) (made : Made) → IsCutTable g rows → IsMade rule g rows label roots made → TablesWithin g roots made.luts (target g label roots)
+tables_within rule g rows label roots made t a =
     let p = a.plan.least t.k t.are in
     record {
       complemented = p.within.complemented;
       nodes = λ l i and. to_tables g t.k roots a.cuts made p.is a.tables (p.within.nodes l i and) l refl and (root i);
     }
 
-pub tables_exact : (g : Aig) (rows : List (List (List ℕ))) (label : ℕ → ℕ) (roots : List ℕ) (made : Made) → IsCutTable g rows → IsMade g rows label roots made → (d : ℕ) → TablesWithin g roots made.luts d → target g label roots ≤ d
-tables_exact g rows label roots made t a d w =
+pub tables_exact : (rule : Rule) (g : Aig) (rows : List (List (List ℕ))) (label : ℕ → ℕ) (roots : List ℕ) (made : Made) → IsCutTable g rows → IsMade rule g rows label roots made → (d : ℕ) → TablesWithin g roots made.luts d → target g label roots ≤ d
+tables_exact rule g rows label roots made t a d w =
     let p = a.plan.least t.k t.are in
     p.least.least (cut_at a.cuts) d p.is (record { complemented = w.complemented; nodes = λ l i and. from_tables g t.k roots a.cuts made p.is a.tables (w.nodes l i and) (l / 2) refl and })
 
 -- a chosen cut's leaves are nodes
-pub leaves_inside : (g : Aig) (rows : List (List (List ℕ))) (label : ℕ → ℕ) (roots : List ℕ) (cuts : List (Option (List ℕ))) → IsCutTable g rows → IsPlanned g rows label roots cuts → (c : List ℕ) (m : ℕ) → In cuts (Some c) → In c m → m < node_count g
-leaves_inside g rows label roots cuts t plan c m i j =
+pub leaves_inside : (rule : Rule) (g : Aig) (rows : List (List (List ℕ))) (label : ℕ → ℕ) (roots : List ℕ) (cuts : List (Option (List ℕ))) → IsCutTable g rows → IsPlanned rule g rows label roots cuts → (c : List ℕ) (m : ℕ) → In cuts (Some c) → In c m → m < node_count g
+leaves_inside rule g rows label roots cuts t plan c m i j =
     let p = plan.least t.k t.are in
     let r = in_cut cuts c i in
     let both = p.is.cuts r.0 c r.1 in

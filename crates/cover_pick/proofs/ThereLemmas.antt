@@ -4,6 +4,7 @@ use Rattle.aig_core.specs.Aig.{Aig, first_and, node_count, AreNormal}
 use Rattle.aig_core.specs.Roots.{RootsValue, roots_of, AreRoots}
 use Rattle.cut_enum.specs.Table.{AreRows, row_at}
 use Rattle.depth_label.specs.Label.{IsCutTable, AreLabels}
+use Rattle.cover_pick.specs.declared.rule.Rule.{Rule}
 use Rattle.cover_pick.specs.Mapping.{IsMapping, IsLeast}
 use Rattle.cover_pick.specs.Marks.{Made, IsMade, tables_of}
 use Rattle.cover_pick.specs.Planned.{cut_at, plan_of, IsPlanned}
@@ -30,32 +31,32 @@ cuts_at plan from zero n l = absurd (omega arith)
 cuts_at plan from (suc count) zero l = let here : from ≡ from + 0 = omega arith in ap plan here
 cuts_at plan from (suc count) (suc n) l = let next : from + 1 + n ≡ from + suc n = omega arith in cuts_at plan (from + 1) count n (omega arith) ∙ ap plan next
 
-module _ (g : Aig) (rows : List (List (List ℕ))) (label : ℕ → ℕ) (roots : RootsValue) (normal : AreNormal (first_and g) g.pairs) (table : IsCutTable g rows) (labels : AreLabels g (row_at rows) label) (lits : AreRoots g (roots_of roots)) where
+module _ (rule : Rule) (g : Aig) (rows : List (List (List ℕ))) (label : ℕ → ℕ) (roots : RootsValue) (normal : AreNormal (first_and g) g.pairs) (table : IsCutTable g rows) (labels : AreLabels g (row_at rows) label) (lits : AreRoots g (roots_of roots)) where
   abbrev cuts : List (Option (List ℕ))
-  cuts = cuts_from (plan_of g rows label (roots_of roots)) 0 (node_count g)
+  cuts = cuts_from (plan_of rule g rows label (roots_of roots)) 0 (node_count g)
 
-  planned : IsPlanned g rows label (roots_of roots) cuts
+  planned : IsPlanned rule g rows label (roots_of roots) cuts
   planned =
-      plan_all g rows label (roots_of roots) (roots_inside g (roots_of roots) lits) labels normal cuts table (cuts_long (plan_of g rows label (roots_of roots)) 0 (node_count g))
-      (λ n l. let here : 0 + n ≡ n = omega arith in cuts_at (plan_of g rows label (roots_of roots)) 0 (node_count g) n l ∙ ap (plan_of g rows label (roots_of roots)) here)
+      plan_all rule g rows label (roots_of roots) (roots_inside g (roots_of roots) lits) labels normal cuts table (cuts_long (plan_of rule g rows label (roots_of roots)) 0 (node_count g))
+      (λ n l. let here : 0 + n ≡ n = omega arith in cuts_at (plan_of rule g rows label (roots_of roots)) 0 (node_count g) n l ∙ ap (plan_of rule g rows label (roots_of roots)) here)
 
   abbrev made : Made
   made = tables_of g (roots_of roots) cuts
 
-  is_made : IsMade g rows label (roots_of roots) made
-  is_made = record { cuts = cuts; plan = planned; tables = tables_needed g (roots_of roots) cuts (leaves_inside g rows label (roots_of roots) cuts table planned) lits }
+  is_made : IsMade rule g rows label (roots_of roots) made
+  is_made = record { cuts = cuts; plan = planned; tables = tables_needed g (roots_of roots) cuts (leaves_inside rule g rows label (roots_of roots) cuts table planned) lits }
 
   abbrev there : TemplateValue
   there = record { luts = made.luts; outputs = roots.outputs; next = roots.next; bits = made.bits; depth = target g label (roots_of roots) }
 
-  is_there : IsTemplate g rows label roots there
-  is_there = template_is g rows label roots made roots.outputs roots.next (target g label (roots_of roots)) table lits is_made refl refl refl
+  is_there : IsTemplate rule g rows label roots there
+  is_there = template_is rule g rows label roots made roots.outputs roots.next (target g label (roots_of roots)) table lits is_made refl refl refl
 
-  same : (t : TemplateValue) → IsTemplate g rows label roots t → there ≡ t
-  same t is = template_once g rows label roots table there t is_there is
+  same : (t : TemplateValue) → IsTemplate rule g rows label roots t → there ≡ t
+  same t is = template_once rule g rows label roots table there t is_there is
 
-  pub each_maps : (t : TemplateValue) → IsTemplate g rows label roots t → (k : ℕ) → AreRows g k (node_count g) rows → IsMapping g k (roots_of roots) t.luts t.bits
-  each_maps t is k are = subst (λ (u : TemplateValue). IsMapping g k (roots_of roots) u.luts u.bits) (same t is) (mapping_is g rows label (roots_of roots) made is_made k are lits)
+  pub each_maps : (t : TemplateValue) → IsTemplate rule g rows label roots t → (k : ℕ) → AreRows g k (node_count g) rows → IsMapping g k (roots_of roots) t.luts t.bits
+  each_maps t is k are = subst (λ (u : TemplateValue). IsMapping g k (roots_of roots) u.luts u.bits) (same t is) (mapping_is rule g rows label (roots_of roots) made is_made k are lits)
 
-  pub each_least : (t : TemplateValue) → IsTemplate g rows label roots t → (k : ℕ) → AreRows g k (node_count g) rows → IsLeast g k (roots_of roots) t.luts t.depth
-  each_least t is k are = subst (λ (u : TemplateValue). IsLeast g k (roots_of roots) u.luts u.depth) (same t is) (least_is g rows label (roots_of roots) made is_made k are lits)
+  pub each_least : (t : TemplateValue) → IsTemplate rule g rows label roots t → (k : ℕ) → AreRows g k (node_count g) rows → IsLeast g k (roots_of roots) t.luts t.depth
+  each_least t is k are = subst (λ (u : TemplateValue). IsLeast g k (roots_of roots) u.luts u.depth) (same t is) (least_is rule g rows label (roots_of roots) made is_made k are lits)

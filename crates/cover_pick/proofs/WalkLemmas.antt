@@ -14,7 +14,7 @@ use Rattle.depth_label.specs.Label.{greatest, height, AreLabels}
 use Rattle.list_laws.proofs.Choice.{choose}
 use Rattle.depth_label.proofs.DepthLemmas.{greatest_le, label_le_depth}
 use Rattle.cover_pick.specs.Target.{source_level, root_level, target}
-use Rattle.cover_pick.specs.Required.{need, least_of, require, require_each, visit, walk, require_root, require_roots, required, chosen, cover_of}
+use Rattle.cover_pick.specs.Required.{need, least_of, require, require_each, visit, walk, require_root, require_roots, roots_required, required, chosen, cover_of}
 use Rattle.cover_pick.specs.Schedule.{AtMost, FromRoot}
 use Rattle.cover_pick.specs.Planned.{Chooses, IsWalked}
 use Rattle.cover_pick.proofs.TargetLemmas.{level_complemented, level_within}
@@ -177,13 +177,13 @@ module _ (g : Aig) (k : ℕ) (roots : List ℕ) (cuts : ℕ → List (List ℕ))
   choice_cut : (n r : ℕ) → IsAnd g n → label n ≤ r → IsCut g k n (choice n r)
   choice_cut n r and l = ((minimal n and).only (choice n r) (chooses.cut n r and l)).cut
 
-  leaf_below : (n r m : ℕ) → IsAnd g n → label n ≤ r → In (choice n r) m → m < n
+  pub leaf_below : (n r m : ℕ) → IsAnd g n → label n ≤ r → In (choice n r) m → m < n
   leaf_below n r m and l i = ((choice_cut n r and l).below m i).0
 
   leaf_low : (n r m : ℕ) → IsAnd g n → label n ≤ r → In (choice n r) m → 1 + label m ≤ r
   leaf_low n r m and l i = let a : 1 + label m ≤ height label (choice n r) = height_in label (choice n r) m i in let b : height label (choice n r) ≤ r = chooses.low n r and l in omega arith
 
-  visit_walked : (t j : ℕ) (reqs : List (Option ℕ)) (o : Option ℕ) → j < length g.pairs → Walked g label choice roots t (suc j) reqs → need reqs (first_and g + j) ≡ o
+  pub visit_walked : (t j : ℕ) (reqs : List (Option ℕ)) (o : Option ℕ) → j < length g.pairs → Walked g label choice roots t (suc j) reqs → need reqs (first_and g + j) ≡ o
       → Walked g label choice roots t j (visit choice (first_and g + j) o reqs)
   visit_walked t j reqs None below w e = record {
     size = w.size;
@@ -257,7 +257,7 @@ module _ (g : Aig) (k : ℕ) (roots : List ℕ) (cuts : ℕ → List (List ℕ))
       choose (λ x. x ≤ target g label roots → source_level g l ≤ target g label roots) (ltb (l / 2) (first_and g)) (source_level g l) (label (l / 2))
       (λ b h. h) (λ b _. absurd (let c : first_and g ≤ l / 2 = ltb-false (l / 2) (first_and g) b in omega arith)) (root_low l i)
 
-  pub start_walked : Walked g label choice roots (target g label roots) (length g.pairs) (require_roots (first_and g) (target g label roots) (replicate (node_count g) None) roots)
+  pub start_walked : Walked g label choice roots (target g label roots) (length g.pairs) (roots_required g roots (target g label roots))
   unfolding no_depth
   start_walked =
       let t = target g label roots in
@@ -279,7 +279,7 @@ module _ (g : Aig) (k : ℕ) (roots : List ℕ) (cuts : ℕ → List (List ℕ))
 
   -- the walk of the whole graph
   pub required_walked : Walked g label choice roots (target g label roots) 0 (required g choice roots (target g label roots))
-  required_walked = walk_walked (target g label roots) (length g.pairs) (require_roots (first_and g) (target g label roots) (replicate (node_count g) None) roots) (omega arith) start_walked
+  required_walked = walk_walked (target g label roots) (length g.pairs) (roots_required g roots (target g label roots)) (omega arith) start_walked
 
   -- the rule in its own words
   pub schedule_is : (t : ℕ) (reqs : List (Option ℕ)) → Walked g label choice roots t 0 reqs → IsWalked g label choice roots t (need reqs)
@@ -294,7 +294,7 @@ module _ (g : Aig) (k : ℕ) (roots : List ℕ) (cuts : ℕ → List (List ℕ))
   }
 
   module _ (t : ℕ) (reqs : List (Option ℕ)) (w : Walked g label choice roots t 0 reqs) where
-    cover_is : (n r : ℕ) → IsAnd g n → need reqs n ≡ Some r → cover_of g choice reqs n ≡ Some (choice n r)
+    pub cover_is : (n r : ℕ) → IsAnd g n → need reqs n ≡ Some r → cover_of g choice reqs n ≡ Some (choice n r)
     cover_is n r and e =
         choose (λ o. o ≡ Some (choice n r)) (ltb n (first_and g)) None (chosen choice n (need reqs n))
         (λ b. absurd (let c : n < first_and g = ltb-true n (first_and g) b in omega arith)) (λ b. subst (λ o. chosen choice n o ≡ Some (choice n r)) (sym e) refl)
@@ -330,7 +330,7 @@ module _ (g : Aig) (k : ℕ) (roots : List ℕ) (cuts : ℕ → List (List ℕ))
         let l : n < length reqs = need_in reqs n r e in
         (r, (a, omega arith), e, sym (same_Some (choice n r) c h))
 
-    cover_at : (n : ℕ) (c : List ℕ) → cover_of g choice reqs n ≡ Some c → (r : ℕ) × IsAnd g n × (need reqs n ≡ Some r) × (c ≡ choice n r)
+    pub cover_at : (n : ℕ) (c : List ℕ) → cover_of g choice reqs n ≡ Some c → (r : ℕ) × IsAnd g n × (need reqs n ≡ Some r) × (c ≡ choice n r)
     cover_at n c h0 =
         choose (λ o. o ≡ Some c → (r : ℕ) × IsAnd g n × (need reqs n ≡ Some r) × (c ≡ choice n r)) (ltb n (first_and g)) None (chosen choice n (need reqs n))
         (λ b h. absurd (none-some c h)) (λ b h. chosen_at n c (need reqs n) (ltb-false n (first_and g) b) refl h) h0
@@ -367,7 +367,3 @@ module _ (g : Aig) (k : ℕ) (roots : List ℕ) (cuts : ℕ → List (List ℕ))
       (λ b. level_within g l d (λ s e. within.complemented l i s e))
       (λ b. let a : first_and g ≤ l / 2 = ltb-false (l / 2) (first_and g) b in let c : l / 2 < node_count g = inside l i in
       label_le_depth g normal k roots cover cuts label is minimal labels (within.nodes l i (a, c))))
-
--- one node of the walk
-pub walk_step : (choice : ℕ → ℕ → List ℕ) (first m j n : ℕ) (reqs next : List (Option ℕ)) → m ≡ suc j → n ≡ first + j → next ≡ visit choice n (need reqs n) reqs → walk choice first j next ≡ walk choice first m reqs
-walk_step choice first m j n reqs next e f h = rw (h, f, e) refl

@@ -1,6 +1,5 @@
 -- How the chosen cut is found: the cuts of an ordered list are taken one after another.
 use Rattle.std.specs.Prelude.{◌≡◌, ℕ, ◌<◌, ◌&&◌, if◌then◌else◌, ◌==◌, nat_lt, List, [], ◌∷◌, length, Option, Some, None, slice_index_or}
-pub use Rattle.depth_label.specs.Fold.{or_empty}
 use Rattle.depth_label.specs.Label.{height}
 use Rattle.cover_pick.specs.declared.choice.Candidate.{Candidate}
 
@@ -25,7 +24,3 @@ IsAt label cs (Some b) (Some c) = (b.place < length cs) × (slice_index_or cs b.
 abbrev pub IsShorter : Option Candidate → ℕ → Type 0
 IsShorter None len = ⊥
 IsShorter (Some b) len = b.len < len
-
--- the cut that is chosen for a node and its required depth
-abbrev pub choice_of : (ℕ → List (List ℕ)) → (ℕ → ℕ) → ℕ → ℕ → List ℕ
-choice_of cuts label n r = or_empty (fewest label r None (cuts n))

@@ -2,6 +2,8 @@
 pub mod Mapping
 pub mod Target
 pub mod Choice
+pub mod Flow
+pub mod Sharing
 pub mod Schedule
 pub mod Tables
 pub mod Work
@@ -9,6 +11,9 @@ pub mod Template
 pub mod Refusals
 -- What only bodies are compared with.
 pub mod Fewest
+pub mod Cheapest
+pub mod Ruled
+pub mod Counts
 pub mod Required
 pub mod Planned
 pub mod Places

@@ -6,6 +6,7 @@ use Rattle.aig_core.specs.declared.lit.Kind.TheVariants.{Regular, Parameter}
 use Rattle.list_laws.specs.Members.{In}
 -- is a literal marked
 pub use Rattle.list_laws.specs.Digits.{bit_in as mark_at}
+use Rattle.cover_pick.specs.declared.rule.Rule.{Rule}
 use Rattle.cover_pick.specs.declared.lut.Lut.{Lut}
 use Rattle.cover_pick.specs.Mapping.{AscendByLit, HaveBases, bits_of}
 use Rattle.cover_pick.specs.Planned.{cut_at, IsPlanned}
@@ -84,7 +85,7 @@ pub record AreMade (g : Aig) (cuts : List (Option (List ℕ))) (needed : ℕ →
   pub work : made.work ≡ work_of g made.luts
 
 -- the tables of the marked literals over the cuts that the walk finds
-pub record IsMade (g : Aig) (rows : List (List (List ℕ))) (label : ℕ → ℕ) (roots : List ℕ) (made : Made) : Type 0 where
+pub record IsMade (rule : Rule) (g : Aig) (rows : List (List (List ℕ))) (label : ℕ → ℕ) (roots : List ℕ) (made : Made) : Type 0 where
   pub cuts : List (Option (List ℕ))
-  pub plan : IsPlanned g rows label roots cuts
+  pub plan : IsPlanned rule g rows label roots cuts
   pub tables : AreMade g cuts (IsMarked roots cuts) (2 * node_count g) made

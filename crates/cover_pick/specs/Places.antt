@@ -2,7 +2,6 @@
 use Rattle.std.specs.Prelude.{◌≡◌, ℕ, ◌+◌, ◌<◌, ◌≤◌, List, [], ◌∷◌, length, Option, Some, None, slice_index_or}
 use Rattle.aig_core.specs.Aig.{Aig, node_count}
 use Rattle.cut_enum.specs.Table.{row_at}
-use Rattle.cover_pick.specs.Fewest.{fewest}
 -- the place of a node's cut, none where it has no cut, stands in a list as a required depth does
 pub use Rattle.cover_pick.specs.Required.{need as place_at}
 use Rattle.cover_pick.specs.Required.{need}
@@ -24,14 +23,14 @@ cuts_of rows places = cuts_from rows 0 places
 abbrev pub ArePlaces : List (List (List ℕ)) → List (Option ℕ) → Type 0
 ArePlaces rows places = (n i : ℕ) → place_at places n ≡ Some i → i < length (row_at rows n)
 
--- the best cut of a node, if it is needed, for its required depth
-abbrev pub best_for : (ℕ → ℕ) → List (List ℕ) → Option ℕ → Option (List ℕ)
-best_for label row None = None
-best_for label row (Some r) = fewest label r None row
+-- the cut of a node that is found for its required depth, if it is needed
+abbrev pub found_for : (ℕ → Option (List ℕ)) → Option ℕ → Option (List ℕ)
+found_for found None = None
+found_for found (Some r) = found r
 
--- the places of the nodes from `from` on are those of their best cuts for these depths, and the nodes below have none
-pub record AreBestPlaces (g : Aig) (rows : List (List (List ℕ))) (label : ℕ → ℕ) (depths : List (Option ℕ)) (from : ℕ) (places : List (Option ℕ)) : Type 0 where
+-- the places of the nodes from `from` on are those of the cuts that are found for these depths, and the nodes below have none
+pub record AreBestPlaces (g : Aig) (rows : List (List (List ℕ))) (found : ℕ → ℕ → Option (List ℕ)) (depths : List (Option ℕ)) (from : ℕ) (places : List (Option ℕ)) : Type 0 where
   pub count : length places ≡ node_count g
   pub inside : ArePlaces rows places
   pub below : (n : ℕ) → n < from → place_at places n ≡ None
-  pub best : (n : ℕ) → from ≤ n → n < node_count g → cut_of (row_at rows n) (place_at places n) ≡ best_for label (row_at rows n) (need depths n)
+  pub best : (n : ℕ) → from ≤ n → n < node_count g → cut_of (row_at rows n) (place_at places n) ≡ found_for (found n) (need depths n)

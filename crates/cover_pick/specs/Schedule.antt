@@ -4,7 +4,11 @@ use Rattle.aig_core.specs.Aig.{Aig, IsAnd}
 use Rattle.list_laws.specs.Members.{In}
 use Rattle.cut_enum.specs.Table.{row_at}
 use Rattle.cover_pick.specs.Target.{target}
+use Rattle.cover_pick.specs.declared.rule.Rule.{Rule}
+use Rattle.cover_pick.specs.declared.rule.Rule.TheVariants.{FewestLeaves, LeastCost}
 use Rattle.cover_pick.specs.Choice.{IsChosen}
+use Rattle.cover_pick.specs.Flow.{flow_of}
+use Rattle.cover_pick.specs.Sharing.{IsNeededAbove, IsCheapest}
 
 -- a required depth that is there, and at most d
 pub record AtMost (o : Option ℕ) (d : ℕ) : Type 0 where
@@ -37,14 +41,18 @@ pub record IsSchedule (g : Aig) (label : ℕ → ℕ) (roots : List ℕ) (t : �
   pub leaf : (n r m : ℕ) (c : List ℕ) → reqs n ≡ Some r → cover n ≡ Some c → In c m → IsAnd g m → AtMost (reqs m) (r - 1)
   pub whence : (n r : ℕ) → reqs n ≡ Some r → FromRoot roots t n r ⊎ FromReader cover reqs n r
 
--- the cut that is chosen among those of a row for a required depth
-pub record HasChosen (label : ℕ → ℕ) (r : ℕ) (row : List (List ℕ)) (o : Option (List ℕ)) : Type 0 where
+-- the cut that a rule chooses among those of a row for a required depth, where nodes have flows and some are needed already
+abbrev pub IsRuled : Rule → (ℕ → ℕ) → (ℕ → Type 0) → (ℕ → ℕ) → ℕ → List (List ℕ) → List ℕ → Type 0
+IsRuled FewestLeaves flow needed label r row c = IsChosen label r row c
+IsRuled LeastCost flow needed label r row c = IsCheapest flow needed label r row c
+
+pub record HasRuled (rule : Rule) (flow : ℕ → ℕ) (needed : ℕ → Type 0) (label : ℕ → ℕ) (r : ℕ) (row : List (List ℕ)) (o : Option (List ℕ)) : Type 0 where
   pub cut : List ℕ
   pub is : o ≡ Some cut
-  pub best : IsChosen label r row cut
+  pub best : IsRuled rule flow needed label r row cut
 
 -- The required depths and the chosen cuts of the needed AND nodes, for the target of the roots.
-pub record IsPlan (g : Aig) (rows : List (List (List ℕ))) (label : ℕ → ℕ) (roots : List ℕ) (reqs : ℕ → Option ℕ) (cover : ℕ → Option (List ℕ)) : Type 0 where
+pub record IsPlan (rule : Rule) (g : Aig) (rows : List (List (List ℕ))) (label : ℕ → ℕ) (roots : List ℕ) (reqs : ℕ → Option ℕ) (cover : ℕ → Option (List ℕ)) : Type 0 where
   pub schedule : IsSchedule g label roots (target g label roots) cover reqs
-  pub chosen : (n r : ℕ) → reqs n ≡ Some r → HasChosen label r (row_at rows n) (cover n)
+  pub chosen : (n r : ℕ) → reqs n ≡ Some r → HasRuled rule (flow_of g rows) (IsNeededAbove roots cover n) label r (row_at rows n) (cover n)
   pub none : (n : ℕ) → reqs n ≡ None → cover n ≡ None

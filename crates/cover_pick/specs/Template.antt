@@ -5,6 +5,7 @@ use Rattle.aig_core.specs.declared.lit.Kind.TheVariants.{Regular}
 use Rattle.aig_core.specs.declared.lit.Lit.{Lit}
 use Rattle.aig_core.specs.Roots.{RootsValue, roots_of}
 use Rattle.list_laws.specs.Members.{In}
+use Rattle.cover_pick.specs.declared.rule.Rule.{Rule}
 use Rattle.cover_pick.specs.declared.limits.TheConstants.{MOST_WORK}
 use Rattle.cover_pick.specs.declared.lut.Lut.{Lut}
 use Rattle.cover_pick.specs.Target.{target}
@@ -31,15 +32,15 @@ pub record TablesWithin (g : Aig) (roots : List ℕ) (luts : List Lut) (d : ℕ)
   pub nodes : (l : ℕ) → In roots l → IsAnd g (l / 2) → TableDepth g luts l d
 
 -- the tables of the needed literals over the chosen cuts of the needed nodes, and their bits
-pub record AreChosen (g : Aig) (rows : List (List (List ℕ))) (label : ℕ → ℕ) (roots : List ℕ) (luts : List Lut) (bits : ℕ) : Type 0 where
+pub record AreChosen (rule : Rule) (g : Aig) (rows : List (List (List ℕ))) (label : ℕ → ℕ) (roots : List ℕ) (luts : List Lut) (bits : ℕ) : Type 0 where
   pub reqs : ℕ → Option ℕ
   pub cover : ℕ → Option (List ℕ)
-  pub plan : IsPlan g rows label roots reqs cover
+  pub plan : IsPlan rule g rows label roots reqs cover
   pub tables : AreTables g roots cover luts bits
 
 -- The chosen template: the tables of the needed literals over the chosen cuts, with the target as their depth.
-pub record IsTemplate (g : Aig) (rows : List (List (List ℕ))) (label : ℕ → ℕ) (roots : RootsValue) (t : TemplateValue) : Type 0 where
-  pub chosen : AreChosen g rows label (roots_of roots) t.luts t.bits
+pub record IsTemplate (rule : Rule) (g : Aig) (rows : List (List (List ℕ))) (label : ℕ → ℕ) (roots : RootsValue) (t : TemplateValue) : Type 0 where
+  pub chosen : AreChosen rule g rows label (roots_of roots) t.luts t.bits
   pub outputs : t.outputs ≡ roots.outputs
   pub next : t.next ≡ roots.next
   pub depth : t.depth ≡ target g label (roots_of roots)
@@ -47,14 +48,14 @@ pub record IsTemplate (g : Aig) (rows : List (List (List ℕ))) (label : ℕ →
   pub exact : (d : ℕ) → TablesWithin g (roots_of roots) t.luts d → t.depth ≤ d
 
 -- the depth of an AND node's table is at most the node's required depth
-pub record AreTimely (g : Aig) (rows : List (List (List ℕ))) (label : ℕ → ℕ) (roots : List ℕ) (luts : List Lut) : Type 0 where
-  pub each : (reqs : ℕ → Option ℕ) (cover : ℕ → Option (List ℕ)) → IsPlan g rows label roots reqs cover → (t : Lut) (r : ℕ) → In luts t → reqs (t.lit.0 / 2) ≡ Some r → TableDepth g luts t.lit.0 r
+pub record AreTimely (rule : Rule) (g : Aig) (rows : List (List (List ℕ))) (label : ℕ → ℕ) (roots : List ℕ) (luts : List Lut) : Type 0 where
+  pub each : (reqs : ℕ → Option ℕ) (cover : ℕ → Option (List ℕ)) → IsPlan rule g rows label roots reqs cover → (t : Lut) (r : ℕ) → In luts t → reqs (t.lit.0 / 2) ≡ Some r → TableDepth g luts t.lit.0 r
 
 -- the work of the chosen tables is too much
-pub record IsTooMuch (g : Aig) (rows : List (List (List ℕ))) (label : ℕ → ℕ) (roots : List ℕ) : Type 0 where
+pub record IsTooMuch (rule : Rule) (g : Aig) (rows : List (List (List ℕ))) (label : ℕ → ℕ) (roots : List ℕ) : Type 0 where
   pub luts : List Lut
   pub bits : ℕ
-  pub chosen : AreChosen g rows label roots luts bits
+  pub chosen : AreChosen rule g rows label roots luts bits
   pub work : ℕ
   pub is : IsWork g luts work
   pub past : MOST_WORK < work

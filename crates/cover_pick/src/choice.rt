@@ -1,11 +1,15 @@
-//! The rule by which a cut is chosen for a node with a required depth.
+//! The choice of a cut for a node with a required depth, by a rule.
 ghost use Rattle.std.specs.Prelude.{◌≡◌, ℕ, ◌<◌, ◌≤◌, true, List, [], length, Option, Some, None, slice_index_or};
 ghost use Rattle.cut_enum.specs.Sets.{IsOrdered};
 ghost use Rattle.cut_enum.specs.Table.{row_at};
 ghost use Rattle.depth_label.specs.Label.{height, label_of};
 ghost use Rattle.cover_pick.specs.Fewest.{IsAt, IsShorter, better as the_better, fewest as the_fewest};
+ghost use Rattle.cover_pick.specs.Cheapest.{AreCapped};
+ghost use Rattle.cover_pick.specs.Ruled.{found_in};
 ghost use Rattle.cover_pick.specs.Places.{cut_of};
 
+use crate::cost::cheapest;
+use crate::rule::Rule;
 use cut_enum::CutTable;
 use depth_label::Labels;
 
@@ -88,13 +92,28 @@ fn fewest(labels: &Labels, table: &CutTable, n: u32, r: u32) -> Option<Candidate
 }
 
 // The place of the cut that is chosen for a node and its required depth, if one is low enough.
-pub fn choose(table: &CutTable, labels: &Labels, n: u32, r: u32) -> Option<u32>
-    requires { IsOrdered (row_at table.now n) }
-    ensures cut { cut_of (row_at table.now n) result ≡ the_fewest (label_of labels.now) r None (row_at table.now n) }
+pub fn choose(
+    rule: Rule,
+    table: &CutTable,
+    labels: &Labels,
+    flows: &[u64],
+    reqs: &[Option<u32>],
+    n: u32,
+    r: u32,
+) -> Option<u32>
+    requires ordered { IsOrdered (row_at table.now n) }
+    requires capped { AreCapped flows.now }
+    ensures cut { cut_of (row_at table.now n) result ≡ found_in rule (label_of labels.now) flows.now reqs.now (row_at table.now n) r }
     ensures inside { (i : ℕ) → result ≡ Some i → i < length (row_at table.now n) }
 {
-    match fewest(labels, table, n, r) {
-        None => None,
-        Some(best) => Some(best.place),
+    match rule {
+        Rule::FewestLeaves => match fewest(labels, table, n, r) {
+            None => None,
+            Some(best) => Some(best.place),
+        },
+        Rule::LeastCost => match cheapest(table, labels, flows, reqs, n, r) {
+            None => None,
+            Some(best) => Some(best.place),
+        },
     }
 }

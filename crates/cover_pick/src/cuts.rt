@@ -7,6 +7,7 @@ ghost use Rattle.cover_pick.specs.Places.{place_at as the_place_at};
 ghost use Rattle.cover_pick.specs.Planned.{IsPlanned};
 
 use crate::required::chosen_places;
+use crate::rule::Rule;
 use aig_core::{Graph, Lit};
 use cut_enum::{Cut, CutTable};
 use depth_label::Labels;
@@ -40,7 +41,7 @@ fn place_at(places: &[Option<u32>], n: u32) -> Option<u32>
 
 impl<'a> ChosenCuts<'a> {
     ghost use Rattle.std.specs.Prelude.{◌≡◌};
-    ghost use Rattle.cover_pick.specs.Fewest.{or_empty};
+    ghost use Rattle.depth_label.specs.Fold.{or_empty};
     ghost use Rattle.cover_pick.specs.Planned.{cut_at};
 
     /// The chosen cut of a node, if it is a needed AND node.
@@ -67,6 +68,7 @@ impl<'a> ChosenCuts<'a> {
 /// The chosen cuts of the needed AND nodes: a cover of the graph, of the least depth.
 pub fn chosen_cuts<'a>(
     alloc: Global,
+    rule: Rule,
     graph: &Graph,
     table: &'a CutTable,
     labels: &Labels,
@@ -75,10 +77,10 @@ pub fn chosen_cuts<'a>(
     requires table { IsCutTable graph.now table.now }
     requires labels { AreLabelled graph.now table.now labels.now }
     requires roots { AreRoots graph.now (lits_of roots.now) }
-    ensures plan { IfOk result (λ cuts. IsPlanned graph.now table.now (label_of labels.now) (lits_of roots.now) cuts) }
+    ensures plan { IfOk result (λ cuts. IsPlanned rule graph.now table.now (label_of labels.now) (lits_of roots.now) cuts) }
     ensures len { IfOk result (λ cuts. length cuts ≡ node_count graph.now) }
     ensures normal { IfOk result (λ _. AreNormal (first_and graph.now) graph.now.pairs) }
 {
-    let places = chosen_places(alloc, graph, table, labels, roots)?;
+    let places = chosen_places(alloc, rule, graph, table, labels, roots)?;
     Ok(ChosenCuts { table, places })
 }

@@ -1,12 +1,13 @@
-//! The tables that a graph is mapped to: a cover of the least depth, with few leaves off the longest paths.
+//! The tables that a graph is mapped to: a cover of the least depth, with few bits or few tables off the longest paths.
 //!
 //! # The idea
 //!
 //! The labels (crate `depth_label`) say how deep each node must stand. So the *target*, the greatest label over the roots, is
 //! the least depth of any cover. A cover of that depth has room elsewhere: a node that few tables wait for may stand deeper,
-//! and take a cut of fewer leaves, whose table has fewer bits. So each needed node gets a *required depth*, from the roots
-//! down, and takes the smallest of its cuts that keeps within it. The labelling is FlowMap's (Cong and Ding, 1994), the area
-//! recovery by required depths is that of later mappers (as `if` of ABC).
+//! and take a cut of fewer leaves, whose table has fewer bits, or one whose leaves are needed anyway, which saves tables. So
+//! each needed node gets a *required depth*, from the roots down, and takes one of its cuts that keep within it, by a *rule*.
+//! The labelling is FlowMap's (Cong and Ding, 1994), the area recovery by required depths is that of later mappers (as `if` of
+//! ABC).
 //!
 //! # The words
 //!
@@ -22,16 +23,18 @@
 //! # The steps, each in a file
 //!
 //! 1. `target`: the target of the roots.
-//! 2. `choice`: the rule by which a cut is chosen for a required depth. It is one function, `choose`, and one definition,
-//!    `IsChosen` of `specs/Choice.antt`; all that the theorem asks of it is `Chooses` of `specs/Planned.antt`.
-//! 3. `required`: the required depths and the choices, each once, in one walk from the last AND node down.
-//! 4. `cuts`: the chosen cuts, each by its place in the table of cuts.
-//! 5. `needed`, `tables`: the needed literals and their tables, in ascending order.
-//! 6. `cone`: the AND nodes of a table's cone, each visited once.
+//! 2. `rule`, `choice`: the rules by which a cut is chosen for a required depth, and the choice. Each rule is one definition:
+//!    that of the fewest leaves `IsChosen` of `specs/Choice.antt`, that of the least cost `IsCheapest` of `specs/Sharing.antt`
+//!    over the flows of `specs/Flow.antt`. All that the theorem asks of a rule is `Chooses` of `specs/Planned.antt`.
+//! 3. `flow`, `cost`: the flows, in one walk up, and the cheapest cut of a node.
+//! 4. `required`: the required depths and the choices, each once, in one walk from the last AND node down.
+//! 5. `cuts`: the chosen cuts, each by its place in the table of cuts.
+//! 6. `needed`, `tables`: the needed literals and their tables, in ascending order.
+//! 7. `cone`: the AND nodes of a table's cone, each visited once.
 //!
 //! # What is promised
 //!
-//! `pick` says what its tables are in three ways: they are the rule's (`specs/Template.antt`, `IsTemplate`), they map the
+//! `pick_by` says what its tables are in three ways: they are the rule's (`specs/Template.antt`, `IsTemplate`), they map the
 //! graph (`specs/Mapping.antt`, `IsMapping`), and no cover of the graph is less deep (`IsLeast` there). The rule is said by
 //! relations alone, apart from the walk that finds the answer: required depths and chosen cuts by `IsPlan`
 //! (`specs/Schedule.antt`), the tables by `AreTables`, the work by the cones as sets of nodes (`specs/Work.antt`). A graph,
@@ -42,14 +45,18 @@
 
 mod choice;
 mod cone;
+mod cost;
 mod cuts;
+mod flow;
 mod limits;
 mod lut;
 mod needed;
 mod required;
+mod rule;
 mod tables;
 mod target;
 mod template;
 
 pub use lut::{Lut, PickErr};
-pub use template::{Template, pick};
+pub use rule::Rule;
+pub use template::{Template, pick, pick_by};

@@ -3,13 +3,16 @@ ghost use Rattle.std.specs.Prelude.{◌≡◌, ℕ, ◌+◌, ◌-◌, ◌/◌, �
 ghost use Rattle.aig_core.specs.Aig.{first_and, node_count, AreNormal, IsAnd};
 ghost use Rattle.aig_core.specs.Roots.{lits_of, AreRoots};
 ghost use Rattle.cut_enum.specs.Table.{row_at};
-ghost use Rattle.depth_label.specs.Label.{label_of, IsCutTable};
-ghost use Rattle.cover_pick.specs.Fewest.{choice_of};
-ghost use Rattle.cover_pick.specs.Required.{need, least_of as the_least, require as with_required, require_each as with_each_required, visit as visited, walk as walked, require_root as with_root, require_roots as with_roots};
+ghost use Rattle.depth_label.specs.Label.{label_of, IsCutTable, AreLabelled};
+ghost use Rattle.cover_pick.specs.Cheapest.{AreCapped};
+ghost use Rattle.cover_pick.specs.Ruled.{found_in, found_from, found_of, choice_by};
+ghost use Rattle.cover_pick.specs.Required.{need, least_of as the_least, require as with_required, require_each as with_each_required, visit as visited, walk_by as walked, require_root as with_root, require_roots as with_roots};
 ghost use Rattle.cover_pick.specs.Planned.{depths_of};
-ghost use Rattle.cover_pick.specs.Places.{cut_of, place_at, best_for, AreBestPlaces};
+ghost use Rattle.cover_pick.specs.Places.{cut_of, found_for, AreBestPlaces};
 
 use crate::choice::choose;
+use crate::flow::flows_for;
+use crate::rule::Rule;
 use crate::target::target;
 use aig_core::{Graph, Lit};
 use cut_enum::CutTable;
@@ -46,45 +49,51 @@ fn require_each(reqs: &mut [Option<u32>], leaves: &[u32], r: u32)
 
 // Chooses the cut of a needed node, and requires its leaves at one less than the node's required depth. The cut's place.
 fn visit(
+    rule: Rule,
     graph: &Graph,
     table: &CutTable,
     labels: &Labels,
+    flows: &[u64],
     reqs: &mut [Option<u32>],
     n: u32,
 ) -> Option<u32>
     requires table { IsCutTable graph.now table.now }
+    requires capped { AreCapped flows.now }
     requires node { IsAnd graph.now n }
     requires len { length reqs.old ≡ node_count graph.now }
-    ensures reqs { reqs.new ≡ visited (choice_of (row_at table.now) (label_of labels.now)) n (need reqs.old n) reqs.old }
+    ensures reqs { reqs.new ≡ visited (choice_by rule table.now (label_of labels.now) flows.now reqs.old) n (need reqs.old n) reqs.old }
     ensures above { (m : ℕ) → n ≤ m → need reqs.new m ≡ need reqs.old m }
-    ensures best { cut_of (row_at table.now n) result ≡ best_for (label_of labels.now) (row_at table.now n) (need reqs.old n) }
+    ensures best { cut_of (row_at table.now n) result ≡ found_for (found_in rule (label_of labels.now) flows.now reqs.old (row_at table.now n)) (need reqs.old n) }
     ensures inside { (i : ℕ) → result ≡ Some i → i < length (row_at table.now n) }
 {
     let r = reqs[n as usize]?;
-    let place = choose(table, labels, n, r)?;
+    let place = choose(rule, table, labels, flows, reqs, n, r)?;
     require_each(reqs, table.leaves(n, place), r.saturating_sub(1));
     Some(place)
 }
 
 // Takes the AND nodes in descending order, and sets the places of their chosen cuts.
 fn walk(
+    rule: Rule,
     graph: &Graph,
     table: &CutTable,
     labels: &Labels,
+    flows: &[u64],
     reqs: &mut [Option<u32>],
     places: &mut [Option<u32>],
 )
     requires table { IsCutTable graph.now table.now }
+    requires capped { AreCapped flows.now }
     requires len { length reqs.old ≡ node_count graph.now }
-    requires places { AreBestPlaces graph.now table.now (label_of labels.now) reqs.old (node_count graph.now) places.old }
-    ensures reqs { reqs.new ≡ walked (choice_of (row_at table.now) (label_of labels.now)) (first_and graph.now) (length graph.now.pairs) reqs.old }
-    ensures places { AreBestPlaces graph.now table.now (label_of labels.now) reqs.new (first_and graph.now) places.new }
+    requires places { AreBestPlaces graph.now table.now (found_from rule graph.now table.now (label_of labels.now) flows.now reqs.old) reqs.old (node_count graph.now) places.old }
+    ensures reqs { reqs.new ≡ walked (choice_by rule table.now (label_of labels.now) flows.now) (first_and graph.now) (length graph.now.pairs) reqs.old }
+    ensures places { AreBestPlaces graph.now table.now (found_from rule graph.now table.now (label_of labels.now) flows.now reqs.old) reqs.new (first_and graph.now) places.new }
 {
     let first = graph.sources() + 1;
     let count = graph.len() - first;
     for i in 0..count {
         let n = first + (count - 1 - i);
-        places[n as usize] = visit(graph, table, labels, reqs, n);
+        places[n as usize] = visit(rule, graph, table, labels, flows, reqs, n);
     }
 }
 
@@ -113,20 +122,23 @@ fn require_roots(graph: &Graph, roots: &[Lit], t: u32, reqs: &mut [Option<u32>])
 // The places of the chosen cuts of the needed AND nodes, among the cuts of each.
 pub fn chosen_places(
     alloc: Global,
+    rule: Rule,
     graph: &Graph,
     table: &CutTable,
     labels: &Labels,
     roots: &[Lit],
 ) -> Result<Vec<Option<u32>>, AllocError>
     requires table { IsCutTable graph.now table.now }
+    requires labels { AreLabelled graph.now table.now labels.now }
     requires roots { AreRoots graph.now (lits_of roots.now) }
-    ensures places { IfOk result (λ places. AreBestPlaces graph.now table.now (label_of labels.now) (depths_of graph.now table.now (label_of labels.now) (lits_of roots.now)) (first_and graph.now) places.items) }
+    ensures places { IfOk result (λ places. AreBestPlaces graph.now table.now (found_of rule graph.now table.now (label_of labels.now) (lits_of roots.now)) (depths_of rule graph.now table.now (label_of labels.now) (lits_of roots.now)) (first_and graph.now) places.items) }
     ensures normal { IfOk result (λ _. AreNormal (first_and graph.now) graph.now.pairs) }
 {
+    let flows = flows_for(alloc, rule, graph, table)?;
     let t = target(graph, labels, roots);
     let mut depths = vec![in alloc; None; graph.len() as usize]?;
     let mut places = vec![in alloc; None; graph.len() as usize]?;
     require_roots(graph, roots, t, &mut depths);
-    walk(graph, table, labels, &mut depths, &mut places);
+    walk(rule, graph, table, labels, &flows, &mut depths, &mut places);
     Ok(places)
 }

@@ -60,7 +60,7 @@ fn leaves_of(alloc: Global, graph: &Graph, cuts: &ChosenCuts, lit: Lit) -> Optio
 }
 
 // The bits of a table.
-fn table_bits(leaves: usize) -> u32
+pub fn table_bits(leaves: usize) -> u32
     requires { leaves ≤ MOST_LEAVES }
     ensures value { result ≡ 2 ^ leaves }
     ensures few { result ≤ 2 ^ MOST_LEAVES }

@@ -6,6 +6,7 @@ ghost use Rattle.cut_enum.specs.Table.{AreRows};
 ghost use Rattle.depth_label.specs.Label.{label_of, IsCutTable, AreLabelled};
 ghost use Rattle.tl_fault.specs.OrMemory.{OrMemory};
 ghost use Rattle.cover_pick.specs.Refusals.{refusal_of};
+ghost use Rattle.cover_pick.specs.declared.rule.Rule.TheVariants.{FewestLeaves};
 ghost use Rattle.cover_pick.specs.Mapping.{IsMapping, IsLeast};
 ghost use Rattle.cover_pick.specs.Work.{IsLight};
 ghost use Rattle.cover_pick.specs.Template.{TemplateValue, IsTemplate, AreTimely, IsTooMuch};
@@ -13,6 +14,7 @@ ghost use Rattle.cover_pick.specs.Marks.{IsMade};
 
 use crate::cuts::chosen_cuts;
 use crate::lut::{Lut, PickErr};
+use crate::rule::Rule;
 use crate::tables::{Tables, make_tables};
 use crate::target::target;
 use aig_core::{Graph, Lit, Roots};
@@ -52,6 +54,7 @@ fn all_roots(alloc: Global, roots: &Roots) -> Result<Vec<Lit>, AllocError>
 // The tables of the needed literals over the chosen cuts, while their work is within the limit.
 fn chosen_tables(
     alloc: Global,
+    rule: Rule,
     graph: &Graph,
     table: &CutTable,
     labels: &Labels,
@@ -60,11 +63,11 @@ fn chosen_tables(
     requires table { IsCutTable graph.now table.now }
     requires labels { AreLabelled graph.now table.now labels.now }
     requires roots { AreRoots graph.now (lits_of roots.now) }
-    ensures ok { IfOk result (λ made. IsMade graph.now table.now (label_of labels.now) (lits_of roots.now) made) }
+    ensures ok { IfOk result (λ made. IsMade rule graph.now table.now (label_of labels.now) (lits_of roots.now) made) }
     ensures light { IfOk result (λ made. IsLight graph.now made.luts) }
-    ensures err { IfErr result (OrMemory refusal_of (λ _. IsTooMuch graph.now table.now (label_of labels.now) (lits_of roots.now))) }
+    ensures err { IfErr result (OrMemory refusal_of (λ _. IsTooMuch rule graph.now table.now (label_of labels.now) (lits_of roots.now))) }
 {
-    let cuts = chosen_cuts(alloc, graph, table, labels, roots)?;
+    let cuts = chosen_cuts(alloc, rule, graph, table, labels, roots)?;
     let made = make_tables(alloc, graph, &cuts, roots)?;
     Ok(made)
 }
@@ -72,6 +75,7 @@ fn chosen_tables(
 // The template, within the limit on the work.
 fn template_of(
     alloc: Global,
+    rule: Rule,
     graph: &Graph,
     roots: &Roots,
     table: &CutTable,
@@ -80,16 +84,16 @@ fn template_of(
     requires table { IsCutTable graph.now table.now }
     requires labels { AreLabelled graph.now table.now labels.now }
     requires roots { AreRoots graph.now (roots_of roots.now) }
-    ensures template { IfOk result (λ t. IsTemplate graph.now table.now (label_of labels.now) roots.now t) }
-    ensures timely { IfOk result (λ t. AreTimely graph.now table.now (label_of labels.now) (roots_of roots.now) t.luts) }
+    ensures template { IfOk result (λ t. IsTemplate rule graph.now table.now (label_of labels.now) roots.now t) }
+    ensures timely { IfOk result (λ t. AreTimely rule graph.now table.now (label_of labels.now) (roots_of roots.now) t.luts) }
     ensures light { IfOk result (λ t. IsLight graph.now t.luts) }
-    ensures work { IfErr result (OrMemory refusal_of (λ _. IsTooMuch graph.now table.now (label_of labels.now) (roots_of roots.now))) }
+    ensures work { IfErr result (OrMemory refusal_of (λ _. IsTooMuch rule graph.now table.now (label_of labels.now) (roots_of roots.now))) }
 {
     let all = all_roots(alloc, roots)?;
     let depth = target(graph, labels, &all);
     let outputs = Vec::from_slice(alloc, &roots.outputs)?;
     let next = Vec::from_slice(alloc, &roots.next)?;
-    let made = chosen_tables(alloc, graph, table, labels, &all)?;
+    let made = chosen_tables(alloc, rule, graph, table, labels, &all)?;
     Ok(Template {
         luts: made.luts,
         outputs,
@@ -99,14 +103,21 @@ fn template_of(
     })
 }
 
-/// The chosen template of a graph for some roots, of the least depth that its cuts allow.
+/// The template of a graph for some roots by a rule, of the least depth that its cuts allow.
 ///
 /// The target is the greatest over the roots of the label of an AND root, 1 for a complemented regular source, and 0 for
 /// any other root. The AND nodes are taken in descending order: a root's node is required by the target, and a leaf of the
-/// chosen cut of a node required by r by r - 1. The chosen cut is the one of the fewest leaves among the minimal cuts whose
-/// height is at most the required depth, so a node off the longest paths takes a cheaper table (Cong and Ding 1994, with the
-/// area recovery by required depths of later mappers). Each root and each leaf of a chosen cut has a table, but for the
-/// positive regular sources, which are wires.
+/// chosen cut of a node required by r by r - 1. The chosen cut is one of the minimal cuts whose height is at most the
+/// required depth, so a node off the longest paths takes a cheaper table (Cong and Ding 1994, with the area recovery by
+/// required depths of later mappers). Of these cuts
+///
+/// - `FewestLeaves` takes one of the fewest leaves, then of the least height, then the lexicographically least;
+/// - `LeastCost` takes one of the least cost, then of the fewest leaves, then the lexicographically least. A cut of m leaves
+///   costs 2^m, and the flows of those of its leaves that no root and no chosen cut of a node above needs. The *flow* of an
+///   AND node is the least over its cuts of 256 + 2^m and the flows of the leaves, 2^40 at most, divided by the number of AND
+///   nodes that read it and rounded down (the area flow of Manohararajah, Brown and Vranesic, 2006).
+///
+/// Each root and each leaf of a chosen cut has a table, but for the positive regular sources, which are wires.
 ///
 /// # Errors
 ///
@@ -115,9 +126,41 @@ fn template_of(
 ///
 /// # Complexity
 ///
-/// The minimal cuts of a needed node are read once, up to the first that has more leaves than the chosen one, and each AND
-/// node of a table's cone once for the table: so the time is bounded by the table of cuts and the work, of which no more than
-/// the limit and one cone is counted.
+/// By `FewestLeaves` the minimal cuts of a needed node are read once, up to the first that has more leaves than the chosen
+/// one; by `LeastCost` those of each AND node once, and those of a needed node once more. Each AND node of a table's cone is
+/// read once for the table: so the time is bounded by the table of cuts and the work, of which no more than the limit and one
+/// cone is counted.
+pub fn pick_by(
+    alloc: Global,
+    rule: Rule,
+    graph: &Graph,
+    roots: &Roots,
+    table: &CutTable,
+    labels: &Labels,
+) -> Result<Template, PickErr>
+    requires table { IsCutTable graph.now table.now }
+    requires labels { AreLabelled graph.now table.now labels.now }
+    requires roots { AreRoots graph.now (roots_of roots.now) }
+    ensures template { IfOk result (λ t. IsTemplate rule graph.now table.now (label_of labels.now) roots.now t) }
+    ensures timely { IfOk result (λ t. AreTimely rule graph.now table.now (label_of labels.now) (roots_of roots.now) t.luts) }
+
+    // There is one template, which maps the graph with the least depth over all its covers, whatever the answer.
+    ensures mapping { (t : TemplateValue) → IsTemplate rule graph.now table.now (label_of labels.now) roots.now t → (k : ℕ) → AreRows graph.now k (node_count graph.now) table.now → IsMapping graph.now k (roots_of roots.now) t.luts t.bits }
+    ensures least { (t : TemplateValue) → IsTemplate rule graph.now table.now (label_of labels.now) roots.now t → (k : ℕ) → AreRows graph.now k (node_count graph.now) table.now → IsLeast graph.now k (roots_of roots.now) t.luts t.depth }
+    ensures once { (t u : TemplateValue) → IsTemplate rule graph.now table.now (label_of labels.now) roots.now t → IsTemplate rule graph.now table.now (label_of labels.now) roots.now u → t ≡ u }
+
+    // The limit on the work, both ways.
+    ensures light { IfOk result (λ t. IsLight graph.now t.luts) }
+    ensures work { IfErr result (OrMemory refusal_of (λ _. IsTooMuch rule graph.now table.now (label_of labels.now) (roots_of roots.now))) }
+    ensures excluded { (t : TemplateValue) → IsTemplate rule graph.now table.now (label_of labels.now) roots.now t → IsLight graph.now t.luts → IsTooMuch rule graph.now table.now (label_of labels.now) (roots_of roots.now) → ⊥ }
+    ensures too_much { IsTooMuch rule graph.now table.now (label_of labels.now) (roots_of roots.now) → (result ≡ Err PickErr.Work) ⊎ (result ≡ Err PickErr.Memory) }
+{
+    // The call tells that the graph's pairs are normal, which the laws stand on.
+    let _count = graph.len();
+    template_of(alloc, rule, graph, roots, table, labels)
+}
+
+/// The template of a graph for some roots by the rule of the fewest leaves: `pick_by` at `FewestLeaves`.
 pub fn pick(
     alloc: Global,
     graph: &Graph,
@@ -128,21 +171,19 @@ pub fn pick(
     requires table { IsCutTable graph.now table.now }
     requires labels { AreLabelled graph.now table.now labels.now }
     requires roots { AreRoots graph.now (roots_of roots.now) }
-    ensures template { IfOk result (λ t. IsTemplate graph.now table.now (label_of labels.now) roots.now t) }
-    ensures timely { IfOk result (λ t. AreTimely graph.now table.now (label_of labels.now) (roots_of roots.now) t.luts) }
+    ensures template { IfOk result (λ t. IsTemplate FewestLeaves graph.now table.now (label_of labels.now) roots.now t) }
+    ensures timely { IfOk result (λ t. AreTimely FewestLeaves graph.now table.now (label_of labels.now) (roots_of roots.now) t.luts) }
 
     // There is one template, which maps the graph with the least depth over all its covers, whatever the answer.
-    ensures mapping { (t : TemplateValue) → IsTemplate graph.now table.now (label_of labels.now) roots.now t → (k : ℕ) → AreRows graph.now k (node_count graph.now) table.now → IsMapping graph.now k (roots_of roots.now) t.luts t.bits }
-    ensures least { (t : TemplateValue) → IsTemplate graph.now table.now (label_of labels.now) roots.now t → (k : ℕ) → AreRows graph.now k (node_count graph.now) table.now → IsLeast graph.now k (roots_of roots.now) t.luts t.depth }
-    ensures once { (t u : TemplateValue) → IsTemplate graph.now table.now (label_of labels.now) roots.now t → IsTemplate graph.now table.now (label_of labels.now) roots.now u → t ≡ u }
+    ensures mapping { (t : TemplateValue) → IsTemplate FewestLeaves graph.now table.now (label_of labels.now) roots.now t → (k : ℕ) → AreRows graph.now k (node_count graph.now) table.now → IsMapping graph.now k (roots_of roots.now) t.luts t.bits }
+    ensures least { (t : TemplateValue) → IsTemplate FewestLeaves graph.now table.now (label_of labels.now) roots.now t → (k : ℕ) → AreRows graph.now k (node_count graph.now) table.now → IsLeast graph.now k (roots_of roots.now) t.luts t.depth }
+    ensures once { (t u : TemplateValue) → IsTemplate FewestLeaves graph.now table.now (label_of labels.now) roots.now t → IsTemplate FewestLeaves graph.now table.now (label_of labels.now) roots.now u → t ≡ u }
 
     // The limit on the work, both ways.
     ensures light { IfOk result (λ t. IsLight graph.now t.luts) }
-    ensures work { IfErr result (OrMemory refusal_of (λ _. IsTooMuch graph.now table.now (label_of labels.now) (roots_of roots.now))) }
-    ensures excluded { (t : TemplateValue) → IsTemplate graph.now table.now (label_of labels.now) roots.now t → IsLight graph.now t.luts → IsTooMuch graph.now table.now (label_of labels.now) (roots_of roots.now) → ⊥ }
-    ensures too_much { IsTooMuch graph.now table.now (label_of labels.now) (roots_of roots.now) → (result ≡ Err PickErr.Work) ⊎ (result ≡ Err PickErr.Memory) }
+    ensures work { IfErr result (OrMemory refusal_of (λ _. IsTooMuch FewestLeaves graph.now table.now (label_of labels.now) (roots_of roots.now))) }
+    ensures excluded { (t : TemplateValue) → IsTemplate FewestLeaves graph.now table.now (label_of labels.now) roots.now t → IsLight graph.now t.luts → IsTooMuch FewestLeaves graph.now table.now (label_of labels.now) (roots_of roots.now) → ⊥ }
+    ensures too_much { IsTooMuch FewestLeaves graph.now table.now (label_of labels.now) (roots_of roots.now) → (result ≡ Err PickErr.Work) ⊎ (result ≡ Err PickErr.Memory) }
 {
-    // The call tells that the graph's pairs are normal, which the laws stand on.
-    let _count = graph.len();
-    template_of(alloc, graph, roots, table, labels)
+    pick_by(alloc, Rule::FewestLeaves, graph, roots, table, labels)
 }

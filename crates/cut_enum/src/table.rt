@@ -1,5 +1,5 @@
 //! The table of the minimal cuts of each node.
-ghost use Rattle.std.specs.Prelude.{◌≡◌, ℕ, List, ◌+◌, ◌<◌, ◌≤◌, [], ◌∷◌, ◌++◌, ◌⊎◌, length, OnOk, IfOk, IfErr, slice_get, slice_range, Some, sum_by, vec_len, vec_capacity};
+ghost use Rattle.std.specs.Prelude.{◌≡◌, ℕ, List, ◌+◌, ◌<◌, ◌≤◌, [], ◌∷◌, ◌++◌, ◌⊎◌, length, OnOk, IfOk, IfErr, slice_get, slice_index_or, slice_range, Some, sum_by, vec_len, vec_capacity};
 ghost use Rattle.aig_core.specs.Aig.{node_count, IsAnd};
 ghost use Rattle.cut_enum.specs.Cuts.{EachContainsOne};
 ghost use Rattle.tl_fault.specs.OrMemory.{OrMemory};
@@ -229,6 +229,16 @@ impl CutTable {
     {
         let row = self.cuts_of(n);
         Cut::of(*self.cuts.allocator(), row[i as usize].leaves())
+    }
+
+    /// How many leaves a cut of a node has.
+    pub fn leaf_count(&self, n: u32, i: u32) -> usize
+        requires { i < length (row_at self.now n) }
+        ensures count { result ≡ length (slice_index_or (row_at self.now n) i []) }
+        ensures few { result ≤ MOST_LEAVES }
+    {
+        let row = self.cuts_of(n);
+        row[i as usize].len()
     }
 
     /// The leaves of a cut of a node, in ascending order, without a copy.

@@ -4,6 +4,7 @@ use Rattle.std.specs.Fmt.{digits}
 use Rattle.tl_io.specs.Causes.{Rose}
 use Rattle.tl_io.specs.Content.{extended}
 use Rattle.tl_io.specs.Shelf.{with_file}
+use Rattle.cover_pick.specs.declared.rule.Rule.TheVariants.{FewestLeaves, LeastCost}
 use Rattle.cmd_stations.specs.Words.{SourceWords}
 use Rattle.cmd_base.specs.Outside.{Outside}
 use Rattle.cmd_base.specs.Writing.{FileText, AreWritten, IsCutInFile, IsCutInLine}
@@ -15,51 +16,54 @@ abbrev six : List (List ℕ)
 six = codes "6" ∷ codes "n" ∷ codes "p" ∷ []
 
 abbrev source : SourceWords
-source = record { k = 6; netlist = codes "n"; params = codes "p" }
+source = record { rule = FewestLeaves; k = 6; netlist = codes "n"; params = codes "p" }
 
 -- the commands of some words
-a_spec : command_of 4 (codes "spec" ∷ six ++ codes "n" ∷ []) ≡ Some (Spec (record { source = source; out = codes "n" }))
+a_spec : command_of FewestLeaves 4 (codes "spec" ∷ six ++ codes "n" ∷ []) ≡ Some (Spec (record { source = source; out = codes "n" }))
 a_spec = refl
 
-a_map : command_of 0 (codes "map" ∷ six ++ codes "t" ∷ codes "m" ∷ []) ≡ Some (Map (record { source = source; template = codes "t"; pack = codes "m" }))
+a_map : command_of FewestLeaves 0 (codes "map" ∷ six ++ codes "t" ∷ codes "m" ∷ []) ≡ Some (Map (record { source = source; template = codes "t"; pack = codes "m" }))
 a_map = refl
 
-a_host : command_of 4 (codes "bits" ∷ codes "m" ∷ codes "m" ∷ []) ≡ Some (Bits (record { pack = codes "m"; script = codes "m" }))
+a_compact_map : command_of LeastCost 0 (codes "map" ∷ six ++ codes "t" ∷ codes "m" ∷ []) ≡ Some (Map (record { source = record { rule = LeastCost; k = 6; netlist = codes "n"; params = codes "p" }; template = codes "t"; pack = codes "m" }))
+a_compact_map = refl
+
+a_host : command_of FewestLeaves 4 (codes "bits" ∷ codes "m" ∷ codes "m" ∷ []) ≡ Some (Bits (record { pack = codes "m"; script = codes "m" }))
 a_host = refl
 
-a_multiplier : command_of 4 (codes "gen" ∷ codes "32" ∷ codes "4294967295" ∷ []) ≡ Some (Gen (record { digits = 32; seed = 4294967295 }))
+a_multiplier : command_of FewestLeaves 4 (codes "gen" ∷ codes "32" ∷ codes "4294967295" ∷ []) ≡ Some (Gen (record { rule = FewestLeaves; digits = 32; seed = 4294967295 }))
 a_multiplier = refl
 
-a_repack : command_of 4 (codes "repack" ∷ codes "m" ∷ codes "n" ∷ []) ≡ Some (Repack (record { old = codes "m"; new = codes "n" }))
+a_repack : command_of FewestLeaves 4 (codes "repack" ∷ codes "m" ∷ codes "n" ∷ []) ≡ Some (Repack (record { old = codes "m"; new = codes "n" }))
 a_repack = refl
 
-a_proof : command_of 4 (codes "prove" ∷ six ++ codes "c" ∷ []) ≡ Some (Prove (record { source = source; cert = codes "c" }))
+a_proof : command_of FewestLeaves 4 (codes "prove" ∷ six ++ codes "c" ∷ []) ≡ Some (Prove (record { source = source; cert = codes "c" }))
 a_proof = refl
 
-an_audit : command_of 4 (codes "audit" ∷ six ++ codes "c" ∷ []) ≡ Some (Audit (record { source = source; cert = codes "c" }))
+an_audit : command_of FewestLeaves 4 (codes "audit" ∷ six ++ codes "c" ∷ []) ≡ Some (Audit (record { source = source; cert = codes "c" }))
 an_audit = refl
 
 -- and words of no form: one file for both, no digit or too many, too great a seed, a word too many
-one_file_of_map : command_of 4 (codes "map" ∷ six ++ codes "t" ∷ codes "t" ∷ []) ≡ None
+one_file_of_map : command_of FewestLeaves 4 (codes "map" ∷ six ++ codes "t" ∷ codes "t" ∷ []) ≡ None
 one_file_of_map = refl
 
-one_file_of_repack : command_of 4 (codes "repack" ∷ codes "m" ∷ codes "m" ∷ []) ≡ None
+one_file_of_repack : command_of FewestLeaves 4 (codes "repack" ∷ codes "m" ∷ codes "m" ∷ []) ≡ None
 one_file_of_repack = refl
 
-no_digits : command_of 4 (codes "gen" ∷ codes "0" ∷ codes "1" ∷ []) ≡ None
+no_digits : command_of FewestLeaves 4 (codes "gen" ∷ codes "0" ∷ codes "1" ∷ []) ≡ None
 no_digits = refl
 
-many_digits : command_of 4 (codes "gen" ∷ codes "33" ∷ codes "1" ∷ []) ≡ None
+many_digits : command_of FewestLeaves 4 (codes "gen" ∷ codes "33" ∷ codes "1" ∷ []) ≡ None
 many_digits = refl
 
-great_seed : command_of 4 (codes "gen" ∷ codes "1" ∷ codes "4294967296" ∷ []) ≡ None
+great_seed : command_of FewestLeaves 4 (codes "gen" ∷ codes "1" ∷ codes "4294967296" ∷ []) ≡ None
 great_seed = refl
 
-one_word_more : command_of 4 (codes "bits" ∷ codes "m" ∷ codes "s" ∷ codes "0" ∷ []) ≡ None
+one_word_more : command_of FewestLeaves 4 (codes "bits" ∷ codes "m" ∷ codes "s" ∷ codes "0" ∷ []) ≡ None
 one_word_more = refl
 
 -- the lines of `gen`
-case_line : first_line (record { digits = 2; seed = 7 }) ≡ codes "gen 2 7\n"
+case_line : first_line (record { rule = FewestLeaves; digits = 2; seed = 7 }) ≡ codes "gen 2 7\n"
 unfolding digits
 case_line = refl
 

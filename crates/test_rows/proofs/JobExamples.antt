@@ -26,6 +26,7 @@ use Rattle.cmd_stations.specs.declared.source.Source.{Source}
 use Rattle.tlut_cli.specs.Call.{fault_word}
 use Rattle.tlut_cli.specs.FaultLine.{line_of}
 use Rattle.cmd_run.specs.Run.Bank.{bank_of}
+use Rattle.cover_pick.specs.declared.rule.Rule.TheVariants.{FewestLeaves}
 use Rattle.cmd_run.specs.Run.Words.{RunWords, run_of}
 use Rattle.cmd_stations.specs.Script.{names_of}
 use Rattle.cmd_stations.specs.SourceCircuit.{width_of, shape_of}
@@ -37,12 +38,12 @@ words k serving spares = codes "run" ∷ k ∷ codes "n" ∷ codes "p" ∷ codes
 
 -- where four ports are handed in
 abbrev job_of : List ℕ → List ℕ → List ℕ → Option RunWords
-job_of k serving spares = run_of 4 (words k serving spares)
+job_of k serving spares = run_of FewestLeaves 4 (words k serving spares)
 
-a_job : job_of (codes "2") (codes "3") (codes "1") ≡ Some (record { source = record { k = 2; netlist = codes "n"; params = codes "p" }; script = codes "s"; ports = record { serving = 3; spares = 1 } })
+a_job : job_of (codes "2") (codes "3") (codes "1") ≡ Some (record { source = record { rule = FewestLeaves; k = 2; netlist = codes "n"; params = codes "p" }; script = codes "s"; ports = record { serving = 3; spares = 1 } })
 a_job = refl
 
-no_ports : run_of 0 (words (codes "6") (codes "0") (codes "0")) ≡ Some (record { source = record { k = 6; netlist = codes "n"; params = codes "p" }; script = codes "s"; ports = record { serving = 0; spares = 0 } })
+no_ports : run_of FewestLeaves 0 (words (codes "6") (codes "0") (codes "0")) ≡ Some (record { source = record { rule = FewestLeaves; k = 6; netlist = codes "n"; params = codes "p" }; script = codes "s"; ports = record { serving = 0; spares = 0 } })
 no_ports = refl
 
 -- and words of no form: tables of one input or seven, more ports than are handed in, numbers that aren't written so, a word too few
@@ -61,7 +62,7 @@ two_zeros = refl
 above_all_numbers : job_of (codes "2") (codes "0") (codes "18446744073709551616") ≡ None
 above_all_numbers = refl
 
-no_spares : run_of 4 (codes "run" ∷ codes "2" ∷ codes "n" ∷ codes "p" ∷ codes "s" ∷ codes "0" ∷ []) ≡ None
+no_spares : run_of FewestLeaves 4 (codes "run" ∷ codes "2" ∷ codes "n" ∷ codes "p" ∷ codes "s" ∷ codes "0" ∷ []) ≡ None
 no_spares = refl
 
 -- two ports serve, the third one is a spare, and the fourth one is not touched
@@ -166,7 +167,7 @@ port_line = refl
 
 -- the word that a fault line tells
 abbrev told_word : File → List ℕ
-told_word f = fault_word 4 (words (codes "2") (codes "1") (codes "0")) (outcome.ReadFault f)
+told_word f = fault_word FewestLeaves 4 (words (codes "2") (codes "1") (codes "0")) (outcome.ReadFault f)
 
 three_words : told_word file.Netlist ∷ told_word file.Params ∷ told_word file.Script ∷ [] ≡ codes "n" ∷ codes "p" ∷ codes "s" ∷ []
 three_words = refl

@@ -8,6 +8,7 @@ use Rattle.tl_io.specs.Port.{PortSeen}
 use Rattle.tl_io.specs.Shelf.{Files, ShelfSeen}
 use Rattle.tl_io.specs.Sink.{SinkSeen}
 use Rattle.cmd_base.specs.Outside.{Outside, outside}
+use Rattle.cover_pick.specs.declared.rule.Rule.{Rule}
 use Rattle.cmd_base.specs.Refusals.{too_long}
 use Rattle.cmd_map.specs.Map.Words.{MapWords}
 use Rattle.tlut_cli.specs.Commands.{Command, Map, command_of, walk_of}
@@ -32,7 +33,7 @@ refusal_not_memory false e = cc
 true≢false : true ≡ false → ⊥
 true≢false e = cc
 
-module _ (words : List (List ℕ)) (old new : ShelfSeen) (out put : SinkSeen) (ports others : List PortSeen) where
+module _ (rule : Rule) (words : List (List ℕ)) (old new : ShelfSeen) (out put : SinkSeen) (ports others : List PortSeen) where
   abbrev before : Outside
   before = outside old out ports
 
@@ -41,24 +42,24 @@ module _ (words : List (List ℕ)) (old new : ShelfSeen) (out put : SinkSeen) (p
 
   -- each of the files of the words' command says one thing
   abbrev HasSettled : Type 0
-  HasSettled = HasCommand (length ports) words (λ walk. InFiles walk.reading old.files walk.reading.IsSettled)
+  HasSettled = HasCommand rule (length ports) words (λ walk. InFiles walk.reading old.files walk.reading.IsSettled)
 
   -- what a status tells of the words, of the files and of what is outside
   abbrev pub Tells : Status → Type 0
-  Tells status.Done = HasDone words before after × HasKeptPorts words before after × HasSettled
-  Tells status.Usage = command_of (length ports) words ≡ None
-  Tells status.Refused = HasRefusal old.files (length ports) words status.Refused
-  Tells status.Limit = HasRefusal old.files (length ports) words status.Limit
-  Tells status.ReadFault = HasFault (length ports) words old new
-  Tells status.WriteFault = HasCutOff words before after × HasKeptPorts words before after × HasWriteCause words before after
-  Tells status.PortFault = HasLost words before after × HasPortCause words before after
+  Tells status.Done = HasDone rule words before after × HasKeptPorts rule words before after × HasSettled
+  Tells status.Usage = command_of rule (length ports) words ≡ None
+  Tells status.Refused = HasRefusal rule old.files (length ports) words status.Refused
+  Tells status.Limit = HasRefusal rule old.files (length ports) words status.Limit
+  Tells status.ReadFault = HasFault rule (length ports) words old new
+  Tells status.WriteFault = HasCutOff rule words before after × HasKeptPorts rule words before after × HasWriteCause rule words before after
+  Tells status.PortFault = HasLost rule words before after × HasPortCause rule words before after
   Tells status.Memory = Unit {0}
 
-  refusal_tells : (b : Bool) → HasRefusal old.files (length ports) words (cond b status.Limit status.Refused) → Tells (cond b status.Limit status.Refused)
+  refusal_tells : (b : Bool) → HasRefusal rule old.files (length ports) words (cond b status.Limit status.Refused) → Tells (cond b status.Limit status.Refused)
   refusal_tells true h = h
   refusal_tells false h = h
 
-  outcome_tells : (o : Outcome) → IsEnd words old new before after o → Tells (status_of o)
+  outcome_tells : (o : Outcome) → IsEnd rule words old new before after o → Tells (status_of o)
   outcome_tells o (inl u) = subst (λ p. Tells (status_of p)) (sym u.is) u.no_command
   outcome_tells outcome.Done (inr run) = (
     record { command = run.command; is = run.is; holds = run.ends.1 },
@@ -78,22 +79,22 @@ module _ (words : List (List ℕ)) (old new : ShelfSeen) (out put : SinkSeen) (p
   outcome_tells outcome.PortFault (inr run) = (record { command = run.command; is = run.is; holds = run.ends.1 }, record { command = run.command; is = run.is; holds = run.ends.2 })
   outcome_tells outcome.Memory (inr run) = tt
 
-  pub tells : (o : Outcome) (s t : Status) → s ≡ status_of o → IsEnd words old new before after o → s ≡ t → Tells t
+  pub tells : (o : Outcome) (s t : Status) → s ≡ status_of o → IsEnd rule words old new before after o → s ≡ t → Tells t
   tells o s t e end h = subst (λ x. Tells x) (sym e ∙ h) (outcome_tells o end)
 
   -- a refusal or a limit is the verdict's
-  pub refusal_is : (o : Outcome) (s : Status) → s ≡ status_of o → IsEnd words old new before after o → (s ≡ status.Refused) ⊎ (s ≡ status.Limit) → HasRefusal old.files (length ports) words s
-  refusal_is o s e end (inl h) = subst (λ x. HasRefusal old.files (length ports) words x) (sym h) (tells o s status.Refused e end h)
-  refusal_is o s e end (inr h) = subst (λ x. HasRefusal old.files (length ports) words x) (sym h) (tells o s status.Limit e end h)
+  pub refusal_is : (o : Outcome) (s : Status) → s ≡ status_of o → IsEnd rule words old new before after o → (s ≡ status.Refused) ⊎ (s ≡ status.Limit) → HasRefusal rule old.files (length ports) words s
+  refusal_is o s e end (inl h) = subst (λ x. HasRefusal rule old.files (length ports) words x) (sym h) (tells o s status.Refused e end h)
+  refusal_is o s e end (inr h) = subst (λ x. HasRefusal rule old.files (length ports) words x) (sym h) (tells o s status.Limit e end h)
 
   -- at the end of a job or at its cut-off no port is lost
-  pub kept_ports : (o : Outcome) (s : Status) → s ≡ status_of o → IsEnd words old new before after o → (s ≡ status.Done) ⊎ (s ≡ status.WriteFault) → HasKeptPorts words before after
+  pub kept_ports : (o : Outcome) (s : Status) → s ≡ status_of o → IsEnd rule words old new before after o → (s ≡ status.Done) ⊎ (s ≡ status.WriteFault) → HasKeptPorts rule words before after
   kept_ports o s e end (inl h) = (tells o s status.Done e end h).1
   kept_ports o s e end (inr h) = (tells o s status.WriteFault e end h).1
 
   -- what ends the words' command, by one that they are
-  ends_as : (o : Outcome) (this command : Command) → command_of (length ports) words ≡ Some this → command_of (length ports) words ≡ Some command → Ends (walk_of this) old new before after o → Ends (walk_of command) old new before after o
-  ends_as o this command is other ends = subst (λ c. Ends (walk_of c) old new before after o) (one_command (length ports) words this command is other) ends
+  ends_as : (o : Outcome) (this command : Command) → command_of rule (length ports) words ≡ Some this → command_of rule (length ports) words ≡ Some command → Ends (walk_of this) old new before after o → Ends (walk_of command) old new before after o
+  ends_as o this command is other ends = subst (λ c. Ends (walk_of c) old new before after o) (one_command rule (length ports) words this command is other) ends
 
   module _ (command : Command) (laws : HasLaws (walk_of command)) where
     -- An accepted job is done, but for want of memory, where there was no fault.
@@ -141,32 +142,32 @@ module _ (words : List (List ℕ)) (old new : ShelfSeen) (out put : SinkSeen) (p
     ]
 
   -- the same of a call
-  module _ (laws : HasWalkLaws (length ports) words) (o : Outcome) (s : Status) (e : s ≡ status_of o) where
-    pub completes : IsEnd words old new before after o → IsComplete words old new before after s
+  module _ (laws : HasWalkLaws rule (length ports) words) (o : Outcome) (s : Status) (e : s ≡ status_of o) where
+    pub completes : IsEnd rule words old new before after o → IsComplete rule words old new before after s
     completes (inl u) command is = absurd (none-some command (sym u.no_command ∙ is))
     completes (inr run) command is = accepted_done command (laws command is) o s e (ends_as o run.command command run.is is run.ends)
 
-    pub finishes : IsEnd words old new before after o → IsFinished words old new before after s
+    pub finishes : IsEnd rule words old new before after o → IsFinished rule words old new before after s
     finishes (inl u) command is = absurd (none-some command (sym u.no_command ∙ is))
     finishes (inr run) command is = begun_done command (laws command is) o s e (ends_as o run.command command run.is is run.ends)
 
-    pub answers : IsEnd words old new before after o → IsAnswered words old new (length ports) s
+    pub answers : IsEnd rule words old new before after o → IsAnswered rule words old new (length ports) s
     answers (inl u) command is = absurd (none-some command (sym u.no_command ∙ is))
     answers (inr run) command is = refused_answered command (laws command is) o s e (ends_as o run.command command run.is is run.ends)
 
   -- A job that is done shows what its walk says.
-  pub shown : HasWalkLaws (length ports) words → HasDone words before after → (command : Command) → command_of (length ports) words ≡ Some command
+  pub shown : HasWalkLaws rule (length ports) words → HasDone rule words before after → (command : Command) → command_of rule (length ports) words ≡ Some command
       → InFiles (walk_of command).reading old.files (λ files. (walk_of command).Shows files before after)
   shown laws done command is files told =
-      let same : done.command ≡ command = one_command (length ports) words done.command command done.is is in
+      let same : done.command ≡ command = one_command rule (length ports) words done.command command done.is is in
       (laws command is).shows files before after (subst (λ c. InFiles (walk_of c).reading old.files (λ fs. (walk_of c).IsDone fs before after)) same done.holds files told)
 
   -- A job of `map` that is done wrote what `bits` plays as `run` plays its tables.
-  pub replayed : (o : Outcome) (s : Status) → s ≡ status_of o → IsEnd words old new before after o → s ≡ status.Done → (written : MapWords) → command_of (length ports) words ≡ Some (Map written)
+  pub replayed : (o : Outcome) (s : Status) → s ≡ status_of o → IsEnd rule words old new before after o → s ≡ status.Done → (written : MapWords) → command_of rule (length ports) words ≡ Some (Map written)
       → Told old.files (λ files. ReplaysRun files written before after)
   replayed o s e end h written is files told =
       let all = tells o s status.Done e end h in
-      let done_as : all.0.command ≡ Map written = one_command (length ports) words all.0.command (Map written) all.0.is is in
-      let settled_as : all.2.command ≡ Map written = one_command (length ports) words all.2.command (Map written) all.2.is is in
+      let done_as : all.0.command ≡ Map written = one_command rule (length ports) words all.0.command (Map written) all.0.is is in
+      let settled_as : all.2.command ≡ Map written = one_command rule (length ports) words all.2.command (Map written) all.2.is is in
       replays_run files written before after (subst (λ c. InFiles (walk_of c).reading old.files (λ fs. (walk_of c).IsDone fs before after)) done_as all.0.holds files told)
       (subst (λ c. InFiles (walk_of c).reading old.files (walk_of c).reading.IsSettled) settled_as all.2.holds files told)

@@ -1,6 +1,7 @@
 -- How a command ends is how the command of its words does.
 use Rattle.std.proofs.Common.{◌≡◌, ℕ, List, Some, None, sym, ◌∙◌, subst}
 use Rattle.std.proofs.lemmas.Option.{none-some, same_Some}
+use Rattle.cover_pick.specs.declared.rule.Rule.{Rule}
 use Rattle.tl_io.specs.Shelf.{ShelfSeen}
 use Rattle.cmd_base.specs.Outside.{Outside}
 use Rattle.cmd_base.specs.WalkLaws.{HasLaws}
@@ -12,11 +13,11 @@ pub ended_as : {old new : ShelfSeen} {before after : Outside} {o : Outcome} (thi
 ended_as {old} {new} {before} {after} {o} this command same ended = subst (λ c. HasEnded c old new before after o) same ended
 
 -- words are of one command, whose walk has its laws
-pub one_command : (ports : ℕ) (words : List (List ℕ)) (a b : Command) → command_of ports words ≡ Some a → command_of ports words ≡ Some b → a ≡ b
-one_command ports words a b x y = same_Some a b (sym x ∙ y)
+pub one_command : (rule : Rule) (ports : ℕ) (words : List (List ℕ)) (a b : Command) → command_of rule ports words ≡ Some a → command_of rule ports words ≡ Some b → a ≡ b
+one_command rule ports words a b x y = same_Some a b (sym x ∙ y)
 
-pub no_laws : (ports : ℕ) (words : List (List ℕ)) → None ≡ command_of ports words → HasWalkLaws ports words
-no_laws ports words none command is = absurd (none-some command (none ∙ is))
+pub no_laws : (rule : Rule) (ports : ℕ) (words : List (List ℕ)) → None ≡ command_of rule ports words → HasWalkLaws rule ports words
+no_laws rule ports words none command is = absurd (none-some command (none ∙ is))
 
-pub its_laws : (ports : ℕ) (words : List (List ℕ)) (this : Command) → Some this ≡ command_of ports words → HasLaws (walk_of this) → HasWalkLaws ports words
-its_laws ports words this is laws command other = subst (λ c. HasLaws (walk_of c)) (same_Some this command (is ∙ other)) laws
+pub its_laws : (rule : Rule) (ports : ℕ) (words : List (List ℕ)) (this : Command) → Some this ≡ command_of rule ports words → HasLaws (walk_of this) → HasWalkLaws rule ports words
+its_laws rule ports words this is laws command other = subst (λ c. HasLaws (walk_of c)) (same_Some this command (is ∙ other)) laws

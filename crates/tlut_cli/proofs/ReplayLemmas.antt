@@ -28,7 +28,7 @@ module _ (files : Files) (written : MapWords) (before after : Outside) (done : H
   same_lines : (first others : Files) (run : RunWords) (bits : BitsWords) → HaveTheSameSource files written first run → get others bits.pack ≡ Some (present_bytes done.pack) → get others bits.script ≡ get first run.script
       → (old new other later : Outside) → HasRun first run old new (Ok tt) → IsPlayedOn others bits other later → PutTheSameLines old new other later
   same_lines first others run bits same pack script old new other later r b =
-      let has : HasMapped files written.source r.job.source r.job.template = mapped_there first files run.source written.source r.job.source r.job.template same.k same.netlist same.params r.is_job.mapped in
+      let has : HasMapped files written.source r.job.source r.job.template = mapped_there first files run.source written.source r.job.source r.job.template same.k same.rule same.netlist same.params r.is_job.mapped in
       let source = settled_once files written.source r.job.source done.source settled has.has done.mapped.has in
       let template = template_once files written.source r.job.source done.source r.job.template done.template settled has done.mapped in
       let packs = file_same (present_bytes done.pack) b.pack done.pack (pack_at others bits.pack (present_bytes done.pack) b.pack pack b.is_job.pack) done.replays.file in

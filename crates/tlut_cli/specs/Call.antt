@@ -1,6 +1,7 @@
 -- What a call says of itself: its outcome with its cause, and what each status means.
 use Rattle.std.specs.Prelude.{◌≡◌, ℕ, ◌⊎◌, true, List, [], Option, Some, None, length}
 use Rattle.tl_fault.specs.RefusalValue.{RefusalValue}
+use Rattle.cover_pick.specs.declared.rule.Rule.{Rule}
 use Rattle.tl_io.specs.Causes.{Rose}
 use Rattle.tl_io.specs.Shelf.{Files, ShelfSeen}
 use Rattle.cmd_base.specs.Outside.{Outside}
@@ -15,20 +16,20 @@ use Rattle.cmd_base.specs.declared.status.Status.{Status}
 use Rattle.cmd_base.specs.declared.status.Status.TheVariants as status
 
 -- the words are of no form, and nothing was read, put or sent
-pub record IsUsage (words : List (List ℕ)) (old new : ShelfSeen) (before after : Outside) (o : Outcome) : Type 0 where
+pub record IsUsage (rule : Rule) (words : List (List ℕ)) (old new : ShelfSeen) (before after : Outside) (o : Outcome) : Type 0 where
   pub is : o ≡ outcome.Usage
-  pub no_command : command_of (length before.ports) words ≡ None
+  pub no_command : command_of rule (length before.ports) words ≡ None
   pub shelf : new ≡ old
   pub same : after ≡ before
 
 -- the words are a command, and the outcome says how it ended
-pub record IsCommandEnd (words : List (List ℕ)) (old new : ShelfSeen) (before after : Outside) (o : Outcome) : Type 0 where
+pub record IsCommandEnd (rule : Rule) (words : List (List ℕ)) (old new : ShelfSeen) (before after : Outside) (o : Outcome) : Type 0 where
   pub command : Command
-  pub is : command_of (length before.ports) words ≡ Some command
+  pub is : command_of rule (length before.ports) words ≡ Some command
   pub ends : Ends (walk_of command) old new before after o
 
-abbrev pub IsEnd : List (List ℕ) → ShelfSeen → ShelfSeen → Outside → Outside → Outcome → Type 0
-IsEnd words old new before after o = IsUsage words old new before after o ⊎ IsCommandEnd words old new before after o
+abbrev pub IsEnd : Rule → List (List ℕ) → ShelfSeen → ShelfSeen → Outside → Outside → Outcome → Type 0
+IsEnd rule words old new before after o = IsUsage rule words old new before after o ⊎ IsCommandEnd rule words old new before after o
 
 -- the file that a fault line tells
 abbrev pub fault_file : Outcome → Option File
@@ -47,13 +48,13 @@ word_at None command = []
 word_at (Some file) None = []
 word_at (Some file) (Some command) = (walk_of command).reading.word file
 
-abbrev pub fault_word : ℕ → List (List ℕ) → Outcome → List ℕ
-fault_word ports words o = word_at (fault_file o) (command_of ports words)
+abbrev pub fault_word : Rule → ℕ → List (List ℕ) → Outcome → List ℕ
+fault_word rule ports words o = word_at (fault_file o) (command_of rule ports words)
 
 -- the words are a command with this in its walk
-pub record HasCommand (ports : ℕ) (words : List (List ℕ)) (P : Walk → Type 0) : Type 0 where
+pub record HasCommand (rule : Rule) (ports : ℕ) (words : List (List ℕ)) (P : Walk → Type 0) : Type 0 where
   pub command : Command
-  pub is : command_of ports words ≡ Some command
+  pub is : command_of rule ports words ≡ Some command
   pub holds : P (walk_of command)
 
 -- a refusal of the verdict with this status
@@ -63,22 +64,22 @@ pub record IsRefusal (files : Files) (walk : Walk) (s : Status) : Type 0 where
   pub refused : walk.reading.IsRefused files file refusal
   pub status_is : s ≡ refusal_status refusal
 
-abbrev pub HasRefusal : Option Files → ℕ → List (List ℕ) → Status → Type 0
-HasRefusal told ports words s = HasCommand ports words (λ walk. InFiles walk.reading told (λ files. IsRefusal files walk s))
+abbrev pub HasRefusal : Rule → Option Files → ℕ → List (List ℕ) → Status → Type 0
+HasRefusal rule told ports words s = HasCommand rule ports words (λ walk. InFiles walk.reading told (λ files. IsRefusal files walk s))
 
 -- a job that was done, cut off, or ended by a fault of the ports
-abbrev pub HasDone : List (List ℕ) → Outside → Outside → Type 0
-HasDone words before after = HasCommand (length before.ports) words (λ walk. InFiles walk.reading before.files (λ files. walk.IsDone files before after))
+abbrev pub HasDone : Rule → List (List ℕ) → Outside → Outside → Type 0
+HasDone rule words before after = HasCommand rule (length before.ports) words (λ walk. InFiles walk.reading before.files (λ files. walk.IsDone files before after))
 
-abbrev pub HasCutOff : List (List ℕ) → Outside → Outside → Type 0
-HasCutOff words before after = HasCommand (length before.ports) words (λ walk. InFiles walk.reading before.files (λ files. walk.IsCutOff files before after))
+abbrev pub HasCutOff : Rule → List (List ℕ) → Outside → Outside → Type 0
+HasCutOff rule words before after = HasCommand rule (length before.ports) words (λ walk. InFiles walk.reading before.files (λ files. walk.IsCutOff files before after))
 
-abbrev pub HasLost : List (List ℕ) → Outside → Outside → Type 0
-HasLost words before after = HasCommand (length before.ports) words (λ walk. InFiles walk.reading before.files (λ files. walk.IsLost files before after))
+abbrev pub HasLost : Rule → List (List ℕ) → Outside → Outside → Type 0
+HasLost rule words before after = HasCommand rule (length before.ports) words (λ walk. InFiles walk.reading before.files (λ files. walk.IsLost files before after))
 
 -- what becomes of the ports, whatever the files are
-abbrev pub HasKeptPorts : List (List ℕ) → Outside → Outside → Type 0
-HasKeptPorts words before after = HasCommand (length before.ports) words (λ walk. walk.KeepsPorts before after)
+abbrev pub HasKeptPorts : Rule → List (List ℕ) → Outside → Outside → Type 0
+HasKeptPorts rule words before after = HasCommand rule (length before.ports) words (λ walk. walk.KeepsPorts before after)
 
 -- a read fault at a file that the walk reaches
 pub record IsFault (walk : Walk) (old new : ShelfSeen) : Type 0 where
@@ -87,19 +88,19 @@ pub record IsFault (walk : Walk) (old new : ShelfSeen) : Type 0 where
   pub fault : IsReadFault old new (walk.reading.word file)
   pub reached : InFiles walk.reading old.files (λ files. walk.reading.Reaches files file)
 
-abbrev pub HasFault : ℕ → List (List ℕ) → ShelfSeen → ShelfSeen → Type 0
-HasFault ports words old new = HasCommand ports words (λ walk. IsFault walk old new)
+abbrev pub HasFault : Rule → ℕ → List (List ℕ) → ShelfSeen → ShelfSeen → Type 0
+HasFault rule ports words old new = HasCommand rule ports words (λ walk. IsFault walk old new)
 
 -- the cause of a fault of the ports, and of a fault of writing
-abbrev pub HasPortCause : List (List ℕ) → Outside → Outside → Type 0
-HasPortCause words before after = HasCommand (length before.ports) words (λ walk. walk.HasPortFault before after)
+abbrev pub HasPortCause : Rule → List (List ℕ) → Outside → Outside → Type 0
+HasPortCause rule words before after = HasCommand rule (length before.ports) words (λ walk. walk.HasPortFault before after)
 
-abbrev pub HasWriteCause : List (List ℕ) → Outside → Outside → Type 0
-HasWriteCause words before after = HasCommand (length before.ports) words (λ walk. HasWriteFault walk before after)
+abbrev pub HasWriteCause : Rule → List (List ℕ) → Outside → Outside → Type 0
+HasWriteCause rule words before after = HasCommand rule (length before.ports) words (λ walk. HasWriteFault walk before after)
 
 -- the order of work of the words' command writes files
-abbrev pub WritesFiles : ℕ → List (List ℕ) → Type 0
-WritesFiles ports words = HasCommand ports words (λ walk. walk.WritesFiles)
+abbrev pub WritesFiles : Rule → ℕ → List (List ℕ) → Type 0
+WritesFiles rule ports words = HasCommand rule ports words (λ walk. walk.WritesFiles)
 
 -- no read and no write of a call failed, nor more ports than stand by
 pub record HasNoFault (walk : Walk) (old new : ShelfSeen) (before after : Outside) : Type 0 where
@@ -111,15 +112,15 @@ pub record HasNoFault (walk : Walk) (old new : ShelfSeen) (before after : Outsid
 abbrev pub HasBegun : Walk → ShelfSeen → Outside → Outside → Type 0
 HasBegun walk new before after = ¬ (after.bytes ≡ before.bytes) ⊎ (walk.WritesFiles × (new.is_writing ≡ true))
 
-module _ (words : List (List ℕ)) (old new : ShelfSeen) (before after : Outside) (s : Status) where
+module _ (rule : Rule) (words : List (List ℕ)) (old new : ShelfSeen) (before after : Outside) (s : Status) where
   -- Where the files hold an accepted job, and there was no fault, the job is done: want of memory alone can stop it.
   abbrev pub IsComplete : Type 0
-  IsComplete = (command : Command) → command_of (length before.ports) words ≡ Some command → InFiles (walk_of command).reading before.files (λ files.
+  IsComplete = (command : Command) → command_of rule (length before.ports) words ≡ Some command → InFiles (walk_of command).reading before.files (λ files.
       (walk_of command).IsAccepted files → HasNoFault (walk_of command) old new before after → (s ≡ status.Done) ⊎ (s ≡ status.Memory))
 
   -- where moreover something was begun outside, it is done
   abbrev pub IsFinished : Type 0
-  IsFinished = (command : Command) → command_of (length before.ports) words ≡ Some command → InFiles (walk_of command).reading before.files (λ files.
+  IsFinished = (command : Command) → command_of rule (length before.ports) words ≡ Some command → InFiles (walk_of command).reading before.files (λ files.
       (walk_of command).IsAccepted files → HasNoFault (walk_of command) old new before after → HasBegun (walk_of command) new before after → s ≡ status.Done)
 
 -- nothing was put or sent
@@ -134,6 +135,6 @@ IsQuiet status.WriteFault = ⊥
 IsQuiet status.PortFault = ⊥
 
 -- where the files hold a refusal of the job and no read failed, its status is the answer, but for want of memory
-abbrev pub IsAnswered : List (List ℕ) → ShelfSeen → ShelfSeen → ℕ → Status → Type 0
-IsAnswered words old new ports s = (command : Command) → command_of ports words ≡ Some command → InFiles (walk_of command).reading old.files (λ files. (file : File) (refusal : RefusalValue) → (walk_of command).reading.IsRefused files file refusal
+abbrev pub IsAnswered : Rule → List (List ℕ) → ShelfSeen → ShelfSeen → ℕ → Status → Type 0
+IsAnswered rule words old new ports s = (command : Command) → command_of rule ports words ≡ Some command → InFiles (walk_of command).reading old.files (λ files. (file : File) (refusal : RefusalValue) → (walk_of command).reading.IsRefused files file refusal
     → ¬ (Rose old.read_faults new.read_faults) → (s ≡ refusal_status refusal) ⊎ (s ≡ status.Memory))

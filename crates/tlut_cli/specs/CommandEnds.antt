@@ -1,5 +1,6 @@
 -- How the command that was run ended.
 use Rattle.std.specs.Prelude.{◌≡◌, ◌⊎◌, ℕ, List, Some}
+use Rattle.cover_pick.specs.declared.rule.Rule.{Rule}
 use Rattle.tl_io.specs.Shelf.{ShelfSeen}
 use Rattle.cmd_base.specs.Outside.{Outside}
 use Rattle.cmd_base.specs.Ends.{Ends}
@@ -14,5 +15,5 @@ pub record HasEnded (command : Command) (old new : ShelfSeen) (before after : Ou
   pub laws : HasLaws (walk_of command)
 
 -- the walk of the words' command, where they are one, has its laws
-abbrev pub HasWalkLaws : ℕ → List (List ℕ) → Type 0
-HasWalkLaws ports words = (command : Command) → command_of ports words ≡ Some command → HasLaws (walk_of command)
+abbrev pub HasWalkLaws : Rule → ℕ → List (List ℕ) → Type 0
+HasWalkLaws rule ports words = (command : Command) → command_of rule ports words ≡ Some command → HasLaws (walk_of command)

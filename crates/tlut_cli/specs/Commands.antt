@@ -1,6 +1,7 @@
 -- The commands, by the words of the command line, and the walk of each.
 use Rattle.std.specs.Prelude.{ℕ, List, [], ◌∷◌, codes, Option, Some, None}
 use Rattle.std.specs.Option.{option_map}
+use Rattle.cover_pick.specs.declared.rule.Rule.{Rule}
 use Rattle.cmd_base.specs.Walk.{Walk}
 use Rattle.tlut_cli.specs.declared.command.Command.{Command as CommandRead}
 use Rattle.tlut_cli.specs.declared.command.Command.TheVariants as read
@@ -47,16 +48,17 @@ or_else None other = other
 abbrev pub cert_commands : List (List ℕ) → Option Command
 cert_commands words = or_else (option_map Prove (cert_words_of (codes "prove") words)) (option_map Audit (cert_words_of (codes "audit") words))
 
-abbrev pub later_commands : List (List ℕ) → Option Command
-later_commands words = or_else (cert_commands words) (or_else (option_map Graph (graph_words_of words)) (option_map Pace (pace_of words)))
+abbrev pub later_commands : Rule → List (List ℕ) → Option Command
+later_commands rule words = or_else (cert_commands words) (or_else (option_map Graph (graph_words_of words)) (option_map Pace (pace_of rule words)))
 
--- the command of some words, where so many ports are handed in; none where they are of no command's form
-abbrev pub other_commands : List (List ℕ) → Option Command
-other_commands words =
-    or_else (option_map Spec (spec_of words)) (or_else (option_map Map (map_of words)) (or_else (option_map Bits (bits_of words)) (or_else (option_map Gen (gen_of words)) (or_else (option_map Repack (repack_of words)) (later_commands words)))))
+abbrev pub other_commands : Rule → List (List ℕ) → Option Command
+other_commands rule words =
+    or_else (option_map Spec (spec_of rule words))
+    (or_else (option_map Map (map_of rule words)) (or_else (option_map Bits (bits_of words)) (or_else (option_map Gen (gen_of rule words)) (or_else (option_map Repack (repack_of words)) (later_commands rule words)))))
 
-abbrev pub command_of : ℕ → List (List ℕ) → Option Command
-command_of ports words = or_else (option_map Run (run_of ports words)) (other_commands words)
+-- the command of some words by a rule of choice, where so many ports are handed in; none where they are of no command's form
+abbrev pub command_of : Rule → ℕ → List (List ℕ) → Option Command
+command_of rule ports words = or_else (option_map Run (run_of rule ports words)) (other_commands rule words)
 
 abbrev pub walk_of : Command → Walk
 walk_of (Run words) = run_walk words

@@ -22,13 +22,14 @@ pub record PutTheSameLines (old new other later : Outside) : Type 0 where
   pub put : new.bytes ≡ extended old.bytes (concat (header ∷ lines))
   pub other_put : later.bytes ≡ extended other.bytes (concat (other_header ∷ lines))
 
--- Files have the same K, netlist and list for `run` as others have for `map`.
+-- Files have the same rule, K, netlist and list for `run` as others have for `map`.
 pub record HaveTheSameSource (files : Files) (written : MapWords) (first : Files) (run : RunWords) : Type 0 where
+  pub rule : run.source.rule ≡ written.source.rule
   pub k : run.source.k ≡ written.source.k
   pub netlist : get first run.source.netlist ≡ get files written.source.netlist
   pub params : get first run.source.params ≡ get files written.source.params
 
--- A job of `map` was done. Wherever a file has the bytes of the pack that it wrote, a job of `bits` on it and one of `run` on the same K, netlist and list that are both done over the same script put the same lines, one an event: `bits` accepts no script with cycles.
+-- A job of `map` was done. Wherever a file has the bytes of the pack that it wrote, a job of `bits` on it and one of `run` by the same rule on the same K, netlist and list that are both done over the same script put the same lines, one an event: `bits` accepts no script with cycles.
 pub record ReplaysRun (files : Files) (written : MapWords) (before after : Outside) : Type 0 where
   pub done : HasMap files written (λ texts line. AreWritten texts line before after)
   pub lines : (first others : Files) (run : RunWords) (bits : BitsWords) → HaveTheSameSource files written first run → get others bits.pack ≡ Some (present_bytes done.pack) → get others bits.script ≡ get first run.script

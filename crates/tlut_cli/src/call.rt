@@ -1,6 +1,7 @@
 //! The top call.
 ghost use Rattle.std.specs.Prelude.{◌≡◌, ◌≤◌, ◌↔◌, ◌⊎◌, ℕ, List, length, None, Some, map, string_bytes};
 ghost use Rattle.tl_io.specs.Shelf.{Files};
+ghost use Rattle.cover_pick.specs.declared.rule.Rule.TheVariants.{FewestLeaves};
 ghost use Rattle.cmd_base.specs.Outside.{outside};
 ghost use Rattle.cmd_base.specs.Ends.{Told};
 ghost use Rattle.cmd_base.specs.FaultLine.{Reports};
@@ -25,6 +26,7 @@ use cmd_map::{map_job, spec_job};
 use cmd_pace::pace_job;
 use cmd_pack::{bits_job, repack_job};
 use cmd_run::{gen_job, run_job};
+use cover_pick::Rule;
 use std::alloc::Global;
 use tl_io::{ConfigPort, Shelf, Sink};
 
@@ -89,17 +91,18 @@ fn fault_name<'a>(command: &Command<'a>, outcome: &Outcome) -> &'a str
 // Runs the command of some words.
 fn run_words<'a, S: Shelf, O: Sink, P: ConfigPort>(
     alloc: Global,
+    rule: Rule,
     words: &'a [String],
     shelf: &mut S,
     out: &mut O,
     ports: &mut Vec<P>,
 ) -> Ended<'a>
-    ensures end { IsEnd (map string_bytes words.now) (S.seen shelf.old) (S.seen shelf.new) (outside (S.seen shelf.old) (O.seen out.old) (map P.port_seen ports.old.items)) (outside (S.seen shelf.new) (O.seen out.new) (map P.port_seen ports.new.items)) result.outcome }
-    ensures name { result.name.now ≡ fault_word (length ports.old.items) (map string_bytes words.now) result.outcome }
-    ensures files { ((S.seen shelf.new).files ≡ (S.seen shelf.old).files) ⊎ WritesFiles (length ports.old.items) (map string_bytes words.now) }
-    ensures laws { HasWalkLaws (length ports.old.items) (map string_bytes words.now) }
+    ensures end { IsEnd rule (map string_bytes words.now) (S.seen shelf.old) (S.seen shelf.new) (outside (S.seen shelf.old) (O.seen out.old) (map P.port_seen ports.old.items)) (outside (S.seen shelf.new) (O.seen out.new) (map P.port_seen ports.new.items)) result.outcome }
+    ensures name { result.name.now ≡ fault_word rule (length ports.old.items) (map string_bytes words.now) result.outcome }
+    ensures files { ((S.seen shelf.new).files ≡ (S.seen shelf.old).files) ⊎ WritesFiles rule (length ports.old.items) (map string_bytes words.now) }
+    ensures laws { HasWalkLaws rule (length ports.old.items) (map string_bytes words.now) }
 {
-    match read_command(ports.len(), words) {
+    match read_command(rule, ports.len(), words) {
         None => Ended {
             outcome: Outcome::Usage,
             name: "",
@@ -112,7 +115,8 @@ fn run_words<'a, S: Shelf, O: Sink, P: ConfigPort>(
     }
 }
 
-/// Runs the command that the words are, over the files of a shelf and the ports that are handed in.
+/// Runs the command that the words are, over the files of a shelf and the ports that are handed in. The commands that map choose
+/// their cuts by the rule.
 ///
 /// - `run K NETLIST PARAMS SCRIPT PORTS SPARES` maps a netlist to tables of at most K inputs with the least depth, loads their
 ///   configuration into the first PORTS ports, and plays the events of a script: changes of parameters, clock cycles, upset
@@ -134,6 +138,69 @@ fn run_words<'a, S: Shelf, O: Sink, P: ConfigPort>(
 /// The status says how the call ended. On every status but `Done` one line stands on `err`; a failing `err`
 /// changes no status. Want of memory is the one free answer, and comes only before the first byte of `out` and before a file is
 /// begun for writing.
+pub fn tlut_by<S: Shelf, O: Sink, E: Sink>(
+    alloc: Global,
+    rule: Rule,
+    words: &[String],
+    shelf: &mut S,
+    out: &mut O,
+    err: &mut E,
+    ports: &mut Vec<Box<dyn ConfigPort>>,
+) -> Status
+    ensures usage { result ≡ Status.Usage ↔ command_of rule (length ports.old.items) (map string_bytes words.now) ≡ None }
+
+    // A refusal or a limit is the verdict's on the words and the files.
+    ensures refusal { (result ≡ Status.Refused) ⊎ (result ≡ Status.Limit) → HasRefusal rule (S.seen shelf.old).files (length ports.old.items) (map string_bytes words.now) result }
+
+    // The other way round, such a refusal is the answer, where no read fails and memory suffices.
+    ensures refused { IsAnswered rule (map string_bytes words.now) (S.seen shelf.old) (S.seen shelf.new) (length ports.old.items) result }
+
+    // The output grew by the lines of the accepted job, and the ports got its load and its writes: all of them, or those up to
+    // the fault.
+    ensures done { result ≡ Status.Done → HasDone rule (map string_bytes words.now) (outside (S.seen shelf.old) (O.seen out.old) (map (λ port. port_seen port) ports.old.items)) (outside (S.seen shelf.new) (O.seen out.new) (map (λ port. port_seen port) ports.new.items)) }
+    ensures part { result ≡ Status.WriteFault → HasCutOff rule (map string_bytes words.now) (outside (S.seen shelf.old) (O.seen out.old) (map (λ port. port_seen port) ports.old.items)) (outside (S.seen shelf.new) (O.seen out.new) (map (λ port. port_seen port) ports.new.items)) }
+    ensures lost { result ≡ Status.PortFault → HasLost rule (map string_bytes words.now) (outside (S.seen shelf.old) (O.seen out.old) (map (λ port. port_seen port) ports.old.items)) (outside (S.seen shelf.new) (O.seen out.new) (map (λ port. port_seen port) ports.new.items)) }
+
+    // The headline of `run`: the source circuit's outputs and latch states cycle by cycle, at each change exactly the bits in which the
+    // configurations specialised from scratch differ, tables of at most K inputs, and the least depth over all covers.
+    ensures headline { result ≡ Status.Done → (run : RunWords) → command_of rule (length ports.old.items) (map string_bytes words.now) ≡ Some (Run run) → Told (S.seen shelf.old).files (λ files. HasHeadline files run (outside (S.seen shelf.old) (O.seen out.old) (map (λ port. port_seen port) ports.old.items)) (outside (S.seen shelf.new) (O.seen out.new) (map (λ port. port_seen port) ports.new.items))) }
+
+    // The headline of `pace`: the circuit steps only under the configuration that is specialised from scratch for the values that were
+    // asked for last, as the source circuit does, and waits exactly as long as its writes take at the rate of the port.
+    ensures paced { result ≡ Status.Done → (paced : PaceWords) → command_of rule (length ports.old.items) (map string_bytes words.now) ≡ Some (Pace paced) → Told (S.seen shelf.old).files (λ files. HasPaceHeadline files paced (outside (S.seen shelf.old) (O.seen out.old) (map (λ port. port_seen port) ports.old.items)) (outside (S.seen shelf.new) (O.seen out.new) (map (λ port. port_seen port) ports.new.items))) }
+
+    // What `map` wrote is played by `bits` as `run` plays its tables, for each script without cycles.
+    ensures replays { result ≡ Status.Done → (written : MapWords) → command_of rule (length ports.old.items) (map string_bytes words.now) ≡ Some (Map written) → Told (S.seen shelf.old).files (λ files. ReplaysRun files written (outside (S.seen shelf.old) (O.seen out.old) (map (λ port. port_seen port) ports.old.items)) (outside (S.seen shelf.new) (O.seen out.new) (map (λ port. port_seen port) ports.new.items))) }
+
+    // An accepted job is done, where no read, no write and no more ports than stand by fail, and memory suffices.
+    ensures complete { IsComplete rule (map string_bytes words.now) (S.seen shelf.old) (S.seen shelf.new) (outside (S.seen shelf.old) (O.seen out.old) (map (λ port. port_seen port) ports.old.items)) (outside (S.seen shelf.new) (O.seen out.new) (map (λ port. port_seen port) ports.new.items)) result }
+    ensures finished { IsFinished rule (map string_bytes words.now) (S.seen shelf.old) (S.seen shelf.new) (outside (S.seen shelf.old) (O.seen out.old) (map (λ port. port_seen port) ports.old.items)) (outside (S.seen shelf.new) (O.seen out.new) (map (λ port. port_seen port) ports.new.items)) result }
+
+    // A fault has its cause.
+    ensures read_fault { result ≡ Status.ReadFault → HasFault rule (length ports.old.items) (map string_bytes words.now) (S.seen shelf.old) (S.seen shelf.new) }
+    ensures write_fault { result ≡ Status.WriteFault → HasWriteCause rule (map string_bytes words.now) (outside (S.seen shelf.old) (O.seen out.old) (map (λ port. port_seen port) ports.old.items)) (outside (S.seen shelf.new) (O.seen out.new) (map (λ port. port_seen port) ports.new.items)) }
+    ensures port_fault { result ≡ Status.PortFault → HasPortCause rule (map string_bytes words.now) (outside (S.seen shelf.old) (O.seen out.old) (map (λ port. port_seen port) ports.old.items)) (outside (S.seen shelf.new) (O.seen out.new) (map (λ port. port_seen port) ports.new.items)) }
+
+    // What becomes of the ports, whatever the files are.
+    ensures boxes { (result ≡ Status.Done) ⊎ (result ≡ Status.WriteFault) → HasKeptPorts rule (map string_bytes words.now) (outside (S.seen shelf.old) (O.seen out.old) (map (λ port. port_seen port) ports.old.items)) (outside (S.seen shelf.new) (O.seen out.new) (map (λ port. port_seen port) ports.new.items)) }
+
+    // What stays.
+    ensures quiet { IsQuiet result → (O.seen out.new).bytes ≡ (O.seen out.old).bytes }
+    ensures ports { IsQuiet result → map (λ port. port_seen port) ports.new.items ≡ map (λ port. port_seen port) ports.old.items }
+    ensures files { IsQuiet result → (S.seen shelf.new).files ≡ (S.seen shelf.old).files }
+    ensures no_files { ((S.seen shelf.new).files ≡ (S.seen shelf.old).files) ⊎ WritesFiles rule (length ports.old.items) (map string_bytes words.now) }
+
+    // The outcome, its cause, and the fault line.
+    ensures told { (outcome : OutcomeValue) × (result ≡ status_of outcome)
+        × IsEnd rule (map string_bytes words.now) (S.seen shelf.old) (S.seen shelf.new) (outside (S.seen shelf.old) (O.seen out.old) (map (λ port. port_seen port) ports.old.items)) (outside (S.seen shelf.new) (O.seen out.new) (map (λ port. port_seen port) ports.new.items)) outcome
+        × Reports (E.seen err.old) (E.seen err.new) (line_of (fault_word rule (length ports.old.items) (map string_bytes words.now) outcome) outcome) }
+{
+    let ended = run_words(alloc, rule, words, shelf, out, ports);
+    report(err, ended.name.as_bytes(), &ended.outcome);
+    ended.outcome.status()
+}
+
+/// Runs the command that the words are by the rule of the fewest leaves: `tlut_by` at `FewestLeaves`.
 pub fn tlut<S: Shelf, O: Sink, E: Sink>(
     alloc: Global,
     words: &[String],
@@ -142,55 +209,53 @@ pub fn tlut<S: Shelf, O: Sink, E: Sink>(
     err: &mut E,
     ports: &mut Vec<Box<dyn ConfigPort>>,
 ) -> Status
-    ensures usage { result ≡ Status.Usage ↔ command_of (length ports.old.items) (map string_bytes words.now) ≡ None }
+    ensures usage { result ≡ Status.Usage ↔ command_of FewestLeaves (length ports.old.items) (map string_bytes words.now) ≡ None }
 
     // A refusal or a limit is the verdict's on the words and the files.
-    ensures refusal { (result ≡ Status.Refused) ⊎ (result ≡ Status.Limit) → HasRefusal (S.seen shelf.old).files (length ports.old.items) (map string_bytes words.now) result }
+    ensures refusal { (result ≡ Status.Refused) ⊎ (result ≡ Status.Limit) → HasRefusal FewestLeaves (S.seen shelf.old).files (length ports.old.items) (map string_bytes words.now) result }
 
     // The other way round, such a refusal is the answer, where no read fails and memory suffices.
-    ensures refused { IsAnswered (map string_bytes words.now) (S.seen shelf.old) (S.seen shelf.new) (length ports.old.items) result }
+    ensures refused { IsAnswered FewestLeaves (map string_bytes words.now) (S.seen shelf.old) (S.seen shelf.new) (length ports.old.items) result }
 
     // The output grew by the lines of the accepted job, and the ports got its load and its writes: all of them, or those up to
     // the fault.
-    ensures done { result ≡ Status.Done → HasDone (map string_bytes words.now) (outside (S.seen shelf.old) (O.seen out.old) (map (λ port. port_seen port) ports.old.items)) (outside (S.seen shelf.new) (O.seen out.new) (map (λ port. port_seen port) ports.new.items)) }
-    ensures part { result ≡ Status.WriteFault → HasCutOff (map string_bytes words.now) (outside (S.seen shelf.old) (O.seen out.old) (map (λ port. port_seen port) ports.old.items)) (outside (S.seen shelf.new) (O.seen out.new) (map (λ port. port_seen port) ports.new.items)) }
-    ensures lost { result ≡ Status.PortFault → HasLost (map string_bytes words.now) (outside (S.seen shelf.old) (O.seen out.old) (map (λ port. port_seen port) ports.old.items)) (outside (S.seen shelf.new) (O.seen out.new) (map (λ port. port_seen port) ports.new.items)) }
+    ensures done { result ≡ Status.Done → HasDone FewestLeaves (map string_bytes words.now) (outside (S.seen shelf.old) (O.seen out.old) (map (λ port. port_seen port) ports.old.items)) (outside (S.seen shelf.new) (O.seen out.new) (map (λ port. port_seen port) ports.new.items)) }
+    ensures part { result ≡ Status.WriteFault → HasCutOff FewestLeaves (map string_bytes words.now) (outside (S.seen shelf.old) (O.seen out.old) (map (λ port. port_seen port) ports.old.items)) (outside (S.seen shelf.new) (O.seen out.new) (map (λ port. port_seen port) ports.new.items)) }
+    ensures lost { result ≡ Status.PortFault → HasLost FewestLeaves (map string_bytes words.now) (outside (S.seen shelf.old) (O.seen out.old) (map (λ port. port_seen port) ports.old.items)) (outside (S.seen shelf.new) (O.seen out.new) (map (λ port. port_seen port) ports.new.items)) }
 
     // The headline of `run`: the source circuit's outputs and latch states cycle by cycle, at each change exactly the bits in which the
     // configurations specialised from scratch differ, tables of at most K inputs, and the least depth over all covers.
-    ensures headline { result ≡ Status.Done → (run : RunWords) → command_of (length ports.old.items) (map string_bytes words.now) ≡ Some (Run run) → Told (S.seen shelf.old).files (λ files. HasHeadline files run (outside (S.seen shelf.old) (O.seen out.old) (map (λ port. port_seen port) ports.old.items)) (outside (S.seen shelf.new) (O.seen out.new) (map (λ port. port_seen port) ports.new.items))) }
+    ensures headline { result ≡ Status.Done → (run : RunWords) → command_of FewestLeaves (length ports.old.items) (map string_bytes words.now) ≡ Some (Run run) → Told (S.seen shelf.old).files (λ files. HasHeadline files run (outside (S.seen shelf.old) (O.seen out.old) (map (λ port. port_seen port) ports.old.items)) (outside (S.seen shelf.new) (O.seen out.new) (map (λ port. port_seen port) ports.new.items))) }
 
     // The headline of `pace`: the circuit steps only under the configuration that is specialised from scratch for the values that were
     // asked for last, as the source circuit does, and waits exactly as long as its writes take at the rate of the port.
-    ensures paced { result ≡ Status.Done → (paced : PaceWords) → command_of (length ports.old.items) (map string_bytes words.now) ≡ Some (Pace paced) → Told (S.seen shelf.old).files (λ files. HasPaceHeadline files paced (outside (S.seen shelf.old) (O.seen out.old) (map (λ port. port_seen port) ports.old.items)) (outside (S.seen shelf.new) (O.seen out.new) (map (λ port. port_seen port) ports.new.items))) }
+    ensures paced { result ≡ Status.Done → (paced : PaceWords) → command_of FewestLeaves (length ports.old.items) (map string_bytes words.now) ≡ Some (Pace paced) → Told (S.seen shelf.old).files (λ files. HasPaceHeadline files paced (outside (S.seen shelf.old) (O.seen out.old) (map (λ port. port_seen port) ports.old.items)) (outside (S.seen shelf.new) (O.seen out.new) (map (λ port. port_seen port) ports.new.items))) }
 
     // What `map` wrote is played by `bits` as `run` plays its tables, for each script without cycles.
-    ensures replays { result ≡ Status.Done → (written : MapWords) → command_of (length ports.old.items) (map string_bytes words.now) ≡ Some (Map written) → Told (S.seen shelf.old).files (λ files. ReplaysRun files written (outside (S.seen shelf.old) (O.seen out.old) (map (λ port. port_seen port) ports.old.items)) (outside (S.seen shelf.new) (O.seen out.new) (map (λ port. port_seen port) ports.new.items))) }
+    ensures replays { result ≡ Status.Done → (written : MapWords) → command_of FewestLeaves (length ports.old.items) (map string_bytes words.now) ≡ Some (Map written) → Told (S.seen shelf.old).files (λ files. ReplaysRun files written (outside (S.seen shelf.old) (O.seen out.old) (map (λ port. port_seen port) ports.old.items)) (outside (S.seen shelf.new) (O.seen out.new) (map (λ port. port_seen port) ports.new.items))) }
 
     // An accepted job is done, where no read, no write and no more ports than stand by fail, and memory suffices.
-    ensures complete { IsComplete (map string_bytes words.now) (S.seen shelf.old) (S.seen shelf.new) (outside (S.seen shelf.old) (O.seen out.old) (map (λ port. port_seen port) ports.old.items)) (outside (S.seen shelf.new) (O.seen out.new) (map (λ port. port_seen port) ports.new.items)) result }
-    ensures finished { IsFinished (map string_bytes words.now) (S.seen shelf.old) (S.seen shelf.new) (outside (S.seen shelf.old) (O.seen out.old) (map (λ port. port_seen port) ports.old.items)) (outside (S.seen shelf.new) (O.seen out.new) (map (λ port. port_seen port) ports.new.items)) result }
+    ensures complete { IsComplete FewestLeaves (map string_bytes words.now) (S.seen shelf.old) (S.seen shelf.new) (outside (S.seen shelf.old) (O.seen out.old) (map (λ port. port_seen port) ports.old.items)) (outside (S.seen shelf.new) (O.seen out.new) (map (λ port. port_seen port) ports.new.items)) result }
+    ensures finished { IsFinished FewestLeaves (map string_bytes words.now) (S.seen shelf.old) (S.seen shelf.new) (outside (S.seen shelf.old) (O.seen out.old) (map (λ port. port_seen port) ports.old.items)) (outside (S.seen shelf.new) (O.seen out.new) (map (λ port. port_seen port) ports.new.items)) result }
 
     // A fault has its cause.
-    ensures read_fault { result ≡ Status.ReadFault → HasFault (length ports.old.items) (map string_bytes words.now) (S.seen shelf.old) (S.seen shelf.new) }
-    ensures write_fault { result ≡ Status.WriteFault → HasWriteCause (map string_bytes words.now) (outside (S.seen shelf.old) (O.seen out.old) (map (λ port. port_seen port) ports.old.items)) (outside (S.seen shelf.new) (O.seen out.new) (map (λ port. port_seen port) ports.new.items)) }
-    ensures port_fault { result ≡ Status.PortFault → HasPortCause (map string_bytes words.now) (outside (S.seen shelf.old) (O.seen out.old) (map (λ port. port_seen port) ports.old.items)) (outside (S.seen shelf.new) (O.seen out.new) (map (λ port. port_seen port) ports.new.items)) }
+    ensures read_fault { result ≡ Status.ReadFault → HasFault FewestLeaves (length ports.old.items) (map string_bytes words.now) (S.seen shelf.old) (S.seen shelf.new) }
+    ensures write_fault { result ≡ Status.WriteFault → HasWriteCause FewestLeaves (map string_bytes words.now) (outside (S.seen shelf.old) (O.seen out.old) (map (λ port. port_seen port) ports.old.items)) (outside (S.seen shelf.new) (O.seen out.new) (map (λ port. port_seen port) ports.new.items)) }
+    ensures port_fault { result ≡ Status.PortFault → HasPortCause FewestLeaves (map string_bytes words.now) (outside (S.seen shelf.old) (O.seen out.old) (map (λ port. port_seen port) ports.old.items)) (outside (S.seen shelf.new) (O.seen out.new) (map (λ port. port_seen port) ports.new.items)) }
 
     // What becomes of the ports, whatever the files are.
-    ensures boxes { (result ≡ Status.Done) ⊎ (result ≡ Status.WriteFault) → HasKeptPorts (map string_bytes words.now) (outside (S.seen shelf.old) (O.seen out.old) (map (λ port. port_seen port) ports.old.items)) (outside (S.seen shelf.new) (O.seen out.new) (map (λ port. port_seen port) ports.new.items)) }
+    ensures boxes { (result ≡ Status.Done) ⊎ (result ≡ Status.WriteFault) → HasKeptPorts FewestLeaves (map string_bytes words.now) (outside (S.seen shelf.old) (O.seen out.old) (map (λ port. port_seen port) ports.old.items)) (outside (S.seen shelf.new) (O.seen out.new) (map (λ port. port_seen port) ports.new.items)) }
 
     // What stays.
     ensures quiet { IsQuiet result → (O.seen out.new).bytes ≡ (O.seen out.old).bytes }
     ensures ports { IsQuiet result → map (λ port. port_seen port) ports.new.items ≡ map (λ port. port_seen port) ports.old.items }
     ensures files { IsQuiet result → (S.seen shelf.new).files ≡ (S.seen shelf.old).files }
-    ensures no_files { ((S.seen shelf.new).files ≡ (S.seen shelf.old).files) ⊎ WritesFiles (length ports.old.items) (map string_bytes words.now) }
+    ensures no_files { ((S.seen shelf.new).files ≡ (S.seen shelf.old).files) ⊎ WritesFiles FewestLeaves (length ports.old.items) (map string_bytes words.now) }
 
     // The outcome, its cause, and the fault line.
     ensures told { (outcome : OutcomeValue) × (result ≡ status_of outcome)
-        × IsEnd (map string_bytes words.now) (S.seen shelf.old) (S.seen shelf.new) (outside (S.seen shelf.old) (O.seen out.old) (map (λ port. port_seen port) ports.old.items)) (outside (S.seen shelf.new) (O.seen out.new) (map (λ port. port_seen port) ports.new.items)) outcome
-        × Reports (E.seen err.old) (E.seen err.new) (line_of (fault_word (length ports.old.items) (map string_bytes words.now) outcome) outcome) }
+        × IsEnd FewestLeaves (map string_bytes words.now) (S.seen shelf.old) (S.seen shelf.new) (outside (S.seen shelf.old) (O.seen out.old) (map (λ port. port_seen port) ports.old.items)) (outside (S.seen shelf.new) (O.seen out.new) (map (λ port. port_seen port) ports.new.items)) outcome
+        × Reports (E.seen err.old) (E.seen err.new) (line_of (fault_word FewestLeaves (length ports.old.items) (map string_bytes words.now) outcome) outcome) }
 {
-    let ended = run_words(alloc, words, shelf, out, ports);
-    report(err, ended.name.as_bytes(), &ended.outcome);
-    ended.outcome.status()
+    tlut_by(alloc, Rule::FewestLeaves, words, shelf, out, err, ports)
 }

@@ -13,6 +13,7 @@ use cmd_pace::{PaceWords, pace_name, read_pace_words};
 use cmd_pack::{BitsWords, RepackWords, bits_name, read_bits, read_repack};
 use cmd_run::{GenWords, RunWords, read_gen, read_run, run_name};
 use cmd_stations::source_name;
+use cover_pick::Rule;
 use tl_io::Sink;
 
 /// A command with its words.
@@ -45,8 +46,8 @@ fn read_cert_command(words: &[String]) -> Option<Command<'_>>
 }
 
 // The command of words that aren't those of an earlier one.
-fn read_later(words: &[String]) -> Option<Command<'_>>
-    ensures value { option_map (λ c. command_seen c) result ≡ later_commands (map string_bytes words.now) }
+fn read_later(rule: Rule, words: &[String]) -> Option<Command<'_>>
+    ensures value { option_map (λ c. command_seen c) result ≡ later_commands rule (map string_bytes words.now) }
     ensures range { (ports : ℕ) → IfSome result (HasRange ports) }
 {
     if let Some(command) = read_cert_command(words) {
@@ -55,43 +56,43 @@ fn read_later(words: &[String]) -> Option<Command<'_>>
     if let Some(words) = read_graph_words(words) {
         return Some(Command::Graph(words));
     }
-    match read_pace_words(words) {
+    match read_pace_words(rule, words) {
         Some(words) => Some(Command::Pace(words)),
         None => None,
     }
 }
 
 // The command of words that aren't those of `run`.
-fn read_other(words: &[String]) -> Option<Command<'_>>
-    ensures value { option_map (λ c. command_seen c) result ≡ other_commands (map string_bytes words.now) }
+fn read_other(rule: Rule, words: &[String]) -> Option<Command<'_>>
+    ensures value { option_map (λ c. command_seen c) result ≡ other_commands rule (map string_bytes words.now) }
     ensures range { (ports : ℕ) → IfSome result (HasRange ports) }
 {
-    if let Some(words) = read_spec(words) {
+    if let Some(words) = read_spec(rule, words) {
         return Some(Command::Spec(words));
     }
-    if let Some(words) = read_map(words) {
+    if let Some(words) = read_map(rule, words) {
         return Some(Command::Map(words));
     }
     if let Some(words) = read_bits(words) {
         return Some(Command::Bits(words));
     }
-    if let Some(words) = read_gen(words) {
+    if let Some(words) = read_gen(rule, words) {
         return Some(Command::Gen(words));
     }
     match read_repack(words) {
         Some(words) => Some(Command::Repack(words)),
-        None => read_later(words),
+        None => read_later(rule, words),
     }
 }
 
-/// The command of some words, where so many ports are handed in; `None` exactly where they are of no command's form.
-pub fn read_command(ports: usize, words: &[String]) -> Option<Command<'_>>
-    ensures value { option_map (λ c. command_seen c) result ≡ command_of ports (map string_bytes words.now) }
+/// The command of some words by a rule of choice, where so many ports are handed in; `None` exactly where they are of no command's form.
+pub fn read_command(rule: Rule, ports: usize, words: &[String]) -> Option<Command<'_>>
+    ensures value { option_map (λ c. command_seen c) result ≡ command_of rule ports (map string_bytes words.now) }
     ensures range { IfSome result (HasRange ports) }
 {
-    match read_run(ports, words) {
+    match read_run(rule, ports, words) {
         Some(words) => Some(Command::Run(words)),
-        None => read_other(words),
+        None => read_other(rule, words),
     }
 }
 

@@ -8,7 +8,7 @@
 use std::alloc::{AllocError, Global};
 use std::io;
 use tl_io::{ConfigPort, DiskShelf, MemPort, MemSink, Shelf, slurp};
-use tlut_cli::{Status, tlut};
+use tlut_cli::{Rule, Status, tlut_by};
 
 // The room for what an example prints.
 const ROOM: usize = 10_000;
@@ -18,87 +18,122 @@ const PORTS: usize = 4;
 
 const WRITES: usize = 1_000;
 
-// The words of a command line, the file of what it prints, and those of what its first ports take. Each further port takes nothing.
+// The rule by which is mapped, the words of a command line, the file of what it prints, and those of what its first ports take. Each
+// further port takes nothing.
 struct Example {
+    rule: Rule,
     words: &'static str,
     printed: &'static str,
     taken: &'static [&'static str],
 }
 
-const EXAMPLES: [Example; 15] = [
+const EXAMPLES: [Example; 18] = [
     Example {
+        rule: Rule::FewestLeaves,
         words: "run 2 and2/and2.blif and2/none.par and2/one.scr 0 0",
         printed: "and2/expected.txt",
         taken: &[],
     },
     Example {
+        rule: Rule::FewestLeaves,
         words: "run 6 and7/and7.blif and7/none.par and7/two.scr 0 0",
         printed: "and7/expected.txt",
         taken: &[],
     },
     Example {
+        rule: Rule::FewestLeaves,
         words: "run 6 and7/and7.blif and7/tuned.par and7/tuned.scr 0 0",
         printed: "and7/expected_tuned.txt",
         taken: &[],
     },
     Example {
+        rule: Rule::FewestLeaves,
         words: "run 2 mux/mux.blif mux/mux.par mux/events.scr 2 1",
         printed: "mux/expected.txt",
         taken: &["mux/expected_port0.bits", "mux/expected_port1.bits"],
     },
     Example {
+        rule: Rule::FewestLeaves,
         words: "run 4 fir/fir.blif fir/fir.par fir/ten.scr 0 0",
         printed: "fir/expected.txt",
         taken: &[],
     },
     Example {
+        rule: Rule::FewestLeaves,
         words: "run 4 fir/fir.blif fir/fir.par fir/changing.scr 0 0",
         printed: "fir/expected_changing.txt",
         taken: &[],
     },
     Example {
+        rule: Rule::FewestLeaves,
         words: "run 4 matcher/matcher.blif matcher/matcher.par matcher/patterns.scr 0 0",
         printed: "matcher/expected.txt",
         taken: &[],
     },
     Example {
+        rule: Rule::FewestLeaves,
         words: "run 4 matcher/matcher.blif matcher/none.par matcher/inputs.scr 0 0",
         printed: "matcher/expected_inputs.txt",
         taken: &[],
     },
     Example {
+        rule: Rule::FewestLeaves,
         words: "run 4 coder/coder.blif coder/coder.par coder/keys.scr 0 0",
         printed: "coder/expected.txt",
         taken: &[],
     },
     Example {
+        rule: Rule::FewestLeaves,
         words: "run 4 guard/guard.blif guard/none.par guard/four.scr 0 0",
         printed: "guard/expected.txt",
         taken: &[],
     },
     Example {
+        rule: Rule::FewestLeaves,
         words: "run 4 vote/vote.aag vote/vote.par vote/votes.scr 0 0",
         printed: "vote/expected.txt",
         taken: &[],
     },
     Example {
+        rule: Rule::FewestLeaves,
         words: "pace 4 fir/fir.blif fir/fir.par fir/pace.scr 1",
         printed: "fir/expected_pace1.txt",
         taken: &[],
     },
     Example {
+        rule: Rule::FewestLeaves,
         words: "pace 4 fir/fir.blif fir/fir.par fir/pace.scr 4",
         printed: "fir/expected_pace4.txt",
         taken: &[],
     },
     Example {
+        rule: Rule::FewestLeaves,
         words: "audit 2 xor/xor.blif xor/none.par xor/two.cert",
         printed: "xor/expected.txt",
         taken: &[],
     },
     Example {
+        rule: Rule::FewestLeaves,
         words: "audit 4 fir/fir.blif fir/fir.par fir/depth.cert",
         printed: "fir/expected_audit.txt",
+        taken: &[],
+    },
+    Example {
+        rule: Rule::LeastCost,
+        words: "run 4 fir/fir.blif fir/fir.par fir/ten.scr 0 0",
+        printed: "fir/expected_compact.txt",
+        taken: &[],
+    },
+    Example {
+        rule: Rule::LeastCost,
+        words: "run 4 matcher/matcher.blif matcher/matcher.par matcher/patterns.scr 0 0",
+        printed: "matcher/expected_compact.txt",
+        taken: &[],
+    },
+    Example {
+        rule: Rule::LeastCost,
+        words: "run 4 coder/coder.blif coder/coder.par coder/keys.scr 0 0",
+        printed: "coder/expected_compact.txt",
         taken: &[],
     },
 ];
@@ -164,7 +199,15 @@ fn is_as_expected<S: Shelf>(
     for _ in 0..PORTS {
         ports.push(Box::new(alloc, MemPort::make(alloc, WRITES, &[])?)?)?;
     }
-    let status = tlut(alloc, &words, shelf, &mut out, &mut err, &mut ports);
+    let status = tlut_by(
+        alloc,
+        example.rule,
+        &words,
+        shelf,
+        &mut out,
+        &mut err,
+        &mut ports,
+    );
     Ok(
         status == Status::Done
             && has_bytes(alloc, shelf, example.printed, out.bytes())

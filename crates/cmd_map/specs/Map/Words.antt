@@ -1,5 +1,6 @@
 -- The words of `map`.
 use Rattle.std.specs.Prelude.{ℕ, not, ◌&&◌, if◌then◌else◌, List, [], ◌∷◌, codes, bytes_eq, Option, Some, None}
+use Rattle.cover_pick.specs.declared.rule.Rule.{Rule}
 use Rattle.cmd_map.specs.declared.map.words.MapWords.{MapWords as MapWordsRead}
 use Rattle.cmd_stations.specs.Words.{SourceWords, source_words, k_of, source_seen}
 
@@ -13,11 +14,11 @@ abbrev pub map_words : Option SourceWords → List ℕ → List ℕ → Option M
 map_words None template pack = None
 map_words (Some source) template pack = Some (record { source = source; template = template; pack = pack })
 
--- the words `map K NETLIST PARAMS TEMPLATE PACK`, of which the last two differ
-abbrev pub map_of : List (List ℕ) → Option MapWords
-map_of (command ∷ k ∷ netlist ∷ params ∷ template ∷ pack ∷ []) =
-    if bytes_eq command (codes "map") && not (bytes_eq template pack) then map_words (source_words (k_of k) netlist params) template pack else None
-map_of words = None
+-- the words `map K NETLIST PARAMS TEMPLATE PACK`, of which the last two differ, where cuts are chosen by a rule
+abbrev pub map_of : Rule → List (List ℕ) → Option MapWords
+map_of rule (command ∷ k ∷ netlist ∷ params ∷ template ∷ pack ∷ []) =
+    if bytes_eq command (codes "map") && not (bytes_eq template pack) then map_words (source_words rule (k_of k) netlist params) template pack else None
+map_of rule words = None
 
 -- words as they are read
 abbrev pub map_seen : MapWordsRead → MapWords

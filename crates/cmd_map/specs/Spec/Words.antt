@@ -1,5 +1,6 @@
 -- The words of `spec`.
 use Rattle.std.specs.Prelude.{ℕ, if◌then◌else◌, List, [], ◌∷◌, codes, bytes_eq, Option, Some, None}
+use Rattle.cover_pick.specs.declared.rule.Rule.{Rule}
 use Rattle.cmd_map.specs.declared.spec.words.SpecWords.{SpecWords as SpecWordsRead}
 use Rattle.cmd_stations.specs.Words.{SourceWords, source_words, k_of, source_seen}
 
@@ -12,10 +13,10 @@ abbrev pub spec_words : Option SourceWords → List ℕ → Option SpecWords
 spec_words None out = None
 spec_words (Some source) out = Some (record { source = source; out = out })
 
--- the words `spec K NETLIST PARAMS OUT`
-abbrev pub spec_of : List (List ℕ) → Option SpecWords
-spec_of (command ∷ k ∷ netlist ∷ params ∷ out ∷ []) = if bytes_eq command (codes "spec") then spec_words (source_words (k_of k) netlist params) out else None
-spec_of words = None
+-- the words `spec K NETLIST PARAMS OUT`, where cuts are chosen by a rule
+abbrev pub spec_of : Rule → List (List ℕ) → Option SpecWords
+spec_of rule (command ∷ k ∷ netlist ∷ params ∷ out ∷ []) = if bytes_eq command (codes "spec") then spec_words (source_words rule (k_of k) netlist params) out else None
+spec_of rule words = None
 
 -- words as they are read
 abbrev pub spec_seen : SpecWordsRead → SpecWords

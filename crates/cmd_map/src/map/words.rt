@@ -5,6 +5,7 @@ ghost use Rattle.cmd_map.specs.Map.Words.{map_of, map_seen};
 ghost use Rattle.cmd_stations.specs.Words.{IsTableSize};
 
 use cmd_stations::{SourceWords, read_source_words};
+use cover_pick::Rule;
 
 /// The source circuit, and the words that name the files to be written.
 #[derive(Clone, Copy)]
@@ -14,16 +15,17 @@ pub struct MapWords<'a> {
     pub pack: &'a str,
 }
 
-/// The words `map K NETLIST PARAMS TEMPLATE PACK`, of which the last two differ; `None` exactly where they aren't of this form.
-pub fn read_map(words: &[String]) -> Option<MapWords<'_>>
-    ensures value { option_map (λ w. map_seen w) result ≡ map_of (map string_bytes words.now) }
+/// The words `map K NETLIST PARAMS TEMPLATE PACK`, of which the last two differ, where cuts are chosen by a rule; `None` exactly
+/// where they aren't of this form.
+pub fn read_map(rule: Rule, words: &[String]) -> Option<MapWords<'_>>
+    ensures value { option_map (λ w. map_seen w) result ≡ map_of rule (map string_bytes words.now) }
     ensures range { IfSome result (λ w. IsTableSize w.source.k) }
 {
     match words {
         [command, k, netlist, params, template, pack]
             if command.as_str() == "map" && template.as_str() != pack.as_str() => {
             Some(MapWords {
-                source: read_source_words(k.as_str(), netlist.as_str(), params.as_str())?,
+                source: read_source_words(rule, k.as_str(), netlist.as_str(), params.as_str())?,
                 template: template.as_str(),
                 pack: pack.as_str(),
             })

@@ -5,6 +5,7 @@ ghost use Rattle.cmd_map.specs.Spec.Words.{spec_of, spec_seen};
 ghost use Rattle.cmd_stations.specs.Words.{IsTableSize};
 
 use cmd_stations::{SourceWords, read_source_words};
+use cover_pick::Rule;
 
 /// The source circuit, and the word that names the file to be written.
 #[derive(Clone, Copy)]
@@ -13,14 +14,14 @@ pub struct SpecWords<'a> {
     pub out: &'a str,
 }
 
-/// The words `spec K NETLIST PARAMS OUT`; `None` exactly where they aren't of this form.
-pub fn read_spec(words: &[String]) -> Option<SpecWords<'_>>
-    ensures value { option_map (λ w. spec_seen w) result ≡ spec_of (map string_bytes words.now) }
+/// The words `spec K NETLIST PARAMS OUT`, where cuts are chosen by a rule; `None` exactly where they aren't of this form.
+pub fn read_spec(rule: Rule, words: &[String]) -> Option<SpecWords<'_>>
+    ensures value { option_map (λ w. spec_seen w) result ≡ spec_of rule (map string_bytes words.now) }
     ensures range { IfSome result (λ w. IsTableSize w.source.k) }
 {
     match words {
         [command, k, netlist, params, out] if command.as_str() == "spec" => Some(SpecWords {
-            source: read_source_words(k.as_str(), netlist.as_str(), params.as_str())?,
+            source: read_source_words(rule, k.as_str(), netlist.as_str(), params.as_str())?,
             out: out.as_str(),
         }),
         _ => None,

@@ -1,16 +1,17 @@
--- The generated texts as the files of a job of `run`, with tables of at most 4 inputs and no ports.
+-- The generated texts as the files of a job of `run`, with tables of at most 4 inputs whose cuts are chosen by a rule, and no ports.
 use Rattle.std.specs.Prelude.{codes}
 use Rattle.std.specs.FinMap.{insert, empty}
 use Rattle.tl_io.specs.Shelf.{Files}
 use Rattle.gen_case.specs.Lines.{text_of}
 use Rattle.gen_case.specs.Netlist.{netlist_lines}
 use Rattle.gen_case.specs.Script.{all_params, script_lines}
+use Rattle.cover_pick.specs.declared.rule.Rule.{Rule}
 use Rattle.cmd_run.specs.declared.gen_command.words.GenWords.{GenWords}
 use Rattle.cmd_run.specs.Run.Words.{RunWords}
 
-abbrev pub case_words : RunWords
-case_words = record {
-  source = record { k = 4; netlist = codes "netlist"; params = codes "params" };
+abbrev pub case_words : Rule → RunWords
+case_words rule = record {
+  source = record { rule = rule; k = 4; netlist = codes "netlist"; params = codes "params" };
   script = codes "script";
   ports = record { serving = 0; spares = 0 };
 }

@@ -32,8 +32,8 @@ gen_text words template writes total = concat (first_line words ∷ template_hea
 -- the generated texts are a job, whose machine was played from the start on, and this is so of the text that tells its totals
 pub record HasGen (words : GenWords) (Ends : List ℕ → Type 0) : Type 0 where
   pub job : Job
-  pub is_job : IsJob (case_files words) case_words job
-  pub law : IsLeastMapped (case_files words) case_words.source job.source job.template is_job.mapped
+  pub is_job : IsJob (case_files words) (case_words words.rule) job
+  pub law : IsLeastMapped (case_files words) (case_words words.rule).source job.source job.template is_job.mapped
   pub machine : MachineValue
   pub start : IsStart job machine
   pub writes : ℕ
@@ -67,14 +67,14 @@ gen_reading words = record {
   last = Netlist;
   HasGiven = λ file given. Unit {0};
   Reaches = λ files file. ⊥;
-  IsRefused = λ files file refusal. IsRefused files case_words file refusal;
-  IsSettled = λ files. IsSettled files case_words;
+  IsRefused = λ files file refusal. IsRefused files (case_words words.rule) file refusal;
+  IsSettled = λ files. IsSettled files (case_words words.rule);
 }
 
 abbrev pub gen_walk : GenWords → Walk
 gen_walk words = record {
   reading = gen_reading words;
-  IsAccepted = λ files. HasJob files case_words;
+  IsAccepted = λ files. HasJob files (case_words words.rule);
   IsDone = λ files old new. HasGen words (IsTold old new);
   IsCutOff = λ files old new. HasGen words (IsPartTold old new);
   IsLost = λ files old new. ⊥;

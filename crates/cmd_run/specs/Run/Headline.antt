@@ -105,7 +105,7 @@ pub record ShowsSource (source : Source) (g : Aig) (template : TemplateValue) (e
   pub all : ShowAll source g template first events lines end
   pub bank : last ≡ end.bank
 
--- A job that is done shows its source circuit, by the chosen template of this netlist, list and K, which is mapped with the least depth: the header has the template's numbers, the changes are of the configurations of its tables, and the cycles are their play.
+-- A job that is done shows its source circuit, by the chosen template of this netlist, list, K and rule, which is mapped with the least depth: the header has the template's numbers, the changes are of the configurations of its tables, and the cycles are their play.
 pub record HasHeadline (files : Files) (run : RunWords) (old new : Outside) : Type 0 where
   pub job : Job
   pub is_job : IsJob files run job

@@ -3,6 +3,7 @@ use Rattle.std.specs.Prelude.{ℕ, ◌+◌, ◌≤◌, nat_le, if◌then◌else�
 use Rattle.tl_text.specs.Decimal.{decimal_of}
 use Rattle.cut_enum.specs.declared.limits.TheConstants.{MOST_LEAVES}
 use Rattle.run_text.specs.declared.event.Forms.TheVariants.{Run}
+use Rattle.cover_pick.specs.declared.rule.Rule.{Rule}
 use Rattle.cmd_run.specs.declared.run.words.PortCounts.{PortCounts}
 use Rattle.cmd_run.specs.declared.run.words.RunWords.{RunWords as RunWordsRead}
 use Rattle.cmd_stations.specs.Words.{SourceWords, k_of, source_seen}
@@ -20,16 +21,16 @@ counts_of ports None spares = None
 counts_of ports (Some serving) None = None
 counts_of ports (Some serving) (Some spares) = if nat_le (serving + spares) ports then Some (record { serving = serving; spares = spares }) else None
 
-abbrev pub run_words : List ℕ → List ℕ → List ℕ → Option ℕ → Option PortCounts → Option RunWords
-run_words netlist params script None counts = None
-run_words netlist params script (Some k) None = None
-run_words netlist params script (Some k) (Some counts) = Some (record { source = record { k = k; netlist = netlist; params = params }; script = script; ports = counts })
+abbrev pub run_words : Rule → List ℕ → List ℕ → List ℕ → Option ℕ → Option PortCounts → Option RunWords
+run_words rule netlist params script None counts = None
+run_words rule netlist params script (Some k) None = None
+run_words rule netlist params script (Some k) (Some counts) = Some (record { source = record { rule = rule; k = k; netlist = netlist; params = params }; script = script; ports = counts })
 
--- the words `run K NETLIST PARAMS SCRIPT PORTS SPARES`
-abbrev pub run_of : ℕ → List (List ℕ) → Option RunWords
-run_of ports (command ∷ k ∷ netlist ∷ params ∷ script ∷ serving ∷ spares ∷ []) =
-    if bytes_eq command (codes "run") then run_words netlist params script (k_of k) (counts_of ports (decimal_of serving) (decimal_of spares)) else None
-run_of ports words = None
+-- the words `run K NETLIST PARAMS SCRIPT PORTS SPARES`, where cuts are chosen by a rule
+abbrev pub run_of : Rule → ℕ → List (List ℕ) → Option RunWords
+run_of rule ports (command ∷ k ∷ netlist ∷ params ∷ script ∷ serving ∷ spares ∷ []) =
+    if bytes_eq command (codes "run") then run_words rule netlist params script (k_of k) (counts_of ports (decimal_of serving) (decimal_of spares)) else None
+run_of rule ports words = None
 
 -- words as they are read
 abbrev pub run_seen : RunWordsRead → RunWords

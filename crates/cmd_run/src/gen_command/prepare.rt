@@ -1,10 +1,11 @@
 //! The generated case, made ready to be played: its texts are read as those of the files of `run` are.
-ghost use Rattle.std.specs.Prelude.{◌≡◌, ◌≤◌, length, IfOk, IfErr, OnOk};
+ghost use Rattle.std.specs.Prelude.{◌≡◌, ◌≤◌, length, codes, IfOk, IfErr, OnOk};
 ghost use Rattle.list_laws.specs.Members.{In};
 ghost use Rattle.tl_text.specs.declared.logical_lines.TheConstants.{MOST_BYTES};
 ghost use Rattle.tl_io.specs.Shelf.{Files, ShelfSeen};
 ghost use Rattle.run_text.specs.EventValue.{EventValue, event_values};
 ghost use Rattle.run_text.specs.Fits.{Fits};
+ghost use Rattle.cover_pick.specs.declared.rule.Rule.{Rule as RuleValue};
 ghost use Rattle.cmd_base.specs.Ends.{Explains};
 ghost use Rattle.cmd_stations.specs.Texts.{HasText};
 ghost use Rattle.cmd_stations.specs.Script.{names_of, HasScript, IsScriptSettled, script_reading};
@@ -24,6 +25,7 @@ use cmd_base::{File, Outcome};
 use cmd_stations::{
     MappedSource, Source, list_events, list_params, map_source, mapped_names, read_netlist,
 };
+use cover_pick::Rule;
 use gen_case::multiplier;
 use run_text::{Event, Forms};
 use std::alloc::Global;
@@ -36,8 +38,8 @@ fn read_case(alloc: Global, netlist_text: &[u8], params_text: &[u8]) -> Result<S
     requires netlist { length netlist_text.now ≤ MOST_BYTES }
     requires params { length params_text.now ≤ MOST_BYTES }
     ensures read { IfOk result IsReadSource }
-    ensures comes { IfOk result (λ source. (files : Files) → HaveSource files netlist_text.now params_text.now → ComesWith files case_words.source source) }
-    ensures err { IfErr result (λ o. (files : Files) → HaveSource files netlist_text.now params_text.now → Explains (source_reading ToTables case_words.source) (shelf_of files) (shelf_of files) o) }
+    ensures comes { IfOk result (λ source. (rule : RuleValue) (files : Files) → HaveSource files netlist_text.now params_text.now → ComesWith files (case_words rule).source source) }
+    ensures err { IfErr result (λ o. (rule : RuleValue) (files : Files) → HaveSource files netlist_text.now params_text.now → Explains (source_reading ToTables (case_words rule).source) (shelf_of files) (shelf_of files) o) }
 {
     let netlist = match read_netlist(alloc, netlist_text) {
         Ok(netlist) => netlist,
@@ -50,19 +52,24 @@ fn read_case(alloc: Global, netlist_text: &[u8], params_text: &[u8]) -> Result<S
 }
 
 // The source circuit of a case's texts, mapped.
-fn map_case(alloc: Global, netlist_text: &[u8], params_text: &[u8]) -> Result<MappedSource, Outcome>
+fn map_case(
+    alloc: Global,
+    rule: Rule,
+    netlist_text: &[u8],
+    params_text: &[u8],
+) -> Result<MappedSource, Outcome>
     requires netlist { length netlist_text.now ≤ MOST_BYTES }
     requires params { length params_text.now ≤ MOST_BYTES }
     ensures read { IfOk result (λ m. IsReadSource m.source) }
-    ensures tables { IfOk result (λ m. AreTables m.source 4 m.tables) }
-    ensures comes { IfOk result (λ m. (files : Files) → HaveSource files netlist_text.now params_text.now → ComesPast files case_words.source m) }
-    ensures err { IfErr result (λ o. (files : Files) → HaveSource files netlist_text.now params_text.now → Explains (source_reading ToTables case_words.source) (shelf_of files) (shelf_of files) o) }
+    ensures tables { IfOk result (λ m. AreTables rule m.source 4 m.tables) }
+    ensures comes { IfOk result (λ m. (files : Files) → HaveSource files netlist_text.now params_text.now → ComesPast files (case_words rule).source m) }
+    ensures err { IfErr result (λ o. (files : Files) → HaveSource files netlist_text.now params_text.now → Explains (source_reading ToTables (case_words rule).source) (shelf_of files) (shelf_of files) o) }
 {
     let source = match read_case(alloc, netlist_text, params_text) {
         Ok(source) => source,
         Err(outcome) => return Err(outcome),
     };
-    match map_source(alloc, &source, TABLE_SIZE) {
+    match map_source(alloc, rule, &source, TABLE_SIZE) {
         Ok(tables) => Ok(MappedSource { source, tables }),
         Err(stop) => Err(stop.at(File::Netlist)),
     }
@@ -77,10 +84,10 @@ fn case_events(
     requires short { length script_text.now ≤ MOST_BYTES }
     requires read { IsReadSource mapped.now.source }
     requires tables { AreMade mapped.now.source mapped.now.tables }
-    ensures script { IfOk result (λ events. (files : Files) → HasText files case_words.script script_text.now → HasScript files case_words.script (names_of mapped.now.source mapped.now.tables.template.bits) (event_values events.items)) }
+    ensures script { IfOk result (λ events. (files : Files) → HasText files (codes "script") script_text.now → HasScript files (codes "script") (names_of mapped.now.source mapped.now.tables.template.bits) (event_values events.items)) }
     ensures fit { IfOk result (λ events. (event : EventValue) → In (event_values events.items) event → Fits (names_of mapped.now.source mapped.now.tables.template.bits) event) }
-    ensures settled { OnOk result ((files : Files) → HasText files case_words.script script_text.now → IsScriptSettled files case_words.script (names_of mapped.now.source mapped.now.tables.template.bits)) }
-    ensures err { IfErr result (λ o. (files : Files) → HasText files case_words.script script_text.now → Explains (script_reading case_words.script (names_of mapped.now.source mapped.now.tables.template.bits)) (shelf_of files) (shelf_of files) o) }
+    ensures settled { OnOk result ((files : Files) → HasText files (codes "script") script_text.now → IsScriptSettled files (codes "script") (names_of mapped.now.source mapped.now.tables.template.bits)) }
+    ensures err { IfErr result (λ o. (files : Files) → HasText files (codes "script") script_text.now → Explains (script_reading (codes "script") (names_of mapped.now.source mapped.now.tables.template.bits)) (shelf_of files) (shelf_of files) o) }
 {
     let names = match mapped_names(alloc, Forms::Run, mapped) {
         Ok(names) => names,
@@ -95,6 +102,7 @@ fn case_events(
 // The job of a case's texts.
 fn ready_case(
     alloc: Global,
+    rule: Rule,
     netlist_text: &[u8],
     params_text: &[u8],
     script_text: &[u8],
@@ -103,10 +111,10 @@ fn ready_case(
     requires params { length params_text.now ≤ MOST_BYTES }
     requires script { length script_text.now ≤ MOST_BYTES }
     ensures ready { IfOk result (λ r. CanPlay (event_values r.events.items) r.machine) }
-    ensures prepared { IfOk result (λ r. (files : Files) → HaveCase files netlist_text.now params_text.now script_text.now → IsReadyFor files case_words r) }
-    ensures err { IfErr result (λ o. (files : Files) → HaveCase files netlist_text.now params_text.now script_text.now → Explains (run_reading case_words) (shelf_of files) (shelf_of files) o) }
+    ensures prepared { IfOk result (λ r. (files : Files) → HaveCase files netlist_text.now params_text.now script_text.now → IsReadyFor files (case_words rule) r) }
+    ensures err { IfErr result (λ o. (files : Files) → HaveCase files netlist_text.now params_text.now script_text.now → Explains (run_reading (case_words rule)) (shelf_of files) (shelf_of files) o) }
 {
-    let mapped = match map_case(alloc, netlist_text, params_text) {
+    let mapped = match map_case(alloc, rule, netlist_text, params_text) {
         Ok(mapped) => mapped,
         Err(outcome) => return Err(outcome),
     };
@@ -127,11 +135,11 @@ fn ready_case(
 pub fn prepare_case(alloc: Global, words: &GenWords) -> Result<Ready, Outcome>
     requires { HasDigits words.now }
     ensures ready { IfOk result (λ r. CanPlay (event_values r.events.items) r.machine) }
-    ensures prepared { IfOk result (IsReadyFor (case_files words.now) case_words) }
+    ensures prepared { IfOk result (IsReadyFor (case_files words.now) (case_words words.now.rule)) }
     ensures err { IfErr result (λ o. (old new : ShelfSeen) → Explains (gen_reading words.now) old new o) }
 {
     match multiplier(alloc, words.digits, words.seed) {
-        Ok(case) => ready_case(alloc, &case.netlist, &case.params, &case.script),
+        Ok(case) => ready_case(alloc, words.rule, &case.netlist, &case.params, &case.script),
         Err(_) => Err(Outcome::Memory),
     }
 }

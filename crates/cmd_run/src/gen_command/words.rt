@@ -2,6 +2,7 @@
 ghost use Rattle.std.specs.Prelude.{◌≡◌, map, string_bytes, IfSome};
 ghost use Rattle.cmd_run.specs.GenCommand.Words.{gen_words, gen_of, HasDigits};
 
+use cover_pick::Rule;
 use tl_text::decimal;
 
 // The most digits, and the greatest seed.
@@ -9,22 +10,24 @@ const MOST_DIGITS: u64 = 32;
 
 const MOST_SEED: u64 = 4_294_967_295;
 
-/// How many digits the numbers of the multiplier have, and the seed of its coefficients and data.
+/// By which rule cuts are chosen, how many digits the numbers of the multiplier have, and the seed of its coefficients and data.
 #[derive(Clone, Copy)]
 pub struct GenWords {
+    pub rule: Rule,
     pub digits: u32,
     pub seed: u32,
 }
 
 // The words of `gen` from their numbers, where these are in range.
-fn whole(digits: Option<u64>, seed: Option<u64>) -> Option<GenWords>
-    ensures value { result ≡ gen_words digits seed }
+fn whole(rule: Rule, digits: Option<u64>, seed: Option<u64>) -> Option<GenWords>
+    ensures value { result ≡ gen_words rule digits seed }
     ensures range { IfSome result HasDigits }
 {
     let digits = digits?;
     let seed = seed?;
     if 1 <= digits && digits <= MOST_DIGITS && seed <= MOST_SEED {
         return Some(GenWords {
+            rule,
             digits: digits as u32,
             seed: seed as u32,
         });
@@ -32,14 +35,15 @@ fn whole(digits: Option<u64>, seed: Option<u64>) -> Option<GenWords>
     None
 }
 
-/// The words `gen N SEED`, with N from 1 to 32 and SEED from 0 to 4294967295; `None` exactly where they aren't of this form.
-pub fn read_gen(words: &[String]) -> Option<GenWords>
-    ensures value { result ≡ gen_of (map string_bytes words.now) }
+/// The words `gen N SEED`, with N from 1 to 32 and SEED from 0 to 4294967295, where cuts are chosen by a rule; `None` exactly
+/// where they aren't of this form.
+pub fn read_gen(rule: Rule, words: &[String]) -> Option<GenWords>
+    ensures value { result ≡ gen_of rule (map string_bytes words.now) }
     ensures range { IfSome result HasDigits }
 {
     match words {
         [command, digits, seed] if command.as_str() == "gen" => {
-            whole(decimal(digits.as_bytes()), decimal(seed.as_bytes()))
+            whole(rule, decimal(digits.as_bytes()), decimal(seed.as_bytes()))
         }
         _ => None,
     }

@@ -7,6 +7,7 @@ ghost use Rattle.cmd_run.specs.Run.Job.{run_word};
 
 use cmd_base::File;
 use cmd_stations::{ScriptedWords, SourceWords, source_name, table_size};
+use cover_pick::Rule;
 use run_text::Forms;
 use tl_text::decimal;
 
@@ -44,19 +45,25 @@ fn counts(ports: usize, serving: Option<u64>, spares: Option<u64>) -> Option<Por
 
 // The words of `run` from their parts.
 fn whole<'a>(
+    rule: Rule,
     netlist: &'a str,
     params: &'a str,
     script: &'a str,
     k: Option<u8>,
     ports: Option<PortCounts>,
 ) -> Option<RunWords<'a>>
-    ensures value { option_map (λ w. run_seen w) result ≡ run_words netlist.now params.now script.now k ports }
+    ensures value { option_map (λ w. run_seen w) result ≡ run_words rule netlist.now params.now script.now k ports }
     ensures ports { IfSome result (λ w. ports ≡ Some w.ports) }
     ensures size { IfSome result (λ w. k ≡ Some w.source.k) }
 {
     match (k, ports) {
         (Some(k), Some(ports)) => Some(RunWords {
-            source: SourceWords { k, netlist, params },
+            source: SourceWords {
+                rule,
+                k,
+                netlist,
+                params,
+            },
             script,
             ports,
         }),
@@ -64,9 +71,10 @@ fn whole<'a>(
     }
 }
 
-/// The words `run K NETLIST PARAMS SCRIPT PORTS SPARES`; `None` exactly where they aren't of this form.
-pub fn read_run(ports: usize, words: &[String]) -> Option<RunWords<'_>>
-    ensures value { option_map (λ w. run_seen w) result ≡ run_of ports (map string_bytes words.now) }
+/// The words `run K NETLIST PARAMS SCRIPT PORTS SPARES`, where cuts are chosen by a rule; `None` exactly where they aren't of
+/// this form.
+pub fn read_run(rule: Rule, ports: usize, words: &[String]) -> Option<RunWords<'_>>
+    ensures value { option_map (λ w. run_seen w) result ≡ run_of rule ports (map string_bytes words.now) }
     ensures range { IfSome result (IsInRange ports) }
 {
     match words {
@@ -77,6 +85,7 @@ pub fn read_run(ports: usize, words: &[String]) -> Option<RunWords<'_>>
                 decimal(spares.as_bytes()),
             );
             whole(
+                rule,
                 netlist.as_str(),
                 params.as_str(),
                 script.as_str(),

@@ -13,17 +13,17 @@ use Rattle.cmd_stations.proofs.mapping.choose.Goals as goal
 
 pub returns-in_err-table-clause-err : goal.returns-in_err-table-clause-err
 returns-in_err-table-clause-err c =
-    passed_stop cut_refusal (IsLimit c.args.graph.now c.args.k) (IsUnchosen c.args.graph.now c.args.k c.args.roots.now) c.from_residual.result c.in_err-table.field-0.0 c.in_err-table.ensures.err c.from_residual.ensures.1
+    passed_stop cut_refusal (IsLimit c.args.graph.now c.args.k) (IsUnchosen c.args.rule c.args.graph.now c.args.k c.args.roots.now) c.from_residual.result c.in_err-table.field-0.0 c.in_err-table.ensures.err c.from_residual.ensures.1
     (λ r told limit. cuts c.in_err-table.field-0.0 limit told)
 
 pub returns-in_err-table-clause-settled : goal.returns-in_err-table-clause-settled
 returns-in_err-table-clause-settled c =
-    passed_settled cut_refusal (IsLimit c.args.graph.now c.args.k) (IsGraphSettled c.args.graph.now c.args.k c.args.roots.now) c.from_residual.result c.in_err-table.field-0.0 c.in_err-table.ensures.err c.from_residual.ensures.1
-    (λ r told limit. limit_settled c.args.graph.now c.args.k c.args.roots.now c.enumerate.ensures.once c.enumerate.ensures.excluded c.in_err-table.field-0.0 limit)
+    passed_settled cut_refusal (IsLimit c.args.graph.now c.args.k) (IsGraphSettled c.args.rule c.args.graph.now c.args.k c.args.roots.now) c.from_residual.result c.in_err-table.field-0.0 c.in_err-table.ensures.err c.from_residual.ensures.1
+    (λ r told limit. limit_settled c.args.rule c.args.graph.now c.args.k c.args.roots.now c.enumerate.ensures.once c.enumerate.ensures.excluded c.in_err-table.field-0.0 limit)
 
 pub returns-in_err-template-clause-err : goal.returns-in_err-template-clause-err
 returns-in_err-template-clause-err c =
-    passed_stop pick_refusal (λ _. IsTooMuch c.args.graph.now c.in_ok-table.table (label_of c.in_ok-labels.labels) (roots_of c.args.roots.now)) (IsUnchosen c.args.graph.now c.args.k c.args.roots.now)
+    passed_stop pick_refusal (λ _. IsTooMuch c.args.rule c.args.graph.now c.in_ok-table.table (label_of c.in_ok-labels.labels) (roots_of c.args.roots.now)) (IsUnchosen c.args.rule c.args.graph.now c.args.k c.args.roots.now)
     c.from_residual-in_err-template.result c.in_err-template.field-0.0 c.in_err-template.ensures.work c.from_residual-in_err-template.ensures.1
     (λ r told much. work
     (record { rows = c.in_ok-table.table; labels = c.in_ok-labels.labels; labelled = record { rows_are = c.in_ok-table.ensures.ok; labels_are = c.in_ok-labels.ensures.ok }; too_much = much })
@@ -32,9 +32,9 @@ returns-in_err-template-clause-err c =
 pub returns-in_err-template-clause-settled : goal.returns-in_err-template-clause-settled
 returns-in_err-template-clause-settled c =
     settled_anyway c.from_residual-in_err-template.result
-    (table_settled c.args.graph.now c.args.k c.args.roots.now c.enumerate.ensures.once c.enumerate.ensures.excluded c.in_ok-table.table c.in_ok-table.ensures.ok c.enumerate.ensures.one_table
-    c.in_ok-labels.labels c.in_ok-labels.ensures.ok c.labels.ensures.once c.pick.ensures.once c.pick.ensures.excluded
-    c.requires.least (λ t is. c.pick.ensures.mapping t is c.args.k c.in_ok-table.ensures.ok) (λ t is. c.pick.ensures.least t is c.args.k c.in_ok-table.ensures.ok))
+    (table_settled c.args.rule c.args.graph.now c.args.k c.args.roots.now c.enumerate.ensures.once c.enumerate.ensures.excluded c.in_ok-table.table c.in_ok-table.ensures.ok c.enumerate.ensures.one_table
+    c.in_ok-labels.labels c.in_ok-labels.ensures.ok c.labels.ensures.once c.pick_by.ensures.once c.pick_by.ensures.excluded
+    c.requires.least (λ t is. c.pick_by.ensures.mapping t is c.args.k c.in_ok-table.ensures.ok) (λ t is. c.pick_by.ensures.least t is c.args.k c.in_ok-table.ensures.ok))
 
 pub returns-clause-chosen : goal.returns-clause-chosen
 returns-clause-chosen c = record {
@@ -47,12 +47,12 @@ returns-clause-chosen c = record {
 
 pub returns-clause-settled : goal.returns-clause-settled
 returns-clause-settled c =
-    table_settled c.args.graph.now c.args.k c.args.roots.now c.enumerate.ensures.once c.enumerate.ensures.excluded c.in_ok-table.table c.in_ok-table.ensures.ok c.enumerate.ensures.one_table
-    c.in_ok-labels.labels c.in_ok-labels.ensures.ok c.labels.ensures.once c.pick.ensures.once c.pick.ensures.excluded
-    c.requires.least (λ t is. c.pick.ensures.mapping t is c.args.k c.in_ok-table.ensures.ok) (λ t is. c.pick.ensures.least t is c.args.k c.in_ok-table.ensures.ok)
+    table_settled c.args.rule c.args.graph.now c.args.k c.args.roots.now c.enumerate.ensures.once c.enumerate.ensures.excluded c.in_ok-table.table c.in_ok-table.ensures.ok c.enumerate.ensures.one_table
+    c.in_ok-labels.labels c.in_ok-labels.ensures.ok c.labels.ensures.once c.pick_by.ensures.once c.pick_by.ensures.excluded
+    c.requires.least (λ t is. c.pick_by.ensures.mapping t is c.args.k c.in_ok-table.ensures.ok) (λ t is. c.pick_by.ensures.least t is c.args.k c.in_ok-table.ensures.ok)
 
 pub returns-clause-least : goal.returns-clause-least
 returns-clause-least c =
     let t = c.in_ok-template.template in
     let is = c.in_ok-template.ensures.template in
-    least_mapping c.args.graph.now c.args.k c.args.roots.now t c.requires.least (c.pick.ensures.mapping t is c.args.k c.in_ok-table.ensures.ok) (c.pick.ensures.least t is c.args.k c.in_ok-table.ensures.ok)
+    least_mapping c.args.graph.now c.args.k c.args.roots.now t c.requires.least (c.pick_by.ensures.mapping t is c.args.k c.in_ok-table.ensures.ok) (c.pick_by.ensures.least t is c.args.k c.in_ok-table.ensures.ok)

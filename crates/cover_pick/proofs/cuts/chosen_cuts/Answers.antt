@@ -17,5 +17,5 @@ returns-clause-plan c =
     let roots = lits_of c.args.roots.now in
     let places = c.in_ok-places.places.items in
     let inside = roots_inside g roots c.requires.roots in
-    plan_all g rows label roots inside c.requires.labels.labels c.in_ok-places.ensures.normal (cuts_of rows places) c.requires.table (cuts_length rows 0 places ∙ c.in_ok-places.ensures.places.count)
-    (places_plan g rows label roots inside c.requires.labels.labels c.requires.table.k c.requires.table.are places c.in_ok-places.ensures.places)
+    plan_all c.args.rule g rows label roots inside c.requires.labels.labels c.in_ok-places.ensures.normal (cuts_of rows places) c.requires.table (cuts_length rows 0 places ∙ c.in_ok-places.ensures.places.count)
+    (places_plan c.args.rule g rows label roots inside c.requires.labels.labels c.requires.table.k c.requires.table.are places c.in_ok-places.ensures.places)

@@ -2,7 +2,7 @@ use Rattle.std.proofs.Common.{◌≡◌, ◌<◌, ◌+◌, ◌*◌, ◌∙◌, �
 use Rattle.std.proofs.lemmas.List.{drop_more, drop_all}
 use Rattle.list_laws.specs.Members.{In}
 use Rattle.list_laws.proofs.Members.{In-get_or}
-use Rattle.cover_pick.specs.Fewest.{or_empty}
+use Rattle.depth_label.specs.Fold.{or_empty}
 use Rattle.cover_pick.specs.Planned.{cut_at}
 use Rattle.cover_pick.specs.Marks.{mark_leaves, mark_cut, mark_cuts}
 use Rattle.cover_pick.proofs.TemplateLemmas.{cut_in}

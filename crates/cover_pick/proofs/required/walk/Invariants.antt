@@ -1,14 +1,16 @@
-use Rattle.std.proofs.Common.{◌≡◌, ◌+◌, ◌-◌, length}
+use Rattle.std.proofs.Common.{◌≡◌, ℕ, ◌+◌, ◌-◌, ◌<◌, length}
 use Rattle.aig_core.specs.Aig.{first_and}
-use Rattle.cut_enum.specs.Table.{row_at}
 use Rattle.depth_label.specs.Label.{label_of}
-use Rattle.cover_pick.specs.Fewest.{choice_of}
-use Rattle.cover_pick.specs.Required.{walk}
+use Rattle.cover_pick.specs.Ruled.{choice_by, found_from}
+use Rattle.cover_pick.specs.Required.{walk_by, met_at}
 use Rattle.cover_pick.specs.Places.{AreBestPlaces}
 use Rattle.cover_pick.proofs.required.walk.Given as goal
 
 abbrev pub invariant-loop-i : goal.invariant-loop-i
 invariant-loop-i l = record {
-  reqs : walk (choice_of (row_at l.table) (label_of l.labels)) (first_and l.graph) (length l.graph.pairs - l.i) l.reqs ≡ walk (choice_of (row_at l.table) (label_of l.labels)) (first_and l.graph) (length l.graph.pairs) l.initial.reqs;
-  places : AreBestPlaces l.graph l.table (label_of l.labels) l.reqs (first_and l.graph + (length l.graph.pairs - l.i)) l.places;
+  reqs : walk_by (choice_by l.rule l.table (label_of l.labels) l.flows) (first_and l.graph) (length l.graph.pairs - l.i) l.reqs
+      ≡ walk_by (choice_by l.rule l.table (label_of l.labels) l.flows) (first_and l.graph) (length l.graph.pairs) l.initial.reqs;
+  met : (j : ℕ) → j < length l.graph.pairs - l.i → met_at (choice_by l.rule l.table (label_of l.labels) l.flows) (first_and l.graph) (length l.graph.pairs - l.i) l.reqs (first_and l.graph + j)
+      ≡ met_at (choice_by l.rule l.table (label_of l.labels) l.flows) (first_and l.graph) (length l.graph.pairs) l.initial.reqs (first_and l.graph + j);
+  places : AreBestPlaces l.graph l.table (found_from l.rule l.graph l.table (label_of l.labels) l.flows l.initial.reqs) l.reqs (first_and l.graph + (length l.graph.pairs - l.i)) l.places;
 }

@@ -7,11 +7,11 @@ use Rattle.cover_pick.proofs.template.chosen_tables.Goals as goal
 
 pub make_tables-requires-clause-leaves : goal.make_tables-requires-clause-leaves
 make_tables-requires-clause-leaves c x m i j =
-    leaves_inside c.args.graph.now c.args.table.now (label_of c.args.labels.now) (lits_of c.args.roots.now) c.in_ok-cuts.cuts c.requires.table c.in_ok-cuts.ensures.plan x m i j
+    leaves_inside c.args.rule c.args.graph.now c.args.table.now (label_of c.args.labels.now) (lits_of c.args.roots.now) c.in_ok-cuts.cuts c.requires.table c.in_ok-cuts.ensures.plan x m i j
 
 pub returns-clause-light : goal.returns-clause-light
 returns-clause-light c =
-    light_is c.args.graph.now c.args.table.now (label_of c.args.labels.now) (lits_of c.args.roots.now) c.in_ok-made.made c.in_ok-cuts.ensures.normal (record {
+    light_is c.args.rule c.args.graph.now c.args.table.now (label_of c.args.labels.now) (lits_of c.args.roots.now) c.in_ok-made.made c.in_ok-cuts.ensures.normal (record {
       cuts = c.in_ok-cuts.cuts;
       plan = c.in_ok-cuts.ensures.plan;
       tables = c.in_ok-made.ensures.ok;
@@ -20,5 +20,5 @@ returns-clause-light c =
 pub returns-in_err-made-clause-err : goal.returns-in_err-made-clause-err
 returns-in_err-made-clause-err c =
     let p = err_from_is_err_and c.from_residual-in_err-made.result c.from_residual-in_err-made.ensures.1 in
-    rw (p.1, p.2) (too_much_told c.args.graph.now c.args.table.now (label_of c.args.labels.now) (lits_of c.args.roots.now) c.in_ok-cuts.cuts c.in_ok-cuts.ensures.normal c.requires.table c.in_ok-cuts.ensures.plan c.requires.roots c.in_err-made.field-0.0
+    rw (p.1, p.2) (too_much_told c.args.rule c.args.graph.now c.args.table.now (label_of c.args.labels.now) (lits_of c.args.roots.now) c.in_ok-cuts.cuts c.in_ok-cuts.ensures.normal c.requires.table c.in_ok-cuts.ensures.plan c.requires.roots c.in_err-made.field-0.0
     c.in_err-made.ensures.err)

@@ -1,0 +1,97 @@
+-- The fan-outs as they are counted.
+use Rattle.std.proofs.Common.{◌≡◌, ℕ, zero, suc, ◌+◌, ◌-◌, ◌*◌, ◌/◌, ◌<◌, ◌≤◌, eqb, cond, List, [], ◌∷◌, length, get_or, get_or-set_same, get_or-set_other, take, replicate, Some, refl, sym, ap, ◌∙◌, subst, inl, inr, arith}
+use Rattle.std.specs.List.{sum_by}
+use Rattle.std.proofs.Math.ListN.{length-set}
+use Rattle.std.proofs.lemmas.List.{length-replicate, get_or-replicate, take_all, get_or_past}
+use Rattle.std.proofs.lemmas.List.Sums.{sum_by_more, sum_by-cons}
+use Rattle.std.proofs.lemmas.Option.{get_or_from_slice_get}
+use Rattle.std.proofs.lemmas.Bool.{cases_lt, cases_eq, eq-eqb, ne_eqb}
+use Rattle.list_laws.proofs.Choice.{choose}
+use Rattle.aig_core.specs.Aig.{Aig, first_and, node_count, pair_of}
+use Rattle.aig_core.specs.declared.lit.Pair.{Pair}
+use Rattle.cover_pick.specs.Flow.{times_read, fan_out}
+use Rattle.cover_pick.specs.Counts.{count_at, count_one, count_pair, AreCounted}
+
+-- one more reader
+abbrev one_if : ℕ → ℕ → ℕ
+one_if n m = cond (eqb n m) 1 0
+
+one_more : (counts : List ℕ) (n m : ℕ) → n < length counts → count_at (count_one counts n) m ≡ count_at counts m + one_if n m
+one_more counts n m l =
+    elim (cases_eq m n) [
+      | inl e ↦ subst (λ i. count_at (count_one counts n) i ≡ count_at counts i + one_if n i) (sym e)
+          (get_or-set_same counts n (count_at counts n + 1) 0 l ∙ (let t : one_if n n ≡ 1 = rw (eq-eqb n n refl) refl in let s : count_at counts n + 1 ≡ count_at counts n + one_if n n = omega arith in s))
+      | inr d ↦ (
+          let other : count_at (count_one counts n) m ≡ count_at counts m = rw get_or-set_other refl in
+          let t : one_if n m ≡ 0 = rw (ne_eqb n m (λ e. d (sym e))) refl in
+          let s : count_at (count_one counts n) m ≡ count_at counts m + one_if n m = omega arith in s)
+    ]
+
+pub one_size : (counts : List ℕ) (n : ℕ) → length (count_one counts n) ≡ length counts
+one_size counts n = length-set counts n (count_at counts n + 1)
+
+pub one_small : (counts : List ℕ) (n m limit : ℕ) → n < length counts → count_at counts m < limit → count_at (count_one counts n) m < limit + 1
+one_small counts n m limit l b =
+    let s : count_at (count_one counts n) m ≡ count_at counts m + one_if n m = one_more counts n m l in
+    let t : one_if n m ≤ 1 = choose (λ v. v ≤ 1) (eqb n m) 1 0 (λ _. omega arith) (λ _. omega arith) in omega arith
+
+pair_more : (counts : List ℕ) (p : Pair) (m : ℕ) → p.x.0 / 2 < length counts → p.y.0 / 2 < length counts → count_at (count_pair counts p) m ≡ count_at counts m + times_read m p
+pair_more counts p m x y =
+    let size : length (count_one counts (p.x.0 / 2)) ≡ length counts = one_size counts (p.x.0 / 2) in
+    let first : count_at (count_one counts (p.x.0 / 2)) m ≡ count_at counts m + one_if (p.x.0 / 2) m = one_more counts (p.x.0 / 2) m x in
+    let second : count_at (count_pair counts p) m ≡ count_at (count_one counts (p.x.0 / 2)) m + one_if (p.y.0 / 2) m = one_more (count_one counts (p.x.0 / 2)) (p.y.0 / 2) m (omega arith) in
+    let all : count_at (count_pair counts p) m ≡ count_at counts m + times_read m p = omega arith in all
+
+-- a node is read at most twice by a pair
+read_twice : (m : ℕ) (ps : List Pair) → sum_by (times_read m) ps ≤ 2 * length ps
+read_twice m [] = omega arith
+read_twice m (p ∷ ps) =
+    let s : sum_by (times_read m) (p ∷ ps) ≡ times_read m p + sum_by (times_read m) ps = sum_by-cons (times_read m) p ps in
+    let x : one_if (p.x.0 / 2) m ≤ 1 = choose (λ v. v ≤ 1) (eqb (p.x.0 / 2) m) 1 0 (λ _. omega arith) (λ _. omega arith) in
+    let y : one_if (p.y.0 / 2) m ≤ 1 = choose (λ v. v ≤ 1) (eqb (p.y.0 / 2) m) 1 0 (λ _. omega arith) (λ _. omega arith) in
+    let r : sum_by (times_read m) ps ≤ 2 * length ps = read_twice m ps in omega arith
+
+take_short : (i : ℕ) (ps : List Pair) → length (take i ps) ≤ length ps
+take_short zero ps = omega arith
+take_short (suc i) [] = omega arith
+take_short (suc i) (p ∷ ps) = let r : length (take i ps) ≤ length ps = take_short i ps in omega arith
+
+module _ (g : Aig) where
+  -- no count is above twice the pairs
+  pub counts_small : (n : ℕ) (counts : List ℕ) → AreCounted g n counts → (m : ℕ) → count_at counts m ≤ 2 * length g.pairs
+  counts_small n counts a m =
+      elim (cases_lt m (node_count g)) [
+        | inl l ↦ (
+            let e : count_at counts m ≡ sum_by (times_read m) (take (n - first_and g) g.pairs) = a.each m l in
+            let t : sum_by (times_read m) (take (n - first_and g) g.pairs) ≤ 2 * length (take (n - first_and g) g.pairs) = read_twice m (take (n - first_and g) g.pairs) in
+            let s : length (take (n - first_and g) g.pairs) ≤ length g.pairs = take_short (n - first_and g) g.pairs in omega arith)
+        | inr l ↦ (let size : length counts ≡ node_count g = a.size in let z : count_at counts m ≡ 0 = get_or_past counts m 0 (omega arith) in omega arith)
+      ]
+
+  pub counted_none : AreCounted g (first_and g) (replicate (node_count g) 0)
+  counted_none = record {
+    size = length-replicate (node_count g) 0;
+    each = λ m l. get_or-replicate (node_count g) m 0 0 l ∙ (let z : first_and g - first_and g ≡ 0 = omega arith in sym (ap (λ i. sum_by (times_read m) (take i g.pairs)) z));
+  }
+
+  pub counted_next : (n : ℕ) (counts next : List ℕ) (p : Pair) → AreCounted g n counts → first_and g ≤ n → n < node_count g → pair_of g n ≡ Some p → p.x.0 / 2 < node_count g → p.y.0 / 2 < node_count g → next ≡ count_pair counts p
+      → AreCounted g (n + 1) next
+  counted_next n counts next p a low high at x y is =
+      let size : length counts ≡ node_count g = a.size in
+      let here : get_or g.pairs (n - first_and g) p ≡ p = get_or_from_slice_get g.pairs (n - first_and g) p p at in
+      let place : n + 1 - first_and g ≡ n - first_and g + 1 = omega arith in
+      subst (λ s. AreCounted g (n + 1) s) (sym is) (record {
+        size = one_size (count_one counts (p.x.0 / 2)) (p.y.0 / 2) ∙ (one_size counts (p.x.0 / 2) ∙ size);
+        each = λ m l.
+            let more : count_at (count_pair counts p) m ≡ count_at counts m + times_read m p = pair_more counts p m (omega arith) (omega arith) in
+            let before : count_at counts m ≡ sum_by (times_read m) (take (n - first_and g) g.pairs) = a.each m l in
+            let sum : sum_by (times_read m) (take (n - first_and g + 1) g.pairs) ≡ sum_by (times_read m) (take (n - first_and g) g.pairs) + times_read m (get_or g.pairs (n - first_and g) p) =
+            sum_by_more (times_read m) g.pairs (n - first_and g) p (omega arith) in
+            let same : times_read m (get_or g.pairs (n - first_and g) p) ≡ times_read m p = ap (λ q. times_read m q) here in
+            let moved : sum_by (times_read m) (take (n + 1 - first_and g) g.pairs) ≡ sum_by (times_read m) (take (n - first_and g + 1) g.pairs) = ap (λ i. sum_by (times_read m) (take i g.pairs)) place in
+            let all : count_at (count_pair counts p) m ≡ sum_by (times_read m) (take (n + 1 - first_and g) g.pairs) = omega arith in all;
+      })
+
+  -- when all pairs are counted
+  pub counted_all : (counts : List ℕ) → AreCounted g (node_count g) counts → (m : ℕ) → m < node_count g → count_at counts m ≡ fan_out g m
+  counted_all counts a m l = a.each m l ∙ ap (λ ps. sum_by (times_read m) ps) (take_all (node_count g - first_and g) g.pairs (omega arith))

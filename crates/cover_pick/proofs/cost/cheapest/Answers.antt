@@ -1,0 +1,28 @@
+use Rattle.std.proofs.Common.{◌∙◌, ℕ, List, [], None, get_or, refl, sym, ap, subst, arith}
+use Rattle.std.proofs.lemmas.List.{drop_more, drop_all}
+use Rattle.cut_enum.specs.Table.{row_at}
+use Rattle.depth_label.specs.Label.{label_of}
+use Rattle.cover_pick.specs.Cheapest.{IsOffer, cut_cost, cheaper_low, cheapest}
+use Rattle.cover_pick.proofs.cost.cheapest.Goals as goal
+
+pub loop-i-init : goal.loop-i-init
+loop-i-init c = (None, tt, refl)
+
+pub loop-i-preserved : goal.loop-i-preserved
+loop-i-preserved c =
+    let label : ℕ → ℕ = label_of c.args.labels.now in
+    let row : List (List ℕ) = row_at c.args.table.now c.args.n in
+    let cost : List ℕ → ℕ = cut_cost c.args.flows.now c.args.reqs.now in
+    let v = c.loop-i.invariant in (
+      cheaper_low cost label c.args.r v.0 (get_or row c.loop-i.i []),
+      c.cheaper_low-best.ensures v.0 v.1,
+      ap (λ s. cheapest cost label c.args.r v.0 s) (sym (drop_more row c.loop-i.i [] (omega arith))) ∙ v.2,
+    )
+
+pub returns : goal.returns
+returns c =
+    let label : ℕ → ℕ = label_of c.args.labels.now in
+    let row : List (List ℕ) = row_at c.args.table.now c.args.n in
+    let cost : List ℕ → ℕ = cut_cost c.args.flows.now c.args.reqs.now in
+    let v = c.loop-i.invariant in
+    subst (λ o. IsOffer cost row c.loop-i.best o) (ap (λ s. cheapest cost label c.args.r v.0 s) (sym (drop_all c.loop-i.i row (omega arith))) ∙ v.2) v.1

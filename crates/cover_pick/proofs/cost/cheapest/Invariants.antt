@@ -1,0 +1,10 @@
+use Rattle.std.proofs.Common.{◌≡◌, ℕ, List, Option, None, drop}
+use Rattle.cut_enum.specs.Table.{row_at}
+use Rattle.depth_label.specs.Label.{label_of}
+use Rattle.cover_pick.specs.Cheapest.{IsOffer, cut_cost, cheapest}
+use Rattle.cover_pick.proofs.cost.cheapest.Given as goal
+
+abbrev pub invariant-loop-i : goal.invariant-loop-i
+invariant-loop-i l =
+    (o : Option (List ℕ)) × IsOffer (cut_cost l.flows l.reqs) (row_at l.table l.n) l.best o
+    × (cheapest (cut_cost l.flows l.reqs) (label_of l.labels) l.r o (drop l.i (row_at l.table l.n)) ≡ cheapest (cut_cost l.flows l.reqs) (label_of l.labels) l.r None (row_at l.table l.n))

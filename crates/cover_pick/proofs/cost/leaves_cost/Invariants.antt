@@ -1,0 +1,11 @@
+use Rattle.std.proofs.Common.{◌≡◌, ◌*◌, ◌≤◌, take}
+use Rattle.std.specs.List.{sum_by}
+use Rattle.cover_pick.specs.declared.limits.TheConstants.{MOST_FLOW}
+use Rattle.cover_pick.specs.Cheapest.{leaf_cost}
+use Rattle.cover_pick.proofs.cost.leaves_cost.Given as goal
+
+abbrev pub invariant-loop-m : goal.invariant-loop-m
+invariant-loop-m l = record {
+  sum : l.cost ≡ sum_by (leaf_cost l.flows l.reqs) (take l.m-index l.leaves);
+  small : l.cost ≤ l.m-index * MOST_FLOW;
+}

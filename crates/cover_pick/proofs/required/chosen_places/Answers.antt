@@ -1,0 +1,29 @@
+use Rattle.std.proofs.Common.{rules, ◌≡◌, ◌∙◌, ℕ, List, None, length, drop, replicate, sym, ap, subst}
+use Rattle.std.proofs.lemmas.List.{take_at}
+use Rattle.aig_core.specs.Aig.{first_and, node_count}
+use Rattle.aig_core.specs.Roots.{lits_of}
+use Rattle.depth_label.specs.Label.{label_of}
+use Rattle.cover_pick.specs.Target.{target}
+use Rattle.cover_pick.specs.Required.{require_roots, roots_required}
+use Rattle.cover_pick.specs.Ruled.{found_of}
+use Rattle.cover_pick.specs.Planned.{depths_of}
+use Rattle.cover_pick.specs.Places.{AreBestPlaces}
+use Rattle.cover_pick.proofs.RuleLemmas.{places_chosen}
+use Rattle.cover_pick.proofs.required.chosen_places.Goals as goal
+
+pub returns-clause-places : goal.returns-clause-places
+returns-clause-places c =
+    let g = c.args.graph.now in
+    let rows = c.args.table.now in
+    let label : ℕ → ℕ = label_of c.args.labels.now in
+    let roots : List ℕ = lits_of c.args.roots.now in
+    let long : length c.walk.new.places ≡ c.in_ok-places.places.len = search rules in
+    let whole : length c.require_roots.new.reqs ≡ c.in_ok-depths.depths.len = search rules in
+    let none : c.deref_mut.result.now ≡ replicate (node_count g) None = search rules in
+    let start : c.deref_mut-2.result.now ≡ roots_required g roots (target g label roots) =
+    c.deref_mut-2.ensures.value
+    ∙ (take_at c.require_roots.new.reqs (drop (length c.require_roots.new.reqs) c.in_ok-depths.depths.items) c.in_ok-depths.depths.len whole
+    ∙ (c.require_roots.ensures ∙ (ap (λ s. require_roots (first_and g) c.target-t.result s roots) none ∙ ap (λ t. require_roots (first_and g) t (replicate (node_count g) None) roots) c.target-t.ensures))) in
+    subst (λ s. AreBestPlaces g rows (found_of c.args.rule g rows label roots) (depths_of c.args.rule g rows label roots) (first_and g) s)
+    (sym (take_at c.walk.new.places (drop (length c.walk.new.places) c.in_ok-places.places.items) c.in_ok-places.places.len long))
+    (places_chosen c.args.rule g rows label roots c.deref.result.now c.deref_mut-2.result.now c.walk.new.reqs c.walk.new.places (c.deref.ensures.value ∙ c.in_ok-flows.ensures.value) start c.walk.ensures.reqs c.walk.ensures.places)

@@ -1,0 +1,40 @@
+-- The flow of a node: what its table and all tables below it cost, each shared evenly among the AND nodes that read it.
+use Rattle.std.specs.Prelude.{ℕ, zero, suc, ◌+◌, ◌/◌, ◌^◌, min, max, if◌then◌else◌, ◌==◌, nat_lt, List, [], ◌∷◌, ◌++◌, length, sum_by, slice_index_or}
+use Rattle.aig_core.specs.Aig.{Aig, first_and, node_count}
+use Rattle.aig_core.specs.declared.lit.Pair.{Pair}
+use Rattle.cut_enum.specs.Table.{row_at}
+use Rattle.cover_pick.specs.declared.limits.TheConstants.{MOST_FLOW, TABLE_PRICE}
+
+-- how many of a pair's fan-ins are a node
+abbrev pub times_read : ℕ → Pair → ℕ
+times_read m p = (if (p.x.0 / 2) == m then 1 else 0) + (if (p.y.0 / 2) == m then 1 else 0)
+
+-- how many AND nodes have a node as a fan-in: a pair has two different nodes
+abbrev pub fan_out : Aig → ℕ → ℕ
+fan_out g m = sum_by (times_read m) g.pairs
+
+-- the flow of a node in a list of one a node
+abbrev pub flow_at : List ℕ → ℕ → ℕ
+flow_at flows m = slice_index_or flows m 0
+
+-- what a cut's table and all below it cost
+abbrev pub cut_flow : List ℕ → List ℕ → ℕ
+cut_flow flows c = TABLE_PRICE + (2 ^ length c + sum_by (flow_at flows) c)
+
+-- the least over some cuts, and no more than the most flow
+abbrev pub least_flow : List ℕ → List (List ℕ) → ℕ
+least_flow flows [] = MOST_FLOW
+least_flow flows (c ∷ cs) = min (cut_flow flows c) (least_flow flows cs)
+
+-- the flow of a node over those of the nodes below it: 0 of the constant and a source, else the least over its cuts, shared among its fan-outs
+abbrev pub node_flow : Aig → List (List (List ℕ)) → (ℕ → ℕ) → List ℕ → ℕ → ℕ
+node_flow g rows fans flows n = if nat_lt n (first_and g) then 0 else least_flow flows (row_at rows n) / max 1 (fans n)
+
+-- the flows of the first n nodes, for these numbers of fan-outs
+abbrev pub flows_below : Aig → List (List (List ℕ)) → (ℕ → ℕ) → ℕ → List ℕ
+flows_below g rows fans zero = []
+flows_below g rows fans (suc n) = flows_below g rows fans n ++ node_flow g rows fans (flows_below g rows fans n) n ∷ []
+
+-- the flow of a node of a graph
+abbrev pub flow_of : Aig → List (List (List ℕ)) → ℕ → ℕ
+flow_of g rows n = flow_at (flows_below g rows (fan_out g) (node_count g)) n

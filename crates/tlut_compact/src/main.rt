@@ -1,0 +1,10 @@
+//! The program `tlut-compact`: it maps by the rule of the least cost.
+#![tactic(auto)]
+
+use cover_pick::Rule;
+use std::process::ExitCode;
+use tlut_main::main_by;
+
+fn main(rt: HostRuntime) -> ExitCode {
+    main_by(rt, Rule::LeastCost)
+}

@@ -1,0 +1,154 @@
+#!/usr/bin/env python3
+"""Times changes of parameters beside a loop in C over the part of the pack that each parameter reaches.
+
+Outside the gate: `python3 tools/change_anchor.py [NETLIST PARAMS K]`, after a first call of ./tlut has built the program, and where a C
+compiler is (`cc`). Without words it takes the filter of tools/designs.py at K 6, whose pack is the largest of that file's.
+
+Each change turns one parameter, drawn with a fixed start. The loop evaluates every node that the parameter reaches, in order, and
+compares every bit that it reaches, with no test of what has changed: what a compiler makes of the pack alone. `tlut bits` reads each
+change as a line, follows what changes, and prints each write. Both are processor time for a change, the least of some runs, with the
+start of the program taken off, and must find the same number of writes.
+"""
+
+import os
+import resource
+import subprocess
+import sys
+import tempfile
+
+TOP = os.path.dirname(os.path.dirname(os.path.abspath(__file__)))
+sys.path.insert(0, TOP)
+sys.path.insert(0, f"{TOP}/tools")
+
+import designs
+from companion import tools
+from companion.faults import Fault
+from companion.pack import read_pack
+from companion.text import write_text
+
+CHANGES = 10_000
+RUNS = 5
+LOOP = r"""
+#include <stdio.h>
+#include <stdlib.h>
+#include <time.h>
+static unsigned *numbers(FILE *in, unsigned count) {
+    unsigned *found = malloc((count + 1) * sizeof *found);
+    for (unsigned i = 0; i < count; i++) if (fscanf(in, "%u", &found[i]) != 1) exit(1);
+    return found;
+}
+int main(int argc, char **argv) {
+    FILE *in = fopen(argv[1], "r");
+    unsigned params, nodes, bits, changes;
+    if (argc != 2 || !in || fscanf(in, "%u %u %u %u", &params, &nodes, &bits, &changes) != 4) return 1;
+    unsigned first = 1 + params, *starts = numbers(in, params), *fans = numbers(in, 2 * nodes), *literals = numbers(in, bits);
+    unsigned **cone = malloc(params * sizeof *cone), **reached = malloc(params * sizeof *reached), *cones = malloc(4 * params), *reaches = malloc(4 * params);
+    for (unsigned p = 0; p < params; p++) {
+        if (fscanf(in, "%u %u", &cones[p], &reaches[p]) != 2) return 1;
+        cone[p] = numbers(in, cones[p]); reached[p] = numbers(in, reaches[p]);
+    }
+    unsigned *turned = numbers(in, changes);
+    unsigned char *value = calloc(first + nodes, 1), *held = calloc(bits + 1, 1);
+    for (unsigned p = 0; p < params; p++) value[1 + p] = starts[p];
+    for (unsigned i = 0; i < nodes; i++) { unsigned x = fans[2 * i], y = fans[2 * i + 1]; value[first + i] = (value[x >> 1] ^ (x & 1)) & (value[y >> 1] ^ (y & 1)); }
+    for (unsigned b = 0; b < bits; b++) held[b] = value[literals[b] >> 1] ^ (literals[b] & 1);
+    unsigned long writes = 0;
+    clock_t begun = clock();
+    for (unsigned c = 0; c < changes; c++) {
+        unsigned p = turned[c];
+        value[1 + p] ^= 1;
+        for (unsigned j = 0; j < cones[p]; j++) { unsigned i = cone[p][j], x = fans[2 * i], y = fans[2 * i + 1]; value[first + i] = (value[x >> 1] ^ (x & 1)) & (value[y >> 1] ^ (y & 1)); }
+        for (unsigned j = 0; j < reaches[p]; j++) { unsigned b = reached[p][j]; unsigned char now = value[literals[b] >> 1] ^ (literals[b] & 1); if (now != held[b]) { held[b] = now; writes++; } }
+    }
+    printf("%lu %.9f\n", writes, (double)(clock() - begun) / CLOCKS_PER_SEC / changes);
+    return 0;
+}
+"""
+
+
+def reach(pack):
+    """For each parameter the nodes and the bits that it reaches, in order."""
+    count = len(pack.parameters)
+    read = [0, *(1 << place for place in range(count))]
+    for x, y in pack.nodes:
+        read.append(read[x >> 1] | read[y >> 1])
+    found = []
+    for place in range(count):
+        nodes = [i for i in range(len(pack.nodes)) if read[1 + count + i] >> place & 1]
+        found.append((nodes, [i for i, literal in enumerate(pack.bits) if read[literal >> 1] >> place & 1]))
+    return found
+
+
+def drawn(count):
+    """The parameter that each change turns: a linear congruence, the high digits of it."""
+    state, found = 1, []
+    for _ in range(CHANGES):
+        state = (state * 6364136223846793005 + 1442695040888963407) % 2**64
+        found.append((state >> 33) % count)
+    return found
+
+
+def used():
+    took = resource.getrusage(resource.RUSAGE_CHILDREN)
+    return took.ru_utime + took.ru_stime
+
+
+def timed(words, room):
+    """The least processor time of some runs of a command, and what the last one printed."""
+    took = []
+    for _ in range(RUNS):
+        before = used()
+        ran = subprocess.run(words, cwd=room, capture_output=True, text=True, check=True)
+        took.append(used() - before)
+    return min(took), ran.stdout
+
+
+def by_loop(pack, turned, room):
+    """The writes and the seconds a change by the loop in C."""
+    parts = reach(pack)
+    with open(f"{room}/pack.txt", "w", encoding="ascii") as file:
+        print(len(parts), len(pack.nodes), len(pack.bits), len(turned), *pack.parameters.values(), file=file)
+        print(*(literal for pair in pack.nodes for literal in pair), *pack.bits, file=file)
+        for nodes, bits in parts:
+            print(len(nodes), len(bits), *nodes, *bits, file=file)
+        print(*turned, file=file)
+    write_text(f"{room}/loop.c", LOOP)
+    subprocess.run(["cc", "-O2", "-o", f"{room}/loop", f"{room}/loop.c"], check=True)
+    found = [subprocess.run([f"{room}/loop", f"{room}/pack.txt"], capture_output=True, text=True, check=True).stdout.split() for _ in range(RUNS)]
+    nodes = sum(len(it[0]) for it in parts) / len(parts)
+    return int(found[0][0]), min(float(it[1]) for it in found), nodes
+
+
+def by_bits(pack, turned, room):
+    """The writes and the seconds a change by `tlut bits`."""
+    names, values, lines = list(pack.parameters), list(pack.parameters.values()), []
+    for place in turned:
+        values[place] ^= 1
+        lines.append(f"set {names[place]}={values[place]}\n")
+    write_text(f"{room}/walk.scr", "".join(lines))
+    write_text(f"{room}/empty.scr", "")
+    program = f"{TOP}/crates/tlut/out/tlut"
+    none, _ = timed([program, "bits", "bits.ppc", "empty.scr"], room)
+    some, printed = timed([program, "bits", "bits.ppc", "walk.scr"], room)
+    return sum(int(line.split()[1]) for line in printed.splitlines()[1:]), (some - none) / len(turned)
+
+
+def main():
+    given = sys.argv[1:]
+    with tempfile.TemporaryDirectory() as room:
+        netlist, params, k = given if len(given) == 3 else (*designs.write(room)["filter"], "6")
+        ran = tools.run([f"{TOP}/tlut", "map", k, os.path.abspath(netlist), os.path.abspath(params), f"{room}/template.blif", f"{room}/bits.ppc"])
+        if ran.returncode:
+            raise Fault(ran.stderr.strip())
+        pack = read_pack(f"{room}/bits.ppc")
+        turned = drawn(len(pack.parameters))
+        writes, loop, nodes = by_loop(pack, turned, room)
+        ours, bits = by_bits(pack, turned, room)
+    if ours != writes:
+        raise Fault(f"the loop finds {writes} writes, and bits {ours}")
+    print(f"{len(pack.parameters)} parameters, {len(pack.nodes)} nodes, {len(pack.bits)} bits; a parameter reaches {nodes:.0f} nodes on average")
+    print(f"{writes / len(turned):.1f} writes a change: the loop {1e6 * loop:.2f} us, tlut bits {1e6 * bits:.2f} us, ratio {bits / loop:.2f}")
+
+
+if __name__ == "__main__":
+    main()

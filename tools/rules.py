@@ -1,0 +1,53 @@
+#!/usr/bin/env python3
+"""Puts the sizes by both rules of choice, and by ABC's `if`, out in one table, as README and docs/performance.md have it.
+
+Outside the gate: `python3 tools/rules.py [--inputs]`, after a first call of ./tlut has built both programs, and where ABC is. With
+`--inputs` the parameters are ordinary inputs for all three, else for ABC alone, which has no parameters. The designs are the examples
+from Verilog and those of tools/designs.py.
+"""
+
+import os
+import sys
+import tempfile
+
+TOP = os.path.dirname(os.path.dirname(os.path.abspath(__file__)))
+sys.path.insert(0, TOP)
+sys.path.insert(0, f"{TOP}/tools")
+
+import designs
+from companion import tools
+from companion.abc_form import abc_text
+from companion.mappings import sizes_by_abc, sizes_by_tlut
+from companion.netlist import read_library
+from companion.text import write_text
+
+EXAMPLES = ["fir", "matcher", "coder"]
+LARGER = {"multiplier": "multiplier, 16 by 16", "filter": "filter, 8 taps of 8 bits", "coder": "coder of 8 bits a cycle", "benes": "Benes network, 16 lines"}
+SIZES = [4, 6]
+
+
+def row(title, netlist, parameters, abc, room):
+    """A line of the table for each number of inputs of a table."""
+    write_text(f"{room}/source.blif", abc_text(read_library(netlist), {}))
+    for size in SIZES:
+        found = [sizes_by_tlut(f"{TOP}/tlut", size, netlist, parameters, room, *words) for words in ((), ("--compact",))]
+        found.append(sizes_by_abc(abc, size, "source.blif", "", room))
+        cells = [f"{int(cell):,}" if cell.isdigit() else cell for it in found for cell in it.cells()]
+        print(f"| {title} | {size} | " + " | ".join(cells) + " |", flush=True)
+
+
+def main():
+    abc = tools.need(tools.ABC, "a comparison with ABC")
+    with tempfile.TemporaryDirectory() as room:
+        designs.write(room)
+        write_text(f"{room}/none.par", "")
+        listed = [(name, f"{TOP}/examples/{name}/{name}.blif", f"{TOP}/examples/{name}/{name}.par") for name in EXAMPLES]
+        listed += [(title, f"{room}/{name}.blif", f"{room}/{name}.par") for name, title in LARGER.items()]
+        print("| Design | K | `tlut`: tables | depth | bits | `tlut-compact`: tables | depth | bits | ABC's `if`: tables | depth | bits |")
+        print("|" + "---|" * 11)
+        for title, netlist, parameters in listed:
+            row(title, netlist, f"{room}/none.par" if "--inputs" in sys.argv else parameters, abc, room)
+
+
+if __name__ == "__main__":
+    main()
