@@ -168,7 +168,7 @@ fn show(meter: Meter<'_>, changes: u32, pack: Pack) -> Result<(), BenchErr>
 /// Turns parameters of a pack one after another, this often, and evaluates it from scratch. It prints what came of both, and,
 /// where times are wanted, how many of each there are in a second.
 pub fn time_changes(meter: Meter<'_>, changes: u32) -> Result<(), BenchErr> {
-    match make_pack(meter.rt.alloc())? {
+    match make_pack(meter.rt.alloc(), 0)? {
         None => Ok(()),
         Some(pack) => show(meter, changes, pack),
     }

@@ -4,11 +4,13 @@
 //!   have, for tables of four and of six inputs. The graph is the school's method: a partial product, an AND, for each pair of
 //!   bits, and then a ripple row of full adders for each further bit of the second factor.
 //! - `changes N`: how fast N changes of a parameter are, beside evaluations of the whole pack.
+//! - `paced N`: how fast N asks at a limited rate and their waits are, over few addresses and over many.
 //! - `stages K NETLIST PARAMS CYCLES CHANGES`: each stage from the files of a netlist and of its parameters to cycles and changes
 //!   that are drawn, with tables of K inputs.
 //! - `all`: all of these on small inputs, of which `stages` takes `benes.blif` and `benes.par`, without times.
 //!
-//! A word `counts` behind those of `changes` and of `stages` leaves the times out. What is printed then is the same in each run.
+//! A word `counts` behind those of `changes`, of `paced` and of `stages` leaves the times out. What is printed then is the same
+//! in each run.
 #![tactic(auto)]
 
 mod all_stages;
@@ -17,9 +19,11 @@ mod changes;
 mod cuts;
 mod meter;
 mod multiplier;
+mod paced;
 mod pack;
 mod play;
 mod random;
+mod single_bits;
 mod sources;
 mod stages;
 mod turn;
@@ -29,6 +33,7 @@ use crate::bench_err::BenchErr;
 use crate::changes::time_changes;
 use crate::cuts::count_cuts;
 use crate::meter::Meter;
+use crate::paced::time_paced;
 use cut_enum::MOST_LEAVES;
 use std::env;
 use std::process::ExitCode;
@@ -83,7 +88,8 @@ fn measure_all(rt: &HostRuntime) -> Result<(), BenchErr> {
         cycles: 1000,
         changes: 1000,
     };
-    time_stages(meter, task, "benes.blif", "benes.par")
+    time_stages(meter, task, "benes.blif", "benes.par")?;
+    time_paced(meter, 1000)
 }
 
 fn measure(rt: &HostRuntime) -> Result<(), BenchErr> {
@@ -91,6 +97,7 @@ fn measure(rt: &HostRuntime) -> Result<(), BenchErr> {
     match word(&words, 0) {
         "cuts" => count_cuts(rt, number(&words, 1)),
         "changes" => time_changes(meter_of(rt, &words, 2), number(&words, 1)),
+        "paced" => time_paced(meter_of(rt, &words, 2), number(&words, 1)),
         "stages" => measure_stages(rt, &words),
         "all" => measure_all(rt),
         _ => Err(BenchErr::Words),

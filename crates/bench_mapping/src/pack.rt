@@ -7,6 +7,7 @@ ghost use Rattle.aig_core.specs.declared.lit.Kind.TheVariants.{Parameter};
 ghost use Rattle.aig_core.specs.declared.lit.Lit.{Lit as LitValue};
 ghost use Rattle.aig_core.specs.Aig.{IsLit};
 ghost use Rattle.ppc_pack.specs.declared.pack.PackParam.{PackParam as PackParamValue};
+ghost use Rattle.ppc_pack.specs.declared.pack.TheConstants.{MOST_PACK_BITS};
 ghost use Rattle.ppc_pack.specs.Pack.{PackValue};
 
 use crate::random::Random;
@@ -119,6 +120,17 @@ fn functions(alloc: Global, graph: &mut Graph) -> Result<Vec<Lit>, AllocError>
     Ok(bits)
 }
 
+// The bits of some functions, behind as many zeros as make them so many bits.
+fn behind_zeros(alloc: Global, functions: &[Lit], count: usize) -> Result<Vec<Lit>, AllocError>
+    requires functions { length functions.now ≤ MOST_PACK_BITS }
+    requires count { count ≤ MOST_PACK_BITS }
+    ensures { IfOk result (λ bits. length bits.items ≤ MOST_PACK_BITS) }
+{
+    let mut bits = vec![in alloc; Lit(0); count.saturating_sub(functions.len())]?;
+    bits.extend_from_slice(functions)?;
+    Ok(bits)
+}
+
 // The literals are of the graph.
 fn are_lits(graph: &Graph, bits: &[Lit]) -> bool
     ensures { result ≡ true → (l : LitValue) → In bits.now l → IsLit graph.now l.0 }
@@ -131,14 +143,16 @@ fn are_lits(graph: &Graph, bits: &[Lit]) -> bool
     true
 }
 
-/// The pack: functions of six parameters each, until it has all its nodes. `None` where a bit isn't one of its graph, which
-/// doesn't come.
-pub fn make_pack(alloc: Global) -> Result<Option<Pack>, AllocError>
+/// The pack: functions of six parameters each, until it has all its nodes. Before their bits stand as many zeros as make them
+/// `least` bits. `None` where a bit isn't one of its graph, which doesn't come.
+pub fn make_pack(alloc: Global, least: u32) -> Result<Option<Pack>, AllocError>
+    requires { least ≤ MOST_PACK_BITS }
     ensures { IfOk result (λ made. (pack : PackValue) → made ≡ Some pack → length pack.params ≡ PARAMS) }
 {
     let kinds = vec![in alloc; Kind::Parameter; PARAMS as usize]?;
     let mut graph = Graph::make(alloc, kinds, NODES)?;
-    let bits = functions(alloc, &mut graph)?;
+    let functions = functions(alloc, &mut graph)?;
+    let bits = behind_zeros(alloc, &functions, least as usize)?;
     if !are_lits(&graph, &bits) {
         return Ok(None);
     }
