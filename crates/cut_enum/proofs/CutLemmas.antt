@@ -1,11 +1,11 @@
 -- The least unions of the sets of two fan-ins are the minimal cuts of the node.
-use Rattle.std.proofs.Common.{◌≡◌, ℕ, suc, ◌/◌, ◌<◌, ◌≤◌, true, false, List, [], ◌∷◌, length, refl, sym, subst, inl, inr, ◌⊎◌, arith}
+use Rattle.std.proofs.Common.{◌≡◌, ℕ, suc, ◌/◌, ◌<◌, ◌≤◌, true, false, List, [], ◌∷◌, length, refl, sym, ◌∙◌, subst, inl, inr, ◌⊎◌, arith}
 use Rattle.aig_core.specs.Aig.{Aig, first_and, IsAnd, IsNormal, AreNormal}
 use Rattle.aig_core.specs.declared.lit.Kind.TheVariants.{Regular, Parameter}
 use Rattle.aig_core.specs.declared.lit.Pair.{Pair}
 use Rattle.list_laws.specs.Members.{In, Within}
 use Rattle.list_laws.specs.Order.{IsAscending}
-use Rattle.cut_enum.specs.Merging.{union, merged, starts_empty, with_own}
+use Rattle.cut_enum.specs.Merging.{AreApart, union, merged, starts_empty, with_own}
 use Rattle.aig_core.specs.Aig.{IsSource, IsNode}
 use Rattle.cut_enum.specs.Cuts.{Blocks, member, constant, parameter, fan_ins, CanBeLeaf, IsCut, IsMinimal, AreMinimal, Covers}
 use Rattle.aig_core.proofs.NodeLemmas.{source_below, same_pair}
@@ -23,6 +23,7 @@ pub record IsFront (g : Aig) (k m : ℕ) (cs : List (List ℕ)) : Type 0 where
   pub blocks : (c : List ℕ) → In cs c → Blocks g c m
   pub contains : (c : List ℕ) → IsAscending c → length c ≤ k → Blocks g c m → Covers cs c
   pub rising : IsRising cs
+  pub apart : (c d : List ℕ) → In cs c → In cs d → Within c d → c ≡ d
 
 module _ (g : Aig) (k n : ℕ) (p : Pair) (xs ys : List (List ℕ)) (node : IsNode g p n) (normal : IsNormal n p)
     (x : IsFront g k (p.x.0 / 2) xs) (y : IsFront g k (p.y.0 / 2) ys) where
@@ -86,6 +87,21 @@ front_leaves : (g : Aig) (k n : ℕ) (cs : List (List ℕ)) → IsAnd g n → Ar
 front_leaves g k n cs and m c l (inl e) h = elim (let i : In (n ∷ []) l = subst (λ s. In s l) e h in i) [ inl q ↦ (omega arith, subst (λ s. CanBeLeaf g s) (sym q) (inr and)) | inr j ↦ absurd j ]
 front_leaves g k n cs and m c l (inr i) h = let b : l < n = ((m.only c i).cut.below l h).0 in (omega arith, ((m.only c i).cut.below l h).1)
 
+-- the one set of a list
+only_one : (n : ℕ) (c : List ℕ) → In ((n ∷ []) ∷ []) c → c ≡ n ∷ []
+only_one n c (inl e) = e
+only_one n c (inr i) = absurd i
+
+front_apart : (g : Aig) (k n : ℕ) (cs : List (List ℕ)) → AreMinimal g k n cs → ((c : List ℕ) → In cs c → 1 ≤ length c) → (c d : List ℕ) → In ((n ∷ []) ∷ cs) c → In ((n ∷ []) ∷ cs) d → Within c d → c ≡ d
+front_apart g k n cs m some c d (inl p) (inl q) w = p ∙ sym q
+front_apart g k n cs m some c d (inl p) (inr j) w =
+    let i : In d n = w n (subst (λ s. In s n) (sym p) (inl refl)) in let b : n < n = ((m.only d j).cut.below n i).0 in absurd (omega arith)
+front_apart g k n cs m some [] d (inr i) (inl q) w = absurd (let l : 1 ≤ 0 = some [] i in omega arith)
+front_apart g k n cs m some (l ∷ ls) d (inr i) (inl q) w =
+    let b : l < n = ((m.only (l ∷ ls) i).cut.below l (inl refl)).0 in
+    let j : In (n ∷ []) l = subst (λ s. In s l) q (w l (inl refl)) in elim j [ inl e ↦ absurd (omega arith) | inr h ↦ absurd h ]
+front_apart g k n cs m some c d (inr i) (inr j) w = (m.only d j).least c (m.only c i).cut w
+
 -- the front of an AND node without the empty cut: itself, and its cuts
 own_front : (g : Aig) (k n : ℕ) (cs : List (List ℕ)) → AreNormal (first_and g) g.pairs → IsAnd g n → AreMinimal g k n cs → ((c : List ℕ) → In cs c → 1 ≤ length c) → IsFront g k n ((n ∷ []) ∷ cs)
 own_front g k n cs normal and m some = record {
@@ -97,6 +113,7 @@ own_front g k n cs normal and m some = record {
     | inr r ↦ record { by = r.by; in' = inr r.in'; part = r.part }
   ];
   rising = ((λ c i. some c i), IsRising-ordered cs m.ordered);
+  apart = front_apart g k n cs m some;
 }
 
 -- the front of an AND node with the empty cut: its cuts
@@ -107,6 +124,7 @@ free_front g k n cs m i = record {
   blocks = λ c j. (m.only c j).cut.blocks;
   contains = λ c up few _. record { by = []; in' = i; part = λ l j. absurd j };
   rising = IsRising-ordered cs m.ordered;
+  apart = λ c d h j w. (m.only d j).least c (m.only c h).cut w;
 }
 
 some_leaves : (cs : List (List ℕ)) → IsRising cs → starts_empty cs ≡ false → (c : List ℕ) → In cs c → 1 ≤ length c
@@ -132,6 +150,7 @@ IsFront-free g k n b = record {
   blocks = λ c i. elim i [ inl e ↦ subst (λ s. Blocks g s n) (sym e) b | inr j ↦ absurd j ];
   contains = λ c up few _. record { by = []; in' = inl refl; part = λ l j. absurd j };
   rising = ((λ c i. absurd i), tt);
+  apart = λ c d i j w. elim i [ inl p ↦ elim j [ inl q ↦ p ∙ sym q | inr h ↦ absurd h ] | inr h ↦ absurd h ];
 }
 
 regular_leaves : (g : Aig) (n : ℕ) → IsSource g Regular n → (c : List ℕ) (l : ℕ) → In ((n ∷ []) ∷ []) c → In c l → (l ≤ n) × CanBeLeaf g l
@@ -146,4 +165,9 @@ IsFront-regular g k n s = record {
   blocks = λ c i. elim i [ inl e ↦ subst (λ s. Blocks g s n) (sym e) (member (inl refl)) | inr j ↦ absurd j ];
   contains = λ c up few b. record { by = n ∷ []; in' = inl refl; part = λ l j. elim j [ inl e ↦ subst (λ s. In c s) (sym e) (regular_blocked g c s b) | inr j ↦ absurd j ] };
   rising = ((λ c i. absurd i), tt);
+  apart = λ c d i j w. only_one n c i ∙ sym (only_one n d j);
 }
+
+-- none of a front is within another
+pub AreApart-front : (g : Aig) (k m : ℕ) (cs : List (List ℕ)) → IsFront g k m cs → AreApart cs
+AreApart-front g k m cs f = record { ascending = f.ascending; apart = f.apart }

@@ -1,14 +1,15 @@
 -- The least unions of the sets of two lists: which sets they are, and that none is within another.
-use Rattle.std.proofs.Common.{◌≡◌, ℕ, zero, suc, ◌+◌, ◌-◌, ◌<◌, ◌≤◌, true, List, [], ◌∷◌, ◌++◌, length, refl, sym, ap, subst, inl, inr, ◌⊎◌, arith, length-append}
-use Rattle.std.proofs.lemmas.Bool.{cases_lt}
+use Rattle.std.proofs.Common.{◌≡◌, ℕ, zero, suc, ◌+◌, ◌-◌, ◌<◌, ◌≤◌, true, false, List, [], ◌∷◌, ◌++◌, length, refl, sym, ap, subst, inl, inr, ◌⊎◌, arith, length-append}
+use Rattle.std.specs.List.{list_any}
+use Rattle.std.proofs.lemmas.Bool.{cases_Bool, cases_lt}
 use Rattle.list_laws.specs.Members.{In, Within}
 use Rattle.list_laws.specs.Order.{IsAscending}
 use Rattle.list_laws.proofs.Members.{In-left, In-append}
 use Rattle.cut_enum.specs.Sets.{before, IsOrdered}
-use Rattle.cut_enum.specs.Merging.{union, add, add_holders, leading, holders, unions_at, unions_below, merged}
+use Rattle.cut_enum.specs.Merging.{AreApart, AreClear, subset, union, add, add_holders, leading, holders, unions_at, unions_below, merged}
 use Rattle.cut_enum.specs.Cuts.{Covers}
 use Rattle.cut_enum.proofs.SetLemmas.{IsAscending-union, union_left, union_right, union_within, length_within, same_length_within, same_within, before_shorter}
-use Rattle.cut_enum.proofs.LevelLemmas.{IsLevel, IsLevel-none, IsLevel-add, IsRising, In-leading, holders_keep, pairs_keep, add_only, left_covered, right_covered, both_covered}
+use Rattle.cut_enum.proofs.LevelLemmas.{IsLevel, IsLevel-none, IsLevel-add, IsRising, In-leading, any_part, holders_keep, pairs_keep, add_only, left_covered, right_covered, both_covered}
 
 -- Sets of fewer than n elements, none of which is within another, in order.
 pub record IsLeast (n : ℕ) (cs : List (List ℕ)) : Type 0 where
@@ -103,6 +104,32 @@ module _ (xs ys : List (List ℕ)) (x_up : (c : List ℕ) → In xs c → IsAsce
   below_only zero e i = absurd i
   below_only (suc n) e i = elim (In-append (unions_below n xs ys) (unions_at n (unions_below n xs ys) xs ys) e i) [ inl j ↦ below_only n e j | inr j ↦ at_only n (unions_below n xs ys) e j ]
 
+  -- no smaller union is within a set of n elements, where none of those that it would have within it is
+  below_clear : (n : ℕ) (d : List ℕ) → ((e : List ℕ) → IsUnionOf xs ys e → length e < n → Within e d → ⊥) → list_any (λ c. subset c d) (unions_below n xs ys) ≡ false
+  below_clear n d h = elim (cases_Bool (list_any (λ c. subset c d) (unions_below n xs ys))) [
+    | inl t ↦ absurd (let r : Covers (unions_below n xs ys) d = any_part (unions_below n xs ys) d t in h r.by (below_only n r.by r.in') ((least_below n).short r.by r.in') r.part)
+    | inr f ↦ f
+  ]
+
+  -- a smaller union has a smaller set of either list within it, and none of these is within another
+  pub left_clear : (n : ℕ) → ((c d : List ℕ) → In xs c → In xs d → Within c d → c ≡ d) → AreClear n (unions_below n xs ys) xs
+  left_clear n apart d i l =
+      below_clear n d
+      (λ e u few w. let same : u.left ≡ d = apart u.left d u.in_left i (λ m j. w m (subst (λ s. In s m) (sym u.is) (union_right u.right u.left m j))) in
+      let a : length u.left ≡ length d = ap length same in
+      let b : length e ≡ length (union u.right u.left) = ap length u.is in
+      let c : length u.left ≤ length (union u.right u.left) =
+      length_within (union u.right u.left) u.left (IsAscending-union u.right u.left (x_up u.left u.in_left)) (x_up u.left u.in_left) (union_right u.right u.left) in omega arith)
+
+  pub right_clear : (n : ℕ) → ((c d : List ℕ) → In ys c → In ys d → Within c d → c ≡ d) → AreClear n (unions_below n xs ys) ys
+  right_clear n apart d i l =
+      below_clear n d
+      (λ e u few w. let same : u.right ≡ d = apart u.right d u.in_right i (λ m j. w m (subst (λ s. In s m) (sym u.is) (union_left u.right u.left m j))) in
+      let a : length u.right ≡ length d = ap length same in
+      let b : length e ≡ length (union u.right u.left) = ap length u.is in
+      let c : length u.right ≤ length (union u.right u.left) =
+      length_within (union u.right u.left) u.right (IsAscending-union u.right u.left (x_up u.left u.in_left)) (y_up u.right u.in_right) (union_left u.right u.left) in omega arith)
+
   -- each of the least unions is a union
   pub merged_only : (k : ℕ) (e : List ℕ) → In (merged k xs ys) e → IsUnionOf xs ys e
   merged_only k e i = below_only (suc k) e i
@@ -151,3 +178,10 @@ sizes_step k xs ys n l =
     let q : k - n + suc n ≡ suc k = omega arith in
     let e : length (unions_below (k - n + suc n) xs ys) ≡ length (unions_below (suc k) xs ys) = ap (λ m. length (unions_below m xs ys)) q in
     let m : length (unions_below (suc n) xs ys) ≤ length (unions_below (k - n + suc n) xs ys) = length-below xs ys (suc n) (k - n) in omega arith
+
+-- the same of the lists as the code has them
+pub left_clear_at : (size : ℕ) (base cs xs ys : List (List ℕ)) → AreApart xs → AreApart ys → base ≡ unions_below size xs ys → cs ≡ xs → AreClear size base cs
+left_clear_at size base cs xs ys x y b c = rw (b, c) (left_clear xs ys x.ascending y.ascending size x.apart)
+
+pub right_clear_at : (size : ℕ) (base cs xs ys : List (List ℕ)) → AreApart xs → AreApart ys → base ≡ unions_below size xs ys → cs ≡ ys → AreClear size base cs
+right_clear_at size base cs xs ys x y b c = rw (b, c) (right_clear xs ys x.ascending y.ascending size y.apart)

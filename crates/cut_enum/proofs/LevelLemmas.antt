@@ -44,7 +44,7 @@ length-place : (c : List ℕ) (ds : List (List ℕ)) → length ds ≤ length (p
 length-place c [] = omega arith
 length-place c (d ∷ ds) = place_at (λ s. length (d ∷ ds) ≤ length s) c d ds (λ t. omega arith) (λ t. let r : length ds ≤ length (place c ds) = length-place c ds in omega arith) (λ q. omega arith)
 
-any_part : (cs : List (List ℕ)) (c : List ℕ) → list_any (λ d. subset d c) cs ≡ true → Covers cs c
+pub any_part : (cs : List (List ℕ)) (c : List ℕ) → list_any (λ d. subset d c) cs ≡ true → Covers cs c
 any_part [] c h = absurd (false≢true h)
 any_part (d ∷ ds) c h = elim (or_cases (subset d c) (list_any (λ e. subset e c) ds) h) [
   | inl t ↦ record { by = d; in' = inl refl; part = subset_true d c t }
@@ -246,3 +246,13 @@ module _ (size : ℕ) (base : List (List ℕ)) (least : List (List ℕ)) where
 
   pub length-pairs : (cs ds level : List (List ℕ)) → length least ≤ length level → length least ≤ length (add_pairs size base cs ds level)
   length-pairs cs ds level h = pairs_keep size base (λ s. length least ≤ length s) (λ _. Unit {0}) more_there cs ds level (λ c d i j. tt) h
+
+-- a set that has one of the others within it, and none of the smaller ones, is put at its place
+pub holder_put : (size : ℕ) (base parts : List (List ℕ)) (d : List ℕ) (level : List (List ℕ)) → length d ≡ size → list_any (λ c. subset c d) parts ≡ true → list_any (λ c. subset c d) base ≡ false
+    → add_holder size base parts d level ≡ place d level
+holder_put size base parts d level l t f =
+    choose (λ s. s ≡ place d level) (eqb (length d) size) (cond (list_any (λ c. subset c d) parts) (add base d level) level) level
+    (λ _. choose (λ s. s ≡ place d level) (list_any (λ c. subset c d) parts) (add base d level) level
+    (λ _. choose (λ s. s ≡ place d level) (list_any (λ c. subset c d) base) level (place d level) (λ u. absurd (both_ways (list_any (λ c. subset c d) base) f u)) (λ _. refl))
+    (λ u. absurd (both_ways (list_any (λ c. subset c d) parts) u t)))
+    (λ u. absurd (eqb-false (length d) size u l))

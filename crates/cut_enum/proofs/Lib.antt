@@ -10,6 +10,7 @@ pub mod BlockLemmas
 mod CutLemmas
 mod PutLemmas
 mod SignedLemmas
+mod SharedLemmas
 mod StepLemmas
 mod RowLemmas
 mod SpanLemmas

@@ -1,12 +1,15 @@
 -- The place of a set in a list in order, and the halves in which it is looked for.
-use Rattle.std.proofs.Common.{◌≡◌, ℕ, zero, suc, ◌+◌, ◌<◌, ◌≤◌, true, false, List, [], ◌∷◌, length, get_or, refl, sym, ap, ◌∙◌, subst, inl, inr, arith}
+use Rattle.std.proofs.Common.{◌≡◌, ℕ, zero, suc, ◌+◌, ◌-◌, ◌<◌, ◌≤◌, true, false, List, [], ◌∷◌, ◌++◌, length, get_or, map, take, drop, refl, sym, ap, ◌∙◌, subst, inl, inr, arith, length-append, length-drop}
+use Rattle.std.proofs.lemmas.List.{get_or_append_left, get_or_push, get_or-map, take-map, drop-map, map-append, take-append-drop, length-take-le}
+use Rattle.list_laws.specs.Members.{In}
+use Rattle.cut_enum.specs.Keeps.{listed, AreListed}
 use Rattle.std.specs.List.{insert}
 use Rattle.std.proofs.lemmas.Bool.{false≢true, both_ways, cases_Bool, cases_lt}
-use Rattle.list_laws.proofs.Members.{In-get_or}
+use Rattle.list_laws.proofs.Members.{In-get_or, In-left, In-right, In-append, map_agree}
 use Rattle.cut_enum.specs.Sets.{before, IsOrdered}
 use Rattle.cut_enum.specs.Merging.{place, IsPlaceOf, IsAround}
 use Rattle.cut_enum.proofs.SetLemmas.{before_trans, before-same}
-use Rattle.cut_enum.proofs.LevelLemmas.{place_at}
+use Rattle.cut_enum.proofs.LevelLemmas.{place_at, IsOrdered-place}
 
 -- of two sets not both are before the other
 not_both : (c d : List ℕ) → before c d ≡ true → before d c ≡ true → ⊥
@@ -80,3 +83,44 @@ lower_half c cs low high m o a h l f = record {
   below = a.below;
   above = λ k g b. above_middle c cs o m k f g b;
 }
+
+-- A set that comes last, and the number of its place among the others.
+pub listed_insert : (cuts : List (List ℕ)) (places : List ℕ) (c : List ℕ) (at last : ℕ) → AreListed cuts places → last ≡ length cuts → listed (cuts ++ c ∷ []) (insert places at last) ≡ insert (listed cuts places) at c
+listed_insert cuts places c at last are e =
+    let f = λ (i : ℕ). get_or (cuts ++ c ∷ []) i [] in
+    let old : map f places ≡ listed cuts places = map_agree f (λ i. get_or cuts i []) places (λ n i. get_or_append_left cuts (c ∷ []) [] n (are.within n i)) in
+    let new : f last ≡ c = get_or_push cuts c [] last (sym e) in
+    map-append f (take at places) (last ∷ drop at places)
+    ∙ ap (λ s. s ++ f last ∷ map f (drop at places)) (sym (take-map f at places) ∙ ap (λ s. take at s) old)
+    ∙ ap (λ s. take at (listed cuts places) ++ f last ∷ s) (sym (drop-map f at places) ∙ ap (λ s. drop at s) old)
+    ∙ ap (λ s. take at (listed cuts places) ++ s ∷ drop at (listed cuts places)) new
+
+listed_within : (cuts : List (List ℕ)) (places : List ℕ) (c : List ℕ) (at last : ℕ) → AreListed cuts places → last ≡ length cuts → (n : ℕ) → In (insert places at last) n → n < length (cuts ++ c ∷ [])
+listed_within cuts places c at last are e n i =
+    let long : length (cuts ++ c ∷ []) ≡ length cuts + 1 = length-append cuts (c ∷ []) in
+    let whole : take at places ++ drop at places ≡ places = take-append-drop at places in
+    elim (In-append (take at places) (last ∷ drop at places) n i) [
+      | inl j ↦ (let l : n < length cuts = are.within n (subst (λ s. In s n) whole (In-left (take at places) (drop at places) n j)) in omega arith)
+      | inr (inl q) ↦ omega arith
+      | inr (inr j) ↦ (let l : n < length cuts = are.within n (subst (λ s. In s n) whole (In-right (take at places) (drop at places) n j)) in omega arith)
+    ]
+
+-- with a set at its place, the places of all are in order
+pub AreListed-place : (cuts : List (List ℕ)) (places : List ℕ) (c : List ℕ) (at last : ℕ) → AreListed cuts places → last ≡ length cuts → at ≤ length places → insert (listed cuts places) at c ≡ place c (listed cuts places)
+    → AreListed (cuts ++ c ∷ []) (insert places at last)
+AreListed-place cuts places c at last are e l free = record {
+  ordered = subst (λ s. IsOrdered s) (sym (listed_insert cuts places c at last are e ∙ free)) (IsOrdered-place c (listed cuts places) are.ordered);
+  within = listed_within cuts places c at last are e;
+  all = (let s : length cuts ≡ length places = are.all in
+      let a : length (cuts ++ c ∷ []) ≡ length cuts + 1 = length-append cuts (c ∷ []) in
+      let b : length (take at places ++ last ∷ drop at places) ≡ length (take at places) + length (last ∷ drop at places) = length-append (take at places) (last ∷ drop at places) in
+      let d : length (take at places) ≡ at = length-take-le at places l in
+      let f : length (drop at places) ≡ length places - at = length-drop at places in omega arith);
+}
+
+-- the set at a place
+pub listed_at : (cuts : List (List ℕ)) (places : List ℕ) (at : ℕ) → at < length places → get_or (listed cuts places) at [] ≡ get_or cuts (get_or places at 0) []
+listed_at cuts places at l = get_or-map (λ i. get_or cuts i []) places at 0 [] l
+
+pub place_within : (cuts : List (List ℕ)) (places : List ℕ) (at d : ℕ) → AreListed cuts places → at < length places → get_or places at d < length cuts
+place_within cuts places at d are l = are.within (get_or places at d) (In-get_or places at d l)

@@ -15,14 +15,14 @@ use Rattle.cut_enum.specs.Merging.{merged}
 use Rattle.aig_core.specs.Aig.{IsNode}
 use Rattle.cut_enum.specs.Cuts.{AreMinimal, constant, parameter}
 use Rattle.cut_enum.specs.Table.{row_at, AreRows}
-use Rattle.cut_enum.specs.Merging.{IsRow, IsTooMany, front_of, source_front, with_own}
+use Rattle.cut_enum.specs.Merging.{AreApart, IsRow, IsTooMany, front_of, source_front, with_own}
 use Rattle.cut_enum.specs.Limits.{Reaches, IsLimit}
 use Rattle.cut_enum.specs.declared.table.CutErr.TheVariants.{NodeCuts, TotalCuts, Memory}
 use Rattle.cut_enum.specs.declared.table.CutErr.{CutErr}
 use Rattle.tl_fault.specs.OrMemory.{OrMemory}
 use Rattle.cut_enum.specs.Refusals.{refusal_of}
 use Rattle.list_laws.proofs.Choice.{choose}
-use Rattle.cut_enum.proofs.CutLemmas.{IsFront, IsFront-node, IsFront-free, IsFront-regular, AreMinimal-merged}
+use Rattle.cut_enum.proofs.CutLemmas.{AreApart-front, IsFront, IsFront-node, IsFront-free, IsFront-regular, AreMinimal-merged}
 
 source_ok : (g : Aig) (k m : ℕ) (o : Option Kind) → 1 ≤ m → m - 1 < length g.kinds → slice_get g.kinds (m - 1) ≡ o → IsFront g k m (source_front m o)
 source_ok g k m (Some Regular) a b e = IsFront-regular g k m (record { above = a; is = e })
@@ -38,6 +38,11 @@ IsFront-front_of g k m row normal below ok =
     choose (λ s. IsFront g k m s) (ltb m (first_and g)) (source_front m (slice_get g.kinds (m - 1))) (with_own m row)
     (λ u. let l : m < first_and g = ltb-true m (first_and g) u in source_ok g k m (slice_get g.kinds (m - 1)) (omega arith) (omega arith) refl)
     (λ u. let l : first_and g ≤ m = ltb-false m (first_and g) u in let and : IsAnd g m = (l, below) in IsFront-node g k m row normal and (ok and)))
+
+-- none of what a node hands on is within another
+pub front_apart_at : (g : Aig) (k n m : ℕ) (rows : List (List (List ℕ))) (row cs : List (List ℕ)) → AreNormal (first_and g) g.pairs → n < node_count g → AreRows g k n rows → m < n → row ≡ row_at rows m → cs ≡ front_of g m row → AreApart cs
+front_apart_at g k n m rows row cs normal below ok l r e =
+    rw (e, r) (AreApart-front g k m (front_of g m (row_at rows m)) (IsFront-front_of g k m (row_at rows m) normal (omega arith) (ok.each m l)))
 
 -- the row of an AND node
 pub row_minimal : (g : Aig) (k n : ℕ) (p : Pair) (rows : List (List (List ℕ))) → AreNormal (first_and g) g.pairs → n < node_count g → IsNode g p n → IsNormal n p → AreRows g k n rows

@@ -96,15 +96,17 @@ union_over_bits a b k h =
     let e : count_ones (signature_of (union a b)) ≡ count_ones (bit_or (signature_of a) (signature_of b)) = ap count_ones (signature-union a b) in
     let l : count_ones (signature_of (union a b)) ≤ length (union a b) = ones_le_length (union a b) in omega arith
 
--- a part has no bit outside the whole's signature
-pub outside-subset : (a b : List ℕ) (outside : ℕ) → outside + signature_of b ≡ 2 ^ 64 - 1 → signature_of a < 2 ^ 64 → (bit_and outside (signature_of a) ≡ 0 → ⊥) → false ≡ subset a b
-outside-subset a b outside o l n =
-    subset-signature a b
-    (λ h. let s = signature_of a in let w = signature_of b in
+-- what a word has of another's bits is not outside it
+pub outside-none : (s w outside : ℕ) → outside + w ≡ 2 ^ 64 - 1 → s < 2 ^ 64 → bit_or s w ≡ w → bit_and outside s ≡ 0
+outside-none s w outside o l h =
     let e : outside ≡ 2 ^ 64 - 1 - w = omega arith in
     let c : bit_and (2 ^ 64 - 1 - w) s + bit_and w s ≡ s = and-not 64 w s (omega arith) l in
     let i : bit_and w s ≡ s = same_from_bits (bit_and w s) s
     (λ j. let p : bit_at (bit_and w s) j ≡ min (bit_at w j) (bit_at s j) = bit_at_and w s j in
     let q : bit_at (bit_or s w) j ≡ max (bit_at s j) (bit_at w j) = bit_at_or s w j in
     let r : bit_at (bit_or s w) j ≡ bit_at w j = ap (λ m. bit_at m j) h in omega arith) in
-    let z : bit_and (2 ^ 64 - 1 - w) s ≡ 0 = omega arith in n (ap (λ m. bit_and m s) e ∙ z))
+    let z : bit_and (2 ^ 64 - 1 - w) s ≡ 0 = omega arith in ap (λ m. bit_and m s) e ∙ z
+
+-- a part has no bit outside the whole's signature
+pub outside-subset : (a b : List ℕ) (outside : ℕ) → outside + signature_of b ≡ 2 ^ 64 - 1 → signature_of a < 2 ^ 64 → (bit_and outside (signature_of a) ≡ 0 → ⊥) → false ≡ subset a b
+outside-subset a b outside o l n = subset-signature a b (λ h. n (outside-none (signature_of a) (signature_of b) outside o l h))

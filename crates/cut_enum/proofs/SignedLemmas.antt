@@ -1,8 +1,8 @@
 -- Signatures one after another: of the leaves of a cut, and of the cuts of a list.
-use Rattle.std.proofs.Common.{◌≡◌, ℕ, zero, suc, ◌+◌, ◌<◌, ◌≤◌, max, List, [], ◌∷◌, length, get_or, map, take, drop, sym, ap, ◌∙◌, arith, bit_or}
+use Rattle.std.proofs.Common.{◌≡◌, ℕ, zero, suc, ◌+◌, ◌-◌, ◌<◌, ◌≤◌, max, List, [], ◌∷◌, length, get_or, map, take, drop, slice_range, sym, ap, ◌∙◌, arith, bit_or}
 use Rattle.std.specs.Int.{bit_at}
 use Rattle.std.specs.Int.Bits.{or_zero_r}
-use Rattle.std.proofs.lemmas.List.{take-map, length-map, drop_all, drop_more}
+use Rattle.std.proofs.lemmas.List.{take-map, drop-map, length-map, drop_all, drop_more}
 use Rattle.std.proofs.lemmas.Nat.Bits.{bit_at_or, same_from_bits}
 use Rattle.cut_enum.specs.Signature.{leaf_bit, signature_of}
 
@@ -40,3 +40,11 @@ signed_length words cs w = ap length w ∙ length-map cs signature_of
 -- those at the head
 pub signed_head : (words : List ℕ) (cs : List (List ℕ)) (n : ℕ) → words ≡ map signature_of cs → take n words ≡ map signature_of (take n cs)
 signed_head words cs n w = ap (λ s. take n s) w ∙ take-map signature_of n cs
+
+-- those of a range
+pub signed_range : (words : List ℕ) (cs : List (List ℕ)) (a b : ℕ) → words ≡ map signature_of cs → slice_range words a b ≡ map signature_of (slice_range cs a b)
+signed_range words cs a b w = ap (λ s. slice_range s a b) w ∙ ap (λ s. take (b - a) s) (drop-map signature_of a cs) ∙ take-map signature_of (b - a) (drop a cs)
+
+-- those from a place on
+pub signed_rest : (words : List ℕ) (cs : List (List ℕ)) (a : ℕ) → words ≡ map signature_of cs → slice_range words a (length words) ≡ map signature_of (slice_range cs a (length cs))
+signed_rest words cs a w = signed_range words cs a (length words) w ∙ ap (λ b. map signature_of (slice_range cs a b)) (signed_length words cs w)

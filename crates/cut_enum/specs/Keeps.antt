@@ -1,7 +1,9 @@
 -- What the fields of a cut keep.
-use Rattle.std.specs.Prelude.{◌≡◌, ℕ, ◌≤◌, List, length, take}
+use Rattle.std.specs.Prelude.{◌≡◌, ℕ, ◌+◌, ◌*◌, ◌<◌, ◌≤◌, List, [], length, map, take, bit_or, slice_index_or}
+use Rattle.list_laws.specs.Members.{In}
 use Rattle.list_laws.specs.Order.{IsAscending}
-use Rattle.cut_enum.specs.declared.limits.TheConstants.{MOST_LEAVES}
+use Rattle.cut_enum.specs.Sets.{IsOrdered}
+use Rattle.cut_enum.specs.declared.limits.TheConstants.{MOST_LEAVES, GROUP}
 use Rattle.cut_enum.specs.Signature.{signature_of}
 
 -- the leaves ascend and lie in the inline places, and the signature is theirs
@@ -15,3 +17,27 @@ pub record IsCutLeaves (leaves : List ℕ) (capacity signature : ℕ) : Type 0 w
 pub record IsFlatCut (leaves : List ℕ) (len : ℕ) : Type 0 where
   pub few : len ≤ MOST_LEAVES
   pub ascending : IsAscending (take len leaves)
+
+-- each of some words has all bits of another one
+abbrev pub AllHave : ℕ → List ℕ → Type 0
+AllHave bits words = (i : ℕ) → i < length words → bit_or bits (slice_index_or words i 0) ≡ slice_index_or words i 0
+
+-- a number for each of the first groups of some words: each word of the group has all bits of it
+pub record AreShared (words shared : List ℕ) : Type 0 where
+  pub within : length shared * GROUP ≤ length words
+  pub bits : (n i : ℕ) → n < length shared → i < GROUP → bit_or (slice_index_or shared n 0) (slice_index_or words (n * GROUP + i) 0) ≡ slice_index_or words (n * GROUP + i) 0
+
+-- the words are the signatures of some cuts, and the first groups of them have numbers
+pub record AreSigned (cuts : List (List ℕ)) (words shared : List ℕ) : Type 0 where
+  pub signed : words ≡ map signature_of cuts
+  pub grouped : AreShared words shared
+
+-- some cuts by their places
+abbrev pub listed : List (List ℕ) → List ℕ → List (List ℕ)
+listed cuts places = map (λ i. slice_index_or cuts i []) places
+
+-- the places of all cuts, in the order of the cuts
+pub record AreListed (cuts : List (List ℕ)) (places : List ℕ) : Type 0 where
+  pub ordered : IsOrdered (listed cuts places)
+  pub within : (n : ℕ) → In places n → n < length cuts
+  pub all : length cuts ≡ length places

@@ -9,6 +9,8 @@ use Rattle.cut_enum.specs.declared.limits.TheConstants.{MOST_OF_A_NODE}
 use Rattle.cut_enum.specs.declared.table.CutErr.{CutErr}
 use Rattle.cut_enum.specs.declared.table.CutErr.TheVariants.{NodeCuts}
 use Rattle.cut_enum.specs.Cuts.{AreMinimal}
+use Rattle.list_laws.specs.Members.{In, Within}
+use Rattle.list_laws.specs.Order.{IsAscending}
 use Rattle.cut_enum.specs.Sets.{before}
 use Rattle.cut_enum.specs.Table.{row_at}
 
@@ -57,6 +59,15 @@ add_unions size base c (d ∷ ds) level = add_unions size base c ds (add_union s
 abbrev pub add_pairs : ℕ → List (List ℕ) → List (List ℕ) → List (List ℕ) → List (List ℕ) → List (List ℕ)
 add_pairs size base [] ds level = level
 add_pairs size base (c ∷ cs) ds level = add_pairs size base cs ds (add_unions size base c ds level)
+
+-- ascending sets of which none is within another
+pub record AreApart (cs : List (List ℕ)) : Type 0 where
+  pub ascending : (c : List ℕ) → In cs c → IsAscending c
+  pub apart : (c d : List ℕ) → In cs c → In cs d → Within c d → c ≡ d
+
+-- none of the smaller sets is within one of these that has size elements
+abbrev pub AreClear : ℕ → List (List ℕ) → List (List ℕ) → Type 0
+AreClear size base cs = (d : List ℕ) → In cs d → length d ≡ size → list_any (λ c. subset c d) base ≡ false
 
 -- the sets at the head of a list that have fewer than size elements
 abbrev pub leading : ℕ → List (List ℕ) → List (List ℕ)

@@ -6,12 +6,14 @@
 //! In the pass of one size all kept cuts of fewer leaves stand apart. Only one of these can be within a union of this
 //! size: two cuts of one size are equal, or neither is within the other. And where one of two cuts has all leaves of
 //! their union, the other is within it: so the cuts of this size that have one of the other list's within them are
-//! taken as they are, and only pairs of cuts that both have fewer are joined.
-ghost use Rattle.std.specs.Prelude.{◌≡◌, ℕ, ◌+◌, ◌<◌, ◌≤◌, [], ◌++◌, length, OnOk, IfOk, IfErr};
+//! taken as they are, and only pairs of cuts that both have fewer are joined. Such a cut that is taken has no smaller union
+//! within it: this would have a smaller cut of the same list within it, and no cut of a list is within another one.
+ghost use Rattle.std.specs.Prelude.{◌≡◌, ℕ, ◌+◌, ◌<◌, ◌≤◌, [], ◌++◌, false, length, OnOk, IfOk, IfErr};
+ghost use Rattle.std.specs.List.{list_any};
 ghost use Rattle.tl_fault.specs.OrMemory.{OrMemory};
 ghost use Rattle.cut_enum.specs.Refusals.{refusal_of};
 ghost use Rattle.cut_enum.specs.Signature.{signature_of};
-ghost use Rattle.cut_enum.specs.Merging.{IsTooMany, union, add as with_cut, add_holder as with_holder, add_holders as with_holders, add_union as with_union, add_unions as with_unions, add_pairs as with_pairs, unions_at, merged as all_merged};
+ghost use Rattle.cut_enum.specs.Merging.{AreApart, AreClear, IsTooMany, subset, union, add as with_cut, add_holder as with_holder, add_holders as with_holders, add_union as with_union, add_unions as with_unions, add_pairs as with_pairs, unions_at, unions_below, merged as all_merged};
 
 use crate::flat::{FlatCut, joined};
 use crate::level::Level;
@@ -19,6 +21,18 @@ use crate::limits::{MOST_LEAVES, MOST_OF_A_NODE};
 use crate::signed::{Signed, SignedPart, has_part};
 use crate::table::CutErr;
 use std::alloc::Global;
+
+// Refuses a node that has too many cuts.
+fn refuse_more(node: u32, smaller: &SignedPart<'_>, level: &Level) -> Result<(), CutErr>
+    requires { length smaller.now ≤ MOST_OF_A_NODE }
+    ensures few { OnOk result (length smaller.now + length level.now ≤ MOST_OF_A_NODE) }
+    ensures too_many { IfErr result (OrMemory refusal_of (λ e. IsTooMany node (smaller.now ++ level.now) e)) }
+{
+    if level.len() > MOST_OF_A_NODE - smaller.cuts.len() {
+        return Err(CutErr::NodeCuts(node));
+    }
+    Ok(())
+}
 
 // Adds a cut with this signature to those of its size, until the node has too many.
 fn add_cut(
@@ -35,13 +49,10 @@ fn add_cut(
     ensures too_many { IfErr result (OrMemory refusal_of (λ e. IsTooMany node (smaller.now ++ with_cut smaller.now cut level.old) e)) }
 {
     level.add(smaller, signature, cut)?;
-    if level.len() > MOST_OF_A_NODE - smaller.cuts.len() {
-        return Err(CutErr::NodeCuts(node));
-    }
-    Ok(())
+    refuse_more(node, smaller, level)
 }
 
-// Adds a cut, if it has size leaves and one of some others is within it.
+// Adds a cut, if it has size leaves and one of some others is within it. None of the smaller ones is.
 fn add_holder(
     node: u32,
     size: usize,
@@ -50,7 +61,8 @@ fn add_holder(
     cut: &FlatCut,
     level: &mut Level,
 ) -> Result<(), CutErr>
-    requires { length smaller.now + length level.old ≤ MOST_OF_A_NODE }
+    requires few { length smaller.now + length level.old ≤ MOST_OF_A_NODE }
+    requires clear { length cut.now ≡ size → list_any (λ c. subset c cut.now) smaller.now ≡ false }
     ensures ok { OnOk result (level.new ≡ with_holder size smaller.now parts.now cut.now level.old) }
     ensures few { OnOk result (length smaller.now + length level.new ≤ MOST_OF_A_NODE) }
     ensures too_many { IfErr result (OrMemory refusal_of (λ e. IsTooMany node (smaller.now ++ with_holder size smaller.now parts.now cut.now level.old) e)) }
@@ -62,8 +74,8 @@ fn add_holder(
     if !has_part(parts, signature, cut) {
         return Ok(());
     }
-    add_cut(node, smaller, signature, cut.copy(), level)?;
-    Ok(())
+    level.put(cut.copy())?;
+    refuse_more(node, smaller, level)
 }
 
 // Adds the cuts of size leaves of a list that have one of some others within them.
@@ -75,7 +87,8 @@ fn add_holders(
     cuts: &[FlatCut],
     level: &mut Level,
 ) -> Result<(), CutErr>
-    requires { length smaller.now + length level.old ≤ MOST_OF_A_NODE }
+    requires few { length smaller.now + length level.old ≤ MOST_OF_A_NODE }
+    requires clear { AreClear size smaller.now cuts.now }
     ensures ok { OnOk result (level.new ≡ with_holders size smaller.now parts.now cuts.now level.old) }
     ensures few { OnOk result (length smaller.now + length level.new ≤ MOST_OF_A_NODE) }
     ensures too_many { IfErr result (OrMemory refusal_of (λ e. IsTooMany node (smaller.now ++ with_holders size smaller.now parts.now cuts.now level.old) e)) }
@@ -160,7 +173,7 @@ fn add_pairs(
     Ok(())
 }
 
-// The least unions of size leaves of a cut of each list, beside those that have fewer.
+// The least unions of size leaves of a cut of each list, beside those that have fewer. The level is emptied first.
 fn unions_of_size(
     alloc: Global,
     node: u32,
@@ -168,39 +181,47 @@ fn unions_of_size(
     xs: &Signed,
     ys: &Signed,
     smaller: &SignedPart<'_>,
+    level: &mut Level,
 ) -> Result<Vec<FlatCut>, CutErr>
     requires size { size ≤ MOST_LEAVES }
     requires few { length smaller.now ≤ MOST_OF_A_NODE }
+    requires x_apart { AreApart xs.now }
+    requires y_apart { AreApart ys.now }
+    requires smaller { smaller.now ≡ unions_below size xs.now ys.now }
     ensures ok { IfOk result (λ cuts. cuts.items ≡ unions_at size smaller.now xs.now ys.now) }
     ensures few { IfOk result (λ cuts. length smaller.now + length cuts.items ≤ MOST_OF_A_NODE) }
     ensures too_many { IfErr result (OrMemory refusal_of (λ e. IsTooMany node (smaller.now ++ unions_at size smaller.now xs.now ys.now) e)) }
 {
-    let mut level = Level::new(alloc);
+    level.clear();
     let xs_below = xs.leading(size);
     let ys_below = ys.leading(size);
     let ys_parts = ys.leading(size + 1);
-    add_holders(node, size, smaller, &ys_parts, xs.cuts(), &mut level)?;
-    add_holders(node, size, smaller, &xs_below, ys.cuts(), &mut level)?;
-    add_pairs(node, size, smaller, xs_below.cuts, &ys_below, &mut level)?;
-    Ok(level.into_cuts())
+    add_holders(node, size, smaller, &ys_parts, xs.cuts(), level)?;
+    add_holders(node, size, smaller, &xs_below, ys.cuts(), level)?;
+    add_pairs(node, size, smaller, xs_below.cuts, &ys_below, level)?;
+    let cuts = level.in_order(alloc)?;
+    Ok(cuts)
 }
 
-// The least unions of a cut of each list, of at most k leaves: the cuts of a node.
+// The least unions of a cut of each list, of at most k leaves: the cuts of a node. What the level has is of no account.
 pub fn merged(
     alloc: Global,
     node: u32,
     k: u8,
     xs: &Signed,
     ys: &Signed,
+    level: &mut Level,
 ) -> Result<Vec<FlatCut>, CutErr>
-    requires { k ≤ MOST_LEAVES }
+    requires few { k ≤ MOST_LEAVES }
+    requires x_apart { AreApart xs.now }
+    requires y_apart { AreApart ys.now }
     ensures ok { IfOk result (λ cuts. cuts.items ≡ all_merged k xs.now ys.now) }
     ensures few { IfOk result (λ cuts. length cuts.items ≤ MOST_OF_A_NODE) }
     ensures too_many { IfErr result (OrMemory refusal_of (λ e. IsTooMany node (all_merged k xs.now ys.now) e)) }
 {
     let mut cuts = Signed::new(alloc);
     for size in 0..k + 1 {
-        let more = unions_of_size(alloc, node, size as usize, xs, ys, &cuts.all())?;
+        let more = unions_of_size(alloc, node, size as usize, xs, ys, &cuts.all(), level)?;
         cuts = cuts.extended(more)?;
     }
     Ok(cuts.into_cuts())

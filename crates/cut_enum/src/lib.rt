@@ -19,18 +19,20 @@
 //! itself, or has one of its cuts within it, since what blocks a node can be decided, and members can be left out of a
 //! cut until it is minimal (`proofs/BlockLemmas.antt`).
 //!
-//! Unions are taken by their size, the smallest first (`least.rt`). So what is kept is never dropped again, and a
-//! node is known to have too many cuts as soon as there is one more than the limit. In the pass of one size only the
-//! kept cuts of fewer leaves are looked at for one within a union; where there is none, the union's place among those
-//! of its own size is found by halves (`level.rt`). A cut that has all leaves of its union with another is taken as it
-//! is, once any cut of the other list is found within it; only cuts that both have fewer leaves are joined.
+//! Unions are taken by their size, the smallest first (`least.rt`). So what is kept is never dropped again, and a node
+//! is known to have too many cuts as soon as there is one more than the limit. In the pass of one size only the kept
+//! cuts of fewer leaves are looked at for one within a union; where there is none, the union's place among those of
+//! its own size is found by halves, in a list of their numbers (`level.rt`). A cut that has all leaves of its union
+//! with another is taken as it is, once any cut of the other list is found within it: no smaller union is within it,
+//! since none of a list's cuts is within another one. Only cuts that both have fewer leaves are joined.
 //!
 //! # Signatures
 //! The signature of a cut is a word with bit (leaf mod 64) of each leaf. A cut whose word has a bit that another's
 //! lacks is not within it, and two cuts whose words have more than k bits together have a union of more than k
 //! leaves. Both tests are proved to change no answer (`proofs/SignatureLemmas.antt`), and spare most comparisons.
 //! While the cuts of a node are made, the words stand in vectors of their own, one after another (`signed.rt`), and a
-//! union's word is that of both cuts together.
+//! union's word is that of both cuts together. Of 128 words and more each eight in a row are a group, and a group whose
+//! words share a bit that another word lacks is passed over at once.
 //!
 //! # What the table keeps
 //! All cuts lie in one vector, one node's after another's, those of a node with fewer leaves first and then

@@ -1,4 +1,4 @@
-//! How many leaves a cut may have, and how many cuts there may be.
+//! How many leaves a cut may have, how many cuts there may be, and how signatures are grouped.
 
 /// The most leaves of a cut.
 pub const MOST_LEAVES: usize = 6;
@@ -8,3 +8,9 @@ pub const MOST_OF_A_NODE: usize = 4_096;
 
 /// The most minimal cuts that a table may hold.
 pub const MOST_OF_A_TABLE: usize = 8_388_608;
+
+/// How many signatures a group has.
+pub const GROUP: usize = 8;
+
+/// Fewer signatures than these have no groups.
+pub const FEWEST_GROUPED: usize = 128;

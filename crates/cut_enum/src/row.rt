@@ -1,6 +1,6 @@
 //! The cuts of one node, from those of its two fan-ins.
 ghost use Rattle.std.specs.Prelude.{◌≡◌, ℕ, ◌-◌, ◌/◌, ◌<◌, ◌≤◌, [], ◌∷◌, ◌++◌, if◌then◌else◌, ◌==◌, length, slice_get, OnOk, IfOk, IfErr};
-ghost use Rattle.aig_core.specs.Aig.{first_and, node_count, AreNormal};
+ghost use Rattle.aig_core.specs.Aig.{first_and, node_count, IsNormal, AreNormal};
 ghost use Rattle.tl_fault.specs.OrMemory.{OrMemory};
 ghost use Rattle.cut_enum.specs.Refusals.{refusal_of};
 ghost use Rattle.cut_enum.specs.Limits.{IsLimit};
@@ -9,6 +9,7 @@ ghost use Rattle.cut_enum.specs.Table.{AreRows};
 
 use crate::flat::FlatCut;
 use crate::least::merged;
+use crate::level::Level;
 use crate::limits::{MOST_LEAVES, MOST_OF_A_NODE};
 use crate::signed::Signed;
 use crate::table::{CutErr, CutTable};
@@ -89,10 +90,15 @@ fn node_row(
     n: u32,
     pair: Pair,
     k: u8,
+    level: &mut Level,
 ) -> Result<Vec<FlatCut>, CutErr>
     requires few { k ≤ MOST_LEAVES }
     requires x { pair.x.0 / 2 < node_count graph.now }
     requires y { pair.y.0 / 2 < node_count graph.now }
+    requires node { n < node_count graph.now }
+    requires pair { IsNormal n pair }
+    requires normal { AreNormal (first_and graph.now) graph.now.pairs }
+    requires rows { AreRows graph.now k n table.now }
     ensures ok { IfOk result (λ v. v.items ≡ unions_of graph.now k table.now pair) }
     ensures few { IfOk result (λ v. length v.items ≤ MOST_OF_A_NODE) }
     ensures too_many { IfErr result (OrMemory refusal_of (λ e. IsTooMany n (unions_of graph.now k table.now pair) e)) }
@@ -101,16 +107,17 @@ fn node_row(
     let y = pair.y.0 / 2;
     let xs = front(alloc, graph, table.cuts_of(x), x)?;
     let ys = front(alloc, graph, table.cuts_of(y), y)?;
-    merged(alloc, n, k, &xs, &ys)
+    merged(alloc, n, k, &xs, &ys, level)
 }
 
-// The cuts of a node, from the table of the nodes below it.
+// The cuts of a node, from the table of the nodes below it. The level lends its memory.
 pub fn row_of<L: Ledger>(
     alloc: Global,
     graph: &Graph,
     table: &CutTable,
     n: u32,
     k: u8,
+    level: &mut Level,
     steps: &mut Steps<L>,
 ) -> Result<Vec<FlatCut>, CutErr>
     requires least { 2 ≤ k }
@@ -126,6 +133,6 @@ pub fn row_of<L: Ledger>(
         return Ok(Vec::new(alloc));
     }
     let pair = graph.node(n, steps);
-    let row = node_row(alloc, graph, table, n, pair, k)?;
+    let row = node_row(alloc, graph, table, n, pair, k, level)?;
     Ok(row)
 }

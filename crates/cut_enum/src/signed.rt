@@ -3,31 +3,39 @@
 //! A cut whose signature has a bit that another's lacks is not within it, and where two signatures together have more
 //! than k bits, the union of the cuts has more than k leaves. So a walk over many cuts reads their signatures, one
 //! after another, and looks at the leaves of few.
-ghost use Rattle.std.specs.Prelude.{◌≡◌, ◌+◌, ◌-◌, ◌^◌, ◌++◌, ◌≤◌, [], length, take, map, OnOk, IfOk};
+//!
+//! Of many signatures each eight in a row are a group, and beside them stand the bits that all of a group have. Where one
+//! of these is outside another cut's signature, no cut of the group is within that cut, and the group is passed over at
+//! once. Cuts in order have leaves in common with the next ones, so many groups are. The last signatures, and all where
+//! they are few, are in no group.
+ghost use Rattle.std.specs.Prelude.{◌≡◌, ◌+◌, ◌-◌, ◌*◌, ◌^◌, ◌++◌, ◌<◌, ◌≤◌, [], length, take, map, OnOk, IfOk};
 ghost use Rattle.std.specs.List.{list_any};
+ghost use Rattle.cut_enum.specs.Keeps.{AllHave, AreShared};
 ghost use Rattle.cut_enum.specs.Merging.{leading, subset};
 ghost use Rattle.cut_enum.specs.Signature.{signature_of};
 
 use crate::flat::{FlatCut, is_part};
+use crate::limits::{FEWEST_GROUPED, GROUP};
 use std::alloc::{AllocError, Global};
 use std::marker::Model;
 
-// Cuts and their signatures.
+// Cuts, their signatures, and the bits that all signatures of a group have.
 #[derive(Drop)]
 pub struct Signed {
     cuts: Vec<FlatCut>,
     signatures: Vec<u64>,
+    shared: Vec<u64>,
 }
 
 impl Model for Signed {
-    ghost use Rattle.std.specs.Prelude.{◌≡◌, ℕ, List, map};
-    ghost use Rattle.cut_enum.specs.Signature.{signature_of};
+    ghost use Rattle.std.specs.Prelude.{ℕ, List};
+    ghost use Rattle.cut_enum.specs.Keeps.{AreSigned};
 
     ghost Value = { List (List ℕ) };
 
     ghost view = { λ s. s.cuts.items };
 
-    ghost invariant = { λ s. s.signatures.items ≡ map signature_of s.cuts.items };
+    ghost invariant = { λ s. AreSigned s.cuts.items s.signatures.items s.shared.items };
 }
 
 // Some of them, one after another.
@@ -35,17 +43,18 @@ impl Model for Signed {
 pub struct SignedPart<'a> {
     pub cuts: &'a [FlatCut],
     pub signatures: &'a [u64],
+    shared: &'a [u64],
 }
 
 impl<'a> Model for SignedPart<'a> {
-    ghost use Rattle.std.specs.Prelude.{◌≡◌, ℕ, List, map};
-    ghost use Rattle.cut_enum.specs.Signature.{signature_of};
+    ghost use Rattle.std.specs.Prelude.{ℕ, List};
+    ghost use Rattle.cut_enum.specs.Keeps.{AreSigned};
 
     ghost Value = { List (List ℕ) };
 
     ghost view = { λ p. p.cuts.now };
 
-    ghost invariant = { λ p. p.signatures.now ≡ map signature_of p.cuts.now };
+    ghost invariant = { λ p. AreSigned p.cuts.now p.signatures.now p.shared.now };
 }
 
 // Adds the signatures of some cuts.
@@ -55,6 +64,32 @@ fn sign(signatures: &mut Vec<u64>, cuts: &[FlatCut]) -> Result<(), AllocError>
     signatures.reserve(cuts.len())?;
     for cut in cuts {
         signatures.push(cut.signature())?;
+    }
+    Ok(())
+}
+
+// The bits that all of some words have.
+fn shared_bits(words: &[u64]) -> u64
+    ensures { AllHave result words.now }
+{
+    let mut bits = u64::MAX;
+    for word in words {
+        bits &= *word;
+    }
+    bits
+}
+
+// Adds the shared bits of the groups that have none yet, where the signatures are many.
+fn share(shared: &mut Vec<u64>, signatures: &[u64]) -> Result<(), AllocError>
+    requires { AreShared signatures.now shared.old.items }
+    ensures { OnOk result (AreShared signatures.now shared.new.items) }
+{
+    if signatures.len() < FEWEST_GROUPED {
+        return Ok(());
+    }
+    for n in shared.len()..signatures.len() / GROUP {
+        let start = n * GROUP;
+        shared.push(shared_bits(&signatures[start..start + GROUP]))?;
     }
     Ok(())
 }
@@ -80,6 +115,7 @@ impl Signed {
         Signed {
             cuts: Vec::new(alloc),
             signatures: Vec::new(alloc),
+            shared: Vec::new(alloc),
         }
     }
 
@@ -89,7 +125,13 @@ impl Signed {
     {
         let mut signatures = Vec::new(alloc);
         sign(&mut signatures, &cuts)?;
-        Ok(Signed { cuts, signatures })
+        let mut shared = Vec::new(alloc);
+        share(&mut shared, &signatures)?;
+        Ok(Signed {
+            cuts,
+            signatures,
+            shared,
+        })
     }
 
     // With more cuts, which are moved from their vector.
@@ -99,11 +141,17 @@ impl Signed {
         let Signed {
             mut cuts,
             mut signatures,
+            mut shared,
         } = self;
         let mut more = more;
         sign(&mut signatures, &more)?;
+        share(&mut shared, &signatures)?;
         cuts.append(&mut more)?;
-        Ok(Signed { cuts, signatures })
+        Ok(Signed {
+            cuts,
+            signatures,
+            shared,
+        })
     }
 
     // The cuts alone.
@@ -127,6 +175,7 @@ impl Signed {
         SignedPart {
             cuts: &self.cuts,
             signatures: &self.signatures,
+            shared: &self.shared,
         }
     }
 
@@ -138,6 +187,7 @@ impl Signed {
         SignedPart {
             cuts: &self.cuts[..count],
             signatures: &self.signatures[..count],
+            shared: &self.shared[..self.shared.len().min(count / GROUP)],
         }
     }
 }
@@ -154,17 +204,71 @@ fn is_signed_part(signature: u64, cut: &FlatCut, outside: u64, whole: &FlatCut) 
     is_part(cut, whole)
 }
 
+// Is one of these, which have these signatures, within the cut?
+fn has_listed_part(cuts: &[FlatCut], signatures: &[u64], outside: u64, cut: &FlatCut) -> bool
+    requires signed { signatures.now ≡ map signature_of cuts.now }
+    requires outside { outside + signature_of cut.now ≡ 2 ^ 64 - 1 }
+    ensures { result ≡ list_any (λ d. subset d cut.now) cuts.now }
+{
+    for (i, signature) in signatures.iter().enumerate() {
+        if is_signed_part(*signature, &cuts[i], outside, cut) {
+            return true;
+        }
+    }
+    false
+}
+
+// Is one of a group within the cut? All of them have the shared bits.
+fn has_grouped_part(
+    cuts: &[FlatCut],
+    signatures: &[u64],
+    shared: u64,
+    outside: u64,
+    cut: &FlatCut,
+) -> bool
+    requires signed { signatures.now ≡ map signature_of cuts.now }
+    requires shared { AllHave shared signatures.now }
+    requires outside { outside + signature_of cut.now ≡ 2 ^ 64 - 1 }
+    ensures { result ≡ list_any (λ d. subset d cut.now) cuts.now }
+{
+    if outside & shared != 0 {
+        return false;
+    }
+    has_listed_part(cuts, signatures, outside, cut)
+}
+
+// Is one of these within the cut? A group is passed over at once where it can be.
+fn has_part_in_groups(parts: &SignedPart<'_>, outside: u64, cut: &FlatCut) -> bool
+    requires { outside + signature_of cut.now ≡ 2 ^ 64 - 1 }
+    ensures { result ≡ list_any (λ d. subset d cut.now) parts.now }
+{
+    let cuts = parts.cuts;
+    let signatures = parts.signatures;
+    for (n, shared) in parts.shared.iter().enumerate() {
+        let start = n * GROUP;
+        let end = start + GROUP;
+        if has_grouped_part(
+            &cuts[start..end],
+            &signatures[start..end],
+            *shared,
+            outside,
+            cut,
+        ) {
+            return true;
+        }
+    }
+    let rest = parts.shared.len() * GROUP;
+    has_listed_part(&cuts[rest..], &signatures[rest..], outside, cut)
+}
+
 // Is one of these within the cut, which has this signature?
 pub fn has_part(parts: &SignedPart<'_>, signature: u64, cut: &FlatCut) -> bool
     requires { signature ≡ signature_of cut.now }
     ensures { result ≡ list_any (λ d. subset d cut.now) parts.now }
 {
     let outside = !signature;
-    let cuts = parts.cuts;
-    for (i, part) in parts.signatures.iter().enumerate() {
-        if is_signed_part(*part, &cuts[i], outside, cut) {
-            return true;
-        }
+    if parts.shared.is_empty() {
+        return has_listed_part(parts.cuts, parts.signatures, outside, cut);
     }
-    false
+    has_part_in_groups(parts, outside, cut)
 }

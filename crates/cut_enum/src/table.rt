@@ -10,6 +10,7 @@ ghost use Rattle.cut_enum.specs.declared.table.CutErr.{CutErr};
 
 use crate::cut::Cut;
 use crate::flat::FlatCut;
+use crate::level::Level;
 use crate::limits::{MOST_LEAVES, MOST_OF_A_TABLE};
 use crate::row::row_of;
 use aig_core::{Graph, Steps};
@@ -123,8 +124,9 @@ fn enumerate_with<L: Ledger>(
 {
     let mut steps = Steps::<L>::start(blank);
     let mut table = CutTable::new(alloc)?;
+    let mut level = Level::new(alloc);
     for n in 0..graph.len() {
-        let row = row_of(alloc, graph, &table, n, k, &mut steps)?;
+        let row = row_of(alloc, graph, &table, n, k, &mut level, &mut steps)?;
         if row.len() > MOST_OF_A_TABLE - table.total() {
             return Err(CutErr::TotalCuts(n));
         }
@@ -142,7 +144,8 @@ fn enumerate_with<L: Ledger>(
 ///
 /// # Complexity
 /// For a node whose fan-ins hand on p and q cuts, and which has r: at most (k + 2) p q tests of two signatures, and for
-/// each union of few enough leaves at most r tests of two signatures, and then a search by halves.
+/// each union of few enough leaves at most r tests of two signatures, and then a search by halves. Where a signature is
+/// tested against many, one more test for each eight of them may spare all eight.
 ///
 /// # Source
 /// Cong, Wu and Ding, "Cut ranking and pruning", 1999, for the merging of the fan-ins' lists; the signatures are

@@ -1,5 +1,7 @@
-use Rattle.std.proofs.Common.{◌++◌}
+use Rattle.std.proofs.Common.{◌++◌, ℕ, List, sym, subst}
 use Rattle.std.proofs.lemmas.Result.{err_from_is_err_and}
+use Rattle.list_laws.specs.Members.{In}
+use Rattle.list_laws.proofs.Members.{In-get_or}
 use Rattle.cut_enum.specs.Merging.{add_holder, add_holders}
 use Rattle.cut_enum.proofs.RowLemmas.{too_many_more}
 use Rattle.cut_enum.proofs.StepLemmas.{holders_step}
@@ -14,3 +16,7 @@ returns-in_err-add_holder-clause-too_many c =
     (holders_step c.args.size c.args.smaller.now c.args.parts.now c.cut-item.result c.args.cuts.now c.loop-cut.level (add_holders c.args.size c.args.smaller.now c.args.parts.now c.args.cuts.now c.args.level.now) c.loop-cut.cut-index
     c.loop-cut-test.true c.cut-item.is c.loop-cut.invariant.rest)
     c.in_err-add_holder.ensures.too_many)
+
+pub add_holder-requires-clause-clear : goal.add_holder-requires-clause-clear
+add_holder-requires-clause-clear c =
+    c.requires.clear c.cut-item.result (subst (λ (s : List ℕ). In c.args.cuts.now s) (sym c.cut-item.is) (In-get_or c.args.cuts.now c.loop-cut.cut-index c.cut-item.result c.loop-cut-test.true))

@@ -9,7 +9,7 @@ use Rattle.cut_enum.proofs.least.add_unions.Goals as goal
 
 pub loop-i-preserved-then-both-size : goal.loop-i-preserved-then-both-size
 loop-i-preserved-then-both-size c =
-    let signed : c.ds.inside.signatures.now ≡ map signature_of c.args.ds.now = c.ds.invariant ∙ ap (λ (s : List (List ℕ)). map signature_of s) c.ds.view_is in
+    let signed : c.ds.inside.signatures.now ≡ map signature_of c.args.ds.now = c.ds.invariant.signed ∙ ap (λ (s : List (List ℕ)). map signature_of s) c.ds.view_is in
     record {
       rest =
           unions_pass c.args.size c.args.smaller.now c.args.c.now c.args.ds.now c.loop-i.level (add_unions c.args.size c.args.smaller.now c.args.c.now c.args.ds.now c.args.level.now) c.ds.inside.signatures.now c.loop-i.i signed
@@ -21,7 +21,7 @@ pub returns-in_err-add_union-clause-too_many : goal.returns-in_err-add_union-cla
 returns-in_err-add_union-clause-too_many c =
     let p = err_from_is_err_and c.from_residual.result c.from_residual.ensures.1 in
     let d : List ℕ = c.index-cuts-i.result in
-    let signed : c.ds.inside.signatures.now ≡ map signature_of c.args.ds.now = c.ds.invariant ∙ ap (λ (s : List (List ℕ)). map signature_of s) c.ds.view_is in
+    let signed : c.ds.inside.signatures.now ≡ map signature_of c.args.ds.now = c.ds.invariant.signed ∙ ap (λ (s : List (List ℕ)). map signature_of s) c.ds.view_is in
     let n : length c.ds.inside.signatures.now ≡ length c.args.ds.now = signed_length c.ds.inside.signatures.now c.args.ds.now signed in
     let at : d ≡ get_or c.args.ds.now c.loop-i.i d = c.index-cuts-i.is ∙ ap (λ (s : List (List ℕ)). get_or s c.loop-i.i d) c.ds.view_is in
     let l : c.loop-i.i < length c.ds.inside.signatures.now = c.loop-i-test.true in
@@ -34,6 +34,6 @@ returns-in_err-add_union-clause-too_many c =
 pub add_union-requires-clause-signature : goal.add_union-requires-clause-signature
 add_union-requires-clause-signature c =
     let d : List ℕ = c.index-cuts-i.result in
-    let signed : c.ds.inside.signatures.now ≡ map signature_of c.args.ds.now = c.ds.invariant ∙ ap (λ (s : List (List ℕ)). map signature_of s) c.ds.view_is in
+    let signed : c.ds.inside.signatures.now ≡ map signature_of c.args.ds.now = c.ds.invariant.signed ∙ ap (λ (s : List (List ℕ)). map signature_of s) c.ds.view_is in
     let at : d ≡ get_or c.args.ds.now c.loop-i.i d = c.index-cuts-i.is ∙ ap (λ (s : List (List ℕ)). get_or s c.loop-i.i d) c.ds.view_is in
     union_signed c.args.c.now d c.args.ds.now c.ds.inside.signatures.now c.loop-i.i c.signature-signature.result signed c.loop-i-test.true at c.signature-signature.ensures

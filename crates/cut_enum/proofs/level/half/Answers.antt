@@ -1,27 +1,22 @@
-use Rattle.std.proofs.Common.{◌≡◌, ◌+◌, ◌-◌, ◌/◌, ◌<◌, ◌≤◌, ℕ, List, [], length, get_or, refl, sym, ap, ◌∙◌, arith}
-use Rattle.std.proofs.lemmas.Option.{slice_get_read, get_or_from_slice_get}
+use Rattle.std.proofs.Common.{◌+◌, ◌-◌, ◌/◌, ◌<◌, ◌≤◌, ℕ, List, length, sym, ap, ◌∙◌, arith}
 use Rattle.cut_enum.specs.Sets.{before}
 use Rattle.cut_enum.proofs.PlaceLemmas.{upper_half, lower_half}
 use Rattle.cut_enum.proofs.level.half.Goals as goal
 
 pub returns-then-before-clause-around : goal.returns-then-before-clause-around
 returns-then-before-clause-around c =
-    let cuts : List (List ℕ) = c.args.cuts.now in
+    let cuts : List (List ℕ) = c.args.level.now in
     let middle : ℕ = c.args.low + (c.args.high - c.args.low) / 2 in
-    let d : List ℕ = c.index-cuts-middle.result in
-    let w : c.args.high ≤ length c.args.cuts.now = c.requires.around.within in
+    let w : c.args.high ≤ length c.args.level.now = c.requires.around.within in
     let s : c.args.low < c.args.high = c.requires.some in
-    let at : get_or cuts middle [] ≡ d = get_or_from_slice_get cuts middle d [] (slice_get_read cuts (length cuts) middle d refl (omega arith) c.index-cuts-middle.is) in
     upper_half c.args.cut.now cuts c.args.low c.args.high middle c.requires.ordered c.requires.around (omega arith)
-    (ap (λ (e : List ℕ). before e c.args.cut.now) at ∙ sym c.before-2.ensures ∙ c.if-before.true)
+    (ap (λ (e : List ℕ). before e c.args.cut.now) (sym c.at.ensures) ∙ sym c.before-2.ensures ∙ c.if-before.true)
 
 pub returns-clause-around : goal.returns-clause-around
 returns-clause-around c =
-    let cuts : List (List ℕ) = c.args.cuts.now in
+    let cuts : List (List ℕ) = c.args.level.now in
     let middle : ℕ = c.args.low + (c.args.high - c.args.low) / 2 in
-    let d : List ℕ = c.index-cuts-middle.result in
-    let w : c.args.high ≤ length c.args.cuts.now = c.requires.around.within in
+    let w : c.args.high ≤ length c.args.level.now = c.requires.around.within in
     let s : c.args.low < c.args.high = c.requires.some in
-    let at : get_or cuts middle [] ≡ d = get_or_from_slice_get cuts middle d [] (slice_get_read cuts (length cuts) middle d refl (omega arith) c.index-cuts-middle.is) in
     lower_half c.args.cut.now cuts c.args.low c.args.high middle c.requires.ordered c.requires.around (omega arith) (omega arith)
-    (ap (λ (e : List ℕ). before e c.args.cut.now) at ∙ sym c.before-2.ensures ∙ c.if-before.false)
+    (ap (λ (e : List ℕ). before e c.args.cut.now) (sym c.at.ensures) ∙ sym c.before-2.ensures ∙ c.if-before.false)

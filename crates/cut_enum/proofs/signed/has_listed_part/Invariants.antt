@@ -1,7 +1,7 @@
 use Rattle.std.proofs.Common.{◌≡◌, drop}
 use Rattle.std.specs.List.{list_any}
 use Rattle.cut_enum.specs.Merging.{subset}
-use Rattle.cut_enum.proofs.signed.has_part.Given as goal
+use Rattle.cut_enum.proofs.signed.has_listed_part.Given as goal
 
 abbrev pub invariant-loop-i : goal.invariant-loop-i
-invariant-loop-i l = list_any (λ d. subset d l.cut) (drop l.i l.parts) ≡ list_any (λ d. subset d l.cut) l.parts
+invariant-loop-i l = list_any (λ d. subset d l.cut) (drop l.i l.cuts) ≡ list_any (λ d. subset d l.cut) l.cuts
