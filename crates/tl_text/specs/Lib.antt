@@ -11,5 +11,6 @@ pub mod Refusals
 pub mod Tokens
 pub mod WrittenText
 -- What only bodies are compared with.
+pub mod NameHash
 pub mod Reading
 pub mod Spans

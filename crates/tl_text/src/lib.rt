@@ -30,6 +30,7 @@ mod decimals;
 mod limits;
 mod line;
 mod logical_lines;
+mod name_hasher;
 mod name_index;
 mod physical_line;
 mod reader;

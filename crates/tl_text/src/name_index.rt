@@ -4,8 +4,10 @@ ghost use Rattle.tl_text.specs.NameIndex.{place_of, names_of};
 ghost use Rattle.tl_text.specs.NameSets.{has_name, with_name, with_names as with_all_names};
 ghost use Rattle.tl_text.specs.Once.{AreOnce};
 
+use crate::name_hasher::NameHasher;
 use indexmap::IndexSet;
 use std::alloc::{AllocError, Global};
+use std::hash::BuildHasherDefault;
 use std::marker::Model;
 use tl_fault::Name;
 
@@ -13,7 +15,7 @@ use tl_fault::Name;
 /// twice, which is a law of the type.
 #[derive(Drop)]
 pub struct NameIndex {
-    names: IndexSet<Vec<u8>>,
+    names: IndexSet<Vec<u8>, BuildHasherDefault<NameHasher>>,
 }
 
 impl Model for NameIndex {
@@ -35,7 +37,7 @@ impl NameIndex {
         ensures { result ≡ [] }
     {
         NameIndex {
-            names: IndexSet::new(alloc),
+            names: IndexSet::with_hasher(alloc, BuildHasherDefault::new()),
         }
     }
 
