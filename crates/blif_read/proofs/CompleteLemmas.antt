@@ -1,5 +1,5 @@
 -- What a text denotes, the reader reads.
-use Rattle.std.proofs.Common.{◌≡◌, ℕ, ◌<◌, Bool, true, List, [], ◌∷◌, ◌++◌, length, map, Option, Some, None, Result, Ok, refl, sym, ap, ◌∙◌, subst, arith, append_assoc}
+use Rattle.std.proofs.Common.{◌≡◌, ℕ, ◌<◌, Bool, true, List, [], ◌∷◌, ◌++◌, length, map, Some, None, Result, Ok, refl, sym, ap, ◌∙◌, subst, arith, append_assoc}
 use Rattle.std.proofs.lemmas.List.{append-nil}
 use Rattle.std.proofs.lemmas.Bool.{cond-false}
 use Rattle.blif_read.specs.declared.blif_err.BlifErr.{BlifErr}
@@ -16,7 +16,7 @@ use Rattle.blif_read.specs.Rows.{AreRows}
 use Rattle.blif_read.specs.Denotes.{port_names, names_in, IsCoverLine, AreCommands, IsModel, AreModels, Denotes}
 use Rattle.blif_read.specs.Denotes as denotes
 use Rattle.blif_read.specs.LineFault.{has, model_fault, ports_fault, fault_by}
-use Rattle.blif_read.specs.Reading.{State, ModelRead, CoverRead, with_command, with_cover, flushed, ended, context, with_ports, ports_read, body_read, next_by, or_fault, steps, library_at_end, finished, lines_read, text_read, fresh}
+use Rattle.blif_read.specs.Reading.{State, ModelRead, with_command, flushed, ended, context, with_ports, ports_read, body_read, next_by, or_fault, steps, library_at_end, finished, lines_read, text_read, fresh}
 use Rattle.blif_read.proofs.FitsLemmas.{once_has, ports_fit, latch_fits, subckt_fits, cover_fits, names_fit}
 use Rattle.blif_read.proofs.StepLemmas.{step_over, within, between, value_after, with_last, cover_with, rows_steps}
 use Rattle.blif_read.proofs.PortLemmas.{ports_grown, ports_keep, ports_commanded, ports_flushed}

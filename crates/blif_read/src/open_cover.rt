@@ -36,6 +36,7 @@ pub(crate) fn open_cover(alloc: Global, line: u32, mut names: Vec<Name>) -> Opti
         (λ c. (names_fault line names.items ≡ None) × (c ≡ record { line = line; cover = cover_of names.items })) }
 {
     let output = names.pop()?;
+    names.shrink_to_fit();
     let cover = Cover {
         inputs: names,
         output,

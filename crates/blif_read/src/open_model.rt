@@ -49,7 +49,8 @@ fn with_cover(
 {
     match cover {
         None => Ok(commands),
-        Some(OpenCover { line, cover }) => {
+        Some(OpenCover { line, mut cover }) => {
+            cover.rows.shrink_to_fit();
             commands.push(Command {
                 line,
                 body: Body::Cover(cover),

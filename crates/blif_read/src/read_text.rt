@@ -36,7 +36,7 @@ fn read_once(alloc: Global, text: &[u8]) -> Result<Library, BlifErr>
     ensures { MatchResult result (λ library. text_read text.now ≡ Ok library) (OrMemory refusal_of (λ e. fault_of (text_read text.now) ≡ Some e)) }
 {
     match lines(alloc, text) {
-        Ok(lines) => read_lines(alloc, text, &lines),
+        Ok(lines) => read_lines(alloc, text, lines),
         Err(error) => Err(lines_err(error)),
     }
 }

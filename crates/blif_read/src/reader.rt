@@ -147,15 +147,20 @@ fn step(alloc: Global, reader: &mut Reader, line: Statement) -> Result<(), BlifE
     }
 }
 
-// Reads lines.
-fn read_each(alloc: Global, reader: &mut Reader, text: &[u8], lines: &[Line]) -> Result<(), BlifErr>
-    requires { AreLinesIn text.now lines.now }
+// Reads lines, and lets go of each once it is read.
+fn read_each(
+    alloc: Global,
+    reader: &mut Reader,
+    text: &[u8],
+    lines: Vec<Line>,
+) -> Result<(), BlifErr>
+    requires { AreLinesIn text.now lines.items }
     ensures { MatchResult result
-        (λ _. steps reader.old (statements text.now lines.now) ≡ Ok reader.new)
-        (OrMemory refusal_of (λ e. fault_of (steps reader.old (statements text.now lines.now)) ≡ Some e)) }
+        (λ _. steps reader.old (statements text.now lines.items) ≡ Ok reader.new)
+        (OrMemory refusal_of (λ e. fault_of (steps reader.old (statements text.now lines.items)) ≡ Some e)) }
 {
     for line in lines {
-        let statement = line_statement(alloc, text, line)?;
+        let statement = line_statement(alloc, text, &line)?;
         step(alloc, reader, statement)?;
     }
     Ok(())
@@ -176,22 +181,27 @@ fn finish(alloc: Global, reader: &mut Reader) -> Result<Library, BlifErr>
 }
 
 // The library of lines, read from the start.
-fn run(alloc: Global, reader: &mut Reader, text: &[u8], lines: &[Line]) -> Result<Library, BlifErr>
-    requires { AreLinesIn text.now lines.now }
+fn run(
+    alloc: Global,
+    reader: &mut Reader,
+    text: &[u8],
+    lines: Vec<Line>,
+) -> Result<Library, BlifErr>
+    requires { AreLinesIn text.now lines.items }
     ensures { MatchResult result
-        (λ library. finished (steps reader.old (statements text.now lines.now)) ≡ Ok library)
-        (OrMemory refusal_of (λ e. fault_of (finished (steps reader.old (statements text.now lines.now))) ≡ Some e)) }
+        (λ library. finished (steps reader.old (statements text.now lines.items)) ≡ Ok library)
+        (OrMemory refusal_of (λ e. fault_of (finished (steps reader.old (statements text.now lines.items))) ≡ Some e)) }
 {
     read_each(alloc, reader, text, lines)?;
     finish(alloc, reader)
 }
 
-/// The library of a text's logical lines.
-pub(crate) fn read_lines(alloc: Global, text: &[u8], lines: &[Line]) -> Result<Library, BlifErr>
-    requires { AreLinesIn text.now lines.now }
+/// The library of a text's logical lines, of which each is let go of once it is read.
+pub(crate) fn read_lines(alloc: Global, text: &[u8], lines: Vec<Line>) -> Result<Library, BlifErr>
+    requires { AreLinesIn text.now lines.items }
     ensures { MatchResult result
-        (λ library. library_read (statements text.now lines.now) ≡ Ok library)
-        (OrMemory refusal_of (λ e. fault_of (library_read (statements text.now lines.now)) ≡ Some e)) }
+        (λ library. library_read (statements text.now lines.items) ≡ Ok library)
+        (OrMemory refusal_of (λ e. fault_of (library_read (statements text.now lines.items)) ≡ Some e)) }
 {
     let mut reader = Reader {
         names: NameIndex::new(alloc),

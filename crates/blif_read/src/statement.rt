@@ -68,7 +68,7 @@ fn words(alloc: Global, text: &[u8], tokens: &[Token]) -> Result<Vec<Name>, Allo
     requires { (token : Token) → In tokens.now token → IsWithin text.now token }
     ensures { IfOk result (λ words. words.items ≡ map (token_bytes text.now) tokens.now) }
 {
-    let mut words = Vec::new(alloc);
+    let mut words = Vec::with_capacity(alloc, tokens.len())?;
     for token in tokens {
         words.push(Name::make(alloc, token.bytes(text))?)?;
     }

@@ -21,24 +21,26 @@ fn is_aag(text: &[u8]) -> bool
 }
 
 /// The library that the text of a netlist denotes: in AIGER's ASCII form where it begins with `aag` and a blank, else in BLIF.
+/// The text's memory is free behind the call.
 ///
 /// # Errors
 /// `Refused` with the first refusal of the text; `Memory` where there is none.
-pub fn read_library(alloc: Global, text: &[u8]) -> Result<Library, Stop>
-    requires { length text.now ≤ MOST_BYTES }
-    ensures library { IfOk result (DenotesLibrary text.now) }
-    ensures refusal { IfErr result (Stops (LibraryRefusal text.now)) }
-    ensures one_library { HasOneLibrary text.now }
+pub fn read_library(alloc: Global, text: Vec<u8>) -> Result<Library, Stop>
+    requires { length text.items ≤ MOST_BYTES }
+    ensures library { IfOk result (DenotesLibrary text.items) }
+    ensures refusal { IfErr result (Stops (LibraryRefusal text.items)) }
+    ensures one_library { HasOneLibrary text.items }
     ensures well_formed { IfOk result IsWellFormed }
     ensures clean { IfOk result HasCleanNames }
     ensures few { IfOk result (λ library. length library.models < 2 ^ 32) }
     ensures short { IfOk result HasShortPorts }
 {
-    if is_aag(text) {
-        let library = read_aag(alloc, text)?;
+    let bytes = text.as_slice();
+    if is_aag(bytes) {
+        let library = read_aag(alloc, bytes)?;
         Ok(library)
     } else {
-        let library = read(alloc, text)?;
+        let library = read(alloc, bytes)?;
         Ok(library)
     }
 }

@@ -19,16 +19,16 @@ pub struct Netlist {
     pub flat: Flat,
 }
 
-/// The netlist that a text denotes.
+/// The netlist that a text denotes. The text's memory is free once the library is read.
 ///
 /// # Errors
 /// `Refused` with the first refusal of the text, else with that of its library; `Memory` where there is none.
-pub fn read_netlist(alloc: Global, text: &[u8]) -> Result<Netlist, Stop>
-    requires { length text.now ≤ MOST_BYTES }
-    ensures ok { IfOk result (λ n. IsNetlistText text.now n) }
+pub fn read_netlist(alloc: Global, text: Vec<u8>) -> Result<Netlist, Stop>
+    requires { length text.items ≤ MOST_BYTES }
+    ensures ok { IfOk result (λ n. IsNetlistText text.items n) }
     ensures read { IfOk result IsReadNetlist }
-    ensures err { IfErr result (Stops (NetlistRefusal text.now)) }
-    ensures settled { MatchResult result (λ _. IsTextSettled text.now) (Stops (λ _. IsTextSettled text.now)) }
+    ensures err { IfErr result (Stops (NetlistRefusal text.items)) }
+    ensures settled { MatchResult result (λ _. IsTextSettled text.items) (Stops (λ _. IsTextSettled text.items)) }
 {
     let library = read_library(alloc, text)?;
     let flat = flatten(alloc, &library)?;

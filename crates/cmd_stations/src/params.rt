@@ -44,7 +44,7 @@ fn read_netlist_file<S: Shelf>(
         Ok(text) => text,
         Err(outcome) => return Err(outcome),
     };
-    match read_netlist(alloc, &text) {
+    match read_netlist(alloc, text) {
         Ok(netlist) => Ok(netlist),
         Err(stop) => Err(stop.at(File::Netlist)),
     }

@@ -69,7 +69,7 @@ pub(crate) fn net_list(
     requires { IsNets nets.now }
     ensures { IfOk result (λ list. list.items ≡ regular_nets numbers.now nets.now i names.now) }
 {
-    let mut list = Vec::new(alloc);
+    let mut list = Vec::with_capacity(alloc, names.len())?;
     for name in names {
         list.push(net_at(nets, numbers, i, name.bytes()))?;
     }

@@ -34,12 +34,12 @@ use std::alloc::Global;
 const TABLE_SIZE: u8 = 4;
 
 // The source circuit of a case's texts.
-fn read_case(alloc: Global, netlist_text: &[u8], params_text: &[u8]) -> Result<Source, Outcome>
-    requires netlist { length netlist_text.now ≤ MOST_BYTES }
+fn read_case(alloc: Global, netlist_text: Vec<u8>, params_text: &[u8]) -> Result<Source, Outcome>
+    requires netlist { length netlist_text.items ≤ MOST_BYTES }
     requires params { length params_text.now ≤ MOST_BYTES }
     ensures read { IfOk result IsReadSource }
-    ensures comes { IfOk result (λ source. (rule : RuleValue) (files : Files) → HaveSource files netlist_text.now params_text.now → ComesWith files (case_words rule).source source) }
-    ensures err { IfErr result (λ o. (rule : RuleValue) (files : Files) → HaveSource files netlist_text.now params_text.now → Explains (source_reading ToTables (case_words rule).source) (shelf_of files) (shelf_of files) o) }
+    ensures comes { IfOk result (λ source. (rule : RuleValue) (files : Files) → HaveSource files netlist_text.items params_text.now → ComesWith files (case_words rule).source source) }
+    ensures err { IfErr result (λ o. (rule : RuleValue) (files : Files) → HaveSource files netlist_text.items params_text.now → Explains (source_reading ToTables (case_words rule).source) (shelf_of files) (shelf_of files) o) }
 {
     let netlist = match read_netlist(alloc, netlist_text) {
         Ok(netlist) => netlist,
@@ -55,15 +55,15 @@ fn read_case(alloc: Global, netlist_text: &[u8], params_text: &[u8]) -> Result<S
 fn map_case(
     alloc: Global,
     rule: Rule,
-    netlist_text: &[u8],
+    netlist_text: Vec<u8>,
     params_text: &[u8],
 ) -> Result<MappedSource, Outcome>
-    requires netlist { length netlist_text.now ≤ MOST_BYTES }
+    requires netlist { length netlist_text.items ≤ MOST_BYTES }
     requires params { length params_text.now ≤ MOST_BYTES }
     ensures read { IfOk result (λ m. IsReadSource m.source) }
     ensures tables { IfOk result (λ m. AreTables rule m.source 4 m.tables) }
-    ensures comes { IfOk result (λ m. (files : Files) → HaveSource files netlist_text.now params_text.now → ComesPast files (case_words rule).source m) }
-    ensures err { IfErr result (λ o. (files : Files) → HaveSource files netlist_text.now params_text.now → Explains (source_reading ToTables (case_words rule).source) (shelf_of files) (shelf_of files) o) }
+    ensures comes { IfOk result (λ m. (files : Files) → HaveSource files netlist_text.items params_text.now → ComesPast files (case_words rule).source m) }
+    ensures err { IfErr result (λ o. (files : Files) → HaveSource files netlist_text.items params_text.now → Explains (source_reading ToTables (case_words rule).source) (shelf_of files) (shelf_of files) o) }
 {
     let source = match read_case(alloc, netlist_text, params_text) {
         Ok(source) => source,
@@ -103,16 +103,16 @@ fn case_events(
 fn ready_case(
     alloc: Global,
     rule: Rule,
-    netlist_text: &[u8],
+    netlist_text: Vec<u8>,
     params_text: &[u8],
     script_text: &[u8],
 ) -> Result<Ready, Outcome>
-    requires netlist { length netlist_text.now ≤ MOST_BYTES }
+    requires netlist { length netlist_text.items ≤ MOST_BYTES }
     requires params { length params_text.now ≤ MOST_BYTES }
     requires script { length script_text.now ≤ MOST_BYTES }
     ensures ready { IfOk result (λ r. CanPlay (event_values r.events.items) r.machine) }
-    ensures prepared { IfOk result (λ r. (files : Files) → HaveCase files netlist_text.now params_text.now script_text.now → IsReadyFor files (case_words rule) r) }
-    ensures err { IfErr result (λ o. (files : Files) → HaveCase files netlist_text.now params_text.now script_text.now → Explains (run_reading (case_words rule)) (shelf_of files) (shelf_of files) o) }
+    ensures prepared { IfOk result (λ r. (files : Files) → HaveCase files netlist_text.items params_text.now script_text.now → IsReadyFor files (case_words rule) r) }
+    ensures err { IfErr result (λ o. (files : Files) → HaveCase files netlist_text.items params_text.now script_text.now → Explains (run_reading (case_words rule)) (shelf_of files) (shelf_of files) o) }
 {
     let mapped = match map_case(alloc, rule, netlist_text, params_text) {
         Ok(mapped) => mapped,
@@ -139,7 +139,7 @@ pub fn prepare_case(alloc: Global, words: &GenWords) -> Result<Ready, Outcome>
     ensures err { IfErr result (λ o. (old new : ShelfSeen) → Explains (gen_reading words.now) old new o) }
 {
     match multiplier(alloc, words.digits, words.seed) {
-        Ok(case) => ready_case(alloc, words.rule, &case.netlist, &case.params, &case.script),
+        Ok(case) => ready_case(alloc, words.rule, case.netlist, &case.params, &case.script),
         Err(_) => Err(Outcome::Memory),
     }
 }

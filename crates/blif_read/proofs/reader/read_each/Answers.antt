@@ -1,9 +1,18 @@
-use Rattle.std.proofs.Common.{sym, subst, get_or}
-use Rattle.list_laws.proofs.Members.{In-get_or}
-use Rattle.tl_text.specs.LineValue.{LineValue, IsLineIn}
+use Rattle.std.proofs.Common.{◌≡◌, ◌∷◌, ◌∙◌, sym, ap, subst, inr, rules, List}
+use Rattle.std.specs.Vec.Iter.{into_iter_items}
+use Rattle.list_laws.specs.Members.{In}
+use Rattle.tl_text.specs.LineValue.{LineValue}
+use Rattle.blif_read.specs.Statement.{statements}
+use Rattle.blif_read.specs.Reading.{steps}
 use Rattle.blif_read.proofs.reader.read_each.Goals as goal
 
-pub line_statement-requires : goal.line_statement-requires
-line_statement-requires c =
-    subst (λ (l : LineValue). IsLineIn c.args.text.now l) (sym c.line-item.is)
-    (c.requires.each (get_or c.args.lines.now c.loop-line.line-index c.line-item.result) (In-get_or c.args.lines.now c.loop-line.line-index c.line-item.result c.loop-line-test.true))
+pub loop-line-preserved : goal.loop-line-preserved
+loop-line-preserved c =
+    let rest : List LineValue = into_iter_items c.next.new.self in
+    let step : steps c.step.new.reader (statements c.args.text.now rest) ≡ steps c.loop-line.reader (statements c.args.text.now (c.in-Some.line ∷ rest)) = search rules in
+    record {
+      next = _;
+      ends = _;
+      lines = record { each = λ line among. c.loop-line.invariant.lines.each line (subst (λ (items : List LineValue). In items line) (sym c.in-Some.ensures.steps.0) (inr among)) };
+      read = step ∙ ap (λ (items : List LineValue). steps c.loop-line.reader (statements c.args.text.now items)) (sym c.in-Some.ensures.steps.0) ∙ c.loop-line.invariant.read;
+    }

@@ -1,7 +1,14 @@
-use Rattle.std.proofs.Common.{◌≡◌, drop}
+use Rattle.std.proofs.Common.{◌≡◌}
+use Rattle.std.specs.Vec.Iter.{into_iter_items}
+use Rattle.tl_text.specs.LineValue.{AreLinesIn}
 use Rattle.blif_read.specs.Statement.{statements}
 use Rattle.blif_read.specs.Reading.{steps}
 use Rattle.blif_read.proofs.reader.read_each.Given as goal
 
 abbrev pub invariant-loop-line : goal.invariant-loop-line
-invariant-loop-line l = steps l.reader (statements l.text (drop l.line-index l.lines)) ≡ steps l.initial.reader (statements l.text l.lines)
+invariant-loop-line l = record {
+  next : (goal.iterator-loop-line).can_next l.line-iterator;
+  ends : (goal.iterator-loop-line).is_finite l.line-iterator;
+  lines : AreLinesIn l.text (into_iter_items l.line-iterator);
+  read : steps l.reader (statements l.text (into_iter_items l.line-iterator)) ≡ steps l.initial.reader (statements l.text l.fn.lines.items);
+}

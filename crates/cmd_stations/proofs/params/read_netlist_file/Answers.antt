@@ -10,9 +10,9 @@ pub returns-in-Err-clause-err : goal.returns-in-Err-clause-err
 returns-in-Err-clause-err g c aim =
     netlist_unread aim (source_seen c.args.words.now) (g.S.Shelf.seen c.args.shelf.now) (g.S.Shelf.seen c.read_file.new.shelf) c.in-Err.outcome c.in-Err.ensures.err
 
-pub returns-clause-err : goal.returns-clause-err
-returns-clause-err g c aim =
+pub returns-in-Err-read_netlist-clause-err : goal.returns-in-Err-read_netlist-clause-err
+returns-in-Err-read_netlist-clause-err g c aim =
     let words = source_seen c.args.words.now in
     subst (λ o. Explains (source_reading aim words) (g.S.Shelf.seen c.args.shelf.now) (g.S.Shelf.seen c.read_file.new.shelf) o) (sym c.at.ensures)
-    (netlist_explains aim words (g.S.Shelf.seen c.args.shelf.now) (g.S.Shelf.seen c.read_file.new.shelf) c.deref.result.now c.in-Err-read_netlist.stop c.in-Ok.ensures.given
-    (λ files told. subst (λ text. HasText files words.netlist text) (sym c.deref.ensures.value) (c.in-Ok.ensures.text files told)) c.in-Err-read_netlist.ensures.err c.in-Err-read_netlist.ensures.settled)
+    (netlist_explains aim words (g.S.Shelf.seen c.args.shelf.now) (g.S.Shelf.seen c.read_file.new.shelf) c.in-Ok.text.items c.in-Err-read_netlist.stop c.in-Ok.ensures.given
+    c.in-Ok.ensures.text c.in-Err-read_netlist.ensures.err c.in-Err-read_netlist.ensures.settled)
