@@ -1,4 +1,4 @@
--- What the fields of a cut keep.
+-- What the fields of a cut and of lists of cuts keep.
 use Rattle.std.specs.Prelude.{◌≡◌, ℕ, ◌+◌, ◌*◌, ◌<◌, ◌≤◌, List, [], length, map, take, bit_or, slice_index_or}
 use Rattle.list_laws.specs.Members.{In}
 use Rattle.list_laws.specs.Order.{IsAscending}

@@ -173,23 +173,22 @@ fn add_pairs(
     Ok(())
 }
 
-// The least unions of size leaves of a cut of each list, beside those that have fewer. The level is emptied first.
+// Leaves in the level the least unions of size leaves of a cut of each list, beside those that have fewer.
 fn unions_of_size(
-    alloc: Global,
     node: u32,
     size: usize,
     xs: &Signed,
     ys: &Signed,
     smaller: &SignedPart<'_>,
     level: &mut Level,
-) -> Result<Vec<FlatCut>, CutErr>
+) -> Result<(), CutErr>
     requires size { size ≤ MOST_LEAVES }
     requires few { length smaller.now ≤ MOST_OF_A_NODE }
     requires x_apart { AreApart xs.now }
     requires y_apart { AreApart ys.now }
     requires smaller { smaller.now ≡ unions_below size xs.now ys.now }
-    ensures ok { IfOk result (λ cuts. cuts.items ≡ unions_at size smaller.now xs.now ys.now) }
-    ensures few { IfOk result (λ cuts. length smaller.now + length cuts.items ≤ MOST_OF_A_NODE) }
+    ensures ok { OnOk result (level.new ≡ unions_at size smaller.now xs.now ys.now) }
+    ensures few { OnOk result (length smaller.now + length level.new ≤ MOST_OF_A_NODE) }
     ensures too_many { IfErr result (OrMemory refusal_of (λ e. IsTooMany node (smaller.now ++ unions_at size smaller.now xs.now ys.now) e)) }
 {
     level.clear();
@@ -198,9 +197,7 @@ fn unions_of_size(
     let ys_parts = ys.leading(size + 1);
     add_holders(node, size, smaller, &ys_parts, xs.cuts(), level)?;
     add_holders(node, size, smaller, &xs_below, ys.cuts(), level)?;
-    add_pairs(node, size, smaller, xs_below.cuts, &ys_below, level)?;
-    let cuts = level.in_order(alloc)?;
-    Ok(cuts)
+    add_pairs(node, size, smaller, xs_below.cuts, &ys_below, level)
 }
 
 // The least unions of a cut of each list, of at most k leaves: the cuts of a node. What the level has is of no account.
@@ -221,8 +218,8 @@ pub fn merged(
 {
     let mut cuts = Signed::new(alloc);
     for size in 0..k + 1 {
-        let more = unions_of_size(alloc, node, size as usize, xs, ys, &cuts.all(), level)?;
-        cuts = cuts.extended(more)?;
+        unions_of_size(node, size as usize, xs, ys, &cuts.all(), level)?;
+        cuts = cuts.extended(level)?;
     }
     Ok(cuts.into_cuts())
 }

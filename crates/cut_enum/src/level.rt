@@ -2,7 +2,7 @@
 //!
 //! A cut stays where it was put first, and the order is a vector of places, so that little is moved to make room for one
 //! more.
-ghost use Rattle.std.specs.Prelude.{◌≡◌, ℕ, ◌-◌, ◌<◌, ◌≤◌, [], length, OnOk, IfOk, IfSome, IfNone, insert, slice_index_or, vec_len, vec_capacity};
+ghost use Rattle.std.specs.Prelude.{◌≡◌, ℕ, ◌-◌, ◌<◌, ◌≤◌, [], ◌++◌, length, OnOk, IfSome, IfNone, insert, slice_index_or, vec_len, vec_capacity};
 ghost use Rattle.cut_enum.specs.Sets.{IsOrdered};
 ghost use Rattle.cut_enum.specs.Merging.{IsPlaceOf, IsAround, place, add as with_cut};
 ghost use Rattle.cut_enum.specs.Signature.{signature_of};
@@ -163,15 +163,14 @@ impl Level {
         Ok(())
     }
 
-    // The cuts in order.
-    pub fn in_order(&self, alloc: Global) -> Result<Vec<FlatCut>, AllocError>
-        ensures { IfOk result (λ cuts. cuts.items ≡ self.now) }
+    // Adds the cuts, in order, to some others.
+    pub fn append_to(&self, cuts: &mut Vec<FlatCut>) -> Result<(), AllocError>
+        ensures { OnOk result (cuts.new.items ≡ cuts.old.items ++ self.now) }
     {
-        let mut cuts = Vec::new(alloc);
         cuts.reserve(self.len())?;
         for i in 0..self.len() {
             cuts.push(self.at(i).copy())?;
         }
-        Ok(cuts)
+        Ok(())
     }
 }

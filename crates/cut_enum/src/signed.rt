@@ -15,6 +15,7 @@ ghost use Rattle.cut_enum.specs.Merging.{leading, subset};
 ghost use Rattle.cut_enum.specs.Signature.{signature_of};
 
 use crate::flat::{FlatCut, is_part};
+use crate::level::Level;
 use crate::limits::{FEWEST_GROUPED, GROUP};
 use std::alloc::{AllocError, Global};
 use std::marker::Model;
@@ -134,19 +135,19 @@ impl Signed {
         })
     }
 
-    // With more cuts, which are moved from their vector.
-    pub fn extended(self, more: Vec<FlatCut>) -> Result<Signed, AllocError>
-        ensures { IfOk result (λ s. s ≡ self ++ more.items) }
+    // With the cuts of a level behind the others, in order.
+    pub fn extended(self, level: &Level) -> Result<Signed, AllocError>
+        ensures { IfOk result (λ s. s ≡ self ++ level.now) }
     {
         let Signed {
             mut cuts,
             mut signatures,
             mut shared,
         } = self;
-        let mut more = more;
-        sign(&mut signatures, &more)?;
+        let before = cuts.len();
+        level.append_to(&mut cuts)?;
+        sign(&mut signatures, &cuts[before..])?;
         share(&mut shared, &signatures)?;
-        cuts.append(&mut more)?;
         Ok(Signed {
             cuts,
             signatures,
