@@ -7,6 +7,8 @@ Outside the gate.
     python3 tools/designs.py time [PROGRAM] [K]   runs `stages` of the built program bench_mapping on them and on the examples,
                                                   after `rt run` in crates/bench_mapping has built it, with tables of K inputs (4);
                                                   ABC's time stands beside, where `berkeley-abc` or `abc` is there
+    python3 tools/designs.py cuts PROGRAM..       runs several of these programs in turn, as before and after a change, and shows
+                                                  how long each takes for the cuts of the four netlists at K 4 and 6
 
 The multiplier has two factors of 16 bits and no parameters. The filter has 8 taps of 8 bits, whose coefficients are
 parameters. The coder takes 8 bits a cycle into a remainder of 32 bits, whose polynomial is the parameters. The Benes
@@ -26,6 +28,8 @@ PROGRAM = f"{TOP}/crates/bench_mapping/out/bench_mapping"
 STAGES = ["read", "flatten", "graph", "cuts", "labels", "certificate", "cover", "functions", "cycles", "changes"]
 EVENTS = 1000
 RUNS = 80
+# How often `cuts` runs each program, by K.
+TURNS = {4: 60, 6: 16}
 ABC_RUNS = 10
 ABC_TIMES = 20
 
@@ -173,10 +177,10 @@ def write(room):
     return files
 
 
-def stages(program, k, files):
+def stages(program, k, files, times=RUNS):
     """The counts of each stage, and the least of its times in some runs, in microseconds."""
     least = {}
-    for _ in range(RUNS):
+    for _ in range(times):
         words = [program, "stages", str(k), *files, str(EVENTS), str(EVENTS)]
         ran = subprocess.run(words, capture_output=True, text=True, check=True)
         for line in ran.stdout.splitlines():
@@ -229,6 +233,19 @@ def show(program, k):
         print("| " + " | ".join(row) + " |")
 
 
+def compare(programs):
+    """Prints how long each program takes for the cuts, run in turn, and ABC for its mapping, in milliseconds."""
+    abc = shutil.which("berkeley-abc") or shutil.which("abc")
+    with tempfile.TemporaryDirectory() as room:
+        files = write(room)
+        for name in DESIGNS:
+            for k, turns in TURNS.items():
+                found = [[stages(it, k, files[name], 1)["cuts"][1] for it in programs] for _ in range(turns)]
+                row = [name, str(k), *(f"{min(it) / 1000:.2f}" for it in zip(*found))]
+                row.append(f"{abc_time(abc, k, files[name][0], room)[0] / 1000:.1f}" if abc else "")
+                print("| " + " | ".join(row) + " |", flush=True)
+
+
 def main():
     words = sys.argv[1:]
     if len(words) == 2 and words[0] == "write":
@@ -236,6 +253,8 @@ def main():
         write(words[1])
     elif len(words) in (1, 2, 3) and words[0] == "time":
         show(os.path.abspath(words[1]) if len(words) > 1 else PROGRAM, int(words[2]) if len(words) > 2 else 4)
+    elif len(words) > 1 and words[0] == "cuts":
+        compare([os.path.abspath(it) for it in words[1:]])
     else:
         sys.exit(__doc__)
 

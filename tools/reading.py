@@ -1,0 +1,83 @@
+#!/usr/bin/env python3
+"""Times how netlists of 40 MB are read, with the memory that this takes, and ABC beside.
+
+Outside the gate: `python3 tools/reading.py [PROGRAM]..`, after a first call of ./tlut has built the program. Several programs, as
+before and after a change, are run in turn.
+
+Both have covers of two inputs, each drawn from the 200 names before it. One has 1,100,000 of them with short names, of which its output
+reaches a tenth or so; the other has 100,000 with names of 125 bytes, and all are reached. `tlut graph` reads and flattens all of a netlist
+and writes the outputs' graph; ABC reads it, and `strash` makes its graph. Each line has the processor time, the least of some runs, and the
+greatest resident memory.
+"""
+
+import os
+import random
+import shutil
+import subprocess
+import sys
+import tempfile
+
+TOP = os.path.dirname(os.path.dirname(os.path.abspath(__file__)))
+PROGRAM = f"{TOP}/crates/tlut/out/tlut"
+ABC = next(filter(None, map(shutil.which, ("berkeley-abc", "yosys-abc", "abc"))), None)
+INPUTS = 64
+RUNS = 5
+# The title, what the names of the covers begin with, how many there are, and which ones are outputs.
+NETLISTS = [
+    ("short names", "n", 1_100_000, [110_000]),
+    ("long names", f"top.core0.stage.{'x' * 100}.n", 100_000, range(99_936, 100_000)),
+]
+
+
+def netlist(stem, count, outputs):
+    """Returns a netlist, the same at each call."""
+    draw = random.Random(1)
+    names = [f"i{i}" for i in range(INPUTS)]
+    covers = []
+    for place in range(count):
+        first, second = draw.sample(names[-200:], 2)
+        covers.append(f".names {first} {second} {stem}{place}\n{draw.choice(('11', '10', '01', '00'))} 1\n")
+        names.append(f"{stem}{place}")
+    ports = f".inputs {' '.join(names[:INPUTS])}\n.outputs {' '.join(f'{stem}{it}' for it in outputs)}\n"
+    return f".model made\n{ports}{''.join(covers)}.end\n"
+
+
+def child(folder, *words):
+    """Runs a command and prints its processor time and its memory in MB: in a process that has little memory of its own."""
+    process = os.fork()
+    if process == 0:
+        os.chdir(folder)
+        os.dup2(os.open(os.devnull, os.O_WRONLY), 1)
+        os.execv(words[0], words)
+    _, status, used = os.wait4(process, 0)
+    print(os.waitstatus_to_exitcode(status), used.ru_utime + used.ru_stime, used.ru_maxrss // 1024)
+
+
+def run(folder, words):
+    """Returns the processor time and the memory of a command."""
+    inner = [sys.executable, os.path.abspath(__file__), "--child", folder, *words]
+    status, seconds, megabytes = subprocess.run(inner, stdout=subprocess.PIPE, text=True, check=True).stdout.split()
+    if status != "0":
+        sys.exit(f"{words[0]} ended with {status}")
+    return float(seconds), int(megabytes)
+
+
+def main():
+    programs = [os.path.abspath(it) for it in sys.argv[1:]] or [PROGRAM]
+    commands = [(it, [it, "graph", "n.blif", "none.par", "n.aag"]) for it in programs]
+    if ABC:
+        commands.append(("ABC", [ABC, "-q", "read_blif n.blif; strash; write_aiger n.aig"]))
+    with tempfile.TemporaryDirectory() as folder:
+        for title, *made in NETLISTS:
+            text = netlist(*made)
+            for name, content in ("n.blif", text), ("none.par", ""):
+                with open(f"{folder}/{name}", "w", encoding="ascii") as file:
+                    file.write(content)
+            print(f"{title}, {len(text) / 1e6:.1f} MB")
+            found = [[run(folder, words) for _, words in commands] for _ in range(RUNS)]
+            for (name, _), runs in zip(commands, zip(*found)):
+                print(f"  {name}: {min(it[0] for it in runs):.2f} s, {max(it[1] for it in runs)} MB", flush=True)
+
+
+if __name__ == "__main__":
+    child(*sys.argv[2:]) if sys.argv[1:2] == ["--child"] else main()
