@@ -11,9 +11,10 @@ from companion.text import physical_lines
 
 HEADER = re.compile(r"luts (\d+) bits (\d+) depth (\d+)")
 PACK_HEADER = re.compile(r"bits (\d+)")
-WRITES = re.compile(r"(set|scrub) (\d+)((?: \d+=[01])*)")
+WRITES = re.compile(r"(set|scrub|wait) (\d+)((?: \d+=[01])*)")
 CYCLE = re.compile(r"cycle ([01]+|-) ([01]+|-)")
 UPSET = re.compile(r"upset (\d+=[01])")
+ASK = re.compile(r"ask \d+")
 IMAGE = re.compile(r"image ([01]+|-)")
 
 
@@ -77,6 +78,8 @@ def parse_event(line: str) -> Optional[Played]:
     found = UPSET.fullmatch(line)
     if found:
         return Played(line, "upset", writes_of(found[1]))
+    if ASK.fullmatch(line):
+        return Played(line, "ask", [])
     return Played(line, "image", []) if IMAGE.fullmatch(line) else None
 
 

@@ -8,6 +8,8 @@ from companion.faults import Fault
 from companion.text import Line, logical_lines, read_text
 
 WORDS = ("set", "cycle", "upset", "scrub", "image")
+# The events of a script of `tlut pace`.
+PACED_WORDS = ("ask", "tick")
 
 
 @dataclass(frozen=True)

@@ -7,7 +7,7 @@ import argparse
 from companion.buses import Bus, assigned, buses_of
 from companion.faults import Fault
 from companion.parameters import Interface, read_interface
-from companion.script import WORDS, bits_text
+from companion.script import PACED_WORDS, WORDS, bits_text
 from companion.text import Line, logical_lines, read_input
 
 HELP = "a script from events with values of buses"
@@ -17,6 +17,8 @@ DESCRIPTION = """Reads events on standard input, one a line, and puts the script
   set coef=0x12        parameters change
   upset 3, scrub, image
                        as in a script
+  tick x=-3, ask coef=0x12
+                       as a cycle and a set, in a script for `tlut pace`
 
 A bus is a name with all its indices, and its lowest index is the lowest digit; a single net may be named too. A value is decimal,
 as 18 or -3, or 0x12, 0b10010 or 8'h12. What is behind # is a comment."""
@@ -36,13 +38,13 @@ class Writer:
     def line_of(self, event: Line) -> str:
         """The line of an event."""
         word, others = event.tokens[0], event.tokens[1:]
-        if word == "cycle":
+        if word in ("cycle", "tick"):
             self.kept.update(assigned(others, self.inputs, "inputs"))
-            return f"cycle {bits_text([self.kept[name] for name in self.regular])}"
-        if word == "set":
-            return set_line(others, self.parameters)
+            return f"{word} {bits_text([self.kept[name] for name in self.regular])}"
+        if word in ("set", "ask"):
+            return assigning_line(word, others, self.parameters)
         if word not in WORDS:
-            raise Fault(f"{word} is no event; these are: {', '.join(WORDS)}")
+            raise Fault(f"{word} is no event; these are: {', '.join([*WORDS, *PACED_WORDS])}")
         if word == "upset" and not (len(others) == 1 and others[0].isdecimal()):
             raise Fault("upset has one address behind it, a decimal number")
         if word != "upset" and others:
@@ -50,12 +52,12 @@ class Writer:
         return " ".join(event.tokens)
 
 
-def set_line(words: list[str], parameters: dict[str, Bus]) -> str:
-    """The line of a set."""
+def assigning_line(word: str, words: list[str], parameters: dict[str, Bus]) -> str:
+    """The line of a set, or of an ask."""
     bits = assigned(words, parameters, "parameters")
     if not bits:
-        raise Fault("set has one NAME=VALUE or more behind it")
-    return " ".join(["set", *(f"{net}={bit}" for net, bit in bits.items())])
+        raise Fault(f"{word} has one NAME=VALUE or more behind it")
+    return " ".join([word, *(f"{net}={bit}" for net, bit in bits.items())])
 
 
 def add_words(parser: argparse.ArgumentParser) -> None:

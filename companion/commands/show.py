@@ -11,7 +11,7 @@ from companion.parameters import Interface, read_interface
 from companion.text import read_input
 
 HELP = "the lines of a run with buses as numbers"
-DESCRIPTION = """Reads what `tlut run` printed on standard input, and puts it out with the outputs of each cycle line as numbers by their buses.
+DESCRIPTION = """Reads what `tlut run` or `tlut pace` printed on standard input, and puts it out with the outputs of each cycle line as numbers by their buses.
 All other lines stay as they are."""
 EXAMPLE = """example:
   tlut run 4 fir.blif fir.par fir.scr 0 0 | flow show fir.blif fir.par"""

@@ -61,6 +61,11 @@ cycle x=6\nupset 474\ncycle x=7\nset c2[0]=1\nscrub\ncycle x=3\nimage\n"""
         wanted[3] = "set c1[0]=1 c1[1]=1 c1[2]=1"
         self.assertEqual(flow("script", *FIR, given=events).stdout.splitlines(), wanted[:-3] + ["image"])
 
+    def test_events_at_a_limited_rate(self):
+        events = "tick x=1\nask c1=7\ntick\ntick x=2\n"
+        self.assertEqual(flow("script", *FIR, given=events).stdout, "tick 100\nask c1[0]=1 c1[1]=1 c1[2]=1\ntick 100\ntick 010\n")
+        self.assert_fault(flow("script", *FIR, given="ask\n"), "ask has one NAME=VALUE or more")
+
     def test_kept_values_and_no_inputs(self):
         netlist, params = self.put("n.blif", MUX), self.put("n.par", "p 0\n")
         self.assertEqual(flow("script", netlist, params, given="cycle\ncycle b=1\ncycle a=1\n").stdout, "cycle 00\ncycle 01\ncycle 11\n")
@@ -87,6 +92,11 @@ class Shown(InFolder):
         self.assertEqual(shown[4][:13], "set 14 145=0 ")
         self.assertEqual(shown[5], "cycle y=53")
         self.assertIn("upset 474=0", shown)
+
+    def test_lines_at_a_limited_rate(self):
+        given = "ask 3\nwait 2 4=1 9=0\nwait 1 12=1\ncycle 101000 100110\n"
+        self.assertEqual(flow("show", *FIR, given=given).stdout, "ask 3\nwait 2 4=1 9=0\nwait 1 12=1\ncycle y=5\n")
+        self.assert_fault(flow("show", *FIR, given="wait 2 4=1\n"), "line 1 is no line that tlut prints")
 
     def test_states_signs_and_hexadecimal_digits(self):
         given = "cycle 101000 100110\n"
