@@ -6,7 +6,7 @@ Outside the gate.
     python3 tools/designs.py write ROOM           writes the netlists and lists of parameters into the folder ROOM
     python3 tools/designs.py time [PROGRAM] [K]   runs `stages` of the built program bench_mapping on them and on the examples,
                                                   after `rt run` in crates/bench_mapping has built it, with tables of K inputs (4);
-                                                  ABC's time stands beside, where `berkeley-abc` or `abc` is there
+                                                  ABC's time stands beside, where it is there
     python3 tools/designs.py cuts PROGRAM..       runs several of these programs in turn, as before and after a change, and shows
                                                   how long each takes for the cuts of the four netlists at K 4 and 6
 
@@ -17,12 +17,15 @@ network has 16 lines, and its 56 switches are the parameters. Each is written as
 import os
 import re
 import resource
-import shutil
 import subprocess
 import sys
 import tempfile
 
 TOP = os.path.dirname(os.path.dirname(os.path.abspath(__file__)))
+sys.path.insert(0, TOP)
+
+from companion import tools
+
 EXAMPLES = f"{TOP}/crates/tlut_examples/data"
 PROGRAM = f"{TOP}/crates/bench_mapping/out/bench_mapping"
 STAGES = ["read", "flatten", "graph", "cuts", "labels", "certificate", "cover", "functions", "cycles", "changes"]
@@ -215,7 +218,7 @@ def abc_time(abc, k, file, room):
 
 def show(program, k):
     """Prints what came of each stage, and then a table of all times in milliseconds."""
-    abc = shutil.which("berkeley-abc") or shutil.which("abc")
+    abc = tools.find(tools.ABC)
     rows = [["Netlist", *STAGES, "ABC"], ["---"] * (len(STAGES) + 2)]
     with tempfile.TemporaryDirectory() as room:
         for name, files in write(room).items():
@@ -235,7 +238,7 @@ def show(program, k):
 
 def compare(programs):
     """Prints how long each program takes for the cuts, run in turn, and ABC for its mapping, in milliseconds."""
-    abc = shutil.which("berkeley-abc") or shutil.which("abc")
+    abc = tools.find(tools.ABC)
     with tempfile.TemporaryDirectory() as room:
         files = write(room)
         for name in DESIGNS:

@@ -6,14 +6,14 @@ the time by the clock and the greatest resident memory of a call, and whether st
 last line is `N passed, M failed`, and the exit status is 1 where M isn't 0.
 """
 import os
-import resource
-import subprocess
 import sys
 import tempfile
-import time
+
+import measured
 
 TOP = os.path.dirname(os.path.dirname(os.path.abspath(__file__)))
 PROGRAM = os.path.abspath(sys.argv[1]) if len(sys.argv) == 2 else f"{TOP}/crates/tlut/out/tlut"
+STACK = 256 * 1024
 
 WIRE = ".model m\n.inputs a\n.outputs a\n.end\n"
 NOTHING = "luts 0 bits 0 depth 0\n"
@@ -131,25 +131,10 @@ def rows():
     yield "names of a million bytes", f".model {long}\n.inputs {long}\n.outputs {long}\n.end\n", "", "cycle 1\n", done(NOTHING + "cycle 1 -\n")
 
 
-def child(program, folder, *words):
-    """Runs the program and prints its status, its time and its memory in MB: in a process that has little memory of its own."""
-    begun = time.monotonic()
-    process = os.fork()
-    if process == 0:
-        resource.setrlimit(resource.RLIMIT_STACK, (256 * 1024, 256 * 1024))
-        os.chdir(folder)
-        os.dup2(os.open("out", os.O_WRONLY | os.O_CREAT), 1)
-        os.dup2(os.open("err", os.O_WRONLY | os.O_CREAT), 2)
-        os.execv(program, ["tlut", *words])
-    _, status, used = os.wait4(process, 0)
-    print(os.waitstatus_to_exitcode(status), time.monotonic() - begun, used.ru_maxrss // 1024)
-
-
 def call(folder, words):
     """What a call leaves, its time and its memory in MB."""
-    inner = [sys.executable, os.path.abspath(__file__), "--child", PROGRAM, folder, *words]
-    status, seconds, megabytes = subprocess.run(inner, stdout=subprocess.PIPE, text=True, check=True).stdout.split()
-    return (int(status), open(f"{folder}/out").read(), open(f"{folder}/err").read()), float(seconds), int(megabytes)
+    took = measured.run(folder, [PROGRAM, *words], STACK)
+    return (took.status, open(f"{folder}/out").read(), open(f"{folder}/err").read()), took.clock, took.megabytes
 
 
 def calls():
@@ -179,4 +164,4 @@ def main():
 
 
 if __name__ == "__main__":
-    sys.exit(child(*sys.argv[2:]) if sys.argv[1:2] == ["--child"] else main())
+    sys.exit(main())

@@ -5,21 +5,24 @@ Outside the gate: `python3 tools/reading.py [PROGRAM]..`, after a first call of 
 before and after a change, are run in turn.
 
 Both have covers of two inputs, each drawn from the 200 names before it. One has 1,100,000 of them with short names, of which its output
-reaches a tenth or so; the other has 100,000 with names of 125 bytes, and all are reached. `tlut graph` reads and flattens all of a netlist
+reaches a tenth or so; the other has 100,000 with names of some 120 bytes, and all are reached. `tlut graph` reads and flattens all of a netlist
 and writes the outputs' graph; ABC reads it, and `strash` makes its graph. Each line has the processor time, the least of some runs, and the
 greatest resident memory.
 """
 
 import os
 import random
-import shutil
-import subprocess
 import sys
 import tempfile
 
 TOP = os.path.dirname(os.path.dirname(os.path.abspath(__file__)))
+sys.path.insert(0, TOP)
+
+import measured
+from companion import tools
+
 PROGRAM = f"{TOP}/crates/tlut/out/tlut"
-ABC = next(filter(None, map(shutil.which, ("berkeley-abc", "yosys-abc", "abc"))), None)
+ABC = tools.find(tools.ABC)
 INPUTS = 64
 RUNS = 5
 # The title, what the names of the covers begin with, how many there are, and which ones are outputs.
@@ -42,26 +45,6 @@ def netlist(stem, count, outputs):
     return f".model made\n{ports}{''.join(covers)}.end\n"
 
 
-def child(folder, *words):
-    """Runs a command and prints its processor time and its memory in MB: in a process that has little memory of its own."""
-    process = os.fork()
-    if process == 0:
-        os.chdir(folder)
-        os.dup2(os.open(os.devnull, os.O_WRONLY), 1)
-        os.execv(words[0], words)
-    _, status, used = os.wait4(process, 0)
-    print(os.waitstatus_to_exitcode(status), used.ru_utime + used.ru_stime, used.ru_maxrss // 1024)
-
-
-def run(folder, words):
-    """Returns the processor time and the memory of a command."""
-    inner = [sys.executable, os.path.abspath(__file__), "--child", folder, *words]
-    status, seconds, megabytes = subprocess.run(inner, stdout=subprocess.PIPE, text=True, check=True).stdout.split()
-    if status != "0":
-        sys.exit(f"{words[0]} ended with {status}")
-    return float(seconds), int(megabytes)
-
-
 def main():
     programs = [os.path.abspath(it) for it in sys.argv[1:]] or [PROGRAM]
     commands = [(it, [it, "graph", "n.blif", "none.par", "n.aag"]) for it in programs]
@@ -74,10 +57,12 @@ def main():
                 with open(f"{folder}/{name}", "w", encoding="ascii") as file:
                     file.write(content)
             print(f"{title}, {len(text) / 1e6:.1f} MB")
-            found = [[run(folder, words) for _, words in commands] for _ in range(RUNS)]
+            found = [[measured.run(folder, words) for _, words in commands] for _ in range(RUNS)]
             for (name, _), runs in zip(commands, zip(*found)):
-                print(f"  {name}: {min(it[0] for it in runs):.2f} s, {max(it[1] for it in runs)} MB", flush=True)
+                if any(it.status for it in runs):
+                    sys.exit(f"{name} failed")
+                print(f"  {name}: {min(it.processor for it in runs):.2f} s, {max(it.megabytes for it in runs)} MB", flush=True)
 
 
 if __name__ == "__main__":
-    child(*sys.argv[2:]) if sys.argv[1:2] == ["--child"] else main()
+    main()
