@@ -15,11 +15,11 @@ use Rattle.netlist.specs.declared.command.Command.{Command}
 use Rattle.tl_text.specs.Clean.{IsClean}
 use Rattle.tl_text.proofs.WordLemmas.{is_special, ordinary_clean, word_clean, one_clean, more_clean, byte_ordinary, decimal_ordinary, marked_ordinary}
 use Rattle.aiger_io.specs.Bodies.{named_count}
-use Rattle.aiger_io.specs.Circuit.{Circuit, circuit_of}
+use Rattle.aiger_io.specs.Circuit.{Circuit}
+use Rattle.aiger_io.specs.Reader.{circuit_of, IsLibraryIn}
 use Rattle.aiger_io.specs.CircuitLibrary.{mark_of, own_name, variable_name, next_name, cell_of, cover_command, zero_command, latch_command, port_name, item_commands, commands_of, model_of, library_of}
 use Rattle.aiger_io.specs.PortNames.{default_name}
 use Rattle.aiger_io.specs.Items.{item_count, is_literal, is_variable}
-use Rattle.aiger_io.specs.Reading.{IsLibraryOf}
 use Rattle.aiger_io.specs.Symbols.{SymbolsValue}
 use Rattle.aiger_io.specs.declared.header.Header.{Header}
 use Rattle.aiger_io.specs.declared.item.Item.{Item}
@@ -165,7 +165,7 @@ text_kept text c l is =
       short = λ x i. port_short r.said (length text) x (said_named text c r) names (omega arith) (port_name_of r.header r.said size x i);
     })
 
-pub text_clean : (text : List ℕ) → length text ≤ 67108864 → (library : LibraryValue) → IsLibraryOf text library → HasCleanNames library
+pub text_clean : (text : List ℕ) → length text ≤ 67108864 → (library : LibraryValue) → IsLibraryIn (circuit_of text) library → HasCleanNames library
 text_clean text l library made = subst HasCleanNames (sym made.made) (circuit_clean made.circuit (text_kept text made.circuit l made.is))
 
 circuit_short : (c : Circuit) → IsKept c → HasShortPorts (library_of c)
@@ -174,8 +174,8 @@ circuit_short c kept m e name i =
     let j : In ((model_of c).inputs ++ ((model_of c).clocks ++ (model_of c).outputs)) name = subst (λ (n : ModelValue). In (n.inputs ++ (n.clocks ++ n.outputs)) name) (sym same) i in
     kept.short name j
 
-pub text_short : (text : List ℕ) → length text ≤ 67108864 → (library : LibraryValue) → IsLibraryOf text library → HasShortPorts library
+pub text_short : (text : List ℕ) → length text ≤ 67108864 → (library : LibraryValue) → IsLibraryIn (circuit_of text) library → HasShortPorts library
 text_short text l library made = subst HasShortPorts (sym made.made) (circuit_short made.circuit (text_kept text made.circuit l made.is))
 
-pub text_few : (text : List ℕ) (library : LibraryValue) → IsLibraryOf text library → length library.models ≡ 1
+pub text_few : (text : List ℕ) (library : LibraryValue) → IsLibraryIn (circuit_of text) library → length library.models ≡ 1
 text_few text library made = ap (λ (l : LibraryValue). length l.models) made.made

@@ -14,10 +14,10 @@ use Rattle.netlist.specs.declared.cell.Cell.TheVariants.{One}
 use Rattle.netlist.specs.declared.command.Command.{Command}
 use Rattle.tl_text.specs.Once.{AreOnce}
 use Rattle.aiger_io.specs.Bodies.{named_count}
-use Rattle.aiger_io.specs.Circuit.{Circuit, circuit_of}
+use Rattle.aiger_io.specs.Circuit.{Circuit}
+use Rattle.aiger_io.specs.Reader.{circuit_of, IsLibraryIn}
 use Rattle.aiger_io.specs.CircuitLibrary.{mark_of, variable_name, next_name, cell_of, cover_command, zero_command, latch_command, port_name, item_commands, commands_from, commands_of, model_of, library_of}
 use Rattle.aiger_io.specs.Items.{item_count}
-use Rattle.aiger_io.specs.Reading.{IsLibraryOf}
 use Rattle.aiger_io.specs.Symbols.{no_name, no_symbols}
 use Rattle.aiger_io.specs.declared.header.Header.{Header}
 use Rattle.aiger_io.specs.declared.item.Item.{Item}
@@ -104,7 +104,7 @@ text_ports_once text c l is =
     subst (λ (d : Circuit). AreOnce (d.inputs ++ d.outputs)) (sym r.is)
     (ports_once r.header r.said (length text) (item_count r.header + 2) (said_size text c r) (small_names text c r l) (said_named text c r) r.none_twice)
 
-pub text_formed : (text : List ℕ) → length text ≤ 67108864 → (library : LibraryValue) → IsLibraryOf text library → IsWellFormed library
+pub text_formed : (text : List ℕ) → length text ≤ 67108864 → (library : LibraryValue) → IsLibraryIn (circuit_of text) library → IsWellFormed library
 text_formed text l library made =
     let once = text_ports_once text made.circuit l made.is in
     subst IsWellFormed (sym made.made) (circuit_formed made.circuit (inputs_once made.circuit.inputs made.circuit.outputs once) (outputs_once made.circuit.inputs made.circuit.outputs once))

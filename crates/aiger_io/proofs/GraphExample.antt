@@ -1,15 +1,17 @@
 -- A worked example: the circuit of a graph, and its text line by line.
-use Rattle.std.proofs.Common.{◌≡◌, List, [], ◌∷◌, None, Ok, codes, false, refl, ap}
+use Rattle.std.proofs.Common.{◌≡◌, List, [], ◌∷◌, None, codes, false, refl, sym, subst}
 use Rattle.std.specs.Fmt.{digits}
 use Rattle.aig_core.specs.Roots.{RootsValue}
 use Rattle.aig_core.proofs.ValueExample.{multiplexer}
 use Rattle.netlist.specs.FlatValue.{FlatValue}
 use Rattle.netlist.specs.declared.flat.Net.TheVariants as net
 use Rattle.param_list.specs.declared.params.Param.{Param}
-use Rattle.aiger_io.specs.Circuit.{Circuit, circuit_of}
+use Rattle.aiger_io.specs.AigerText.{IsAigerText}
+use Rattle.aiger_io.specs.Circuit.{Circuit}
 use Rattle.aiger_io.specs.GraphCircuit.{graph_circuit}
 use Rattle.aiger_io.specs.WrittenText.{circuit_text}
 use Rattle.aiger_io.specs.declared.item.Item.TheVariants.{Input, Output, And}
+use Rattle.aiger_io.proofs.Format.SettledLemmas.{is_text}
 
 -- the multiplexer's netlist: the inputs a, b and p, and the output y, which is one cover
 abbrev flat : FlatValue
@@ -50,6 +52,6 @@ text_is : circuit_text circuit ≡ codes "aag 6 3 0 1 3\n2\n4\n6\n13\n8 6 2\n10 
 unfolding digits
 text_is = refl
 
--- and read back
-read_back : circuit_of (circuit_text circuit) ≡ Ok circuit
-read_back = ap circuit_of text_is
+-- which is the circuit
+is_circuit : IsAigerText (circuit_text circuit) circuit
+is_circuit = subst (λ text. IsAigerText text circuit) (sym text_is) (is_text (codes "aag 6 3 0 1 3\n2\n4\n6\n13\n8 6 2\n10 7 4\n12 11 9\ni0 a\ni1 b\ni2 p\no0 y\n") circuit refl refl)

@@ -24,11 +24,12 @@ use Rattle.param_list.specs.Parameters.{regular_names, param_names}
 use Rattle.aiger_io.specs.Circuit.{Circuit}
 use Rattle.aiger_io.specs.GraphCircuit.{input_count, input_at, graph_circuit, IsWrittenFrom, IsGraphsCircuit}
 use Rattle.aiger_io.specs.Run.{literal_value, output_literals, next_literals, init_bits, IsCircuitCycle, CircuitRuns, HasSameRuns}
-use Rattle.aiger_io.specs.WrittenText.{circuit_text}
 use Rattle.aiger_io.proofs.GraphFitLemmas.{literal_same, node_list, node_at, lines_fit, nodes_fit, given_list, written_fit}
 use Rattle.aiger_io.proofs.GraphFormLemmas.{written_formed}
 use Rattle.aiger_io.proofs.GraphItemLemmas.{output_literals_are, next_literals_are, init_bits_are}
-use Rattle.aiger_io.proofs.RoundTripLemmas.{text_format, format_read}
+use Rattle.aiger_io.proofs.Format.SectionLemmas.{in_sections}
+use Rattle.aiger_io.proofs.WeightLemmas.{circuit_weighs}
+use Rattle.aiger_io.proofs.WrittenFormLemmas.{text_format, text_is, alike_refused}
 
 -- names by their places
 names_at : (names : List (List ℕ)) (places : List ℕ) (all : List (List ℕ)) → map (slice_get names) places ≡ map (λ name. Some name) all → map (λ i. get_or names i []) places ≡ all
@@ -166,7 +167,9 @@ module _ (flat : FlatValue) (params : List Param) (regular : List ℕ) (g : Aig)
       let formed = written_formed flat params regular g roots from normal small in
       record {
         format = λ clean. text_format written formed clean;
-        reads_back = λ clean once. format_read (circuit_text written) written (text_format written formed clean) once;
+        reads_back = λ clean once. text_is written formed clean once;
+        alike = λ clean name i o. alike_refused written formed clean name i o;
+        weight = circuit_weighs written (in_sections written.header written.items formed.count (λ p item e. (formed.items p item e).kind)) formed.inputs formed.outputs;
         fit = written_fit flat params regular g roots from formed normal one;
         runs = same_runs;
       }

@@ -93,6 +93,9 @@ module _ (h : Header) where
 pub same_answer : {V E : Type 0} (r : Result V E) (x y : V) → r ≡ Ok x → r ≡ Ok y → x ≡ y
 same_answer r x y a b = cc
 
+pub one_error : {V E : Type 0} (r : Result V E) (e f : E) → r ≡ Err e → r ≡ Err f → e ≡ f
+one_error r e f a b = cc
+
 pub no_answer : {V E : Type 0} (r : Result V E) (e : E) (y : V) → r ≡ Err e → r ≡ Ok y → ⊥
 no_answer r e y a b = cc
 

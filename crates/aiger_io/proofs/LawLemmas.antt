@@ -26,10 +26,10 @@ use Rattle.tl_text.specs.Once.{AreOnce}
 use Rattle.aiger_io.specs.Circuit.{Circuit}
 use Rattle.aiger_io.specs.CircuitLibrary.{mark_of, variable_name, next_name, cell_of, cover_command, zero_command, latch_command, port_name, commands_from, model_of, library_of}
 use Rattle.aiger_io.specs.Items.{is_literal, is_variable}
-use Rattle.aiger_io.specs.Reading.{IsLibraryOf}
 use Rattle.aiger_io.specs.Run.{literal_value, FitsLines, IsDefined, zero_variable, input, latch, gate, HasOneFit, output_literal, next_literal, output_literals, next_literals, init_bits, IsCircuitCycle, CircuitRuns, HasSameRuns}
 use Rattle.aiger_io.specs.declared.item.Item.{Item}
 use Rattle.aiger_io.specs.declared.item.Item.TheVariants.{Input, Latch, Output, And}
+use Rattle.aiger_io.specs.Reader.{circuit_of, IsLibraryIn}
 use Rattle.aiger_io.proofs.BuiltLemmas.{built, place_among, place_once, variable_built, next_built, output_built, nexts_picked, outputs_picked, fits_library}
 use Rattle.aiger_io.proofs.CleanLemmas.{IsKept, text_kept}
 use Rattle.aiger_io.proofs.FitLemmas.{latches_of, no_subckts, are_latches, cover_in_place, command_in, item_in, circuit_kinds, literal_is, fits_lines}
@@ -336,10 +336,10 @@ module _ (c : Circuit) (kept : IsKept c) (once : AreOnce (c.inputs ++ c.outputs)
   }
 
 -- of a text's library
-pub text_fit : (text : List ℕ) (library : LibraryValue) → length text ≤ 67108864 → (made : IsLibraryOf text library) → IsSound library → HasOneFit made.circuit
+pub text_fit : (text : List ℕ) (library : LibraryValue) → length text ≤ 67108864 → (made : IsLibraryIn (circuit_of text) library) → IsSound library → HasOneFit made.circuit
 text_fit text library l made sound =
     one_fit made.circuit (text_kept text made.circuit l made.is) (text_ports_once text made.circuit l made.is) (sound_law (library_of made.circuit) (subst IsSound made.made sound))
 
-pub text_runs : (text : List ℕ) (library : LibraryValue) → length text ≤ 67108864 → (made : IsLibraryOf text library) → HasSameRuns made.circuit library
+pub text_runs : (text : List ℕ) (library : LibraryValue) → length text ≤ 67108864 → (made : IsLibraryIn (circuit_of text) library) → HasSameRuns made.circuit library
 text_runs text library l made =
     subst (HasSameRuns made.circuit) (sym made.made) (same_runs made.circuit (text_kept text made.circuit l made.is) (text_ports_once text made.circuit l made.is))

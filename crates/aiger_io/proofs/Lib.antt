@@ -2,6 +2,7 @@ mod BuiltLemmas
 mod CappedLemmas
 mod CleanLemmas
 mod FitLemmas
+mod Format
 mod FormedLemmas
 mod GraphExample
 mod GraphFitLemmas
@@ -16,12 +17,14 @@ mod NumberLemmas
 mod PickLemmas
 mod PlaceLemmas
 mod PortLemmas
-mod ReadExample
 mod ReadLemmas
 mod RoundTripLemmas
 mod RowBackLemmas
 mod RowLemmas
 mod SymbolLemmas
+mod TextExample
 mod TextLemmas
 mod TwiceLemmas
+mod WeightLemmas
+mod WrittenFormLemmas
 mod WrittenLemmas

@@ -97,7 +97,7 @@ within_get [] i x e = absurd (cc)
 within_get (y ∷ ys) zero x e = omega arith
 within_get (y ∷ ys) (suc i) x e = let l : i < length ys = within_get ys i x e in omega arith
 
-none_at : (n p : ℕ) (name : List ℕ) → slice_get (replicate n no_name) p ≡ Some (Some name) → ⊥
+pub none_at : (n p : ℕ) (name : List ℕ) → slice_get (replicate n no_name) p ≡ Some (Some name) → ⊥
 none_at zero p name e = absurd (cc)
 none_at (suc n) zero name e = absurd (cc)
 none_at (suc n) (suc p) name e = none_at n p name e

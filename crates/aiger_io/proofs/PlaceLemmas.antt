@@ -6,6 +6,7 @@ use Rattle.std.proofs.lemmas.Bool.{ltb-true, ltb-false, leb-true, le-leb, eq-eqb
 use Rattle.list_laws.proofs.Places.{get_pushed}
 use Rattle.aiger_io.specs.Items.{item_count, kind_at, one_number, latch_with, latch_of, and_with, and_of, item_of, is_literal, is_variable, is_in_range, item_with, item_at, items_from, init_of}
 use Rattle.aiger_io.specs.Numbers.{words_of, number_of, and_then}
+pub use Rattle.aiger_io.specs.ItemRow.{kind_of_item}
 use Rattle.aiger_io.specs.declared.aag_err.AagErr.{AagErr}
 use Rattle.aiger_io.specs.declared.aag_err.AagErr.TheVariants as aag_err
 use Rattle.aiger_io.specs.declared.header.Header.{Header}
@@ -14,12 +15,6 @@ use Rattle.aiger_io.specs.declared.item.Item.TheVariants.{Input, Latch, Output, 
 use Rattle.aiger_io.specs.declared.item.Kind.{Kind}
 use Rattle.aiger_io.specs.declared.item.Kind.TheVariants as kind
 use Rattle.aiger_io.proofs.ItemLemmas.{same_answer, no_answer}
-
-abbrev pub kind_of_item : Item → Kind
-kind_of_item (Input own) = kind.Input
-kind_of_item (Latch own next init) = kind.Latch
-kind_of_item (Output l) = kind.Output
-kind_of_item (And own left right) = kind.And
 
 -- a line's form is that of its kind
 of_kind : (k : Kind) (made item : Item) → kind_of_item made ≡ k → Some made ≡ Some item → kind_of_item item ≡ k

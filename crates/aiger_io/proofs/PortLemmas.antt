@@ -14,6 +14,7 @@ use Rattle.tl_text.specs.Once.{AreOnce}
 use Rattle.tl_text.proofs.NameSetLemmas.{has_in, in_has}
 use Rattle.aiger_io.specs.Bodies.{named_count}
 use Rattle.aiger_io.specs.PortNames.{default_name, names_from, input_names, output_names, port_names, is_twice, is_port, name_at, first_twice}
+use Rattle.aiger_io.specs.Refused.{StandsTwice}
 use Rattle.aiger_io.specs.Symbols.{SymbolsValue, no_name}
 use Rattle.aiger_io.specs.declared.aag_err.AagErr.TheVariants.{BadSymbol}
 use Rattle.aiger_io.specs.declared.header.Header.{Header}
@@ -31,14 +32,7 @@ never_twice (n ∷ names) h = (
 )
 
 -- a name that stands twice has two places
-pub record HasTwoPlaces (names : List (List ℕ)) (x : List ℕ) : Type 0 where
-  pub first : ℕ
-  pub second : ℕ
-  pub order : first < second
-  pub here : slice_get names first ≡ Some x
-  pub there : slice_get names second ≡ Some x
-
-pub two_places : (names : List (List ℕ)) (x : List ℕ) → is_twice names x ≡ true → HasTwoPlaces names x
+pub two_places : (names : List (List ℕ)) (x : List ℕ) → is_twice names x ≡ true → StandsTwice names x
 two_places [] x t = absurd (true≢false (sym t))
 two_places (n ∷ names) x t = elim (or_cases (bytes_eq x n && has_name names x) (is_twice names x) t) [
   | inl h ↦ (
@@ -50,12 +44,12 @@ two_places (n ∷ names) x t = elim (or_cases (bytes_eq x n && has_name names x)
 ]
 
 -- the name of an ordinal
-record IsNamedFrom (letter first : ℕ) (names : List (Option (List ℕ))) (i : ℕ) (x : List ℕ) : Type 0 where
-  name : Option (List ℕ)
-  at : slice_get names i ≡ Some name
-  is : x ≡ unwrap_or name (default_name letter (first + i))
+pub record IsNamedFrom (letter first : ℕ) (names : List (Option (List ℕ))) (i : ℕ) (x : List ℕ) : Type 0 where
+  pub name : Option (List ℕ)
+  pub at : slice_get names i ≡ Some name
+  pub is : x ≡ unwrap_or name (default_name letter (first + i))
 
-names_at : (letter first : ℕ) (names : List (Option (List ℕ))) (i : ℕ) (x : List ℕ) → slice_get (names_from letter first names) i ≡ Some x → IsNamedFrom letter first names i x
+pub names_at : (letter first : ℕ) (names : List (Option (List ℕ))) (i : ℕ) (x : List ℕ) → slice_get (names_from letter first names) i ≡ Some x → IsNamedFrom letter first names i x
 names_at letter first [] i x e = absurd (cc)
 names_at letter first (o ∷ os) zero x e =
     let q : unwrap_or o (default_name letter first) ≡ x = cc in
@@ -66,17 +60,17 @@ names_at letter first (o ∷ os) (suc i) x e =
     let z : first + 1 + i ≡ first + suc i = omega arith in
     record { name = r.name; at = r.at; is = r.is ∙ ap (λ k. unwrap_or r.name (default_name letter k)) z }
 
-names_length : (letter first : ℕ) (names : List (Option (List ℕ))) → length (names_from letter first names) ≡ length names
+pub names_length : (letter first : ℕ) (names : List (Option (List ℕ))) → length (names_from letter first names) ≡ length names
 names_length letter first [] = refl
 names_length letter first (o ∷ os) = ap (λ n. suc n) (names_length letter (first + 1) os)
 
-take_at : {A : Type 0} (n : ℕ) (xs : List A) (i : ℕ) (x : A) → slice_get (take n xs) i ≡ Some x → (i < n) × (slice_get xs i ≡ Some x)
+pub take_at : {A : Type 0} (n : ℕ) (xs : List A) (i : ℕ) (x : A) → slice_get (take n xs) i ≡ Some x → (i < n) × (slice_get xs i ≡ Some x)
 take_at zero xs i x e = absurd (cc)
 take_at (suc n) [] i x e = absurd (cc)
 take_at (suc n) (y ∷ ys) zero x e = (omega arith, e)
 take_at (suc n) (y ∷ ys) (suc i) x e = let r = take_at n ys i x e in let l : i < n = r.0 in (omega arith, r.1)
 
-drop_at : {A : Type 0} (n : ℕ) (xs : List A) (i : ℕ) (x : A) → slice_get (drop n xs) i ≡ Some x → slice_get xs (n + i) ≡ Some x
+pub drop_at : {A : Type 0} (n : ℕ) (xs : List A) (i : ℕ) (x : A) → slice_get (drop n xs) i ≡ Some x → slice_get xs (n + i) ≡ Some x
 drop_at zero xs i x e = let z : i ≡ 0 + i = omega arith in subst (λ k. slice_get xs k ≡ Some x) z e
 drop_at (suc n) [] i x e = absurd (cc)
 drop_at (suc n) (y ∷ ys) i x e = let z : suc (n + i) ≡ suc n + i = omega arith in subst (λ k. slice_get (y ∷ ys) k ≡ Some x) z (drop_at n ys i x e)

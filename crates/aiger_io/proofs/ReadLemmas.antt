@@ -4,13 +4,12 @@ use Rattle.std.specs.Str.Lines.{lines}
 use Rattle.std.specs.Prelude.{bytes_eq, codes}
 use Rattle.std.proofs.lemmas.Bool.{cond-true, cond-false, cases_Bool}
 use Rattle.aiger_io.specs.Bodies.{capped, capped_header}
-use Rattle.aiger_io.specs.Circuit.{Circuit, circuit_with, unless, named_circuit, circuit_behind, circuit_under, circuit_of}
-use Rattle.aiger_io.specs.CircuitLibrary.{library_of}
+use Rattle.aiger_io.specs.Circuit.{Circuit}
+use Rattle.aiger_io.specs.Reader.{circuit_with, unless, named_circuit, circuit_behind, circuit_under, circuit_of}
 use Rattle.aiger_io.specs.Header.{is_header, header_by, header_of, header_in}
 use Rattle.aiger_io.specs.Items.{item_count, items_from}
 use Rattle.aiger_io.specs.Numbers.{numbers_of, words_of, and_then}
 use Rattle.aiger_io.specs.PortNames.{first_twice}
-use Rattle.aiger_io.specs.Reading.{HasOneReading}
 use Rattle.aiger_io.specs.Symbols.{SymbolsValue, no_symbols, symbols_from}
 use Rattle.aiger_io.specs.declared.aag_err.AagErr.{AagErr}
 use Rattle.aiger_io.specs.declared.aag_err.AagErr.TheVariants as aag_err
@@ -76,14 +75,6 @@ circuit_read text c e =
       none_twice = n.0;
       is = sym n.1;
     }
-
--- so a text has one reading
-pub one_reading : (text : List ℕ) → HasOneReading text
-one_reading text = record {
-  one_library = λ a b x y. x.made ∙ ap library_of (same_answer (circuit_of text) x.circuit y.circuit x.is y.is) ∙ sym y.made;
-  one_refusal = λ e f x y. cc;
-  not_both = λ a e x y. no_answer (circuit_of text) e x.circuit y x.is;
-}
 
 -- a header that says more outputs than there can be lines gives the same circuit
 under_cases : (h : Header) (rows : List (List ℕ)) (r : Result (List Item) AagErr) → items_from h [] rows ≡ r → length rows < 4294967295 → and_then (circuit_behind (capped_header h) rows) r ≡ and_then (circuit_behind h rows) r

@@ -1,6 +1,5 @@
 -- Numbers, words and lines are read back as they were written.
-use Rattle.std.proofs.Common.{◌≡◌, lit<, ℕ, zero, suc, ◌+◌, ◌-◌, ◌*◌, ◌^◌, ◌<◌, ◌≤◌, Bool, true, false, ◌&&◌, eqb, get_or, take, List, [], ◌∷◌, ◌++◌, length, map, Some, None, Ok, Err, decimal, codes, inl, inr, refl, sym, ap, ◌∙◌, subst, arith, append_assoc, append-nil, length-append}
-use Rattle.std.specs.Prelude.{slice_get}
+use Rattle.std.proofs.Common.{◌≡◌, lit<, ℕ, ◌+◌, ◌-◌, ◌*◌, ◌^◌, ◌<◌, ◌≤◌, Bool, true, false, ◌&&◌, eqb, get_or, take, List, [], ◌∷◌, ◌++◌, length, map, Some, None, Ok, Err, decimal, codes, inl, inr, refl, sym, ap, ◌∙◌, subst, arith, append_assoc, append-nil}
 use Rattle.std.specs.List.{flat_map, slice_split}
 use Rattle.std.specs.Option.{option_map}
 use Rattle.std.specs.Str.Lines.{lines, lines_of_parts, strip_carriage_return}
@@ -14,7 +13,7 @@ use Rattle.tl_text.specs.Lines.{is_bad}
 use Rattle.tl_text.specs.WrittenText.{words_text, line_text}
 use Rattle.tl_text.proofs.WordLemmas.{AllClean, one_clean, more_clean, word_clean, decimal_form, decimal_value, decimal_clean}
 use Rattle.aiger_io.specs.Header.{is_header, header_in, header_of, header_by}
-use Rattle.aiger_io.specs.Items.{item_count, kind_at, latch_with, and_with, item_of, is_literal, is_variable, is_in_range, item_with, item_at, items_from}
+use Rattle.aiger_io.specs.Items.{latch_with, and_with, item_of, is_literal, is_variable, is_in_range}
 use Rattle.aiger_io.specs.Numbers.{words_of, in_front, number_of}
 use Rattle.aiger_io.specs.WrittenText.{header_words, init_words, item_words, item_text}
 use Rattle.aiger_io.specs.declared.aag_err.AagErr.TheVariants as aag_err
@@ -23,8 +22,7 @@ use Rattle.aiger_io.specs.declared.item.Item.{Item}
 use Rattle.aiger_io.specs.declared.item.Item.TheVariants.{Input, Latch, Output, And}
 use Rattle.aiger_io.proofs.CleanLemmas.{aag_word}
 use Rattle.aiger_io.proofs.CappedLemmas.{header_small}
-use Rattle.aiger_io.proofs.ItemLemmas.{items_next, items_full}
-use Rattle.aiger_io.proofs.PlaceLemmas.{IsItemAt, kind_of_item, literal_low, variable_low}
+use Rattle.aiger_io.proofs.PlaceLemmas.{kind_of_item, literal_low, variable_low}
 
 -- numbers as they are written
 pub number_back : (n : ℕ) → n < 2 ^ 64 → number_of (decimal n) ≡ Some n
@@ -145,27 +143,8 @@ module _ (h : Header) (most : h.variables ≤ 1073741824) where
   row_words (Output l) t = words_back (decimal l) [] (item_clean (Output l) t)
   row_words (And own left right) t = words_back (decimal own) (decimal left ∷ decimal right ∷ []) (item_clean (And own left right) t)
 
-  item_at_back : (p : ℕ) (item : Item) → IsItemAt h p item → item_at h p (item_row item) ≡ Ok item
-  item_at_back p item at =
-      ap (λ ws. item_with h.variables p (item_of (kind_at h p) ws)) (row_words item at.range)
-      ∙ ap (λ k. item_with h.variables p (item_of k (item_words item))) (sym at.kind)
-      ∙ ap (item_with h.variables p) (item_back item at.range)
-      ∙ cond-true (is_in_range h.variables item) (Ok item) (Err (aag_err.Range (p + 2))) at.range
-
-  -- all lines
-  pub items_back : (before items : List Item) (rows : List (List ℕ)) → ((q : ℕ) (item : Item) → slice_get items q ≡ Some item → IsItemAt h (length before + q) item) → length before + length items ≡ item_count h
-      → items_from h before (map item_row items ++ rows) ≡ Ok (before ++ items)
-  items_back before [] rows are count = items_full h before rows (let c : length before + length {A = Item} [] ≡ item_count h = count in omega arith) ∙ ap (λ l. Ok l) (sym (append-nil before))
-  items_back before (item ∷ items) rows are count =
-      let z : length before + zero ≡ length before = omega arith in
-      let here : IsItemAt h (length before) item = subst (λ n. IsItemAt h n item) z (are zero item refl) in
-      let more : length before < item_count h = (let c : length before + length (item ∷ items) ≡ item_count h = count in omega arith) in
-      let n : length (before ++ item ∷ []) ≡ length before + length (item ∷ []) = length-append before (item ∷ []) in
-      items_next h before (item_row item) (map item_row items ++ rows) item more (item_at_back (length before) item here)
-      ∙ items_back (before ++ item ∷ []) items rows
-      (λ q it e. let y : length before + suc q ≡ length (before ++ item ∷ []) + q = omega arith in subst (λ m. IsItemAt h m it) y (are (suc q) it e))
-      (let c : length before + length (item ∷ items) ≡ item_count h = count in omega arith)
-      ∙ ap (λ l. Ok l) (append_assoc before (item ∷ []) items)
+  pub item_read_back : (item : Item) → is_in_range h.variables item ≡ true → item_of (kind_of_item item) (words_of (row_of (item_words item))) ≡ Some item
+  item_read_back item t = ap (item_of (kind_of_item item)) (row_words item t) ∙ item_back item t
 
   item_line : (item : Item) (rest : List ℕ) → is_in_range h.variables item ≡ true → lines (item_text item ++ rest) ≡ item_row item ∷ lines rest
   item_line (Input own) rest t = line_back (decimal own) [] rest (item_clean (Input own) t)

@@ -7,13 +7,12 @@ use Rattle.netlist.specs.Flat.{underscores, most_underscores}
 use Rattle.netlist.specs.LibraryValue.{LibraryValue}
 use Rattle.tl_fault.specs.OrMemory.{Unless, OrMemory}
 use Rattle.aiger_io.specs.Bodies.{capped_header, capped_numbers, capped_result, IsHeaderOf}
-use Rattle.aiger_io.specs.Circuit.{circuit_with, unless, named_circuit, named_behind, circuit_behind, circuit_under, circuit_in}
+use Rattle.aiger_io.specs.Reader.{circuit_with, unless, named_circuit, named_behind, circuit_behind, circuit_under, circuit_in, IsLibraryIn}
 use Rattle.aiger_io.specs.CircuitLibrary.{library_of}
 use Rattle.aiger_io.specs.Header.{header_by, header_of, header_in}
 use Rattle.aiger_io.specs.Items.{item_count, items_from}
 use Rattle.aiger_io.specs.Numbers.{words_of, numbers_of, and_then}
 use Rattle.aiger_io.specs.PortNames.{first_twice}
-use Rattle.aiger_io.specs.Reading.{IsLibraryIn}
 use Rattle.aiger_io.specs.Refusals.{refusal_of}
 use Rattle.aiger_io.specs.Symbols.{SymbolsValue, no_symbols, symbols_from}
 use Rattle.aiger_io.specs.declared.aag_err.AagErr.{AagErr}

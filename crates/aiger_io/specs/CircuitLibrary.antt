@@ -1,5 +1,5 @@
 -- The library of a circuit: one model, with a cover or a latch for what each line says.
-use Rattle.std.specs.Prelude.{ℕ, ◌+◌, ◌-◌, ◌/◌, ◌%◌, Bool, true, if◌then◌else◌, ◌==◌, List, [], ◌∷◌, ◌++◌, replicate, slice_index_or, None, codes, decimal}
+use Rattle.std.specs.Prelude.{ℕ, ◌+◌, ◌-◌, ◌*◌, ◌/◌, ◌%◌, Bool, true, if◌then◌else◌, ◌==◌, List, [], ◌∷◌, ◌++◌, replicate, slice_index_or, None, codes, decimal}
 use Rattle.netlist.specs.Flat.{most_underscores}
 use Rattle.netlist.specs.LibraryValue.{ModelValue, LibraryValue}
 use Rattle.netlist.specs.declared.cell.Cell.{Cell}
@@ -71,3 +71,7 @@ model_of c = record { name = codes "aag"; line = 1; inputs = c.inputs; outputs =
 
 abbrev pub library_of : Circuit → LibraryValue
 library_of c = record { models = model_of c ∷ [] }
+
+-- what this model weighs: 1 for itself, 1 for constant 0, 3 for each input, output and AND gate, and 4 for each latch
+abbrev pub library_weight : Header → ℕ
+library_weight h = 2 + 3 * h.inputs + 4 * h.latches + 3 * h.outputs + 3 * h.ands

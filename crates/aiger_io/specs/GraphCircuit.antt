@@ -1,6 +1,7 @@
 -- The circuit of a graph: a variable for each source, in the order of their indices, and for each AND node. Inputs are the regular inputs, and then the parameters.
-use Rattle.std.specs.Prelude.{◌≡◌, ℕ, ◌+◌, ◌*◌, ◌^◌, ◌<◌, List, [], ◌++◌, length, map, Some, Ok, slice_get, slice_index_or}
+use Rattle.std.specs.Prelude.{◌≡◌, ℕ, ◌+◌, ◌*◌, ◌^◌, ◌<◌, List, [], ◌++◌, length, map, Some, slice_get, slice_index_or}
 use Rattle.std.specs.List.{range_with_len}
+use Rattle.list_laws.specs.Members.{In}
 use Rattle.tl_text.specs.Once.{AreOnce}
 use Rattle.aig_core.specs.Aig.{Aig, first_and}
 use Rattle.aig_core.specs.Roots.{RootsValue, roots_of, AreRoots}
@@ -11,12 +12,15 @@ use Rattle.netlist.specs.FlatCycle.{HasCycles}
 use Rattle.netlist.specs.FlatValue.{FlatValue}
 use Rattle.netlist.specs.HasCleanNames.{AreClean}
 use Rattle.netlist.specs.LibraryValue.{LibraryValue}
+use Rattle.netlist.specs.Weight.{Weighs}
 use Rattle.netlist.specs.declared.flat.FlatLatch.{FlatLatch}
 use Rattle.netlist.specs.declared.flat.OutPort.{OutPort}
 use Rattle.param_list.specs.declared.params.Param.{Param}
 use Rattle.param_list.specs.Parameters.{regular_names}
-use Rattle.aiger_io.specs.Circuit.{Circuit, circuit_of}
-use Rattle.aiger_io.specs.Reading.{IsOfFormat}
+use Rattle.aiger_io.specs.AigerText.{IsOfFormat, IsAigerText}
+use Rattle.aiger_io.specs.Circuit.{Circuit}
+use Rattle.aiger_io.specs.CircuitLibrary.{model_of, library_of, library_weight}
+use Rattle.aiger_io.specs.Refused.{IsNameRefused}
 use Rattle.aiger_io.specs.Run.{HasOneFit, HasSameRuns}
 use Rattle.aiger_io.specs.WrittenText.{numbered, circuit_text}
 use Rattle.aiger_io.specs.declared.header.Header.{Header}
@@ -72,10 +76,13 @@ pub record IsWrittenFrom (flat : FlatValue) (params : List Param) (regular : Lis
   pub literals : AreRoots g (roots_of roots)
   pub few : length flat.outputs < 2 ^ 32
 
--- What the circuit of a graph keeps. Where its names are clean, its text is of the format, and is read back where no two of them are alike. Values
--- that fit its lines are there, and agree on what the lines define. Its cycles and runs are those of the library whose graph it is.
+-- What the circuit of a graph keeps. Where its names are clean, its text is of the format; it is this circuit where no two of them are alike, and is refused
+-- for a name where an output has the name of an input. The library that is read of it weighs what its header says. Values that fit its lines are there, and
+-- agree on what the lines define. Its cycles and runs are those of the library whose graph it is.
 pub record IsGraphsCircuit (flat : FlatValue) (params : List Param) (g : Aig) (roots : RootsValue) (c : Circuit) : Type 0 where
   pub format : AreClean (c.inputs ++ c.outputs) → IsOfFormat (circuit_text c) c
-  pub reads_back : AreClean (c.inputs ++ c.outputs) → AreOnce (c.inputs ++ c.outputs) → circuit_of (circuit_text c) ≡ Ok c
+  pub reads_back : AreClean (c.inputs ++ c.outputs) → AreOnce (c.inputs ++ c.outputs) → IsAigerText (circuit_text c) c
+  pub alike : AreClean (c.inputs ++ c.outputs) → (name : List ℕ) → In c.inputs name → In c.outputs name → IsNameRefused (circuit_text c)
+  pub weight : Weighs (library_of c) (model_of c) (library_weight c.header)
   pub fit : HasOneFit c
   pub runs : (library : LibraryValue) → HasCycles library flat → HasSourceCycles library flat params g roots → HasSameRuns c library

@@ -1,13 +1,10 @@
 -- The header, which is the first line: `aag`, the greatest variable, and how many inputs, latches, outputs and AND gates there are.
-use Rattle.std.specs.Prelude.{ℕ, ◌+◌, ◌^◌, Bool, ◌&&◌, if◌then◌else◌, nat_le, List, [], ◌∷◌, length, Option, Some, None, Result, Ok, Err, bytes_eq, codes}
+use Rattle.std.specs.Prelude.{ℕ, ◌&&◌, if◌then◌else◌, nat_le, List, [], ◌∷◌, length, Option, Some, None, Result, Ok, Err, bytes_eq, codes}
 use Rattle.aiger_io.specs.declared.aag_err.AagErr.{AagErr}
 use Rattle.aiger_io.specs.declared.aag_err.AagErr.TheVariants as aag_err
 use Rattle.aiger_io.specs.declared.header.Header.{Header}
 use Rattle.aiger_io.specs.Numbers.{words_of, numbers_of}
-
--- the greatest variable is at most 2^30, and each input, latch and AND gate has a variable of its own
-abbrev pub is_header : Header → Bool
-is_header h = nat_le h.variables (2 ^ 30) && nat_le (h.inputs + h.latches + h.ands) h.variables
+pub use Rattle.aiger_io.specs.HeaderRow.{is_header}
 
 -- numbers of another count: with six to nine the header is one of a later version of the format
 abbrev pub other_header : List ℕ → AagErr

@@ -1,6 +1,6 @@
 -- The lines behind the header: inputs, latches, outputs and AND gates, in this order and as many as the header says. The place of such a
 -- line is counted from 0, so that its number is the place plus 2.
-use Rattle.std.specs.Prelude.{ℕ, ◌+◌, ◌*◌, ◌%◌, Bool, true, false, ◌&&◌, ◌||◌, if◌then◌else◌, ◌==◌, nat_lt, nat_le, List, [], ◌∷◌, ◌++◌, length, Option, Some, None, Result, Ok, Err, bytes_eq, codes}
+use Rattle.std.specs.Prelude.{ℕ, ◌+◌, Bool, true, false, ◌||◌, if◌then◌else◌, nat_le, List, [], ◌∷◌, ◌++◌, length, Option, Some, None, Result, Ok, Err, bytes_eq, codes}
 use Rattle.std.specs.Option.{option_map}
 use Rattle.aiger_io.specs.declared.aag_err.AagErr.{AagErr}
 use Rattle.aiger_io.specs.declared.aag_err.AagErr.TheVariants.{Malformed, Range}
@@ -10,17 +10,7 @@ use Rattle.aiger_io.specs.declared.item.Item.TheVariants.{Input, Latch, Output, 
 use Rattle.aiger_io.specs.declared.item.Kind.{Kind}
 use Rattle.aiger_io.specs.declared.item.Kind.TheVariants as kind
 use Rattle.aiger_io.specs.Numbers.{words_of, number_of, and_then}
-
--- how many such lines there are, and what the one at a place is
-abbrev pub item_count : Header → ℕ
-item_count h = h.inputs + h.latches + h.outputs + h.ands
-
-abbrev pub kind_at : Header → ℕ → Kind
-kind_at h place =
-    if nat_lt place h.inputs then kind.Input
-    else if nat_lt place (h.inputs + h.latches) then kind.Latch
-    else if nat_lt place (h.inputs + h.latches + h.outputs) then kind.Output
-    else kind.And
+pub use Rattle.aiger_io.specs.ItemRow.{item_count, kind_at, is_literal, is_variable, is_in_range}
 
 -- an input's and an output's literal
 abbrev pub one_number : List (List ℕ) → Option ℕ
@@ -59,19 +49,6 @@ item_of kind.Input words = option_map (λ (l : ℕ). Input l) (one_number words)
 item_of kind.Latch words = latch_of words
 item_of kind.Output words = option_map (λ (l : ℕ). Output l) (one_number words)
 item_of kind.And words = and_of words
-
--- a literal is twice a variable, and one more where it is complemented; what a line defines is a variable other than 0
-abbrev pub is_literal : ℕ → ℕ → Bool
-is_literal most l = nat_le l (2 * most + 1)
-
-abbrev pub is_variable : ℕ → ℕ → Bool
-is_variable most l = (l % 2 == 0) && (nat_le 2 l && nat_le l (2 * most))
-
-abbrev pub is_in_range : ℕ → Item → Bool
-is_in_range most (Input own) = is_variable most own
-is_in_range most (Latch own next init) = is_variable most own && is_literal most next
-is_in_range most (Output l) = is_literal most l
-is_in_range most (And own left right) = is_variable most own && (is_literal most left && is_literal most right)
 
 -- the line at a place, or its refusal: its form comes before its range
 abbrev pub item_with : ℕ → ℕ → Option Item → Result Item AagErr

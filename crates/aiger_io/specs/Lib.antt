@@ -1,16 +1,26 @@
--- What public clauses say.
+-- What public clauses say: what a circuit is, and what it does,
+pub mod Circuit
+pub mod Run
+pub mod CircuitLibrary
+-- which text it is, line by line, and what refuses a text first,
+pub mod Spelling
+pub mod HeaderRow
+pub mod ItemRow
+pub mod SymbolRow
+pub mod PortName
+pub mod AigerText
+pub mod Refused
+pub mod Refusals
+pub mod Reading
+-- and the text that is written.
+pub mod WrittenText
+pub mod GraphCircuit
+-- What only bodies are compared with.
 pub mod Numbers
 pub mod Header
 pub mod Items
 pub mod Symbols
 pub mod PortNames
-pub mod Circuit
-pub mod CircuitLibrary
-pub mod Reading
-pub mod Refusals
-pub mod Run
-pub mod WrittenText
-pub mod GraphCircuit
--- What only bodies are compared with.
+pub mod Reader
 pub mod Bodies
 pub mod Writing

@@ -1,14 +1,11 @@
 -- The names of inputs and outputs: their symbols, or `i` or `o` and the ordinal. No two of them may be alike.
-use Rattle.std.specs.Prelude.{ℕ, ◌+◌, Bool, false, ◌&&◌, ◌||◌, if◌then◌else◌, nat_lt, nat_le, List, [], ◌∷◌, ◌++◌, take, drop, slice_index_or, Option, Some, None, bytes_eq, decimal, unwrap_or}
+use Rattle.std.specs.Prelude.{ℕ, ◌+◌, Bool, false, ◌&&◌, ◌||◌, if◌then◌else◌, nat_lt, nat_le, List, [], ◌∷◌, ◌++◌, take, drop, slice_index_or, Option, Some, None, bytes_eq, unwrap_or}
 use Rattle.tl_text.specs.NameSets.{has_name}
 use Rattle.aiger_io.specs.declared.aag_err.AagErr.{AagErr}
 use Rattle.aiger_io.specs.declared.aag_err.AagErr.TheVariants.{BadSymbol}
 use Rattle.aiger_io.specs.declared.header.Header.{Header}
 use Rattle.aiger_io.specs.Symbols.{SymbolsValue, no_name}
-
--- the name by default
-abbrev pub default_name : ℕ → ℕ → List ℕ
-default_name letter ordinal = letter ∷ decimal ordinal
+pub use Rattle.aiger_io.specs.PortName.{default_name}
 
 abbrev pub names_from : ℕ → ℕ → List (Option (List ℕ)) → List (List ℕ)
 names_from letter ordinal [] = []

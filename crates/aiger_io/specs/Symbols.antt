@@ -1,19 +1,14 @@
 -- Symbols: the lines `i`, `l` or `o` with an ordinal, a blank, and a name. They name an input, a latch or an output.
-use Rattle.std.specs.Prelude.{ℕ, ◌+◌, Bool, ◌&&◌, ◌||◌, not, if◌then◌else◌, ◌==◌, nat_lt, List, [], ◌∷◌, ◌++◌, replicate, slice_set, slice_index_or, Option, Some, None, Result, Ok, Err, bytes_eq, codes}
-use Rattle.std.specs.List.{list_any, before_first, after_first}
+use Rattle.std.specs.Prelude.{ℕ, ◌+◌, Bool, ◌&&◌, not, if◌then◌else◌, ◌==◌, nat_lt, List, [], ◌∷◌, ◌++◌, replicate, slice_set, slice_index_or, Option, Some, None, Result, Ok, Err, bytes_eq, codes}
+use Rattle.std.specs.List.{before_first, after_first}
 use Rattle.std.specs.Option.{is_some}
-use Rattle.tl_text.specs.Lines.{ends_in}
 use Rattle.aiger_io.specs.declared.aag_err.AagErr.{AagErr}
 use Rattle.aiger_io.specs.declared.aag_err.AagErr.TheVariants.{Malformed, BadSymbol}
 use Rattle.aiger_io.specs.declared.header.Header.{Header}
 use Rattle.aiger_io.specs.declared.item.Kind.{Kind}
 use Rattle.aiger_io.specs.declared.item.Kind.TheVariants.{Input, Latch, Output, And}
 use Rattle.aiger_io.specs.Numbers.{number_of, and_then}
-
-pub record Symbol : Type 0 where
-  pub kind : Kind
-  pub ordinal : ℕ
-  pub name : List ℕ
+pub use Rattle.aiger_io.specs.SymbolRow.{Symbol, is_bad_byte, is_bad_name, count_of}
 
 -- `i` (105), `l` (108) and `o` (111)
 abbrev pub kind_of : ℕ → Option Kind
@@ -33,20 +28,7 @@ symbol_with (letter ∷ digits) (b ∷ bs) = symbol_by (b ∷ bs) (number_of dig
 abbrev pub symbol_of : List ℕ → Option Symbol
 symbol_of row = symbol_with (before_first (λ b. b == 32) row) (after_first (λ b. b == 32) row)
 
--- A name that no word of a netlist can be: it has a byte below 33, a `#` (35) or the byte 127, or ends in `\` (92).
-abbrev pub is_bad_byte : ℕ → Bool
-is_bad_byte b = nat_lt b 33 || ((b == 35) || (b == 127))
-
-abbrev pub is_bad_name : List ℕ → Bool
-is_bad_name name = list_any is_bad_byte name || ends_in 92 name
-
--- how many of a kind have a symbol, and the place of the first among inputs, latches and outputs; gates have none
-abbrev pub count_of : Header → Kind → ℕ
-count_of h Input = h.inputs
-count_of h Latch = h.latches
-count_of h Output = h.outputs
-count_of h And = 0
-
+-- the place of the first of a kind among inputs, latches and outputs; gates have none
 abbrev pub first_of : Header → Kind → ℕ
 first_of h Input = 0
 first_of h Latch = h.inputs

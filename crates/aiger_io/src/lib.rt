@@ -8,12 +8,12 @@
 //! `lhs rhs0 rhs1`; then symbols, the lines `i`, `l` or `o` with an ordinal, a blank, and a name; then, behind a line `c`, a comment.
 //! A latch starts at 1 exactly where its init is `1`.
 //!
-//! Which circuit a text is, or what refuses it first, stands in `specs/Circuit.antt`, over `specs/Header.antt`, `specs/Items.antt`,
-//! `specs/Symbols.antt` and `specs/PortNames.antt`. What the circuit does is told by its lines alone, in `specs/Run.antt`.
-//! `proofs/ReadExample.antt` reads some texts.
+//! Which circuit a text is stands in `specs/AigerText.antt`, from the side of who writes it, over `specs/HeaderRow.antt`,
+//! `specs/ItemRow.antt`, `specs/SymbolRow.antt` and `specs/PortName.antt`; what refuses a text first, in `specs/Refused.antt`. What the
+//! circuit does is told by its lines alone, in `specs/Run.antt`. `proofs/TextExample.antt` has some texts.
 //!
-//! [`read_aag`] reads a text as a netlist library (`specs/CircuitLibrary.antt`), whose cycles and runs are those of the circuit:
-//! [`aag_law`]. [`put_aag`] writes the circuit of a graph (`specs/GraphCircuit.antt`), with a symbol for each input and each output
+//! [`read_aag`] reads a text as a netlist library (`specs/CircuitLibrary.antt`), whose cycles and runs are those of the circuit.
+//! [`put_aag`] writes the circuit of a graph (`specs/GraphCircuit.antt`), with a symbol for each input and each output
 //! (`specs/WrittenText.antt`); its cycles and runs are those of the library whose graph it is: [`graph_law`].
 //!
 //! - `read_text.rt` has `read_aag`, and `aag_err.rt` the refusals.
@@ -21,7 +21,7 @@
 //! - `item.rt` and `item_line.rt` read one line of an input, a latch, an output or a gate, and `items.rt` all of them.
 //! - `symbol.rt` and `symbols.rt` read the symbols, and `port_names.rt` finds names that stand twice.
 //! - `own_name.rt`, `command.rt` and `model.rt` make the library.
-//! - `law.rt` has the laws.
+//! - `law.rt` has the law.
 //! - `written_text.rt` has `put_aag`, and `written_line.rt` the lines that it adds.
 //!
 //! # Source
@@ -49,6 +49,6 @@ mod written_line;
 mod written_text;
 
 pub use aag_err::AagErr;
-pub use law::{aag_law, graph_law};
+pub use law::graph_law;
 pub use read_text::read_aag;
 pub use written_text::put_aag;

@@ -7,9 +7,10 @@ ghost use Rattle.netlist.specs.WellFormed.{IsWellFormed};
 ghost use Rattle.tl_fault.specs.OrMemory.{OrMemory};
 ghost use Rattle.tl_text.specs.declared.logical_lines.TheConstants.{MOST_BYTES};
 ghost use Rattle.aiger_io.specs.Bodies.{named_count, AreSized};
-ghost use Rattle.aiger_io.specs.Circuit.{named_circuit, named_behind, circuit_under};
+ghost use Rattle.aiger_io.specs.Reader.{named_circuit, named_behind, circuit_under, circuit_of, IsLibraryIn};
 ghost use Rattle.aiger_io.specs.Items.{item_count};
-ghost use Rattle.aiger_io.specs.Reading.{IsLibraryIn, IsLibraryOf, IsRefused, HasOneReading};
+ghost use Rattle.aiger_io.specs.Reading.{IsLibraryOf, HasOneReading, HasRunsOf};
+ghost use Rattle.aiger_io.specs.Refused.{IsRefused};
 ghost use Rattle.aiger_io.specs.Refusals.{refusal_of};
 
 use crate::aag_err::AagErr;
@@ -82,8 +83,8 @@ fn library_under(alloc: Global, header: &Header, rows: &[&[u8]]) -> Result<Libra
 // The library of a text, or its first refusal.
 fn library_of_text(alloc: Global, text: &[u8]) -> Result<Library, AagErr>
     requires { length text.now ≤ MOST_BYTES }
-    ensures library { IfOk result (λ library. IsLibraryOf text.now library) }
-    ensures refusal { IfErr result (OrMemory refusal_of (IsRefused text.now)) }
+    ensures library { IfOk result (λ library. IsLibraryIn (circuit_of text.now) library) }
+    ensures refusal { IfErr result (OrMemory refusal_of (λ e. circuit_of text.now ≡ Err e)) }
 {
     let rows = rows(alloc, text)?;
     let header = read_header(alloc, &rows)?;
@@ -96,7 +97,7 @@ fn library_of_text(alloc: Global, text: &[u8]) -> Result<Library, AagErr>
 /// than the text's lines, where an input or an output has a name that begins with many underscores.
 ///
 /// # Errors
-/// The first refusal of the text, by `specs/Circuit.antt`: A1 and A5 of its header, else A2, A3 and A4 of the first line that has one, else A4
+/// The first refusal of the text, by `specs/Refused.antt`: A1 and A5 of its header, else A2, A3 and A4 of the first line that has one, else A4
 /// of the first symbol that names another input or output too; `Memory` where there is none.
 pub fn read_aag(alloc: Global, text: &[u8]) -> Result<Library, AagErr>
     requires { length text.now ≤ MOST_BYTES }
@@ -105,8 +106,13 @@ pub fn read_aag(alloc: Global, text: &[u8]) -> Result<Library, AagErr>
     ensures library { IfOk result (λ library. IsLibraryOf text.now library) }
     ensures refusal { IfErr result (OrMemory refusal_of (IsRefused text.now)) }
 
-    // Whatever the answer: a text has a library or a refusal, never both, and no other one.
+    // Whatever the answer: a text is a circuit or is refused, never both, and has one of each at most.
     ensures one_reading { HasOneReading text.now }
+
+    // Each library of the text has the cycles and runs of the text's circuit, which knows its lines alone (`specs/Run.antt`). Where it is
+    // sound, as it is where it can be flattened, there are values of the circuit's variables that fit its lines for all values of inputs
+    // and latches, and any two agree on what the lines define.
+    ensures runs { (library : LibraryValue) → IsLibraryOf text.now library → HasRunsOf text.now library }
 
     // Each library of the text is well formed, with clean names, one model, and short names of ports.
     ensures well_formed { (library : LibraryValue) → IsLibraryOf text.now library → IsWellFormed library }

@@ -13,7 +13,7 @@ use Rattle.aig_core.specs.Aig.{Aig, first_and, IsSource, IsNormal, AreNormal}
 use Rattle.aig_core.specs.Value.{in_phase, node_value, FitsGraph}
 use Rattle.aig_core.proofs.FitLemmas.{behind_constant}
 use Rattle.aig_core.proofs.NodeLemmas.{node_normal}
-use Rattle.cut_enum.specs.Cuts.{Blocks, member, constant as blocks_constant, parameter as blocks_parameter, fan_ins, CanBeLeaf}
+use Rattle.cut_sets.specs.Cuts.{Blocks, member, constant as blocks_constant, parameter as blocks_parameter, fan_ins, CanBeLeaf}
 use Rattle.bit_fun.specs.Parameters.{param_count, IsParam}
 use Rattle.bit_fun.specs.BitFunction.{NodeBit, leaf, constant, parameter, node}
 use Rattle.bit_fun.specs.Walk.{cone_value}

@@ -16,7 +16,7 @@ use Rattle.aig_core.proofs.GrowthLemmas.{Extends, Extends-refl, Extends-trans, a
 use Rattle.cover_pick.specs.Cone.{is_stop}
 use Rattle.cover_pick.specs.Work.{IsInner}
 use Rattle.cover_pick.proofs.WorkLemmas.{stop_inner, inner_stop, node_inside}
-use Rattle.cut_enum.specs.Cuts.{Blocks, member, constant as blocks_constant, parameter as blocks_parameter, fan_ins}
+use Rattle.cut_sets.specs.Cuts.{Blocks, member, constant as blocks_constant, parameter as blocks_parameter, fan_ins}
 use Rattle.depth_first.specs.DepthFirst.{Posts, skips, posts}
 use Rattle.bit_fun.specs.Parameters.{IsParam}
 use Rattle.bit_fun.specs.PackOf.{phase_literal, MakesNode, leaf, constant, parameter, node}

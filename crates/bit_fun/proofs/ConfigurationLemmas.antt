@@ -5,7 +5,7 @@ use Rattle.list_laws.specs.Members.{In}
 use Rattle.aig_core.specs.declared.lit.Kind.TheVariants.{Regular}
 use Rattle.aig_core.specs.Aig.{Aig, first_and, AreNormal, IsSource}
 use Rattle.aig_core.specs.Value.{in_phase}
-use Rattle.cut_enum.specs.Cuts.{Blocks, member, constant, parameter}
+use Rattle.cut_sets.specs.Cuts.{Blocks, member, constant, parameter}
 use Rattle.cover_pick.specs.declared.lut.Lut.{Lut}
 use Rattle.cover_pick.specs.Mapping.{IsMapping, IsTableOf, source, free, node, bits_of}
 use Rattle.bit_fun.specs.Parameters.{param_count}

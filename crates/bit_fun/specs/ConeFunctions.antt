@@ -11,7 +11,7 @@ use Rattle.aig_core.specs.And.{with_pairs}
 use Rattle.cover_pick.specs.declared.lut.Lut.{Lut}
 use Rattle.cover_pick.specs.Cone.{is_stop}
 use Rattle.cover_pick.specs.Work.{IsInner, IsCone, IsWork}
-use Rattle.cut_enum.specs.Cuts.{Blocks, CanBeLeaf}
+use Rattle.cut_sets.specs.Cuts.{Blocks, CanBeLeaf}
 use Rattle.depth_first.specs.declared.edge.Edge.{Edge}
 use Rattle.depth_first.specs.declared.edge.Edge.TheVariants.{Node, Pass}
 use Rattle.depth_first.specs.DepthFirst.{Posts}

@@ -1,8 +1,9 @@
--- The numbers of its lines have no part in a certificate's validity.
-use Rattle.std.proofs.Common.{◌≡◌, ℕ, ◌==◌, if◌then◌else◌, List, [], ◌∷◌, map, Some, slice_get, zero, suc, refl, sym, ap, ◌∙◌, subst}
+-- The numbers of its lines have no part in a certificate's validity, nor in the text that it is written as.
+use Rattle.std.proofs.Common.{◌≡◌, ℕ, ◌==◌, if◌then◌else◌, List, [], ◌∷◌, ◌++◌, map, Some, slice_get, zero, suc, refl, sym, ap, ◌∙◌, subst}
+use Rattle.std.specs.List.{flat_map}
 use Rattle.std.specs.Option.{option_map}
 use Rattle.std.proofs.Math.Path.{fun_ext}
-use Rattle.std.proofs.lemmas.List.{length-map}
+use Rattle.std.proofs.lemmas.List.{length-map, map-append}
 use Rattle.std.proofs.lemmas.Option.{none-some, same_Some, slice_get-map}
 use Rattle.aig_core.specs.Aig.{Aig, IsAnd}
 use Rattle.list_laws.specs.Members.{In}
@@ -11,7 +12,8 @@ use Rattle.list_laws.proofs.Members.{In-map, from_map}
 use Rattle.cert_check.specs.CertificateValue.{PathValue, StepValue, CertificateValue}
 use Rattle.cert_check.specs.Paths.{IsPath}
 use Rattle.cert_check.specs.Valid.{claim_of, IsJustified, IsReached, IsValid}
-use Rattle.cert_check.specs.WrittenText.{bare_path, bare_step, bare}
+use Rattle.cert_check.specs.CertText.{says_depth, says_claim, SaidLine, path_said, steps_said}
+use Rattle.cert_check.specs.WrittenText.{saying_words, line_text, cert_text, bare_path, bare_step, bare}
 
 claim_bare : (ss : List StepValue) (n : ℕ) → claim_of (map bare_step ss) n ≡ claim_of ss n
 claim_bare [] n = refl
@@ -25,12 +27,12 @@ same_nodes [] = refl
 same_nodes (s ∷ ss) = ap (λ l. s.node ∷ l) (same_nodes ss)
 
 -- a path of the bare ones is a bare path, and the other way round
-got : (ps : List PathValue) (i : ℕ) (p : PathValue) → slice_get (map bare_path ps) i ≡ Some p → (q : PathValue) × (slice_get ps i ≡ Some q) × (p ≡ bare_path q)
+pub got : (ps : List PathValue) (i : ℕ) (p : PathValue) → slice_get (map bare_path ps) i ≡ Some p → (q : PathValue) × (slice_get ps i ≡ Some q) × (p ≡ bare_path q)
 got [] i p e = absurd (none-some p e)
 got (x ∷ xs) zero p e = (x, refl, sym (same_Some (bare_path x) p e))
 got (x ∷ xs) (suc i) p e = got xs i p e
 
-bared : (ps : List PathValue) (i : ℕ) (p : PathValue) → slice_get ps i ≡ Some p → slice_get (map bare_path ps) i ≡ Some (bare_path p)
+pub bared : (ps : List PathValue) (i : ℕ) (p : PathValue) → slice_get ps i ≡ Some p → slice_get (map bare_path ps) i ≡ Some (bare_path p)
 bared ps i p e = slice_get-map bare_path ps i ∙ ap (λ o. option_map bare_path o) e
 
 module _ (g : Aig) (k : ℕ) (claim : ℕ → ℕ) (s : StepValue) where
@@ -74,3 +76,27 @@ module _ (g : Aig) (roots : List ℕ) (k : ℕ) where
   -- So a certificate is valid where another one is that differs from it in these numbers alone.
   pub same_valid : (c d : CertificateValue) → bare c ≡ bare d → IsValid g roots k c → IsValid g roots k d
   same_valid c d same v = valid_bare d (subst (λ x. IsValid g roots k x) same (bare_valid c v))
+
+-- the words of the lines
+abbrev words_said : List SaidLine → List (List (List ℕ))
+words_said ls = map (λ (l : SaidLine). saying_words l.saying) ls
+
+path_words : (ps : List PathValue) → words_said (map path_said (map bare_path ps)) ≡ words_said (map path_said ps)
+path_words [] = refl
+path_words (p ∷ ps) = ap (λ ws. saying_words (path_said p).saying ∷ ws) (path_words ps)
+
+step_words : (ss : List StepValue) → words_said (steps_said (map bare_step ss)) ≡ words_said (steps_said ss)
+step_words [] = refl
+step_words (s ∷ ss) =
+    let said : SaidLine → List (List ℕ) = λ (l : SaidLine). saying_words l.saying in
+    ap (λ ws. saying_words (says_claim s.node s.claim) ∷ ws)
+    (map-append said (map path_said (map bare_path s.paths)) (steps_said (map bare_step ss))
+    ∙ (ap (λ ws. ws ++ words_said (steps_said (map bare_step ss))) (path_words s.paths)
+    ∙ (ap (λ ws. words_said (map path_said s.paths) ++ ws) (step_words ss) ∙ sym (map-append said (map path_said s.paths) (steps_said ss)))))
+
+text_bare : (c : CertificateValue) → cert_text (bare c) ≡ cert_text c
+text_bare c = ap (λ ws. flat_map line_text (saying_words (says_depth c.depth) ∷ ws)) (step_words c.steps)
+
+-- So the same text is written.
+pub same_text : (c d : CertificateValue) → bare c ≡ bare d → cert_text c ≡ cert_text d
+same_text c d same = sym (text_bare c) ∙ (ap cert_text same ∙ text_bare d)

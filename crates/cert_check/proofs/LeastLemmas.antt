@@ -8,8 +8,8 @@ use Rattle.list_laws.specs.Members.{In}
 use Rattle.list_laws.proofs.Apart.{AreApart, apart_short}
 use Rattle.list_laws.proofs.Choice.{choose}
 use Rattle.list_laws.proofs.Members.{place_in}
-use Rattle.cut_enum.specs.Cuts.{Blocks, IsCut}
-use Rattle.cut_enum.specs.Covers.{IsCover, HasDepth, source, free, table, RootsWithin}
+use Rattle.cut_sets.specs.Cuts.{Blocks, IsCut}
+use Rattle.cut_sets.specs.Covers.{IsCover, HasDepth, source, free, table, RootsWithin}
 use Rattle.cert_check.specs.CertificateValue.{PathValue, StepValue, CertificateValue}
 use Rattle.cert_check.specs.LowerBound.{IsLowerBound, AreLowerBounds}
 use Rattle.cert_check.specs.Valid.{claim_of, path_count, IsJustified, Needs, node, complemented, SomeNeeds, IsValid}

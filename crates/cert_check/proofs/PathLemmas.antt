@@ -5,8 +5,8 @@ use Rattle.aig_core.specs.declared.lit.Kind.TheVariants.{Parameter}
 use Rattle.aig_core.specs.declared.lit.Pair.{Pair}
 use Rattle.aig_core.proofs.NodeLemmas.{source_below, same_pair}
 use Rattle.list_laws.specs.Members.{In}
-use Rattle.cut_enum.specs.Cuts.{Blocks, member, constant, parameter, fan_ins}
-use Rattle.cut_enum.proofs.BlockLemmas.{regular_blocked}
+use Rattle.cut_sets.specs.Cuts.{Blocks, member, constant, parameter, fan_ins}
+use Rattle.cut_sets.proofs.BlockLemmas.{regular_blocked}
 use Rattle.cert_check.specs.Paths.{IsFanIn, first, second, Climbs, IsPath}
 
 -- a node with a fan-in has a pair

@@ -1,7 +1,7 @@
 -- What a valid certificate is good for.
 use Rattle.std.specs.Prelude.{ℕ, ◌≤◌, List, Option}
 use Rattle.aig_core.specs.Aig.{Aig}
-use Rattle.cut_enum.specs.Covers.{IsCover, HasDepth, RootsWithin}
+use Rattle.cut_sets.specs.Covers.{IsCover, HasDepth, RootsWithin}
 
 -- no cover of the graph for these roots, whatever its cuts of at most k leaves, has a depth below d
 pub record IsLowerBound (g : Aig) (k : ℕ) (roots : List ℕ) (d : ℕ) : Type 0 where

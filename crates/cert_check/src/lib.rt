@@ -17,7 +17,7 @@
 //! # The words
 //!
 //! `specs/Valid.antt` says when a certificate is valid, `specs/Paths.antt` what a path is, and `specs/LowerBound.antt` what a
-//! valid certificate is good for, over the covers and depths of crate `cut_enum` (`specs/Covers.antt`). `specs/Faults.antt` has the
+//! valid certificate is good for, over the covers and depths of crate `cut_sets` (`specs/Covers.antt`). `specs/Faults.antt` has the
 //! fault of a certificate that isn't valid: the first demand that it doesn't meet. `proofs/CertExample.antt` works out a
 //! certificate of depth 2.
 //!

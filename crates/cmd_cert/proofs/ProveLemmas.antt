@@ -7,11 +7,14 @@ use Rattle.tl_io.specs.Port.{PortSeen}
 use Rattle.tl_io.specs.Shelf.{Files, ShelfSeen}
 use Rattle.tl_io.specs.Sink.{SinkSeen}
 use Rattle.aig_core.specs.Roots.{roots_of}
-use Rattle.cut_enum.specs.Covers.{IsLeastDepth}
+use Rattle.cut_sets.specs.Covers.{IsLeastDepth}
 use Rattle.cert_check.specs.CertificateValue.{CertificateValue}
-use Rattle.cert_check.specs.WrittenText.{cert_text}
-use Rattle.cert_check.proofs.BareLemmas.{same_valid}
+use Rattle.cert_check.specs.CertText.{IsCertText}
+use Rattle.cert_check.specs.WrittenText.{cert_text, bare}
+use Rattle.cert_check.proofs.BareLemmas.{same_valid, same_text}
 use Rattle.cert_check.proofs.RoundTrip.{reads_back}
+use Rattle.depth_label.specs.Label.{label_of}
+use Rattle.flow_cert.proofs.NeededLemmas.{same_label_claims, same_needed}
 use Rattle.cmd_base.specs.Outside.{outside}
 use Rattle.cmd_base.specs.Writing.{FileText, AreWritten, IsCut}
 use Rattle.cmd_base.specs.Ends.{Told, IsBegun, IsBegunFrom, Ends}
@@ -51,19 +54,23 @@ module _ (words : CertWords) (p : Proof) (is : IsProof words.source.k p) where
         let built = p.labelled.built in
         let netlist = past.has.graph_is.has.netlist in
         let back = reads_back p.cert is.writable in
-        let depth : p.cert.depth ≡ back.read.depth = ap (λ (c : CertificateValue). c.depth) (sym back.same) in
+        let same : bare p.cert ≡ bare back.read = sym back.same in
+        let text : cert_text p.cert ≡ cert_text back.read = same_text p.cert back.read same in
+        let depth : p.cert.depth ≡ back.read.depth = ap (λ (c : CertificateValue). c.depth) same in
         record {
           source = built.source;
           graph = built.graph;
           roots = built.roots;
-          has = past.has.graph_is;
+          has = record { graph_is = past.has.graph_is; rows = p.labelled.table; labels = p.labelled.labels; labelled = is.labelled };
           sound = (past.settled.netlist netlist.text netlist.there).sound built.source.netlist netlist.is;
-          text = cert_text p.cert;
           cert = back.read;
-          is_text = back.is;
-          valid = same_valid built.graph (roots_of built.roots) words.source.k p.cert back.read (sym back.same) is.valid;
+          valid = same_valid built.graph (roots_of built.roots) words.source.k p.cert back.read same is.valid;
           least = subst (λ d. IsLeastDepth built.graph words.source.k (roots_of built.roots) d) depth is.least;
-          ends = subst (λ line. P texts line) (is.line ∙ ap proved_line depth) ends;
+          claims = same_label_claims p.labelled.labels p.cert back.read same is.claims;
+          needed = same_needed built.graph (roots_of built.roots) (label_of p.labelled.labels) p.cert back.read same is.needed;
+          is_text = subst (λ bytes. IsCertText bytes back.read) text back.is;
+          ends = subst (λ line. P (record { name = words.cert; bytes = cert_text back.read } ∷ []) line) (is.line ∙ ap proved_line depth)
+              (subst (λ bytes. P (record { name = words.cert; bytes = bytes } ∷ []) (string_bytes p.line)) text ends);
         }
 
     pub prove_done : AreWritten texts (string_bytes p.line) (outside mid before ports) (outside new after ports) → Ends (prove_walk words) old new (outside old before ports) (outside new after ports) outcome.Done

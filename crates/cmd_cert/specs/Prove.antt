@@ -4,33 +4,39 @@ use Rattle.tl_io.specs.Shelf.{Files}
 use Rattle.aig_core.specs.Aig.{Aig}
 use Rattle.aig_core.specs.Roots.{RootsValue, roots_of}
 use Rattle.netlist.specs.Sound.{IsSound}
-use Rattle.cut_enum.specs.Covers.{IsLeastDepth}
+use Rattle.cut_sets.specs.Covers.{IsLeastDepth}
 use Rattle.cert_check.specs.CertificateValue.{CertificateValue}
 use Rattle.cert_check.specs.CertText.{IsCertText}
 use Rattle.cert_check.specs.Valid.{IsValid}
+use Rattle.cert_check.specs.WrittenText.{cert_text}
+use Rattle.depth_label.specs.Label.{label_of}
+use Rattle.flow_cert.specs.Needed.{AreLabelClaims, AreNeeded}
 use Rattle.cmd_base.specs.Walk.{Walk}
 use Rattle.cmd_base.specs.Writing.{FileText, AreWritten, IsCut}
 use Rattle.cmd_stations.specs.declared.source.Source.{Source}
 use Rattle.cmd_stations.specs.Words.{SourceWords}
 use Rattle.cmd_stations.specs.Aims.{ToLabels}
-use Rattle.cmd_stations.specs.Source.{HasGraph, HasLabels}
+use Rattle.cmd_stations.specs.Source.{HasLabels}
 use Rattle.cmd_stations.specs.Settled.{source_reading}
 use Rattle.cmd_cert.specs.Words.{CertWords}
 use Rattle.cmd_cert.specs.Certs.{proved_line}
 
--- The source circuit that the files hold has this graph. The file has the text of a valid certificate of it, whose depth is the least of all covers.
+-- The source circuit that the files hold has this graph, with these labels. The file's bytes are those that a certificate is written as, and
+-- read as this certificate. It is valid for the graph, its depth is the least of all covers, each of its claims is the label of a node, and
+-- it claims exactly the nodes whose claims are needed; so only its paths are free.
 pub record HasProof (files : Files) (words : CertWords) (Ends : List FileText → List ℕ → Type 0) : Type 0 where
   pub source : Source
   pub graph : Aig
   pub roots : RootsValue
-  pub has : HasGraph files words.source source graph roots
+  pub has : HasLabels files words.source source graph roots
   pub sound : IsSound source.netlist.library
-  pub text : List ℕ
   pub cert : CertificateValue
-  pub is_text : IsCertText text cert
   pub valid : IsValid graph (roots_of roots) words.source.k cert
   pub least : IsLeastDepth graph words.source.k (roots_of roots) cert.depth
-  pub ends : Ends (record { name = words.cert; bytes = text } ∷ []) (proved_line cert.depth)
+  pub claims : AreLabelClaims has.labels cert
+  pub needed : AreNeeded graph (roots_of roots) (label_of has.labels) cert
+  pub is_text : IsCertText (cert_text cert) cert
+  pub ends : Ends (record { name = words.cert; bytes = cert_text cert } ∷ []) (proved_line cert.depth)
 
 -- the files hold a source circuit whose graph can be labelled
 pub record HasProveJob (files : Files) (words : SourceWords) : Type 0 where

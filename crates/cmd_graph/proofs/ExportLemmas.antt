@@ -92,6 +92,8 @@ module _ (b : BuiltSource) (is : IsBuiltSource b) (regular : List ℕ) where
     exported law = record {
       format = law.format clean;
       reads_back = λ other. law.reads_back clean (once other);
+      alike = law.alike clean;
+      weight = law.weight;
       fit = law.fit;
       runs = law.runs library is.read.netlist.cycles is.cycles;
     }

@@ -1,15 +1,18 @@
 -- The walk of `graph`: a source circuit is read, and its graph is written as the text of its circuit.
-use Rattle.std.specs.Prelude.{◌≡◌, ℕ, List, [], ◌∷◌, Ok, codes, decimal}
+use Rattle.std.specs.Prelude.{◌≡◌, ℕ, List, [], ◌∷◌, codes, decimal}
 use Rattle.std.specs.List.{concat}
 use Rattle.list_laws.specs.Members.{In}
 use Rattle.tl_io.specs.Shelf.{Files}
 use Rattle.aig_core.specs.Aig.{Aig}
 use Rattle.aig_core.specs.Roots.{RootsValue}
 use Rattle.netlist.specs.Sound.{IsSound}
+use Rattle.netlist.specs.Weight.{Weighs}
 use Rattle.param_list.specs.RegularPlaces.{AreRegularPlaces}
-use Rattle.aiger_io.specs.Circuit.{Circuit, circuit_of}
+use Rattle.aiger_io.specs.AigerText.{IsOfFormat, IsAigerText}
+use Rattle.aiger_io.specs.Circuit.{Circuit}
+use Rattle.aiger_io.specs.CircuitLibrary.{model_of, library_of, library_weight}
 use Rattle.aiger_io.specs.GraphCircuit.{graph_circuit}
-use Rattle.aiger_io.specs.Reading.{IsOfFormat}
+use Rattle.aiger_io.specs.Refused.{IsNameRefused}
 use Rattle.aiger_io.specs.Run.{HasOneFit, HasSameRuns}
 use Rattle.aiger_io.specs.WrittenText.{circuit_text}
 use Rattle.aiger_io.specs.declared.header.Header.{Header}
@@ -34,11 +37,14 @@ circuit_at source regular graph roots = graph_circuit source.netlist.flat source
 abbrev pub HasOtherNames : Circuit → Type 0
 HasOtherNames c = (name : List ℕ) → In c.inputs name → In c.outputs name → ⊥
 
--- The text of such a circuit is of the format, and is read back where no output has the name of an input; values that fit its lines are there, and its
--- cycles and runs, with values of the regular inputs and then of the parameters, are those of the source circuit.
+-- The text of such a circuit is of the format. It is this circuit where no output has the name of an input, and is refused for a name where one has. The
+-- library that is read of it weighs what its header says: so it is too large exactly where that is above the most that a main model may weigh. Values that
+-- fit its lines are there, and its cycles and runs, with values of the regular inputs and then of the parameters, are those of the source circuit.
 pub record IsExported (source : Source) (c : Circuit) : Type 0 where
   pub format : IsOfFormat (circuit_text c) c
-  pub reads_back : HasOtherNames c → circuit_of (circuit_text c) ≡ Ok c
+  pub reads_back : HasOtherNames c → IsAigerText (circuit_text c) c
+  pub alike : (name : List ℕ) → In c.inputs name → In c.outputs name → IsNameRefused (circuit_text c)
+  pub weight : Weighs (library_of c) (model_of c) (library_weight c.header)
   pub fit : HasOneFit c
   pub runs : HasSameRuns c source.netlist.library
 

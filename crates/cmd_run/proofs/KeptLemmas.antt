@@ -5,7 +5,7 @@ use Rattle.run_text.specs.EventValue.{EventValue, Set, Cycle, Upset, Scrub, Imag
 use Rattle.run_text.specs.Fits.{Fits}
 use Rattle.cover_pick.specs.Template.{TemplateValue}
 use Rattle.ppc_pack.specs.Pack.{PackValue, IsConf, HasOneConf}
-use Rattle.lut_sim.specs.Cycle.{IsOnlyTableCycle}
+use Rattle.lut_sim.specs.Cycle.{IsTableCycle, IsOnlyTableCycle}
 use Rattle.lut_sim.specs.declared.shape.Shape.{Shape}
 use Rattle.lut_sim.specs.Sim.{SimValue}
 use Rattle.spec_core.specs.Specialiser.{SpecialiserValue}
@@ -51,6 +51,17 @@ module _ (source : Source) (template : TemplateValue) (pack : PackValue) (tunabl
   conf_out new same right = subst (λ (p : PackValue). IsConf p new.machine.host.state.params new.machine.host.state.config) same right
 
   -- a cycle plays the tables under this configuration
+  pub is_play : (values : List Bool) (old new : Stage) → IsKept old → IsStep (Cycle values) old new
+      → IsTableCycle template (shape_of source) old.machine.host.state.config values old.machine.sim.states new.machine.sim.outputs new.machine.sim.states
+  is_play values old new kept step =
+      let config = old.machine.host.state.config in
+      let states = old.machine.sim.states in
+      let outputs = new.machine.sim.outputs in
+      let next = new.machine.sim.states in
+      subst (λ (t : TemplateValue). IsTableCycle t (shape_of source) config values states outputs next) kept.template_is
+      (subst (λ (s : Shape). IsTableCycle old.machine.sim.template s config values states outputs next) kept.shape_is step.played.clock)
+
+  -- and no other values fit them
   pub plays_tables : (values : List Bool) (old new : Stage) → IsKept old → IsStep (Cycle values) old new
       → IsOnlyTableCycle template (shape_of source) old.machine.host.state.config values old.machine.sim.states new.machine.sim.outputs new.machine.sim.states
   plays_tables values old new kept step =

@@ -23,7 +23,7 @@ use Rattle.cmd_stations.specs.SourceCircuit.{shape_of}
 use Rattle.cmd_stations.specs.Tunable.{IsTunable}
 use Rattle.cmd_run.specs.Run.Headline.{IsNoUpset, Shown, Shows, ShowsSet, ShowsCycle, ShowsScrub, ShowsImage, ShowAll, none, more}
 use Rattle.cmd_stations.specs.Machine.{Stage, IsStep, AreSteps, none as no_step, more as one_more}
-use Rattle.cmd_run.proofs.KeptLemmas.{IsKept, same_config, plays_tables, cycle_is, step_keeps}
+use Rattle.cmd_run.proofs.KeptLemmas.{IsKept, same_config, is_play, plays_tables, cycle_is, step_keeps}
 
 -- where nothing passes a test, nothing is left
 filter_none : {A : Type 0} (test : A → Bool) (xs : List A) → ((x : A) → test x ≡ false) → filter test xs ≡ []
@@ -96,6 +96,7 @@ module _ (source : Source) (template : TemplateValue) (pack : PackValue) (tunabl
     outputs = new.machine.sim.outputs;
     config = old.machine.host.state.config;
     is = tunable.configurations.is old.machine.host.state.params old.machine.host.state.config kept.params kept.right;
+    is_play = is_play source template pack tunable values old new kept step;
     plays = plays_tables source template pack tunable values old new kept step;
     cycle = cycle_is source template pack tunable values old new fits kept step;
     line_is = refl;

@@ -4,7 +4,7 @@ use Rattle.list_laws.specs.Members.{In}
 use Rattle.aig_core.specs.declared.lit.Kind.TheVariants.{Regular}
 use Rattle.aig_core.specs.Aig.{Aig, IsSource}
 use Rattle.aig_core.specs.Roots.{RootsValue, roots_of}
-use Rattle.cut_enum.specs.Cuts.{CanBeLeaf}
+use Rattle.cut_sets.specs.Cuts.{CanBeLeaf}
 use Rattle.cover_pick.specs.declared.lut.Lut.{Lut}
 use Rattle.cover_pick.specs.Mapping.{IsTableOf, source, free, node, IsMapping, IsLeast}
 use Rattle.cover_pick.specs.Template.{TemplateValue}

@@ -6,7 +6,8 @@ use Rattle.netlist.specs.LibraryValue.{LibraryValue}
 use Rattle.blif_read.specs.Denotes.{Denotes}
 use Rattle.blif_read.specs.HasOneReading.{HasOneReading}
 use Rattle.blif_read.specs.Refusals.{refusal_of as blif_refusal}
-use Rattle.aiger_io.specs.Reading.{HasOneReading as HasOneAagReading}
+use Rattle.aiger_io.specs.CircuitLibrary.{library_of}
+use Rattle.aiger_io.specs.Reading.{IsLibraryOf, HasRunsOf, HasOneReading as HasOneAagReading}
 use Rattle.aiger_io.specs.Refusals.{refusal_of as aag_refusal}
 use Rattle.cmd_stations.specs.LibraryText.{is_aag, DenotesLibrary, LibraryRefusal, HasOneLibrary}
 use Rattle.cmd_stations.specs.LibraryText as form
@@ -38,16 +39,16 @@ module _ (text : List ℕ) (is : is_aag text ≡ false) (one : HasOneReading tex
   blif_refused_once r s first (form.LibraryRefusal.aiger begins_so e stands tells) = absurd (one_form is begins_so)
 
   pub blif_once : HasOneLibrary text
-  blif_once = record { once = blif_same; not_both = blif_or_not; one_refusal = blif_refused_once }
+  blif_once = record { once = blif_same; not_both = blif_or_not; one_refusal = blif_refused_once; runs = λ a begins_so d. absurd (one_form is begins_so) }
 
-module _ (text : List ℕ) (is : is_aag text ≡ true) (one : HasOneAagReading text) where
+module _ (text : List ℕ) (is : is_aag text ≡ true) (one : HasOneAagReading text) (kept : (library : LibraryValue) → IsLibraryOf text library → HasRunsOf text library) where
   aiger_same : (a b : LibraryValue) → DenotesLibrary text a → DenotesLibrary text b → a ≡ b
-  aiger_same a b (form.DenotesLibrary.aiger begins_so d) (form.DenotesLibrary.aiger as_before e) = one.one_library a b d e
+  aiger_same a b (form.DenotesLibrary.aiger begins_so d) (form.DenotesLibrary.aiger as_before e) = d.made ∙ ap library_of (one.one_circuit d.circuit e.circuit d.is e.is) ∙ sym e.made
   aiger_same a b (form.DenotesLibrary.blif off d) other = absurd (one_form off is)
   aiger_same a b first (form.DenotesLibrary.blif off d) = absurd (one_form off is)
 
   aiger_or_not : (a : LibraryValue) (r : RefusalValue) → DenotesLibrary text a → LibraryRefusal text r → ⊥
-  aiger_or_not a r (form.DenotesLibrary.aiger begins_so d) (form.LibraryRefusal.aiger as_before e stands tells) = one.not_both a e d stands
+  aiger_or_not a r (form.DenotesLibrary.aiger begins_so d) (form.LibraryRefusal.aiger as_before e stands tells) = one.not_both d.circuit e d.is stands
   aiger_or_not a r (form.DenotesLibrary.blif off d) other = absurd (one_form off is)
   aiger_or_not a r first (form.LibraryRefusal.blif off e stands tells) = absurd (one_form off is)
 
@@ -57,5 +58,9 @@ module _ (text : List ℕ) (is : is_aag text ≡ true) (one : HasOneAagReading t
   aiger_refused_once r s (form.LibraryRefusal.blif off e stands tells) other = absurd (one_form off is)
   aiger_refused_once r s first (form.LibraryRefusal.blif off e stands tells) = absurd (one_form off is)
 
+  aiger_runs : (a : LibraryValue) → is_aag text ≡ true → DenotesLibrary text a → HasRunsOf text a
+  aiger_runs a begins_so (form.DenotesLibrary.aiger as_before d) = kept a d
+  aiger_runs a begins_so (form.DenotesLibrary.blif off d) = absurd (one_form off is)
+
   pub aiger_once : HasOneLibrary text
-  aiger_once = record { once = aiger_same; not_both = aiger_or_not; one_refusal = aiger_refused_once }
+  aiger_once = record { once = aiger_same; not_both = aiger_or_not; one_refusal = aiger_refused_once; runs = aiger_runs }

@@ -41,6 +41,7 @@ module _ (text : List ℕ) (told : RefusalValue) (one : HasOneLibrary text) (ref
     one_netlist = λ n m a b. absurd (alone n.library a.denotes);
     not_both = λ n r a other. alone n.library a.denotes;
     one_refusal = refused_once;
+    runs = λ n a begins. absurd (alone n.library a.denotes);
   }
 
 -- the netlist of a text
@@ -89,6 +90,7 @@ module _ (text : List ℕ) (library : LibraryValue) (one : HasOneLibrary text) (
     one_netlist = one_circuit;
     not_both = netlist_or_not;
     one_refusal = netlist_refused;
+    runs = λ n a begins. one.runs n.library begins a.denotes;
   }
 
 -- the list of parameters of a text

@@ -8,7 +8,8 @@ use Rattle.blif_read.specs.Denotes.{Denotes}
 use Rattle.blif_read.specs.ReadFault.{read_fault}
 use Rattle.aiger_io.specs.declared.aag_err.AagErr.{AagErr}
 use Rattle.aiger_io.specs.Refusals.{refusal_of as aag_refusal}
-use Rattle.aiger_io.specs.Reading.{IsLibraryOf, IsRefused}
+use Rattle.aiger_io.specs.Reading.{IsLibraryOf, HasRunsOf}
+use Rattle.aiger_io.specs.Refused.{IsRefused}
 
 -- does a text begin as AIGER's ASCII form does, with `aag` and a blank
 abbrev pub is_aag : List ℕ → Bool
@@ -24,8 +25,10 @@ pub data LibraryRefusal (text : List ℕ) (refusal : RefusalValue) : Type 0 wher
   blif : is_aag text ≡ false → (e : BlifErr) → read_fault text ≡ Some e → blif_refusal e ≡ Some refusal → LibraryRefusal text refusal
   aiger : is_aag text ≡ true → (e : AagErr) → IsRefused text e → aag_refusal e ≡ Some refusal → LibraryRefusal text refusal
 
--- a text denotes one library at most, or is refused for one reason at most, and never both
+-- A text denotes one library at most, or is refused for one reason at most, and never both. A library that is read from AIGER's form has the cycles and runs
+-- of the text's own circuit.
 pub record HasOneLibrary (text : List ℕ) : Type 0 where
   pub once : (a b : LibraryValue) → DenotesLibrary text a → DenotesLibrary text b → a ≡ b
   pub not_both : (a : LibraryValue) (r : RefusalValue) → DenotesLibrary text a → LibraryRefusal text r → ⊥
   pub one_refusal : (r s : RefusalValue) → LibraryRefusal text r → LibraryRefusal text s → r ≡ s
+  pub runs : (a : LibraryValue) → is_aag text ≡ true → DenotesLibrary text a → HasRunsOf text a

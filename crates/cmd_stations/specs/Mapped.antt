@@ -7,7 +7,7 @@ use Rattle.aig_build.specs.Refusals.{refusal_of as build_refusal}
 use Rattle.aig_core.specs.Aig.{Aig, node_count}
 use Rattle.aig_core.specs.Roots.{RootsValue, roots_of}
 use Rattle.list_laws.specs.Members.{In}
-use Rattle.cut_enum.specs.Cuts.{CanBeLeaf}
+use Rattle.cut_sets.specs.Cuts.{CanBeLeaf}
 use Rattle.cut_enum.specs.Table.{AreRows}
 use Rattle.cut_enum.specs.Limits.{IsLimit}
 use Rattle.cut_enum.specs.Refusals.{refusal_of as cut_refusal}

@@ -1,5 +1,6 @@
--- What the calls below say of a job: each of its files says one thing, or is refused for one reason; a netlist that is read is sound, and a template that is chosen maps its graph with the least depth.
-use Rattle.std.specs.Prelude.{◌≡◌, ℕ, ◌≤◌, List, Some}
+-- What the calls below say of a job: each of its files says one thing, or is refused for one reason; a netlist that is read is sound, and has its own text's
+-- runs; and a template that is chosen maps its graph with the least depth.
+use Rattle.std.specs.Prelude.{◌≡◌, ℕ, ◌≤◌, true, List, Some}
 use Rattle.tl_fault.specs.RefusalValue.{RefusalValue}
 use Rattle.tl_io.specs.Shelf.{Files}
 use Rattle.aig_core.specs.Aig.{Aig}
@@ -10,6 +11,7 @@ use Rattle.cover_pick.specs.declared.rule.Rule.{Rule}
 use Rattle.cover_pick.specs.Template.{TemplateValue}
 use Rattle.netlist.specs.Sound.{IsSound}
 use Rattle.param_list.specs.ParamsText.{HasOneReading}
+use Rattle.aiger_io.specs.Reading.{HasRunsOf}
 use Rattle.cmd_base.specs.Walk.{Reading}
 use Rattle.cmd_base.specs.Refusals.{most_bytes}
 use Rattle.cmd_base.specs.declared.outcome.File.{File}
@@ -17,17 +19,19 @@ use Rattle.cmd_base.specs.declared.outcome.File.TheVariants.{Netlist, Params, Sc
 use Rattle.cmd_stations.specs.declared.netlist_text.Netlist.{Netlist as NetlistValue}
 use Rattle.cmd_stations.specs.declared.source.Source.{Source}
 use Rattle.cmd_stations.specs.Words.{SourceWords}
+use Rattle.cmd_stations.specs.LibraryText.{is_aag}
 use Rattle.cmd_stations.specs.Texts.{HasText, IsNetlistText, NetlistRefusal}
 use Rattle.cmd_stations.specs.Mapped.{IsLabelled, IsChosen, IsUnchosen, IsLeastMapping, IsMapped, IsUnmapped}
 use Rattle.cmd_stations.specs.Aims.{Aim, ToGraph, ToLabels, ToTables, IsBuilt, IsUnbuilt, IsUnlabelled}
 use Rattle.cmd_stations.specs.Source.{HasNetlist, HasSource, ReachesSource, IsSourceRefused}
 
--- a netlist's text
+-- a netlist's text; in AIGER's form the netlist has the cycles and runs of the circuit that the text's lines are
 pub record IsTextSettled (text : List ℕ) : Type 0 where
   pub sound : (n : NetlistValue) → IsNetlistText text n → IsSound n.library
   pub one_netlist : (n m : NetlistValue) → IsNetlistText text n → IsNetlistText text m → n ≡ m
   pub not_both : (n : NetlistValue) (r : RefusalValue) → IsNetlistText text n → NetlistRefusal text r → ⊥
   pub one_refusal : (r s : RefusalValue) → NetlistRefusal text r → NetlistRefusal text s → r ≡ s
+  pub runs : (n : NetlistValue) → IsNetlistText text n → is_aag text ≡ true → HasRunsOf text n.library
 
 -- a graph that is mapped
 pub record IsGraphSettled (rule : Rule) (g : Aig) (k : ℕ) (roots : RootsValue) : Type 0 where

@@ -4,7 +4,7 @@ use Rattle.std.proofs.lemmas.List.{drop_more, drop_all}
 use Rattle.std.proofs.lemmas.Bool.{eqb-true, and_parts}
 use Rattle.list_laws.specs.Members.{In}
 use Rattle.list_laws.proofs.Choice.{choose}
-use Rattle.cut_enum.specs.Sets.{IsOrdered}
+use Rattle.cut_sets.specs.Sets.{IsOrdered}
 use Rattle.cut_enum.proofs.LevelLemmas.{IsRising, IsRising-ordered, first_least}
 use Rattle.depth_label.specs.Label.{height}
 use Rattle.cover_pick.specs.declared.choice.Candidate.{Candidate}

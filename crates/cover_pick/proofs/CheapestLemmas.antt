@@ -4,8 +4,8 @@ use Rattle.std.proofs.lemmas.Option.{same_Some, none-some}
 use Rattle.std.proofs.lemmas.Bool.{cases_lt, ltb-true, ltb-false}
 use Rattle.list_laws.specs.Members.{In}
 use Rattle.list_laws.proofs.Choice.{choose}
-use Rattle.cut_enum.specs.Sets.{before, IsOrdered}
-use Rattle.cut_enum.proofs.SetLemmas.{before_trans}
+use Rattle.cut_sets.specs.Sets.{before, IsOrdered}
+use Rattle.cut_sets.proofs.OrderLemmas.{before_trans}
 use Rattle.depth_label.specs.Label.{height}
 use Rattle.cover_pick.specs.Sharing.{IsCheaper, less, earlier}
 use Rattle.cover_pick.specs.Cheapest.{cheaper, cheaper_low, cheapest}

@@ -3,7 +3,7 @@ use Rattle.std.proofs.Common.{◌≡◌, ℕ, ◌<◌, ◌≤◌, true, false, �
 use Rattle.std.proofs.lemmas.Option.{same_Some, none-some}
 use Rattle.std.proofs.lemmas.Bool.{cases_order, ltb-true, ltb-false, eqb-true, and_parts, and_from, false≢true, both_ways, lt-ltb, eq-eqb}
 use Rattle.list_laws.specs.Members.{In}
-use Rattle.cut_enum.specs.Sets.{lex, before as comes_before, IsOrdered}
+use Rattle.cut_sets.specs.Sets.{lex, before as comes_before, IsOrdered}
 use Rattle.depth_label.specs.Label.{height}
 use Rattle.list_laws.proofs.Choice.{choose}
 use Rattle.cover_pick.specs.Fewest.{better, fewest}

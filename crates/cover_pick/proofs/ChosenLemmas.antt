@@ -215,7 +215,6 @@ template_is rule g rows label roots made outputs next depth t lits a o n e = rec
   chosen = chosen_is rule g rows label (roots_of roots) made t lits a;
   outputs = o;
   next = n;
-  depth = e;
   within = subst (λ d. TablesWithin g (roots_of roots) made.luts d) (sym e) (tables_within rule g rows label (roots_of roots) made t a);
   exact = λ d w. let b : target g label (roots_of roots) ≤ d = tables_exact rule g rows label (roots_of roots) made t a d w in omega arith;
 }

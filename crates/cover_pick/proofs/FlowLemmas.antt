@@ -1,5 +1,5 @@
 -- The flows: none of a source, none above the most, and the same for counts that are the same.
-use Rattle.std.proofs.Common.{◌≡◌, ℕ, zero, suc, ◌+◌, ◌/◌, ◌<◌, ◌≤◌, min, max, ltb, List, [], ◌∷◌, ◌++◌, length, get_or, drop, refl, sym, ap, ◌∙◌, subst, inl, inr, arith}
+use Rattle.std.proofs.Common.{◌≡◌, ℕ, zero, suc, ◌+◌, ◌/◌, ◌^◌, ◌<◌, ◌≤◌, min, max, ltb, List, [], ◌∷◌, ◌++◌, length, get_or, drop, refl, sym, ap, ◌∙◌, subst, inl, inr, arith}
 use Rattle.std.proofs.Math.Nat.{div-le_self}
 use Rattle.std.proofs.lemmas.List.{length_push, get_or_append_left, get_or_push, get_or_past, drop_more, drop_all}
 use Rattle.std.proofs.lemmas.Bool.{cases_lt, ltb-false}
@@ -9,6 +9,10 @@ use Rattle.cut_enum.specs.Table.{row_at}
 use Rattle.cover_pick.specs.declared.limits.TheConstants.{MOST_FLOW}
 use Rattle.cover_pick.specs.Flow.{flow_at, cut_flow, least_flow, node_flow, flows_below}
 use Rattle.cover_pick.specs.Cheapest.{AreCapped}
+
+-- the most that a flow is
+most_flow_is : MOST_FLOW ≡ 2 ^ 40
+most_flow_is = refl
 
 -- no least flow is above the most
 pub least_capped : (flows : List ℕ) (cs : List (List ℕ)) → least_flow flows cs ≤ MOST_FLOW

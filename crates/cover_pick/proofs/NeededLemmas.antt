@@ -3,7 +3,7 @@ use Rattle.std.proofs.Common.{◌≡◌, ℕ, zero, suc, ◌+◌, ◌-◌, ◌/�
 use Rattle.std.proofs.lemmas.Bool.{cases_eq}
 use Rattle.aig_core.specs.Aig.{Aig, first_and, node_count, IsAnd}
 use Rattle.list_laws.specs.Members.{In}
-use Rattle.cut_enum.specs.Cuts.{AreMinimal}
+use Rattle.cut_sets.specs.Cuts.{AreMinimal}
 use Rattle.cover_pick.specs.Required.{need, visit, walk, met_at, cover_of}
 use Rattle.cover_pick.specs.Planned.{Chooses}
 use Rattle.cover_pick.specs.Sharing.{IsNeededAbove, root, leaf}

@@ -7,7 +7,7 @@ use Rattle.aig_core.specs.declared.lit.Lit.{Lit}
 use Rattle.aig_core.specs.Roots.{RootsValue, roots_of}
 use Rattle.list_laws.specs.Members.{In}
 use Rattle.cut_enum.specs.Table.{row_at}
-use Rattle.cut_enum.proofs.SetLemmas.{lex_trans, lex-same, before_trans, before-same}
+use Rattle.cut_sets.proofs.OrderLemmas.{lex_trans, lex-same, before_trans, before-same}
 use Rattle.depth_label.specs.Label.{IsCutTable}
 use Rattle.cover_pick.specs.declared.rule.Rule.{Rule}
 use Rattle.cover_pick.specs.declared.rule.Rule.TheVariants.{FewestLeaves, LeastCost}
@@ -23,7 +23,7 @@ use Rattle.cover_pick.specs.Flow.{flow_of}
 use Rattle.cover_pick.specs.Sharing.{IsNeededAbove, IsCheaper, less, earlier}
 use Rattle.cover_pick.specs.Tables.{IsNeeded, root, leaf, IsLeaves, constant, parameter, source, node, HasTable}
 use Rattle.cover_pick.specs.Work.{IsCone, IsWork, IsLight}
-use Rattle.cover_pick.specs.Template.{TemplateValue, AreChosen, IsTemplate, IsTooMuch}
+use Rattle.cover_pick.specs.Template.{TemplateValue, TablesWithin, AreChosen, IsTemplate, IsTooMuch}
 use Rattle.cover_pick.proofs.SharingLemmas.{above_same, cost_moved}
 use Rattle.cover_pick.proofs.MemberLemmas.{distinct_descending, length_same}
 
@@ -210,7 +210,9 @@ template_once rule g rows label roots table t u x y =
     let outputs : t.outputs ≡ u.outputs = x.outputs ∙ sym y.outputs in
     let next : t.next ≡ u.next = x.next ∙ sym y.next in
     let bits : t.bits ≡ u.bits = x.chosen.tables.sum ∙ (ap (λ ls. bits_of ls) luts ∙ sym y.chosen.tables.sum) in
-    let depth : t.depth ≡ u.depth = x.depth ∙ sym y.depth in
+    let low : t.depth ≤ u.depth = x.exact u.depth (subst (λ ls. TablesWithin g (roots_of roots) ls u.depth) (sym luts) y.within) in
+    let high : u.depth ≤ t.depth = y.exact t.depth (subst (λ ls. TablesWithin g (roots_of roots) ls t.depth) luts x.within) in
+    let depth : t.depth ≡ u.depth = omega (arith, low, high) in
     ap (λ ls. make ls t.outputs t.next t.bits t.depth) luts
     ∙ (ap (λ o. make u.luts o t.next t.bits t.depth) outputs
     ∙ (ap (λ n. make u.luts u.outputs n t.bits t.depth) next ∙ (ap (λ b. make u.luts u.outputs u.next b t.depth) bits ∙ ap (λ d. make u.luts u.outputs u.next u.bits d) depth)))

@@ -5,9 +5,9 @@ use Rattle.std.proofs.lemmas.Bool.{cases_lt, ltb-true, ltb-false}
 use Rattle.aig_core.specs.Aig.{Aig, first_and, node_count, IsAnd, AreNormal}
 use Rattle.aig_core.specs.declared.lit.Lit.{Lit}
 use Rattle.list_laws.specs.Members.{In}
-use Rattle.cut_enum.specs.Cuts.{AreMinimal}
+use Rattle.cut_sets.specs.Cuts.{AreMinimal}
 use Rattle.depth_label.specs.Label.{AreLabels, IsCutTable}
-use Rattle.cut_enum.specs.Covers.{IsCover, HasDepth, source, free, table, RootsWithin}
+use Rattle.cut_sets.specs.Covers.{IsCover, HasDepth, source, free, table, RootsWithin}
 use Rattle.cut_enum.specs.Table.{AreRows, row_at}
 use Rattle.list_laws.proofs.Choice.{choose}
 use Rattle.aig_core.specs.Roots.{lits_of, AreRoots}

@@ -4,7 +4,7 @@ use Rattle.std.proofs.lemmas.Option.{none-some}
 use Rattle.std.proofs.lemmas.Bool.{cases_lt}
 use Rattle.aig_core.specs.Aig.{Aig, first_and, node_count, IsAnd}
 use Rattle.list_laws.specs.Members.{In}
-use Rattle.cut_enum.specs.Sets.{IsOrdered}
+use Rattle.cut_sets.specs.Sets.{IsOrdered}
 use Rattle.cut_enum.specs.Table.{AreRows, row_at}
 use Rattle.depth_label.specs.Label.{height, AreLabels}
 use Rattle.cover_pick.specs.declared.rule.Rule.{Rule}

@@ -4,7 +4,7 @@ use Rattle.std.specs.List.{sum_by}
 use Rattle.std.proofs.lemmas.List.Sums.{sum_by-cons}
 use Rattle.std.proofs.lemmas.Option.{none-some}
 use Rattle.std.proofs.lemmas.Bool.{cases_eq}
-use Rattle.cut_enum.specs.Sets.{IsOrdered}
+use Rattle.cut_sets.specs.Sets.{IsOrdered}
 use Rattle.cover_pick.specs.Flow.{flow_at}
 use Rattle.cover_pick.specs.Sharing.{IsNeededAbove, root, leaf, IsLeafCost, shared, free, new, AreLeafCosts, IsCost, IsCheaper, IsCheapest}
 use Rattle.cover_pick.specs.Cheapest.{cost_where, leaf_cost, cut_cost, cheapest}

@@ -6,7 +6,7 @@ use Rattle.std.proofs.lemmas.Option.{none-some}
 use Rattle.std.proofs.lemmas.Bool.{cases_lt, eqb-true, ltb-true}
 use Rattle.aig_core.specs.Aig.{Aig, first_and, node_count, IsAnd}
 use Rattle.list_laws.specs.Members.{In}
-use Rattle.cut_enum.specs.Covers.{IsCover, HasDepth, source, free as no_leaves, table}
+use Rattle.cut_sets.specs.Covers.{IsCover, HasDepth, source, free as no_leaves, table}
 use Rattle.list_laws.proofs.Choice.{choose}
 use Rattle.depth_label.specs.Label.{IsCutTable}
 use Rattle.cover_pick.specs.declared.rule.Rule.{Rule}

@@ -1,5 +1,5 @@
 -- The chosen template is there, whether it is found or not; and as there is one, each template maps the graph with the least depth.
-use Rattle.std.proofs.Common.{◌≡◌, ℕ, zero, suc, ◌+◌, ◌<◌, List, [], ◌∷◌, length, Option, refl, ap, ◌∙◌, subst, arith}
+use Rattle.std.proofs.Common.{◌≡◌, ℕ, zero, suc, ◌+◌, ◌<◌, List, [], ◌∷◌, length, Option, refl, ap, sym, ◌∙◌, subst, arith}
 use Rattle.aig_core.specs.Aig.{Aig, first_and, node_count, AreNormal}
 use Rattle.aig_core.specs.Roots.{RootsValue, roots_of, AreRoots}
 use Rattle.cut_enum.specs.Table.{AreRows, row_at}
@@ -54,6 +54,10 @@ module _ (rule : Rule) (g : Aig) (rows : List (List (List ℕ))) (label : ℕ �
 
   same : (t : TemplateValue) → IsTemplate rule g rows label roots t → there ≡ t
   same t is = template_once rule g rows label roots table there t is_there is
+
+  -- its depth is the target
+  pub depth_is_target : (t : TemplateValue) → IsTemplate rule g rows label roots t → t.depth ≡ target g label (roots_of roots)
+  depth_is_target t is = ap (λ (u : TemplateValue). u.depth) (sym (same t is))
 
   pub each_maps : (t : TemplateValue) → IsTemplate rule g rows label roots t → (k : ℕ) → AreRows g k (node_count g) rows → IsMapping g k (roots_of roots) t.luts t.bits
   each_maps t is k are = subst (λ (u : TemplateValue). IsMapping g k (roots_of roots) u.luts u.bits) (same t is) (mapping_is rule g rows label (roots_of roots) made is_made k are lits)

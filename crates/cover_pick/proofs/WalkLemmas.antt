@@ -8,8 +8,8 @@ use Rattle.aig_core.specs.Aig.{Aig, first_and, node_count, IsAnd, AreNormal}
 use Rattle.aig_core.specs.declared.lit.Kind.TheVariants.{Regular}
 use Rattle.aig_core.proofs.NodeLemmas.{source_below}
 use Rattle.list_laws.specs.Members.{In}
-use Rattle.cut_enum.specs.Cuts.{IsCut, AreMinimal}
-use Rattle.cut_enum.specs.Covers.{IsCover, HasDepth, source, free, table, RootsWithin}
+use Rattle.cut_sets.specs.Cuts.{IsCut, AreMinimal}
+use Rattle.cut_sets.specs.Covers.{IsCover, HasDepth, source, free, table, RootsWithin}
 use Rattle.depth_label.specs.Label.{greatest, height, AreLabels}
 use Rattle.list_laws.proofs.Choice.{choose}
 use Rattle.depth_label.proofs.DepthLemmas.{greatest_le, label_le_depth}

@@ -1,7 +1,7 @@
 -- The rule by which a cut is chosen for a node with a required depth.
 use Rattle.std.specs.Prelude.{◌≡◌, ℕ, ◌<◌, ◌≤◌, true, List, length, ◌⊎◌}
 use Rattle.list_laws.specs.Members.{In}
-use Rattle.cut_enum.specs.Sets.{lex}
+use Rattle.cut_sets.specs.Sets.{lex}
 use Rattle.depth_label.specs.Label.{height}
 
 -- c is chosen before d: it has fewer leaves, or as many and a lower height, or as many and the same and comes no later

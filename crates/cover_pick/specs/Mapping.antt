@@ -3,8 +3,8 @@ use Rattle.std.specs.Prelude.{◌≡◌, ℕ, ◌+◌, ◌*◌, ◌/◌, ◌%◌
 use Rattle.aig_core.specs.Aig.{Aig, IsAnd, IsSource}
 use Rattle.aig_core.specs.declared.lit.Kind.TheVariants.{Regular, Parameter}
 use Rattle.list_laws.specs.Members.{In}
-use Rattle.cut_enum.specs.Cuts.{IsCut}
-use Rattle.cut_enum.specs.Covers.{IsCover, RootsWithin, IsLeastDepth}
+use Rattle.cut_sets.specs.Cuts.{IsCut}
+use Rattle.cut_sets.specs.Covers.{IsCover, RootsWithin, IsLeastDepth}
 use Rattle.cover_pick.specs.declared.lut.Lut.{Lut}
 
 -- what a table computes from its leaves: a complemented regular source from that source, a constant or a parameter from nothing, an AND node from a cut of it

@@ -2,7 +2,7 @@
 use Rattle.std.specs.Prelude.{◌≡◌, ℕ, ◌-◌, ◌/◌, ◌≤◌, List, length, Option, Some, None, slice_index_or, ◌⊎◌}
 use Rattle.aig_core.specs.Aig.{Aig, node_count, IsAnd}
 use Rattle.list_laws.specs.Members.{In}
-use Rattle.cut_enum.specs.Covers.{IsCover, HasDepth, RootsWithin, IsLeastDepth}
+use Rattle.cut_sets.specs.Covers.{IsCover, HasDepth, RootsWithin, IsLeastDepth}
 use Rattle.cut_enum.specs.Table.{AreRows, row_at}
 use Rattle.depth_label.specs.Label.{height}
 use Rattle.cover_pick.specs.Target.{target}

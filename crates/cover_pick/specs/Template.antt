@@ -8,7 +8,6 @@ use Rattle.list_laws.specs.Members.{In}
 use Rattle.cover_pick.specs.declared.rule.Rule.{Rule}
 use Rattle.cover_pick.specs.declared.limits.TheConstants.{MOST_WORK}
 use Rattle.cover_pick.specs.declared.lut.Lut.{Lut}
-use Rattle.cover_pick.specs.Target.{target}
 use Rattle.cover_pick.specs.Schedule.{IsPlan}
 use Rattle.cover_pick.specs.Tables.{HasTable, AreTables}
 use Rattle.cover_pick.specs.Work.{IsWork}
@@ -38,12 +37,11 @@ pub record AreChosen (rule : Rule) (g : Aig) (rows : List (List (List ℕ))) (la
   pub plan : IsPlan rule g rows label roots reqs cover
   pub tables : AreTables g roots cover luts bits
 
--- The chosen template: the tables of the needed literals over the chosen cuts, with the target as their depth.
+-- The chosen template: the tables of the needed literals over the chosen cuts, and the depth of the roots' tables. That this depth is the target is a law (`depth_is_target`).
 pub record IsTemplate (rule : Rule) (g : Aig) (rows : List (List (List ℕ))) (label : ℕ → ℕ) (roots : RootsValue) (t : TemplateValue) : Type 0 where
   pub chosen : AreChosen rule g rows label (roots_of roots) t.luts t.bits
   pub outputs : t.outputs ≡ roots.outputs
   pub next : t.next ≡ roots.next
-  pub depth : t.depth ≡ target g label (roots_of roots)
   pub within : TablesWithin g (roots_of roots) t.luts t.depth
   pub exact : (d : ℕ) → TablesWithin g (roots_of roots) t.luts d → t.depth ≤ d
 

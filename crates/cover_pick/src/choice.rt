@@ -1,6 +1,6 @@
 //! The choice of a cut for a node with a required depth, by a rule.
 ghost use Rattle.std.specs.Prelude.{◌≡◌, ℕ, ◌<◌, ◌≤◌, true, List, [], length, Option, Some, None, slice_index_or};
-ghost use Rattle.cut_enum.specs.Sets.{IsOrdered};
+ghost use Rattle.cut_sets.specs.Sets.{IsOrdered};
 ghost use Rattle.cut_enum.specs.Table.{row_at};
 ghost use Rattle.depth_label.specs.Label.{height, label_of};
 ghost use Rattle.cover_pick.specs.Fewest.{IsAt, IsShorter, better as the_better, fewest as the_fewest};

@@ -13,11 +13,13 @@ pub struct Lut {
 }
 
 /// Why there is no template.
-#[derive(Debug, PartialEq, Eq, Drop)]
+#[derive(Debug, PartialEq, Eq, Drop, thiserror::Error)]
 pub enum PickErr {
     /// The work exceeds `MOST_WORK`.
+    #[error("too much work")]
     Work,
     /// There is no memory.
+    #[error("out of memory")]
     Memory,
 }
 

@@ -115,7 +115,7 @@ fn template_of(
 /// - `LeastCost` takes one of the least cost, then of the fewest leaves, then the lexicographically least. A cut of m leaves
 ///   costs 2^m, and the flows of those of its leaves that no root and no chosen cut of a node above needs. The *flow* of an
 ///   AND node is the least over its cuts of 256 + 2^m and the flows of the leaves, 2^40 at most, divided by the number of AND
-///   nodes that read it and rounded down (the area flow of Manohararajah, Brown and Vranesic, 2006).
+///   nodes that read it, by 1 if none does, and rounded down (the area flow of Manohararajah, Brown and Vranesic, 2006).
 ///
 /// Each root and each leaf of a chosen cut has a table, but for the positive regular sources, which are wires.
 ///

@@ -7,10 +7,11 @@ use Rattle.list_laws.specs.Members.{In, Within}
 use Rattle.list_laws.specs.Order.{IsAscending}
 use Rattle.cut_enum.specs.Merging.{AreApart, union, merged, starts_empty, with_own}
 use Rattle.aig_core.specs.Aig.{IsSource, IsNode}
-use Rattle.cut_enum.specs.Cuts.{Blocks, member, constant, parameter, fan_ins, CanBeLeaf, IsCut, IsMinimal, AreMinimal, Covers}
+use Rattle.cut_sets.specs.Cuts.{Blocks, member, constant, parameter, fan_ins, CanBeLeaf, IsCut, IsMinimal, AreMinimal, Covers}
 use Rattle.aig_core.proofs.NodeLemmas.{source_below, same_pair}
-use Rattle.cut_enum.proofs.BlockLemmas.{Blocks-within, regular_blocked, contains_one}
-use Rattle.cut_enum.proofs.SetLemmas.{union_left, union_right, In-union, IsAscending-union, length_within, same_within, union_within}
+use Rattle.cut_sets.proofs.BlockLemmas.{Blocks-within, regular_blocked, contains_one}
+use Rattle.cut_enum.proofs.SetLemmas.{union_left, union_right, In-union, IsAscending-union, union_within}
+use Rattle.cut_sets.proofs.AscendingLemmas.{length_within, same_within}
 use Rattle.std.proofs.lemmas.Bool.{false≢true}
 use Rattle.list_laws.proofs.Choice.{choose}
 use Rattle.cut_enum.proofs.LevelLemmas.{IsRising, IsRising-ordered, first_least}

@@ -9,7 +9,7 @@ use Rattle.aig_core.specs.Aig.{Aig, first_and, IsNormal, AreNormal}
 use Rattle.aig_core.specs.declared.lit.Kind.TheVariants.{Regular, Parameter}
 use Rattle.aig_core.specs.declared.lit.Pair.{Pair}
 use Rattle.list_laws.specs.Members.{In}
-use Rattle.cut_enum.specs.Cuts.{AreMinimal}
+use Rattle.cut_sets.specs.Cuts.{AreMinimal}
 use Rattle.cut_enum.specs.Table.{AreRows, row_at}
 use Rattle.cut_enum.specs.Merging.{IsRow}
 use Rattle.cut_enum.proofs.RowLemmas.{AreRows-none, AreRows-push, IsRow-node}

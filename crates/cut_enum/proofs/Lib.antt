@@ -6,7 +6,6 @@ mod PlaceLemmas
 mod HeadLemmas
 mod PartLemmas
 mod LeastLemmas
-pub mod BlockLemmas
 mod CutLemmas
 mod PutLemmas
 mod SignedLemmas

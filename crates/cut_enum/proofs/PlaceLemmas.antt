@@ -6,9 +6,9 @@ use Rattle.cut_enum.specs.Keeps.{listed, AreListed}
 use Rattle.std.specs.List.{insert}
 use Rattle.std.proofs.lemmas.Bool.{false≢true, both_ways, cases_Bool, cases_lt}
 use Rattle.list_laws.proofs.Members.{In-get_or, In-left, In-right, In-append, map_agree}
-use Rattle.cut_enum.specs.Sets.{before, IsOrdered}
+use Rattle.cut_sets.specs.Sets.{before, IsOrdered}
 use Rattle.cut_enum.specs.Merging.{place, IsPlaceOf, IsAround}
-use Rattle.cut_enum.proofs.SetLemmas.{before_trans, before-same}
+use Rattle.cut_sets.proofs.OrderLemmas.{before_trans, before-same}
 use Rattle.cut_enum.proofs.LevelLemmas.{place_at, IsOrdered-place}
 
 -- of two sets not both are before the other

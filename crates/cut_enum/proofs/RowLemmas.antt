@@ -13,7 +13,7 @@ use Rattle.aig_core.specs.declared.lit.Pair.{Pair}
 use Rattle.cut_enum.specs.declared.limits.TheConstants.{MOST_OF_A_NODE, MOST_OF_A_TABLE}
 use Rattle.cut_enum.specs.Merging.{merged}
 use Rattle.aig_core.specs.Aig.{IsNode}
-use Rattle.cut_enum.specs.Cuts.{AreMinimal, constant, parameter}
+use Rattle.cut_sets.specs.Cuts.{AreMinimal, constant, parameter}
 use Rattle.cut_enum.specs.Table.{row_at, AreRows}
 use Rattle.cut_enum.specs.Merging.{AreApart, IsRow, IsTooMany, front_of, source_front, with_own}
 use Rattle.cut_enum.specs.Limits.{Reaches, IsLimit}

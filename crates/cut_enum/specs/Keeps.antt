@@ -2,7 +2,7 @@
 use Rattle.std.specs.Prelude.{◌≡◌, ℕ, ◌+◌, ◌*◌, ◌<◌, ◌≤◌, List, [], length, map, take, bit_or, slice_index_or}
 use Rattle.list_laws.specs.Members.{In}
 use Rattle.list_laws.specs.Order.{IsAscending}
-use Rattle.cut_enum.specs.Sets.{IsOrdered}
+use Rattle.cut_sets.specs.Sets.{IsOrdered}
 use Rattle.cut_enum.specs.declared.limits.TheConstants.{MOST_LEAVES, GROUP}
 use Rattle.cut_enum.specs.Signature.{signature_of}
 

@@ -1,8 +1,5 @@
 -- What public clauses say.
-pub mod Cuts
-pub mod Sets
 pub mod Unions
-pub mod Covers
 pub mod Table
 pub mod Limits
 pub mod Refusals

@@ -8,10 +8,10 @@ use Rattle.aig_core.specs.declared.lit.Pair.{Pair}
 use Rattle.cut_enum.specs.declared.limits.TheConstants.{MOST_OF_A_NODE}
 use Rattle.cut_enum.specs.declared.table.CutErr.{CutErr}
 use Rattle.cut_enum.specs.declared.table.CutErr.TheVariants.{NodeCuts}
-use Rattle.cut_enum.specs.Cuts.{AreMinimal}
+use Rattle.cut_sets.specs.Cuts.{AreMinimal}
 use Rattle.list_laws.specs.Members.{In, Within}
 use Rattle.list_laws.specs.Order.{IsAscending}
-use Rattle.cut_enum.specs.Sets.{before}
+use Rattle.cut_sets.specs.Sets.{before}
 use Rattle.cut_enum.specs.Table.{row_at}
 
 -- an ascending list with one more element

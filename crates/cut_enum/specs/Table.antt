@@ -2,7 +2,7 @@
 use Rattle.std.specs.Prelude.{◌≡◌, ℕ, ◌<◌, ◌≤◌, List, [], length, sum_by, slice_index_or}
 use Rattle.aig_core.specs.Aig.{Aig, first_and, IsAnd}
 use Rattle.cut_enum.specs.declared.limits.TheConstants.{MOST_OF_A_NODE, MOST_OF_A_TABLE}
-use Rattle.cut_enum.specs.Cuts.{AreMinimal}
+use Rattle.cut_sets.specs.Cuts.{AreMinimal}
 
 -- the cuts of a node: none past the last row
 abbrev pub row_at : List (List (List ℕ)) → ℕ → List (List ℕ)

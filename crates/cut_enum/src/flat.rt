@@ -1,12 +1,13 @@
 //! A cut as a table keeps it: its leaves in place, and their number.
 ghost use Rattle.std.specs.Prelude.{◌≡◌, ℕ, ◌≤◌, List, [], ◌∷◌, length, MatchOption, IfSome, IfNone, IsTrue};
 ghost use Rattle.list_laws.specs.Order.{IsAscending};
-ghost use Rattle.cut_enum.specs.Sets.{before as comes_before, lex};
+ghost use Rattle.cut_sets.specs.Sets.{before as is_before};
 ghost use Rattle.cut_enum.specs.Merging.{union, subset};
 ghost use Rattle.cut_enum.specs.Signature.{signature_of};
 
 use crate::limits::MOST_LEAVES;
 use crate::signature::leaf_bit;
+use cut_sets::comes_before;
 use std::marker::Model;
 
 // The leaves of a cut as a table keeps it: at most `MOST_LEAVES` nodes, ascending and without repeats.
@@ -203,26 +204,9 @@ pub fn is_part(a: &FlatCut, b: &FlatCut) -> bool
     is_subset(a.leaves(), b.leaves())
 }
 
-// The lexicographic order of two lists.
-fn lex_before(a: &[u32], b: &[u32]) -> bool
-    ensures { result ≡ lex a.now b.now }
-{
-    match a {
-        [] => false,
-        [x, xs @ ..] => match b {
-            [] => false,
-            [y, ys @ ..] => *x < *y || (*x == *y && lex_before(xs, ys)),
-        },
-    }
-}
-
 // Does a come before b: fewer leaves first, then the lexicographically smaller.
 pub fn before(a: &FlatCut, b: &FlatCut) -> bool
-    ensures { result ≡ comes_before a.now b.now }
+    ensures { result ≡ is_before a.now b.now }
 {
-    let (n, m) = (a.len(), b.len());
-    if n != m {
-        return n < m;
-    }
-    lex_before(a.leaves(), b.leaves())
+    comes_before(a.leaves(), b.leaves())
 }

@@ -3,7 +3,7 @@
 //! A cut stays where it was put first, and the order is a vector of places, so that little is moved to make room for one
 //! more.
 ghost use Rattle.std.specs.Prelude.{◌≡◌, ℕ, ◌-◌, ◌<◌, ◌≤◌, [], ◌++◌, length, OnOk, IfSome, IfNone, insert, slice_index_or, vec_len, vec_capacity};
-ghost use Rattle.cut_enum.specs.Sets.{IsOrdered};
+ghost use Rattle.cut_sets.specs.Sets.{IsOrdered};
 ghost use Rattle.cut_enum.specs.Merging.{IsPlaceOf, IsAround, place, add as with_cut};
 ghost use Rattle.cut_enum.specs.Signature.{signature_of};
 

@@ -1,12 +1,8 @@
 //! The minimal cuts of each AND node of a graph, in which parameters cost nothing.
 //!
-//! # Cuts
-//! A set of nodes *blocks* a node when the node is in it, or is the constant or a parameter, or is an AND node
-//! whose two fan-ins it blocks: once the values of the set and of the parameters are known, so is the node's. A
-//! *cut* of an AND node is an ascending list of at most k regular sources and AND nodes, all below the node, that
-//! blocks it. Its members are the *leaves*, and a table of the k-input kind can be put over them. A cut is *minimal*
-//! when no proper part of it is a cut. `specs/Cuts.antt` has these words, and `specs/Covers.antt` covers made of
-//! cuts.
+//! A *cut* of an AND node is an ascending list of at most k regular sources and AND nodes below it, its *leaves*, that
+//! blocks it: once the values of the leaves and of the parameters are known, so is the node's. Crate `cut_sets` has the
+//! words (`specs/Cuts.antt`), and covers made of cuts.
 //!
 //! # How they are found
 //! Nodes are taken in their order, so the cuts of both fan-ins are known. A fan-in hands on the cut of itself alone
@@ -17,7 +13,7 @@
 //! hence contains the union of the two; and a minimal cut contains no other cut. What the argument needs of the
 //! fan-ins is a law of the minimal cuts (`EachContainsOne`): each list of at most k that blocks a node has the node
 //! itself, or has one of its cuts within it, since what blocks a node can be decided, and members can be left out of a
-//! cut until it is minimal (`proofs/BlockLemmas.antt`).
+//! cut until it is minimal (`proofs/BlockLemmas.antt` of `cut_sets`).
 //!
 //! Unions are taken by their size, the smallest first (`least.rt`). So what is kept is never dropped again, and a node
 //! is known to have too many cuts as soon as there is one more than the limit. In the pass of one size only the kept

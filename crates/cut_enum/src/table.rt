@@ -1,7 +1,7 @@
 //! The table of the minimal cuts of each node.
 ghost use Rattle.std.specs.Prelude.{◌≡◌, ℕ, List, ◌+◌, ◌<◌, ◌≤◌, [], ◌∷◌, ◌++◌, ◌⊎◌, length, OnOk, IfOk, IfErr, slice_get, slice_index_or, slice_range, Some, sum_by, vec_len, vec_capacity};
 ghost use Rattle.aig_core.specs.Aig.{node_count, IsAnd};
-ghost use Rattle.cut_enum.specs.Cuts.{EachContainsOne};
+ghost use Rattle.cut_sets.specs.Cuts.{EachContainsOne};
 ghost use Rattle.tl_fault.specs.OrMemory.{OrMemory};
 ghost use Rattle.cut_enum.specs.Refusals.{refusal_of};
 ghost use Rattle.cut_enum.specs.Limits.{IsLimit};

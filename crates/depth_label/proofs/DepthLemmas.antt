@@ -2,10 +2,10 @@
 use Rattle.std.proofs.Common.{◌≡◌, ℕ, suc, ◌≤◌, List, [], ◌∷◌, Option, Some, refl, ap, inl, inr, arith}
 use Rattle.aig_core.specs.Aig.{Aig, first_and, IsAnd, AreNormal}
 use Rattle.list_laws.specs.Members.{In, Within}
-use Rattle.cut_enum.specs.Cuts.{IsCut, AreMinimal, Covers}
-use Rattle.cut_enum.proofs.BlockLemmas.{minimal_within}
+use Rattle.cut_sets.specs.Cuts.{IsCut, AreMinimal, Covers}
+use Rattle.cut_sets.proofs.BlockLemmas.{minimal_within}
 use Rattle.depth_label.specs.Label.{greatest, height, AreLabels}
-use Rattle.cut_enum.specs.Covers.{IsCover, HasDepth, source, free, table}
+use Rattle.cut_sets.specs.Covers.{IsCover, HasDepth, source, free, table}
 
 -- where every element's label is at most d, so is the greatest
 pub greatest_le : (label : ℕ → ℕ) (c : List ℕ) (d : ℕ) → ((m : ℕ) → In c m → label m ≤ d) → greatest label c ≤ d

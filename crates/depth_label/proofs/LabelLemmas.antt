@@ -8,9 +8,9 @@ use Rattle.std.proofs.lemmas.Bool.{cases_lt, cases_order}
 use Rattle.aig_core.specs.Aig.{Aig, first_and, node_count, IsAnd, IsNormal, AreNormal, IsNode}
 use Rattle.aig_core.specs.declared.lit.Pair.{Pair}
 use Rattle.list_laws.specs.Members.{In}
-use Rattle.cut_enum.specs.Cuts.{AreMinimal, member, fan_ins, Covers}
+use Rattle.cut_sets.specs.Cuts.{AreMinimal, member, fan_ins, Covers}
 use Rattle.cut_enum.specs.Table.{AreRows, row_at}
-use Rattle.cut_enum.proofs.BlockLemmas.{contains_one}
+use Rattle.cut_sets.proofs.BlockLemmas.{contains_one}
 use Rattle.depth_label.proofs.DepthLemmas.{label_le_depth}
 use Rattle.depth_label.specs.Label.{greatest, height, LabelsValue, label_at, label_of, best_of, IsCutTable, IsBestCut, AreLabelled, AreLeastDepths}
 use Rattle.depth_label.specs.Fold.{AreSmall, lowest, lowest_cut, AreLabelledTo}

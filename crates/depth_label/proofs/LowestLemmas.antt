@@ -3,7 +3,7 @@ use Rattle.std.proofs.Common.{◌≡◌, ℕ, ◌<◌, ◌≤◌, true, cond, lt
 use Rattle.std.proofs.lemmas.Option.{same_Some, none-some}
 use Rattle.std.proofs.lemmas.Bool.{cases_order, ltb-true, ltb-false}
 use Rattle.list_laws.specs.Members.{In}
-use Rattle.cut_enum.specs.Sets.{before, IsOrdered}
+use Rattle.cut_sets.specs.Sets.{before, IsOrdered}
 use Rattle.list_laws.proofs.Choice.{choose}
 use Rattle.depth_label.specs.Label.{height, IsAsGood, lower, tie, IsBestCut}
 use Rattle.depth_label.specs.Fold.{lower_of, lowest, lowest_cut, or_empty}

@@ -5,7 +5,7 @@ use Rattle.std.proofs.lemmas.Bool.{cases_lt, false≢true}
 use Rattle.aig_core.specs.Aig.{Aig, first_and, node_count, IsAnd}
 use Rattle.list_laws.specs.Members.{In}
 use Rattle.cut_enum.specs.Table.{row_at}
-use Rattle.cut_enum.proofs.SetLemmas.{before_trans, before-same}
+use Rattle.cut_sets.proofs.OrderLemmas.{before_trans, before-same}
 use Rattle.depth_label.specs.Label.{height, label_of, best_of, AreLabels, IsCutTable, IsAsGood, lower, tie, IsBestCut, HasOneLabelling}
 use Rattle.depth_label.proofs.LabelLemmas.{height_same, leaves_below}
 

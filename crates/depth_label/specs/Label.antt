@@ -2,8 +2,8 @@
 use Rattle.std.specs.Prelude.{◌≡◌, ℕ, ◌+◌, ◌<◌, ◌≤◌, max, true, List, [], ◌∷◌, Option, slice_index_or, ◌⊎◌}
 use Rattle.aig_core.specs.Aig.{Aig, first_and, node_count, IsAnd}
 use Rattle.list_laws.specs.Members.{In}
-use Rattle.cut_enum.specs.Sets.{before}
-use Rattle.cut_enum.specs.Covers.{IsCover, HasDepth}
+use Rattle.cut_sets.specs.Sets.{before}
+use Rattle.cut_sets.specs.Covers.{IsCover, HasDepth}
 use Rattle.cut_enum.specs.Table.{AreRows, row_at}
 
 -- the greatest label of a list of nodes

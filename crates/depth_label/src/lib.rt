@@ -11,7 +11,7 @@
 //! # The words
 //!
 //! - A *cut* of a node is a set of regular sources and AND nodes below it that blocks each way down to a regular source; the
-//!   constant and the parameters block by themselves (crate `cut_enum`, `specs/Cuts.antt`).
+//!   constant and the parameters block by themselves (crate `cut_sets`, `specs/Cuts.antt`).
 //! - The *height* of a cut is 0 where it is empty, else one more than the greatest label of its leaves.
 //! - The *label* of a source is 0, that of an AND node the least height of its minimal cuts.
 //! - The *best cut* of an AND node has the least height, among these the fewest leaves, among these the lexicographically

@@ -11,13 +11,21 @@
 //! its literals, exactly and ascending (`specs/Readers.antt`). The lists lie one after another in one vector, made by
 //! counting, as a counting sort does (Knuth, The Art of Computer Programming, volume 3, section 5.2).
 //!
+//! `CountedPack` is a pack whose pairs can only be read by a call that counts, so that a contract can bound how many are read: each
+//! reading is a step of the counter that is handed in, and raises the pack's own number of readings, a [`Tally`] that takes no
+//! bytes.
+//!
 //! `proofs/ReadLemmas.antt` has for the crates above that a reader is an AND node above what it reads, and an address one of
 //! the pack's; `proofs/MarksExample.antt` and `proofs/ReadersExample.antt` work out a set and the readers of a small pack.
 #![tactic(auto)]
 
+mod counted;
 mod lists;
 mod readers;
+mod tally;
 mod tiers;
 
+pub use counted::CountedPack;
 pub use readers::Readers;
+pub use tally::Tally;
 pub use tiers::{MOST_MARKS, Tiers};

@@ -146,6 +146,15 @@ impl Tiers {
         set_bit(&mut self.words, self.base, i as usize);
     }
 
+    /// Removes a member.
+    pub fn unmark(&mut self, i: u32)
+        requires within { i < length self.old }
+        requires member { is_marked self.old i ≡ true }
+        ensures { self.new ≡ slice_set self.old i false }
+    {
+        clear_bit(&mut self.words, self.base, i as usize);
+    }
+
     /// Whether a number is a member.
     pub fn has(&self, i: u32) -> bool
         requires { i < length self.now }

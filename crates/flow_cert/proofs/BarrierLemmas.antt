@@ -5,7 +5,7 @@ use Rattle.aig_core.specs.Aig.{IsAnd}
 use Rattle.list_laws.specs.Members.{In, Within}
 use Rattle.list_laws.specs.Order.{IsAscending}
 use Rattle.list_laws.proofs.Choice.{choose, choose_both}
-use Rattle.cut_enum.specs.Cuts.{Blocks, member, CanBeLeaf}
+use Rattle.cut_sets.specs.Cuts.{Blocks, member, CanBeLeaf}
 use Rattle.cut_enum.specs.Merging.{union}
 use Rattle.cut_enum.proofs.SetLemmas.{In-union, union_left, IsAscending-union}
 use Rattle.flow_cert.specs.Net.{Net, IsLow, IsInner, IsUpper, IsEnd, IsNet}

@@ -1,22 +1,23 @@
 -- The steps of the needed nodes and the depth of the roots are a valid certificate.
-use Rattle.std.proofs.Common.{◌≡◌, ℕ, ◌+◌, ◌/◌, ◌^◌, ◌<◌, ◌≤◌, eqb, List, [], ◌∷◌, refl, sym, ap, ◌∙◌, subst, inl, inr, arith}
+use Rattle.std.proofs.Common.{◌≡◌, ℕ, zero, suc, ◌+◌, ◌/◌, ◌^◌, ◌<◌, ◌≤◌, eqb, List, [], ◌∷◌, refl, sym, ap, ◌∙◌, subst, inl, inr, arith}
 use Rattle.std.proofs.lemmas.Bool.{eqb-true, eqb-false}
 use Rattle.aig_core.specs.Aig.{Aig, first_and, node_count, IsAnd, AreNormal}
 use Rattle.list_laws.specs.Members.{In}
 use Rattle.list_laws.proofs.Choice.{choose}
 use Rattle.list_laws.proofs.Members.{In-get}
 use Rattle.depth_label.specs.Label.{LabelsValue, label_of}
-use Rattle.cert_check.specs.CertificateValue.{StepValue}
+use Rattle.cert_check.specs.CertificateValue.{StepValue, CertificateValue}
 use Rattle.cert_check.specs.Valid.{claim_of, IsJustified, Needs, node, complemented, SomeNeeds, IsReached, IsValid}
 use Rattle.cert_check.specs.WrittenText.{IsWritable}
 use Rattle.flow_cert.specs.Justify.{IsStepOf}
-use Rattle.flow_cert.specs.Needed.{AreLabelClaims, IsShared, IsNeeded, root, AreNeeded}
+use Rattle.flow_cert.specs.Needed.{AreLabelClaims, IsShared, IsNeeded, HasStep, AreNeeded}
 use Rattle.flow_cert.specs.Needed as needed
-use Rattle.flow_cert.specs.Steps.{CanBegin, IsWanted, HasStep, AreSteps}
+use Rattle.flow_cert.specs.Steps.{CanBegin, AreSteps}
 use Rattle.flow_cert.specs.Steps as steps
 use Rattle.flow_cert.specs.Target.{HasBegin, IsTarget}
 use Rattle.flow_cert.specs.Target as target
-use Rattle.flow_cert.proofs.GraphLemmas.{path_below, path_two}
+use Rattle.flow_cert.proofs.GraphLemmas.{path_below, path_two, source_not_and}
+use Rattle.flow_cert.proofs.TargetLemmas.{first_in, first_once}
 
 -- a node with a step is claimed its label
 claim_there : (g : Aig) (k : ℕ) (label : ℕ → ℕ) (ss : List StepValue) (m : ℕ) → ((s : StepValue) → In ss s → IsStepOf g k label s) → HasStep ss m → claim_of ss m ≡ label m
@@ -55,10 +56,10 @@ module _ (g : Aig) (k : ℕ) (v : LabelsValue) (normal : AreNormal (first_and g)
   reached : IsReached g roots (claim_of ss) depth
   reached = elim t.reached [
     | target.nothing z b ↦ inl z
-    | target.node l i and b e p ↦ (
+    | target.node l f and b e p ↦ (
         let c : claim_of ss (l / 2) ≡ label_of v (l / 2) = claimed (l / 2) (subst (λ m. HasStep ss m) b (are.begun (subst (λ m. IsAnd g m) (sym b) and))) in
-        inr (some_needs g (claim_of ss) depth roots l i (node and (omega arith))))
-    | target.complemented l i s o e b ↦ inr (some_needs g (claim_of ss) depth roots l i (complemented e s o))
+        inr (some_needs g (claim_of ss) depth roots l (first_in g (label_of v) depth roots l f) (node and (omega arith))))
+    | target.complemented l f s o e b ↦ inr (some_needs g (claim_of ss) depth roots l (first_in g (label_of v) depth roots l f) (complemented e s o))
   ]
 
   pub cert_valid : IsValid g roots k (record { depth = depth; steps = ss })
@@ -72,23 +73,39 @@ module _ (g : Aig) (k : ℕ) (v : LabelsValue) (normal : AreNormal (first_and g)
   pub cert_claims : AreLabelClaims v (record { depth = depth; steps = ss })
   cert_claims = record { each = λ s i. (are.each s i).claim }
 
-  -- where the certificate begins is a root's node
-  begin_root : (s : StepValue) → In ss s → s.node ≡ begin → IsNeeded roots (label_of v) depth ss s.node
-  begin_root s i e =
-      let a : first_and g ≤ s.node = (are.each s i).and.0 in
-      elim t.reached [
-        | target.nothing z b ↦ absurd (omega arith)
-        | target.node l j and b q p ↦ root l j (e ∙ b) (let f : label_of v s.node ≡ label_of v (l / 2) = ap (label_of v) (e ∙ b) in omega arith)
-        | target.complemented l j o q f b ↦ absurd (omega arith)
-      ]
+  abbrev made : CertificateValue
+  made = record { depth = depth; steps = ss }
 
-  pub cert_needed : AreNeeded roots (label_of v) (record { depth = depth; steps = ss })
-  cert_needed = record {
-    each = λ s i. elim (are.why s i) [
-      | steps.first e ↦ begin_root s i e
-      | steps.shared u j h ↦ needed.shared u j h
-    ];
-  }
+  -- where the certificate begins is the node of the first root that needs the depth
+  begin_needed : (m : ℕ) → IsAnd g m → m ≡ begin → IsNeeded g roots (label_of v) made m
+  begin_needed m and e = elim t.reached [
+    | target.nothing z b ↦ absurd (let a : first_and g ≤ m = and.0 in omega arith)
+    | target.node l f a b q p ↦ needed.root l p f a (e ∙ b)
+    | target.complemented l f s o q b ↦ absurd (let a : first_and g ≤ m = and.0 in omega arith)
+  ]
+
+  -- a step above another one is needed first, so each step is needed
+  step_needed : (f : ℕ) (s : StepValue) → In ss s → node_count g ≤ s.node + f → IsNeeded g roots (label_of v) made s.node
+  step_needed zero s i top = absurd (let b : s.node < node_count g = (are.each s i).and.1 in omega arith)
+  step_needed (suc f) s i top = elim (are.why s i) [
+    | steps.first e ↦ begin_needed s.node (are.each s i).and e
+    | steps.shared u j h ↦ needed.shared u j (step_needed f u j (let b : s.node < u.node = h.below in omega arith)) h
+  ]
+
+  -- and what is needed has a step
+  needed_there : (m : ℕ) → IsNeeded g roots (label_of v) made m → HasStep ss m
+  needed_there m (needed.root l p f and e) = elim t.reached [
+    | target.nothing z b ↦ absurd (omega arith)
+    | target.node r h a b q o ↦ (
+        let same : l ≡ r = first_once g (label_of v) depth roots l r f h in
+        let at : m ≡ begin = e ∙ (ap (λ x. x / 2) same ∙ sym b) in
+        subst (λ x. HasStep ss x) (sym at) (are.begun (subst (λ x. IsAnd g x) (sym b) a)))
+    | target.complemented r h s o q b ↦ absurd (source_not_and g (r / 2) s (subst (λ x. IsAnd g (x / 2)) (first_once g (label_of v) depth roots l r f h) and))
+  ]
+  needed_there m (needed.shared u j w h) = are.shares u m j h
+
+  pub cert_needed : AreNeeded g roots (label_of v) made
+  cert_needed = record { only = λ s i. step_needed (node_count g) s i (omega arith); all = needed_there }
 
   pub cert_writable : depth < 2 ^ 32 → node_count g ≤ 2 ^ 30 → ((m : ℕ) → label_of v m < 2 ^ 32) → IsWritable (record { depth = depth; steps = ss })
   cert_writable small count labels = record {

@@ -4,14 +4,15 @@ use Rattle.std.proofs.lemmas.Bool.{cases_lt, cases_Bool, leb-true, le-leb, ltb-t
 use Rattle.std.proofs.lemmas.Option.{none-some, same_Some}
 use Rattle.aig_core.specs.Aig.{Aig, first_and, node_count, IsAnd, AreNormal}
 use Rattle.list_laws.specs.Members.{In}
-use Rattle.cut_enum.specs.Cuts.{IsCut}
-use Rattle.cut_enum.specs.Covers.{IsCover, HasDepth, source, free, table, IsLeastDepth}
+use Rattle.cut_sets.specs.Cuts.{IsCut}
+use Rattle.cut_sets.specs.Covers.{IsCover, HasDepth, source, free, table, IsLeastDepth}
 use Rattle.cut_enum.specs.Table.{AreRows, row_at}
 use Rattle.depth_label.specs.Label.{height, LabelsValue, label_of, best_of, AreLabelled}
 use Rattle.depth_label.proofs.LabelLemmas.{labels_least}
 use Rattle.flow_cert.specs.Net.{AreRight}
 use Rattle.flow_cert.specs.Target.{IsTarget, nothing, node, complemented}
 use Rattle.flow_cert.proofs.LabelLemmas.{height_le, height_member}
+use Rattle.flow_cert.proofs.TargetLemmas.{first_in}
 
 -- the best cut of every AND node
 abbrev is_and : Aig → ℕ → Bool
@@ -77,8 +78,8 @@ module _ (g : Aig) (k : ℕ) (rows : List (List (List ℕ))) (v : LabelsValue) (
     };
     least = λ other e is within. elim t.reached [
       | nothing z b ↦ omega arith
-      | node l i and b q p ↦ (let low : label_of v (l / 2) ≤ e = (labels_least g rows v k normal w are).least roots other (l / 2) e is (within.nodes l i and) in omega arith)
-      | complemented l i s o one b ↦ (let low : 1 ≤ e = within.complemented l i s o in omega arith)
+      | node l f and b q p ↦ (let low : label_of v (l / 2) ≤ e = (labels_least g rows v k normal w are).least roots other (l / 2) e is (within.nodes l (first_in g (label_of v) depth roots l f) and) in omega arith)
+      | complemented l f s o one b ↦ (let low : 1 ≤ e = within.complemented l (first_in g (label_of v) depth roots l f) s o in omega arith)
     ];
   }
 

@@ -5,7 +5,7 @@ use Rattle.std.proofs.lemmas.List.{reverse-append}
 use Rattle.aig_core.specs.Aig.{Aig, first_and, node_count, IsAnd, IsNode, IsNormal, IsSource, AreNormal}
 use Rattle.aig_core.specs.declared.lit.Kind.TheVariants.{Regular}
 use Rattle.aig_core.specs.declared.lit.Pair.{Pair}
-use Rattle.cut_enum.specs.Cuts.{Blocks, fan_ins, CanBeLeaf}
+use Rattle.cut_sets.specs.Cuts.{Blocks, fan_ins, CanBeLeaf}
 use Rattle.depth_label.specs.Label.{height}
 use Rattle.cert_check.specs.Paths.{IsFanIn, IsPath}
 use Rattle.flow_cert.specs.Net.{AreRight}

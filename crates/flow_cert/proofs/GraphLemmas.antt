@@ -9,7 +9,7 @@ use Rattle.aig_core.specs.declared.lit.Kind.TheVariants.{Regular, Parameter}
 use Rattle.aig_core.specs.declared.lit.Pair.{Pair}
 use Rattle.aig_core.proofs.NodeLemmas.{source_below, node_normal, same_pair}
 use Rattle.list_laws.specs.Members.{In}
-use Rattle.cut_enum.specs.Cuts.{Blocks, member, constant, parameter, fan_ins, CanBeLeaf}
+use Rattle.cut_sets.specs.Cuts.{Blocks, member, constant, parameter, fan_ins, CanBeLeaf}
 use Rattle.cert_check.specs.Paths.{IsFanIn, first, second, Climbs, IsPath}
 
 -- a node with a pair is an AND node

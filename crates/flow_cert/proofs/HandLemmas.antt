@@ -7,7 +7,7 @@ use Rattle.aig_core.specs.Aig.{Aig, node_count, IsNode}
 use Rattle.aig_core.specs.declared.lit.Pair.{Pair}
 use Rattle.list_laws.specs.Members.{In}
 use Rattle.list_laws.proofs.Members.{In-get_or, In-left, In-right, In-push}
-use Rattle.cut_enum.specs.Cuts.{CanBeLeaf}
+use Rattle.cut_sets.specs.Cuts.{CanBeLeaf}
 use Rattle.cert_check.specs.Paths.{IsFanIn, first, second}
 use Rattle.flow_cert.specs.Net.{Net, IsLow, IsInner, IsEnd, IsNet}
 use Rattle.flow_cert.specs.Links.{IsChoice, IsLinked}

@@ -6,8 +6,8 @@ use Rattle.aig_core.specs.declared.lit.Kind.TheVariants.{Regular}
 use Rattle.aig_core.proofs.NodeLemmas.{source_below}
 use Rattle.list_laws.specs.Members.{In, Within}
 use Rattle.list_laws.specs.Order.{IsAscending}
-use Rattle.cut_enum.specs.Cuts.{Blocks, CanBeLeaf}
-use Rattle.cut_enum.proofs.BlockLemmas.{contains_one}
+use Rattle.cut_sets.specs.Cuts.{Blocks, CanBeLeaf}
+use Rattle.cut_sets.proofs.BlockLemmas.{contains_one}
 use Rattle.depth_label.specs.Label.{greatest, height}
 use Rattle.depth_label.proofs.DepthLemmas.{greatest_le}
 use Rattle.cert_check.specs.Paths.{IsFanIn}

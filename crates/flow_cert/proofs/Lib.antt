@@ -1,19 +1,21 @@
-pub mod OnceLemmas
-pub mod GraphLemmas
-pub mod LabelLemmas
-pub mod BarrierLemmas
-pub mod LinkLemmas
-pub mod TurnLemmas
-pub mod HandLemmas
-pub mod StampLemmas
-pub mod WayLemmas
-pub mod SearchLemmas
-pub mod FirstLemmas
-pub mod DownLemmas
-pub mod WalkLemmas
-pub mod ShowLemmas
-pub mod MarkLemmas
-pub mod TargetLemmas
-pub mod StepLemmas
-pub mod CoverLemmas
-pub mod CertLemmas
+mod OnceLemmas
+mod GraphLemmas
+mod LabelLemmas
+mod BarrierLemmas
+mod LinkLemmas
+mod TurnLemmas
+mod HandLemmas
+mod StampLemmas
+mod WayLemmas
+mod SearchLemmas
+mod FirstLemmas
+mod DownLemmas
+mod WalkLemmas
+mod ShowLemmas
+mod MarkLemmas
+mod TargetLemmas
+mod StepLemmas
+mod CoverLemmas
+mod CertLemmas
+pub mod NeededLemmas
+mod NeededExample

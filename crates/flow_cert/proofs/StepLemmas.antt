@@ -11,9 +11,9 @@ use Rattle.list_laws.proofs.Reversed.{reversed_in, in_reversed}
 use Rattle.cert_check.specs.CertificateValue.{StepValue}
 use Rattle.flow_cert.specs.Net.{AreRight}
 use Rattle.flow_cert.specs.Justify.{IsStepOf}
-use Rattle.flow_cert.specs.Needed.{IsShared}
+use Rattle.flow_cert.specs.Needed.{IsShared, HasStep}
 use Rattle.flow_cert.specs.Marks.{mark, AreMarked, FitStep}
-use Rattle.flow_cert.specs.Steps.{CanBegin, IsWanted, HasStep, AreDoneTo, AreSteps}
+use Rattle.flow_cert.specs.Steps.{CanBegin, IsWanted, AreDoneTo, AreSteps}
 use Rattle.flow_cert.specs.Steps as steps
 use Rattle.flow_cert.proofs.GraphLemmas.{path_below}
 use Rattle.flow_cert.proofs.LabelLemmas.{high_and}

@@ -6,7 +6,7 @@ use Rattle.aig_core.specs.Aig.{Aig, first_and, node_count, IsAnd, IsNode, AreNor
 use Rattle.aig_core.specs.declared.lit.Pair.{Pair}
 use Rattle.list_laws.specs.Members.{In}
 use Rattle.list_laws.proofs.Members.{In-get_or, In-left, In-right, In-push}
-use Rattle.cut_enum.specs.Cuts.{CanBeLeaf}
+use Rattle.cut_sets.specs.Cuts.{CanBeLeaf}
 use Rattle.cert_check.specs.Paths.{IsFanIn, first, second}
 use Rattle.depth_label.specs.Label.{LabelsValue, label_of}
 use Rattle.flow_cert.specs.Net.{Net, net_at, IsUpper, IsEnd, IsMet, AreReaders, AreRight}

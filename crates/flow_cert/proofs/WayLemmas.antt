@@ -9,7 +9,7 @@ use Rattle.list_laws.proofs.Members.{In-get_or, In-push, place_in}
 use Rattle.list_laws.proofs.Places.{get_pushed}
 use Rattle.std.specs.Prelude.{slice_get}
 use Rattle.std.proofs.lemmas.Option.{slice_get_within}
-use Rattle.cut_enum.specs.Cuts.{CanBeLeaf}
+use Rattle.cut_sets.specs.Cuts.{CanBeLeaf}
 use Rattle.cert_check.specs.Paths.{IsFanIn, IsPath}
 use Rattle.cert_check.specs.CertificateValue.{PathValue}
 use Rattle.flow_cert.specs.Net.{Net, IsLow, IsInner, IsUpper, IsNet}

@@ -1,7 +1,7 @@
 -- The paths that justify a node's label.
 use Rattle.std.specs.Prelude.{◌≡◌, ℕ, ◌+◌, ◌<◌, ◌≤◌, ◌≢◌, List, ◌∷◌, length, Some, reverse, slice_get}
 use Rattle.aig_core.specs.Aig.{Aig, IsAnd}
-use Rattle.cut_enum.specs.Cuts.{CanBeLeaf}
+use Rattle.cut_sets.specs.Cuts.{CanBeLeaf}
 use Rattle.list_laws.specs.Members.{In}
 use Rattle.cert_check.specs.CertificateValue.{PathValue, StepValue}
 use Rattle.cert_check.specs.Paths.{Climbs, IsPath}

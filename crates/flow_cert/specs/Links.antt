@@ -7,7 +7,7 @@ use Rattle.std.specs.Prelude.{◌≡◌, ℕ, ◌<◌, ◌≢◌, if◌then◌el
 use Rattle.aig_core.specs.Aig.{node_count, IsSource}
 use Rattle.aig_core.specs.declared.lit.Kind.TheVariants.{Regular}
 use Rattle.list_laws.specs.Members.{In}
-use Rattle.cut_enum.specs.Cuts.{CanBeLeaf}
+use Rattle.cut_sets.specs.Cuts.{CanBeLeaf}
 use Rattle.cert_check.specs.Paths.{IsFanIn}
 use Rattle.flow_cert.specs.Net.{Net, SiteValue, StandOnce, net_of, is_inner, IsInner, IsEnd}
 

@@ -5,7 +5,7 @@
 use Rattle.std.specs.Prelude.{◌≡◌, ℕ, ◌+◌, ◌<◌, ◌≤◌, ◌⊎◌, Bool, ◌&&◌, nat_lt, List, length, Some, slice_get, slice_index}
 use Rattle.aig_core.specs.Aig.{Aig, first_and, IsAnd, AreNormal}
 use Rattle.list_laws.specs.Members.{In}
-use Rattle.cut_enum.specs.Cuts.{CanBeLeaf, AreMinimal}
+use Rattle.cut_sets.specs.Cuts.{CanBeLeaf, AreMinimal}
 use Rattle.depth_label.specs.Label.{AreLabels, LabelsValue, label_of}
 use Rattle.cert_check.specs.Paths.{IsFanIn}
 

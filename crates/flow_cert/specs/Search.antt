@@ -5,7 +5,7 @@
 use Rattle.std.specs.Prelude.{◌≡◌, ℕ, ◌-◌, ◌<◌, ◌≤◌, List, [], ◌∷◌, ◌++◌, length, slice_index, slice_set, take, ◌⊎◌}
 use Rattle.aig_core.specs.Aig.{Aig, node_count}
 use Rattle.list_laws.specs.Members.{In}
-use Rattle.cut_enum.specs.Cuts.{CanBeLeaf}
+use Rattle.cut_sets.specs.Cuts.{CanBeLeaf}
 use Rattle.depth_label.specs.Label.{label_of}
 use Rattle.flow_cert.specs.Net.{Net, SiteValue, StandOnce, net_of, IsLow, IsInner, IsEnd, AreRight}
 use Rattle.flow_cert.specs.Links.{IsChoice, owner_in}

@@ -6,7 +6,7 @@ use Rattle.list_laws.specs.Order.{IsAscending, IsDescending}
 use Rattle.cert_check.specs.CertificateValue.{StepValue}
 use Rattle.flow_cert.specs.Justify.{IsStepOf}
 use Rattle.flow_cert.specs.Marks.{mark}
-use Rattle.flow_cert.specs.Needed.{IsShared}
+use Rattle.flow_cert.specs.Needed.{IsShared, HasStep}
 
 -- the node where the certificate begins: 0 for none, or an AND node with a label of 1 at least
 abbrev pub CanBegin : Aig → (ℕ → ℕ) → ℕ → Type 0
@@ -16,12 +16,6 @@ CanBegin g label begin = (begin ≡ 0) ⊎ (IsAnd g begin × (1 ≤ label begin)
 pub data IsWanted (begin : ℕ) (steps : List StepValue) (m : ℕ) : Type 0 where
   first : m ≡ begin → IsWanted begin steps m
   shared : (t : StepValue) → In steps t → IsShared t m → IsWanted begin steps m
-
--- there is a step of a node
-pub record HasStep (steps : List StepValue) (m : ℕ) : Type 0 where
-  pub step : StepValue
-  pub there : In steps step
-  pub is : step.node ≡ m
 
 -- the nodes from the limit on have their steps, and these have marked what they need
 pub record AreDoneTo (g : Aig) (k : ℕ) (label : ℕ → ℕ) (begin limit : ℕ) (marks : List Bool) (steps : List StepValue) : Type 0 where

@@ -2,7 +2,7 @@
 use Rattle.std.specs.Prelude.{◌≡◌, ℕ, ◌+◌, ◌<◌, ◌≤◌, List, [], ◌∷◌, ◌++◌, length, slice_index, slice_set}
 use Rattle.aig_core.specs.Aig.{Aig, IsAnd}
 use Rattle.list_laws.specs.Members.{In}
-use Rattle.cut_enum.specs.Cuts.{CanBeLeaf}
+use Rattle.cut_sets.specs.Cuts.{CanBeLeaf}
 use Rattle.cert_check.specs.Paths.{IsFanIn}
 use Rattle.flow_cert.specs.Net.{Net, StandOnce, IsUpper, IsMet, AreEnds}
 

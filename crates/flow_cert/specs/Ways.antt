@@ -1,7 +1,7 @@
 -- The ways of the paths, upwards from where they start.
 use Rattle.std.specs.Prelude.{◌≡◌, ℕ, ◌+◌, ◌<◌, ◌≢◌, if◌then◌else◌, ◌==◌, nat_lt, List, length, Some, slice_get, slice_index}
 use Rattle.list_laws.specs.Members.{In}
-use Rattle.cut_enum.specs.Cuts.{CanBeLeaf}
+use Rattle.cut_sets.specs.Cuts.{CanBeLeaf}
 use Rattle.cert_check.specs.CertificateValue.{PathValue}
 use Rattle.cert_check.specs.Paths.{IsPath}
 use Rattle.flow_cert.specs.Net.{Net, IsLow, IsInner, IsUpper}

@@ -4,10 +4,10 @@ ghost use Rattle.aig_core.specs.Aig.{node_count};
 ghost use Rattle.aig_core.specs.Roots.{lits_of, roots_of, AreRoots};
 ghost use Rattle.cert_check.specs.Valid.{IsValid};
 ghost use Rattle.cert_check.specs.WrittenText.{IsWritable};
-ghost use Rattle.cut_enum.specs.Covers.{IsLeastDepth};
+ghost use Rattle.cut_sets.specs.Covers.{IsLeastDepth};
 ghost use Rattle.cut_enum.specs.Table.{AreRows};
 ghost use Rattle.depth_label.specs.Label.{label_of, AreLabelled};
-ghost use Rattle.flow_cert.specs.Needed.{AreLabelClaims, AreNeeded};
+ghost use Rattle.flow_cert.specs.Needed.{AreLabelClaims, AreNeeded, HasOneClaiming};
 
 use crate::steps::steps_of;
 use crate::target::target_of;
@@ -48,9 +48,11 @@ pub fn certify(
     // Its depth is the least that a cover has.
     ensures depth { IfOk result (λ cert. IsLeastDepth graph.now k (roots_of roots.now) cert.depth) }
 
-    // Each claim is the label of its node, and a node is claimed only where it is needed.
+    // Each claim is the label of its node, and exactly the nodes whose claims are needed have one: given the paths, there is one
+    // such set of nodes.
     ensures claims { IfOk result (λ cert. AreLabelClaims labels.now cert) }
-    ensures needed { IfOk result (λ cert. AreNeeded (roots_of roots.now) (label_of labels.now) cert) }
+    ensures needed { IfOk result (λ cert. AreNeeded graph.now (roots_of roots.now) (label_of labels.now) cert) }
+    ensures once { HasOneClaiming graph.now (roots_of roots.now) (label_of labels.now) }
 
     // It can be written as a text that is read back.
     ensures formed { IfOk result IsWritable }

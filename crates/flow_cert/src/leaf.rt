@@ -1,7 +1,7 @@
 //! Which nodes can be leaves.
 ghost use Rattle.std.specs.Prelude.{◌≡◌, ℕ, ◌<◌, true, false};
 ghost use Rattle.aig_core.specs.Aig.{node_count};
-ghost use Rattle.cut_enum.specs.Cuts.{CanBeLeaf};
+ghost use Rattle.cut_sets.specs.Cuts.{CanBeLeaf};
 
 use aig_core::{Graph, Kind};
 

@@ -20,12 +20,13 @@
 //!   K paths this would be a cut of a height below the label, and there is none.
 //! - The paths are read upwards from where they start: from owner to owner, and from an end on from reader to reader.
 //!
-//! A claim is made only where it is needed: for the node of the first root that needs the depth, and for each node that stands in
+//! A claim is made exactly where it is needed: for the node of the first root that needs the depth, and for each node that stands in
 //! two paths of a step above it. So the nodes are taken in descending order, with marks.
 //!
 //! # The words
 //!
-//! - `specs/Needed.antt`: each claim is its node's label, and which nodes are needed.
+//! - `specs/Needed.antt`: each claim is its node's label, and exactly the needed nodes are claimed, so that only the paths are free.
+//!   `proofs/NeededExample.antt` works some out.
 //! - `specs/Net.antt` (readers and ends), `Links.antt` (the matching), `Search.antt`, `Ways.antt` (the paths), `Walks.antt`,
 //!   `Justify.antt`, `Marks.antt`, `Steps.antt`, `Target.antt`, `Stamps.antt` say what the bodies keep.
 //!

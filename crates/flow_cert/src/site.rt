@@ -1,7 +1,7 @@
 //! A node to which paths are sought, with what the search reads.
 ghost use Rattle.std.specs.Prelude.{◌≡◌, ℕ, ◌<◌, ◌≤◌, ◌+◌, ◌^◌, length, nat_lt, slice_index, true, false};
 ghost use Rattle.aig_core.specs.Aig.{node_count, IsAnd, IsNode, IsNormal};
-ghost use Rattle.cut_enum.specs.Cuts.{CanBeLeaf};
+ghost use Rattle.cut_sets.specs.Cuts.{CanBeLeaf};
 ghost use Rattle.depth_label.specs.Label.{label_of};
 ghost use Rattle.flow_cert.specs.Net.{IsNet, net_at, net_of, is_inner, AreEnds};
 ghost use Rattle.flow_cert.specs.Links.{first_owner};

@@ -1,8 +1,8 @@
 -- Worked examples: four bits in two regions, and a send whose second port fails, with a spare and without one.
-use Rattle.std.proofs.Common.{◌≡◌, ℕ, Bool, true, false, List, [], ◌∷◌, None, Some, Ok, zero, suc, ◌/◌, refl, ap, subst, ◌∙◌, arith, inl, inr}
+use Rattle.std.proofs.Common.{◌≡◌, ℕ, Bool, true, false, List, [], ◌∷◌, None, Some, Ok, zero, suc, ◌/◌, ◌+◌, ◌-◌, ◌^◌, ◌<◌, refl, ap, subst, ◌∙◌, arith, inl, inr}
 use Rattle.std.specs.List.{slice_get}
 use Rattle.std.proofs.lemmas.Option.{none-some, same_Some}
-use Rattle.tl_io.specs.Port.{PortSeen}
+use Rattle.tl_io.specs.Port.{PortSeen, Accepts, Fails}
 use Rattle.tl_io.specs.declared.Write.{Write}
 use Rattle.port_bank.specs.Regions.{width, region_of, region, outside}
 use Rattle.port_bank.specs.Bank.{BankSeen, all_ports, Called, Replaced}
@@ -117,10 +117,17 @@ abbrev pub broken : List PortSeen → BankSeen
 broken spares = the_bank (first_after ∷ second_failed ∷ []) spares []
 
 first_call : (spares : List PortSeen) → Called 0 (bit 1 true) true (loaded spares) (half_sent spares)
-first_call spares = record { before = first_loaded; after = first_after; was = refl; answered = record { log = refl; accepted = refl; later = omega arith }; now = refl }
+first_call spares = record { before = first_loaded; after = first_after; was = refl; answered = record { log = refl; accepted = refl; faults = refl }; now = refl }
 
 second_call : (spares : List PortSeen) → Called 1 (bit 2 false) false (half_sent spares) (broken spares)
-second_call spares = record { before = second_loaded; after = second_failed; was = refl; answered = record { log = refl; accepted = refl; later = omega arith; rose = omega arith }; now = refl }
+second_call spares = record { before = second_loaded; after = second_failed; was = refl; answered = record { log = refl; accepted = refl; faults = refl }; now = refl }
+
+-- a port that failed and is called again isn't as after one call, whatever the second call answers
+called_again : (old mid new : PortSeen) (write : Write) → old.faults < 2 ^ 64 - 1 → Fails old mid → Accepts mid write new → Accepts old write new → ⊥
+called_again old mid new write low first second one = omega (arith, low, first.faults, second.faults, one.faults)
+
+failed_again : (old mid new : PortSeen) → old.faults + 1 < 2 ^ 64 - 1 → Fails old mid → Fails mid new → Fails old new → ⊥
+failed_again old mid new low first second one = omega (arith, low, first.faults, second.faults, one.faults)
 
 -- the spare in the second port's place, with each bit of its region
 abbrev pub mended : List Write → ℕ → BankSeen
@@ -130,10 +137,10 @@ spare_comes : Replaced 1 (broken (port [] 0 0 ∷ [])) (mended [] 0)
 spare_comes = record { port = second_failed; spare = port [] 0 0; was = refl; first = refl; now = refl }
 
 third_call : Called 1 (bit 2 false) true (mended [] 0) (mended (bit 2 false ∷ []) 1)
-third_call = record { before = port [] 0 0; after = port (bit 2 false ∷ []) 1 0; was = refl; answered = record { log = refl; accepted = refl; later = omega arith }; now = refl }
+third_call = record { before = port [] 0 0; after = port (bit 2 false ∷ []) 1 0; was = refl; answered = record { log = refl; accepted = refl; faults = refl }; now = refl }
 
 last_call : Called 1 (bit 3 true) true (mended (bit 2 false ∷ []) 1) (mended (bit 2 false ∷ bit 3 true ∷ []) 2)
-last_call = record { before = port (bit 2 false ∷ []) 1 0; after = port (bit 2 false ∷ bit 3 true ∷ []) 2 0; was = refl; answered = record { log = refl; accepted = refl; later = omega arith }; now = refl }
+last_call = record { before = port (bit 2 false ∷ []) 1 0; after = port (bit 2 false ∷ bit 3 true ∷ []) 2 0; was = refl; answered = record { log = refl; accepted = refl; faults = refl }; now = refl }
 
 half_way : (spares : List PortSeen) → Sends 2 bits_0101 event (loaded spares) (true ∷ []) (bit 2 false ∷ []) (half_sent spares)
 half_way spares = accepted {answers = []} {write = bit 1 true} {left = bit 2 false ∷ []} start (first_call spares)

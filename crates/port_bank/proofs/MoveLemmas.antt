@@ -1,5 +1,5 @@
 -- Which ports a send moves: how many, and each with its cause.
-use Rattle.std.proofs.Common.{◌≡◌, ◌⊎◌, ℕ, zero, suc, ◌+◌, ◌≤◌, Bool, true, false, List, [], ◌∷◌, ◌++◌, length, Some, refl, ap, sym, ◌∙◌, arith, subst, inl, inr, append-nil, append_assoc, slice_set}
+use Rattle.std.proofs.Common.{◌≡◌, ◌⊎◌, ℕ, zero, suc, ◌+◌, Bool, true, false, List, [], ◌∷◌, ◌++◌, length, Some, refl, ap, sym, ◌∙◌, arith, subst, inl, inr, append-nil, append_assoc, slice_set}
 use Rattle.std.specs.List.{slice_get, remove}
 use Rattle.std.proofs.lemmas.List.{length-append}
 use Rattle.std.proofs.lemmas.List.Edits.{length-remove}
@@ -7,7 +7,7 @@ use Rattle.std.proofs.lemmas.Option.{slice_get_within, same_Some}
 use Rattle.list_laws.specs.Members.{In}
 use Rattle.list_laws.proofs.Members.{In-left, In-right, In-append, In-get}
 use Rattle.list_laws.proofs.Places.{set_length, set_here}
-use Rattle.tl_io.specs.Causes.{Rose}
+use Rattle.tl_io.specs.Counts.{raised}
 use Rattle.tl_io.specs.Port.{PortSeen}
 use Rattle.tl_io.specs.declared.Write.{Write}
 use Rattle.port_bank.specs.Regions.{region_of}
@@ -72,47 +72,82 @@ in_set (z ∷ zs) zero y x (inr r) = inr (inr r)
 in_set (z ∷ zs) (suc i) y x (inl e) = inr (inl e)
 in_set (z ∷ zs) (suc i) y x (inr r) = elim (in_set zs i y x r) [ inl e ↦ inl e | inr t ↦ inr (inr t) ]
 
--- each port that serves or stands by did so before, with a count of faults that was no higher
+-- a place that is set twice, and one that is set and then removed
+set_twice : {X : Type 0} (xs : List X) (i : ℕ) (x y : X) → slice_set (slice_set xs i x) i y ≡ slice_set xs i y
+set_twice [] i x y = refl
+set_twice (z ∷ zs) zero x y = refl
+set_twice (z ∷ zs) (suc i) x y = ap (λ (t : List _). z ∷ t) (set_twice zs i x y)
+
+set_removed : {X : Type 0} (xs : List X) (i : ℕ) (x : X) → remove (slice_set xs i x) i ≡ remove xs i
+set_removed [] i x = refl
+set_removed (z ∷ zs) zero x = refl
+set_removed (z ∷ zs) (suc i) x = ap (λ (t : List _). z ∷ t) (set_removed zs i x)
+
+-- each port that serves or stands by did so before, and its count of faults is as before
 record Stems (old new : BankSeen) : Type 0 where
-  stems : (port : PortSeen) → In (new.serving ++ new.spares) port → (before : PortSeen) × In (old.serving ++ old.spares) before × (before.faults ≤ port.faults)
+  stems : (port : PortSeen) → In (new.serving ++ new.spares) port → (before : PortSeen) × In (old.serving ++ old.spares) before × (port.faults ≡ before.faults)
 
 stems_here : (bank : BankSeen) → Stems bank bank
-stems_here bank = record { stems = λ port h. (port, h, omega arith) }
+stems_here bank = record { stems = λ port h. (port, h, refl) }
 
-stems_called : (i : ℕ) (write : Write) (answer : Bool) (base old new : BankSeen) → Stems base old → (c : Called i write answer old new) → c.before.faults ≤ c.after.faults → Stems base new
-stems_called i write answer base old new s c later = record {
+stems_called : (i : ℕ) (write : Write) (base old new : BankSeen) → Stems base old → Called i write true old new → Stems base new
+stems_called i write base old new s c = record {
   stems = λ port h.
       let now : In (slice_set old.serving i c.after ++ old.spares) port = subst (λ (b : BankSeen). In (b.serving ++ b.spares) port) c.now h in
       elim (In-append (slice_set old.serving i c.after) old.spares port now) [
         | inl a ↦ elim (in_set old.serving i c.after port a) [
           | inl e ↦
               let t = s.stems c.before (In-left old.serving old.spares c.before (In-get old.serving i c.before c.was)) in
-              let same : c.after.faults ≡ port.faults = ap (λ (q : PortSeen). q.faults) (sym e) in
-              (t.0, t.1, omega (arith, t.2, later, same))
+              (t.0, t.1, ap (λ (q : PortSeen). q.faults) e ∙ (c.answered.faults ∙ t.2))
           | inr b ↦ s.stems port (In-left old.serving old.spares port b)
         ]
         | inr b ↦ s.stems port (In-right old.serving old.spares port b)
       ];
 }
 
-stems_replaced : (i : ℕ) (base old new : BankSeen) → Stems base old → Replaced i old new → Stems base new
-stems_replaced i base old new s r = record {
-  stems = λ port h.
-      let now : In (slice_set old.serving i r.spare ++ new.spares) port = subst (λ l. In (l ++ new.spares) port) (ap (λ (b : BankSeen). b.serving) r.now) h in
-      elim (In-append (slice_set old.serving i r.spare) new.spares port now) [
-        | inl a ↦ elim (in_set old.serving i r.spare port a) [
-          | inl e ↦ s.stems port (In-right old.serving old.spares port (subst (λ l. In l port) (sym r.first) (inl e)))
-          | inr b ↦ s.stems port (In-left old.serving old.spares port b)
-        ]
-        | inr b ↦ s.stems port (In-right old.serving old.spares port (subst (λ l. In l port) (sym r.first) (inr b)))
-      ];
-}
+-- the port that failed left
+stems_replaced : (i : ℕ) (write : Write) (base old mid new : BankSeen) → Stems base old → Called i write false old mid → Replaced i mid new → Stems base new
+stems_replaced i write base old mid new s c r =
+    let serving : new.serving ≡ slice_set old.serving i r.spare =
+    ap (λ (b : BankSeen). b.serving) r.now ∙ (ap (λ (b : BankSeen). slice_set b.serving i r.spare) c.now ∙ set_twice old.serving i c.after r.spare) in
+    let spares : r.spare ∷ new.spares ≡ old.spares = sym r.first ∙ ap (λ (b : BankSeen). b.spares) c.now in
+    record {
+      stems = λ port h.
+          let now : In (slice_set old.serving i r.spare ++ new.spares) port = subst (λ l. In (l ++ new.spares) port) serving h in
+          elim (In-append (slice_set old.serving i r.spare) new.spares port now) [
+            | inl a ↦ elim (in_set old.serving i r.spare port a) [
+              | inl e ↦ s.stems port (In-right old.serving old.spares port (subst (λ l. In l port) spares (inl e)))
+              | inr b ↦ s.stems port (In-left old.serving old.spares port b)
+            ]
+            | inr b ↦ s.stems port (In-right old.serving old.spares port (subst (λ l. In l port) spares (inr b)))
+          ];
+    }
+
+-- a port that is left in a list was there
+in_remove : (xs : List PortSeen) (i : ℕ) (x : PortSeen) → In (remove xs i) x → In xs x
+in_remove [] zero x h = h
+in_remove [] (suc i) x h = h
+in_remove (z ∷ zs) zero x h = inr h
+in_remove (z ∷ zs) (suc i) x (inl e) = inl e
+in_remove (z ∷ zs) (suc i) x (inr r) = inr (in_remove zs i x r)
+
+stems_retired : (i : ℕ) (write : Write) (base old mid new : BankSeen) → Stems base old → Called i write false old mid → Retired i mid new → Stems base new
+stems_retired i write base old mid new s c r =
+    let serving : new.serving ≡ remove old.serving i =
+    ap (λ (b : BankSeen). b.serving) r.now ∙ (ap (λ (b : BankSeen). remove b.serving i) c.now ∙ set_removed old.serving i c.after) in
+    let none : new.spares ≡ [] = ap (λ (b : BankSeen). b.spares) r.now in
+    record {
+      stems = λ port h.
+          let now : In (new.serving ++ []) port = subst (λ l. In (new.serving ++ l) port) none h in
+          let left : In (remove old.serving i) port = subst (λ l. In l port) (append-nil new.serving ∙ serving) now in
+          s.stems port (In-left old.serving old.spares port (in_remove old.serving i port left));
+    }
 
 -- which ports moved, and why
 record Moved (old new : BankSeen) : Type 0 where
   moved : List PortSeen
   behind : new.failed ≡ old.failed ++ moved
-  cause : (port : PortSeen) → In moved port → (before : PortSeen) × In (old.serving ++ old.spares) before × Rose before.faults port.faults
+  cause : (port : PortSeen) → In moved port → (before : PortSeen) × In (old.serving ++ old.spares) before × (port.faults ≡ raised before.faults 1)
 
 -- both facts of a send
 record Traces (old new : BankSeen) : Type 0 where
@@ -132,15 +167,14 @@ moved_one i write base old mid new port s m c was e =
     let t = s.stems c.before (In-left old.serving old.spares c.before (In-get old.serving i c.before c.was)) in
     let here : slice_get (slice_set old.serving i c.after) i ≡ Some port = sym (ap (λ (b : BankSeen). slice_get b.serving i) c.now) ∙ was in
     let same : c.after ≡ port = same_Some c.after port (sym (set_here old.serving i c.after (slice_get_within old.serving i c.before c.was)) ∙ here) in
-    let faults : c.after.faults ≡ port.faults = ap (λ (q : PortSeen). q.faults) same in
-    let rose : Rose t.0.faults port.faults = omega (arith, c.answered.rose, t.2, faults) in
+    let once : port.faults ≡ raised t.0.faults 1 = ap (λ (q : PortSeen). q.faults) (sym same) ∙ (c.answered.faults ∙ ap (λ n. raised n 1) t.2) in
     record {
       moved = m.moved ++ port ∷ [];
       behind = e ∙ (ap (λ l. l ++ port ∷ []) (ap (λ (b : BankSeen). b.failed) c.now ∙ m.behind) ∙ append_assoc base.failed m.moved (port ∷ []));
       cause = λ q h. elim (In-append m.moved (port ∷ []) q h) [
         | inl a ↦ m.cause q a
         | inr b ↦ elim b [
-          | inl g ↦ subst (λ (x : PortSeen). (before : PortSeen) × In (base.serving ++ base.spares) before × Rose before.faults x.faults) (sym g) (t.0, t.1, rose)
+          | inl g ↦ subst (λ (x : PortSeen). (before : PortSeen) × In (base.serving ++ base.spares) before × (x.faults ≡ raised before.faults 1)) (sym g) (t.0, t.1, once)
           | inr n ↦ absurd n
         ]
       ];
@@ -152,13 +186,13 @@ traces {old = old} start = record { stems = stems_here old; moves = record { mov
 traces {w} {old = old} (accepted {write = write} {mid = mid} {new = new} s c) =
     let t = traces s in
     record {
-      stems = stems_called (region_of w write) write true old mid new t.stems c c.answered.later;
+      stems = stems_called (region_of w write) write old mid new t.stems c;
       moves = moved_none old mid new t.moves (ap (λ (b : BankSeen). b.failed) c.now);
     }
 traces {w} {old = old} (replaced {write = write} {mid = mid} {next = next} {new = new} s c r) =
     let t = traces s in
     record {
-      stems = stems_replaced (region_of w write) old next new (stems_called (region_of w write) write false old mid next t.stems c c.answered.later) r;
+      stems = stems_replaced (region_of w write) write old mid next new t.stems c r;
       moves = moved_one (region_of w write) write old mid next new r.port t.stems t.moves c r.was (ap (λ (b : BankSeen). b.failed) r.now);
     }
 
@@ -166,25 +200,8 @@ pub moves_with_cause : {w : ℕ} {config : List Bool} {writes : List Write} {old
     Sends w config writes old answers left new → MovesWithCause old new
 moves_with_cause {old = old} {new = new} s = let t = traces s in with_cause old new t.stems t.moves
 
--- a port that is left in a list was there
-in_remove : (xs : List PortSeen) (i : ℕ) (x : PortSeen) → In (remove xs i) x → In xs x
-in_remove [] zero x h = h
-in_remove [] (suc i) x h = h
-in_remove (z ∷ zs) zero x h = inr h
-in_remove (z ∷ zs) (suc i) x (inl e) = inl e
-in_remove (z ∷ zs) (suc i) x (inr r) = inr (in_remove zs i x r)
-
-stems_retired : (i : ℕ) (base old new : BankSeen) → Stems base old → Retired i old new → Stems base new
-stems_retired i base old new s r = record {
-  stems = λ port h.
-      let now : In (remove old.serving i ++ []) port = subst (λ (b : BankSeen). In (b.serving ++ b.spares) port) r.now h in
-      let left : In (remove old.serving i) port = subst (λ l. In l port) (append-nil (remove old.serving i)) now in
-      s.stems port (In-left old.serving old.spares port (in_remove old.serving i port left));
-}
-
 pub loses_with_cause : {w : ℕ} {config : List Bool} {writes : List Write} {old : BankSeen} {i : ℕ} {new : BankSeen} → Loses w config writes old i new → MovesWithCause old new
 loses_with_cause {w} {old = old} {new = new} l =
     let t = traces l.sends in
-    let called : Stems old l.next = stems_called (region_of w l.write) l.write false old l.mid l.next t.stems l.failed l.failed.answered.later in
-    with_cause old new (stems_retired (region_of w l.write) old l.next new called l.retired)
+    with_cause old new (stems_retired (region_of w l.write) l.write old l.mid l.next new t.stems l.failed l.retired)
     (moved_one (region_of w l.write) l.write old l.mid l.next new l.retired.port t.stems t.moves l.failed l.retired.was (ap (λ (b : BankSeen). b.failed) l.retired.now))

@@ -88,11 +88,10 @@ called_ok seen items s k f i old new write (Ok v) l h e w = called seen items s 
 called_ok seen items s k f i old new write (Err x) l h e w = tt
 
 pub called_err : {B E : Type 0} (seen : B → PortSeen) (items : List B) (s k f i : ℕ) (old new : B) (write : Write) (result : Result Unit E) → i < s → s + k + f ≤ length items →
-    old ≡ get_or items i old → (seen old).faults ≤ (seen new).faults → Writes (seen old) write (seen new) result →
+    old ≡ get_or items i old → Writes (seen old) write (seen new) result →
     OnErr result (Called i write false (in_parts s k f (map seen items)) (in_parts s k f (map seen (set items i new))))
-called_err seen items s k f i old new write (Ok v) l h e later w = tt
-called_err seen items s k f i old new write (Err x) l h e later w =
-    called seen items s k f i old new write false l h e (record { log = w.0; accepted = w.1; later = later; rose = w.2 })
+called_err seen items s k f i old new write (Ok v) l h e w = tt
+called_err seen items s k f i old new write (Err x) l h e w = called seen items s k f i old new write false l h e w
 
 -- a list with one element more, in front and behind
 take-pushed : {X : Type 0} (n : ℕ) (xs : List X) (y : X) → n ≤ length xs → take n (xs ++ y ∷ []) ≡ take n xs

@@ -1,7 +1,6 @@
 -- A bank of ports, and what one call of a port does to it.
-use Rattle.std.specs.Prelude.{◌≡◌, ◌≤◌, ℕ, Bool, true, false, List, [], ◌∷◌, ◌++◌, length, remove, slice_get, slice_set, Some}
-use Rattle.tl_io.specs.Causes.{Rose}
-use Rattle.tl_io.specs.Port.{PortSeen, Accepts}
+use Rattle.std.specs.Prelude.{◌≡◌, ℕ, Bool, true, false, List, [], ◌∷◌, ◌++◌, length, remove, slice_get, slice_set, Some}
+use Rattle.tl_io.specs.Port.{PortSeen, Accepts, Fails}
 use Rattle.tl_io.specs.declared.Write.{Write}
 use Rattle.port_bank.specs.Regions.{width}
 
@@ -20,19 +19,12 @@ all_ports bank = bank.serving ++ (bank.spares ++ (bank.rest ++ bank.failed))
 abbrev pub bank_width : BankSeen → List Bool → ℕ
 bank_width bank config = width (length bank.serving) (length config)
 
--- a port accepted nothing, and its count of faults rose
-pub record Fails (old new : PortSeen) : Type 0 where
-  pub log : new.log ≡ old.log
-  pub accepted : new.accepted ≡ old.accepted
-  pub later : old.faults ≤ new.faults
-  pub rose : Rose old.faults new.faults
-
--- a port was sent a write, and answered Ok or Failed
+-- a port was sent a write once, and answered Ok or Failed
 abbrev pub Answers : Bool → PortSeen → Write → PortSeen → Type 0
-Answers true old write new = Accepts old (write ∷ []) 1 new
+Answers true old write new = Accepts old write new
 Answers false old write new = Fails old new
 
--- the serving port of a region was sent a write, and answered so
+-- the serving port of a region was sent a write once, and answered so; no other port was called
 pub record Called (i : ℕ) (write : Write) (answer : Bool) (old new : BankSeen) : Type 0 where
   pub before : PortSeen
   pub after : PortSeen

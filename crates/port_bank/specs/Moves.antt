@@ -1,7 +1,7 @@
 -- Which ports a send moves, and why.
-use Rattle.std.specs.Prelude.{◌≡◌, ◌≤◌, ◌+◌, ℕ, true, false, List, [], ◌++◌, length, Result, MatchResult}
+use Rattle.std.specs.Prelude.{◌≡◌, ◌+◌, ℕ, true, false, List, [], ◌++◌, length, Result, MatchResult}
 use Rattle.list_laws.specs.Members.{In}
-use Rattle.tl_io.specs.Causes.{Rose}
+use Rattle.tl_io.specs.Counts.{raised}
 use Rattle.tl_io.specs.Port.{PortSeen}
 use Rattle.tl_io.specs.declared.Write.{Write}
 use Rattle.port_bank.specs.declared.bank.PortFault.{PortFault}
@@ -27,12 +27,12 @@ pub record FallsShort (old new : BankSeen) : Type 0 where
 abbrev pub IsLeft : BankSeen → BankSeen → Result Unit PortFault → Type 0
 IsLeft old new result = MatchResult result (λ _. Becomes old new) (λ _. FallsShort old new)
 
--- Ports moved to the failed ones, each with a count of faults that rose since it served or stood by. Those that serve or stand by did so before, with counts that were no higher.
+-- Ports moved to the failed ones, and each answered Failed exactly once since it served or stood by. Those that serve or stand by did so before, and none of them answered Failed. So as many calls failed as ports moved.
 pub record MovesWithCause (old new : BankSeen) : Type 0 where
   pub moved : List PortSeen
   pub behind : new.failed ≡ old.failed ++ moved
-  pub cause : (port : PortSeen) → In moved port → (before : PortSeen) × In (old.serving ++ old.spares) before × Rose before.faults port.faults
-  pub stay : (port : PortSeen) → In (new.serving ++ new.spares) port → (before : PortSeen) × In (old.serving ++ old.spares) before × (before.faults ≤ port.faults)
+  pub cause : (port : PortSeen) → In moved port → (before : PortSeen) × In (old.serving ++ old.spares) before × (port.faults ≡ raised before.faults 1)
+  pub stay : (port : PortSeen) → In (new.serving ++ new.spares) port → (before : PortSeen) × In (old.serving ++ old.spares) before × (port.faults ≡ before.faults)
 
 -- every region has a port, and the first spares were used, one for each port that failed
 pub record KeepsPlaces (old new : BankSeen) : Type 0 where

@@ -13,7 +13,8 @@ use crate::regions::{region_bits, width_of};
 use tl_io::{ConfigPort, Failed, Write};
 
 /// The region whose port failed while no spare was left.
-#[derive(Clone, Copy, Debug, PartialEq, Eq)]
+#[derive(Clone, Copy, Debug, PartialEq, Eq, thiserror::Error)]
+#[error("the port of region {region} failed while no spare was left")]
 pub struct PortFault {
     /// The region's number, from 0.
     pub region: usize,

@@ -17,7 +17,7 @@ use crate::field::{fan_ins, is_bad_pair, node_count as count_field};
 use crate::number::offset;
 use crate::pack_err::PackErr;
 use crate::version::Version;
-use aig_core::{Graph, Kind, Pair};
+use aig_core::{AigErr, Graph, Kind, Pair};
 use ppc_pack::{MOST_PACK_NODES, PackParam};
 use std::alloc::Global;
 
@@ -33,9 +33,10 @@ fn graph_over(alloc: Global, params: &[PackParam]) -> Result<Graph, PackErr>
 }
 
 // Adds the node of these fan-ins, unless they are none of the next node, or the pair stood earlier: then the field at this
-// place is refused. The graph has room for each node of a pack.
+// place is refused. The graph has room for one more node.
 fn add_node(graph: &mut Graph, pair: Pair, at: u32) -> Result<(), PackErr>
-    requires { node_count graph.old < 2 ^ 30 }
+    requires few { node_count graph.old < 2 ^ 30 }
+    requires room { length graph.old.pairs < graph.old.max }
     ensures new { OnOk result ((is_bad (node_count graph.old) pair || list_any (is_pair pair.x.0 pair.y.0) graph.old.pairs) ≡ false) }
     ensures graph { OnOk result (graph.new ≡ with_pairs graph.old (graph.old.pairs ++ pair ∷ [])) }
     ensures fault { IfErr result (OrMemory refusal_of (λ e. (e ≡ PackErr.BadNode at) × ((is_bad (node_count graph.old) pair || list_any (is_pair pair.x.0 pair.y.0) graph.old.pairs) ≡ true))) }
@@ -46,7 +47,8 @@ fn add_node(graph: &mut Graph, pair: Pair, at: u32) -> Result<(), PackErr>
     }
     let lit = match graph.and(pair.x, pair.y) {
         Ok(lit) => lit,
-        Err(_) => return Err(PackErr::Memory),
+        Err(AigErr::Memory) => return Err(PackErr::Memory),
+        Err(AigErr::Full) => unreachable!(),
     };
     if lit.0 != 2 * node {
         return Err(PackErr::BadNode(at));
@@ -61,7 +63,8 @@ fn read_node<'a>(
     graph: &mut Graph,
     rest: &'a [u8],
 ) -> Result<(Pair, &'a [u8]), PackErr>
-    requires { node_count graph.old < 2 ^ 30 }
+    requires few { node_count graph.old < 2 ^ 30 }
+    requires room { length graph.old.pairs < graph.old.max }
     ensures node { IfOk result (λ x. node_at total version (node_count graph.old) graph.old.pairs rest.now ≡ Ok (x.0, x.1.now)) }
     ensures graph { IfOk result (λ x. graph.new ≡ with_pairs graph.old (graph.old.pairs ++ x.0 ∷ [])) }
     ensures fault { IfErr result (OrMemory refusal_of (λ e. node_at total version (node_count graph.old) graph.old.pairs rest.now ≡ Err e)) }

@@ -1,5 +1,5 @@
 //! The host: a pack whose parameters change.
-ghost use Rattle.std.specs.Prelude.{◌≡◌, ◌<◌, Bool, List, [], length, IfOk, OnOk, OnErr};
+ghost use Rattle.std.specs.Prelude.{◌≡◌, ◌+◌, ◌<◌, Bool, List, [], length, IfOk, OnOk, OnErr};
 ghost use Rattle.tl_io.specs.Sink.{IsPut};
 ghost use Rattle.tl_io.specs.Writes.{written, writes_from};
 ghost use Rattle.port_bank.specs.Seen.{bank_seen};
@@ -80,6 +80,7 @@ impl Host {
         requires fits { FitsPack self.old.pack (event_value event.now) }
         ensures played { IsHostPlayed (event_value event.now) self.old self.new }
         ensures steps { IsWithinSteps (event_value event.now) self.old self.new steps.old steps.new }
+        ensures counted { self.new.reads + steps.old ≡ self.old.reads + steps.new }
         ensures steady { IsSteady (event_value event.now) self.old self.new }
     {
         match event {
@@ -205,6 +206,7 @@ impl Host {
         requires host { IsOfHost (event_value event.now) }
         ensures played { IsHostPlayed (event_value event.now) self.old self.new }
         ensures steps { IsWithinSteps (event_value event.now) self.old self.new steps.old steps.new }
+        ensures counted { self.new.reads + steps.old ≡ self.old.reads + steps.new }
         ensures sent { IsSent (event_value event.now) self.new (bank_seen P.port_seen bank.old) (bank_seen P.port_seen bank.new) result }
         ensures put { PutsLine (host_line (event_value event.now) self.new) (O.seen out.old) (O.seen out.new) result }
 

@@ -1,5 +1,5 @@
 //! The machine: a host, and the circuit that the clock plays under its configuration.
-ghost use Rattle.std.specs.Prelude.{◌≡◌, ◌≤◌, Bool, List, [], false, length, replicate, IfOk, OnOk, OnErr, Ok, Err};
+ghost use Rattle.std.specs.Prelude.{◌≡◌, ◌+◌, ◌≤◌, Bool, List, [], false, length, replicate, IfOk, OnOk, OnErr, Ok, Err};
 ghost use Rattle.tl_io.specs.Sink.{IsPut};
 ghost use Rattle.port_bank.specs.Seen.{bank_seen};
 ghost use Rattle.port_bank.specs.Image.{Holds};
@@ -126,6 +126,7 @@ impl Machine {
         requires shape { FitsShape self.old.sim.shape (event_value event.now) }
         ensures played { IsPlayed (event_value event.now) self.old self.new }
         ensures steps { IsWithinSteps (event_value event.now) self.old.host self.new.host steps.old steps.new }
+        ensures counted { self.new.host.reads + steps.old ≡ self.old.host.reads + steps.new }
         ensures sent { IsSent (event_value event.now) self.new.host (bank_seen P.port_seen bank.old) (bank_seen P.port_seen bank.new) result }
         ensures put { PutsLine (event_line (event_value event.now) self.new) (O.seen out.old) (O.seen out.new) result }
 
@@ -149,6 +150,7 @@ impl Machine {
         requires shape { FitsShape self.old.sim.shape (event_value event.now) }
         ensures played { IsPlayed (event_value event.now) self.old self.new }
         ensures steps { IsWithinSteps (event_value event.now) self.old.host self.new.host steps.old steps.new }
+        ensures counted { self.new.host.reads + steps.old ≡ self.old.host.reads + steps.new }
         ensures steady { IsSteady (event_value event.now) self.old.host self.new.host }
     {
         self.host.play(event, steps);

@@ -173,8 +173,8 @@ module _ (pack : PackValue) (assigns : List Assign) (old now : Progress) (start 
       subst (IsConf pack (params_in pack now.values)) (sym to) (record { values = now.values; fits = change.fits; are = refl })
 
 -- what changes the marks of addresses alone
-pub addresses_only : (e f g : EvaluationValue) (marks : List Bool) → f ≡ record { pack = e.pack; readers = e.readers; now = record { values = e.now.values; nodes = e.now.nodes; addresses = f.now.addresses } }
-    → g ≡ record { pack = f.pack; readers = f.readers; now = record { values = f.now.values; nodes = f.now.nodes; addresses = marks } }
-    → g ≡ record { pack = e.pack; readers = e.readers; now = record { values = e.now.values; nodes = e.now.nodes; addresses = marks } }
+pub addresses_only : (e f g : EvaluationValue) (marks : List Bool) → f ≡ record { pack = e.pack; reads = e.reads; readers = e.readers; now = record { values = e.now.values; nodes = e.now.nodes; addresses = f.now.addresses } }
+    → g ≡ record { pack = f.pack; reads = f.reads; readers = f.readers; now = record { values = f.now.values; nodes = f.now.nodes; addresses = marks } }
+    → g ≡ record { pack = e.pack; reads = e.reads; readers = e.readers; now = record { values = e.now.values; nodes = e.now.nodes; addresses = marks } }
 addresses_only e f g marks one two =
-    two ∙ ap (λ (x : EvaluationValue). record { pack = x.pack; readers = x.readers; now = record { values = x.now.values; nodes = x.now.nodes; addresses = marks } }) one
+    two ∙ ap (λ (x : EvaluationValue). record { pack = x.pack; reads = x.reads; readers = x.readers; now = record { values = x.now.values; nodes = x.now.nodes; addresses = marks } }) one

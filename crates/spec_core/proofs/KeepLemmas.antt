@@ -69,9 +69,9 @@ Keeps-sent e device sent test idle normal few bits done = record {
 module _ (old changed left : EvaluationValue) (device cleared sent : DeviceValue) (assigns : List Assign) (start end : ℕ) (keeps : Keeps old device) (same : changed.pack ≡ old.pack)
     (change : IsChange old.pack assigns old.now changed.now start end) (addresses : length changed.now.addresses ≡ length old.pack.bits) (clear : cleared ≡ record { config = device.config; writes = [] })
     (done : IsSent (is_marked changed.now.addresses) (bits_under changed.pack changed.now.values) cleared sent)
-    (taken : left ≡ record { pack = changed.pack; readers = changed.readers; now = record { values = changed.now.values; nodes = changed.now.nodes; addresses = replicate (length changed.pack.bits) false } }) where
-  left_is : left ≡ record { pack = old.pack; readers = changed.readers; now = record { values = changed.now.values; nodes = changed.now.nodes; addresses = replicate (length old.pack.bits) false } }
-  left_is = taken ∙ ap (λ (p : PackValue). record { pack = p; readers = changed.readers; now = record { values = changed.now.values; nodes = changed.now.nodes; addresses = replicate (length p.bits) false } }) same
+    (taken : left ≡ record { pack = changed.pack; reads = changed.reads; readers = changed.readers; now = record { values = changed.now.values; nodes = changed.now.nodes; addresses = replicate (length changed.pack.bits) false } }) where
+  left_is : left ≡ record { pack = old.pack; reads = changed.reads; readers = changed.readers; now = record { values = changed.now.values; nodes = changed.now.nodes; addresses = replicate (length old.pack.bits) false } }
+  left_is = taken ∙ ap (λ (p : PackValue). record { pack = p; reads = changed.reads; readers = changed.readers; now = record { values = changed.now.values; nodes = changed.now.nodes; addresses = replicate (length p.bits) false } }) same
 
   done_over : IsSent (is_marked changed.now.addresses) (bits_under old.pack changed.now.values) (record { config = device.config; writes = [] }) sent
   done_over = subst (λ (d : DeviceValue). IsSent (is_marked changed.now.addresses) (bits_under old.pack changed.now.values) d sent) clear

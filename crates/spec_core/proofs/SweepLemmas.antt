@@ -176,10 +176,10 @@ module _ (pack : PackValue) (readers : ReadersValue) (old new p q : List Bool) (
 
 -- a node is taken and visited
 pub visited : (e after done : EvaluationValue) (n : ℕ) (pair : Pair) → IsNode e.pack.graph pair n
-    → after ≡ record { pack = e.pack; readers = e.readers; now = record { values = e.now.values; nodes = slice_set e.now.nodes n false; addresses = e.now.addresses } }
-    → ((p : Pair) → IsNode after.pack.graph p n → done ≡ record { pack = after.pack; readers = after.readers; now = stored after.readers after.now n (product_of after.now.values p) })
-    → done ≡ record { pack = e.pack; readers = e.readers; now = stored e.readers (record { values = e.now.values; nodes = slice_set e.now.nodes n false; addresses = e.now.addresses }) n (product_of e.now.values pair) }
+    → after ≡ record { pack = e.pack; reads = e.reads; readers = e.readers; now = record { values = e.now.values; nodes = slice_set e.now.nodes n false; addresses = e.now.addresses } }
+    → ((p : Pair) → IsNode after.pack.graph p n → done ≡ record { pack = after.pack; reads = after.reads + 1; readers = after.readers; now = stored after.readers after.now n (product_of after.now.values p) })
+    → done ≡ record { pack = e.pack; reads = e.reads + 1; readers = e.readers; now = stored e.readers (record { values = e.now.values; nodes = slice_set e.now.nodes n false; addresses = e.now.addresses }) n (product_of e.now.values pair) }
 visited e after done n pair node one two =
     let same : after.pack ≡ e.pack = ap (λ (x : EvaluationValue). x.pack) one in
     two pair (subst (λ (k : PackValue). IsNode k.graph pair n) (sym same) node)
-    ∙ ap (λ (x : EvaluationValue). record { pack = x.pack; readers = x.readers; now = stored x.readers x.now n (product_of x.now.values pair) }) one
+    ∙ ap (λ (x : EvaluationValue). record { pack = x.pack; reads = x.reads + 1; readers = x.readers; now = stored x.readers x.now n (product_of x.now.values pair) }) one

@@ -1,11 +1,12 @@
 -- What a specialiser is seen as.
-use Rattle.std.specs.Prelude.{List}
+use Rattle.std.specs.Prelude.{ℕ, List}
 use Rattle.tl_io.specs.declared.Write.{Write}
 use Rattle.ppc_pack.specs.Pack.{PackValue}
 use Rattle.spec_core.specs.Events.{HostState}
 
--- its pack, the parameters' values and the configuration, and the writes of the last event that makes writes
+-- its pack, the parameters' values and the configuration, the writes of the last event that makes writes, and how many pairs were read since it was made
 pub record SpecialiserValue : Type 0 where
   pub pack : PackValue
   pub state : HostState
   pub writes : List Write
+  pub reads : ℕ

@@ -18,9 +18,10 @@ pub record Progress : Type 0 where
   pub nodes : List Bool
   pub addresses : List Bool
 
--- a pack with its readers, and the values of its nodes
+-- a pack with how many of its pairs were read, its readers, and the values of its nodes
 pub record EvaluationValue : Type 0 where
   pub pack : PackValue
+  pub reads : ℕ
   pub readers : ReadersValue
   pub now : Progress
 

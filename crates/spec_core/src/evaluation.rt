@@ -13,17 +13,18 @@ ghost use Rattle.spec_core.specs.Sweep.{Belong, bits_under, product_of, with_mar
 ghost use Rattle.spec_core.specs.Keeps.{params_in, IsIdle, IsChange};
 
 use aig_core::{Steps, lit_value};
-use dirty_idx::{Readers, Tiers};
+use dirty_idx::{CountedPack, Readers, Tiers};
 use ppc_pack::{Pack, PackParam};
 use std::alloc::{AllocError, Global};
 use std::marker::Model;
 use std::sync::ledger::Ledger;
 use tl_io::Assign;
 
-// A pack under given values of its parameters, and what is out of date after a change of these.
+// A pack under given values of its parameters, and what is out of date after a change of these. Its pairs are read by counted calls
+// alone.
 #[derive(Drop)]
 pub(crate) struct Evaluation {
-    pack: Pack,
+    pack: CountedPack,
     readers: Readers,
     // The values of the pack's nodes by their indices: the constant, the parameters, and the AND nodes.
     values: Vec<bool>,
@@ -37,9 +38,9 @@ impl Model for Evaluation {
 
     ghost Value = { EvaluationValue };
 
-    ghost view = { λ e. record { pack = e.pack; readers = e.readers; now = record { values = e.values.items; nodes = e.nodes; addresses = e.addresses } } };
+    ghost view = { λ e. record { pack = e.pack.pack; reads = e.pack.reads; readers = e.readers; now = record { values = e.values.items; nodes = e.nodes; addresses = e.addresses } } };
 
-    ghost invariant = { λ e. Belong e.pack e.readers (record { values = e.values.items; nodes = e.nodes; addresses = e.addresses }) };
+    ghost invariant = { λ e. Belong e.pack.pack e.readers (record { values = e.values.items; nodes = e.nodes; addresses = e.addresses }) };
 }
 
 // Adds each of these numbers to a set.
@@ -73,6 +74,7 @@ impl Evaluation {
     // `Err` comes only for want of memory, and no other call takes any.
     pub(crate) fn make(alloc: Global, pack: Pack) -> Result<Evaluation, AllocError>
         ensures pack { IfOk result (λ e. e.pack ≡ pack) }
+        ensures unread { IfOk result (λ e. e.reads ≡ 0) }
         ensures idle { IfOk result (λ e. IsIdle e.pack e.now) }
         ensures params { IfOk result (λ e. params_in e.pack e.now.values ≡ inits_of pack.params) }
 
@@ -85,7 +87,7 @@ impl Evaluation {
         let readers = Readers::make(alloc, &pack)?;
         let values = start_values(alloc, &pack)?;
         Ok(Evaluation {
-            pack,
+            pack: CountedPack::unread(pack),
             readers,
             values,
             nodes,
@@ -170,10 +172,10 @@ impl Evaluation {
     // Evaluates an AND node again.
     fn visit<L: Ledger>(&mut self, n: u32, steps: &mut Steps<L>)
         requires { IsAnd self.old.pack.graph n }
-        ensures value { (pair : PairValue) → IsNode self.old.pack.graph pair n → self.new ≡ record self.old { now = stored self.old.readers self.old.now n (product_of self.old.now.values pair) } }
+        ensures value { (pair : PairValue) → IsNode self.old.pack.graph pair n → self.new ≡ record self.old { reads = self.old.reads + 1; now = stored self.old.readers self.old.now n (product_of self.old.now.values pair) } }
         ensures cost { steps.new ≡ steps.old + 1 }
     {
-        let pair = self.pack.graph().node(n, steps);
+        let pair = self.pack.node(n, steps);
         let x = lit_value(&self.values, pair.x);
         let y = lit_value(&self.values, pair.y);
         self.store(n, x && y);
@@ -185,6 +187,7 @@ impl Evaluation {
         ensures readers { self.new.readers ≡ self.old.readers }
         ensures together { Belong self.new.pack self.new.readers self.new.now }
         ensures swept { (old new p q : List Bool) → FitsGraph self.old.pack.graph p old → FitsGraph self.old.pack.graph q new → IsSweeping self.old.pack old new self.old.now steps.old steps.old → IsSwept self.old.pack old new self.new.now steps.old steps.new }
+        ensures counted { self.new.reads + steps.old ≡ self.old.reads + steps.new }
     {
         while let Some(n) = self.take_node() {
             self.visit(n, steps);
@@ -198,6 +201,7 @@ impl Evaluation {
         ensures pack { self.new.pack ≡ self.old.pack }
         ensures change { IsChange self.old.pack assigns.now self.old.now self.new.now steps.old steps.new }
         ensures addresses { length self.new.now.addresses ≡ length self.old.pack.bits }
+        ensures counted { self.new.reads + steps.old ≡ self.old.reads + steps.new }
     {
         self.assign(assigns);
         self.sweep(steps);

@@ -13,11 +13,16 @@
 //! exactly the nodes with a fan-in that has changed so far (`specs/Sweep.antt`). `proofs/EventsExample.antt` works out the
 //! events of a multiplexer.
 //!
+//! The pack's pairs are read by counted calls alone (`dirty_idx`), so that all that a change reads are steps of the counter that is
+//! handed in. A [`Changer`] shows no more of a specialiser than its changes.
+//!
 //! No call after `Specialiser::make` takes memory or can be refused.
 #![tactic(auto)]
 
+mod changer;
 mod device;
 mod evaluation;
 mod specialiser;
 
+pub use changer::Changer;
 pub use specialiser::Specialiser;

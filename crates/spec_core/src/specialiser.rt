@@ -1,5 +1,5 @@
 //! The specialiser: a pack, the values of its nodes, and the configuration that the device has.
-ghost use Rattle.std.specs.Prelude.{◌≡◌, ◌<◌, ◌≤◌, Bool, List, [], length, IfOk};
+ghost use Rattle.std.specs.Prelude.{◌≡◌, ◌+◌, ◌<◌, ◌≤◌, Bool, List, [], length, IfOk};
 ghost use Rattle.tl_io.specs.Assigns.{AreAssigned};
 ghost use Rattle.tl_io.specs.Writes.{AreAscending, AreBitsOf};
 ghost use Rattle.ppc_pack.specs.Pack.{IsConf, HasOneConf, inits_of};
@@ -28,7 +28,7 @@ impl Model for Specialiser {
 
     ghost Value = { SpecialiserValue };
 
-    ghost view = { λ s. record { pack = s.evaluation.pack; state = record { params = params_in s.evaluation.pack s.evaluation.now.values; config = s.device.config }; writes = s.device.writes } };
+    ghost view = { λ s. record { pack = s.evaluation.pack; state = record { params = params_in s.evaluation.pack s.evaluation.now.values; config = s.device.config }; writes = s.device.writes; reads = s.evaluation.reads } };
 
     ghost invariant = { λ s. Keeps s.evaluation s.device };
 }
@@ -42,6 +42,7 @@ impl Specialiser {
         ensures params { IfOk result (λ s. s.state.params ≡ inits_of pack.params) }
         ensures config { IfOk result (λ s. IsConf pack (inits_of pack.params) s.state.config) }
         ensures writes { IfOk result (λ s. s.writes ≡ []) }
+        ensures unread { IfOk result (λ s. s.reads ≡ 0) }
 
         // Under any values of the parameters there is one configuration, and no other.
         ensures one { (given : List Bool) → length given ≡ length pack.params → HasOneConf pack given }
@@ -62,6 +63,9 @@ impl Specialiser {
         ensures set { IsSet self.old.pack assigns.now self.old.state self.new.writes self.new.state }
         ensures cost { IsWithinTouched self.old.pack.graph self.old.state.params self.new.state.params steps.old steps.new }
 
+        // All pairs that were read are steps of this counter.
+        ensures counted { self.new.reads + steps.old ≡ self.old.reads + steps.new }
+
         // Where no bit was upset, none is.
         ensures steady { IsConf self.old.pack self.old.state.params self.old.state.config → IsConf self.old.pack self.new.state.params self.new.state.config }
     {
@@ -74,6 +78,7 @@ impl Specialiser {
     pub fn upset(&mut self, address: u32)
         requires { address < length self.old.state.config }
         ensures pack { self.new.pack ≡ self.old.pack }
+        ensures unread { self.new.reads ≡ self.old.reads }
         ensures upset { IsUpset address self.old.state self.new.writes self.new.state }
     {
         let bit = self.device.config()[address as usize];
@@ -84,6 +89,7 @@ impl Specialiser {
     /// Sets the bits right that were upset, in time linear in all bits.
     pub fn scrub(&mut self)
         ensures pack { self.new.pack ≡ self.old.pack }
+        ensures unread { self.new.reads ≡ self.old.reads }
         ensures scrub { IsScrub self.old.pack self.old.state self.new.writes self.new.state }
 
         // No bit is upset any more.

@@ -1,6 +1,5 @@
 -- What a port of configuration bits means, and what a write does.
 use Rattle.std.specs.Prelude.{◌≡◌, ℕ, ◌-◌, ◌^◌, ◌≤◌, List, [], ◌∷◌, Option, None, Result, MatchResult}
-use Rattle.tl_io.specs.Causes.{Rose}
 use Rattle.tl_io.specs.Content.{extended, HasLength}
 use Rattle.tl_io.specs.Counts.{raised}
 use Rattle.tl_io.specs.declared.Write.{Write}
@@ -17,17 +16,21 @@ pub record PortSeen : Type 0 where
 abbrev pub new_port : PortSeen
 new_port = record { log = None; accepted = 0; faults = 0 }
 
--- these writes were accepted, as many as the count
-pub record Accepts (old : PortSeen) (writes : List Write) (count : ℕ) (new : PortSeen) : Type 0 where
-  pub log : new.log ≡ extended old.log writes
-  pub accepted : new.accepted ≡ raised old.accepted count
-  pub later : old.faults ≤ new.faults
+-- one call was accepted: the log and the number of accepted writes grew by this write, and the count of faults is as before
+pub record Accepts (old : PortSeen) (write : Write) (new : PortSeen) : Type 0 where
+  pub log : new.log ≡ extended old.log (write ∷ [])
+  pub accepted : new.accepted ≡ raised old.accepted 1
+  pub faults : new.faults ≡ old.faults
 
--- a write was accepted, or nothing was and the count of faults rose
+-- one call failed: nothing was accepted, and the count of faults grew by one, up to its last value
+pub record Fails (old new : PortSeen) : Type 0 where
+  pub log : new.log ≡ old.log
+  pub accepted : new.accepted ≡ old.accepted
+  pub faults : new.faults ≡ raised old.faults 1
+
+-- what one call of a port leaves
 abbrev pub Writes : {E : Type 0} → PortSeen → Write → PortSeen → Result Unit E → Type 0
-Writes old write new result = MatchResult result
-    (λ _. Accepts old (write ∷ []) 1 new)
-    (λ _. (new.log ≡ old.log) × (new.accepted ≡ old.accepted) × Rose old.faults new.faults)
+Writes old write new result = MatchResult result (λ _. Accepts old write new) (λ _. Fails old new)
 
 -- the counts have a last value, and the number of accepted writes is the length of the log, where that is told
 pub record IsCounted (port : PortSeen) : Type 0 where

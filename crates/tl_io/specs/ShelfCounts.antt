@@ -1,5 +1,6 @@
 -- What a shelf keeps of its last read, and its counts of faults.
-use Rattle.std.specs.Prelude.{ℕ, List, []}
+use Rattle.std.specs.Prelude.{ℕ, ◌+◌, List, []}
+use Rattle.tl_io.specs.Counts.{count_of}
 
 pub record Counted : Type 0 where
   -- the first 4,096 bytes of the name last given to begin_read
@@ -14,3 +15,7 @@ pub record Counted : Type 0 where
 -- nothing was read, and nothing failed
 abbrev pub no_counts : Counted
 no_counts = record { name = []; given = 0; before = 0; read_faults = 0; write_faults = 0 }
+
+-- a write failed
+abbrev pub with_write_fault : Counted → Counted
+with_write_fault counts = record counts { write_faults = count_of (counts.write_faults + 1) }

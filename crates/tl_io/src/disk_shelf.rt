@@ -1,8 +1,8 @@
 //! A shelf over the system's files.
-ghost use Rattle.std.specs.Prelude.{◌≡◌, ◌-◌, ◌^◌, ◌≤◌, false, is_some, length, IfOk, OnErr};
+ghost use Rattle.std.specs.Prelude.{◌≡◌, ◌-◌, ◌^◌, ◌≤◌, false, is_some, length, IfOk, OnOk, OnErr};
 ghost use Rattle.std.proofs.Common.{rules};
 ghost use Rattle.tl_io.specs.DiskValue.{DiskValue, shelf_on_disk};
-ghost use Rattle.tl_io.specs.ShelfCounts.{no_counts};
+ghost use Rattle.tl_io.specs.ShelfCounts.{no_counts, with_write_fault};
 
 use crate::inner_write::write_whole;
 use crate::shelf_counts::ShelfCounts;
@@ -39,6 +39,30 @@ impl<R: Files + Drop> DiskShelf<R> {
             writing: None,
             counts: ShelfCounts::new(),
         }
+    }
+
+    /// Waits until the device has what was written to the file, where it is a plain one: a quota or a network may refuse bytes
+    /// that a `push` had taken. `Failed` counts as a write fault.
+    pub fn settle(&mut self) -> Result<(), Failed>
+        ensures ok { OnOk result (self.new ≡ self.old) }
+        ensures err { OnErr result (self.new ≡ record self.old { counts = with_write_fault self.old.counts }) }
+    {
+        if settled(&self.writing).is_err() {
+            self.counts.count_write_fault();
+            return Err(Failed);
+        }
+        Ok(())
+    }
+}
+
+// Waits until the device has a file's bytes. What is no plain file, as a pipe, has no device to wait for.
+fn settled<F: OpenFile>(file: &Option<F>) -> Result<(), Failed> {
+    let Some(file) = file else {
+        return Ok(());
+    };
+    match file.metadata() {
+        Ok(metadata) if metadata.is_file() => file.sync_data().map_err(|_| Failed),
+        _ => Ok(()),
     }
 }
 
@@ -98,6 +122,11 @@ impl<R: Files + Drop> Shelf for DiskShelf<R> {
 
     fn begin_write(&mut self, name: &str) -> Result<(), Failed> {
         self.reading = None;
+        if settled(&self.writing).is_err() {
+            self.writing = None;
+            self.counts.count_write_fault();
+            return Err(Failed);
+        }
         match fs::create(&self.rt, name) {
             Ok(file) => {
                 self.writing = Some(file);

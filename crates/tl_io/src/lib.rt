@@ -50,7 +50,8 @@ pub use std_sink::StdSink;
 pub use whole_file::slurp;
 
 /// The only fault of a call of the outside.
-#[derive(Clone, Copy, Debug, PartialEq, Eq)]
+#[derive(Clone, Copy, Debug, PartialEq, Eq, thiserror::Error)]
+#[error("the call failed")]
 pub struct Failed;
 
 /// A configuration bit that is written.

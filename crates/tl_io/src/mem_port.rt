@@ -1,5 +1,5 @@
 //! A port in memory.
-ghost use Rattle.std.specs.Prelude.{◌≡◌, ◌≤◌, ◌↔◌, [], IfOk, IsErr, IsTrue, slice_get, Some};
+ghost use Rattle.std.specs.Prelude.{◌≡◌, ◌↔◌, [], IfOk, IsErr, IsTrue, slice_get, Some};
 ghost use Rattle.tl_io.specs.Port.{Writes, IsCounted};
 
 use crate::fault_plan::FaultPlan;
@@ -60,7 +60,6 @@ impl ConfigPort for MemPort {
     ghost port_seen = { λ port. port_in_memory port };
 
     fn write(&mut self, address: u32, bit: bool) -> Result<(), Failed>
-        ensures later { (port_in_memory self.old).faults ≤ (port_in_memory self.new).faults }
         ensures writes { Writes (port_in_memory self.old) (record { address = address; bit = bit }) (port_in_memory self.new) result }
         ensures counted { IsCounted (port_in_memory self.new) }
         ensures exact { IsErr result ↔ IsTrue (fails_write self.old) }

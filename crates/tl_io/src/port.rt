@@ -1,5 +1,5 @@
 //! What a configuration port is.
-ghost use Rattle.std.specs.Prelude.{◌≡◌, ◌≤◌, slice_get};
+ghost use Rattle.std.specs.Prelude.{◌≡◌, slice_get};
 ghost use Rattle.std.specs.Option.{option_and_then};
 ghost use Rattle.tl_io.specs.Port.{PortSeen, Writes, IsCounted};
 
@@ -13,12 +13,13 @@ pub trait ConfigPort: Drop {
     /// What it means.
     ghost port_seen: { Self → PortSeen };
 
-    /// Sends a bit to its address.
+    /// Sends a bit to its address. The log and the number of accepted writes grow by this one write, and the count of
+    /// faults stays.
     ///
     /// # Errors
-    /// `Failed` where the port didn't take it: nothing was accepted, and the count of faults rose.
+    /// `Failed` if the port didn't take it: nothing was accepted, and the count of faults grew by one, up to its last
+    /// value of 2^64 - 1.
     fn write(&mut self, address: u32, bit: bool) -> Result<(), Failed>
-        ensures later { (port_seen self.old).faults ≤ (port_seen self.new).faults }
         ensures writes { Writes (port_seen self.old) (record { address = address; bit = bit }) (port_seen self.new) result }
         ensures counted { IsCounted (port_seen self.new) };
 

@@ -1,10 +1,13 @@
 /// Why a file wasn't read to its end.
-#[derive(Clone, Copy, Debug, PartialEq, Eq)]
+#[derive(Clone, Copy, Debug, PartialEq, Eq, thiserror::Error)]
 pub enum Slurp {
     /// A call of the shelf failed.
+    #[error("read fault")]
     ReadFault,
     /// The file has more bytes than the limit.
+    #[error("file is too long")]
     TooLong,
     /// There was no memory for the bytes.
+    #[error("out of memory")]
     Memory,
 }

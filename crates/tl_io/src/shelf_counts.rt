@@ -30,7 +30,7 @@ impl Model for ShelfCounts {
 }
 
 impl ShelfCounts {
-    ghost use Rattle.tl_io.specs.ShelfCounts.{no_counts};
+    ghost use Rattle.tl_io.specs.ShelfCounts.{no_counts, with_write_fault};
 
     pub fn new() -> ShelfCounts
         ensures { result ≡ no_counts }
@@ -69,7 +69,7 @@ impl ShelfCounts {
 
     /// A write failed.
     pub fn count_write_fault(&mut self)
-        ensures { self.new ≡ record self.old { write_faults = count_of (self.old.write_faults + 1) } }
+        ensures { self.new ≡ with_write_fault self.old }
     {
         self.write_faults = self.write_faults.saturating_add(1);
     }

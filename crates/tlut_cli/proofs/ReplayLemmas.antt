@@ -1,12 +1,15 @@
 -- A job of `map` that is done wrote what `bits` plays as `run` plays its tables.
-use Rattle.std.proofs.Common.{◌≡◌, List, ◌∷◌, length, Ok, Some, refl, sym, ap, ◌∙◌, subst}
+use Rattle.std.proofs.Common.{◌≡◌, ℕ, suc, List, ◌∷◌, length, Ok, Some, refl, sym, ap, ◌∙◌, subst, subst₂}
 use Rattle.std.specs.FinMap.{get}
 use Rattle.std.specs.List.{concat}
 use Rattle.tl_io.specs.Content.{extended}
 use Rattle.tl_io.specs.Shelf.{Files}
 use Rattle.cmd_base.specs.Outside.{Outside}
 use Rattle.cmd_base.specs.Writing.{AreWritten}
-use Rattle.cmd_stations.specs.Machine.{IsStart, machine_header, HasCome}
+use Rattle.run_text.specs.EventValue.{EventValue}
+use Rattle.run_text.specs.Lines.{bits_header_line}
+use Rattle.cmd_stations.specs.Machine.{IsStart, machine_header, Stage, AreSteps, none, more, HasCome}
+use Rattle.cmd_stations.specs.Mapped.{template_header}
 use Rattle.cmd_stations.specs.Packs.{present_bytes, pack_names}
 use Rattle.cmd_stations.specs.Script.{names_of}
 use Rattle.cmd_stations.specs.Settled.{IsSourceSettled}
@@ -24,9 +27,15 @@ use Rattle.cmd_pack.specs.Bits.Replay.{IsPlayedOn}
 use Rattle.cmd_pack.specs.Bits.Verdict.{pack_header}
 use Rattle.tlut_cli.specs.Replay.{PutTheSameLines, HaveTheSameSource, ReplaysRun}
 
+-- a line stands for each event
+one_each : {old new : Stage} {events : List EventValue} {lines : List (List ℕ)} → AreSteps old events lines new → length lines ≡ length events
+one_each none = refl
+one_each (more event mid step rest) = ap suc (one_each rest)
+
 module _ (files : Files) (written : MapWords) (before after : Outside) (done : HasMap files written (λ texts line. AreWritten texts line before after)) (settled : IsSourceSettled ToTables files written.source) where
   same_lines : (first others : Files) (run : RunWords) (bits : BitsWords) → HaveTheSameSource files written first run → get others bits.pack ≡ Some (present_bytes done.pack) → get others bits.script ≡ get first run.script
-      → (old new other later : Outside) → HasRun first run old new (Ok tt) → IsPlayedOn others bits other later → PutTheSameLines old new other later
+      → (old new other later : Outside) (played : HasRun first run old new (Ok tt)) (replayed : IsPlayedOn others bits other later)
+      → PutTheSameLines (template_header done.template) (pack_header done.pack) played.job.events replayed.events old new other later
   same_lines first others run bits same pack script old new other later r b =
       let has : HasMapped files written.source r.job.source r.job.template = mapped_there first files run.source written.source r.job.source r.job.template same.k same.rule same.netlist same.params r.is_job.mapped in
       let source = settled_once files written.source r.job.source done.source settled has.has done.mapped.has in
@@ -37,12 +46,14 @@ module _ (files : Files) (written : MapWords) (before after : Outside) (done : H
       let events = script_same first others run.script bits.script (names_of r.job.source r.job.template.bits) (pack_names b.pack) r.job.events b.events script refl params r.is_job.script b.is_job.script in
       let come = subst (λ es. HasCome r.machine (bank_of run.ports old.ports) es r.ends.lines r.ends.stage) events r.ends.come in
       let lines = done.replays.lines others bits.pack b.pack pack b.is_job.pack b.host b.ends.end b.events b.ends.lines b.start b.ends.steps r.job.events r.machine start (bank_of run.ports old.ports) r.ends.lines r.ends.stage come in
+      let header : machine_header r.machine ≡ template_header done.template = ap template_header (r.start.template ∙ template) in
+      let other_header : pack_header b.host.pack ≡ pack_header done.pack = ap pack_header b.start.pack ∙ ap (λ bits. bits_header_line (length bits)) packs.bits in
       record {
-        header = machine_header r.machine;
-        other_header = pack_header b.host.pack;
+        same = sym events;
         lines = r.ends.lines;
-        put = r.ends.bytes;
-        other_put = subst (λ ls. later.bytes ≡ extended other.bytes (concat (pack_header b.host.pack ∷ ls))) lines b.ends.bytes;
+        one_each = one_each r.ends.come.steps;
+        put = subst (λ h. new.bytes ≡ extended old.bytes (concat (h ∷ r.ends.lines))) header r.ends.bytes;
+        other_put = subst₂ (λ h ls. later.bytes ≡ extended other.bytes (concat (h ∷ ls))) other_header lines b.ends.bytes;
       }
 
   pub replays_run : ReplaysRun files written before after

@@ -1,18 +1,24 @@
 //! The programs' main: the top call over the system's files, streams and words.
+//!
+//! - `streams.rt` looks at the standard streams before any file is opened: those that are closed, and an output that is a file
+//!   which the command writes.
+//! - `held.rt` holds back output, and lets it go.
 #![tactic(auto)]
 
+mod held;
+mod streams;
+
+use crate::held::{hold, let_go};
+use crate::streams::{fill_closed, is_output_open, writes_its_output};
 use std::env;
-use std::io::{BufWriter, ErrorKind, IsTerminal, Write};
+use std::io::{ErrorKind, IsTerminal};
 use std::process::ExitCode;
-use std::rt::Env;
+use std::rt::{Env, Files};
 use tl_io::{ConfigPort, DiskShelf, FilePort, Sink, StdSink};
 use tlut_cli::{Outcome, Rule, Status, report, tlut_by};
 
 // The files of the configuration ports.
 const PORTS: [&str; 4] = ["port0.bits", "port1.bits", "port2.bits", "port3.bits"];
-
-// How many bytes of the output are held back, where any are.
-const ROOM: usize = 65_536;
 
 // Why there are no words.
 enum NoWords {
@@ -46,22 +52,37 @@ fn is_portless(words: &[String]) -> bool {
     }
 }
 
-// Writes what is still held back. A call that was done ends by a fault of writing where that fails.
-fn let_go<W: Write + Drop, E: Sink>(
-    held: &mut BufWriter<W>,
+// Ends a call by a fault that the top call doesn't know of.
+fn fail<E: Sink>(err: &mut E, outcome: &Outcome) -> Status {
+    report(err, b"", outcome);
+    outcome.status()
+}
+
+// Waits until the device has the files that a call wrote. A call that was done ends by a fault of writing where it refuses them.
+fn settle<R: Files + Drop, E: Sink>(
+    shelf: &mut DiskShelf<R>,
     status: Status,
     err: &mut E,
 ) -> Status {
-    if held.flush().is_ok() || status != Status::Done {
+    if status != Status::Done || shelf.settle().is_ok() {
         return status;
     }
-    report(err, b"", &Outcome::WriteFault);
-    Status::WriteFault
+    fail(err, &Outcome::WriteFault)
 }
 
 // Runs the command of some words over the system's files and streams.
 fn run(rt: HostRuntime, rule: Rule, words: &[String]) -> Status {
     let alloc = rt.alloc();
+    let mut err = StdSink::make(rt.stderr());
+    if !is_output_open(&rt.stdout()) {
+        return fail(&mut err, &Outcome::WriteFault);
+    }
+    let Ok(_fillers) = fill_closed(&rt, &rt.stdin(), &rt.stderr()) else {
+        return fail(&mut err, &Outcome::WriteFault);
+    };
+    if writes_its_output(&rt, words, &PORTS) {
+        return fail(&mut err, &Outcome::WriteFault);
+    }
     let mut ports: Vec<Box<dyn ConfigPort>> = Vec::new(alloc);
     for name in PORTS {
         let Ok(port) = Box::new(alloc, FilePort::make(rt, name)) else {
@@ -72,30 +93,32 @@ fn run(rt: HostRuntime, rule: Rule, words: &[String]) -> Status {
         }
     }
     let mut shelf = DiskShelf::make(rt);
-    let mut err = StdSink::make(rt.stderr());
     let stdout = rt.stdout();
     if stdout.is_terminal() || !is_portless(words) {
         let mut out = StdSink::make(stdout);
-        return tlut_by(
+        let status = tlut_by(
             alloc, rule, words, &mut shelf, &mut out, &mut err, &mut ports,
         );
+        return settle(&mut shelf, status, &mut err);
     }
-    let Ok(mut held) = BufWriter::with_capacity(alloc, ROOM, stdout) else {
-        report(&mut err, b"", &Outcome::Memory);
-        return Status::Memory;
+    let Ok(mut held) = hold(alloc, stdout) else {
+        return fail(&mut err, &Outcome::Memory);
     };
     let mut out = StdSink::make(&mut held);
     let status = tlut_by(
         alloc, rule, words, &mut shelf, &mut out, &mut err, &mut ports,
     );
     drop(out);
+    let status = settle(&mut shelf, status, &mut err);
     let_go(&mut held, status, &mut err)
 }
 
 /// Runs the command of the program's words by a rule of choice: the exit status is the call's.
 ///
-/// Where standard output is no terminal and no port serves, up to 64 KiB of it are held back; where the last of them can't be
-/// written, the call ends as at any other fault of writing.
+/// Where standard output is closed, or is a file that the command writes, the call ends as at a fault of writing before any file
+/// is opened; the other standard streams that are closed are filled, so that no file takes their place. Where standard output is no
+/// terminal and no port serves, up to 64 KiB of it are held back. Where the last of them can't be written, or a device refuses a
+/// file late, the call ends as at any other fault of writing.
 pub fn main_by(rt: HostRuntime, rule: Rule) -> ExitCode {
     let status = match words(&rt) {
         Ok(words) => run(rt, rule, &words),

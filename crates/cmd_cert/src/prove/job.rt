@@ -3,7 +3,7 @@ ghost use Rattle.std.specs.Prelude.{◌≡◌, ◌≤◌, List, [], ◌∷◌, f
 ghost use Rattle.tl_text.specs.declared.logical_lines.TheConstants.{MOST_BYTES};
 ghost use Rattle.tl_io.specs.Port.{PortSeen};
 ghost use Rattle.aig_core.specs.Roots.{roots_of};
-ghost use Rattle.cut_enum.specs.Covers.{IsLeastDepth};
+ghost use Rattle.cut_sets.specs.Covers.{IsLeastDepth};
 ghost use Rattle.cert_check.specs.Valid.{IsValid};
 ghost use Rattle.cert_check.specs.WrittenText.{IsWritable, cert_text};
 ghost use Rattle.cmd_base.specs.Outside.{outside};

@@ -9,7 +9,7 @@ use Rattle.tl_io.specs.Writes.{writes_from}
 use Rattle.aig_core.specs.Aig.{Aig}
 use Rattle.cover_pick.specs.Template.{TemplateValue}
 use Rattle.netlist.specs.Sound.{IsSound}
-use Rattle.lut_sim.specs.Cycle.{IsOnlyTableCycle}
+use Rattle.lut_sim.specs.Cycle.{IsTableCycle, IsOnlyTableCycle}
 use Rattle.bit_fun.specs.Configuration.{IsConfiguration}
 use Rattle.port_bank.specs.Bank.{BankSeen, all_ports}
 use Rattle.port_bank.specs.Send.{Plays}
@@ -58,6 +58,7 @@ module _ (source : Source) (g : Aig) (template : TemplateValue) where
     pub outputs : List Bool
     pub config : List Bool
     pub is : IsConfiguration g template.luts old.params config
+    pub is_play : IsTableCycle template (shape_of source) config values old.states outputs new.states
     pub plays : IsOnlyTableCycle template (shape_of source) config values old.states outputs new.states
     pub cycle : IsSourceCycle source old.params values old.states outputs new.states
     pub line_is : line ≡ cycle_line outputs new.states

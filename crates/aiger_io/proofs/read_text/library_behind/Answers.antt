@@ -1,9 +1,8 @@
 use Rattle.std.proofs.Common.{◌≡◌, ℕ, ◌+◌, List, Ok, Err, length, map, Bor, sym, ◌∙◌, subst}
 use Rattle.tl_fault.proofs.OrMemoryLemmas.{OrMemory-map}
 use Rattle.tl_fault.proofs.PassedOn.{passed_on}
-use Rattle.aiger_io.specs.Circuit.{named_circuit, named_behind}
+use Rattle.aiger_io.specs.Reader.{named_circuit, named_behind, IsLibraryIn}
 use Rattle.aiger_io.specs.Items.{item_count}
-use Rattle.aiger_io.specs.Reading.{IsLibraryIn}
 use Rattle.aiger_io.specs.Refusals.{refusal_of}
 use Rattle.aiger_io.specs.Symbols.{no_symbols, symbols_from}
 use Rattle.aiger_io.proofs.TextLemmas.{behind_is, behind_refused}

@@ -1,8 +1,7 @@
 use Rattle.std.proofs.Common.{◌≡◌, ℕ, List, Err, length, map, drop, Bor, sym, ap, ◌∙◌, subst, arith}
 use Rattle.tl_fault.proofs.OrMemoryLemmas.{OrMemory-map}
 use Rattle.tl_fault.proofs.PassedOn.{passed_on}
-use Rattle.aiger_io.specs.Circuit.{named_behind, circuit_under}
-use Rattle.aiger_io.specs.Reading.{IsLibraryIn}
+use Rattle.aiger_io.specs.Reader.{named_behind, circuit_under, IsLibraryIn}
 use Rattle.aiger_io.specs.Refusals.{refusal_of}
 use Rattle.aiger_io.proofs.TextLemmas.{under_is}
 use Rattle.aiger_io.proofs.read_text.library_under.Goals as goal

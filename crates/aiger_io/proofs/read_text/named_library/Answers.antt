@@ -1,7 +1,7 @@
 use Rattle.std.proofs.Common.{◌≡◌, ℕ, List, None, Some, Err, ap, ◌∙◌, subst}
 use Rattle.tl_fault.proofs.OrMemoryLemmas.{OrMemory-map}
 use Rattle.tl_fault.proofs.PassedOn.{passed_on}
-use Rattle.aiger_io.specs.Circuit.{named_circuit}
+use Rattle.aiger_io.specs.Reader.{named_circuit}
 use Rattle.aiger_io.specs.CircuitLibrary.{library_of}
 use Rattle.aiger_io.specs.PortNames.{input_names, first_twice}
 use Rattle.aiger_io.specs.Refusals.{refusal_of}

@@ -1,12 +1,12 @@
 use Rattle.std.proofs.Common.{◌≡◌, Some, sym, ◌∙◌}
 use Rattle.blif_read.specs.ReadFault.{read_fault}
 use Rattle.blif_read.specs.Refusals.{refusal_of as blif_refusal}
-use Rattle.aiger_io.specs.Reading.{IsRefused}
+use Rattle.aiger_io.specs.Refused.{IsRefused}
 use Rattle.aiger_io.specs.Refusals.{refusal_of as aag_refusal}
 use Rattle.cmd_stations.specs.LibraryText.{LibraryRefusal}
 use Rattle.cmd_stations.specs.LibraryText as form
 use Rattle.cmd_stations.proofs.StopLemmas.{passed_stop}
-use Rattle.cmd_stations.proofs.LibraryTextLemmas.{blif_once}
+use Rattle.cmd_stations.proofs.LibraryTextLemmas.{aiger_once, blif_once}
 use Rattle.cmd_stations.proofs.library_text.read_library.Goals as goal
 
 pub returns-in_err-library-clause-refusal : goal.returns-in_err-library-clause-refusal
@@ -23,3 +23,11 @@ returns-in_err-library-2-clause-refusal c =
 
 pub returns-in_err-library-2-clause-one_library : goal.returns-in_err-library-2-clause-one_library
 returns-in_err-library-2-clause-one_library c = rw (sym c.as_slice-bytes.ensures.value) (blif_once c.as_slice-bytes.result.now (sym c.is_aag.ensures ∙ c.if-is_aag.false) c.read.ensures.one_reading)
+
+pub returns-in_err-library-clause-one_library : goal.returns-in_err-library-clause-one_library
+returns-in_err-library-clause-one_library c =
+    rw (sym c.as_slice-bytes.ensures.value) (aiger_once c.as_slice-bytes.result.now (sym c.is_aag.ensures ∙ c.if-is_aag.true) c.read_aag.ensures.one_reading c.read_aag.ensures.runs)
+
+pub returns-then-is_aag-clause-one_library : goal.returns-then-is_aag-clause-one_library
+returns-then-is_aag-clause-one_library c =
+    rw (sym c.as_slice-bytes.ensures.value) (aiger_once c.as_slice-bytes.result.now (sym c.is_aag.ensures ∙ c.if-is_aag.true) c.read_aag.ensures.one_reading c.read_aag.ensures.runs)

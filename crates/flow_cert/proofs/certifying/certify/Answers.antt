@@ -4,6 +4,7 @@ use Rattle.depth_label.specs.Label.{label_of}
 use Rattle.flow_cert.specs.Target.{IsTarget}
 use Rattle.flow_cert.proofs.CertLemmas.{cert_valid, cert_needed, cert_writable, depth_small}
 use Rattle.flow_cert.proofs.CoverLemmas.{target_least, label_small}
+use Rattle.flow_cert.proofs.NeededLemmas.{one_claiming}
 use Rattle.flow_cert.proofs.certifying.certify.Goals as goal
 
 pub returns-clause-valid : goal.returns-clause-valid
@@ -32,3 +33,12 @@ returns-clause-formed c =
     let labels : (m : ℕ) → label_of c.args.labels.now m < 2 ^ 32 = label_small c.args.graph.now c.args.k c.args.table.now c.args.labels.now c.len-count.ensures.normal c.requires.rows c.requires.labels (subst (λ n. n ≤ 2 ^ 30) few.count few.small) in
     cert_writable c.args.graph.now c.args.k c.args.labels.now c.len-count.ensures.normal (roots_of c.args.roots.now) c.target_of-least.result.depth c.target_of-least.result.begin t c.in_ok-steps.steps.items c.in_ok-steps.ensures
     (depth_small c.args.graph.now (label_of c.args.labels.now) (roots_of c.args.roots.now) c.target_of-least.result.depth c.target_of-least.result.begin t labels) (subst (λ n. n ≤ 2 ^ 30) few.count few.small) labels
+
+pub returns-clause-once : goal.returns-clause-once
+returns-clause-once c = one_claiming c.args.graph.now (roots_of c.args.roots.now) (label_of c.args.labels.now)
+
+pub returns-in_err-all-clause-once : goal.returns-in_err-all-clause-once
+returns-in_err-all-clause-once c = one_claiming c.args.graph.now (roots_of c.args.roots.now) (label_of c.args.labels.now)
+
+pub returns-in_err-steps-clause-once : goal.returns-in_err-steps-clause-once
+returns-in_err-steps-clause-once c = one_claiming c.args.graph.now (roots_of c.args.roots.now) (label_of c.args.labels.now)

@@ -19,12 +19,18 @@ use Rattle.ppc_file.proofs.read_nodes.read_each.Goals as goal
 abbrev graph_with : List PackParam → List Pair → Aig
 graph_with params pairs = record { kinds = replicate (length params) Parameter; pairs = pairs; max = MOST_PACK_NODES }
 
-pub read_node-requires : goal.read_node-requires
-read_node-requires c =
+pub read_node-requires-clause-few : goal.read_node-requires-clause-few
+read_node-requires-clause-few c =
     let kinds : length c.loop.graph.kinds ≡ length c.args.params.now = ap (λ (g : Aig). length g.kinds) c.loop.invariant.graph ∙ length-replicate (length c.args.params.now) Parameter in
     let params : length c.args.params.now ≤ 65535 = c.loop.invariant.stands.sound.1.0.few in
     let pairs : length c.loop.graph.pairs ≤ 33554432 = c.loop.invariant.stands.sound.1.1.few in
     omega arith
+
+pub read_node-requires-clause-room : goal.read_node-requires-clause-room
+read_node-requires-clause-room c =
+    let most : c.loop.graph.max ≡ MOST_PACK_NODES = ap (λ (g : Aig). g.max) c.loop.invariant.graph in
+    let count : c.args.count ≤ MOST_PACK_NODES = c.loop.invariant.stands.sound.0.few in
+    omega (arith, c.loop.invariant.count, c.loop-test.true)
 
 pub returns-in_err-_pair-clause-fault : goal.returns-in_err-_pair-clause-fault
 returns-in_err-_pair-clause-fault c =

@@ -10,4 +10,4 @@ returns-clause-ok g c =
 pub returns-clause-err : goal.returns-clause-err
 returns-clause-err g c =
     let bank = c.args.self.now in
-    called_err g.P.ConfigPort.port_seen bank.ports.items bank.serving bank.spares bank.failed c.args.region _ c.write.new.self c.args.write c.write.result c.requires (omega (arith, bank.within, bank.ports.ok.0)) c.index_mut.ensures.value c.write.ensures.later c.write.ensures.writes
+    called_err g.P.ConfigPort.port_seen bank.ports.items bank.serving bank.spares bank.failed c.args.region _ c.write.new.self c.args.write c.write.result c.requires (omega (arith, bank.within, bank.ports.ok.0)) c.index_mut.ensures.value c.write.ensures.writes

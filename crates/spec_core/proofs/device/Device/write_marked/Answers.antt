@@ -43,7 +43,7 @@ loop-address-preserved c =
           ∙ ap (λ ws. c.loop-address.self.writes ++ ws) (sym (least_written c.loop-address.evaluation.now.addresses to c.in-Some.address c.in-Some.ensures.least (c.loop-address.invariant.marks ∙ sym count)))
           ∙ c.loop-address.invariant.writes);
       config = rw c.write.ensures (sym (written-push c.loop-address.self.writes c.args.self.now.config _ ∙ ap (λ cs. slice_set cs c.in-Some.address c.bit.result) (sym c.loop-address.invariant.config)));
-      evaluation = whole ∙ ap (λ ms. record { pack = c.args.evaluation.now.pack; readers = c.args.evaluation.now.readers; now = record { values = c.args.evaluation.now.now.values; nodes = c.args.evaluation.now.now.nodes; addresses = ms } }) (sym taken);
+      evaluation = whole ∙ ap (λ ms. record { pack = c.args.evaluation.now.pack; reads = c.args.evaluation.now.reads; readers = c.args.evaluation.now.readers; now = record { values = c.args.evaluation.now.now.values; nodes = c.args.evaluation.now.now.nodes; addresses = ms } }) (sym taken);
       marks = rw taken (length-set c.loop-address.evaluation.now.addresses c.in-Some.address false ∙ c.loop-address.invariant.marks);
     }
 
@@ -58,5 +58,5 @@ returns-clause-sent c =
 pub returns-clause-taken : goal.returns-clause-taken
 returns-clause-taken c =
     addresses_only c.args.evaluation.now c.loop-address.evaluation c.take_address.new.self _ c.loop-address.invariant.evaluation c.in_default.ensures.rest
-    ∙ ap (λ ms. record { pack = c.args.evaluation.now.pack; readers = c.args.evaluation.now.readers; now = record { values = c.args.evaluation.now.now.values; nodes = c.args.evaluation.now.now.nodes; addresses = ms } })
+    ∙ ap (λ ms. record { pack = c.args.evaluation.now.pack; reads = c.args.evaluation.now.reads; readers = c.args.evaluation.now.readers; now = record { values = c.args.evaluation.now.now.values; nodes = c.args.evaluation.now.now.nodes; addresses = ms } })
     (unmarked c.loop-address.evaluation.now.addresses (length c.args.evaluation.now.pack.bits) c.loop-address.invariant.marks c.in_default.ensures.least)

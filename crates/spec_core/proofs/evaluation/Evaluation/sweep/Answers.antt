@@ -1,4 +1,4 @@
-use Rattle.std.proofs.Common.{sym, ap, subst}
+use Rattle.std.proofs.Common.{sym, ap, subst, arith}
 use Rattle.aig_core.specs.Aig.{IsAnd, IsNode}
 use Rattle.aig_core.proofs.NodeLemmas.{node_at}
 use Rattle.ppc_pack.specs.Pack.{PackValue}
@@ -27,6 +27,7 @@ loop-n-preserved g c =
       readers = c.loop-n.invariant.readers;
       sweeping = λ old new p q fo fn s.
           IsSweeping-more c.args.self.now.pack c.loop-n.self.readers old new p q c.loop-n.self.now c.args.steps.now c.loop-n.steps b fo fn (c.loop-n.invariant.sweeping old new p q fo fn s) c.in-Some.n node.0 c.in-Some.ensures.least node.1;
+      counted = omega (arith, c.loop-n.invariant.counted);
     })
 
 pub returns-clause-swept : goal.returns-clause-swept

@@ -1,4 +1,4 @@
-use Rattle.std.proofs.Common.{◌≡◌, Bool, List}
+use Rattle.std.proofs.Common.{◌≡◌, ◌+◌, Bool, List}
 use Rattle.aig_core.specs.Value.{FitsGraph}
 use Rattle.spec_core.specs.Sweep.{IsSweeping}
 use Rattle.spec_core.proofs.LeastLemmas.{places_left}
@@ -10,6 +10,7 @@ invariant-loop-n g l = record {
   readers : l.self.readers ≡ l.initial.self.readers;
   sweeping : (old new p q : List Bool) → FitsGraph l.initial.self.pack.graph p old → FitsGraph l.initial.self.pack.graph q new
       → IsSweeping l.initial.self.pack old new l.initial.self.now l.initial.steps l.initial.steps → IsSweeping l.initial.self.pack old new l.self.now l.initial.steps l.steps;
+  counted : l.self.reads + l.initial.steps ≡ l.initial.self.reads + l.steps;
 }
 
 abbrev pub decreases-loop-n : goal.decreases-loop-n

@@ -10,9 +10,9 @@ use Rattle.aig_core.specs.declared.lit.Pair.{Pair}
 use Rattle.list_laws.specs.Members.{In, Within}
 use Rattle.list_laws.specs.Order.{IsAscending}
 use Rattle.list_laws.proofs.Members.{in_or}
-use Rattle.cut_enum.specs.Cuts.{Blocks, member, constant, parameter, fan_ins, CanBeLeaf, IsCut, IsMinimal, AreMinimal, EachContainsOne}
+use Rattle.cut_sets.specs.Cuts.{Blocks, member, constant, parameter, fan_ins, CanBeLeaf, IsCut, IsMinimal, AreMinimal, EachContainsOne}
 use Rattle.aig_core.proofs.NodeLemmas.{source_below, node_normal, same_pair}
-use Rattle.cut_enum.proofs.SetLemmas.{length_within, same_within}
+use Rattle.cut_sets.proofs.AscendingLemmas.{length_within, same_within}
 
 -- a larger set blocks what a smaller one blocks
 pub Blocks-within : (g : Aig) (c d : List ℕ) {n : ℕ} → Within c d → Blocks g c n → Blocks g d n

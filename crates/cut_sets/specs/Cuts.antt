@@ -5,7 +5,7 @@ use Rattle.aig_core.specs.declared.lit.Kind.TheVariants.{Regular, Parameter}
 use Rattle.aig_core.specs.declared.lit.Pair.{Pair}
 use Rattle.list_laws.specs.Members.{In, Within}
 use Rattle.list_laws.specs.Order.{IsAscending}
-use Rattle.cut_enum.specs.Sets.{IsOrdered}
+use Rattle.cut_sets.specs.Sets.{IsOrdered}
 use Rattle.aig_core.specs.Aig.{IsSource, IsNode}
 
 -- A set blocks a node when the node is in it, or is the constant or a parameter, or both fan-ins are blocked.

@@ -3,7 +3,7 @@ use Rattle.std.specs.Prelude.{◌≡◌, ℕ, suc, ◌/◌, ◌%◌, ◌<◌, �
 use Rattle.aig_core.specs.Aig.{Aig, first_and, IsAnd, IsSource}
 use Rattle.aig_core.specs.declared.lit.Kind.TheVariants.{Regular}
 use Rattle.list_laws.specs.Members.{In}
-use Rattle.cut_enum.specs.Cuts.{IsCut}
+use Rattle.cut_sets.specs.Cuts.{IsCut}
 
 -- A cover assigns cuts to AND nodes, and has every AND node of a root and every AND leaf of its cuts.
 pub record IsCover (g : Aig) (k : ℕ) (roots : List ℕ) (cover : ℕ → Option (List ℕ)) : Type 0 where

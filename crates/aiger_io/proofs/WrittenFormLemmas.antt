@@ -1,0 +1,162 @@
+-- The text of a circuit that goes together and has clean names is of the format: each of its lines spells what it says.
+use Rattle.std.proofs.Common.{◌≡◌, ℕ, zero, suc, ◌+◌, ◌^◌, ◌<◌, ◌≤◌, true, List, [], ◌∷◌, ◌++◌, length, map, Some, decimal, inl, inr, refl, sym, ap, ◌∙◌, subst, arith, append_assoc, append-nil}
+use Rattle.std.specs.Prelude.{slice_get}
+use Rattle.std.proofs.lemmas.Option.{slice_get_within}
+use Rattle.list_laws.specs.Members.{In}
+use Rattle.list_laws.proofs.Members.{In-push, In-left, In-right, place_in}
+use Rattle.list_laws.proofs.Places.{get_left}
+use Rattle.list_laws.proofs.TwoLists.{get_right}
+use Rattle.netlist.specs.HasCleanNames.{AreClean}
+use Rattle.tl_text.specs.Clean.{IsClean}
+use Rattle.tl_text.specs.Once.{AreOnce}
+use Rattle.tl_text.proofs.WordLemmas.{AllClean}
+use Rattle.aiger_io.specs.AigerText.{IsOfFormat, IsOfFormatWith, IsAigerText}
+use Rattle.aiger_io.specs.Circuit.{Circuit}
+use Rattle.aiger_io.specs.ItemRow.{AreItemRows, item_count, is_in_range}
+use Rattle.aiger_io.specs.PortName.{by_symbol}
+use Rattle.aiger_io.specs.Refused.{StandsTwice, IsNameRefused, alike}
+use Rattle.aiger_io.specs.SymbolRow.{Symbol, AreSymbolRows, AllStand, count_of}
+use Rattle.aiger_io.specs.Symbols.{kind_of}
+use Rattle.aiger_io.specs.WrittenText.{numbered, header_words, item_words, circuit_text}
+use Rattle.aiger_io.specs.declared.header.Header.{Header}
+use Rattle.aiger_io.specs.declared.item.Item.{Item}
+use Rattle.aiger_io.specs.declared.item.Kind.{Kind}
+use Rattle.aiger_io.specs.declared.item.Kind.TheVariants as kind
+use Rattle.aiger_io.proofs.Format.AigerTextLemmas.{format_parsed}
+use Rattle.aiger_io.proofs.Format.HeaderRowLemmas.{is_header_row}
+use Rattle.aiger_io.proofs.Format.ItemRowLemmas.{item_spelled}
+use Rattle.aiger_io.proofs.PlaceLemmas.{kind_of_item}
+use Rattle.aiger_io.proofs.Format.PortNameLemmas.{never, first, twice_end}
+use Rattle.aiger_io.proofs.Format.RefusedLemmas.{ports_of}
+use Rattle.aiger_io.proofs.RoundTripLemmas.{IsFormed, symbol_row, symbol_back, good_name, input_keys, output_keys, most, few_inputs, range_of, text_rows}
+use Rattle.aiger_io.proofs.RowBackLemmas.{row_of, header_back, item_read_back}
+use Rattle.aiger_io.proofs.Format.SectionLemmas.{in_sections}
+use Rattle.aiger_io.proofs.Format.SymbolRowLemmas.{symbol_spelled}
+
+-- the symbols of names
+abbrev pub symbol_by : Kind → ℕ → List ℕ → Symbol
+symbol_by k n name = record { kind = k; ordinal = n; name = name }
+
+abbrev pub symbols_from : Kind → ℕ → List (List ℕ) → List Symbol
+symbols_from k n names = numbered (symbol_by k) n names
+
+one_kind : (k : Kind) (n : ℕ) (names : List (List ℕ)) (s : Symbol) → In (symbols_from k n names) s → s.kind ≡ k
+one_kind k n [] s i = absurd i
+one_kind k n (x ∷ xs) s (inl e) = ap (λ (t : Symbol). t.kind) e
+one_kind k n (x ∷ xs) s (inr i) = one_kind k (suc n) xs s i
+
+among : (k : Kind) (n i : ℕ) (names : List (List ℕ)) (x : List ℕ) → slice_get names i ≡ Some x → In (symbols_from k n names) (symbol_by k (n + i) x)
+among k n i [] x e = absurd (cc)
+among k n zero (y ∷ ys) x e = let same : y ≡ x = cc in let z : n + zero ≡ n = omega arith in inl (ap (λ m. symbol_by k m x) z ∙ ap (symbol_by k n) (sym same))
+among k n (suc i) (y ∷ ys) x e = let z : suc n + i ≡ n + suc i = omega arith in inr (subst (λ m. In (symbols_from k (suc n) ys) (symbol_by k m x)) z (among k (suc n) i ys x e))
+
+-- each may stand behind those before it
+stand_by : (h : Header) (k : Kind) (earlier : List Symbol) (n : ℕ) (names : List (List ℕ)) → ((t : Symbol) → In earlier t → t.kind ≡ k → t.ordinal < n) → n + length names ≤ count_of h k → AllClean names → AllStand h earlier (symbols_from k n names)
+stand_by h k earlier n [] before few clean = tt
+stand_by h k earlier n (x ∷ xs) before few clean = (
+  record {
+    below = omega arith;
+    fresh = λ t i same at. let l : t.ordinal < n = before t i same in let e : t.ordinal ≡ n = at in omega arith;
+    good = good_name x (clean x (inl refl));
+  },
+  stand_by h k (earlier ++ symbol_by k n x ∷ []) (suc n) xs
+      (λ t i same. elim (In-push earlier (symbol_by k n x) t i) [
+        | inl j ↦ (let l : t.ordinal < n = before t j same in omega arith)
+        | inr e ↦ (let l : t.ordinal ≡ n = ap (λ (s : Symbol). s.ordinal) e in omega arith)
+      ])
+      (omega arith) (λ y i. clean y (inr i)),
+)
+
+stand_both : (h : Header) (earlier xs ys : List Symbol) → AllStand h earlier xs → AllStand h (earlier ++ xs) ys → AllStand h earlier (xs ++ ys)
+stand_both h earlier [] ys a b = subst (λ e. AllStand h e ys) (append-nil earlier) b
+stand_both h earlier (x ∷ xs) ys a b = (a.0, stand_both h (earlier ++ x ∷ []) xs ys a.1 (subst (λ e. AllStand h e ys) (sym (append_assoc earlier (x ∷ []) xs)) b))
+
+-- each line is its symbol
+rows_by : (letter : ℕ) (k : Kind) (n : ℕ) (names : List (List ℕ)) → kind_of letter ≡ Some k → ((m : ℕ) → m < 2 ^ 64 → IsClean (letter ∷ decimal m)) → n + length names < 2 ^ 64 → AllClean names → AreSymbolRows (numbered (symbol_row letter) n names) (symbols_from k n names)
+rows_by letter k n [] is keys few clean = tt
+rows_by letter k n (x ∷ xs) is keys few clean = (
+  symbol_spelled (symbol_row letter n x) (symbol_by k n x) (symbol_back letter n x k is (omega arith) (keys n (omega arith)) (clean x (inl refl))),
+  rows_by letter k (suc n) xs is keys (omega arith) (λ y i. clean y (inr i)),
+)
+
+both_rows : (rows more : List (List ℕ)) (xs ys : List Symbol) → AreSymbolRows rows xs → AreSymbolRows more ys → AreSymbolRows (rows ++ more) (xs ++ ys)
+both_rows [] more [] ys a b = b
+both_rows [] more (x ∷ xs) ys a b = absurd a
+both_rows (row ∷ rows) more [] ys a b = absurd a
+both_rows (row ∷ rows) more (x ∷ xs) ys a b = (a.0, both_rows rows more xs ys a.1 b)
+
+module _ (h : Header) (small : h.variables ≤ 1073741824) where
+  item_rows_are : (items : List Item) → ((item : Item) → In items item → is_in_range h.variables item ≡ true) → AreItemRows (map (λ (item : Item). row_of (item_words item)) items) items
+  item_rows_are [] range = tt
+  item_rows_are (item ∷ items) range = (
+    item_spelled (row_of (item_words item)) (kind_of_item item) item (item_read_back h small item (range item (inl refl))),
+    item_rows_are items (λ i j. range i (inr j)),
+  )
+
+module _ (c : Circuit) (w : IsFormed c) (clean : AreClean (c.inputs ++ c.outputs)) where
+  abbrev inputs_said : List Symbol
+  inputs_said = symbols_from kind.Input 0 c.inputs
+
+  abbrev outputs_said : List Symbol
+  outputs_said = symbols_from kind.Output 0 c.outputs
+
+  clean_inputs : AllClean c.inputs
+  clean_inputs x i = clean x (In-left c.inputs c.outputs x i)
+
+  clean_outputs : AllClean c.outputs
+  clean_outputs x i = clean x (In-right c.inputs c.outputs x i)
+
+  no_output : (t : Symbol) → In inputs_said t → t.kind ≡ kind.Output → t.ordinal < 0
+  no_output t i e = absurd (let q : kind.Input ≡ kind.Output = sym (one_kind kind.Input 0 c.inputs t i) ∙ e in cc)
+
+  text_written : IsOfFormatWith (circuit_text c) c (inputs_said ++ outputs_said)
+  text_written =
+      let n : length c.inputs ≡ c.header.inputs = w.inputs in let m : length c.outputs ≡ c.header.outputs = w.outputs in
+      let f : c.header.outputs < 2 ^ 64 = w.few in let g : c.header.inputs < 2 ^ 64 = few_inputs c w clean in
+      record {
+        header_row = row_of (header_words c.header);
+        item_rows = map (λ (item : Item). row_of (item_words item)) c.items;
+        symbol_rows = numbered (symbol_row 105) 0 c.inputs ++ numbered (symbol_row 111) 0 c.outputs;
+        comment = [];
+        rows_are = text_rows c w clean ∙ ap (λ l. row_of (header_words c.header) ∷ (map (λ (item : Item). row_of (item_words item)) c.items ++ l)) (sym (append_assoc (numbered (symbol_row 105) 0 c.inputs) (numbered (symbol_row 111) 0 c.outputs) []));
+        header = is_header_row (row_of (header_words c.header)) c.header (header_back c.header (most c w clean) w.header w.few []);
+        items = item_rows_are c.header (most c w clean) c.items (range_of c w clean);
+        sections = in_sections c.header c.items w.count (λ p item e. (w.items p item e).kind);
+        range = range_of c w clean;
+        are_symbols = both_rows (numbered (symbol_row 105) 0 c.inputs) (numbered (symbol_row 111) 0 c.outputs) inputs_said outputs_said
+            (rows_by 105 kind.Input 0 c.inputs refl input_keys (omega arith) clean_inputs) (rows_by 111 kind.Output 0 c.outputs refl output_keys (omega arith) clean_outputs);
+        stand = stand_both c.header [] inputs_said outputs_said (stand_by c.header kind.Input [] 0 c.inputs (λ t i e. absurd i) (omega arith) clean_inputs)
+            (stand_by c.header kind.Output inputs_said 0 c.outputs no_output (omega arith) clean_outputs);
+        is_comment = tt;
+        inputs = record { count_is = w.inputs; each = λ i x e. let z : 0 + i ≡ i = omega arith in by_symbol (In-left inputs_said outputs_said (symbol_by kind.Input i x) (subst (λ k. In inputs_said (symbol_by kind.Input k x)) z (among kind.Input 0 i c.inputs x e))) };
+        outputs = record { count_is = w.outputs; each = λ i x e. let z : 0 + i ≡ i = omega arith in by_symbol (In-right inputs_said outputs_said (symbol_by kind.Output i x) (subst (λ k. In outputs_said (symbol_by kind.Output k x)) z (among kind.Output 0 i c.outputs x e))) };
+      }
+
+  pub text_format : IsOfFormat (circuit_text c) c
+  text_format = record { symbols = inputs_said ++ outputs_said; are = text_written }
+
+  pub text_is : AreOnce (c.inputs ++ c.outputs) → IsAigerText (circuit_text c) c
+  text_is once = record { format = text_format; once = once }
+
+  -- and where an output has the name of an input, the text is refused for it
+  both_named : (name : List ℕ) → In c.inputs name → In c.outputs name → StandsTwice (c.inputs ++ c.outputs) name
+  both_named name i o =
+      let p = place_in c.inputs name i in
+      let q = place_in c.outputs name o in
+      let low : p.0 < length c.inputs = slice_get_within c.inputs p.0 name p.1 in
+      record { first = p.0; second = length c.inputs + q.0; order = omega arith; here = get_left c.inputs c.outputs p.0 name p.1; there = get_right c.inputs c.outputs q.0 name q.1 }
+
+  pub alike_refused : (name : List ℕ) → In c.inputs name → In c.outputs name → IsNameRefused (circuit_text c)
+  alike_refused name i o =
+      let p = place_in c.inputs name i in
+      let z : 0 + p.0 ≡ p.0 = omega arith in
+      let symbol : In (inputs_said ++ outputs_said) (symbol_by kind.Input p.0 name) = In-left inputs_said outputs_said (symbol_by kind.Input p.0 name) (subst (λ k. In inputs_said (symbol_by kind.Input k name)) z (among kind.Input 0 p.0 c.inputs name p.1)) in
+      let r = format_parsed (circuit_text c) c (inputs_said ++ outputs_said) text_written in
+      elim (twice_end c (inputs_said ++ outputs_said) r.said r.says (ports_of (circuit_text c) c r.said r.parsed) (item_count c.header + 2) (inputs_said ++ outputs_said) (λ t j. j)) [
+        | never none is ↦ absurd (none (symbol_by kind.Input p.0 name) symbol (record { port = tt; twice = both_named name i o }))
+        | first before after s split none a is ↦ record {
+          line = item_count c.header + 2 + length before;
+          name = s.name;
+          refused = alike c before after s (subst (IsOfFormatWith (circuit_text c) c) split text_written) none a refl;
+        }
+      ]

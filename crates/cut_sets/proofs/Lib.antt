@@ -1,0 +1,3 @@
+pub mod AscendingLemmas
+pub mod OrderLemmas
+pub mod BlockLemmas

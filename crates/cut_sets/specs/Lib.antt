@@ -1,0 +1,4 @@
+-- What public clauses say.
+pub mod Cuts
+pub mod Sets
+pub mod Covers

@@ -1,0 +1,95 @@
+-- The nodes whose claims are needed: they are the same where the paths are, and the numbers of lines have no part in them.
+use Rattle.std.proofs.Common.{◌≡◌, ℕ, ◌≤◌, ◌<◌, List, map, Some, slice_get, refl, sym, ap, ◌∙◌, subst, arith}
+use Rattle.aig_core.specs.Aig.{Aig}
+use Rattle.list_laws.specs.Members.{In}
+use Rattle.list_laws.proofs.Members.{In-map, from_map}
+use Rattle.depth_label.specs.Label.{LabelsValue, label_of}
+use Rattle.cert_check.specs.CertificateValue.{PathValue, StepValue, CertificateValue}
+use Rattle.cert_check.specs.WrittenText.{bare_path, bare_step, bare}
+use Rattle.cert_check.proofs.BareLemmas.{got, bared}
+use Rattle.flow_cert.specs.Needed.{AreLabelClaims, IsFirstToNeed, IsShared, IsNeeded, root, shared, AreNeeded, ShowAlike, HasOneClaiming}
+
+-- a step of the same node with the same paths shares the same nodes
+shared_alike : (s t : StepValue) (m : ℕ) → s.node ≡ t.node → s.paths ≡ t.paths → IsShared s m → IsShared t m
+shared_alike s t m node paths h = record {
+  i = h.i;
+  j = h.j;
+  p = h.p;
+  q = h.q;
+  order = h.order;
+  first = subst (λ ps. slice_get ps h.i ≡ Some h.p) paths h.first;
+  second = subst (λ ps. slice_get ps h.j ≡ Some h.q) paths h.second;
+  in_first = h.in_first;
+  in_second = h.in_second;
+  below = subst (λ n. m < n) node h.below;
+}
+
+module _ (g : Aig) (roots : List ℕ) (label : ℕ → ℕ) where
+  module _ (c d : CertificateValue) (of : AreNeeded g roots label d) (depth : c.depth ≡ d.depth) (alike : ShowAlike c d) where
+    needed_alike : (m : ℕ) → IsNeeded g roots label c m → IsNeeded g roots label d m
+    needed_alike m (root l p f and e) = root l (subst (λ x. 1 ≤ x) depth p) (subst (λ x. IsFirstToNeed g label x roots l) depth f) and e
+    needed_alike m (shared t i n h) =
+        let there = needed_alike t.node n in
+        let u = of.all t.node there in
+        shared u.step u.there (subst (λ x. IsNeeded g roots label d x) (sym u.is) there) (shared_alike t u.step m (sym u.is) (alike.each t u.step i u.there (sym u.is)) h)
+
+  pub one_claiming : HasOneClaiming g roots label
+  one_claiming = record {
+    once = λ c d ofc ofd depth alike m h. ofd.all m (needed_alike c d ofd depth alike m (subst (λ x. IsNeeded g roots label c x) h.is (ofc.only h.step h.there)));
+  }
+
+-- of two lists that are the same but for lines: a step of the first is one of the second, and so is a path
+same_step : (ss ts : List StepValue) → map bare_step ss ≡ map bare_step ts → (s : StepValue) → In ss s → (t : StepValue) × In ts t × (bare_step s ≡ bare_step t)
+same_step ss ts same s i = from_map bare_step ts (bare_step s) (subst (λ us. In us (bare_step s)) same (In-map bare_step ss s i))
+
+same_path : (ps qs : List PathValue) → map bare_path ps ≡ map bare_path qs → (i : ℕ) (p : PathValue) → slice_get ps i ≡ Some p → (q : PathValue) × (slice_get qs i ≡ Some q) × (p.nodes ≡ q.nodes)
+same_path ps qs same i p e =
+    let r = got qs i (bare_path p) (subst (λ us. slice_get us i ≡ Some (bare_path p)) same (bared ps i p e)) in
+    (r.0, r.1, ap (λ (x : PathValue). x.nodes) r.2)
+
+same_shared : (s t : StepValue) (m : ℕ) → bare_step s ≡ bare_step t → IsShared s m → IsShared t m
+same_shared s t m same h =
+    let paths : map bare_path s.paths ≡ map bare_path t.paths = ap (λ (x : StepValue). x.paths) same in
+    let p = same_path s.paths t.paths paths h.i h.p h.first in
+    let q = same_path s.paths t.paths paths h.j h.q h.second in
+    record {
+      i = h.i;
+      j = h.j;
+      p = p.0;
+      q = q.0;
+      order = h.order;
+      first = p.1;
+      second = q.1;
+      in_first = subst (λ ns. In ns m) p.2 h.in_first;
+      in_second = subst (λ ns. In ns m) q.2 h.in_second;
+      below = subst (λ n. m < n) (ap (λ (x : StepValue). x.node) same) h.below;
+    }
+
+module _ (g : Aig) (roots : List ℕ) (label : ℕ → ℕ) where
+  bare_needed : (c d : CertificateValue) → bare c ≡ bare d → (m : ℕ) → IsNeeded g roots label c m → IsNeeded g roots label d m
+  bare_needed c d same m (root l p f and e) =
+      let depth : c.depth ≡ d.depth = ap (λ (x : CertificateValue). x.depth) same in
+      root l (subst (λ x. 1 ≤ x) depth p) (subst (λ x. IsFirstToNeed g label x roots l) depth f) and e
+  bare_needed c d same m (shared t i n h) =
+      let u = same_step c.steps d.steps (ap (λ (x : CertificateValue). x.steps) same) t i in
+      shared u.0 u.1 (subst (λ x. IsNeeded g roots label d x) (ap (λ (x : StepValue). x.node) u.2) (bare_needed c d same t.node n)) (same_shared t u.0 m u.2 h)
+
+  -- So another certificate with other lines alone claims the needed nodes too,
+  pub same_needed : (c d : CertificateValue) → bare c ≡ bare d → AreNeeded g roots label c → AreNeeded g roots label d
+  same_needed c d same of = record {
+    only = λ s i.
+        let u = same_step d.steps c.steps (ap (λ (x : CertificateValue). x.steps) (sym same)) s i in
+        subst (λ x. IsNeeded g roots label d x) (ap (λ (x : StepValue). x.node) (sym u.2)) (bare_needed c d same u.0.node (of.only u.0 u.1));
+    all = λ m n.
+        let h = of.all m (bare_needed d c (sym same) m n) in
+        let u = same_step c.steps d.steps (ap (λ (x : CertificateValue). x.steps) same) h.step h.there in
+        record { step = u.0; there = u.1; is = ap (λ (x : StepValue). x.node) (sym u.2) ∙ h.is };
+  }
+
+-- and their labels.
+pub same_label_claims : (v : LabelsValue) (c d : CertificateValue) → bare c ≡ bare d → AreLabelClaims v c → AreLabelClaims v d
+same_label_claims v c d same of = record {
+  each = λ s i.
+      let u = same_step d.steps c.steps (ap (λ (x : CertificateValue). x.steps) (sym same)) s i in
+      ap (λ (x : StepValue). x.claim) u.2 ∙ (of.each u.0 u.1 ∙ ap (λ (x : StepValue). label_of v x.node) (sym u.2));
+}
