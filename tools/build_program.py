@@ -1,10 +1,10 @@
-"""Proves and builds both programs, and tells on standard error how far it is. `./tlut` calls it.
-
-The crates that the programs stand on are copied to a folder of their own, without wrong bodies, and the gate runs there: it proves
-independent crates side by side, gives idle processors to those that others wait for, and keeps on this machine what it proved.
-So a later gate, or a later call, proves none of it again.
+"""Proves and builds both programs, and reports its progress on stderr. `./tlut` calls it.
 
     python3 tools/build_program.py LOG
+
+It copies the crates that the programs need to a folder of its own, without wrong bodies, and runs the gate there. The gate proves
+independent crates side by side, gives idle processors to those that others wait for, and keeps on this machine what it proved. So a
+later gate, or a later call, proves none of it again.
 """
 
 import os

@@ -1,8 +1,9 @@
 #!/usr/bin/env python3
-"""Makes the tables, the plots and the drawings of docs/case-studies.md.
+"""Generates the tables, the plots and the drawings of docs/case-studies.md.
 
     python3 tools/case_studies.py              writes the pictures into docs/pictures, prints the tables, and last the times
-    python3 tools/case_studies.py --check      compares the tables with the page and the pictures with docs/pictures; status 1 where some differ
+    python3 tools/case_studies.py --preparations   prints the table of preparations alone
+    python3 tools/case_studies.py --check      compares the tables with the page and the pictures with docs/pictures; status 1 if some differ
 
 It runs after a first call of ./tlut has built the program, and needs Yosys, ABC and Graphviz. All but the times is the same in each
 run. The netlist of `fir8` is made by Yosys, and the sizes of ABC are ABC's, so other versions of the two may have other numbers; a
@@ -14,7 +15,6 @@ from __future__ import annotations
 import argparse
 import os
 import resource
-import statistics
 import sys
 import tempfile
 from dataclasses import dataclass
@@ -23,26 +23,23 @@ from typing import Callable, Iterator, Optional
 TOP = os.path.dirname(os.path.dirname(os.path.abspath(__file__)))
 sys.path.insert(0, TOP)
 
-from case_plots import plot
-from companion import tools
-from companion.abc_form import abc_text
-from companion.buses import Bus, buses_of
-from companion.faults import Fault
-from companion.mappings import Sizes, sizes_by_abc, sizes_by_tlut
-from companion.netlist import read_library
-from companion.parameters import read_parameters
-from companion.text import read_text, write_text
+from tlutflow import tools
+from tlutflow.abc_form import abc_text
+from tlutflow.buses import Bus, buses_of
+from tlutflow.changes import EXHAUSTIVE, Random, changes_of, rewritten, set_line, spread
+from tlutflow.faults import Fault
+from tlutflow.mappings import Sizes, sizes_by_abc, sizes_by_tlut
+from tlutflow.netlist import read_library
+from tlutflow.parameters import read_parameters
+from tlutflow.plots import RATES, plot, ticks_of
+from tlutflow.trials import AS_READ, Task, prepare
+from tlutflow.text import read_text, write_text
 
 PAGE = f"{TOP}/docs/case-studies.md"
 PICTURES = f"{TOP}/docs/pictures"
 KS = (4, 6)
-RATES = (1, 2, 4, 8, 16)
-SAMPLED = 5000
 # Changes and re-maps that are timed, how often a small design is mapped again with each values, and the calls of which the least counts.
 WALK, REMAPS, AGAIN, TRIES = 10000, 20, 20, 5
-# Bits of the parameters up to which all changes from all values are looked at.
-EXHAUSTIVE = 10
-Change = tuple[dict[str, int], dict[str, int]]
 
 
 @dataclass(frozen=True)
@@ -73,68 +70,23 @@ def example(name: str, title: str, of_value: str, of_bit: str, *drawings: Drawin
     return Study(name, f"{folder}.blif", f"{folder}.par", title, of_value, of_bit, drawings)
 
 
-def studies(room: str) -> list[Study]:
-    """All studies; the netlists of the larger ones are made in a folder."""
+def studies(room: str, names: list[str]) -> list[Study]:
+    """The studies of some names, or all; the netlists of the larger ones are made in a folder."""
     cones = Drawing("fir", 6, ("y[3]",)), Drawing("fir_cone", 4, ("y[1]",))
     found = [
-        example("fir", "coefficients", "a coefficient gets another value", "a bit of one turns", *cones),
-        example("matcher", "pattern and mask", "the pattern or the mask gets another value", "a bit of one turns", Drawing("matcher", 4)),
-        example("coder", "key", "the key gets another value", "a bit of it turns", Drawing("coder", 4)),
+        example("fir", "coefficients", "a coefficient gets another value", "a bit of one flips", *cones),
+        example("matcher", "pattern and mask", "the pattern or the mask gets another value", "a bit of one flips", Drawing("matcher", 4)),
+        example("coder", "key", "the key gets another value", "a bit of it flips", Drawing("coder", 4)),
     ]
     for top, drawings in (("fir8", (Drawing("fir8", 6, ("y[1]",)),)), ("fir8_sums", ())):
-        ran = tools.run([f"{TOP}/flow", "verilog", "examples/fir8/fir8.v", "--top", top, "--out", room], TOP)
+        if names and top not in names:
+            continue
+        ran = tools.run([f"{TOP}/flow", "verilog", "examples/fir8/fir8.v", "--top", top, "--quick", "--out", room], TOP)
         if ran.returncode:
             raise Fault(ran.stderr.strip())
         files = [f"{room}/{top}{end}" for end in (".blif", ".par")]
-        found.append(Study(top, *files, "coefficients", "a coefficient gets another value", "a bit of one turns", drawings))
-    return found
-
-
-class Random:
-    """Numbers that look drawn, the same ones in each run: a linear congruence of 64 bits."""
-
-    def __init__(self, seed: int):
-        self.state = seed
-
-    def below(self, bound: int) -> int:
-        """A number below a bound."""
-        self.state = (self.state * 6364136223846793005 + 1442695040888963407) % 2**64
-        return (self.state >> 33) % bound
-
-
-def all_values(nets: list[str]) -> Iterator[dict[str, int]]:
-    """All values of some nets."""
-    for value in range(1 << len(nets)):
-        yield Bus("", tuple(nets)).digits(value)
-
-
-def all_changes(nets: list[str], buses: list[Bus]) -> Iterator[Change]:
-    """From all values of the parameters each other value of each bus."""
-    for values in all_values(nets):
-        for bus in buses:
-            for other in range(1 << bus.width):
-                if other != bus.number(values):
-                    yield values, bus.digits(other)
-
-
-def drawn_changes(nets: list[str], buses: list[Bus], many: int) -> Iterator[Change]:
-    """From drawn values of the parameters a drawn other value of a drawn bus."""
-    random = Random(1)
-    for _ in range(many):
-        values = {net: random.below(2) for net in nets}
-        bus = buses[random.below(len(buses))]
-        other = (bus.number(values) + 1 + random.below((1 << bus.width) - 1)) % (1 << bus.width)
-        yield values, bus.digits(other)
-
-
-def changes_of(nets: list[str], buses: list[Bus]) -> Iterator[Change]:
-    """All changes where there are few parameters, and drawn ones else."""
-    return all_changes(nets, buses) if len(nets) <= EXHAUSTIVE else drawn_changes(nets, buses, SAMPLED)
-
-
-def set_line(values: dict[str, int]) -> str:
-    """The line of a script that gives nets these values."""
-    return "set " + " ".join(f"{net}={bit}" for net, bit in values.items()) + "\n"
+        found.append(Study(top, *files, "coefficients", "a coefficient gets another value", "a bit of one flips", drawings))
+    return [study for study in found if not names or study.name in names]
 
 
 def must(words: list[str], folder: Optional[str] = None) -> str:
@@ -162,11 +114,8 @@ class Mapped:
         return int(must([f"{TOP}/tlut", "bits", self.pack, f"{self.room}/empty.scr"]).split()[1])
 
     def rewritten(self, buses: list[Bus]) -> list[int]:
-        """How many bits each change rewrites, by `tlut bits`: a set to the values before it, which isn't counted, and the change."""
-        script = f"{self.room}/changes.scr"
-        write_text(script, "".join(set_line(before) + set_line(after) for before, after in changes_of(self.nets, buses)))
-        lines = must([f"{TOP}/tlut", "bits", self.pack, script]).splitlines()
-        return [int(line.split()[1]) for line in lines[2::2]]
+        """How many bits each change of these buses rewrites."""
+        return rewritten(f"{TOP}/tlut", self.pack, changes_of(self.nets, buses), self.room)
 
     def draw(self, drawing: Drawing, folder: str) -> str:
         """Makes a picture, and returns its file."""
@@ -208,14 +157,9 @@ def size_rows(study: Study, room: str) -> list[tuple[str, Callable[[int], Sizes]
 
 def size_table(study: Study, room: str) -> str:
     """The sizes at each K, by this mapper and by ABC."""
-    rows = [[study.name, *(f"K {k}: {word}" if word == "tables" else word for k in KS for word in ("tables", "depth", "bits"))]]
+    rows = [[study.name, *(f"K {k}: {word}" if word == "LUTs" else word for k in KS for word in ("LUTs", "depth", "bits"))]]
     rows += [[title, *cells([sizes(k) for k in KS])] for title, sizes in size_rows(study, room)]
     return table(rows)
-
-
-def spread(counts: list[int]) -> tuple[int, int, int]:
-    """The least, the median (of two in the middle the lower one) and the greatest."""
-    return min(counts), statistics.median_low(counts), max(counts)
 
 
 def change_table(study: Study, mapped: dict[int, Mapped]) -> tuple[str, list[int]]:
@@ -232,10 +176,10 @@ def change_table(study: Study, mapped: dict[int, Mapped]) -> tuple[str, list[int
 
 def tick_table(counts: list[int], bits: int) -> tuple[str, dict[int, tuple[int, int, int]]]:
     """How many ticks changes take at each rate, and those of all bits."""
-    ticks = {rate: spread([-(-it // rate) for it in counts]) for rate in RATES}
+    ticks = ticks_of(counts)
     rows = [["Ticks at RATE", *map(str, RATES)]]
     rows += [[title, *(str(ticks[rate][place]) for rate in RATES)] for place, title in enumerate(("least", "median", "greatest"))]
-    return table([*rows, ["all bits anew", *(f"{-(-bits // rate):,}" for rate in RATES)]]), ticks
+    return table([*rows, ["all bits", *(f"{-(-bits // rate):,}" for rate in RATES)]]), ticks
 
 
 def figures(study: Study, room: str, folder: str) -> tuple[list[str], list[str]]:
@@ -313,6 +257,21 @@ def generator_of(picture: str) -> list[str]:
     return [line for line in picture.splitlines() if "Generated by" in line]
 
 
+def preparation_table(found: list[Study], room: str, jobs: int) -> str:
+    """What the best preparation has beside the netlist as it is, and beside the best that ABC has on the same preparations."""
+    rows = [["Design", "K", "as it is: LUTs", "depth", "best preparation: LUTs", "depth", "by", "ABC's best: LUTs", "depth", "by"]]
+    for study in found:
+        for k in KS:
+            tried = prepare(Task(study.netlist, study.parameters, k, jobs=jobs, beside=True), f"{room}/{study.name}_{k}")
+            compact = [it for it in tried.results if it.rule == "compact"]
+            first, best, abc = next(it for it in compact if it.name == AS_READ), compact[0], tried.best_by_abc()
+            assert abc
+            row = [study.name, str(k), f"{first.tables:,}", str(first.depth), f"{best.tables:,}", str(best.depth), best.name]
+            rows.append([*row, f"{abc[2].tables:,}", str(abc[2].depth), f"{abc[0]}, `{abc[1]}`"])
+            print(" | ".join(rows[-1]), file=sys.stderr, flush=True)
+    return table(rows)
+
+
 def differences(tables: list[str], names: list[str], folder: str) -> Iterator[str]:
     """What the page and the pictures that are there don't have."""
     page = read_text(PAGE)
@@ -327,14 +286,20 @@ def words() -> argparse.Namespace:
     """The words of the command line."""
     parser = argparse.ArgumentParser(description=__doc__, formatter_class=argparse.RawDescriptionHelpFormatter)
     parser.add_argument("--check", action="store_true", help="write nothing, take no times, and compare the rest with what is there")
+    parser.add_argument("--preparations", action="store_true", help="print the table of preparations alone, which takes minutes")
+    parser.add_argument("--design", action="append", default=[], help="with --preparations: of this design alone (repeat it)")
+    parser.add_argument("-j", dest="jobs", type=int, default=0, help="with --preparations: how many run at a time")
     parser.add_argument("--no-times", action="store_true", help="leave the times out")
     return parser.parse_args()
 
 
 def run(given: argparse.Namespace, room: str) -> int:
+    if given.preparations:
+        print(preparation_table(studies(room, given.design), room, given.jobs), end="")
+        return 0
     folder = room if given.check else PICTURES
     os.makedirs(folder, exist_ok=True)
-    found = studies(room)
+    found = studies(room, [])
     made = {study.name: figures(study, room, folder) for study in found}
     tables = [it for some, _ in made.values() for it in some]
     if given.check:

@@ -1,10 +1,10 @@
 #!/usr/bin/env python3
-"""Proves the least depth of each example at each K, and audits what was written; then spoils it, and audits that.
+"""Proves the least depth of each example at each K, and audits the certificate; then spoils it, and audits that.
 
     python3 tools/certificates.py [PROGRAM]
 
-`./tlut` must have built the program. Each certificate must be accepted with the depth that `prove` printed. With one of its paths
-dropped, with a node of a path changed, and with its depth raised it must be refused. The last line is `N passed, M failed`.
+Call `./tlut` once before, to build the program. Each certificate must be accepted with the depth that `prove` printed. It must be
+refused with one of its paths dropped, with a node of a path changed, and with its depth raised. The last line is `N passed, M failed`.
 """
 import glob
 import os

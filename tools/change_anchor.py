@@ -1,13 +1,15 @@
 #!/usr/bin/env python3
-"""Times changes of parameters beside a loop in C over the part of the pack that each parameter reaches.
+"""Times changes of parameters, and a loop in C over the part of the pack that each parameter reaches.
 
-Outside the gate: `python3 tools/change_anchor.py [NETLIST PARAMS K]`, after a first call of ./tlut has built the program, and where a C
-compiler is (`cc`). Without words it takes the filter of tools/designs.py at K 6, whose pack is the largest of that file's.
+    python3 tools/change_anchor.py [NETLIST PARAMS K]
 
-Each change turns one parameter, drawn with a fixed start. The loop evaluates every node that the parameter reaches, in order, and
-compares every bit that it reaches, with no test of what has changed: what a compiler makes of the pack alone. `tlut bits` reads each
-change as a line, follows what changes, and prints each write. Both are processor time for a change, the least of some runs, with the
-start of the program taken off, and must find the same number of writes.
+Outside the gate. Call `./tlut` once before, to build the program; it needs a C compiler (`cc`). Without arguments it takes the filter of
+tools/designs.py at K 6, whose pack is the largest of that file's.
+
+Each change flips one parameter, drawn with a fixed seed. The loop evaluates every node that the parameter reaches, in order, and
+compares every bit that it reaches, without testing what has changed: what a compiler makes of the pack alone. `tlut bits` reads each
+change as a line, follows what changes, and prints each write. Both times are CPU time per change, the least of some runs, without the
+start of the program, and both must find the same number of writes.
 """
 
 import os
@@ -21,10 +23,10 @@ sys.path.insert(0, TOP)
 sys.path.insert(0, f"{TOP}/tools")
 
 import designs
-from companion import tools
-from companion.faults import Fault
-from companion.pack import read_pack
-from companion.text import write_text
+from tlutflow import tools
+from tlutflow.faults import Fault
+from tlutflow.pack import read_pack
+from tlutflow.text import write_text
 
 CHANGES = 10_000
 RUNS = 5

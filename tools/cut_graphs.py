@@ -3,8 +3,8 @@
     python3 tools/cut_graphs.py multiplier 16
     python3 tools/cut_graphs.py benes 16
 
-The first is an array multiplier, the second a Benes network whose switches are parameters. A line has the numbers of
-sources and of AND nodes; then come a 0 or 1 for each source (1: a parameter) and two literals for each AND node.
+The first is an array multiplier, the second a Benes network whose switches are parameters. The first line has the numbers of sources
+and of AND nodes; then come a 0 or 1 for each source (1: a parameter) and two literals for each AND node.
 """
 import sys
 

@@ -1,18 +1,16 @@
 #!/usr/bin/env python3
-"""Writes netlists with parameters, and times each stage of their mapping, with ABC's mapping beside it.
-
-Outside the gate.
+"""Writes netlists with parameters, and times each stage of their mapping, with ABC's mapping for comparison.
 
     python3 tools/designs.py write ROOM           writes the netlists and lists of parameters into the folder ROOM
     python3 tools/designs.py time [PROGRAM] [K]   runs `stages` of the built program bench_mapping on them and on the examples,
-                                                  after `rt run` in crates/bench_mapping has built it, with tables of K inputs (4);
-                                                  ABC's time stands beside, where it is there
-    python3 tools/designs.py cuts PROGRAM..       runs several of these programs in turn, as before and after a change, and shows
-                                                  how long each takes for the cuts of the four netlists at K 4 and 6
+                                                  after `rt run` in crates/bench_mapping has built it, with LUTs of K inputs (4),
+                                                  and ABC if it is installed
+    python3 tools/designs.py cuts PROGRAM..       runs several of these programs in turn, for example before and after a change, and
+                                                  prints how long each takes for the cuts of the four netlists at K 4 and 6
 
-The multiplier has two factors of 16 bits and no parameters. The filter has 8 taps of 8 bits, whose coefficients are
-parameters. The coder takes 8 bits a cycle into a remainder of 32 bits, whose polynomial is the parameters. The Benes
-network has 16 lines, and its 56 switches are the parameters. Each is written as covers of two or three inputs.
+Outside the gate. The multiplier has two factors of 16 bits and no parameters. The filter has 8 taps of 8 bits, whose coefficients are
+parameters. The coder takes 8 bits a cycle into a remainder of 32 bits, whose polynomial is the parameters. The Benes network has 16
+lines, and its 56 switches are the parameters. Each is written as covers of two or three inputs.
 """
 import os
 import re
@@ -24,7 +22,7 @@ import tempfile
 TOP = os.path.dirname(os.path.dirname(os.path.abspath(__file__)))
 sys.path.insert(0, TOP)
 
-from companion import tools
+from tlutflow import tools
 
 EXAMPLES = f"{TOP}/crates/tlut_examples/data"
 PROGRAM = f"{TOP}/crates/bench_mapping/out/bench_mapping"

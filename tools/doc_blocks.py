@@ -1,13 +1,15 @@
 #!/usr/bin/env python3
-"""Runs the commands that README.md and docs/ show, and compares what they print and write with what is shown there.
+"""Runs the commands that README.md and docs/ show, and compares what they print and write with what is shown.
 
     python3 tools/doc_blocks.py
 
-A block ```sh with a line `./tlut ..` or `./flow ..` is run in a folder of its own, where `./tlut`, `./flow` and `examples` are those of
-the repository; its lines that begin with `rt` are left out. Where a line calls for a tool that isn't there, the block and the plain
-ones behind it are left out, and the run says so. Each plain block of README.md, and each one of docs/ behind such a command, must stand
-line by line in what a command before it printed, in a file that one wrote, or in a file of examples/.
-The last line tells how many commands and blocks there were, and the status is 0 where all are as shown.
+It runs each block ```sh that has a line `./tlut ..` or `./flow ..`, in a folder of its own in which `./tlut`, `./flow` and `examples`
+are those of the repository. Lines that begin with `rt` are skipped. If a line needs a tool that isn't installed, the block and the plain
+ones after it are skipped, and the run says so. Each plain block of README.md, and each one of docs/ after such a command, must occur
+line by line in what the last command before it printed, in a file that a command of the page wrote, or in a source of examples/: never
+in a text that an example only expects.
+
+The last line says how many commands and blocks there were, and the exit status is 0 if all are as shown.
 """
 
 import os
@@ -22,6 +24,7 @@ TOP = os.path.dirname(os.path.dirname(os.path.abspath(__file__)))
 ABC = ("yosys-abc", "berkeley-abc", "abc")
 TOOLS = [
     ("./flow verilog", ("yosys",)),
+    ("./flow device", ("yosys",)),
     ("./flow check", ABC),
     ("./flow compare", ABC),
     (".svg", ("dot",)),
@@ -40,9 +43,11 @@ def blocks_of(page):
 
 
 def texts_in(folder):
-    """The lines of each file in a folder and below it that is text."""
+    """The lines of each file in a folder and below it that is text, and is no expected text of an example."""
     for at, _, names in os.walk(folder):
         for name in names:
+            if name.startswith("expected"):
+                continue
             try:
                 with open(f"{at}/{name}", encoding="utf-8") as file:
                     yield file.read().splitlines()
@@ -64,10 +69,10 @@ def missing_tool(lines):
 
 
 class Page:
-    """A page while its blocks are looked at: the folder where its commands run, and what they printed."""
+    """A page while its blocks are looked at: the folder where its commands run, and what the last of them printed, if there was one."""
 
     def __init__(self, name, folder):
-        self.name, self.folder, self.printed, self.failed = name, folder, [], 0
+        self.name, self.folder, self.printed, self.failed = name, folder, None, 0
         os.symlink(f"{TOP}/examples", f"{folder}/examples")
         for program in ("tlut", "flow"):
             with open(f"{folder}/{program}", "w", encoding="utf-8") as file:
@@ -80,12 +85,12 @@ class Page:
 
     def run(self, line, commands):
         ran = subprocess.run(["bash", "-e"], input="\n".join(commands), cwd=self.folder, capture_output=True, text=True)
-        self.printed.append(ran.stdout.splitlines())
+        self.printed = ran.stdout.splitlines()
         if ran.returncode:
             self.say(line, f"the command ended with status {ran.returncode}: {ran.stderr[-300:]}")
 
     def is_shown(self, block):
-        places = [*self.printed, *texts_in(self.folder), *texts_in(f"{TOP}/examples/")]
+        places = [self.printed or [], *texts_in(self.folder), *texts_in(f"{TOP}/examples/")]
         return any(stands_in(block, lines) for lines in places)
 
 
@@ -101,10 +106,10 @@ def look_at(name, page):
                 continue
             commands += 1
             page.run(line, [it for it in lines if not it.startswith("rt ")])
-        elif not kind and not missing and (name == "README.md" or page.printed):
+        elif not kind and not missing and (name == "README.md" or page.printed is not None):
             blocks += 1
             if not page.is_shown(lines):
-                page.say(line, "no command before it prints or writes these lines, and no example has them")
+                page.say(line, "the command before it prints no such lines, no command of the page writes them, and no example has them")
     return commands, blocks
 
 

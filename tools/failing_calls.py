@@ -1,21 +1,24 @@
 #!/usr/bin/env python3
-"""Runs the built program with each of its calls of files and streams failing in turn, and compares what is left.
+"""Runs the built programs with each of their calls of files and streams failing in turn, and checks what is left.
 
-Outside the gate: `python3 tools/failing_calls.py [PROGRAM]`, after a first call of ./tlut has built crates/tlut/out/tlut; it needs
-a C compiler, for a library that is loaded before the program. For each command the Nth call that opens, reads or writes fails,
-N from 1 on; and once more, where it writes, it takes half of the bytes and the next call on the same file fails. What has to come
-follows from the whole call and from what failed, as docs/formats.md has it. The last line is `N passed, M failed`, and the exit
-status is 1 where M isn't 0.
+    python3 tools/failing_calls.py [PROGRAM ..]
+
+By default it runs both programs; call `./tlut` once before, to build them. It needs a C compiler, for a library that is loaded before the
+program; without one nothing is tried, and the run says so. For each command the Nth call that opens, reads, writes or syncs fails, for
+each N; and once more, if it writes, it takes half of the bytes and the next call on the same file fails. The expected result follows from
+the complete call and from what failed, as docs/formats.md describes it. The last line is `N passed, M failed`, and the exit status is 1
+if M isn't 0.
 """
 import os
+import shutil
 import subprocess
 import sys
 import tempfile
 
 TOP = os.path.dirname(os.path.dirname(os.path.abspath(__file__)))
-PROGRAM = os.path.abspath(sys.argv[1]) if len(sys.argv) > 1 else f"{TOP}/crates/tlut/out/tlut"
+PROGRAMS = [os.path.abspath(word) for word in sys.argv[1:]] or [f"{TOP}/crates/{name}/out/{name}" for name in ("tlut", "tlut_compact")]
 
-# Fails the call whose number stands in FAILING, counted from 1, tells in TOLD whether it read or wrote and which file, and how many
+# Fails the call whose number stands in FAILING, counted from 1, tells in TOLD whether it read, wrote or synced and which file, and how many
 # calls there were. With HALF a write takes half first, and then each call on its file fails.
 SHIM = r"""
 #define _GNU_SOURCE
@@ -77,6 +80,15 @@ ssize_t write(int file, const void *bytes, size_t size) {
     }
     return next(file, bytes, size);
 }
+int fdatasync(int file) {
+    static int (*next)(int);
+    if (!next) next = dlsym(RTLD_NEXT, "fdatasync");
+    if (is_failing()) {
+        tell("sync", names[file]);
+        return fail();
+    }
+    return next(file);
+}
 __attribute__((destructor)) static void end(void) {
     const char *path = getenv("TOLD");
     FILE *file = path ? fopen(path, "w") : NULL;
@@ -90,6 +102,9 @@ FILES = {
     "mux.par": b"p 0\n",
     "mux.scr": b"set p=1\ncycle 10\nupset 3\nscrub\nimage\n",
     "host.scr": b"set p=1\nimage\n",
+    "mux.pace": b"ask p=1\ntick 10\ntick 10\n",
+    "mux.cert": b"depth 1\nclaim 6 1\npath 1 4 6\n",
+    "mux.aag": b"aag 6 3 0 1 3\n2\n4\n6\n13\n8 6 2\n10 7 4\n12 11 9\ni0 a\ni1 b\ni2 p\no0 y\n",
     "one.ppc": bytes.fromhex("545050430001000100017000000000000000000400000000000000020000000300000001"),
 }
 
@@ -107,13 +122,18 @@ CALLS = [
     ("bits one.ppc host.scr", [], 0),
     ("repack one.ppc two.ppc", ["two.ppc"], 0),
     ("gen 1 0", [], 0),
+    ("prove 2 mux.blif mux.par new.cert", ["new.cert"], 0),
+    ("audit 2 mux.blif mux.par mux.cert", [], 0),
+    ("graph mux.blif mux.par new.aag", ["new.aag"], 0),
+    ("graph mux.aag mux.par mux.aag", ["mux.aag"], 0),
+    ("pace 2 mux.blif mux.par mux.pace 1", [], 0),
 ]
 
 
 class Left:
-    """What a call leaves, how many calls it made, and what failed: `read` or `write`, and a file, `out` or `err`."""
+    """What a call leaves, how many calls it made, and what failed: `read`, `write` or `sync`, and a file, `out` or `err`."""
 
-    def __init__(self, shim, words, failing, is_half):
+    def __init__(self, program, shim, words, failing, is_half):
         with tempfile.TemporaryDirectory() as folder:
             for name, content in FILES.items():
                 with open(f"{folder}/{name}", "wb") as file:
@@ -121,7 +141,7 @@ class Left:
             told = f"{folder}.told"
             half = {"HALF": "1"} if is_half else {}
             environment = {**os.environ, "LD_PRELOAD": shim, "FAILING": str(failing), "TOLD": told, **half}
-            done = subprocess.run([PROGRAM, *words.split()], cwd=folder, env=environment, capture_output=True, timeout=60, check=False)
+            done = subprocess.run([program, *words.split()], cwd=folder, env=environment, capture_output=True, timeout=60, check=False)
             self.status, self.out, self.err = done.returncode, done.stdout, done.stderr
             self.files = {}
             for name in os.listdir(folder):
@@ -180,29 +200,49 @@ def is_right(left, whole, outputs, spares):
         return left.status == 6 and left.err == b"tlut: write failed\n" and whole.out.startswith(left.out) and is_begun
     if left.kind == "read":
         return left.ends(5, b"", f"tlut: {left.name}: read failed\n".encode()) and left.files == FILES
+    if left.kind == "sync" and left.name == outputs[-1]:
+        return left.ends(6, whole.out, b"tlut: write failed\n") and left.files == whole.files
     if left.name in outputs:
         return left.ends(6, b"", b"tlut: write failed\n") and is_cut(left, whole, outputs, left.name)
     return has_ports(left, whole, spares)
 
 
+def compile_shim(folder):
+    """Compiles the library that is loaded before the program, and returns its path."""
+    source, shim = f"{folder}/shim.c", f"{folder}/shim.so"
+    with open(source, "w", encoding="utf-8") as file:
+        file.write(SHIM)
+    subprocess.run(["cc", "-O1", "-shared", "-fPIC", "-o", shim, source, "-ldl"], check=True)
+    return shim
+
+
+def try_call(program, shim, words, outputs, spares):
+    """Fails each call of one command in turn. Returns how many runs left what they have to, and how many did not."""
+    passed = failed = 0
+    whole = Left(program, shim, words, 0, False)
+    for failing in range(1, whole.count + 1):
+        for is_half in (False, True):
+            left = Left(program, shim, words, failing, is_half)
+            if is_right(left, whole, outputs, spares):
+                passed += 1
+            else:
+                failed += 1
+                print(f"{words}: call {failing}, {left.kind} {left.name}: {left.status} {left.out} {left.err} {left.files}")
+    print(f"{os.path.basename(program)} {words}: {whole.count} calls, each of which failed")
+    return passed, failed
+
+
 def main():
+    if not shutil.which("cc"):
+        print("left out, since cc isn't there")
+        return 0
     passed = failed = 0
     with tempfile.TemporaryDirectory() as folder:
-        source, shim = f"{folder}/shim.c", f"{folder}/shim.so"
-        with open(source, "w", encoding="utf-8") as file:
-            file.write(SHIM)
-        subprocess.run(["cc", "-O1", "-shared", "-fPIC", "-o", shim, source, "-ldl"], check=True)
-        for words, outputs, spares in CALLS:
-            whole = Left(shim, words, 0, False)
-            for failing in range(1, whole.count + 1):
-                for is_half in (False, True):
-                    left = Left(shim, words, failing, is_half)
-                    if is_right(left, whole, outputs, spares):
-                        passed += 1
-                    else:
-                        failed += 1
-                        print(f"{words}: call {failing}, {left.kind} {left.name}: {left.status} {left.out} {left.err} {left.files}")
-            print(f"{words}: {whole.count} calls, each of which failed")
+        shim = compile_shim(folder)
+        for program in PROGRAMS:
+            for call in CALLS:
+                more = try_call(program, shim, *call)
+                passed, failed = passed + more[0], failed + more[1]
     print(f"{passed} passed, {failed} failed")
     return 1 if failed else 0
 

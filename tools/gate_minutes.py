@@ -1,14 +1,13 @@
 #!/usr/bin/env python3
-"""Measures the processor minutes of the merge gate by crate and kind.
+"""Measures the CPU-minutes of the merge gate by crate and kind.
 
     python3 tools/gate_minutes.py              runs `rt ci` and measures it
-    python3 tools/gate_minutes.py --anew       the same from nothing; any further words of `rt ci` too
+    python3 tools/gate_minutes.py --anew       the same from nothing; any further arguments of `rt ci` too
     python3 tools/gate_minutes.py --pid N      measures a run that has begun: N is the number of its process
 
-The prover's processes below the run are looked at twice a second, and what each had used when it was last seen is added
-up: the proofs of a crate, those of its tests, its must-fail edits (with the check that they begin from), and what links and
-runs. So up to half a second of each process is not seen. At the end, and after a SIGINT, a table is printed; the status
-is that of `rt ci`.
+It looks at the prover's processes below the run twice a second, and adds up what each had used when it was last seen: the proofs of a
+crate, those of its tests, its must-fail edits (with the check that they begin from), and what links and runs. So up to half a second of
+each process is missed. At the end, and after a SIGINT, it prints a table; the exit status is that of `rt ci`.
 """
 import os
 import signal

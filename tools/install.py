@@ -1,9 +1,9 @@
-"""Puts the programs, their companion and their page below a prefix. `./tlut install PREFIX` calls it, once the programs are built.
+"""Installs the programs, their companion and their man page below a prefix. `./tlut install PREFIX` calls it, once the programs are built.
 
     python3 tools/install.py PREFIX VERSION
 
-PREFIX/lib/tlut has the files, PREFIX/bin links to `tlut`, to it as `tlut-compact` and, as `tlut-flow`, to the companion, and PREFIX/share/man/man1/tlut.1 is the
-page, made from the text of `tlut --help`. What an earlier call left in PREFIX/lib/tlut is replaced.
+PREFIX/lib/tlut gets the files. PREFIX/bin gets links to `tlut`, to it as `tlut-compact` and, as `tlut-flow`, to the companion.
+PREFIX/share/man/man1/tlut.1 is the page, made from the text of `tlut --help`. What an earlier call left in PREFIX/lib/tlut is replaced.
 """
 
 import os
@@ -32,10 +32,25 @@ def man_page(text, version):
     """The page with the sections of a help text: lines in capitals begin one."""
     first, rest = text.split("\n\n", 1)
     lines = ['.TH TLUT 1 "" "%s"' % version.replace('"', ""), ".SH NAME", "tlut \\- map netlists to lookup tables with tunable configuration bits"]
-    lines += [".SH SYNOPSIS", "tlut COMMAND WORD ..", ".SH DESCRIPTION", *map(escaped, first.splitlines()), ".nf"]
+    lines += [".SH SYNOPSIS", "tlut COMMAND ARGUMENT ..", ".SH DESCRIPTION", *map(escaped, first.splitlines()), ".nf"]
     for line in rest.replace("\n\n", "\n").splitlines():
         lines += [".fi", f".SH {line}", ".nf"] if line.isupper() and not line.startswith(" ") else [escaped(line[2:])]
     return "\n".join([*lines, ".fi", ""])
+
+
+def companion_page(version):
+    """The page of the companion, from the help of its subcommands."""
+    sys.path.insert(0, TOP)
+    sys.argv[0] = "tlut-flow"
+    from tlutflow.commands.complete import subcommands_of
+    from tlutflow.main import parser
+
+    words = parser()
+    lines = ['.TH TLUT-FLOW 1 "" "%s"' % version.replace('"', ""), ".SH NAME", "tlut\\-flow \\- from a design in Verilog to tunable lookup tables, around tlut"]
+    lines += [".SH SYNOPSIS", "tlut\\-flow SUBCOMMAND ..", ".SH DESCRIPTION", *map(escaped, f"{words.description}\n{words.epilog}".splitlines())]
+    for name, own in subcommands_of(words).items():
+        lines += [f".SH {name.upper()}", ".nf", *map(escaped, own.format_help().splitlines()), ".fi"]
+    return "\n".join([*lines, ".SH SEE ALSO", "tlut(1)", ""])
 
 
 def install(prefix, version):
@@ -45,7 +60,7 @@ def install(prefix, version):
     for source, target in FILES:
         os.makedirs(os.path.dirname(f"{room}/{target}"), exist_ok=True)
         shutil.copy(f"{TOP}/{source}", f"{room}/{target}")
-    shutil.copytree(f"{TOP}/companion", f"{room}/companion", ignore=shutil.ignore_patterns("tests", "__pycache__"))
+    shutil.copytree(f"{TOP}/tlutflow", f"{room}/tlutflow", ignore=shutil.ignore_patterns("tests", "__pycache__"))
     with open(f"{room}/VERSION", "w", encoding="utf-8") as file:
         file.write(f"{version}\n")
     for place, target in LINKS:
@@ -53,10 +68,13 @@ def install(prefix, version):
         if os.path.lexists(f"{prefix}/{place}"):
             os.remove(f"{prefix}/{place}")
         os.symlink(target, f"{prefix}/{place}")
-    page = f"{prefix}/share/man/man1/tlut.1"
-    os.makedirs(os.path.dirname(page), exist_ok=True)
-    with open(f"{TOP}/tools/help.txt", encoding="utf-8") as source, open(page, "w", encoding="utf-8") as file:
-        file.write(man_page(source.read(), version))
+    folder = f"{prefix}/share/man/man1"
+    os.makedirs(folder, exist_ok=True)
+    with open(f"{TOP}/tools/help.txt", encoding="utf-8") as source:
+        pages = {"tlut.1": man_page(source.read(), version), "tlut-flow.1": companion_page(version)}
+    for name, text in pages.items():
+        with open(f"{folder}/{name}", "w", encoding="utf-8") as file:
+            file.write(text)
 
 
 def main():
@@ -66,7 +84,7 @@ def main():
     except OSError as error:
         print(f"tlut: {error.filename}: {error.strerror}", file=sys.stderr)
         return 1
-    print(f"{prefix}/bin/tlut, {prefix}/bin/tlut-compact, {prefix}/bin/tlut-flow and {prefix}/share/man/man1/tlut.1 are there")
+    print(f"{prefix}/bin/tlut, {prefix}/bin/tlut-compact, {prefix}/bin/tlut-flow and their pages in {prefix}/share/man/man1 are there")
     return 0
 
 

@@ -1,9 +1,10 @@
 #!/usr/bin/env python3
 """Runs the built program on large random netlists, and compares each cycle that it prints with a simulation of their covers.
 
-Outside the gate: `python3 tools/large_runs.py [PROGRAM]`, after a first call of ./tlut has built crates/tlut/out/tlut.
-Each line has the time that a run took and the header that the program printed, which isn't compared.
-The last line is `N passed, M failed`, and the exit status is 1 where M isn't 0.
+    python3 tools/large_runs.py [PROGRAM]
+
+Outside the gate. Call `./tlut` once before, to build the program. Each line has the time of a run and the header that the program
+printed, which isn't compared. The last line is `N passed, M failed`, and the exit status is 1 if M isn't 0.
 """
 import os
 import random

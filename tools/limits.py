@@ -1,9 +1,11 @@
 #!/usr/bin/env python3
 """Runs the built program at both sides of its limits and on long inputs, on a stack of 256 KB, with the time and the memory of each.
 
-Outside the gate: `python3 tools/limits.py [PROGRAM]`, after a first call of ./tlut has built crates/tlut/out/tlut. Each line has
-the time by the clock and the greatest resident memory of a call, and whether status, outputs and fault line are those wanted. The
-last line is `N passed, M failed`, and the exit status is 1 where M isn't 0.
+    python3 tools/limits.py [PROGRAM]
+
+Outside the gate. Call `./tlut` once before, to build the program. Each line has the time by the clock and the greatest resident memory of
+a call, and whether the status, the outputs and the fault line are as expected. The last line is `N passed, M failed`, and the exit status
+is 1 if M isn't 0.
 """
 import os
 import sys

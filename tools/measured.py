@@ -1,9 +1,9 @@
-"""Runs a command from a process that has little memory of its own, and tells its time and its memory.
+"""Runs a command from a process that has little memory of its own, and prints its time and its memory.
 
     python3 tools/measured.py STACK FOLDER PROGRAM WORD..
 
-The command runs in the folder, with a stack of so many bytes (0: as it is), and leaves its outputs in the files `out` and `err` there.
-Printed are its status, the seconds by the clock and of the processor, and the greatest resident size in MB.
+The command runs in the folder, with a stack of STACK bytes (0: unchanged), and leaves its outputs in the files `out` and `err` there.
+Printed are its status, the seconds by the clock and of CPU time, and the greatest resident size in MB.
 """
 
 import os

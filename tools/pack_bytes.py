@@ -1,10 +1,11 @@
 #!/usr/bin/env python3
-"""Compares what the built program makes of spoilt packs with a decoder in Python, written from docs/formats.md alone.
+"""Compares what the built program does with spoilt packs with a decoder in Python, written from docs/formats.md alone.
 
-Outside the gate: `python3 tools/pack_bytes.py [PROGRAM]`, after a first call of ./tlut has built crates/tlut/out/tlut.
-Three packs in both versions, and one in version 2: each prefix, each change of one byte to each other value, each byte taken out, and each byte
-doubled. `repack` has to answer the same fault line, or to write the same pack in version 2. The last line is
-`N passed, M failed`, and the exit status is 1 where M isn't 0.
+    python3 tools/pack_bytes.py [PROGRAM]
+
+Outside the gate. Call `./tlut` once before, to build the program. The packs are three in both versions, and one in version 2: each prefix,
+each change of one byte to each other value, each byte removed, and each byte doubled. `repack` has to answer the same fault line, or to
+write the same pack in version 2. The last line is `N passed, M failed`, and the exit status is 1 if M isn't 0.
 """
 import os
 import subprocess

@@ -1,13 +1,14 @@
 #!/usr/bin/env python3
-"""Times how netlists of 40 MB are read, with the memory that this takes, and ABC beside.
+"""Times how netlists of 40 MB are read, with the memory that this takes, and ABC for comparison.
 
-Outside the gate: `python3 tools/reading.py [PROGRAM]..`, after a first call of ./tlut has built the program. Several programs, as
-before and after a change, are run in turn.
+    python3 tools/reading.py [PROGRAM]..
 
-Both have covers of two inputs, each drawn from the 200 names before it. One has 1,100,000 of them with short names, of which its output
-reaches a tenth or so; the other has 100,000 with names of some 120 bytes, and all are reached. `tlut graph` reads and flattens all of a netlist
-and writes the outputs' graph; ABC reads it, and `strash` makes its graph. Each line has the processor time, the least of some runs, and the
-greatest resident memory.
+Outside the gate. Call `./tlut` once before, to build the program. Several programs, for example before and after a change, are run in turn.
+
+Both netlists have covers of two inputs, each drawn from the 200 names before it. One has 1,100,000 of them with short names, of which its
+output reaches about a tenth. The other has 100,000 with names of about 120 bytes, and all are reached. `tlut graph` reads and flattens all
+of a netlist and writes the outputs' graph; ABC reads it, and `strash` makes its graph. Each line has the CPU time, the least of some
+runs, and the greatest resident memory.
 """
 
 import os
@@ -19,7 +20,7 @@ TOP = os.path.dirname(os.path.dirname(os.path.abspath(__file__)))
 sys.path.insert(0, TOP)
 
 import measured
-from companion import tools
+from tlutflow import tools
 
 PROGRAM = f"{TOP}/crates/tlut/out/tlut"
 ABC = tools.find(tools.ABC)

@@ -1,10 +1,12 @@
 #!/usr/bin/env python3
-"""Runs the built program with each of its allocations refused in turn, and looks at what is left.
+"""Runs the built program with each of its allocations refused in turn, and checks what is left.
 
-Outside the gate: `python3 tools/refused_memory.py [PROGRAM]`, after a first call of ./tlut has built crates/tlut/out/tlut; it needs
-a C compiler, for a library that is loaded before the program and refuses the Nth allocation. For each command N rises until the
-call ends as it does with all memory. Each call before that must end with status 8 with nothing printed on standard output and no
-file written, or be complete. The last line is `N passed, M failed`, and the exit status is 1 where M isn't 0.
+    python3 tools/refused_memory.py [PROGRAM]
+
+Outside the gate. Call `./tlut` once before, to build the program. It needs a C compiler, for a library that is loaded before the program
+and refuses the Nth allocation. For each command N rises until the call ends as it does with all memory. Each call before that must end
+with status 8, with nothing printed on stdout and no file written, or be complete. The last line is `N passed, M failed`, and the exit
+status is 1 if M isn't 0.
 """
 import os
 import subprocess

@@ -1,9 +1,11 @@
 #!/usr/bin/env python3
-"""Puts the sizes by both rules of choice, and by ABC's `if`, out in one table, as README and docs/performance.md have it.
+"""Prints the sizes by both rules of choice, and by ABC's `if`, in one table, as in docs/performance.md.
 
-Outside the gate: `python3 tools/rules.py [--inputs]`, after a first call of ./tlut has built both programs, and where ABC is. With
-`--inputs` the parameters are ordinary inputs for all three, else for ABC alone, which has no parameters. The designs are the examples
-from Verilog and those of tools/designs.py.
+    python3 tools/rules.py [--inputs]
+
+Outside the gate. Call `./tlut` once before, to build both programs; it needs ABC. With `--inputs` the parameters are ordinary inputs for
+all three, otherwise for ABC alone, which has no parameters. The designs are the examples from Verilog and those of tools/designs.py. A
+cover that is a buffer isn't counted as a LUT.
 """
 
 import os
@@ -15,11 +17,11 @@ sys.path.insert(0, TOP)
 sys.path.insert(0, f"{TOP}/tools")
 
 import designs
-from companion import tools
-from companion.abc_form import abc_text
-from companion.mappings import sizes_by_abc, sizes_by_tlut
-from companion.netlist import read_library
-from companion.text import write_text
+from tlutflow import tools
+from tlutflow.abc_form import abc_text
+from tlutflow.mappings import sizes_by_abc, sizes_by_tlut
+from tlutflow.netlist import read_library
+from tlutflow.text import write_text
 
 EXAMPLES = ["fir", "matcher", "coder"]
 LARGER = {"multiplier": "multiplier, 16 by 16", "filter": "filter, 8 taps of 8 bits", "coder": "coder of 8 bits a cycle", "benes": "Benes network, 16 lines"}
@@ -43,7 +45,7 @@ def main():
         write_text(f"{room}/none.par", "")
         listed = [(name, f"{TOP}/examples/{name}/{name}.blif", f"{TOP}/examples/{name}/{name}.par") for name in EXAMPLES]
         listed += [(title, f"{room}/{name}.blif", f"{room}/{name}.par") for name, title in LARGER.items()]
-        print("| Design | K | `tlut`: tables | depth | bits | `tlut-compact`: tables | depth | bits | ABC's `if`: tables | depth | bits |")
+        print("| Design | K | `tlut`: LUTs | depth | bits | `tlut-compact`: LUTs | depth | bits | ABC's `if`: LUTs | depth | bits |")
         print("|" + "---|" * 11)
         for title, netlist, parameters in listed:
             row(title, netlist, f"{room}/none.par" if "--inputs" in sys.argv else parameters, abc, room)

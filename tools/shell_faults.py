@@ -1,9 +1,11 @@
 #!/usr/bin/env python3
-"""Runs the built program as a user's shell would in bad moments, and compares status, outputs and files with what is promised.
+"""Runs the built programs as a user's shell would in bad moments, and compares the status, the outputs and the files with what is promised.
 
-Outside the gate: `python3 tools/shell_faults.py [PROGRAM]`, after a first call of ./tlut has built crates/tlut/out/tlut.
-A pipe that nobody reads, a full disk, a folder in the place of a file, a file without rights, a FIFO, words that aren't UTF-8.
-The last line is `N passed, M failed`, and the exit status is 1 where M isn't 0.
+    python3 tools/shell_faults.py [PROGRAM ..]
+
+By default it runs both programs; call `./tlut` once before, to build them. It tries a pipe that nobody reads, a full disk, closed streams,
+an output that is a file which the command writes, a folder instead of a file, a file without rights, a FIFO, and arguments that aren't
+UTF-8. The last line is `N passed, M failed`, and the exit status is 1 if M isn't 0.
 """
 import os
 import resource
@@ -14,37 +16,70 @@ import tempfile
 import threading
 
 TOP = os.path.dirname(os.path.dirname(os.path.abspath(__file__)))
-PROGRAM = os.path.abspath(sys.argv[1]) if len(sys.argv) > 1 else f"{TOP}/crates/tlut/out/tlut"
+PROGRAMS = [os.path.abspath(word) for word in sys.argv[1:]] or [f"{TOP}/crates/{name}/out/{name}" for name in ("tlut", "tlut_compact")]
 
 MUX = ".model mux\n.inputs a b p\n.outputs y\n.names p a b y\n11- 1\n0-1 1\n.end\n"
 SPEC = ".model mux\n.inputs a b\n.outputs y\n.names a b _n13\n01 1\n11 1\n.names _n13 y\n1 1\n.end\n"
 PACK = b"TPPC\x00\x02\x01\x01p\x00\x00\x04\x00\x02\x03\x01"
 HEADER = "luts 1 bits 4 depth 1\n"
+CERT = "depth 1\nclaim 6 1\npath 1 4 6\n"
+GRAPH = "aag 6 3 0 1 3\n2\n4\n6\n13\n8 6 2\n10 7 4\n12 11 9\ni0 a\ni1 b\ni2 p\no0 y\n"
 RUN = ["run", "2", "mux.blif", "mux.par", "mux.scr", "0", "0"]
+FILES = {
+    "mux.blif": MUX.encode(),
+    "mux.par": b"p 0\n",
+    "mux.scr": b"set p=1\n",
+    "mux.pace": b"ask p=1\ntick 10\ntick 10\n",
+    "mux.cert": CERT.encode(),
+    "mux.ppc": PACK,
+}
+# A call of each command: its words, what it prints, and the files that it writes.
+COMMANDS = [
+    (RUN, HEADER + "set 2 1=1 2=0\n", {}),
+    (["spec", "2", "mux.blif", "mux.par", "new.blif"], HEADER, {"new.blif": SPEC.encode()}),
+    (["map", "2", "mux.blif", "mux.par", "new.blif", "new.ppc"], HEADER, {"new.ppc": PACK}),
+    (["bits", "mux.ppc", "mux.scr"], "bits 4\nset 2 1=1 2=0\n", {}),
+    (["gen", "1", "0"], "gen 1 0\nluts 2 bits 3 depth 1\nrounds 100 writes 100 total 50\n", {}),
+    (["repack", "mux.ppc", "new.ppc"], "bits 4\n", {"new.ppc": PACK}),
+    (["prove", "2", "mux.blif", "mux.par", "new.cert"], "depth 1\n", {"new.cert": CERT.encode()}),
+    (["audit", "2", "mux.blif", "mux.par", "mux.cert"], "depth at least 1\n", {}),
+    (["graph", "mux.blif", "mux.par", "new.aag"], "inputs 3 latches 0 ands 3\n", {"new.aag": GRAPH.encode()}),
+    (["pace", "2", "mux.blif", "mux.par", "mux.pace", "1"], HEADER + "ask 2\nwait 1 1=1\nwait 1 2=0\n", {}),
+]
+FAILED = "tlut: write failed\n"
 NOBODY = 65534
 
 
 class Ran:
     """A call in a new folder with the multiplexer's files: its status, outputs and the files behind it."""
 
-    def __init__(self, words, prepare=None, stdout=subprocess.PIPE, small_stack=False, as_nobody=False):
+    program = PROGRAMS[0]
+
+    def __init__(self, words, prepare=None, stdout=subprocess.PIPE, small_stack=False, as_nobody=False, closed=(), onto=None):
+        """`closed` has the descriptors of streams that are closed, and `onto` the file that standard output is."""
         with tempfile.TemporaryDirectory() as folder:
             os.chmod(folder, 0o777)
-            program = shutil.copy(PROGRAM, f"{folder}/tlut")
+            program = shutil.copy(self.program, f"{folder}/tlut")
             os.chmod(program, 0o755)
-            for name, text in [("mux.blif", MUX), ("mux.par", "p 0\n"), ("mux.scr", "set p=1\n")]:
-                with open(f"{folder}/{name}", "w") as file:
-                    file.write(text)
+            for name, content in FILES.items():
+                with open(f"{folder}/{name}", "wb") as file:
+                    file.write(content)
             if prepare:
                 prepare(folder)
 
             def limits():
                 if small_stack:
                     resource.setrlimit(resource.RLIMIT_STACK, (256 * 1024, 256 * 1024))
+                if onto:
+                    os.dup2(os.open(f"{folder}/{onto}", os.O_WRONLY | os.O_CREAT | os.O_TRUNC, 0o666), 1)
+                for stream in closed:
+                    os.close(stream)
                 if as_nobody:
                     os.setuid(NOBODY)
 
-            done = subprocess.run([program, *words], cwd=folder, stdout=stdout, stderr=subprocess.PIPE, timeout=60, preexec_fn=limits)
+            done = subprocess.run(
+                [program, *words], cwd=folder, stdin=subprocess.DEVNULL, stdout=stdout, stderr=subprocess.PIPE, timeout=60, preexec_fn=limits, check=False
+            )
             self.status, self.out, self.err = done.returncode, (done.stdout or b"").decode(), done.stderr.decode()
             self.files = {name: self.bytes_of(f"{folder}/{name}") for name in os.listdir(folder) if name != "tlut"}
 
@@ -59,6 +94,14 @@ class Ran:
     def is_so(self, status, out, err):
         """Whether the call ended like this."""
         return (self.status, self.out, self.err) == (status, out, err)
+
+    def has(self, written):
+        """Whether the files are those that stood before, with these that were written."""
+        return {name: content for name, content in self.files.items() if name in written} == written
+
+    def is_as_before(self):
+        """Whether no file was written or changed."""
+        return self.files == FILES
 
 
 def unread_pipe():
@@ -92,14 +135,13 @@ def fifo(folder):
     threading.Thread(target=write, daemon=True).start()
 
 
-def calls():
-    """The title and the outcome of each call."""
-    full = open("/dev/full", "w")
-    failed = "tlut: write failed\n"
+def single_calls():
+    """The title and the outcome of calls of single commands."""
+    full = open("/dev/full", "w", encoding="utf-8")
     yield "a sound call", Ran(RUN).is_so(0, HEADER + "set 2 1=1 2=0\n", "")
     yield "a sound call on a small stack", Ran(RUN, small_stack=True).is_so(0, HEADER + "set 2 1=1 2=0\n", "")
-    yield "a pipe that nobody reads", Ran(RUN, stdout=unread_pipe()).is_so(6, "", failed)
-    yield "a full disk behind the output", Ran(RUN, stdout=full).is_so(6, "", failed)
+    yield "a pipe that nobody reads", Ran(RUN, stdout=unread_pipe()).is_so(6, "", FAILED)
+    yield "a full disk behind the output", Ran(RUN, stdout=full).is_so(6, "", FAILED)
     yield "a folder as NETLIST", Ran(RUN, folder_at("mux.blif")).is_so(5, "", "tlut: mux.blif: read failed\n")
     yield "a folder as PARAMS", Ran(RUN, folder_at("mux.par")).is_so(5, "", "tlut: mux.par: read failed\n")
     yield "no SCRIPT", Ran(RUN, lambda folder: os.remove(f"{folder}/mux.scr")).is_so(5, "", "tlut: mux.scr: read failed\n")
@@ -114,27 +156,66 @@ def calls():
     spec = ["spec", "2", "mux.blif", "mux.par"]
     ran = Ran([*spec, "out.blif"])
     yield "a specialised netlist", ran.is_so(0, HEADER, "") and ran.files["out.blif"] == SPEC.encode()
-    yield "a full disk behind OUT", Ran([*spec, "/dev/full"]).is_so(6, "", failed)
-    yield "a folder as OUT", Ran([*spec, "out"], folder_at("out")).is_so(6, "", failed)
+    yield "a full disk behind OUT", Ran([*spec, "/dev/full"]).is_so(6, "", FAILED)
+    yield "a folder as OUT", Ran([*spec, "out"], folder_at("out")).is_so(6, "", FAILED)
     ran = Ran([*spec, "out.blif"], stdout=full)
-    yield "OUT is whole where the line fails", ran.is_so(6, "", failed) and ran.files["out.blif"] == SPEC.encode()
+    yield "OUT is whole where the line fails", ran.is_so(6, "", FAILED) and ran.files["out.blif"] == SPEC.encode()
     ran = Ran(["spec", "2", "mux.blif", "mux.scr", "out.blif"])
     yield "a refused list leaves no file", ran.is_so(3, "", "tlut: mux.scr: P1 Malformed line 1\n") and "out.blif" not in ran.files
     ran = Ran(["map", "2", "mux.blif", "mux.par", "t.blif", "pack"], folder_at("pack"))
-    yield "TEMPLATE is whole where PACK fails", ran.is_so(6, "", failed) and ran.files["t.blif"].endswith(b".end\n")
+    yield "TEMPLATE is whole where PACK fails", ran.is_so(6, "", FAILED) and ran.files["t.blif"].endswith(b".end\n")
     ran = Ran(["map", "2", "mux.blif", "mux.par", "t", "m.ppc"], folder_at("t"))
-    yield "no PACK where TEMPLATE fails", ran.is_so(6, "", failed) and "m.ppc" not in ran.files
+    yield "no PACK where TEMPLATE fails", ran.is_so(6, "", FAILED) and "m.ppc" not in ran.files
     ran = Ran(["map", "2", "mux.blif", "mux.par", "t.blif", "m.ppc"])
     yield "a pack", ran.is_so(0, HEADER, "") and ran.files["m.ppc"] == PACK
     yield "no PACK to play", Ran(["bits", "m.ppc", "mux.scr"]).is_so(5, "", "tlut: m.ppc: read failed\n")
-    yield "a generated case, and nobody reads", Ran(["gen", "1", "0"], stdout=unread_pipe()).is_so(6, "", failed)
+    yield "a generated case, and nobody reads", Ran(["gen", "1", "0"], stdout=unread_pipe()).is_so(6, "", FAILED)
+
+
+def stream_calls():
+    """The title and the outcome of a call of each command with streams that are closed, full or unread."""
+    for words, out, written in COMMANDS:
+        title = " ".join(words)
+        ran = Ran(words)
+        yield title, ran.is_so(0, out, "") and ran.has(written)
+        for closed in [(1,), (0, 1), (1, 2), (0, 1, 2)]:
+            ran = Ran(words, closed=closed)
+            yield f"{title}: streams {closed} are closed", ran.is_so(6, "", "" if 2 in closed else FAILED) and ran.is_as_before()
+        for closed in [(0,), (2,), (0, 2)]:
+            ran = Ran(words, closed=closed)
+            yield f"{title}: streams {closed} are closed", ran.is_so(0, out, "") and ran.has(written)
+        yield f"{title}: a full disk behind the output", Ran(words, stdout=open("/dev/full", "w", encoding="utf-8")).is_so(6, "", FAILED)
+        yield f"{title}: a pipe that nobody reads", Ran(words, stdout=unread_pipe()).is_so(6, "", FAILED)
+        for name in written:
+            ran = Ran(words, onto=name)
+            yield f"{title}: the output is {name}", ran.is_so(6, "", FAILED) and ran.files == {**FILES, name: b""}
+
+
+def shared_calls():
+    """The title and the outcome of calls whose output is a file that they write under another name."""
+    spec = ["spec", "2", "mux.blif", "mux.par"]
+    ran = Ran([*spec, "/dev/stdout"], onto="new.blif")
+    yield "OUT is /dev/stdout, and a file", ran.is_so(6, "", FAILED) and ran.files == {**FILES, "new.blif": b""}
+    yield "OUT is /dev/stdout, and a pipe", Ran([*spec, "/dev/stdout"]).is_so(0, SPEC + HEADER, "")
+    linked = Ran([*spec, "new.blif"], lambda folder: os.symlink("other.blif", f"{folder}/new.blif"), onto="other.blif")
+    yield "OUT is a link to the output", linked.is_so(6, "", FAILED)
+    ports = Ran([*RUN[:5], "1", "0"], onto="port0.bits")
+    yield "a port's file is the output", ports.is_so(6, "", FAILED) and ports.files["port0.bits"] == b""
+    ran = Ran(RUN, onto="port0.bits")
+    yield "no port serves, and the output is named as one", ran.is_so(0, "", "") and ran.files["port0.bits"] == (HEADER + "set 2 1=1 2=0\n").encode()
+    ran = Ran(["spec", "2", "mux.blif", "mux.scr", "new.blif"], closed=(2,))
+    yield "a fault line goes into no file", ran.is_so(3, "", "") and ran.is_as_before()
 
 
 def main():
     passed = failed = 0
-    for title, outcome in calls():
-        print(f"{title}: {'yes' if outcome else 'NO'}")
-        passed, failed = passed + outcome, failed + (not outcome)
+    for program in PROGRAMS:
+        Ran.program = program
+        for calls in (single_calls, stream_calls, shared_calls):
+            for title, outcome in calls():
+                if not outcome:
+                    print(f"{os.path.basename(program)}: {title}: NO")
+                passed, failed = passed + outcome, failed + (not outcome)
     print(f"{passed} passed, {failed} failed")
     return 1 if failed else 0
 

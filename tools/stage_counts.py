@@ -1,9 +1,10 @@
 #!/usr/bin/env python3
 """Compares what the built program bench_mapping counts at each stage with a model in Python of the stages' rules.
 
-Outside the gate: `python3 tools/stage_counts.py [PROGRAM]`, after `rt run` in crates/bench_mapping has built it. Its netlists
-are the designs of tools/designs.py and the examples, with tables of 2 and of 4 inputs. The last line is `N passed, M failed`,
-and the exit status is 1 where M isn't 0.
+    python3 tools/stage_counts.py [PROGRAM]
+
+Outside the gate. Build the program before, with `rt run` in crates/bench_mapping. Its netlists are the designs of tools/designs.py and the
+examples, with LUTs of 2 and of 4 inputs. The last line is `N passed, M failed`, and the exit status is 1 if M isn't 0.
 """
 import os
 import subprocess

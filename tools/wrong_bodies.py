@@ -4,9 +4,9 @@
     python3 tools/wrong_bodies.py              those of all crates
     python3 tools/wrong_bodies.py NAME ..      those of some crates
 
-They are tried in a copy, by the gate over these crates: so what a gate has proved on this machine isn't proved again, and
-what was tried isn't tried again while its crate stays the same. Each that isn't refused is told. The last line is
-`N refused, M not refused`; the status is 0 where M is 0.
+It tries them in a copy, with the gate over these crates. So what a gate has proved on this machine isn't proved again, and what was tried
+isn't tried again while its crate is unchanged. Each one that isn't refused is reported. The last line is `N refused, M not refused`; the
+exit status is 0 if M is 0.
 """
 
 import os

@@ -1,0 +1,472 @@
+#!/usr/bin/env python3
+"""Compares what README.md, CONTRIBUTING.md and docs/ state of the repository with the repository.
+
+    python3 tools/doc_facts.py               checks the pages
+    python3 tools/doc_facts.py --update      first writes the counts that can be computed into docs/testing.md
+    python3 tools/doc_facts.py --self-test   plants wrong facts in copies of the pages, each of which must be found
+
+It checks that
+- each relative link leads to a file, and to a heading if it names one;
+- each name in backticks that looks like a path is a path of the tree, and each that looks like an item of the code is in the code;
+- each clause that docs/theorems.md gives for a call is a clause of the crates that its section names;
+- each public call of the libraries has an entry in docs/theorems.md;
+- each function with more than six arguments is named in docs/DECISIONS.md;
+- the commands are the same in the code, in README, in docs/formats.md and in tools/help.txt;
+- the counts of crates, lines, commands, wrong bodies, rows and tests are those of the tree.
+
+The last line is `N facts, M wrong`, and the exit status is 1 if M isn't 0.
+"""
+
+import glob
+import os
+import re
+import sys
+
+TOP = os.path.dirname(os.path.dirname(os.path.abspath(__file__)))
+PAGES = ["README.md", "CONTRIBUTING.md", *sorted(f"docs/{name}" for name in os.listdir(f"{TOP}/docs") if name.endswith(".md"))]
+# Crates whose functions no other crate of the product calls.
+TESTS = {"test_player", "test_rows", "test_texts", "test_graphs", "bench_mapping", "tlut", "tlut_compact", "tlut_examples", "tlut_main"}
+NUMBERS = "one two three four five six seven eight nine ten eleven twelve thirteen fourteen fifteen sixteen".split()
+# Pages whose names in backticks are those of the code. On the others they are mostly words of formats and of other tools.
+CODE_PAGES = {"docs/theorems.md", "docs/definitions.md", "docs/architecture.md", "docs/DECISIONS.md", "docs/testing.md", "docs/rows.md"}
+COMMANDS = {"run", "spec", "map", "bits", "gen", "repack", "prove", "audit", "graph", "pace"}
+
+
+def read(path):
+    with open(f"{TOP}/{path}", encoding="utf-8") as file:
+        return file.read()
+
+
+def code_files(*kinds):
+    """The paths of all files of these kinds in the crates."""
+    for at, folders, names in os.walk(f"{TOP}/crates"):
+        folders[:] = [name for name in folders if name != "out"]
+        yield from (f"{at}/{name}" for name in names if name.endswith(kinds))
+
+
+def number_of(word):
+    """The number that a word writes, or None."""
+    if word.lower() in NUMBERS:
+        return NUMBERS.index(word.lower()) + 1
+    return int(word.replace(",", "")) if re.fullmatch(r"\d[\d,]*", word) else None
+
+
+def written_like(word, number):
+    """The number, as the word wrote its own."""
+    if not word[0].isdigit() and number <= len(NUMBERS):
+        return NUMBERS[number - 1]
+    return f"{number:,}"
+
+
+class Tree:
+    """What the repository has: its crates and their sizes, the words of its code, its clauses and its calls."""
+
+    def __init__(self):
+        lines = [line for line in read("crates.txt").splitlines() if line.strip() and not line.startswith("#")]
+        self.crates = [line.split(":")[0] for line in lines]
+        self.sizes = {name: self.sizes_of(name) for name in self.crates}
+        self.code = {name: self.text_of(name) for name in self.crates}
+        whole = "\n".join(self.code.values())
+        self.words = {*self.crates, *re.findall(r"\w+", whole)}
+        for path in glob.glob(f"{TOP}/tlutflow/**/*.py", recursive=True) + glob.glob(f"{TOP}/tools/*.py"):
+            if path != os.path.abspath(__file__):
+                with open(path, encoding="utf-8") as file:
+                    self.words |= set(re.findall(r"\w+", file.read()))
+        self.members = {member for text in self.code.values() for member in members_of(text)}
+        self.members |= {f"{name}::{call}" for name, text in self.code.items() for call in re.findall(r"^pub fn (\w+)", text, re.MULTILINE)}
+        rows = [open(path, encoding="utf-8").read() for path in code_files(".rows")]
+        self.row_lines = sum(text.count("\n") for text in rows)
+        self.rows = sum(len(re.findall(r"^(?:spoilt )?row ", text, re.MULTILINE)) for text in rows)
+        self.spoilt = sum(len(re.findall(r"^spoilt row ", text, re.MULTILINE)) for text in rows)
+        self.tests = len(re.findall(r"#\[test\]", whole))
+        self.fields = set(re.findall(r"^ *(\w+) :", whole, re.MULTILINE))
+        self.contracts = {name: contracts_of(text) for name, text in self.code.items()}
+        usage = re.search(r"usage: (.*?)`", read("docs/formats.md"))[1]
+        self.commands = usage.split(", ")
+
+    @staticmethod
+    def sizes_of(name):
+        """The lines of source, definitions and proofs, and the wrong bodies in the gate and on demand."""
+        sizes = []
+        for folder, kind in (("src", ".rt"), ("specs", ".antt"), ("proofs", ".antt")):
+            paths = glob.glob(f"{TOP}/crates/{name}/{folder}/**/*{kind}", recursive=True)
+            sizes.append(sum(open(path, encoding="utf-8").read().count("\n") for path in paths))
+        edits = (len(glob.glob(f"{TOP}/crates/{name}/{tier}/*.edit")) for tier in ("must-fail", "wrong-bodies"))
+        return (*sizes, *edits)
+
+    @staticmethod
+    def text_of(name):
+        """All code, definitions and proofs of a crate."""
+        paths = [it for kind in ("rt", "antt") for it in sorted(glob.glob(f"{TOP}/crates/{name}/**/*.{kind}", recursive=True))]
+        return "\n".join(open(path, encoding="utf-8").read() for path in paths if "/out/" not in path)
+
+    def sum(self, place, names=None):
+        return sum(sizes[place] for name, sizes in self.sizes.items() if names is None or name in names)
+
+    def with_edits(self, place):
+        return sum(1 for sizes in self.sizes.values() if sizes[place])
+
+    def public_calls(self):
+        """The public functions of each library, and those of its public types, as `crate` and `name` or `Type::name`."""
+        for crate in self.crates:
+            if crate in TESTS:
+                continue
+            head = read(f"crates/{crate}/src/lib.rt")
+            public = set(re.findall(r"^pub fn (\w+)", head, re.MULTILINE))
+            for found in re.finditer(r"^pub use [\w:]+::(\{[^}]*\}|\w+)", head, re.MULTILINE):
+                public |= {word.split(" as ")[0] for word in re.findall(r"\w+(?: as \w+)?", found[1])}
+            for path in glob.glob(f"{TOP}/crates/{crate}/src/**/*.rt", recursive=True):
+                with open(path, encoding="utf-8") as file:
+                    for name in calls_of(file.read(), public):
+                        yield crate, name
+
+
+def contracts_of(text):
+    """The names of the clauses of each function that a crate declares."""
+    found = {}
+    for head in re.finditer(r"^ *(?:pub )?fn (\w+)((?:.|\n)*?)^ *(?:\{|\}|pub fn |fn |///)", text, re.MULTILINE):
+        found.setdefault(head[1], set()).update(re.findall(r"\bensures (\w+)", head[2]))
+    return found
+
+
+def declared(text):
+    """The functions that a file of code declares: each with its type or trait, if it has one, and whether others see it."""
+    owner, is_trait = None, False
+    for line in text.splitlines():
+        head = re.match(r"(?:pub )?(?:impl|trait)\b(?:<.*?>)?\s+(.*)", line)
+        if head:
+            found = re.search(r"\bfor (\w+)", head[1]) or re.match(r"(\w+)", head[1])
+            owner, is_trait = found and found[1], line.startswith("pub trait")
+        elif line.startswith("}"):
+            owner = None
+        free = re.match(r"(pub )?fn (\w+)", line)
+        own = re.match(r"    (pub )?fn (\w+)", line)
+        if free:
+            yield None, free[2], free[1] is not None
+        elif own and owner:
+            yield owner, own[2], own[1] is not None or is_trait
+
+
+def members_of(text):
+    """The functions of types and traits, as `Type::name`."""
+    return {f"{owner}::{name}" for owner, name, _ in declared(text) if owner}
+
+
+def calls_of(text, public):
+    """The public calls that a file of code declares, if these names are public."""
+    for owner, name, is_seen in declared(text):
+        if is_seen and (owner or name) in public:
+            yield f"{owner}::{name}" if owner else name
+
+
+def wide_functions(tree):
+    """The functions with more than six arguments, each with its crate."""
+    for crate in tree.crates:
+        for path in glob.glob(f"{TOP}/crates/{crate}/src/**/*.rt", recursive=True):
+            with open(path, encoding="utf-8") as file:
+                text = re.sub(r"//.*", "", file.read())
+            for found in re.finditer(r"\bfn (\w+)\s*(?:<[^()]*?>)?\s*\(", text):
+                if arguments_after(text, found.end()) > 6:
+                    yield crate, found[1]
+
+
+def arguments_after(text, at):
+    """How many arguments a list has that begins there, behind its parenthesis."""
+    depth, count, is_empty = 0, 0, True
+    for place in range(at, len(text)):
+        letter = text[place]
+        if depth == 0 and letter in ",)":
+            count += not is_empty
+            is_empty = True
+            if letter == ")":
+                return count
+            continue
+        if letter in "([{<":
+            depth += 1
+        elif letter in ")]}" or (letter == ">" and text[place - 1] != "-"):
+            depth -= 1
+        is_empty = is_empty and letter.isspace()
+    return count
+
+
+def anchors_of(text):
+    """The names by which links reach the headings of a page."""
+    names = set()
+    for line in re.sub(r"^```.*?^```$", "", text, flags=re.MULTILINE | re.DOTALL).splitlines():
+        head = re.match(r"#+ (.*)", line)
+        if head:
+            name = re.sub(r"[^\w\- ]", "", re.sub(r"\[([^\]]*)\]\([^)]*\)", r"\1", head[1]).lower()).replace(" ", "-")
+            names.add(name)
+    return names
+
+
+class Checks:
+    """The facts that were looked at, and those that are wrong."""
+
+    def __init__(self, texts, tree):
+        self.texts, self.tree, self.facts, self.wrong = texts, tree, 0, []
+
+    def ask(self, is_right, page, line, what):
+        self.facts += 1
+        if not is_right:
+            self.wrong.append(f"{page}:{line}: {what}")
+
+    def prose(self, page):
+        """The lines of a page outside its blocks, by their numbers."""
+        is_block = False
+        for number, line in enumerate(self.texts[page].splitlines(), 1):
+            if line.startswith("```"):
+                is_block = not is_block
+            elif not is_block:
+                yield number, line
+
+    def links(self, page):
+        for number, line in self.prose(page):
+            for target in re.findall(r"\]\(([^)\s]+)\)", line):
+                if re.match(r"[a-z]+:", target):
+                    continue
+                path, _, anchor = target.partition("#")
+                at = os.path.normpath(os.path.join(os.path.dirname(page), path)) if path else page
+                self.ask(os.path.exists(f"{TOP}/{at}"), page, number, f"no file {at}, to which {target} leads")
+                if anchor and at.endswith(".md") and os.path.exists(f"{TOP}/{at}"):
+                    text = self.texts.get(at) or read(at)
+                    self.ask(anchor in anchors_of(text), page, number, f"no heading #{anchor} in {at}")
+
+    def names(self, page):
+        for number, line in self.prose(page):
+            crates = [name for name in re.findall(r"`(\w+)", line) if name in self.tree.crates]
+            for name in re.findall(r"`([^`]+)`", line):
+                if self.is_path(name):
+                    self.ask(self.has_path(name, crates), page, number, f"no path `{name}`")
+                elif page in CODE_PAGES and self.is_item(name):
+                    is_member = "::" in name and not name.split("::")[-1][0].isupper()
+                    is_there = name in self.tree.members if is_member else set(re.findall(r"\w+", name)) <= self.tree.words
+                    self.ask(is_there, page, number, f"no `{name}` in the code")
+
+    def is_path(self, name):
+        """Whether a name in backticks is meant as a path of the repository."""
+        if name.startswith("..") or "/out/" in name or re.search(r"[ =<>|(){}$'\"]", name) or re.search(r"\b(NAME|SUBJECT)\b", name) or "//" in name:
+            return False
+        first = name.split("/")[0]
+        tops = {"crates", "docs", "tools", "examples", "tlutflow", ".ci", "specs", "src", "proofs"}
+        return "/" in name and (first in tops or first in self.tree.crates) or name.endswith((".antt", ".rt"))
+
+    def has_path(self, name, crates):
+        """Whether the tree has the path: from the top, from crates/, in a crate that the line names, or in any crate."""
+        places = ["", "crates/", *(f"crates/{crate}/" for crate in crates), "crates/*/", "crates/*/**/"]
+        return any(glob.glob(f"{TOP}/{place}{name.rstrip('/')}", recursive=True) for place in places)
+
+    @staticmethod
+    def is_item(name):
+        """Whether a name in backticks is meant as an item of the code."""
+        if not re.fullmatch(r"\w+(::\w+)*", name):
+            return False
+        return "::" in name or "_" in name or re.search(r"[a-z][A-Z]", name) is not None
+
+    def clauses(self):
+        """Each clause that a row of theorems.md gives: of a call that the row names, or else of the section's crates."""
+        page, section = "docs/theorems.md", []
+        for number, line in self.prose(page):
+            if line.startswith("#"):
+                section = [name for name in re.findall(r"`(\w+)", line) if name in self.tree.crates]
+            if not line.startswith("| ") or line.startswith("|---"):
+                continue
+            head, _, rest = line.partition(" | ")
+            crates = re.findall(r"crates/(\w+)/", line) or [name for name in re.findall(r"`(\w+)`", head) if name in self.tree.crates] or section
+            known = self.clauses_of(head, dict.fromkeys(crates))
+            for name in re.findall(r"`(\w+)`", "".join(re.findall(r"((?:`\w+`, )*`\w+`): ", rest))):
+                if known and name not in COMMANDS and name not in self.tree.crates and not name[0].isupper():
+                    self.ask(name in known or name in self.tree.fields, page, number, f"no clause `{name}` of {head.strip('| ')}")
+
+    def clauses_of(self, head, crates):
+        """The clauses of the calls that the first cell of a row names, or else all clauses and calls of these crates."""
+        calls = [name.split("::")[-1] for name in re.findall(r"`([\w:]+)`", head)]
+        contracts = [self.tree.contracts[name] for name in crates]
+        own = set().union(*(it.get(call, set()) for it in contracts for call in calls))
+        if own:
+            return own | set(calls)
+        return set().union(*(it.keys() for it in contracts), *(names for it in contracts for names in it.values()))
+
+    def calls(self):
+        named = set()
+        for name in re.findall(r"`([^`\n]+)`", self.texts["docs/theorems.md"]):
+            named |= {name, name.split("::")[-1]}
+        for crate, name in self.tree.public_calls():
+            self.ask(name.split("::")[-1] in named, "docs/theorems.md", 1, f"no entry for `{name}` of {crate}")
+
+    def arguments(self):
+        page = "docs/DECISIONS.md"
+        lines = [(number, line) for number, line in self.prose(page) if "at most six arguments" in line]
+        number, line = lines[0] if lines else (1, "")
+        for crate, name in wide_functions(self.tree):
+            self.ask(f"`{name}`" in line and f"`{crate}`" in line, page, number, f"`{name}` of `{crate}` has more than six arguments")
+
+    def commands(self):
+        rows = re.findall(r"^\| `([a-z]+ [^`]+)` \|", self.texts["README.md"], re.MULTILINE)
+        self.ask(rows == self.tree.commands, "README.md", 1, f"the commands are {self.tree.commands}")
+        block = re.search(r"## Commands and arguments\n\n```\n(.*?)```", self.texts["docs/formats.md"], re.DOTALL)
+        self.ask(block and block[1].splitlines() == self.tree.commands, "docs/formats.md", 1, "the commands differ from the usage line")
+        listed = [line.strip() for line in read("tools/help.txt").splitlines() if line.strip() in self.tree.commands]
+        self.ask(listed == self.tree.commands, "tools/help.txt", 1, "the commands differ from the usage line")
+        code = self.tree.code["tlut_cli"]
+        for command in self.tree.commands:
+            self.ask(command in code, "docs/formats.md", 1, f"`{command}` isn't in the code of tlut_cli")
+
+    def counts(self):
+        for page, pattern, values in counts(self.tree):
+            found = re.search(pattern, self.texts[page])
+            self.ask(found is not None, page, 1, f"no text of the form {pattern}")
+            if found:
+                line = self.texts[page].count("\n", 0, found.start()) + 1
+                for word, value in zip(found.groups(), values):
+                    self.ask(number_of(word) == value, page, line, f"{word} in `{found[0]}`, and it is {value:,}")
+        for crate, row in crate_rows(self.texts["docs/testing.md"]).items():
+            self.ask(row.cells == self.cells(crate), "docs/testing.md", row.line, f"{crate}: {row.cells}, and it is {self.cells(crate)}")
+        self.ask(set(crate_rows(self.texts["docs/testing.md"])) == {*self.tree.crates, "all"}, "docs/testing.md", 1, "the table of crates has others")
+        self.crate_lists()
+
+    def cells(self, crate):
+        """What the row of a crate in testing.md must begin with; `all` is their sum."""
+        sizes = self.tree.sizes.get(crate) or [self.tree.sum(place) for place in range(5)]
+        return [f"{number:,}" for number in sizes[:3]] + [str(number) if number else "" for number in sizes[3:]]
+
+    def crate_lists(self):
+        """That architecture.md has a row for each crate, and testing.md one for each crate with wrong bodies in the gate."""
+        rows = re.findall(r"^\| ((?:`\w+`(?:, )?)+) \|", self.texts["docs/architecture.md"], re.MULTILINE)
+        listed = [name for row in rows for name in re.findall(r"`(\w+)`", row)]
+        for name in self.tree.crates:
+            self.ask(name in listed, "docs/architecture.md", 1, f"no row for the crate {name}")
+        section = self.texts["docs/testing.md"].partition("## Wrong bodies")[2].partition("\n## ")[0]
+        listed = re.findall(r"^\| `(\w+)` \|", section, re.MULTILINE)
+        wanted = [name for name in self.tree.crates if self.tree.sizes[name][3]]
+        self.ask(sorted(listed) == sorted(wanted), "docs/testing.md", 1, f"the gate has wrong bodies of {wanted}")
+
+    def all(self):
+        for page in self.texts:
+            self.links(page)
+            self.names(page)
+        self.clauses()
+        self.calls()
+        self.arguments()
+        self.commands()
+        self.counts()
+        return self.wrong
+
+
+def counts(tree):
+    """Where a page states a count: the page, a pattern, and what each of its groups must be."""
+    lines = [tree.sum(place) for place in range(3)]
+    players = tree.sum(0, {"test_player", "test_rows"})
+    tests = tree.sum(0, {"test_player", "test_rows", "test_texts", "test_graphs"})
+    commands = len(tree.commands)
+    families = sum(1 for name in tree.crates if name.startswith("cmd_") and name not in ("cmd_base", "cmd_stations"))
+    refused = len(re.search(r"CALLS = \[\n(.*?)^\]", read("tools/refused_memory.py"), re.MULTILINE | re.DOTALL)[1].splitlines())
+    page = "docs/testing.md"
+    return [
+        (page, r"\| crates \| (\d+) \|", [len(tree.crates)]),
+        (page, r"lines of code and proof \| ([\d,]+): ([\d,]+) of source, ([\d,]+) of definitions, ([\d,]+) of proofs", [sum(lines), *lines]),
+        (page, r"of the source: tests \| ([\d,]+), of which ([\d,]+) play the rows", [tests, players]),
+        (page, r"lines of rows \| ([\d,]+)", [tree.row_lines]),
+        (page, r"worked rows \| ([\d,]+), of which (\d+) are spoilt", [tree.rows, tree.spoilt]),
+        (page, r"test functions \| (\d+)", [tree.tests]),
+        (page, r"wrong bodies in the gate \| (\d+), in (\d+) crates", [tree.sum(3), tree.with_edits(3)]),
+        (page, r"wrong bodies on demand \| (\d+), in (\d+) crates", [tree.sum(4), tree.with_edits(4)]),
+        (page, r"refuses each allocation of (\w+) calls", [refused]),
+        ("docs/definitions.md", r"the forms of the (\w+) commands", [commands]),
+        ("docs/architecture.md", r"The commands are in (\w+) crates", [families]),
+    ]
+
+
+class Row:
+    """A row of the table of crates: its line, its cells of counts, and all of it."""
+
+    def __init__(self, line, text):
+        cells = [cell.strip() for cell in text.strip("|").split("|")]
+        self.line, self.name, self.cells, self.rest = line, cells[0].strip("`"), cells[1:6], cells[6:]
+
+
+def crate_rows(text):
+    """The rows of the table of crates in testing.md, by their crates."""
+    before, _, section = text.partition("## Lines and minutes")
+    start = before.count("\n") + 1
+    rows = (Row(start + at, line) for at, line in enumerate(section.splitlines()) if re.match(r"\| (`\w+`|all) \|", line))
+    return {row.name: row for row in rows}
+
+
+def update(tree):
+    """Writes the counts into docs/testing.md."""
+    page = "docs/testing.md"
+    text = read(page)
+    for where, pattern, values in counts(tree):
+        if where == page:
+            text = re.sub(pattern, lambda found: filled(found, values), text, count=1)
+    checks = Checks({page: text}, tree)
+    lines = text.splitlines()
+    rows = crate_rows(text)
+    for row in rows.values():
+        name = row.name if row.name == "all" else f"`{row.name}`"
+        lines[row.line - 1] = "| " + " | ".join([name, *checks.cells(row.name), *row.rest]) + " |"
+    with open(f"{TOP}/{page}", "w", encoding="utf-8") as file:
+        file.write("\n".join(lines) + "\n")
+
+
+def filled(found, values):
+    """A text with its groups replaced by these numbers."""
+    text, shift = found[0], found.start()
+    for place in range(len(values), 0, -1):
+        begin, end = (it - shift for it in found.span(place))
+        text = text[:begin] + written_like(found[place], values[place - 1]) + text[end:]
+    return text
+
+
+PLANTS = [
+    ("README.md", "(docs/case-studies.md)", "(docs/case-study.md)", "a link to no file"),
+    ("README.md", "(docs/glossary.md#cover)", "(docs/glossary.md#covering)", "a link to no heading"),
+    ("README.md", "| `bits PACK SCRIPT` |", "| `bits PACK` |", "a command of another form"),
+    ("docs/architecture.md", "`specs/Bodies/`", "`specs/Body/`", "a path that isn't there"),
+    ("docs/architecture.md", "`cmd_base/specs/Walk.antt`", "`cmd_base/specs/Walks.antt`", "a file that isn't there"),
+    ("docs/architecture.md", "`details_words`", "`detail_words`", "a name that isn't in the code"),
+    ("docs/architecture.md", "are in six crates", "are in five crates", "a stale count of crates"),
+    ("docs/theorems.md", "`contains`: whatever blocks", "`holds_one`: whatever blocks", "a clause that isn't there"),
+    ("docs/theorems.md", "`CutTable::count`", "`CutTable::size`", "a call that isn't there"),
+    ("docs/definitions.md", "the ten commands", "the eight commands", "a stale count of commands"),
+    ("docs/testing.md", "| test functions | ", "| test functions | 9", "a stale count of tests"),
+    ("docs/testing.md", "worked rows | ", "worked rows | 1", "a stale count of rows"),
+    ("docs/testing.md", "wrong bodies in the gate | ", "wrong bodies in the gate | 2", "a stale count of wrong bodies"),
+    ("docs/testing.md", "| `cut_enum` | 1,", "| `cut_enum` | 2,", "a stale count of lines"),
+    ("docs/DECISIONS.md", "`add_union`", "`add_unions`", "a function of seven arguments that isn't named"),
+]
+
+
+def self_test(texts, tree):
+    """Plants each wrong fact in a copy of the pages. Returns how many were not found."""
+    missed = 0
+    for page, old, new, what in PLANTS:
+        planted = {**texts, page: texts[page].replace(old, new, 1)}
+        is_planted = planted[page] != texts[page]
+        is_found = is_planted and any(it.startswith(page) for it in Checks(planted, tree).all())
+        print(f"{page}: {what}: {'found' if is_found else 'NOT FOUND'}")
+        missed += not is_found
+    print(f"{len(PLANTS) - missed} found, {missed} not found")
+    return missed
+
+
+def main():
+    words = sys.argv[1:]
+    if words not in ([], ["--update"], ["--self-test"]):
+        sys.exit(__doc__)
+    tree = Tree()
+    if words == ["--update"]:
+        update(tree)
+    texts = {page: read(page) for page in PAGES}
+    checks = Checks(texts, tree)
+    for line in checks.all():
+        print(line)
+    print(f"{checks.facts} facts, {len(checks.wrong)} wrong")
+    if words == ["--self-test"] and not checks.wrong:
+        return 1 if self_test(texts, tree) else 0
+    return 1 if checks.wrong else 0
+
+
+if __name__ == "__main__":
+    sys.exit(main())
