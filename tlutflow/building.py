@@ -1,0 +1,398 @@
+"""All files of a design in one folder: netlist, mapping, packs, certificate, Verilog, picture, and what the report page shows.
+
+A step that has nothing new to read is left as it is. What follows from the mapping is made several steps at a time.
+"""
+
+from __future__ import annotations
+
+import argparse
+import os
+import shlex
+import shutil
+import sys
+import tempfile
+from concurrent.futures import ThreadPoolExecutor
+from dataclasses import asdict, dataclass, field, replace
+from typing import Any, Callable, Optional
+
+from tlutflow import tools
+from tlutflow.abc_form import abc_text
+from tlutflow.bus import Bus
+from tlutflow.buses import buses_of
+from tlutflow.changes import changes_of, rewritten
+from tlutflow.commands import prepare as prepare_words
+from tlutflow.commands import verilog
+from tlutflow.faults import Fault
+from tlutflow.mappings import Sizes, sizes_by_abc, sizes_by_tlut
+from tlutflow.netlist import read_library
+from tlutflow.parameters import parameter_list, read_parameters
+from tlutflow.port_file import END, file_name, find_ports, keep_ports
+from tlutflow.trials import AIMS, RULE_NAMES, RULES, Found, keep, prepare
+from tlutflow.steps import Steps
+from tlutflow.text import logical_lines, read_text, write_text
+
+RUN = "import sys; from tlutflow.main import main; sys.exit(main(sys.argv[1:]))"
+# A static picture of more LUTs is of no use; the page has one that can be moved.
+DRAWN = 300
+VERSIONS = (("Yosys", tools.YOSYS, ["-V"]), ("ABC", tools.ABC, ["-q", "version"]), ("Graphviz", tools.DOT, ["-V"]), ("Icarus Verilog", tools.ICARUS, ["-V"]))
+
+
+@dataclass
+class Built:
+    """What the page shows, by its parts, and the files that are there."""
+
+    name: str
+    k: int
+    rule: str = ""
+    aim: str = ""
+    preparation: dict[str, Any] = field(default_factory=dict)
+    sizes: dict[str, dict[str, list[str]]] = field(default_factory=dict)
+    checks: list[list[str]] = field(default_factory=list)
+    changes: dict[str, list[int]] = field(default_factory=dict)
+    shown: str = ""
+    commands: list[str] = field(default_factory=list)
+    versions: dict[str, str] = field(default_factory=dict)
+    files: list[list[str]] = field(default_factory=list)
+
+
+def versions(program: str) -> dict[str, str]:
+    """The first line in which each program says its version; those that aren't there are left out."""
+    found = {"tlut": first_line([program, "--version"]), "Python": sys.version.split()[0]}
+    for title, names, words in VERSIONS:
+        path = tools.find(names)
+        if path:
+            found[title] = first_line([path, *words])
+    return found
+
+
+def first_line(words: list[str]) -> str:
+    """The first line that a program prints."""
+    ran = tools.run(words)
+    lines = [line.strip() for line in (ran.stdout + ran.stderr).splitlines() if line.strip()]
+    return lines[0] if lines else "unknown"
+
+
+class Build:
+    """A build: the words of the call, the folder, and the names of its files."""
+
+    def __init__(self, given: argparse.Namespace):
+        self.given, self.folder = given, given.out
+        self.is_verilog = given.files[0].endswith((".v", ".sv", ".vh"))
+        self.name = file_name(given.top) if self.is_verilog else os.path.splitext(os.path.basename(given.files[0]))[0]
+        make_folder(self.folder)
+        self.steps = Steps(self.folder, given.prog, given.again)
+        self.program = tools.tlut(given.tlut)
+        self.binary = program_file(self.program)
+        self.built = Built(self.name, given.k, aim=given.aim, versions=versions(self.program))
+
+    def path(self, end: str) -> str:
+        """A file of the folder."""
+        return f"{self.folder}/{self.name}{end}"
+
+    def all(self) -> Built:
+        """Makes everything but the page."""
+        self.netlist()
+        self.sizes()
+        self.map()
+        self.built.commands += self.specialised()
+        parts = [self.certificate, self.hardware, self.picture, self.changes, self.comparisons]
+        with ThreadPoolExecutor(self.given.jobs or os.cpu_count() or 1) as pool:
+            told = [it.result() for it in [pool.submit(part) for part in parts]]
+        for checks, commands in told:
+            self.built.checks += checks
+            self.built.commands += commands
+        self.built.files = [[os.path.basename(path), what] for path, what in self.listed() if os.path.exists(path)]
+        return self.built
+
+    def listed(self) -> list[tuple[str, str]]:
+        """The files with what they are."""
+        module = f"{self.folder}/{self.name}_mapped"
+        return [
+            (self.path(".blif"), "the prepared netlist"),
+            (self.path(".par"), "the parameters, with their initial values"),
+            (self.path(END), "the ports and registers of the design, for the other subcommands"),
+            (self.path("_t.blif"), "the mapped netlist, with each configuration bit as an input (template)"),
+            (self.path(".ppc"), "the configuration bits as functions of the parameters (pack)"),
+            (self.path("_spec.blif"), "the mapped netlist for the initial values"),
+            (self.path(".cert"), "the certificate that no cover of the graph has less depth"),
+            (f"{module}.v", "the mapped circuit in Verilog, with a port that rewrites its LUTs"),
+            (f"{module}_bench.v", "its testbench"),
+            (f"{module}.events", "the events of the script's run, for the testbench"),
+            (self.path(".svg"), "a picture by Graphviz"),
+            (self.path(".dot"), "the drawing in the language of Graphviz"),
+            (self.path("_run.txt"), "what the script's run printed"),
+            (self.path(".vcd"), "the run as a waveform"),
+        ]
+
+    def netlist(self) -> None:
+        """The netlist and its list of parameters."""
+        given = self.given
+        reads = [*given.files, self.binary]
+        sources = [given.set, given.define, given.include, given.reader]
+        chosen = [*sources, given.k, given.aim, given.quick, given.abc, given.seconds, given.rounds, given.only, given.further]
+        words = [self.name, given.param, *chosen, {it: self.built.versions.get(it, "") for it in ("Yosys", "ABC", "tlut")}]
+        work = self.from_verilog if self.is_verilog else self.from_netlist
+        self.built.preparation = self.steps.make("netlist", words, reads, [self.path(".blif"), self.path(".par"), *([self.path(END)] if self.is_verilog else [])], work)
+        self.built.commands.append(self.call_shown())
+
+    def call_shown(self) -> str:
+        """The call that makes the netlist alone, as it could be given."""
+        given = self.given
+        words = [*given.files]
+        words += ["--top", given.top, *(word for it in given.param for word in ("--param", it))] if self.is_verilog else []
+        options = {"--set": given.set, "-D": given.define, "-I": given.include, "--reader": [given.reader] if given.reader != "verilog" else []}
+        words += [word for option, values in options.items() for value in values for word in (option, value)]
+        words += ["--quick"] if given.quick else ["--abc", given.abc] if given.abc else ["--k", str(given.k), "--for", given.aim]
+        where = ["--out", given.out] if self.is_verilog else ["--out", self.path(".blif")]
+        if not self.is_verilog and (given.quick or given.abc):
+            return shlex.join(["cp", given.files[0], self.path(".blif")])
+        return shlex.join(["flow", "verilog" if self.is_verilog else "prepare", *words, *where])
+
+    def from_verilog(self) -> dict[str, Any]:
+        """The netlist of a design in Verilog."""
+        with tempfile.TemporaryDirectory(prefix="flow-") as room:
+            made = verilog.make(self.given, room, beside=True)
+            copy(f"{room}/netlist.blif", self.path(".blif"))
+            write_text(self.path(".par"), parameter_list(made.parameters))
+            write_text(self.path(END), made.ports_text)
+            return told_of(made.found, made.summary)
+
+    def from_netlist(self) -> dict[str, Any]:
+        """A netlist that was given, prepared where that wasn't refused."""
+        given = self.given
+        netlist, params = given.files
+        if given.abc:
+            raise Fault("--abc is for designs in Verilog; --try NAME=COMMANDS --only NAME prepares a netlist in one way")
+        found = None
+        with tempfile.TemporaryDirectory(prefix="flow-") as room:
+            if given.quick:
+                copy(netlist, self.path(".blif"))
+            else:
+                task = prepare_words.task_of(given, netlist, params)
+                found = prepare(replace(task, beside=True), room, prepare_words.progress(given.prog))
+                keep(found.best, self.path(".blif"))
+        write_text(self.path(".par"), parameter_list(read_parameters(params)))
+        keep_ports(netlist, self.path(".blif"))
+        library = read_library(self.path(".blif"))
+        ports = find_ports([self.path(".blif")], library.main.name)
+        return told_of(found, verilog.summary(library, read_parameters(params), ports))
+
+    def sizes(self) -> None:
+        """The sizes by both rules and by ABC at some K, and the rule that is taken."""
+        ks = sorted({self.given.k, 4, 6})
+        words = [ks, self.built.versions.get("ABC", "")]
+        made = self.steps.make("sizes", words, [self.path(".blif"), self.path(".par"), self.binary], [], lambda: self.measured(ks))
+        self.built.sizes = made
+        best = self.built.preparation.get("best")
+        if best:
+            self.built.rule = best["rule"]
+            return
+        at = {rule: made[str(self.given.k)][rule] for rule in RULES}
+        order = [{"tables": 0, "depth": 1, "bits": 2, "changed": 2}[name] for name in AIMS[self.given.aim]]
+        fits = {rule: cells for rule, cells in at.items() if cells[1]}
+        if not fits:
+            raise Fault(f"tlut refuses the netlist at K {self.given.k} for a limit ({at['tlut'][0]})")
+        self.built.rule = min(fits, key=lambda rule: [int(fits[rule][place]) for place in order])
+
+    def measured(self, ks: list[int]) -> dict[str, dict[str, list[str]]]:
+        """The sizes at each K."""
+        abc = tools.find(tools.ABC)
+        with tempfile.TemporaryDirectory(prefix="flow-") as room:
+            write_text(f"{room}/none.par", "")
+            write_text(f"{room}/source.blif", abc_text(read_library(self.path(".blif")), {}))
+            calls: dict[str, Callable[[int, str], Sizes]] = {
+                "tlut": lambda k, at: sizes_by_tlut(self.program, k, self.path(".blif"), self.path(".par"), at),
+                "compact": lambda k, at: sizes_by_tlut(self.program, k, self.path(".blif"), self.path(".par"), at, "--compact"),
+                "inputs": lambda k, at: sizes_by_tlut(self.program, k, self.path(".blif"), f"{room}/none.par", at, "--compact"),
+            }
+            for words in ("if", "if -a") if abc else ():
+                calls[words] = by_abc(str(abc), f"{room}/source.blif", words)
+            jobs = [(k, name) for k in ks for name in calls]
+
+            def one(job: tuple[int, str]) -> list[str]:
+                at = f"{room}/{job[0]}{job[1]}".replace(" ", "_")
+                os.makedirs(at)
+                return calls[job[1]](job[0], at).cells()
+
+            with ThreadPoolExecutor(self.given.jobs or os.cpu_count() or 1) as pool:
+                found = dict(zip(jobs, pool.map(one, jobs)))
+        return {str(k): {name: found[k, name] for name in calls} for k in ks}
+
+    def tlut(self, step: str, words: list[str], reads: list[str], writes: list[str], by_rule: bool = True) -> str:
+        """A step that is a call of `tlut`; returns what it prints."""
+        rule = list(RULES[self.built.rule]) if by_rule else []
+
+        def work() -> str:
+            ran = tools.run([self.program, *rule, *words])
+            if ran.returncode:
+                raise Fault((ran.stderr.strip().splitlines() or [f"tlut ended with status {ran.returncode}"])[-1])
+            return ran.stdout
+
+        return str(self.steps.make(step, [rule, words], [*reads, self.binary], writes, work))
+
+    def shown(self, words: list[str], by_rule: bool = True) -> str:
+        """A call of `tlut` as it could be given."""
+        return shlex.join([*(RULE_NAMES[self.built.rule] if by_rule else "tlut").split(), *words])
+
+    def map(self) -> None:
+        """The template and the pack."""
+        words = ["map", str(self.given.k), self.path(".blif"), self.path(".par"), self.path("_t.blif"), self.path(".ppc")]
+        self.tlut("map", words, [self.path(".blif"), self.path(".par")], [self.path("_t.blif"), self.path(".ppc")])
+        self.built.commands.append(self.shown(words))
+
+    def specialised(self) -> list[str]:
+        """The netlist for the initial values; returns the call."""
+        words = ["spec", str(self.given.k), self.path(".blif"), self.path(".par"), self.path("_spec.blif")]
+        self.tlut("spec", words, [self.path(".blif"), self.path(".par")], [self.path("_spec.blif")])
+        return [self.shown(words)]
+
+    def certificate(self) -> tuple[list[list[str]], list[str]]:
+        """The certificate of the depth, and its audit."""
+        files = [str(self.given.k), self.path(".blif"), self.path(".par"), self.path(".cert")]
+        self.tlut("prove", ["prove", *files], [self.path(".blif"), self.path(".par")], [self.path(".cert")], False)
+        said = self.tlut("audit", ["audit", *files], files[1:], [], False).strip()
+        check = ["no cover of the netlist's graph has less depth", "tlut audit, from the certificate", said, "ok"]
+        return [check], [self.shown(["prove", *files], False), self.shown(["audit", *files], False)]
+
+    def flow(self, words: list[str], given: str = "", seconds: Optional[float] = None) -> tuple[int, str, str]:
+        """Runs another subcommand, and returns its status and its outputs."""
+        ran = tools.run([sys.executable, "-c", RUN, *words], None, seconds, given, {**os.environ, "PYTHONPATH": tools.TOP})
+        return ran.returncode, ran.stdout, ran.stderr.strip()
+
+    def hardware(self) -> tuple[list[list[str]], list[str]]:
+        """The run of the script, and the circuit in Verilog, which plays it too where Icarus Verilog is there."""
+        files, script, module = [self.path("_t.blif"), self.path(".ppc")], self.given.script, f"{self.folder}/{self.name}_mapped"
+        words = ["hdl", *files, "--target", self.given.target, "--module", f"{self.name}_mapped", "--out", self.folder]
+        if not script:
+            self.steps.make("verilog", words, files, [f"{module}.v", f"{module}_bench.v"], lambda: self.must(words))
+            return [], [shlex.join(["flow", *words])]
+        if any(line.tokens[0] == "upset" for line in logical_lines(read_text(script))):
+            # An upset may be of any bit, so each one is to be writable.
+            words += ["--bits", "all"]
+        run = ["run", str(self.given.k), self.path(".blif"), self.path(".par"), script, "0", "0"]
+        printed = self.tlut("run", run, [self.path(".blif"), self.path(".par"), script], [])
+        write_text(self.path("_run.txt"), printed)
+        ports = [self.path(".blif"), self.path(".par")]
+        self.built.shown = self.steps.make("values", [printed], ports, [], lambda: self.must(["show", *ports], printed))
+        words += ["--script", script, *(["--simulate"] if tools.find(tools.ICARUS) else [])]
+        writes = [f"{module}.v", f"{module}_bench.v", f"{module}.events"]
+        check = self.steps.make("verilog", [words, printed], [*files, script], writes, lambda: self.simulated(words, printed))
+        wave = ["wave", *ports, script]
+        self.steps.make("waveform", [printed], [*ports, script], [self.path(".vcd")], lambda: write_text(self.path(".vcd"), self.must(wave, printed)))
+        shown = [f"{self.shown(run)} > {self.path('_run.txt')}", f"{shlex.join(['flow', *words])} < {self.path('_run.txt')}"]
+        return [check], [*shown, f"{shlex.join(['flow', *wave])} < {self.path('_run.txt')} > {self.path('.vcd')}"]
+
+    def simulated(self, words: list[str], printed: str) -> list[str]:
+        """Makes the Verilog, and says what the simulation showed."""
+        what, by = "the Verilog plays the script as the run did", "Icarus Verilog"
+        if "--simulate" not in words:
+            self.must(words, printed)
+            return [what, by, "Icarus Verilog isn't there", "missing"]
+        try:
+            status, told, fault = self.flow(words, printed, self.given.seconds)
+        except Fault as stopped:
+            return [what, by, str(stopped), "open"]
+        if status:
+            raise Fault(fault.split(": ", 1)[-1])
+        return [what, by, told.strip(), "ok"]
+
+    def must(self, words: list[str], given: str = "") -> str:
+        """What another subcommand prints, which is to end well."""
+        status, told, fault = self.flow(words, given)
+        if status:
+            raise Fault(fault.split(": ", 1)[-1])
+        return told
+
+    def picture(self) -> tuple[list[list[str]], list[str]]:
+        """The drawing, and a picture of it where Graphviz is there and the circuit isn't too large."""
+        files = [self.path("_t.blif"), self.path(".ppc")]
+        tables = int(self.built.sizes[str(self.given.k)][self.built.rule][0])
+        end = ".svg" if tools.find(tools.DOT) and tables <= DRAWN else ".dot"
+        words = ["draw", *files, "--out", self.path(end)]
+        self.steps.make("picture", [words, self.built.versions.get("Graphviz", "")], files, [self.path(end)], lambda: self.must(words))
+        return [], [shlex.join(["flow", *words])]
+
+    def changes(self) -> tuple[list[list[str]], list[str]]:
+        """How many bits changes rewrite."""
+        nets = list(read_parameters(self.path(".par")))
+        if nets:
+            kinds = {"a value": list(buses_of(nets).values()), "a bit": [Bus(net, (net,)) for net in nets]}
+
+            def work() -> dict[str, list[int]]:
+                with tempfile.TemporaryDirectory(prefix="flow-") as room:
+                    return {kind: rewritten(self.program, os.path.abspath(self.path(".ppc")), changes_of(nets, buses), room) for kind, buses in kinds.items()}
+
+            self.built.changes = self.steps.make("changes", [nets], [self.path(".ppc"), self.binary], [], work)
+        return [], []
+
+    def comparisons(self) -> tuple[list[list[str]], list[str]]:
+        """The written netlists against the prepared one, by ABC."""
+        source, pack, params = self.path(".blif"), self.path(".ppc"), self.path(".par")
+        calls = {
+            "the mapped netlist with its pack is the prepared netlist, for all values of the parameters": ["check", source, self.path("_t.blif"), "--pack", pack],
+            "the netlist for the initial values is the prepared netlist with these values": ["check", source, self.path("_spec.blif"), "--params", params],
+        }
+        checks = [self.prepared_check()]
+        for (what, words), name in zip(calls.items(), ("check of the mapping", "check of the specialised netlist")):
+            checks.append(self.steps.make(name, [words, self.built.versions.get("ABC", "")], words[1:3] + words[4:], [], lambda: self.compared(what, words)))
+        return checks, [shlex.join(["flow", *words]) for words in calls.values()]
+
+    def prepared_check(self) -> list[str]:
+        """What showed that the prepared netlist is the source."""
+        what = "the prepared netlist is the one that preparations started from"
+        if self.built.preparation.get("best"):
+            return [what, "ABC cec, flip-flop by flip-flop", "equal", "ok"]
+        return [what, "nobody", "one preparation was taken, without a comparison" if self.is_verilog else "it is the very file", "open" if self.is_verilog else "ok"]
+
+    def compared(self, what: str, words: list[str]) -> list[str]:
+        """What a comparison says; a difference is a fault."""
+        if tools.find(tools.ABC) is None:
+            return [what, "ABC", "ABC isn't there", "missing"]
+        status, told, fault = self.flow([*words, "--seconds", str(self.given.seconds)])
+        if status and not any(part in fault for part in ("didn't decide", "was stopped after")):
+            raise Fault(fault.split(": ", 1)[-1])
+        return [what, "ABC", fault.split(": ", 1)[-1], "open"] if status else [what, "ABC", told.strip(), "ok"]
+
+
+def by_abc(abc: str, source: str, words: str) -> Callable[[int, str], Sizes]:
+    """What maps a netlist by ABC, with words of its mapper."""
+    return lambda k, folder: sizes_by_abc(abc, k, source, words[2:], folder)
+
+
+def told_of(found: Optional[Found], summary: str) -> dict[str, Any]:
+    """What the page shows of the choice of a preparation."""
+    if found is None:
+        return {"summary": summary}
+    by_abc = found.best_by_abc()
+    rows = [{**asdict(it), "front": it in found.front, "file": ""} for it in found.results]
+    failures = [[it.name, it.failure] for it in found.failures]
+    abc = [by_abc[0], by_abc[1], *by_abc[2].cells()] if by_abc else []
+    return {"summary": summary, "best": {**asdict(found.best), "file": ""}, "rows": rows, "failures": failures, "abc": abc, "tried": len(found.trials)}
+
+
+def program_file(program: str) -> str:
+    """The file that changes where the program does: behind the wrapper the one that it runs."""
+    built = [f"{os.path.dirname(os.path.realpath(program))}/{it}" for it in tools.BUILT]
+    return next((it for it in built if os.path.exists(it)), program)
+
+
+def make_folder(path: str) -> None:
+    """Makes a folder where it isn't there."""
+    try:
+        os.makedirs(path, exist_ok=True)
+    except OSError as error:
+        raise Fault(f"{path}: {error.strerror}") from None
+
+
+def copy(source: str, target: str) -> None:
+    """Copies a file, which may be the very one."""
+    try:
+        if os.path.abspath(source) != os.path.abspath(target):
+            shutil.copyfile(source, target)
+    except OSError as error:
+        raise Fault(f"{error.filename or target}: {error.strerror}") from None
+
+
+def page_text(path: str) -> str:
+    """A part of the report page."""
+    return read_text(f"{os.path.dirname(os.path.abspath(__file__))}/page/{path}")

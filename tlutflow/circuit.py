@@ -1,0 +1,170 @@
+"""The mapped circuit that a template and its pack are: tables, latches, outputs, depths, paths and cones."""
+
+from __future__ import annotations
+
+from dataclasses import dataclass
+from functools import cached_property
+from typing import Iterable, Optional
+
+from tlutflow.bus import Bus
+from tlutflow.buses import buses_of
+from tlutflow.faults import Fault
+from tlutflow.netlist import Latch, Library, read_library
+from tlutflow.pack import Pack, read_pack
+from tlutflow.port_file import Ports, find_ports
+
+
+@dataclass(frozen=True)
+class Table:
+    """A lookup table: its net, its leaves, leaf 0 first, and the addresses of its configuration bits, 2^leaves from `first` on."""
+
+    net: str
+    leaves: list[str]
+    first: int
+
+    @property
+    def size(self) -> int:
+        """How many configuration bits it has."""
+        return 1 << len(self.leaves)
+
+    @property
+    def addresses(self) -> range:
+        """The addresses of its bits."""
+        return range(self.first, self.first + self.size)
+
+
+@dataclass(frozen=True)
+class Circuit:
+    """A mapped circuit. `inputs` are the regular ones, `clock` the net of the latch controls or None, and `roots` has for each output
+    the net whose value it is."""
+
+    name: str
+    inputs: list[str]
+    clock: Optional[str]
+    roots: dict[str, str]
+    latches: list[Latch]
+    tables: list[Table]
+    pack: Pack
+    ports: Ports = Ports()
+
+    def buses(self, names: Iterable[str]) -> dict[str, Bus]:
+        """The buses of some nets, as the ports of the design have them."""
+        return buses_of(names, self.ports)
+
+    @cached_property
+    def table_of(self) -> dict[str, Table]:
+        """The table of each net that is a table's."""
+        return {table.net: table for table in self.tables}
+
+    @property
+    def nets(self) -> set[str]:
+        """The nets of inputs and tables."""
+        return {*self.inputs, *self.table_of}
+
+    @cached_property
+    def table_at(self) -> list[int]:
+        """For each configuration bit the number of its table."""
+        return [number for number, table in enumerate(self.tables) for _ in table.addresses]
+
+    @cached_property
+    def depths(self) -> dict[str, int]:
+        """The depth of each table: 0 without leaves, else one more than its deepest leaf."""
+        depths: dict[str, int] = {}
+        for table in self.tables:
+            depths[table.net] = 1 + max(depths.get(leaf, 0) for leaf in table.leaves) if table.leaves else 0
+        return depths
+
+    @property
+    def depth(self) -> int:
+        """The greatest depth of a table."""
+        return max(self.depths.values(), default=0)
+
+    @cached_property
+    def supports(self) -> list[int]:
+        """For each bit the parameters that it reads, as a number with a digit for each."""
+        return self.pack.supports()
+
+    def support(self, table: Table) -> int:
+        """The parameters that some bit of a table reads, as a number with a digit for each."""
+        read = 0
+        for address in table.addresses:
+            read |= self.supports[address]
+        return read
+
+    def parameters_in(self, support: int) -> list[str]:
+        """The names of the parameters of such a number."""
+        return [name for place, name in enumerate(self.pack.parameters) if support >> place & 1]
+
+    def longest_path(self, within: Optional[set[str]] = None) -> list[str]:
+        """The nets of a longest path of the circuit, or of a cone: from an input or a latch through tables to an output or a latch.
+        Empty without tables."""
+        tables = [table for table in self.tables if within is None or table.net in within]
+        if not tables:
+            return []
+        at = max(tables, key=lambda table: self.depths[table.net])
+        path = [at.net]
+        while path[0] in self.table_of and self.table_of[path[0]].leaves:
+            path.insert(0, max(self.table_of[path[0]].leaves, key=lambda leaf: self.depths.get(leaf, 0)))
+        path.append(self.reader_of(at.net))
+        return path
+
+    def reader_of(self, net: str) -> str:
+        """The first output or latch whose value or next state a net is."""
+        for output, root in self.roots.items():
+            if root == net:
+                return output
+        return next((latch.state for latch in self.latches if latch.source == net), net)
+
+    def cone(self, ends: Iterable[str]) -> set[str]:
+        """The nets that some nets are made of within one cycle, themselves among them: tables, latches and inputs."""
+        found: set[str] = set()
+        waiting = list(ends)
+        while waiting:
+            net = waiting.pop()
+            if net not in found:
+                found.add(net)
+                table = self.table_of.get(net)
+                waiting += table.leaves if table else []
+        return found
+
+
+def read_circuit(template: str, pack: str) -> Circuit:
+    """The mapped circuit of the two files that `map` writes, with the names that the design has for its ports and registers."""
+    library = read_library(template)
+    ports = find_ports([template, pack], library.main.name)
+    circuit = circuit_of(library, read_pack(pack), pack, ports)
+    return renamed(circuit, ports.register_names(len(circuit.latches), circuit.nets))
+
+
+def bare_circuit(pack: Pack, file: str) -> Circuit:
+    """What a pack alone tells of its circuit: nothing but the bits and the parameters."""
+    return Circuit("pack", [], None, {}, [], [], pack, find_ports([file], None))
+
+
+def renamed(circuit: Circuit, states: list[str]) -> Circuit:
+    """A circuit whose latches have these names."""
+    new = {latch.state: name for latch, name in zip(circuit.latches, states)}
+    latches = [Latch(new.get(it.source, it.source), new[it.state], it.control, it.init) for it in circuit.latches] if new else circuit.latches
+    tables = [Table(it.net, [new.get(leaf, leaf) for leaf in it.leaves], it.first) for it in circuit.tables]
+    roots = {output: new.get(root, root) for output, root in circuit.roots.items()}
+    return Circuit(circuit.name, circuit.inputs, circuit.clock, roots, latches, tables, circuit.pack, circuit.ports)
+
+
+def circuit_of(library: Library, pack: Pack, file: str, ports: Ports = Ports()) -> Circuit:
+    """The mapped circuit of a template and its pack; `file` is the pack's name in a fault."""
+    main = library.main
+    inputs, *rooms = main.input_lines or [[]]
+    clock = next((latch.control for latch in main.latches if latch.control), None)
+    tables = []
+    first = 0
+    for room, cover in zip(rooms, main.covers):
+        leaves = [name for name in cover.inputs if name not in set(room)]
+        tables.append(Table(cover.output, leaves, first))
+        if cover.inputs[len(leaves) :] != room or tables[-1].size != len(room):
+            raise Fault(f"{library.file}: no template as map writes it: the table {cover.output} doesn't have its bits as inputs")
+        first += len(room)
+    if first != len(pack.bits):
+        raise Fault(f"{library.file} has {first} configuration bits and {file} has {len(pack.bits)}: they are not of one call of map")
+    wires = {cover.output: cover.inputs[0] for cover in main.covers[len(tables) :]}
+    roots = {name: wires.get(name, name) for name in main.outputs}
+    return Circuit(main.name, [it for it in inputs if it != clock], clock, roots, main.latches, tables, pack, ports)

@@ -1,0 +1,66 @@
+"""`flow build`: from a design to all files and a report, in one command."""
+
+from __future__ import annotations
+
+import argparse
+
+from tlutflow.building import Build
+from tlutflow.circuit import read_circuit
+from tlutflow.circuit_view import with_names
+from tlutflow.commands.prepare import add_shared_words
+from tlutflow.commands.verilog import add_source_words
+from tlutflow.faults import Fault
+from tlutflow.netlist import read_library
+from tlutflow.report_page import page
+from tlutflow.text import count, write_text
+
+HELP = "from a design to all files and a report, in one command"
+DESCRIPTION = """Creates everything for a design in FOLDER: the prepared netlist and its parameter list, the mapped netlist (template) and its pack, the netlist
+for the initial values, a certificate of the depth, Verilog with a write port and its testbench, a picture, and with --script the run of
+the script with its waveform. FOLDER/index.html is the report, one file that any browser opens without a network.
+
+FILES are a design in Verilog (with --top and --param, as for flow verilog), or NETLIST PARAMS as tlut reads them. The preparation is the
+one that measures best (see flow prepare --help), and the rule, tlut or tlut --compact, is the better one for the same aim. A second call
+repeats only what has changed; it doesn't look at files that the Verilog includes, so use --again after you edit one of these.
+
+Steps of programs that aren't installed are skipped, and the report says so: ABC compares, Graphviz draws, and Icarus Verilog plays the script."""
+EXAMPLE = """examples:
+  flow build fir.v --top fir --param c0=5 --param c1=3 --param c2=6 --k 4 --out made
+  flow build fir.blif fir.par --k 6 --for tables --script fir.scr --out made"""
+
+
+def add_words(parser: argparse.ArgumentParser) -> None:
+    parser.add_argument("files", metavar="FILE", nargs="+", help="the design's files in Verilog, or NETLIST PARAMS")
+    parser.add_argument("--top", metavar="TOP", help="the module to take, for Verilog")
+    parser.add_argument("--param", metavar="PORT=VALUE", action="append", default=[], help="an input port that is a parameter, for Verilog (repeat it)")
+    parser.add_argument("--out", metavar="FOLDER", required=True, help="where the files go")
+    parser.add_argument("--script", metavar="SCRIPT", help="a script to run, as tlut run plays it")
+    parser.add_argument("--target", choices=("generic", "xilinx"), default="generic", help="how flow hdl implements LUTs (default: generic)")
+    add_source_words(parser)
+    parser.add_argument("--again", action="store_true", help="make everything again")
+    add_shared_words(parser, 4)
+
+
+def check(given: argparse.Namespace) -> None:
+    """Refuses words that don't belong together."""
+    if given.files[0].endswith((".v", ".sv", ".vh")):
+        if not given.top:
+            raise Fault("--top names the module of a design in Verilog")
+    elif len(given.files) != 2 or given.param or given.top:
+        raise Fault("a netlist has its parameter list behind it, NETLIST PARAMS, and neither --top nor --param; Verilog files end in .v or .sv")
+
+
+def run(given: argparse.Namespace) -> int:
+    check(given)
+    build = Build(given)
+    built = build.all()
+    circuit = with_names(read_circuit(build.path("_t.blif"), build.path(".ppc")), read_library(build.path(".blif")))
+    report = f"{given.out}/index.html"
+    write_text(report, page(built, circuit))
+    best = built.preparation.get("best")
+    prepared = f", preparation {best['name']}" if best else ""
+    print(f"{built.name}: {count(len(circuit.tables), 'LUT')}, depth {circuit.depth}, {count(len(circuit.pack.bits), 'bit')} at K {given.k}{prepared}")
+    for what, by, told, state in built.checks:
+        print(f"{'checked' if state == 'ok' else 'not shown'}: {what} ({by}: {told})")
+    print(f"{report}: the report; open it in a browser")
+    return 0

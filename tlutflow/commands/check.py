@@ -1,0 +1,135 @@
+"""`flow check`: a written netlist against its source by ABC, or the output of a run against a player of the source."""
+
+from __future__ import annotations
+
+import argparse
+import tempfile
+
+from tlutflow import tools
+from tlutflow.abc_form import abc_text, with_functions
+from tlutflow.faults import Fault
+from tlutflow.netlist import Library, read_library
+from tlutflow.output import parse_output
+from tlutflow.pack import read_pack
+from tlutflow.parameters import interface_of, read_parameters
+from tlutflow.script import read_script
+from tlutflow.source_player import SourcePlayer
+from tlutflow.text import count, read_input, write_text
+from tlutflow.waveform import check_end, pairs
+
+HELP = "a written netlist or a run against its source"
+DESCRIPTION = """With WRITTEN: uses ABC to show that a netlist which tlut wrote is equal to its source circuit: `cec`, or `dsec` if there are latches.
+
+  --params PARAMS   WRITTEN is what `tlut spec` wrote for this list: its parameters are constants in the source
+  --pack PACK       WRITTEN is the template that `tlut map` wrote with this pack: each bit gets its function of the parameters, which
+                    stay inputs of both, so the two are compared under all values of the parameters
+
+With --script and --params and without WRITTEN: stdin has what `tlut run` or `tlut pace` printed for the script. The source is played
+by its own logic, and the outputs and states of each cycle are compared, up to the first upset.
+
+Both files go to ABC in a form that it reads: it takes no cover with inputs and without rows, and no latch without an init.
+The status is 0 if they are equal, and 1 if they differ, ABC doesn't decide it, or the output ends before the script."""
+EXAMPLE = """examples:
+  tlut spec 4 fir.blif fir.par fir_spec.blif && flow check fir.blif fir_spec.blif --params fir.par
+  tlut map 4 fir.blif fir.par fir_t.blif fir.ppc && flow check fir.blif fir_t.blif --pack fir.ppc
+  tlut run 4 fir.blif fir.par fir.scr 0 0 | flow check fir.blif --params fir.par --script fir.scr"""
+
+
+def add_words(parser: argparse.ArgumentParser) -> None:
+    parser.add_argument("source", metavar="SOURCE")
+    parser.add_argument("written", metavar="WRITTEN", nargs="?")
+    which = parser.add_mutually_exclusive_group()
+    which.add_argument("--params", metavar="PARAMS", help="the list that spec was given")
+    which.add_argument("--pack", metavar="PACK", help="the pack that map wrote")
+    parser.add_argument("--script", metavar="SCRIPT", help="the script of the run whose output is on stdin")
+    parser.add_argument("--seconds", type=float, default=600, help="how long ABC may take (default: 600)")
+
+
+def fixed_inputs(source: Library, there: list[str], values: dict[str, int]) -> dict[str, int]:
+    """The inputs of the source that the other netlist doesn't have, with their values. A clock net that is gone is 0."""
+    fixed = {}
+    for name in source.main.all_inputs():
+        if name not in there:
+            if name not in values and name not in source.clock_nets():
+                raise Fault(f"{name} is an input of {source.file} and none of the written netlist: --params or --pack says what it is there")
+            fixed[name] = values.get(name, 0)
+    return fixed
+
+
+def texts(given: argparse.Namespace) -> tuple[Library, str, str]:
+    """The source, its text for ABC, and that of the written netlist."""
+    source, written = read_library(given.source), read_library(given.written)
+    values = read_parameters(given.params) if given.params else {}
+    there = written.main.all_inputs()
+    if given.pack:
+        pack = read_pack(given.pack)
+        there += list(pack.parameters)
+        other = with_functions(written, pack, given.pack)
+    else:
+        other = abc_text(written, {})
+    return source, abc_text(source, fixed_inputs(source, there, values)), other
+
+
+def verdict(told: str) -> str:
+    """What ABC says."""
+    if "are equivalent" in told:
+        return "equal"
+    if "NOT EQUIVALENT" in told:
+        return "different"
+    return "open"
+
+
+def extent(given: argparse.Namespace) -> str:
+    """For which values of the parameters the netlists were compared."""
+    if given.pack:
+        return f" under all values of {count(len(read_pack(given.pack).parameters), 'parameter')}"
+    return " under the listed values" if given.params else ""
+
+
+def check_run(given: argparse.Namespace) -> int:
+    """Compares the output of a run with the source."""
+    library, parameters = read_library(given.source), read_parameters(given.params)
+    interface = interface_of(library, parameters, given.params)
+    events = read_script(given.script, interface.regular)
+    output = parse_output(read_input(), "standard input")
+    player = SourcePlayer(library, parameters, interface.regular)
+    compared = 0
+    for number, (event, played) in enumerate(pairs(events, output), 1):
+        if event.word == "upset":
+            print(f"{count(compared, 'cycle')} before the first upset, all as the source's")
+            return 0
+        if event.word in ("set", "ask"):
+            player.parameters.update(event.values)
+        if played.word == "cycle":
+            wanted = player.cycle(event.values)
+            if (played.outputs, played.states) != wanted:
+                raise Fault(f"event {number} printed `{played.text[:60]}`, and the source has {wanted[0][:60] or '-'} {wanted[1][:60] or '-'}")
+            compared += 1
+    check_end(len(events), output)
+    print(f"{count(compared, 'cycle')}, all as the source's")
+    return 0
+
+
+def run(given: argparse.Namespace) -> int:
+    if given.script:
+        if given.written or given.pack or not given.params:
+            raise Fault("--script goes with --params and without WRITTEN")
+        return check_run(given)
+    if not given.written:
+        raise Fault("WRITTEN is missing, or --script with the output of a run on standard input")
+    abc = tools.need(tools.ABC, "a comparison of netlists")
+    source, left, right = texts(given)
+    latches = source.flat_latches()
+    method = "dsec" if latches else "cec"
+    with tempfile.TemporaryDirectory(prefix="flow-") as folder:
+        write_text(f"{folder}/source.blif", left)
+        write_text(f"{folder}/written.blif", right)
+        ran = tools.run([abc, "-q", f"{method} source.blif written.blif"], folder, given.seconds)
+    told = [line.strip() for line in (ran.stdout + ran.stderr).splitlines() if line.strip()]
+    outcome = verdict("\n".join(told))
+    if outcome == "equal":
+        print(f"equal{extent(given)} (ABC {method})")
+        return 0
+    if outcome == "different":
+        raise Fault(f"{given.written} differs from {given.source} (ABC {method}): {told[-1]}")
+    raise Fault(f"ABC {method} didn't decide it: {told[-1] if told else 'it said nothing'}")

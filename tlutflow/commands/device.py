@@ -1,0 +1,95 @@
+"""`flow device`: a netlist of `tlut spec`, to the tools of a device."""
+
+from __future__ import annotations
+
+import argparse
+import os
+import re
+import shlex
+
+from tlutflow import tools
+from tlutflow.commands.hdl import make_folder
+from tlutflow.device import PART, PLACERS, WIDEST, device_recipe
+from tlutflow.faults import Fault
+from tlutflow.netlist import read_library
+from tlutflow.port_file import file_name
+from tlutflow.recipe import script_text
+from tlutflow.text import write_text
+
+HELP = "a netlist of `tlut spec`, to a device's LUTs and flip-flops, by Yosys and nextpnr"
+DESCRIPTION = """Turns each LUT of a netlist that `tlut spec` wrote into one LUT of a device, and places and routes it if nextpnr is installed.
+
+In FOLDER it writes NAME.ys, the script for Yosys with a reason for each line, and NAME.json; for xilinx also NAME.edif, for the vendor's
+tools; and if nextpnr is installed NAME.asc (ice40) or NAME.config (ecp5). An iCE40 has LUTs of four inputs, so use K 4 there.
+
+The flip-flops of an iCE40 start at 0. A register that starts at 1 gets an inverter before and after it, and these become LUTs."""
+EXAMPLE = """example:
+  tlut spec 4 fir.blif fir.par fir_spec.blif && flow device fir_spec.blif --target ice40 --out made"""
+
+
+def add_words(parser: argparse.ArgumentParser) -> None:
+    parser.add_argument("netlist", metavar="NETLIST")
+    parser.add_argument("--target", choices=list(WIDEST), required=True, help="the device's family")
+    parser.add_argument("--out", metavar="FOLDER", default=".", help="where the files go (default: the current directory)")
+    usual = "; ".join(f"{key}: {' '.join(words)}" for key, words in PART.items())
+    parser.add_argument("--part", metavar="WORDS", help=f"what nextpnr is told of the part (default: {usual})")
+    parser.add_argument("--recipe", action="store_true", help="show what Yosys would be given, and make nothing")
+    parser.add_argument("--no-place", action="store_true", help="don't run nextpnr")
+
+
+def check(path: str, target: str) -> str:
+    """Refuses what the device has no cells for, and returns the circuit's name."""
+    library = read_library(path)
+    if library.main.subckts:
+        raise Fault(f"{path}: it places models; `tlut spec` writes a netlist without any")
+    widest = max(library.main.covers, key=lambda cover: len(cover.inputs), default=None)
+    if widest and len(widest.inputs) > WIDEST[target]:
+        raise Fault(f"{path}: {widest.output} has {len(widest.inputs)} inputs, and a LUT of {target} {WIDEST[target]}: map it by K {WIDEST[target]}")
+    return library.main.name
+
+
+def cells_of(told: str) -> str:
+    """What Yosys's `stat` counted, in one line."""
+    last = told.rpartition("Number of cells:")[2].partition("\n\n")[0]
+    return ", ".join(f"{number} {kind}" for kind, number in re.findall(r"^ +([\w$]+) +(\d+)$", last, re.MULTILINE)) or "no cells"
+
+
+def place(given: argparse.Namespace, base: str) -> None:
+    """Places and routes, and tells what nextpnr said of it."""
+    placer = PLACERS.get(given.target)
+    if placer is None or given.no_place:
+        return
+    program = tools.find(placer.names)
+    if program is None:
+        print(f"{tools.TITLES[placer.names]} isn't installed, so nothing was placed")
+        return
+    part = shlex.split(given.part) if given.part else list(PART[given.target])
+    ran = tools.run([program, *part, *placer.words, "--json", f"{base}.json", placer.out, base + placer.end])
+    told = (ran.stdout + ran.stderr).splitlines()
+    if ran.returncode:
+        errors = [line for line in told if line.startswith("ERROR")] or told[-1:] or ["it failed"]
+        raise Fault(f"nextpnr: {errors[0]}")
+    used = next((line for line in told if re.search(r"(ICESTORM_LC|TRELLIS_COMB|TRELLIS_SLICE):", line)), "")
+    cells = re.search(r"(\w+): +(\d+)/ *(\d+)", used)
+    speed = re.findall(r"Max frequency for clock .*?: ([\d.]+) MHz", "\n".join(told))
+    parts = [f"{cells[2]} of {cells[3]} {cells[1]}" if cells else "placed and routed", *([f"{speed[-1]} MHz"] if speed else [])]
+    print(f"{base}{placer.end}: {', '.join(parts)}")
+
+
+def run(given: argparse.Namespace) -> int:
+    name = file_name(check(given.netlist, given.target))
+    base = os.path.normpath(f"{given.out}/{name}")
+    steps = device_recipe(given.netlist, given.target, base)
+    if given.recipe:
+        print(script_text(steps), end="")
+        return 0
+    yosys = tools.need(tools.YOSYS, "a device's netlist")
+    make_folder(given.out)
+    write_text(f"{base}.ys", script_text(steps))
+    ran = tools.run([yosys, "-s", f"{base}.ys"])
+    if ran.returncode:
+        told = [line for line in (ran.stdout + ran.stderr).splitlines() if "ERROR" in line]
+        raise Fault(f"Yosys: {told[-1] if told else f'it ended with status {ran.returncode}'}")
+    print(f"{base}.json: {cells_of(ran.stdout)}")
+    place(given, base)
+    return 0

@@ -1,0 +1,75 @@
+"""`flow draw`: a picture of a mapped circuit."""
+
+from __future__ import annotations
+
+import argparse
+import os
+import tempfile
+
+from tlutflow import tools
+from tlutflow.circuit import Circuit, read_circuit
+from tlutflow.drawing import drawing
+from tlutflow.faults import Fault
+from tlutflow.text import write_text
+
+HELP = "a picture of a mapped circuit"
+DESCRIPTION = """Draws a mapped circuit from its inputs and latches on the left to its outputs on the right. LUTs whose bits read parameters are
+orange and name them, LUTs that never change are grey, latches are blue with their next states as dashed edges, and the critical path
+is red. Without --out it prints the drawing in the language of Graphviz; a file that ends in .svg, .png or .pdf needs Graphviz."""
+EXAMPLE = """examples:
+  flow draw fir_t.blif fir.ppc --out fir.svg
+  flow draw fir_t.blif fir.ppc --cone y[3] --out y3.svg"""
+
+PICTURES = (".svg", ".png", ".pdf")
+# A drawing of more tables than this is hard to read, and slow to lay out.
+MANY = 300
+
+
+def add_words(parser: argparse.ArgumentParser) -> None:
+    parser.add_argument("template", metavar="TEMPLATE")
+    parser.add_argument("pack", metavar="PACK")
+    parser.add_argument("--out", metavar="FILE", help="the file: .svg, .png, .pdf, or .dot for Graphviz's language")
+    parser.add_argument("--all", action="store_true", help=f"draw more than {MANY} LUTs too")
+    parser.add_argument("--cone", metavar="NET", action="append", default=[], help="draw only what this output, register, bus or LUT is made of (repeat it)")
+
+
+def ends_of(circuit: Circuit, names: list[str]) -> list[str]:
+    """The nets that outputs, registers (by their next states), buses of them and tables are."""
+    nexts = {latch.state: latch.source for latch in circuit.latches}
+    outputs, registers = circuit.buses(circuit.roots), circuit.buses(nexts)
+    ends = []
+    for name in names:
+        found = [circuit.roots[net] for net in (outputs[name].nets if name in outputs else [name]) if net in circuit.roots]
+        found = found or [nexts[net] for net in (registers[name].nets if name in registers else [name]) if net in nexts]
+        found = found or [name] * (name in circuit.table_of)
+        if not found:
+            there = [", ".join(bus.title for bus in buses.values()) or "none" for buses in (outputs, registers)]
+            raise Fault(f"--cone {name}: it is no output, register or LUT; the outputs are {there[0]}, and the registers {there[1]}")
+        ends += found
+    return ends
+
+
+def paint(text: str, path: str) -> None:
+    """Makes a picture of a drawing."""
+    dot = tools.need(tools.DOT, f"a picture {os.path.splitext(path)[1]}")
+    with tempfile.TemporaryDirectory(prefix="flow-") as folder:
+        write_text(f"{folder}/drawing.dot", text)
+        ran = tools.run([dot, f"-T{os.path.splitext(path)[1][1:]}", f"{folder}/drawing.dot", "-o", os.path.abspath(path)])
+    if ran.returncode:
+        raise Fault(f"Graphviz: {(ran.stderr.strip().splitlines() or ['it failed'])[0]}")
+
+
+def run(given: argparse.Namespace) -> int:
+    circuit = read_circuit(given.template, given.pack)
+    cone = circuit.cone(ends_of(circuit, given.cone)) if given.cone else None
+    tables = len(circuit.tables) if cone is None else len(cone & set(circuit.table_of))
+    if tables > MANY and not given.all:
+        raise Fault(f"{tables} LUTs are too many to be read, and nothing was drawn: --cone NET draws what one output is made of, and --all draws them")
+    text = drawing(circuit, cone)
+    if given.out is None:
+        print(text, end="")
+    elif given.out.endswith(PICTURES):
+        paint(text, given.out)
+    else:
+        write_text(given.out, text)
+    return 0

@@ -1,0 +1,164 @@
+"""`flow hdl`: a mapped circuit in Verilog, with a port that changes its configuration."""
+
+from __future__ import annotations
+
+import argparse
+import os
+import tempfile
+
+from tlutflow import tools
+from tlutflow.bench import bench_text, events_text
+from tlutflow.circuit import Circuit, read_circuit
+from tlutflow.faults import Fault
+from tlutflow.hdl import PORTS, TARGETS, Device, device_of, module_text, usual_port
+from tlutflow.output import Output, parse_output
+from tlutflow.script import read_script
+from tlutflow.store import KINDS
+from tlutflow.text import count, physical_lines, read_input, write_text
+from tlutflow.verilog_names import Names, module_name, names_of
+from tlutflow.waveform import check_end
+
+HELP = "a mapped circuit in Verilog, with a port that changes its configuration"
+DESCRIPTION = """Writes a mapped circuit as Verilog whose configuration can be changed while it runs. LUTs whose bits are all constants are plain
+functions. The targets are
+
+  generic    bits that change are flip-flops, for any device
+  xilinx     LUTs with bits that change are CFGLUT5, two for six leaves
+
+and the ports
+
+  chain      all bits are shifted in and then shown at once by cfg_commit (default of generic); on xilinx there is no cfg_commit, and
+             the circuit can't be used while bits are shifted
+  random     one bit at a time, by its number (default of xilinx, where a write takes 32 or 64 periods)
+
+`flow stream` prints what to send for new values of the parameters.
+
+With --out the files go to FOLDER: NAME.v; NAME_bench.v, a testbench that plays a file of events and prints the lines of a run; and with
+--script, for which stdin has what `tlut run` or `tlut pace` printed, NAME.events, the events of that run. --simulate also runs the
+testbench in Icarus Verilog, and compares its lines with the run's. With --netlist it plays a synthesised netlist instead of NAME.v,
+and compares the outputs of each cycle."""
+EXAMPLE = """examples:
+  flow hdl fir_t.blif fir.ppc > fir_mapped.v
+  tlut run 4 fir.blif fir.par fir.scr 0 0 | flow hdl fir_t.blif fir.ppc --out sim --script fir.scr --simulate"""
+
+
+def add_device_words(parser: argparse.ArgumentParser) -> None:
+    """The words that choose the tables and the port."""
+    parser.add_argument("--target", choices=TARGETS, default="generic", help="how LUTs with changing bits are implemented (default: generic)")
+    parser.add_argument("--port", choices=PORTS, help="how bits are changed (default: chain, for xilinx random)")
+    kinds = "which bits can be written: those that read a parameter (changing, the default), the same with one flip-flop for all bits of one function (distinct), or all"
+    parser.add_argument("--bits", choices=KINDS, default="changing", help=kinds)
+    parser.add_argument("--regions", metavar="N", type=int, default=1, help="with --port chain: one chain for each region of addresses, as `tlut run` has them for N ports")
+
+
+def add_words(parser: argparse.ArgumentParser) -> None:
+    parser.add_argument("template", metavar="TEMPLATE")
+    parser.add_argument("pack", metavar="PACK")
+    add_device_words(parser)
+    parser.add_argument("--module", metavar="NAME", help="the module's name; without it that of the circuit and _mapped")
+    parser.add_argument("--out", metavar="FOLDER", help="a folder for the module, its testbench and its events")
+    parser.add_argument("--script", metavar="SCRIPT", help="the script of the run whose output is on stdin")
+    parser.add_argument("--simulate", action="store_true", help="with --script: run the testbench, and compare")
+    parser.add_argument("--netlist", metavar="FILE.v", action="append", default=[], help="with --simulate: play this netlist (repeat it, as for its cells)")
+
+
+def make_folder(path: str) -> None:
+    """Makes a folder where it isn't there."""
+    try:
+        os.makedirs(path, exist_ok=True)
+    except OSError as error:
+        raise Fault(f"{path}: {error.strerror}") from None
+
+
+def device_and_names(given: argparse.Namespace, circuit: Circuit) -> tuple[Device, Names]:
+    """What the words choose for a circuit."""
+    names = names_of(circuit, module_name(given.module, circuit.name))
+    return device_of(circuit, names, given.target, given.port or usual_port(given.target), given.bits, given.regions), names
+
+
+def write_files(given: argparse.Namespace, circuit: Circuit, folder: str) -> tuple[str, Output]:
+    """Writes the files, and returns their names' beginning and the run's output."""
+    device, names = device_and_names(given, circuit)
+    base = f"{folder}/{names.module}"
+    events = None
+    output = Output(None, [])
+    if given.script:
+        output = parse_output(read_input(), "standard input")
+        script = read_script(given.script, circuit.inputs)
+        check_end(len(script), output)
+        events = events_text(device, script, output)
+    write_text(f"{base}.v", module_text(circuit, names, device))
+    write_text(f"{base}_bench.v", bench_text(circuit, names, device) + device.model)
+    if events is not None:
+        write_text(f"{base}.events", events)
+    return base, output
+
+
+def simulate(base: str, netlist: list[str]) -> list[str]:
+    """The lines that the bench prints."""
+    compiler, player = tools.need(tools.ICARUS, "a simulation"), tools.need(tools.ICARUS_PLAYER, "a simulation")
+    # Without the macro Yosys's cells of the iCE40 have values for ports that Icarus can't read.
+    files = ["-DNO_ICE40_DEFAULT_ASSIGNMENTS", *netlist] if netlist else ["-DINSIDE", f"{base}.v"]
+    with tempfile.TemporaryDirectory(prefix="flow-") as folder:
+        made = f"{folder}/bench.vvp"
+        ran = tools.run([compiler, "-g2012" if netlist else "-g2005", "-o", made, *files, f"{base}_bench.v"])
+        if ran.returncode:
+            told = ran.stderr.strip().splitlines()
+            raise Fault(f"Icarus Verilog: {next((line for line in told if 'error' in line), (told or ['it failed'])[0])}")
+        ran = tools.run([player, made, f"+events={base}.events"])
+    if ran.returncode:
+        raise Fault(f"Icarus Verilog: {(ran.stderr.strip().splitlines() or ['it failed'])[0]}")
+    return [line for line in physical_lines(ran.stdout) if line]
+
+
+def compare(shown: list[str], output: Output) -> str:
+    """What a comparison of the simulation with the run says, where they are alike."""
+    wanted = ([output.header.text] if output.header else shown[:1]) + [event.text for event in output.events]
+    for number, pair in enumerate(zip(shown, wanted), 1):
+        if pair[0] != pair[1]:
+            raise Fault(f"line {number} of the simulation is `{pair[0][:60]}`, and that of the run `{pair[1][:60]}`")
+    if len(shown) != len(wanted):
+        raise Fault(f"the simulation has {count(len(shown), 'line')}, and the run {len(wanted)}")
+    return f"{count(len(shown), 'line')} of the simulation, all as the run's"
+
+
+def compare_outputs(shown: list[str], output: Output) -> str:
+    """The same of a netlist, of which the outputs of cycles are seen."""
+    found = [line.split(" ")[1] for line in shown if line.startswith("cycle ")]
+    wanted = [event.text.split(" ")[1] for event in output.events if event.word == "cycle"]
+    for number, pair in enumerate(zip(found, wanted), 1):
+        if pair[0] != pair[1]:
+            raise Fault(f"cycle {number} of the netlist has the outputs {pair[0][:60]}, and that of the run {pair[1][:60]}")
+    if len(found) != len(wanted):
+        raise Fault(f"the simulation has {count(len(found), 'cycle')}, and the run {len(wanted)}")
+    return f"{count(len(found), 'cycle')} of the netlist, all outputs as the run's"
+
+
+def play(given: argparse.Namespace, circuit: Circuit, folder: str) -> None:
+    """Writes the files, and runs the testbench where that is wanted."""
+    base, output = write_files(given, circuit, folder)
+    if given.simulate:
+        shown = simulate(base, given.netlist)
+        print(compare_outputs(shown, output) if given.netlist else compare(shown, output))
+
+
+def run(given: argparse.Namespace) -> int:
+    circuit = read_circuit(given.template, given.pack)
+    if given.simulate and not given.script:
+        raise Fault("--simulate needs --script, and the run's output on standard input")
+    if given.simulate:
+        tools.need(tools.ICARUS, "a simulation")
+    if given.netlist and not given.simulate:
+        raise Fault("--netlist needs --simulate")
+    if given.out:
+        make_folder(given.out)
+        play(given, circuit, given.out)
+    elif given.simulate:
+        with tempfile.TemporaryDirectory(prefix="flow-") as folder:
+            play(given, circuit, folder)
+    elif given.script:
+        raise Fault("--script needs --out, or --simulate")
+    else:
+        device, names = device_and_names(given, circuit)
+        print(module_text(circuit, names, device), end="")
+    return 0

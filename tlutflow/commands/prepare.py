@@ -1,0 +1,119 @@
+"""`flow prepare`: the preparation of a netlist that measures best."""
+
+from __future__ import annotations
+
+import argparse
+import os
+import sys
+import tempfile
+from dataclasses import replace
+from typing import Optional
+
+from tlutflow.faults import Fault
+from tlutflow.parameters import read_parameters
+from tlutflow.port_file import keep_ports
+from tlutflow.trials import AIMS, RULE_NAMES, Found, Report, Result, Task, Trial, keep, prepare
+from tlutflow.preparations import PREPARATIONS, Preparation, chosen, further
+from tlutflow.statistics import grid
+from tlutflow.text import count
+
+HELP = "the preparation of a netlist that measures best"
+DESCRIPTION = """Tries a list of preparations of a netlist (BLIF, or AIGER's ASCII form) in parallel, maps each one by both rules (tlut, and
+tlut --compact), and writes the best netlist to FILE. A preparation is a sequence of ABC commands that restructures the logic. The mapper's
+depth is the least one for the graph that it reads, so another preparation can have a lower one.
+
+Each prepared netlist is compared with its source by ABC (cec), output by output and next state by next state; the flip-flops, their
+initial values and all names of ports and flip-flops stay. A preparation that fails, takes too long or isn't shown to be equal is
+skipped, and stderr says why. Each one begins with strash, which factors covers of many inputs, such as those of a netlist of LUTs.
+
+The table has a row for each preparation and rule, the best one first. A star marks those that none beats in LUTs, depth and bits."""
+EXAMPLE = """examples:
+  flow prepare fir.blif fir.par --k 4 --out fir_prepared.blif
+  flow prepare fir.blif fir.par --k 6 --for tables --only raw --only dc2 --try short='dc2; balance'"""
+
+
+def add_words(parser: argparse.ArgumentParser) -> None:
+    parser.add_argument("netlist", metavar="NETLIST")
+    parser.add_argument("params", metavar="PARAMS")
+    parser.add_argument("--out", metavar="FILE", help="where the best netlist goes (default: NETLIST's name with _prepared.blif, in the current directory)")
+    add_shared_words(parser, 4)
+    parser.add_argument("--list", action="store_true", help="print the preparations and their commands instead, and try nothing")
+    parser.add_argument("--beside", action="store_true", help="also map each one by ABC, with the parameters as inputs")
+
+
+def add_shared_words(parser: argparse.ArgumentParser, k: Optional[int]) -> None:
+    """The words that `prepare`, `verilog` and `build` share."""
+    parser.add_argument("--k", metavar="K", type=int, choices=range(2, 7), default=k, help=f"inputs of a LUT, 2 to 6{f' (default: {k})' if k else ''}")
+    parser.add_argument("--for", dest="aim", choices=list(AIMS), default="depth", help="what is looked for: changes counts the bits that a drawn change of a parameter rewrites, the median (default: depth, then the fewest LUTs)")
+    parser.add_argument("--seconds", type=float, default=60, help="processor time that ABC may take for a preparation, and for a comparison (default: 60)")
+    parser.add_argument("--try", dest="further", metavar="NAME=COMMANDS", action="append", default=[], help="a further preparation, commands of ABC (repeat it)")
+    parser.add_argument("--only", metavar="NAME", action="append", default=[], help="try this preparation alone (repeat it)")
+    parser.add_argument("--rounds", type=int, choices=(1, 2, 3), default=1, help="a further round starts from the two best of the round before (default: 1)")
+    parser.add_argument("-j", dest="jobs", metavar="N", type=int, default=0, help="how many run at a time (default: one for each processor)")
+    parser.add_argument("--tlut", metavar="PATH", help="the program (default: that of the variable TLUT, or the one next to this one)")
+
+
+def progress(prog: str) -> Report:
+    """Says on standard error how many preparations are done, the best so far, and what fails."""
+
+    def report(done: int, many: int, trial: Trial, best: Optional[Result]) -> None:
+        if trial.failure:
+            print(f"{prog}: {trial.name} is left out: {trial.failure}", file=sys.stderr)
+        so_far = f"best so far: {sizes(best)} by {best.name}" if best else "none could be mapped so far"
+        print(f"{prog}: {done} of {many} preparations, {so_far}", file=sys.stderr, flush=True)
+
+    return report
+
+
+def sizes(result: Result) -> str:
+    """The sizes of a result in words."""
+    changed = "" if result.changed is None else f", {count(result.changed, 'bit')} a change"
+    return f"depth {result.depth}, {count(result.tables, 'LUT')}, {count(result.bits, 'bit')}{changed}"
+
+
+def table(found: Found) -> list[str]:
+    """The lines of the table."""
+    measured, beside = found.best.changed is not None, any(trial.by_abc for trial in found.trials)
+    by_abc = {trial.name: [cell for it in trial.by_abc.values() for cell in it.cells()[:2]] for trial in found.trials}
+    rows = [["preparation", "rule", "LUTs", "depth", "bits", *(["a change"] if measured else []), "seconds", "front"]]
+    rows[0] += ["if: LUTs", "depth", "if -a: LUTs", "depth"] if beside else []
+    front = found.front
+    for it in found.results:
+        cells = [it.name, it.rule, str(it.tables), str(it.depth), str(it.bits), *([str(it.changed)] if measured else [])]
+        rows.append([*cells, f"{it.seconds:.1f}", "*" if it in front else "", *(by_abc[it.name] if beside else [])])
+    return grid(rows)
+
+
+def default_file(netlist: str) -> str:
+    """The file that the best netlist goes to."""
+    return f"{os.path.splitext(os.path.basename(netlist))[0]}_prepared.blif"
+
+
+def task_of(given: argparse.Namespace, netlist: str, params: str) -> Task:
+    """The task that words name."""
+    if given.seconds <= 0 or given.jobs < 0:
+        raise Fault("--seconds is more than 0, and -j at least 1")
+    preparations = preparations_of(given)
+    return Task(netlist, params, given.k, given.aim, given.seconds, given.jobs, given.rounds, preparations=preparations, program=given.tlut)
+
+
+def preparations_of(given: argparse.Namespace) -> list[Preparation]:
+    """The preparations that words name."""
+    return chosen(given.only, [*PREPARATIONS, *further(given.further, PREPARATIONS)])
+
+
+def run(given: argparse.Namespace) -> int:
+    if given.list:
+        print("\n".join(f"{it.name:8}{it.shown}" for it in preparations_of(given)))
+        return 0
+    task = task_of(given, given.netlist, given.params)
+    named = count(len(read_parameters(given.params)), "parameter")
+    out = given.out or default_file(given.netlist)
+    with tempfile.TemporaryDirectory(prefix="flow-") as folder:
+        found = prepare(replace(task, beside=given.beside), folder, progress(given.prog))
+        keep(found.best, out)
+    keep_ports(given.netlist, out)
+    print(f"{os.path.basename(given.netlist)}, {named}, K {given.k}, for {given.aim}")
+    print("\n".join(table(found)))
+    print(f"{out}: {found.best.name}, {sizes(found.best)} with {RULE_NAMES[found.best.rule]}; equal to its source (ABC cec)")
+    return 0

@@ -1,0 +1,64 @@
+"""`flow report`: what a mapped circuit has."""
+
+from __future__ import annotations
+
+import argparse
+import json
+
+from tlutflow.circuit import Circuit, Table, read_circuit
+from tlutflow.faults import Fault
+from tlutflow.formula import Formulas
+from tlutflow.statistics import as_json, statistics, text_of
+
+HELP = "what a mapped circuit has: LUTs, bits, parameters, the critical path"
+DESCRIPTION = """Prints of a mapped circuit: its LUTs by leaves and by depth; how many bits, and how many LUTs by all their bits, read no parameter (they
+never change), one, or several; how many bits and LUTs each parameter is in; and the critical path, from an input or a latch through
+LUTs to an output or a latch.
+
+With --bits also the functions of the bits: a line for each, with its address, the values of the leaves that select it (leaf 0 first), and
+the function. `!` is not, `&` and, `|` or, `^` exclusive or, and `c ? a : b` is a choice. A function that several
+bits share has a name, for example g17, and a line of its own after the LUT."""
+EXAMPLE = """examples:
+  tlut map 4 fir.blif fir.par fir_t.blif fir.ppc
+  flow report fir_t.blif fir.ppc
+  flow report fir_t.blif fir.ppc --bits --table _n51"""
+
+
+def add_words(parser: argparse.ArgumentParser) -> None:
+    parser.add_argument("template", metavar="TEMPLATE")
+    parser.add_argument("pack", metavar="PACK")
+    parser.add_argument("--bits", action="store_true", help="the functions of the bits")
+    parser.add_argument("--table", metavar="NET", action="append", default=[], help="with --bits: only this LUT (repeat it)")
+    parser.add_argument("--json", action="store_true", help="all of it in JSON, for other programs")
+
+
+def chosen_tables(circuit: Circuit, nets: list[str]) -> list[Table]:
+    """The tables of some nets, or all where none is named."""
+    for net in nets:
+        if net not in circuit.table_of:
+            raise Fault(f"--table {net}: {circuit.name} has no LUT of this net; report --json lists them")
+    return [circuit.table_of[net] for net in nets] or circuit.tables
+
+
+def table_lines(table: Table, formulas: Formulas) -> list[str]:
+    """The functions of a table's bits."""
+    texts = [formulas.of_bit(address) for address in table.addresses]
+    width = len(str(table.addresses[-1]))
+    lines = [f"LUT {table.net}: {', '.join(table.leaves) or 'no leaves'}"]
+    for place, text in enumerate(texts):
+        values = "".join(str(place >> leaf & 1) for leaf in range(len(table.leaves)))
+        lines.append("  ".join(filter(None, [f"  {table.first + place:{width}}", values, text])))
+    return lines + [f"  where {line}" for line in formulas.definitions(texts)]
+
+
+def run(given: argparse.Namespace) -> int:
+    circuit = read_circuit(given.template, given.pack)
+    formulas = Formulas(circuit.pack)
+    if given.json:
+        print(json.dumps(as_json(circuit, formulas), indent=1))
+        return 0
+    print("\n".join(text_of(statistics(circuit), circuit.buses(circuit.pack.parameters).values())))
+    if given.bits:
+        for table in chosen_tables(circuit, given.table):
+            print("\n" + "\n".join(table_lines(table, formulas)))
+    return 0

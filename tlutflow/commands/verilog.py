@@ -1,0 +1,218 @@
+"""`flow verilog`: a netlist and its parameter list from a design in Verilog."""
+
+from __future__ import annotations
+
+import argparse
+import json
+import os
+import re
+import shutil
+import sys
+import tempfile
+from dataclasses import dataclass, replace
+from typing import Optional
+
+from tlutflow import tools
+from tlutflow.buses import buses_of
+from tlutflow.commands.prepare import add_shared_words, progress, sizes, task_of
+from tlutflow.design import ATTRIBUTE, obstacle, parameters_of, ports_of
+from tlutflow.design_checks import late_resets, refuse_high_impedance, refuse_ports, refuse_registers, register_buses, register_names, undriven
+from tlutflow.design_json import Design, read_design
+from tlutflow.faults import Fault
+from tlutflow.netlist import Library, read_library
+from tlutflow.parameters import data_inputs, parameter_list
+from tlutflow.port_file import END, Ports, file_name, json_of_bus
+from tlutflow.trials import RULE_NAMES, Found, keep, prepare
+from tlutflow.recipe import PREPARATION, READERS, Sources, Step, look, recipe, script_text
+from tlutflow.text import count, write_text
+
+HELP = "a netlist and its parameter list from a design in Verilog"
+DESCRIPTION = f"""Makes FOLDER/TOP.blif, FOLDER/TOP.par and FOLDER/TOP.ports.json from a design in Verilog (files .sv are read as SystemVerilog), by Yosys.
+The last file has what a netlist can't hold: the order of each port's digits, signs, and the names of the registers. The other
+subcommands read it where it is beside their files.
+
+Parameters are input ports that change seldom. A port is one where --param gives it its value at the start, or where it has the
+attribute {ATTRIBUTE} with that value: (* {ATTRIBUTE} = 5 *) input [2:0] c0. A value of the command line comes before an attribute's.
+
+The netlist is the one that measures best of many preparations of the logic (see flow prepare --help), which needs ABC and tlut and
+takes seconds to minutes. With --quick, or with --abc SCRIPT, Yosys makes one preparation and nothing is measured."""
+EXAMPLE = """examples:
+  flow verilog fir.v --top fir --param c0=5 --param c1=3 --param c2=6
+  flow verilog top.v part.v --top top --set WIDTH=8 -D FAST -I include
+  flow verilog fir.v --top fir --recipe          # what Yosys would be given, with reasons"""
+
+WORD = re.compile(r"[^\s;\"#]+")
+
+
+def add_words(parser: argparse.ArgumentParser) -> None:
+    parser.add_argument("files", metavar="FILE.v", nargs="+")
+    parser.add_argument("--top", metavar="TOP", required=True, help="the module to take")
+    parser.add_argument("--param", metavar="PORT=VALUE", action="append", default=[], help="an input port that is a parameter (repeat it)")
+    add_source_words(parser)
+    parser.add_argument("--out", metavar="FOLDER", default=".", help="where the files go (default: the current directory)")
+    add_shared_words(parser, 4)
+    parser.add_argument("--recipe", action="store_true", help="show what Yosys would be given, and make nothing")
+
+
+def add_source_words(parser: argparse.ArgumentParser) -> None:
+    """The words about a design in Verilog that `verilog` and `build` share."""
+    parser.add_argument("--set", metavar="NAME=VALUE", action="append", default=[], help="the value of a parameter of the module TOP (repeat it)")
+    parser.add_argument("-D", "--define", metavar="NAME[=TEXT]", action="append", default=[], help="a macro (repeat it)")
+    parser.add_argument("-I", "--include", metavar="FOLDER", action="append", default=[], help="where included files are looked for (repeat it)")
+    parser.add_argument("--reader", choices=list(READERS), default="verilog", help="Yosys's own reader (verilog), or one of a plugin, which has to be installed")
+    parser.add_argument("--quick", action="store_true", help=f"one preparation, and no measuring: {PREPARATION}")
+    parser.add_argument("--abc", metavar="SCRIPT", help="one preparation by these commands of ABC, and no measuring")
+
+
+def sources_of(given: argparse.Namespace) -> Sources:
+    """What Yosys reads."""
+    top = given.top[1:] if given.top.startswith("\\") else given.top
+    words = {"--top": [top], "-D": given.define, "-I": given.include, "--set": given.set}
+    for option, values in words.items():
+        for value in values:
+            if not WORD.fullmatch(value):
+                raise Fault(f"{option} {value}: it can't be empty, and can't have blanks or one of ; \" #")
+    settings = []
+    for word in given.set:
+        name, equals, value = word.partition("=")
+        if not (name and equals and value):
+            raise Fault(f"--set {word}: it isn't NAME=VALUE")
+        settings.append((name, value))
+    return Sources(given.files, top, given.define, given.include, settings, given.reader)
+
+
+def preparation_of(given: argparse.Namespace) -> str:
+    """The commands of ABC as one word, in which Yosys has commas for blanks."""
+    commands = [",".join(part.split()) for part in (given.abc or PREPARATION).split(";")]
+    return ";".join(filter(None, commands))
+
+
+def yosys(steps: list[Step], folder: str) -> None:
+    """Runs Yosys."""
+    program, script = tools.need(tools.YOSYS, "making a netlist from Verilog"), f"{folder}/recipe.ys"
+    write_text(script, script_text(steps))
+    ran = tools.run([program, "-q", "-s", script])
+    if ran.returncode:
+        told = [line for line in (ran.stdout + ran.stderr).splitlines() if "ERROR" in line]
+        raise Fault(f"Yosys: {told[-1] if told else f'it ended with status {ran.returncode}'}")
+
+
+def synthesise(given: argparse.Namespace, folder: str) -> tuple[Library, Design, Ports]:
+    """Runs Yosys, which leaves its files in a folder, and returns the netlist, the design before its registers were changed, and its ports."""
+    sources, paths = sources_of(given), [f"{folder}/{name}" for name in ("design.json", "netlist.blif", "registers.json", "ports.json")]
+    yosys(look(sources, paths[0]), folder)
+    design = read_design(paths[0], sources.top)
+    refuse_ports(design, sources.top)
+    refuse_high_impedance(design)
+    tell(given, undriven(design))
+    gates = None if is_quick(given) else f"{folder}/gates.blif"
+    yosys(recipe(sources, preparation_of(given), paths[1], paths[2], paths[3], gates), folder)
+    before, after, library = read_design(paths[2], sources.top), read_design(paths[3], sources.top), read_library(paths[1])
+    refuse_registers(before)
+    reason = obstacle(library)
+    if reason:
+        raise Fault(f"{given.top}: {reason}")
+    tell(given, late_resets(before))
+    registers = register_names(before, after, [latch.state for latch in library.main.latches])
+    buses = [*(net.bus for name, net in after.nets.items() if name in after.ports), *register_buses(before, registers)]
+    return library, after, Ports({bus.name: bus for bus in buses}, registers)
+
+
+def is_quick(given: argparse.Namespace) -> bool:
+    """Whether one preparation is taken without measuring."""
+    return given.quick or given.abc is not None
+
+
+def choose(given: argparse.Namespace, folder: str, beside: bool = False) -> Found:
+    """Puts the preparation that measures best in the place of the recipe's netlist. Preparations start from the gates of the recipe,
+    and the netlist of its own preparation is a further one."""
+    task = task_of(given, f"{folder}/gates.blif", f"{folder}/list.par")
+    found = prepare(replace(task, ready={"yosys": f"{folder}/netlist.blif"}, beside=beside), f"{folder}/trials", progress(given.prog))
+    keep(found.best, f"{folder}/netlist.blif")
+    return found
+
+
+@dataclass(frozen=True)
+class Made:
+    """A netlist that was made: as Yosys left it, its parameters, the text of its ports, its summary, and what was found for its
+    preparation."""
+
+    parameters: dict[str, int]
+    ports: Ports
+    ports_text: str
+    summary: str
+    found: Optional[Found]
+
+
+def make(given: argparse.Namespace, folder: str, beside: bool = False) -> Made:
+    """Makes the netlist in a folder, as netlist.blif."""
+    library, design, ports = synthesise(given, folder)
+    parameters, found = parameters_of(ports_of(design), given.param, library.clock_nets()), None
+    if not is_quick(given):
+        write_text(f"{folder}/list.par", parameter_list(parameters))
+        found = choose(given, folder, beside)
+        if found.best.name != "yosys":
+            ports = replace(ports, registers=names_of_gates(folder, sources_of(given).top))
+    return Made(parameters, ports, ports_text(design, ports, sources_of(given).top), summary(library, parameters, ports), found)
+
+
+def names_of_gates(folder: str, top: str) -> list[str]:
+    """The names of the registers of a netlist that was prepared from the gates, in the order of its latches."""
+    before, gates = (read_design(f"{folder}/{name}", top) for name in ("registers.json", "gates.blif.json"))
+    return register_names(before, gates, [latch.state for latch in read_library(f"{folder}/netlist.blif").main.latches])
+
+
+def tell(given: argparse.Namespace, lines: list[str]) -> None:
+    """Lines on standard error."""
+    for line in lines:
+        print(f"{given.prog}: {line}", file=sys.stderr)
+
+
+def bus_titles(names: list[str], ports: Ports) -> str:
+    """The buses of some nets."""
+    return ", ".join(bus.title for bus in buses_of(names, ports).values()) or "none"
+
+
+def summary(library: Library, parameters: dict[str, int], ports: Ports) -> str:
+    """The line that says what the netlist has."""
+    regular = [name for name in data_inputs(library) if name not in parameters]
+    titles = {"inputs": bus_titles(regular, ports), "outputs": bus_titles(library.main.outputs, ports)}
+    clock = library.clock_nets()
+    registers = count(len(library.main.latches), "register bit")
+    unset = sum(latch.init in "23" for latch in library.main.latches)
+    late = f", {unset} of them without an initial value, which start at 0" if unset else ""
+    parts = [f"clock {clock[0]}" if clock else "no clock", *(f"{what} {text}" for what, text in titles.items()), registers + late]
+    return "; ".join(parts)
+
+
+def ports_text(design: Design, ports: Ports, top: str) -> str:
+    """The text of TOP.ports.json."""
+    shown = [json_of_bus(ports.buses[name], direction=port["direction"]) for name, port in design.ports.items()]
+    others = [json_of_bus(bus) for name, bus in ports.buses.items() if name not in design.ports]
+    return json.dumps({"top": top, "ports": shown, "buses": others, "registers": ports.registers}, indent=1) + "\n"
+
+
+def run(given: argparse.Namespace) -> int:
+    sources = sources_of(given)
+    base = file_name(sources.top)
+    files = [os.path.normpath(f"{given.out}/{base}{end}") for end in (".blif", ".par", END)]
+    if given.recipe:
+        steps = recipe(sources, preparation_of(given), files[0], f"{base}.registers.json", f"{base}.json")
+        print(script_text(steps), end="")
+        return 0
+    with tempfile.TemporaryDirectory(prefix="flow-") as folder:
+        made = make(given, folder)
+        try:
+            os.makedirs(given.out, exist_ok=True)
+            shutil.copyfile(f"{folder}/netlist.blif", files[0])
+        except OSError as error:
+            raise Fault(f"{error.filename or given.out}: {error.strerror}") from None
+    write_text(files[1], parameter_list(made.parameters))
+    write_text(files[2], made.ports_text)
+    values = ", ".join(f"{bus.name}={bus.number(made.parameters)}" for bus in buses_of(made.parameters, made.ports).values())
+    print(f"{files[0]}: {made.summary}")
+    print(f"{files[1]}: {values or 'no parameters'}")
+    if made.found:
+        best = f"{made.found.best.name}, the best of {len(made.found.trials)} for {given.aim} at K {given.k}"
+        print(f"preparation {best}: {sizes(made.found.best)} with {RULE_NAMES[made.found.best.rule]}")
+    return 0

@@ -1,0 +1,39 @@
+"""`flow wave`: a waveform of a run."""
+
+from __future__ import annotations
+
+import argparse
+import sys
+
+from tlutflow.output import parse_output
+from tlutflow.parameters import read_interface
+from tlutflow.script import read_script
+from tlutflow.text import read_input
+from tlutflow.waveform import check_end, dump_of
+
+HELP = "a waveform of a run, for GTKWave"
+DESCRIPTION = """Reads what `tlut run` or `tlut pace` printed for SCRIPT on stdin, and prints a value change dump (VCD): the inputs, the parameters,
+the registers' states and the outputs by their buses, a clock, and how many configuration bits a change wrote. If the output ends
+before the script, the dump ends there too, and the status is 1.
+
+Each event except image has ten units of time. The outputs of a cycle are shown over the states before its edge, which is where its ten
+units end. During a set, a scrub, an upset, an ask or a tick that waits the outputs are x, since a run doesn't print them.
+From an ask on the parameters have the values that were asked for."""
+EXAMPLE = """example:
+  tlut run 4 fir.blif fir.par fir.scr 0 0 | flow wave fir.blif fir.par fir.scr > fir.vcd"""
+
+
+def add_words(parser: argparse.ArgumentParser) -> None:
+    parser.add_argument("netlist", metavar="NETLIST")
+    parser.add_argument("params", metavar="PARAMS")
+    parser.add_argument("script", metavar="SCRIPT")
+
+
+def run(given: argparse.Namespace) -> int:
+    interface = read_interface(given.netlist, given.params)
+    events = read_script(given.script, interface.regular)
+    output = parse_output(read_input(), "standard input")
+    print(dump_of(interface, events, output), end="")
+    sys.stdout.flush()
+    check_end(len(events), output)
+    return 0

@@ -1,0 +1,73 @@
+"""A mapped circuit as Verilog, whose configuration is changed through a port while it runs.
+
+A target says how tables are made whose bits change, and a port how they are changed. Tables of constants are plain functions.
+"""
+
+from __future__ import annotations
+
+from typing import Union
+
+from tlutflow.cfglut import CfglutChain, CfglutRandom
+from tlutflow.circuit import Circuit
+from tlutflow.faults import Fault
+from tlutflow.flip_flops import Chain, Random
+from tlutflow.store import store_of
+from tlutflow.verilog_names import Names
+
+TARGETS = ("generic", "xilinx")
+PORTS = ("chain", "random")
+Device = Union[Chain, Random, CfglutChain, CfglutRandom]
+
+
+def device_of(circuit: Circuit, names: Names, target: str, port: str, bits: str, regions: int) -> Device:
+    """The tables and the configuration port of a circuit."""
+    if regions < 1 or regions > 1 and (target, port) != ("generic", "chain"):
+        raise Fault(f"--regions {regions}: the generic target has one chain or more, one for each region, and all other ports have one region")
+    if target == "xilinx":
+        store = store_of(circuit.pack, "changing" if bits == "distinct" else bits)
+        return CfglutChain(circuit, names, store) if port == "chain" else CfglutRandom(circuit, names, store)
+    store = store_of(circuit.pack, bits)
+    return Chain(circuit, names, store, regions) if port == "chain" else Random(circuit, names, store)
+
+
+def usual_port(target: str) -> str:
+    """The port where none is chosen."""
+    return "random" if target == "xilinx" else "chain"
+
+
+def port_lines(names: Names, device: Device) -> list[str]:
+    """The lines of the module's list of ports."""
+    lines = [f"input {names.clock}"] if names.clock else []
+    return lines + [port.declaration for port in (*names.inputs, *names.outputs)] + device.declarations()
+
+
+def latch_lines(circuit: Circuit, names: Names) -> list[str]:
+    """The registers."""
+    if not circuit.latches:
+        return []
+    lines = [f"    always @(posedge {names.clock}) begin"]
+    lines += [f"        {names.nets[latch.state]} <= {names.nets[latch.source]};" for latch in circuit.latches]
+    return [*lines, "    end"]
+
+
+def module_text(circuit: Circuit, names: Names, device: Device) -> str:
+    """The circuit."""
+    tables = [line for number, table in enumerate(circuit.tables) for line in device.table_lines(number, table)]
+    lines = [
+        f"// The circuit {circuit.name} as tlut mapped it. It begins with the values that the parameters have at the start.",
+        device.comment(),
+        "/* verilator lint_off LITENDIAN */",
+        "/* verilator lint_off UNUSEDSIGNAL */",
+        *(["/* verilator lint_off PINCONNECTEMPTY */"] if device.model else []),
+        f"module {names.module} (",
+        ",\n".join(f"    {line}" for line in port_lines(names, device)),
+        ");",
+        *(f"    reg {names.nets[latch.state]} = 1'b{latch.start};" for latch in circuit.latches),
+        *(f"    wire {names.nets[table.net]};" for table in circuit.tables),
+        *device.lines(),
+        *tables,
+        *latch_lines(circuit, names),
+        *(f"    assign {names.output_bits[output]} = {names.nets[root]};" for output, root in circuit.roots.items()),
+        "endmodule",
+    ]
+    return "\n".join(lines) + "\n"

@@ -1,0 +1,67 @@
+"""The words of a call: the choice of a subcommand, its help, and what a fault shows."""
+
+from __future__ import annotations
+
+import argparse
+import io
+import os
+import sys
+from types import ModuleType
+from typing import NoReturn, Optional
+
+from tlutflow.commands import build, check, compare, complete, device, draw, explain, hdl, params, prepare, report, script, show, stream, verilog, wave
+from tlutflow.faults import Fault
+
+COMMANDS: list[ModuleType] = [build, verilog, prepare, params, script, show, report, draw, wave, hdl, stream, device, check, compare, explain, complete]
+
+HEAD = """The companion of the mapper tlut: from a design in Verilog to a netlist, values of buses in and out, and views of the mapped circuit.
+Each subcommand has its own --help."""
+
+TAIL = """NETLIST, PARAMS and SCRIPT are files as tlut reads them, OUTPUT is what it prints, and TEMPLATE and PACK are what `tlut map` writes.
+The exit status is 0 on success, 1 on failure, with one line on stderr, and 2 for a usage error."""
+
+
+class Words(argparse.ArgumentParser):
+    """A parser of words that tells an error in one line."""
+
+    def error(self, message: str) -> NoReturn:
+        self.exit(2, f"{self.prog}: {message}; see {self.prog} --help\n")
+
+
+def parser() -> argparse.ArgumentParser:
+    """The parser of all words."""
+    name = os.path.basename(sys.argv[0])
+    prog = name if name.startswith(("flow", "tlut")) else "flow"
+    words = Words(prog=prog, description=HEAD, epilog=TAIL)
+    subcommands = words.add_subparsers(title="subcommands", metavar="SUBCOMMAND", required=True, parser_class=Words)
+    for module in COMMANDS:
+        own = subcommands.add_parser(
+            module.__name__.rsplit(".", 1)[-1],
+            help=module.HELP,
+            description=module.DESCRIPTION,
+            epilog=module.EXAMPLE,
+            formatter_class=argparse.RawDescriptionHelpFormatter,
+        )
+        module.add_words(own)
+        own.set_defaults(run=module.run, prog=own.prog)
+    return words
+
+
+def main(words: Optional[list[str]] = None) -> int:
+    """Runs a call, and returns its status."""
+    for stream in (sys.stdout, sys.stderr):
+        if isinstance(stream, io.TextIOWrapper):
+            stream.reconfigure(encoding="utf-8", errors="surrogateescape")
+    given = parser().parse_args(words)
+    try:
+        status = int(given.run(given))
+        sys.stdout.flush()
+        return status
+    except Fault as fault:
+        print(f"{given.prog}: {fault}", file=sys.stderr)
+    except BrokenPipeError:
+        # Whoever read the output is gone; nothing more is put, at the end of Python neither.
+        os.dup2(os.open(os.devnull, os.O_WRONLY), sys.stdout.fileno())
+    except KeyboardInterrupt:
+        print(f"{given.prog}: stopped", file=sys.stderr)
+    return 1

@@ -1,0 +1,96 @@
+"""The preparations of logic that `flow prepare` tries: sequences of ABC's commands.
+
+The depth that the mapper finds is least for the graph as it is read, so the graph decides. A preparation restructures the logic and
+leaves inputs, outputs and flip-flops as they are. Each one begins with `strash`, which also factors covers of many inputs.
+"""
+
+from __future__ import annotations
+
+from dataclasses import dataclass
+
+from tlutflow.faults import Fault
+
+# The gates that ABC's `map` may use. An inverter is almost free; a gate's delay is how many AND nodes it has on its way.
+GENLIB = """GATE zero 0 Y=CONST0;
+GATE one 0 Y=CONST1;
+GATE inv 0.1 Y=!A; PIN * INV 1 999 0.1 0 0.1 0
+GATE and2 1 Y=A*B; PIN * NONINV 1 999 1 0 1 0
+GATE nand2 1 Y=!(A*B); PIN * INV 1 999 1 0 1 0
+GATE or2 1 Y=A+B; PIN * NONINV 1 999 1 0 1 0
+GATE nor2 1 Y=!(A+B); PIN * INV 1 999 1 0 1 0
+GATE xor2 3 Y=(A*!B)+(!A*B); PIN * UNKNOWN 1 999 2 0 2 0
+GATE xnor2 3 Y=(A*B)+(!A*!B); PIN * UNKNOWN 1 999 2 0 2 0
+GATE mux 3 Y=(S*A)+(!S*B); PIN * UNKNOWN 1 999 2 0 2 0
+"""
+
+
+@dataclass(frozen=True)
+class Preparation:
+    """A preparation: its name, its commands, and what is repeated before `last` as long as the graph gets fewer levels."""
+
+    name: str
+    commands: str
+    repeated: str = ""
+    last: str = ""
+
+    @property
+    def shown(self) -> str:
+        """The commands in one line."""
+        return self.commands + (f"; until the depth stays: {self.repeated}; then {self.last}" if self.repeated else "")
+
+
+CHOICE = "dch; map -B 0.9; strash"
+SOP = "if -g -K 6; strash"
+SOP_4 = "if -g -K 4; strash"
+DEFAULT = "strash; dch; map -B 0.9; topo; strash"
+RESYN2 = "balance; rewrite; refactor; balance; rewrite; rewrite -z; balance; refactor -z; rewrite -z; balance"
+RESUB = (
+    "balance -l; resub -K 6 -l; rewrite -l; resub -K 6 -N 2 -l; refactor -l; resub -K 8 -l; balance -l; resub -K 8 -N 2 -l; rewrite -l; "
+    "resub -K 10 -l; rewrite -z -l; resub -K 10 -N 2 -l; balance -l; resub -K 12 -l; refactor -z -l; resub -K 12 -N 2 -l; rewrite -z -l; balance -l"
+)
+
+PREPARATIONS = [
+    Preparation("raw", "strash"),
+    Preparation("map", DEFAULT),
+    Preparation("dc2", "strash; dc2; dc2; balance"),
+    Preparation("resyn2", f"strash; {RESYN2}"),
+    Preparation("bm", "strash; dch; map; strash"),
+    Preparation("g1", f"strash; {SOP}; {CHOICE}"),
+    Preparation("g1n", f"strash; {SOP}"),
+    Preparation("g1d", f"strash; {SOP}; dch; if -K 6; strash; {CHOICE}"),
+    Preparation("g2", f"strash; {SOP}; {SOP}; {CHOICE}"),
+    Preparation("g2n", f"strash; {SOP}; {SOP}; balance"),
+    Preparation("dg1", f"strash; dch; {SOP}; {CHOICE}"),
+    Preparation("dg2", f"strash; dch; {SOP}; dch; {SOP}; {CHOICE}"),
+    Preparation("g4", f"strash; {'; '.join([SOP] * 4)}; {CHOICE}"),
+    Preparation("dg4", f"strash; {'; '.join(['dch; ' + SOP] * 4)}; {CHOICE}"),
+    Preparation("dg2k4", f"strash; dch; {SOP_4}; dch; {SOP_4}; {CHOICE}"),
+    Preparation("gstay", "strash", SOP, CHOICE),
+    Preparation("dgstay", "strash", f"dch; {SOP}", CHOICE),
+    Preparation("syn2", "strash; &get -n; &syn2; &put; strash"),
+    Preparation("syn4", "strash; &get -n; &syn4; &put; strash"),
+    Preparation("rs", f"strash; {RESUB}"),
+    Preparation("rsg", f"strash; {RESUB}; {SOP}; {SOP}; {CHOICE}"),
+]
+
+
+def further(words: list[str], known: list[Preparation]) -> list[Preparation]:
+    """Preparations that were given as NAME=COMMANDS."""
+    found: list[Preparation] = []
+    for word in words:
+        name, equals, commands = word.partition("=")
+        if not equals or not name.strip() or not commands.strip():
+            raise Fault(f"--try {word}: it isn't NAME=COMMANDS, as short='dc2; balance'")
+        if name in [it.name for it in [*known, *found]]:
+            raise Fault(f"--try {word}: there is a preparation {name} already")
+        found.append(Preparation(name, f"strash; {commands.strip().rstrip(';')}; strash"))
+    return found
+
+
+def chosen(names: list[str], known: list[Preparation]) -> list[Preparation]:
+    """The preparations of some names, or all without names."""
+    by_name = {it.name: it for it in known}
+    for name in names:
+        if name not in by_name:
+            raise Fault(f"--only {name}: the preparations are {', '.join(by_name)}")
+    return [by_name[name] for name in names] or known

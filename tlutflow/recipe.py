@@ -1,0 +1,83 @@
+"""The recipe by which Yosys makes a netlist that `tlut` takes, each line with its reason."""
+
+from __future__ import annotations
+
+from dataclasses import dataclass, field
+from typing import Optional
+
+# How Yosys's ABC prepares the logic: a choice among structures, then gates that are chosen for little delay.
+PREPARATION = "strash;dch;map,-B,0.9;topo"
+# How files are read: Yosys's own reader, or one of a plugin that knows more of SystemVerilog.
+READERS = {
+    "verilog": ("", "read_verilog"),
+    "slang": ("slang", "read_slang"),
+    "systemverilog": ("systemverilog", "read_systemverilog"),
+    "synlig": ("synlig-sv", "read_systemverilog"),
+}
+
+
+@dataclass(frozen=True)
+class Step:
+    """A command of Yosys and why it stands there."""
+
+    command: str
+    reason: str
+
+
+@dataclass(frozen=True)
+class Sources:
+    """A design's files, its top module, and what its reader is told: macros, folders of included files, values of module parameters."""
+
+    files: list[str]
+    top: str
+    defines: list[str] = field(default_factory=list)
+    includes: list[str] = field(default_factory=list)
+    settings: list[tuple[str, str]] = field(default_factory=list)
+    reader: str = "verilog"
+
+
+def quoted(path: str) -> str:
+    """A file's name as a word of a Yosys script."""
+    return f'"{path}"'
+
+
+def reading(sources: Sources) -> list[Step]:
+    """The steps that read a design."""
+    plugin, command = READERS[sources.reader]
+    words = "".join([*(f" -D{it}" for it in sources.defines), *(f" -I{it}" for it in sources.includes)])
+    steps = [Step(f"plugin -i {plugin}", "the reader of SystemVerilog")] if plugin else []
+    if plugin:
+        top = f" --top {sources.top}" if plugin == "slang" else ""
+        steps.append(Step(f"{command}{top}{words} {' '.join(map(quoted, sources.files))}", "the design"))
+    else:
+        steps += [Step(f"{command}{' -sv' if file.endswith('.sv') else ''}{words} {quoted(file)}", "the design") for file in sources.files]
+    steps += [Step(f"chparam -set {name} {value} {sources.top}", "a module parameter's value") for name, value in sources.settings]
+    return steps
+
+
+def look(sources: Sources, design: str) -> list[Step]:
+    """The steps by which a design is looked at before any of it is optimised away."""
+    return [*reading(sources), Step(f"hierarchy -check -top {sources.top}", ""), Step("proc", ""), Step("flatten", ""), Step(f"write_json {quoted(design)}", "")]
+
+
+def recipe(sources: Sources, preparation: str, netlist: str, registers: str, ports: str, gates: Optional[str] = None) -> list[Step]:
+    """The steps from files in Verilog to the files of the netlist, of its registers and of its ports. With `gates` the netlist before its
+    preparation is written to that file too, for others to start from."""
+    before = [Step("opt_clean -purge", "aliases go"), Step(f"write_blif {quoted(gates)}", "where preparations start"), Step(f"write_json {quoted(gates + '.json')}", "")] if gates else []
+    return [
+        *reading(sources),
+        Step(f"synth -flatten -top {sources.top}", "one module of gates and flip-flops; memories become flip-flops"),
+        Step(f"write_json {quoted(registers)}", "the registers with their names and resets, as the source has them"),
+        Step("async2sync", "a reset that doesn't wait for the clock becomes logic before and behind its flip-flop, since a latch has none"),
+        Step("dfflegalize -cell $_DFF_P_ 01", "enables and resets become logic before a plain flip-flop at the positive edge, which starts at 0 or 1"),
+        *before,
+        Step(f"abc -g AND,OR,XOR,MUX -script +{preparation}", "gates of two inputs, and of little depth: the mapper keeps the graph that it reads"),
+        Step("opt_clean -purge", "aliases go, as the second name of a clock, which would count as data"),
+        Step(f"write_blif {quoted(netlist)}", "the netlist"),
+        Step(f"write_json {quoted(ports)}", "the ports with their attributes"),
+    ]
+
+
+def script_text(steps: list[Step]) -> str:
+    """The steps as a script of Yosys, each one's reason as a comment above it."""
+    return "".join(f"# {step.reason}\n{step.command}\n" for step in steps)

@@ -1,0 +1,63 @@
+"""Scripts: the events that a run plays."""
+
+from __future__ import annotations
+
+from dataclasses import dataclass
+
+from tlutflow.faults import Fault
+from tlutflow.text import Line, logical_lines, read_text
+
+WORDS = ("set", "cycle", "upset", "scrub", "image")
+# The events of a script of `tlut pace`.
+PACED_WORDS = ("ask", "tick")
+
+
+@dataclass(frozen=True)
+class Event:
+    """An event of a script of `run` or of `pace`: its word, and what a set or an ask gives the parameters, or a cycle or a tick the regular
+    inputs."""
+
+    word: str
+    values: dict[str, int]
+
+
+def is_line_of(event: Event, word: str) -> bool:
+    """Whether a line with this word can be what an event printed: a tick steps, or waits while bits are written."""
+    return word in ("cycle", "wait") if event.word == "tick" else word == event.word
+
+
+def read_script(path: str, regular: list[str]) -> list[Event]:
+    """The events of a file; `regular` are the regular inputs in their order."""
+    return parse_script(read_text(path), path, regular)
+
+
+def parse_script(text: str, file: str, regular: list[str]) -> list[Event]:
+    """The events of a text; `file` is its name in a fault."""
+    events = []
+    for line in logical_lines(text):
+        try:
+            events.append(event_of(line, regular))
+        except ValueError:
+            raise Fault(f"{file}: line {line.number} is no event of this netlist; ./tlut tells what is wrong with it") from None
+    return events
+
+
+def event_of(line: Line, regular: list[str]) -> Event:
+    """The event of a line."""
+    word, others = line.tokens[0], line.tokens[1:]
+    if word not in WORDS and word not in PACED_WORDS:
+        raise ValueError
+    if word in ("set", "ask"):
+        pairs = [it.rpartition("=") for it in others]
+        return Event(word, {name: int(bit) for name, _, bit in pairs})
+    if word in ("cycle", "tick"):
+        digits = "" if others == ["-"] else others[0] if len(others) == 1 else "?"
+        if len(digits) != len(regular):
+            raise ValueError
+        return Event(word, {name: int(bit) for name, bit in zip(regular, digits)})
+    return Event(word, {})
+
+
+def bits_text(bits: list[int]) -> str:
+    """Bits as a script and an output have them: a string of digits, or `-` where there are none."""
+    return "".join(str(bit) for bit in bits) or "-"

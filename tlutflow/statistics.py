@@ -1,0 +1,160 @@
+"""The counts of a mapped circuit that a report shows."""
+
+from __future__ import annotations
+
+from collections import Counter
+from dataclasses import asdict, dataclass
+from itertools import groupby
+from typing import Any, Iterable
+
+from tlutflow.bus import Bus
+from tlutflow.circuit import Circuit, Table
+from tlutflow.formula import Formulas
+from tlutflow.text import count
+
+KINDS = ("constant", "one parameter", "several parameters")
+
+
+@dataclass(frozen=True)
+class Reach:
+    """How many bits a parameter is in, and how many tables these bits have."""
+
+    bits: int
+    tables: int
+
+
+@dataclass(frozen=True)
+class Statistics:
+    """The counts of a circuit. Kinds tell what a bit, or all the bits of a table together, read of the parameters."""
+
+    name: str
+    inputs: int
+    outputs: int
+    latches: int
+    parameters: int
+    tables: int
+    depth: int
+    bits: int
+    nodes: int
+    tables_by_leaves: dict[int, int]
+    tables_by_depth: dict[int, int]
+    tables_by_kind: dict[str, int]
+    bits_by_kind: dict[str, int]
+    reach: dict[str, Reach]
+    longest_path: list[str]
+
+
+def kind(support: int) -> str:
+    """What reads these parameters, of which each is a digit."""
+    return KINDS[min(bin(support).count("1"), 2)]
+
+
+def statistics(circuit: Circuit) -> Statistics:
+    """The counts of a circuit."""
+    table_supports = [circuit.support(table) for table in circuit.tables]
+    by_table, by_bit = Counter(map(kind, table_supports)), Counter(map(kind, circuit.supports))
+    return Statistics(
+        circuit.name,
+        len(circuit.inputs),
+        len(circuit.roots),
+        len(circuit.latches),
+        len(circuit.pack.parameters),
+        len(circuit.tables),
+        circuit.depth,
+        len(circuit.pack.bits),
+        len(circuit.pack.nodes),
+        dict(sorted(Counter(len(table.leaves) for table in circuit.tables).items())),
+        dict(sorted(Counter(circuit.depths.values()).items())),
+        {it: by_table[it] for it in KINDS},
+        {it: by_bit[it] for it in KINDS},
+        reach_of(circuit, table_supports),
+        circuit.longest_path(),
+    )
+
+
+def reach_of(circuit: Circuit, table_supports: list[int]) -> dict[str, Reach]:
+    """For each parameter the bits and the tables that it reaches."""
+    in_bits, in_tables = digit_counts(circuit.supports), digit_counts(table_supports)
+    return {name: Reach(in_bits[place], in_tables[place]) for place, name in enumerate(circuit.pack.parameters)}
+
+
+def digit_counts(numbers: list[int]) -> Counter[int]:
+    """How many of the numbers have each binary digit."""
+    counts: Counter[int] = Counter()
+    for number, times in Counter(numbers).items():
+        while number:
+            counts[(number & -number).bit_length() - 1] += times
+            number &= number - 1
+    return counts
+
+
+def as_json(circuit: Circuit, formulas: Formulas) -> dict[str, Any]:
+    """All that a report has, for other programs: the counts, and each table with the functions of its bits."""
+    tables = [table_json(circuit, table, formulas) for table in circuit.tables]
+    texts = [text for table in tables for text in table["functions"]]
+    definitions = dict(line.split(" = ", 1) for line in formulas.definitions(texts))
+    return {
+        **asdict(statistics(circuit)),
+        "parameter_values": circuit.pack.parameters,
+        "input_nets": circuit.inputs,
+        "clock": circuit.clock,
+        "output_roots": circuit.roots,
+        "latch_list": [{"net": it.state, "next": it.source, "start": it.start} for it in circuit.latches],
+        "table_list": tables,
+        "shared_functions": definitions,
+    }
+
+
+def table_json(circuit: Circuit, table: Table, formulas: Formulas) -> dict[str, Any]:
+    """A table for other programs."""
+    return {
+        "net": table.net,
+        "leaves": table.leaves,
+        "first_bit": table.first,
+        "bits": table.size,
+        "depth": circuit.depths[table.net],
+        "parameters": circuit.parameters_in(circuit.support(table)),
+        "functions": [formulas.of_bit(address) for address in table.addresses],
+    }
+
+
+def grid(rows: list[list[str]]) -> list[str]:
+    """Rows of cells as lines: the first column to the left, the others to the right."""
+    widths = [max(len(row[place]) for row in rows) for place in range(len(rows[0]))]
+    lines = []
+    for first, *others in rows:
+        cells = [first.ljust(widths[0]), *(cell.rjust(width) for cell, width in zip(others, widths[1:]))]
+        lines.append("  ".join(cells).rstrip())
+    return lines
+
+
+def counted(counts: dict[int, int], title: str) -> list[list[str]]:
+    """Two rows: numbers, and how many tables have each."""
+    return [[title, *map(str, counts)], ["LUTs", *map(str, counts.values())]]
+
+
+def reach_rows(reach: dict[str, Reach], buses: Iterable[Bus]) -> list[list[str]]:
+    """A row for each parameter; those of a bus that follow one another and reach alike share one."""
+    rows = []
+    for bus in buses:
+        for found, nets in groupby(bus.nets, key=lambda net: reach[net]):
+            first, *others = list(nets)
+            rows.append([f"{first} to {others[-1]}, each" if others else first, str(found.bits), str(found.tables)])
+    return rows
+
+
+def text_of(found: Statistics, buses: Iterable[Bus]) -> list[str]:
+    """The lines of a report."""
+    path = found.longest_path
+    ports = [count(found.inputs, "input"), count(found.outputs, "output"), f"{found.latches} latch{'' if found.latches == 1 else 'es'}"]
+    lines = [f"{found.name}: {', '.join(ports)}, {count(found.parameters, 'parameter')}"]
+    lines.append(f"{count(found.tables, 'LUT')} at depth {found.depth}, {count(found.bits, 'configuration bit')}, {count(found.nodes, 'AND node')} in the pack")
+    lines.append("")
+    if found.tables:
+        lines += [*grid(counted(found.tables_by_leaves, "leaves")), "", *grid(counted(found.tables_by_depth, "depth")), ""]
+        lines += [*grid([["read", *KINDS], ["bits", *map(str, found.bits_by_kind.values())], ["LUTs", *map(str, found.tables_by_kind.values())]]), ""]
+    if found.reach:
+        lines += grid([["parameter", "bits", "LUTs"], *reach_rows(found.reach, buses)])
+        lines.append("")
+    lines.append(f"critical path: {' > '.join(path)}" if path else "no LUTs")
+    return lines

@@ -1,0 +1,157 @@
+"""`flow build`: steps that are made once, the data of the picture, and the page."""
+
+import contextlib
+import io
+import json
+import os
+import re
+import unittest
+from html.parser import HTMLParser
+
+from tlutflow.circuit_view import grouped, view_of, with_names
+from tlutflow.faults import Fault
+from tlutflow.netlist import parse_library
+from tlutflow.steps import Steps
+from tlutflow.tests.helpers import EXAMPLES, MUX, TOP, InFolder, example, flow, mapped, mux, needs
+from tlutflow.tools import ABC, BUILT, YOSYS
+
+NEEDS_TLUT = unittest.skipUnless(any(os.path.exists(f"{TOP}/{it}") for it in BUILT), "tlut isn't built")
+EMPTY = {"meta", "link", "br", "input", "img", "hr"}
+
+
+class Page(HTMLParser):
+    """A page: whether its tags nest, its sections, its ids, and what it would load from elsewhere."""
+
+    def __init__(self, text: str):
+        super().__init__()
+        self.open: list[str] = []
+        self.ids: list[str] = []
+        self.loaded: list[str] = []
+        self.wrong: list[str] = []
+        self.feed(text)
+
+    def handle_starttag(self, tag, attrs):
+        found = dict(attrs)
+        if "id" in found:
+            self.ids.append(found["id"])
+        self.loaded += [found[name] for name in ("src",) if name in found] + ([found["href"]] if tag == "link" else [])
+        if tag not in EMPTY and tag not in ("rect", "line", "circle"):
+            self.open.append(tag)
+
+    def handle_endtag(self, tag):
+        if tag in ("rect", "line", "circle"):
+            return
+        if not self.open or self.open.pop() != tag:
+            self.wrong.append(tag)
+
+
+class Once(InFolder):
+    def test_a_step_is_made_again_where_something_changed(self):
+        made = []
+        source, target = self.put("s", "1"), f"{self.folder}/t"
+
+        def work():
+            made.append(1)
+            with open(target, "w", encoding="utf-8") as file:
+                file.write("made")
+            return {"n": len(made)}
+
+        def step(words=("w",)):
+            with contextlib.redirect_stderr(io.StringIO()):
+                return Steps(self.folder, "flow build").make("step", list(words), [source], [target], work)["n"]
+
+        self.assertEqual([step(), step()], [1, 1])
+        self.put("s", "2")
+        self.assertEqual([step(), step()], [2, 2])
+        self.assertEqual(step(("other",)), 3)
+        self.put("t", "changed by hand")
+        self.assertEqual([step(("other",)), step(("other",))], [4, 4])
+        os.remove(target)
+        self.assertEqual(step(("other",)), 5)
+        self.put("build.json", "{ no JSON")
+        self.assertEqual(step(("other",)), 6)
+        with contextlib.redirect_stderr(io.StringIO()):
+            self.assertEqual(Steps(self.folder, "flow build", again=True).known, {})
+            with self.assertRaisesRegex(Fault, "wasn't written"):
+                Steps(self.folder, "f").make("none", [], [], [f"{self.folder}/none"], lambda: None)
+
+
+class Views(unittest.TestCase):
+    def test_groups(self):
+        self.assertEqual(grouped(["a[0]", "a[1]", "b[1]"], ["a[0]", "a[1]", "b[0]", "b[1]"]), "a[1:0], b[1]")
+        self.assertEqual(grouped(["a", "b", "c"], ["a", "b", "c"], 2), "a, b and 1 more")
+
+    def test_mux(self):
+        view = view_of(mux())
+        self.assertEqual([(it["name"], it["kind"], it["depth"], it["from"]) for it in view["nodes"]],
+                         [("a", "input", 0, []), ("b", "input", 0, []), ("_n13", "tunable", 1, [0, 1])])
+        self.assertEqual((view["outputs"], view["path"], view["end"]), ([{"name": "y", "root": 2}], [0, 2], "y"))
+        self.assertEqual((view["nodes"][2]["params"], view["nodes"][2]["bits"], view["nodes"][2]["drives"]), ("p", "0 to 3", "output y"))
+
+    def test_flip_flops_have_the_names_of_the_source(self):
+        source = parse_library(example("fir/fir.blif"), "fir")
+        circuit = with_names(mapped("fir"), source)
+        self.assertEqual([it.state for it in circuit.latches], [it.net for it in source.flat_latches()])
+        view = view_of(circuit)
+        for number, node in enumerate(view["nodes"]):
+            self.assertTrue(all(it < number for it in node["from"]))
+        path = [view["nodes"][it] for it in view["path"]]
+        self.assertEqual([it["depth"] for it in path], list(range(len(path))))
+        self.assertEqual(with_names(circuit, parse_library(MUX, "m")), circuit)
+
+
+class Builds(InFolder):
+    @needs(ABC, YOSYS)
+    @NEEDS_TLUT
+    def test_filter(self):
+        script = self.put("fir.scr", example("fir/changing.scr"))
+        words = ["build", f"{EXAMPLES}/fir/fir.v", "--top", "fir", "--param", "c0=5", "--param", "c1=3", "--param", "c2=6"]
+        words += ["--k", "4", "--only", "map", "--script", script, "--out", f"{self.folder}/out", "-j", "2"]
+        ran = flow(*words)
+        self.assertEqual(ran.returncode, 0, ran.stderr)
+        for end in (".blif", ".par", "_t.blif", ".ppc", "_spec.blif", ".cert", "_mapped.v", "_mapped_bench.v", "_run.txt", ".vcd"):
+            self.assertTrue(os.path.getsize(f"{self.folder}/out/fir{end}"), end)
+        self.assertEqual(ran.stdout.count("\nnot shown: ") + ran.stdout.count("\nchecked: "), 5)
+        self.assertIn("equal under all values of 9 parameters (ABC dsec)", ran.stdout)
+        self.assertIn("depth at least 5", ran.stdout)
+        self.look_at(f"{self.folder}/out/index.html")
+        again = flow(*words)
+        self.assertEqual((again.stdout, again.stderr.count(": as before")), (ran.stdout, again.stderr.count("\n")))
+        more = flow(*words[:-4], "--out", f"{self.folder}/out", "--script", self.put("fir.scr", example("fir/ten.scr")))
+        self.assertIn("netlist: as before", more.stderr)
+        self.assertRegex(more.stderr, r"flow build: run: [0-9.]+ s")
+
+    def look_at(self, path):
+        with open(path, encoding="utf-8") as file:
+            text = file.read()
+        page = Page(re.sub(r"<script>.*</script>", "", text, flags=re.DOTALL))
+        self.assertEqual((page.wrong, page.open, page.loaded), ([], [], []))
+        self.assertEqual(len(page.ids), len(set(page.ids)))
+        for part in ("sizes", "path", "picture", "tables", "parameters", "changes", "run", "preparations", "checks", "files", "stage"):
+            self.assertIn(part, page.ids)
+        data = json.loads(re.search(r"const CIRCUIT = (.*);\n", text)[1])
+        self.assertEqual(len(data["outputs"]), 6)
+        self.assertNotIn("http://", text.replace("http://www.w3.org/2000/svg", ""))
+        self.assertIn("x1[0]", [node["name"] for node in data["nodes"]])
+
+    @NEEDS_TLUT
+    def test_a_netlist_without_other_programs(self):
+        """With nothing but Python and tlut there are all files but those of others, and the report says what wasn't run."""
+        os.makedirs(f"{self.folder}/bin")
+        for name in ("bash", "sh", "find", "git", "mktemp", "touch", "mv", "rm", "cat", "readlink"):
+            import shutil
+
+            if shutil.which(name):
+                os.symlink(shutil.which(name), f"{self.folder}/bin/{name}")
+        netlist, params = self.put("n.blif", MUX), self.put("n.par", "p 0\n")
+        ran = flow("build", netlist, params, "--quick", "--k", "4", "--out", f"{self.folder}/out", PATH=f"{self.folder}/bin")
+        self.assertEqual(ran.returncode, 0, ran.stderr)
+        self.assertIn("n: 1 LUT, depth 1, 4 bits at K 4\n", ran.stdout)
+        self.assertEqual(ran.stdout.count("ABC isn't there"), 2)
+        self.assertTrue(os.path.exists(f"{self.folder}/out/n.dot"))
+
+    def test_words(self):
+        netlist = self.put("n.blif", MUX)
+        self.assert_fault(flow("build", netlist, "--out", self.folder), "NETLIST PARAMS")
+        self.assert_fault(flow("build", "x.v", "--out", self.folder), "--top names the module")
+        self.assert_fault(flow("build", netlist, f"{self.folder}/none.par", "--quick", "--out", f"{netlist}/x", TLUT=f"{TOP}/flow"), "n.blif/x")

@@ -1,0 +1,44 @@
+"""The words of `flow`: help everywhere, faults in one line, and Python's oldest version."""
+
+import ast
+import glob
+import os
+import unittest
+
+from tlutflow.main import COMMANDS
+from tlutflow.tests.helpers import TOP, InFolder, flow
+
+
+class Words(InFolder):
+    def test_help(self):
+        text = flow("--help").stdout
+        for module in COMMANDS:
+            name = module.__name__.rsplit(".", 1)[-1]
+            self.assertIn(f"\n    {name} ", text)
+            ran = flow(name, "--help")
+            self.assertEqual((ran.returncode, ran.stderr), (0, ""))
+            self.assertIn(module.DESCRIPTION.split("\n", 1)[0], ran.stdout)
+            self.assertIn("example", ran.stdout)
+
+    def test_wrong_words(self):
+        self.assert_fault(flow(), "SUBCOMMAND", 2)
+        self.assert_fault(flow("other"), "invalid choice", 2)
+        self.assert_fault(flow("show", "x"), "required: PARAMS", 2)
+
+    def test_through_a_link_from_elsewhere(self):
+        os.symlink(f"{TOP}/flow", f"{self.folder}/tlut-flow")
+        import subprocess
+
+        ran = subprocess.run([f"{self.folder}/tlut-flow", "params", "no.blif"], capture_output=True, text=True, cwd=self.folder, check=False)
+        self.assertEqual((ran.returncode, ran.stderr), (1, "tlut-flow params: no.blif: No such file or directory\n"))
+
+
+class Sources(unittest.TestCase):
+    def test_python_3_9_and_length(self):
+        paths = glob.glob(f"{TOP}/tlutflow/**/*.py", recursive=True) + [f"{TOP}/flow", f"{TOP}/tools/install.py", f"{TOP}/tools/build_program.py"]
+        self.assertGreater(len(paths), 30)
+        for path in paths:
+            with open(path, encoding="utf-8") as file:
+                text = file.read()
+            ast.parse(text, path, feature_version=(3, 9))
+            self.assertLess(text.count("\n"), 400, path)

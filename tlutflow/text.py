@@ -1,0 +1,85 @@
+"""Texts: files that are read, logical lines and their tokens.
+
+The readers take every text that `tlut` accepts. What `tlut` refuses they may take, or refuse by a line of their own.
+"""
+
+from __future__ import annotations
+
+import re
+import sys
+from dataclasses import dataclass
+from typing import Iterator
+
+from tlutflow.faults import Fault
+
+# Names may have any byte from 128 on, so bytes that are no UTF-8 are kept as they are.
+ENCODING = {"encoding": "utf-8", "errors": "surrogateescape"}
+BLANKS = re.compile(r"[ \t]+")
+
+
+@dataclass(frozen=True)
+class Line:
+    """A logical line: the number of its first physical line, counted from 1, and its tokens, of which there is one at least."""
+
+    number: int
+    tokens: list[str]
+
+
+def read_text(path: str) -> str:
+    """The text of a file."""
+    return read_bytes(path).decode(**ENCODING)
+
+
+def read_bytes(path: str) -> bytes:
+    """The bytes of a file."""
+    try:
+        with open(path, "rb") as file:
+            return file.read()
+    except OSError as error:
+        raise Fault(f"{path}: {error.strerror or error}") from None
+
+
+def write_text(path: str, text: str) -> None:
+    """Writes a file anew."""
+    try:
+        with open(path, "w", newline="", encoding="utf-8", errors="surrogateescape") as file:
+            file.write(text)
+    except OSError as error:
+        raise Fault(f"{path}: {error.strerror or error}") from None
+
+
+def read_input() -> str:
+    """The text of standard input."""
+    return sys.stdin.buffer.read().decode(**ENCODING)
+
+
+def physical_lines(text: str) -> list[str]:
+    """What stands between two LF, before the first or behind the last; a CR directly before an LF is dropped."""
+    return text.replace("\r\n", "\n").split("\n")
+
+
+def tokens_of(text: str) -> list[str]:
+    """The runs of characters between blanks and tabs."""
+    return [token for token in BLANKS.split(text) if token]
+
+
+def logical_lines(text: str) -> Iterator[Line]:
+    """The logical lines that have tokens: comments are taken off, and continued lines are joined."""
+    start, parts = 0, []
+    lines = physical_lines(text)
+    for number, physical in enumerate(lines, 1):
+        bare = physical.split("#", 1)[0].rstrip(" \t")
+        start = start or number
+        goes_on = bare.endswith("\\")
+        parts.append(bare[:-1] if goes_on else bare)
+        if goes_on and number < len(lines):
+            continue
+        tokens = tokens_of(" ".join(parts))
+        if tokens:
+            yield Line(start, tokens)
+        start, parts = 0, []
+
+
+def count(number: int, word: str) -> str:
+    """A number with a word in its singular or plural."""
+    return f"{number} {word}{'' if number == 1 else 's'}"

@@ -1,0 +1,81 @@
+"""The other programs that are called: where they are found, and how they are run."""
+
+from __future__ import annotations
+
+import os
+import shutil
+import subprocess
+from typing import Optional
+
+from tlutflow.faults import Fault
+
+TOP = os.path.dirname(os.path.dirname(os.path.realpath(__file__)))
+YOSYS = ("yosys",)
+ABC = ("yosys-abc", "berkeley-abc", "abc")
+DOT = ("dot",)
+ICARUS = ("iverilog",)
+ICARUS_PLAYER = ("vvp",)
+VERILATOR = ("verilator",)
+NEXTPNR_ICE40 = ("nextpnr-ice40",)
+NEXTPNR_ECP5 = ("nextpnr-ecp5",)
+ICEPACK = ("icepack",)
+# What each is called in a message, and where it comes from.
+TITLES = {
+    YOSYS: "Yosys (yosys)",
+    ABC: "ABC (yosys-abc or berkeley-abc)",
+    DOT: "Graphviz (dot)",
+    ICARUS: "Icarus Verilog (iverilog)",
+    ICARUS_PLAYER: "Icarus Verilog (vvp)",
+    VERILATOR: "Verilator (verilator)",
+    NEXTPNR_ICE40: "nextpnr (nextpnr-ice40)",
+    NEXTPNR_ECP5: "nextpnr (nextpnr-ecp5)",
+    ICEPACK: "IceStorm (icepack)",
+}
+# Where the wrapper has the program, in the repository and where it is installed.
+BUILT = ("crates/tlut/out/tlut", "program/tlut")
+
+
+def find(names: tuple[str, ...]) -> Optional[str]:
+    """The path of the first of these programs that is there, or None."""
+    for name in names:
+        path = shutil.which(name)
+        if path:
+            return path
+    return None
+
+
+def need(names: tuple[str, ...], purpose: str) -> str:
+    """The path of a program; a fault that names it where it isn't there."""
+    path = find(names)
+    if path is None:
+        raise Fault(f"{TITLES[names]} isn't on the PATH, and {purpose} needs it")
+    return path
+
+
+def run(
+    words: list[str],
+    folder: Optional[str] = None,
+    seconds: Optional[float] = None,
+    given: str = "",
+    variables: Optional[dict[str, str]] = None,
+) -> subprocess.CompletedProcess[str]:
+    """Runs a program to its end with a text on its standard input, and returns its status and what it printed on its outputs, as text."""
+    try:
+        return subprocess.run(
+            words, cwd=folder, capture_output=True, text=True, errors="surrogateescape", timeout=seconds, check=False, input=given, env=variables
+        )
+    except subprocess.TimeoutExpired:
+        raise Fault(f"{os.path.basename(words[0])} was stopped after {seconds:g} seconds") from None
+    except OSError as error:
+        raise Fault(f"{words[0]}: {error.strerror or error}") from None
+
+
+def tlut(given: Optional[str]) -> str:
+    """The path of `tlut`: the one that was given, that of the variable TLUT, or the one beside the companion."""
+    path = given or os.environ.get("TLUT") or (f"{TOP}/tlut" if os.path.exists(f"{TOP}/tlut") else "tlut")
+    found = shutil.which(path)
+    if found is None:
+        raise Fault(f"{path}: there is no such program; --tlut or the variable TLUT names tlut")
+    if path == f"{TOP}/tlut" and not any(os.path.exists(f"{TOP}/{built}") for built in BUILT):
+        raise Fault(f"{path} isn't built yet: its first call does that, which takes a while and says how far it is")
+    return os.path.abspath(found)
