@@ -6,10 +6,11 @@ ghost use Rattle.aig_build.specs.BalancedMade.{balanced_and};
 
 use aig_core::{AigErr, Graph, Lit};
 
-/// The balanced AND of a list: of none the constant 1, of one that literal, else the product of the balanced ANDs of
-/// its halves. The first half is made first, and isn't the shorter one.
+/// The balanced AND of a list. It is the constant 1 for an empty list and the literal itself for a list of one; otherwise it
+/// is the product of the balanced ANDs of the two halves. The first half is built first and is at least as long as the
+/// second.
 ///
-/// The recursion is as deep as the logarithm of the length. After an `Err` the graph may have some of the nodes.
+/// The recursion depth is logarithmic in the length. After an `Err` the graph may contain some of the nodes.
 pub fn balanced_and(graph: &mut Graph, lits: &[Lit]) -> Result<Lit, AigErr>
     requires { All (λ (lit : Lit). IsLit graph.old lit.0) lits.now }
     ensures lit { IfOk result (λ lit. lit.0 ≡ (balanced_and (first_and graph.old) graph.old.pairs lits.now).lit) }

@@ -1,15 +1,15 @@
-//! Why no graph was made.
+//! Why no graph was built.
 use aig_core::AigErr;
 use std::alloc::{AllocError, AllocFailed};
 use tl_fault::{Details, Refusal};
 
-/// Why no graph was made.
+/// Why no graph was built.
 #[derive(Debug, Drop, thiserror::Error)]
 pub enum BuildErr {
     /// L3: the graph would have more than [`MOST_NODES`](crate::MOST_NODES) AND nodes.
     #[error("too many nodes")]
     TooManyNodes,
-    /// There is no memory.
+    /// Memory ran out.
     #[error("out of memory")]
     Memory,
 }
@@ -40,7 +40,7 @@ impl BuildErr {
     ghost use Rattle.std.specs.Prelude.{◌≡◌};
     ghost use Rattle.aig_build.specs.Refusals.{refusal_of};
 
-    /// What the refusal tells; none for want of memory.
+    /// The refusal that the fault line reports. `None` if memory ran out.
     pub fn refusal(self) -> Option<Refusal>
         ensures { result ≡ refusal_of self }
     {

@@ -31,7 +31,7 @@ use netlist::{Flat, FlatLatch, Library, OutPort, flat_law};
 use param_list::Params;
 use std::alloc::{AllocError, Global};
 
-// Adds some sources of a kind.
+// Adds `count` sources of a kind.
 fn push_kinds(kinds: &mut Vec<Kind>, kind: Kind, count: usize) -> Result<(), AllocError>
     ensures { OnOk result (kinds.new.items ≡ kinds.old.items ++ replicate count kind) }
 {
@@ -57,7 +57,7 @@ fn kinds_of(
     Ok(kinds)
 }
 
-// The graph of the sources, without a node.
+// The graph with the sources and no AND node.
 fn source_graph(
     alloc: Global,
     flat: &Flat,
@@ -77,7 +77,7 @@ fn source_graph(
     Graph::make(alloc, kinds, MOST_NODES)
 }
 
-// Makes the cover at a place over the literals of the nets that it reads.
+// Builds the cover at a place over the literals of the nets that it reads.
 fn make_at(
     graph: &mut Graph,
     library: &Library,
@@ -103,7 +103,7 @@ fn make_at(
     Ok(())
 }
 
-// Makes the covers of the flat circuit's order, each one once.
+// Builds the covers in the flat circuit's order, each once.
 fn make_covers(
     alloc: Global,
     graph: &mut Graph,
@@ -139,7 +139,7 @@ fn output_lits(alloc: Global, nets: &NetLits, ports: &[OutPort]) -> Result<Vec<L
     Ok(lits)
 }
 
-// The literals of the latches' inputs.
+// The literals of the latches' inputs, their next states.
 fn next_lits(alloc: Global, nets: &NetLits, latches: &[FlatLatch]) -> Result<Vec<Lit>, AllocError>
     requires { (latch : FlatLatchValue) → In latches.now latch → IsHeld nets.now latch.input }
     ensures { IfOk result (λ lits. lits.items ≡ map (λ (latch : FlatLatchValue). net_lit nets.now latch.input) latches.now) }
@@ -162,7 +162,7 @@ fn roots(alloc: Global, flat: &Flat, nets: &NetLits) -> Result<Roots, AllocError
     Ok(Roots { outputs, next })
 }
 
-// The graph and its roots, where it may be too large.
+// The graph and its roots, unless it is too large.
 fn make_netlist(
     alloc: Global,
     library: &Library,
@@ -186,18 +186,18 @@ fn make_netlist(
     Ok((graph, roots))
 }
 
-/// The graph of a flat circuit and its roots: the outputs, and then the latches' inputs.
+/// The graph of a flat circuit and its roots: the outputs, and then the inputs of the latches.
 ///
-/// The sources are the regular inputs in their order, the parameters in the order of their list, and the latches. The nodes are
-/// those of the roots in order, each signal made anew at every use and no AND twice (`specs/NetlistGraph.antt`), and there is
-/// one such list. Whatever values fit the graph, the roots have the outputs and the next states of the source circuit's clock
-/// cycle. A cover that no root reaches isn't made.
+/// The sources are the regular inputs in their order, the parameters in the order of their list, and the latches. The nodes
+/// are those that result from building the roots in order, each signal again at every use and no AND twice
+/// (`specs/NetlistGraph.antt`). Exactly one such list exists. Whatever values fit the graph, the roots have the outputs and
+/// the next states of the source circuit's clock cycle. A cover that no root reaches isn't built.
 ///
-/// Each cover is made once, so it takes time linear in the cells of the covers that are reached, apart from looking up each
-/// product, and no stack that grows with the circuit.
+/// Each cover is built once. So time is linear in the cells of the covers reached, apart from the lookup of each product, and
+/// the stack doesn't grow with the circuit.
 ///
 /// # Errors
-/// [`BuildErr::TooManyNodes`] exactly where the graph has more than [`MOST_NODES`] AND nodes, or `Memory` where there is none.
+/// [`BuildErr::TooManyNodes`] if and only if the graph has more than [`MOST_NODES`] AND nodes; `Memory` if memory runs out.
 pub fn build(
     alloc: Global,
     library: &Library,

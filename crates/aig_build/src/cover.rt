@@ -11,7 +11,7 @@ use aig_core::{AigErr, Graph, Lit};
 use netlist::{Cell, Cover, Row};
 use std::alloc::{AllocError, Global};
 
-// Adds what a cell asks for of its input's literal: nothing, the literal, or its complement.
+// Adds the literal that a cell requires of its input: none, the literal, or its complement.
 fn push_cell(lits: &mut Vec<Lit>, cell: Cell, input: Lit) -> Result<(), AllocError>
     ensures { OnOk result (lits.new.items ≡ lits.old.items ++ cell_literals cell input) }
 {
@@ -23,7 +23,7 @@ fn push_cell(lits: &mut Vec<Lit>, cell: Cell, input: Lit) -> Result<(), AllocErr
     Ok(())
 }
 
-// The literals of a row, left to right, in place of those that stood.
+// Replaces `lits` by the literals of a row, from left to right.
 fn row_literals(lits: &mut Vec<Lit>, row: &Row, inputs: &[Lit]) -> Result<(), AllocError>
     requires { length row.now.cells ≡ length inputs.now }
     ensures { OnOk result (lits.new.items ≡ row_literals row.now.cells inputs.now) }
@@ -55,7 +55,7 @@ fn make_row(
     Ok(lit)
 }
 
-// The complements of the rows, made in order, in place of the literals that stood.
+// Replaces `lits` by the complements of the rows, which are built in order.
 fn make_rows(
     graph: &mut Graph,
     rows: &[Row],
@@ -78,7 +78,7 @@ fn make_rows(
     Ok(())
 }
 
-/// Literals that are kept from cover to cover, so that no row and no cover takes memory of its own.
+/// Literals reused from cover to cover, so that rows and covers allocate no memory.
 #[derive(Drop)]
 pub(crate) struct Scratch {
     row: Vec<Lit>,
@@ -86,7 +86,7 @@ pub(crate) struct Scratch {
 }
 
 impl Scratch {
-    /// No literals.
+    /// No literals yet.
     pub(crate) fn new(alloc: Global) -> Scratch {
         Scratch {
             row: Vec::new(alloc),
@@ -95,11 +95,11 @@ impl Scratch {
     }
 }
 
-/// Makes a cover over the literals of its inputs: each row as the balanced AND of its cells' literals, then the complement of
-/// the balanced AND of the rows' complements, and where the rows are the off-set its complement.
+/// Builds a cover over the literals of its inputs. Each row is the balanced AND of the literals of its cells. The cover is
+/// the complement of the balanced AND of the complements of the rows, complemented once more if the rows are the off-set.
 ///
-/// The time is linear in the number of cells, apart from looking up each product. After an `Err` the graph may have some of the
-/// nodes.
+/// Time is linear in the number of cells, apart from the lookup of each product. After an `Err` the graph may contain some of
+/// the nodes.
 pub(crate) fn make_into(
     graph: &mut Graph,
     cover: &Cover,

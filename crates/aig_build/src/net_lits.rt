@@ -12,8 +12,8 @@ use param_list::{Param, Params};
 use std::alloc::{AllocError, Global};
 use std::marker::Model;
 
-/// The literals of the nets: of the inputs by their places, of the latches by the index of the first one, and of the covers,
-/// 0 for those that aren't made yet.
+/// The literals of the nets: of the inputs by their places, of the latches by the index of the first one, and of the covers
+/// (0 until they are built).
 #[derive(Drop)]
 pub(crate) struct NetLits {
     inputs: Vec<Lit>,
@@ -58,7 +58,7 @@ impl NetLits {
     }
 }
 
-// A mark at each input that is a parameter.
+// For each input, whether it is a parameter.
 fn marks(alloc: Global, count: usize, params: &[Param]) -> Result<Vec<bool>, AllocError>
     requires { (p : ParamValue) → In params.now p → p.input < count }
     ensures { IfOk result (λ marks. marks.items ≡ marked (replicate count false) params.now) }
@@ -70,7 +70,7 @@ fn marks(alloc: Global, count: usize, params: &[Param]) -> Result<Vec<bool>, All
     Ok(marks)
 }
 
-// The literal of an input, where `next` is the next index for a regular one.
+// The literal of an input. `next` is the next index for a regular one.
 fn regular_lit(next: u32, mark: bool) -> Lit
     requires { next < 2 ^ 30 }
     ensures { result ≡ regular_lit_of next mark }
@@ -78,7 +78,7 @@ fn regular_lit(next: u32, mark: bool) -> Lit
     if mark { Lit(0) } else { Lit(2 * next) }
 }
 
-// The next index behind an input.
+// The next index after an input.
 fn index_behind(next: u32, mark: bool) -> u32
     requires { next < 2 ^ 30 }
     ensures { result ≡ index_after next mark }
@@ -86,7 +86,7 @@ fn index_behind(next: u32, mark: bool) -> u32
     if mark { next } else { next + 1 }
 }
 
-// The literals of the regular inputs in order, and the index behind them.
+// The literals of the regular inputs in order, and the next index.
 fn regular_lits(alloc: Global, marks: &[bool]) -> Result<(Vec<Lit>, u32), AllocError>
     requires { length marks.now < 2 ^ 28 }
     ensures lits { IfOk result (λ r. r.0.items ≡ regular_lits_of 1 marks.now) }
@@ -101,7 +101,7 @@ fn regular_lits(alloc: Global, marks: &[bool]) -> Result<(Vec<Lit>, u32), AllocE
     Ok((lits, next))
 }
 
-// Sets the literals of the parameters, from this index on.
+// Sets the literals of the parameters, whose indices begin at `first`.
 fn set_param_lits(lits: &mut [Lit], first: u32, params: &[Param])
     requires places { (p : ParamValue) → In params.now p → p.input < length lits.old }
     requires small { first + length params.now < 2 ^ 30 }
@@ -114,8 +114,8 @@ fn set_param_lits(lits: &mut [Lit], first: u32, params: &[Param])
     }
 }
 
-/// The literals before a cover is made: the regular inputs have the first indices, then come the parameters in the order of
-/// their list, and then the latches.
+/// The literals before any cover is built: the regular inputs have the first indices, then come the parameters in the order
+/// of their list, and then the latches.
 pub(crate) fn start(alloc: Global, flat: &Flat, params: &Params) -> Result<NetLits, AllocError>
     requires few { length flat.now.inputs < 2 ^ 28 }
     requires short { length params.now.list < 2 ^ 28 }
@@ -134,7 +134,7 @@ pub(crate) fn start(alloc: Global, flat: &Flat, params: &Params) -> Result<NetLi
     })
 }
 
-/// The literals of nets, in place of those that stood.
+/// Replaces `lits` by the literals of these nets.
 pub(crate) fn fill(lits: &mut Vec<Lit>, nets: &NetLits, numbers: &[Net]) -> Result<(), AllocError>
     requires { (net : Net) → In numbers.now net → IsHeld nets.now net }
     ensures { OnOk result (lits.new.items ≡ net_lits nets.now numbers.now) }

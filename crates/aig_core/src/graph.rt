@@ -1,4 +1,4 @@
-//! The graph: its sources, and its pairs as a hashed set in the order in which they were made.
+//! The graph: its sources, and its AND nodes as a hashed set of pairs in the order of creation.
 ghost use Rattle.std.specs.Prelude.{◌≡◌, ℕ, ◌+◌, ◌-◌, ◌*◌, ◌/◌, ◌^◌, ◌<◌, ◌≤◌, ◌↔◌, [], ◌∷◌, ◌++◌, length, Bool, List, Some, None, slice_get, vec_len, IfOk, OnErr, OnOk, position};
 ghost use Rattle.aig_core.specs.And.{is_pair};
 
@@ -16,7 +16,7 @@ pub enum AigErr {
     Memory,
 }
 
-/// A graph.
+/// An and-inverter graph with structural hashing.
 #[derive(Drop)]
 pub struct Graph {
     kinds: Vec<Kind>,
@@ -55,7 +55,7 @@ fn place_of(pairs: &IndexSet<Pair>, pair: Pair) -> Option<usize>
     pairs.get_index_of(&pair)
 }
 
-// A new pair at the end.
+// Appends a new pair.
 fn push_new(pairs: &mut IndexSet<Pair>, pair: Pair) -> Result<(), AllocError>
     requires { position (is_pair pair.x.0 pair.y.0) pairs.old.keys ≡ None }
     ensures keys { OnOk result (pairs.new.keys ≡ pairs.old.keys ++ pair ∷ []) }
@@ -81,9 +81,9 @@ impl Graph {
     ghost use Rattle.aig_core.specs.And.{and_in_order, and_of, with_pairs};
     ghost use Rattle.aig_core.specs.Value.{FitsGraph, HasOneFit, IsProduct, KeepsValues};
 
-    /// A graph with these sources and no AND node, for at most `max` AND nodes.
+    /// A graph with these sources and no AND node. It can hold at most `max` AND nodes.
     ///
-    /// `Err` comes only for want of memory.
+    /// `Err` only if memory runs out.
     pub fn make(alloc: Global, kinds: Vec<Kind>, max: u32) -> Result<Graph, AllocError>
         requires { vec_len kinds + max < 2 ^ 30 }
         ensures { IfOk result (λ g. g ≡ record { kinds = kinds.items; pairs = []; max = max }) }
@@ -95,10 +95,10 @@ impl Graph {
         })
     }
 
-    /// How many sources there are: they have the indices from 1 on.
+    /// The number of sources. Their indices begin at 1.
     ///
-    /// It also tells that the graph is normal, as every graph is, and that under any values of the sources one list of values fits
-    /// the graph, and no other.
+    /// The contract also says that the graph is normal, as every graph is, and that exactly one list of values fits the graph
+    /// for given values of the sources.
     pub fn sources(&self) -> u32
         ensures count { result ≡ length self.now.kinds }
         ensures small { result < 2 ^ 30 }
@@ -108,9 +108,9 @@ impl Graph {
         self.kinds.len() as u32
     }
 
-    /// How many indices there are: the constant, the sources and the AND nodes.
+    /// The number of indices: the constant, the sources and the AND nodes.
     ///
-    /// It also tells what every graph keeps of its pairs.
+    /// The contract also says what every graph keeps about its pairs.
     pub fn len(&self) -> u32
         ensures count { result ≡ node_count self.now }
         ensures small { result ≤ 2 ^ 30 }
@@ -129,11 +129,11 @@ impl Graph {
         self.kinds[n as usize - 1]
     }
 
-    /// The product of two literals: a constant or one of them where that is its value, else the positive literal of
-    /// the AND node of the two, which is made where it doesn't stand yet (structural hashing).
+    /// The product of two literals. This is a constant or one of the literals if that is its value, and otherwise the
+    /// positive literal of their AND node. The node is created unless it exists (structural hashing).
     ///
-    /// `Full` comes exactly where a node is wanted and `max` of them stand, `Memory` only for want of memory, and
-    /// both leave the graph as it was. It takes expected constant time.
+    /// `Full` if and only if a new node is needed and `max` of them exist. `Memory` only if memory runs out. Both leave the
+    /// graph unchanged. Expected time is constant.
     pub fn and(&mut self, a: Lit, b: Lit) -> Result<Lit, AigErr>
         requires a_in { IsLit self.old a.0 }
         requires b_in { IsLit self.old b.0 }
@@ -142,7 +142,7 @@ impl Graph {
         ensures err { OnErr result (self.new ≡ self.old) }
         ensures full { (result ≡ Err AigErr.Full) ↔ (self.old.max < length (and_of self.old a.0 b.0).pairs) }
 
-        // What this means: a literal of the graph whose value is the product, while all others keep theirs.
+        // The result is a literal of the graph whose value is the product, and all other literals keep their values.
         ensures is_lit { IfOk result (λ lit. IsLit self.new lit.0) }
         ensures product { IfOk result (λ lit. IsProduct self.new a.0 b.0 lit.0) }
         ensures kept { KeepsValues self.old self.new }
@@ -151,7 +151,7 @@ impl Graph {
         Ok(lit)
     }
 
-    // The product of two literals in ascending order.
+    // The product of two literals that are in ascending order.
     fn and_in_order(&mut self, x: u32, y: u32) -> Result<Lit, AigErr>
         requires order { x ≤ y }
         requires y_in { IsLit self.old y }
@@ -191,7 +191,7 @@ impl Graph {
         }
     }
 
-    /// The pair of an AND node, for a reader that counts no steps. It takes no memory and constant time.
+    /// The pair of an AND node, for a caller that counts no steps. Constant time; allocates no memory.
     pub fn pair_at(&self, n: u32) -> Pair
         requires { IsAnd self.now n }
         ensures pair { pair_of self.now n ≡ Some result }
@@ -200,7 +200,7 @@ impl Graph {
         self.pairs.as_slice()[n as usize - 1 - self.kinds.len()]
     }
 
-    /// The pair of an AND node. It takes no memory, constant time, and counts as a step.
+    /// The pair of an AND node. Counts as a step. Constant time; allocates no memory.
     pub fn node<L: Ledger>(&self, n: u32, steps: &mut Steps<L>) -> Pair
         requires { IsAnd self.now n }
         ensures pair { pair_of self.now n ≡ Some result }
@@ -211,14 +211,14 @@ impl Graph {
         self.pair_at(n)
     }
 
-    /// The value of each index under the values of the sources, in time linear in their number.
+    /// The value of each index for given values of the sources. Time is linear in the number of indices.
     ///
-    /// `Err` comes only for want of memory.
+    /// `Err` only if memory runs out.
     pub fn eval(&self, alloc: Global, sources: &[bool]) -> Result<Vec<bool>, AllocError>
         requires { length sources.now ≡ length self.now.kinds }
         ensures fits { IfOk result (λ values. FitsGraph self.now sources.now values.items) }
 
-        // Under any values of the sources, one list of values fits, and no other.
+        // For any values of the sources, exactly one list of values fits.
         ensures one { (given : List Bool) → length given ≡ length self.now.kinds → HasOneFit self.now given }
     {
         self.node_values(alloc, sources)

@@ -9,16 +9,16 @@ use std::marker::Model;
 #[derive(Clone, Copy, Debug, PartialEq, Eq, PartialOrd, Ord, Hash)]
 pub struct Lit(pub u32);
 
-/// What a source is.
+/// The kind of a source.
 #[derive(Clone, Copy, Debug, PartialEq, Eq)]
 pub enum Kind {
-    /// An input or a latch, which changes from cycle to cycle.
+    /// An input or a latch: its value changes from cycle to cycle.
     Regular,
-    /// A parameter, which changes seldom.
+    /// A parameter: its value seldom changes.
     Parameter,
 }
 
-/// The two literals whose product an AND node is, its fan-ins.
+/// The fan-ins of an AND node: the two literals that it multiplies.
 #[derive(Clone, Copy, Debug, PartialEq, Eq, PartialOrd, Ord, Hash)]
 pub struct Pair {
     /// The lower literal.
@@ -27,7 +27,7 @@ pub struct Pair {
     pub y: Lit,
 }
 
-/// The literals that a graph is made for.
+/// The literals for which a graph is built: the outputs and the next states of a circuit.
 #[derive(Drop)]
 pub struct Roots {
     /// The circuit's outputs, in order.
@@ -45,7 +45,7 @@ impl Model for Roots {
 }
 
 impl Lit {
-    /// The same node in the other phase.
+    /// The complement of this literal: the same node in the other phase.
     pub fn complement(self) -> Lit
         ensures { result.0 ≡ complement self.0 }
     {
@@ -57,8 +57,8 @@ impl Lit {
     }
 }
 
-/// The value of a literal under the values of the nodes by their indices: the node's value, which a complement
-/// flips.
+/// The value of a literal, given the values of the nodes by their indices. It is the value of its node, inverted if the
+/// literal is a complement.
 pub fn lit_value(values: &[bool], lit: Lit) -> bool
     requires { lit.0 / 2 < length values.now }
     ensures { result ≡ value_of values.now lit.0 }

@@ -1,10 +1,10 @@
-//! A counter of readings that takes no bytes when the program runs.
+//! A ghost counter of node reads. It takes no bytes at run time.
 ghost use Rattle.std.specs.Prelude.{◌≡◌, ◌+◌, ◌<◌};
 
 use std::marker::Model;
 use std::sync::ledger::{Blank, Book, Ledger, Share};
 
-/// How many steps were taken. It takes no bytes, and only `tick` changes it.
+/// The number of steps so far. It takes no bytes at run time, and only `tick` changes it.
 #[derive(Drop)]
 pub struct Steps<L: Ledger> {
     book: Book<L>,
@@ -22,7 +22,7 @@ impl<L: Ledger> Model for Steps<L> {
 }
 
 impl<L: Ledger> Steps<L> {
-    /// No steps yet.
+    /// A counter at 0.
     pub fn start(blank: Blank) -> Steps<L>
         requires name { blank.name ≡ L.name }
         requires parts { blank.parts ≡ L.parts }
@@ -33,7 +33,7 @@ impl<L: Ledger> Steps<L> {
         Steps { book, share }
     }
 
-    /// Adds one.
+    /// Adds one step.
     pub fn tick(&mut self)
         ensures { self.new ≡ self.old + 1 }
     {

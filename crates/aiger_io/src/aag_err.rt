@@ -1,26 +1,26 @@
-//! Why a text is no circuit.
+//! Why a text is refused as a circuit.
 use std::alloc::{AllocError, AllocFailed};
 use tl_fault::{Details, Name, Refusal};
 
-/// Why a text is no circuit. Lines are counted from 1.
+/// Why a text is refused as an AIGER circuit. Lines are counted from 1.
 #[derive(Debug, Drop, thiserror::Error)]
 pub enum AagErr {
-    /// A1: the first line isn't `aag` and five numbers, or its numbers don't go together.
+    /// A1: the first line isn't `aag` and five numbers, or the numbers are inconsistent.
     #[error("bad header in line 1")]
     Header,
-    /// A2: the line isn't of its form, or isn't there.
+    /// A2: the line has an invalid form, or is missing.
     #[error("malformed line {0}")]
     Malformed(u32),
     /// A3: a literal of the line is out of range.
     #[error("literal out of range in line {0}")]
     Range(u32),
-    /// A4: the ordinal or the name of the symbol may not stand there.
+    /// A4: the ordinal or the name of the symbol isn't allowed here.
     #[error("bad symbol in line {0}")]
     BadSymbol(u32, Name),
-    /// A5: the first line is that of a later version of the format.
+    /// A5: the header is that of a later version of the format.
     #[error("unsupported header in line 1")]
     Unsupported,
-    /// There is no memory.
+    /// Memory ran out.
     #[error("out of memory")]
     Memory,
 }
@@ -51,7 +51,7 @@ impl AagErr {
     ghost use Rattle.std.specs.Prelude.{◌≡◌};
     ghost use Rattle.aiger_io.specs.Refusals.{refusal_of};
 
-    /// What the refusal tells; none for want of memory.
+    /// The refusal that the fault line reports. `None` if memory ran out.
     pub fn refusal(self) -> Option<Refusal>
         ensures { result ≡ refusal_of self }
     {

@@ -1,4 +1,4 @@
-//! The commands of a line.
+//! The netlist commands for the lines of a circuit.
 ghost use Rattle.std.specs.Prelude.{◌≡◌, ◌/◌, [], ◌∷◌, IfOk};
 ghost use Rattle.aiger_io.specs.CircuitLibrary.{cell_of, cover_command, zero_command, literal_command, latch_command, variable_name};
 
@@ -7,7 +7,7 @@ use netlist::{Body, Cell, Command, Cover, Latch, Row};
 use std::alloc::{AllocError, Global};
 use tl_text::Name;
 
-// What a row asks of a literal's variable.
+// The cell that a row needs for a literal's variable.
 fn cell(l: u32) -> Cell
     ensures { result ≡ cell_of l }
 {
@@ -33,7 +33,7 @@ fn row_of_one(alloc: Global, cell: Cell) -> Result<Row, AllocError>
     Ok(Row { cells })
 }
 
-// A row with two.
+// A row with two cells.
 fn row_of_two(alloc: Global, first: Cell, second: Cell) -> Result<Row, AllocError>
     ensures { IfOk result (λ row. row.cells ≡ first ∷ second ∷ []) }
 {
@@ -66,7 +66,7 @@ fn cover(
     })
 }
 
-/// A cover without rows, which is constant 0.
+/// A cover without rows: the constant 0.
 pub(crate) fn zero(alloc: Global, line: u32, output: Name) -> Command
     ensures { result ≡ zero_command line output }
 {
@@ -81,7 +81,7 @@ pub(crate) fn zero(alloc: Global, line: u32, output: Name) -> Command
     }
 }
 
-/// A cover that gives an input's value to its variable.
+/// A cover that copies an input to its variable.
 pub(crate) fn buffer(
     alloc: Global,
     mark: &[u8],
@@ -99,7 +99,7 @@ pub(crate) fn buffer(
     Ok(command)
 }
 
-/// A cover that gives a literal's value to a name.
+/// A cover that gives the value of a literal to a name.
 pub(crate) fn literal(
     alloc: Global,
     mark: &[u8],
@@ -139,7 +139,7 @@ pub(crate) fn gate(
     Ok(command)
 }
 
-/// A latch without a control.
+/// A latch without a control net.
 pub(crate) fn latch(line: u32, input: Name, output: Name, init: bool) -> Command
     ensures { result ≡ latch_command line input output init }
 {

@@ -1,4 +1,4 @@
-//! The first line.
+//! The header line.
 ghost use Rattle.std.specs.Prelude.{◌≡◌, ◌<◌, length, map, Ok, Err, IfOk, MatchResult};
 ghost use Rattle.tl_fault.specs.OrMemory.{OrMemory};
 ghost use Rattle.std.specs.Option.{option_map};
@@ -11,7 +11,7 @@ use crate::number::number;
 use crate::rows::{row_at, rows_behind, words};
 use std::alloc::{AllocError, Global};
 
-/// What the first line says: the greatest variable, and how many inputs, latches, outputs and AND gates there are.
+/// The header: the greatest variable, and the numbers of inputs, latches, outputs and AND gates.
 #[derive(Clone, Copy, Debug, PartialEq, Eq)]
 pub struct Header {
     pub variables: u32,
@@ -21,7 +21,7 @@ pub struct Header {
     pub ands: u32,
 }
 
-// The numbers that words are, where each of them is one.
+// The numbers in the words, or `None` if a word isn't a number.
 fn numbers(alloc: Global, words: &[&[u8]]) -> Result<Option<Vec<u32>>, AllocError>
     ensures { IfOk result (λ found. option_map (λ numbers. numbers.items) found ≡ capped_numbers (map (λ word. word.now) words.now)) }
 {
@@ -35,7 +35,7 @@ fn numbers(alloc: Global, words: &[&[u8]]) -> Result<Option<Vec<u32>>, AllocErro
     Ok(Some(numbers))
 }
 
-// Do the numbers of a header go together?
+// Whether the numbers of a header are consistent.
 fn is_whole(h: &Header) -> bool
     ensures { result ≡ is_header h.now }
 {
@@ -70,7 +70,7 @@ fn header_of_numbers(numbers: &[u32]) -> Result<Header, AagErr>
     }
 }
 
-// The header that words are.
+// The header in the words of a line.
 fn header_of_words(alloc: Global, words: &[&[u8]]) -> Result<Header, AagErr>
     ensures { MatchResult result
         (λ header. capped_result (header_of (map (λ word. word.now) words.now)) ≡ Ok header)
@@ -89,10 +89,10 @@ fn header_of_words(alloc: Global, words: &[&[u8]]) -> Result<Header, AagErr>
     }
 }
 
-/// The header of a text's lines.
+/// The header of a text, given its lines.
 ///
 /// # Errors
-/// A1 and A5; `Memory` where there is none.
+/// A1 and A5; `Memory` if memory runs out.
 pub(crate) fn read_header(alloc: Global, rows: &[&[u8]]) -> Result<Header, AagErr>
     ensures some { IfOk result (λ _. 0 < length rows.now) }
     ensures read { MatchResult result

@@ -1,6 +1,6 @@
-//! What a line of an input, a latch, an output or an AND gate says.
+//! The content of the line of an input, a latch, an output or an AND gate.
 
-/// The kinds of such lines.
+/// The kind of such a line.
 #[derive(Clone, Copy, Debug, PartialEq, Eq)]
 pub enum Kind {
     Input,
@@ -9,15 +9,15 @@ pub enum Kind {
     And,
 }
 
-/// What such a line says, by literals.
+/// The content of such a line, by literals.
 #[derive(Clone, Copy, Debug)]
 pub enum Item {
-    /// An input.
+    /// An input, by its literal.
     Input(u32),
-    /// A latch, its next state, and its state at the start.
+    /// A latch: its literal, its next state, and its initial state.
     Latch(u32, u32, bool),
-    /// An output.
+    /// An output, by its literal.
     Output(u32),
-    /// An AND gate and its two literals.
+    /// An AND gate: its literal and its two fan-ins.
     And(u32, u32, u32),
 }

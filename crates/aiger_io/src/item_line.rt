@@ -1,4 +1,4 @@
-//! One line of an input, a latch, an output or an AND gate.
+//! Reading the line of an input, a latch, an output or an AND gate.
 ghost use Rattle.std.specs.Prelude.{◌≡◌, ◌+◌, ◌<◌, ◌≤◌, ◌^◌, map, Ok, Err, MatchResult};
 ghost use Rattle.std.specs.Option.{option_map};
 ghost use Rattle.tl_fault.specs.OrMemory.{OrMemory};
@@ -14,7 +14,7 @@ use crate::number::number;
 use crate::rows::words;
 use std::alloc::Global;
 
-// What the line at a place is.
+// The kind of the line at a place.
 fn kind_of_place(header: &Header, place: u32) -> Kind
     ensures { result ≡ kind_at header.now place }
 {
@@ -34,7 +34,7 @@ fn kind_of_place(header: &Header, place: u32) -> Kind
     Kind::And
 }
 
-// The one literal of a line.
+// The literal of a line that has one.
 fn literal(words: &[&[u8]]) -> Option<u32>
     ensures { result ≡ option_map capped (one_number (map (λ word. word.now) words.now)) }
 {
@@ -44,7 +44,7 @@ fn literal(words: &[&[u8]]) -> Option<u32>
     }
 }
 
-// The state at the start that a word says of a latch with this literal.
+// The initial state in a word, for a latch with this literal.
 fn init(own: &[u8], word: &[u8]) -> Option<bool>
     ensures { result ≡ init_of own.now word.now }
 {
@@ -57,14 +57,14 @@ fn init(own: &[u8], word: &[u8]) -> Option<bool>
     None
 }
 
-// A latch that these words tell.
+// The latch with these words.
 fn latch_with(own: &[u8], next: &[u8], start: Option<bool>) -> Option<Item>
     ensures { result ≡ option_map capped_item (latch_by (number_of own.now) (number_of next.now) start) }
 {
     Some(Item::Latch(number(own)?, number(next)?, start?))
 }
 
-// A latch.
+// The latch in the words of a line.
 fn latch(words: &[&[u8]]) -> Option<Item>
     ensures { result ≡ option_map capped_item (latch_of (map (λ word. word.now) words.now)) }
 {
@@ -75,7 +75,7 @@ fn latch(words: &[&[u8]]) -> Option<Item>
     }
 }
 
-// An AND gate.
+// The AND gate in the words of a line.
 fn gate(words: &[&[u8]]) -> Option<Item>
     ensures { result ≡ option_map capped_item (and_of (map (λ word. word.now) words.now)) }
 {
@@ -85,7 +85,7 @@ fn gate(words: &[&[u8]]) -> Option<Item>
     }
 }
 
-// What the words of a line of this kind say.
+// The content of a line of this kind.
 fn item(kind: Kind, words: &[&[u8]]) -> Option<Item>
     ensures { result ≡ option_map capped_item (item_of kind (map (λ word. word.now) words.now)) }
 {
@@ -97,7 +97,7 @@ fn item(kind: Kind, words: &[&[u8]]) -> Option<Item>
     }
 }
 
-// May a literal be read?
+// Whether a line may read a literal.
 fn may_be_read(most: u32, l: u32) -> bool
     requires { most ≤ 2 ^ 30 }
     ensures { result ≡ is_literal most l }
@@ -105,7 +105,7 @@ fn may_be_read(most: u32, l: u32) -> bool
     l <= 2 * most + 1
 }
 
-// May a line define a literal?
+// Whether a line may define a literal.
 fn may_be_defined(most: u32, l: u32) -> bool
     requires { most ≤ 2 ^ 30 }
     ensures { result ≡ is_variable most l }
@@ -113,7 +113,7 @@ fn may_be_defined(most: u32, l: u32) -> bool
     l % 2 == 0 && 2 <= l && l <= 2 * most
 }
 
-// Are the literals of a line in range?
+// Whether the literals of a line are in range.
 fn in_range(most: u32, item: Item) -> bool
     requires { most ≤ 2 ^ 30 }
     ensures { result ≡ is_in_range most item }
@@ -128,10 +128,10 @@ fn in_range(most: u32, item: Item) -> bool
     }
 }
 
-/// What the line at a place says.
+/// The content of the line at a place.
 ///
 /// # Errors
-/// A2 where it isn't of its form, and A3 where a literal is out of range; `Memory` where there is none.
+/// A2 if it has an invalid form, and A3 if a literal is out of range; `Memory` if memory runs out.
 pub(crate) fn read_item(
     alloc: Global,
     header: &Header,

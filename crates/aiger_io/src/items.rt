@@ -1,4 +1,4 @@
-//! All lines of inputs, latches, outputs and AND gates.
+//! Reading all lines of inputs, latches, outputs and AND gates.
 ghost use Rattle.std.specs.Prelude.{◌≡◌, ◌+◌, ◌<◌, ◌≤◌, ◌^◌, [], length, map, Ok, Err, IfOk, MatchResult};
 ghost use Rattle.tl_fault.specs.OrMemory.{OrMemory};
 ghost use Rattle.aiger_io.specs.Items.{items_from, item_count};
@@ -10,17 +10,17 @@ use crate::item::Item;
 use crate::item_line::read_item;
 use std::alloc::Global;
 
-/// How many such lines a header says that there are.
+/// The number of such lines according to a header.
 pub(crate) fn count(header: &Header) -> u64
     ensures { result ≡ item_count header.now }
 {
     header.inputs as u64 + header.latches as u64 + header.outputs as u64 + header.ands as u64
 }
 
-/// What these lines say, where the lines behind the header are given.
+/// The content of these lines, given the lines after the header.
 ///
 /// # Errors
-/// A2 and A3 at the first line that has one, and A2 where a line isn't there; `Memory` where there is none.
+/// A2 and A3 at the first line that has one, and A2 if a line is missing; `Memory` if memory runs out.
 pub(crate) fn read_items(
     alloc: Global,
     header: &Header,

@@ -1,33 +1,35 @@
 //! Sequential circuits in the AIGER ASCII format.
 //!
-//! An AIGER circuit has inputs, latches, outputs and AND gates. Each input, latch and gate has a *variable*, a number; a *literal* is
-//! twice a variable, and one more where it stands for the complement. Variable 0 is constant 0.
+//! An AIGER circuit has inputs, latches, outputs and AND gates. Each input, latch and gate has a *variable*, which is a
+//! number. A *literal* is twice a variable, plus one for the complement. Variable 0 is the constant 0.
 //!
-//! A text has the header `aag M I L O A`: the greatest variable, and how many inputs, latches, outputs and gates there are. Behind it
-//! stand I lines with an input's literal, L lines `lhs next` or `lhs next init`, O lines with an output's literal, and A lines
-//! `lhs rhs0 rhs1`; then symbols, the lines `i`, `l` or `o` with an ordinal, a blank, and a name; then, behind a line `c`, a comment.
-//! A latch starts at 1 exactly where its init is `1`.
+//! A text begins with the header `aag M I L O A`: the greatest variable, and the numbers of inputs, latches, outputs and
+//! gates. Then come I lines with the literal of an input; L lines `lhs next` or `lhs next init`; O lines with the literal of
+//! an output; A lines `lhs rhs0 rhs1`; symbols, which are lines of `i`, `l` or `o` with an ordinal, a blank, and a name; and,
+//! after a line `c`, a comment. A latch starts at 1 if and only if its init is `1`.
 //!
-//! Which circuit a text is stands in `specs/AigerText.antt`, from the side of who writes it, over `specs/HeaderRow.antt`,
-//! `specs/ItemRow.antt`, `specs/SymbolRow.antt` and `specs/PortName.antt`; what refuses a text first, in `specs/Refused.antt`. What the
-//! circuit does is told by its lines alone, in `specs/Run.antt`. `proofs/TextExample.antt` has some texts.
+//! `specs/AigerText.antt` defines which circuit a text is, from the writer's side, with `specs/HeaderRow.antt`,
+//! `specs/ItemRow.antt`, `specs/SymbolRow.antt` and `specs/PortName.antt`. The first refusal of a text is in
+//! `specs/Refused.antt`. The behaviour of the circuit is defined by its lines alone, in `specs/Run.antt`.
+//! `proofs/TextExample.antt` has some texts.
 //!
-//! [`read_aag`] reads a text as a netlist library (`specs/CircuitLibrary.antt`), whose cycles and runs are those of the circuit.
-//! [`put_aag`] writes the circuit of a graph (`specs/GraphCircuit.antt`), with a symbol for each input and each output
-//! (`specs/WrittenText.antt`); its cycles and runs are those of the library whose graph it is: [`graph_law`].
+//! [`read_aag`] reads a text as a netlist library (`specs/CircuitLibrary.antt`), whose cycles and runs are those of the
+//! circuit. [`put_aag`] writes the circuit of a graph (`specs/GraphCircuit.antt`), with a symbol for each input and each
+//! output (`specs/WrittenText.antt`). Its cycles and runs are those of the library from which the graph was built: see
+//! [`graph_law`].
 //!
 //! - `read_text.rt` has `read_aag`, and `aag_err.rt` the refusals.
-//! - `rows.rt` and `number.rt` have a text's lines, their words, and numbers; `header.rt` the first line.
+//! - `rows.rt` and `number.rt` have a text's lines, their words, and numbers; `header.rt` has the header.
 //! - `item.rt` and `item_line.rt` read one line of an input, a latch, an output or a gate, and `items.rt` all of them.
-//! - `symbol.rt` and `symbols.rt` read the symbols, and `port_names.rt` finds names that stand twice.
-//! - `own_name.rt`, `command.rt` and `model.rt` make the library.
+//! - `symbol.rt` and `symbols.rt` read the symbols, and `port_names.rt` finds names that occur twice.
+//! - `own_name.rt`, `command.rt` and `model.rt` build the library.
 //! - `law.rt` has the law.
-//! - `written_text.rt` has `put_aag`, and `written_line.rt` the lines that it adds.
+//! - `written_text.rt` has `put_aag`, and `written_line.rt` the lines that it writes.
 //!
 //! # Source
 //!
-//! Biere, "The AIGER And-Inverter Graph (AIG) Format Version 20071012", and for the inits of latches Biere, Heljanko and Wieringa, "AIGER
-//! 1.9 And Beyond", 2011.
+//! Biere, "The AIGER And-Inverter Graph (AIG) Format Version 20071012", and for the inits of latches Biere, Heljanko and
+//! Wieringa, "AIGER 1.9 And Beyond", 2011.
 #![tactic(auto)]
 
 mod aag_err;

@@ -1,4 +1,4 @@
-//! The library of a circuit.
+//! Building the library of a circuit.
 ghost use Rattle.std.specs.Prelude.{◌≡◌, ◌+◌, ◌<◌, ◌^◌, ◌∷◌, ◌++◌, length, IfOk, OnOk};
 ghost use Rattle.aiger_io.specs.CircuitLibrary.{port_name, variable_name, zero_command, item_commands, commands_from, library_of};
 
@@ -10,7 +10,7 @@ use netlist::{BlifModel, Command, Library};
 use std::alloc::{AllocError, Global};
 use tl_text::Name;
 
-// The name of an ordinal.
+// The name of the port with an ordinal.
 fn port(alloc: Global, names: &[Name], ordinal: usize) -> Result<Name, AllocError>
     ensures { IfOk result (λ name. name ≡ port_name names.now ordinal) }
 {
@@ -20,7 +20,7 @@ fn port(alloc: Global, names: &[Name], ordinal: usize) -> Result<Name, AllocErro
     }
 }
 
-// What the commands of a circuit are made from.
+// The parts of a circuit from which the commands are built.
 #[derive(Drop)]
 pub struct Parts<'a> {
     header: Header,
@@ -106,7 +106,7 @@ impl<'a> Parts<'a> {
         Ok(())
     }
 
-    // Adds the commands of the line at a place.
+    // Adds the commands for the line at a place.
     fn add(
         &self,
         alloc: Global,
@@ -142,7 +142,7 @@ impl<'a> Parts<'a> {
     }
 }
 
-/// The library of a circuit, which is given by its parts.
+/// The library of a circuit, given by its parts.
 pub(crate) fn library(
     alloc: Global,
     header: &Header,

@@ -6,21 +6,22 @@ ghost use Rattle.aiger_io.specs.Bodies.{capped_number};
 
 use tl_text::decimal;
 
-// Are these digits alone?
+// Whether all bytes are digits.
 fn are_digits(word: &[u8]) -> bool
     ensures { result ≡ list_all is_digit word.now }
 {
     word.iter().all(|b| b'0' <= *b && *b <= b'9')
 }
 
-// Is a word a decimal number?
+// Whether a word is a decimal number.
 fn is_number(word: &[u8]) -> bool
     ensures { result ≡ is_decimal word.now }
 {
     !word.is_empty() && are_digits(word) && (word[0] != b'0' || word.len() == 1)
 }
 
-/// The decimal number that a word is, or the greatest one of 32 bits where it is above that. It takes time linear in the word.
+/// The decimal number in a word, or 4,294,967,295 if it is greater. `None` if the word isn't a number. Time is linear in the
+/// word.
 pub(crate) fn number(word: &[u8]) -> Option<u32>
     ensures { result ≡ capped_number word.now }
 {

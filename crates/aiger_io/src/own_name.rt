@@ -1,4 +1,4 @@
-//! Names of a library's own.
+//! Generated names, which differ from those of inputs and outputs.
 ghost use Rattle.std.specs.Prelude.{◌≡◌, ◌+◌, ◌++◌, max, replicate, IfOk};
 ghost use Rattle.netlist.specs.Flat.{underscores as underscores_of, most_underscores};
 ghost use Rattle.aiger_io.specs.CircuitLibrary.{mark_of, own_name};
@@ -7,7 +7,7 @@ use itoa::Buffer;
 use std::alloc::{AllocError, Global};
 use tl_text::Name;
 
-// How many underscores a name begins with.
+// The number of underscores with which a name begins.
 fn underscores(name: &[u8]) -> usize
     ensures { result ≡ underscores_of name.now }
 {
@@ -21,7 +21,7 @@ fn underscores(name: &[u8]) -> usize
     count
 }
 
-// The greatest number of leading underscores of names, and at least this one.
+// The greatest number of leading underscores in the names, and at least `least`.
 fn most_of(names: &[Name], least: usize) -> usize
     ensures { result ≡ max least (most_underscores names.now) }
 {
@@ -32,7 +32,7 @@ fn most_of(names: &[Name], least: usize) -> usize
     most
 }
 
-// So many underscores, and one more.
+// `count` underscores, and one more.
 fn underscores_more(alloc: Global, count: usize) -> Result<Vec<u8>, AllocError>
     ensures { IfOk result (λ bytes. bytes.items ≡ replicate (1 + count) 95) }
 {
@@ -49,7 +49,7 @@ pub(crate) fn mark(alloc: Global, inputs: &[Name], outputs: &[Name]) -> Result<V
     Ok(mark)
 }
 
-/// The name of a number, in time linear in it.
+/// The generated name with a number. Time is linear in its length.
 pub(crate) fn name_of(
     alloc: Global,
     mark: &[u8],

@@ -13,7 +13,7 @@ use crate::symbols::{Symbols, symbol_at_place};
 use std::alloc::{AllocError, Global};
 use tl_text::{Name, NameIndex};
 
-// The name of an ordinal.
+// The name of the port with an ordinal, by its symbol or by default.
 fn name_or_default(
     alloc: Global,
     letter: u8,
@@ -28,7 +28,7 @@ fn name_or_default(
     }
 }
 
-// Names, and the default where there is none.
+// The names of all ports, by their symbols or by default.
 fn all_names(alloc: Global, letter: u8, names: &[Option<Name>]) -> Result<Vec<Name>, AllocError>
     requires { length names.now < 2 ^ 32 }
     ensures { IfOk result (λ all. all.items ≡ names_from letter 0 names.now) }
@@ -69,7 +69,7 @@ pub(crate) fn names_of_outputs(
     all_names(alloc, b'o', &said.names[first..])
 }
 
-// Adds the names that stand twice among those seen and more of them.
+// Adds the names that occur twice among those seen and these names.
 fn add_twice(
     alloc: Global,
     seen: &mut NameIndex,
@@ -89,7 +89,7 @@ fn add_twice(
     Ok(())
 }
 
-// The names that stand twice among inputs and outputs.
+// The names that occur twice among inputs and outputs.
 fn names_found_twice(
     alloc: Global,
     inputs: &[Name],
@@ -104,21 +104,21 @@ fn names_found_twice(
     Ok(found)
 }
 
-// Is this the place of an input or an output?
+// Whether this is the place of an input or an output.
 fn is_port_place(header: &Header, place: u32) -> bool
     ensures { result ≡ is_port header.now place }
 {
     place < header.inputs || header.inputs as u64 + header.latches as u64 <= place as u64
 }
 
-// Is the name at this place one of an input or an output that is among those found?
+// Whether the name at this place is that of an input or an output and is among those found.
 fn is_found(header: &Header, said: &Symbols, found: &NameIndex, place: u32) -> bool
     ensures { result ≡ (is_port header.now place && has_name found.now (name_at said.now place)) }
 {
     is_port_place(header, place) && found.has(symbol_at_place(said, place))
 }
 
-// Looks for the first symbol whose name was found twice.
+// Returns the first symbol whose name was found twice.
 fn look_for(
     alloc: Global,
     header: &Header,
@@ -143,10 +143,10 @@ fn look_for(
     Ok(())
 }
 
-/// Are all names of inputs and outputs different?
+/// Checks that all names of inputs and outputs differ.
 ///
 /// # Errors
-/// A4 at the first symbol that names another input or output too; `Memory` where there is none.
+/// A4 at the first symbol that also names another input or output; `Memory` if memory runs out.
 pub(crate) fn check_names(
     alloc: Global,
     header: &Header,

@@ -1,4 +1,4 @@
-//! The library of a text.
+//! Reading a whole text.
 ghost use Rattle.std.specs.Prelude.{◌≡◌, ◌+◌, ◌≤◌, ◌<◌, ◌^◌, length, map, Err, IfOk, IfErr, MatchResult};
 ghost use Rattle.netlist.specs.HasCleanNames.{HasCleanNames};
 ghost use Rattle.netlist.specs.LibraryValue.{LibraryValue};
@@ -24,7 +24,7 @@ use crate::symbols::{Symbols, read_symbols};
 use netlist::Library;
 use std::alloc::Global;
 
-// The library of items and of symbols, which stand behind this line.
+// The library of items, and of the symbols after this line.
 fn named_library(
     alloc: Global,
     header: &Header,
@@ -48,7 +48,7 @@ fn named_library(
     Ok(made)
 }
 
-// The library of items, where the lines behind them are given.
+// The library of items, given the lines after them.
 fn library_behind(
     alloc: Global,
     header: &Header,
@@ -67,7 +67,7 @@ fn library_behind(
     Ok(made)
 }
 
-// The library of a header, where the lines behind it are given.
+// The library of a header, given the lines after it.
 fn library_under(alloc: Global, header: &Header, rows: &[&[u8]]) -> Result<Library, AagErr>
     requires small { header.now.variables ≤ 2 ^ 30 }
     requires few { length rows.now + 3 < 2 ^ 32 }
@@ -92,26 +92,27 @@ fn library_of_text(alloc: Global, text: &[u8]) -> Result<Library, AagErr>
     Ok(made)
 }
 
-/// The library of the circuit that a text is: one model `aag`, with a cover or a latch for each of the lines (`specs/CircuitLibrary.antt`).
-/// It takes time and memory linear in the text and in the library, on average over the hashes of names. The library's names can be longer
-/// than the text's lines, where an input or an output has a name that begins with many underscores.
+/// Reads the circuit of a text as a library: one model `aag`, with a cover or a latch for each line
+/// (`specs/CircuitLibrary.antt`). Time and memory are linear in the text and in the library, on average over the hashes of
+/// names. Names of the library can be longer than the lines of the text, if an input or an output has a name that begins with
+/// many underscores.
 ///
 /// # Errors
-/// The first refusal of the text, by `specs/Refused.antt`: A1 and A5 of its header, else A2, A3 and A4 of the first line that has one, else A4
-/// of the first symbol that names another input or output too; `Memory` where there is none.
+/// The first refusal of the text, by `specs/Refused.antt`: A1 and A5 of its header; otherwise A2, A3 and A4 of the first line
+/// that has one; otherwise A4 of the first symbol that also names another input or output. `Memory` if memory runs out.
 pub fn read_aag(alloc: Global, text: &[u8]) -> Result<Library, AagErr>
     requires { length text.now ≤ MOST_BYTES }
 
-    // The answer is the text's library, or its first refusal.
+    // The result is the text's library, or its first refusal.
     ensures library { IfOk result (λ library. IsLibraryOf text.now library) }
     ensures refusal { IfErr result (OrMemory refusal_of (IsRefused text.now)) }
 
-    // Whatever the answer: a text is a circuit or is refused, never both, and has one of each at most.
+    // Whatever the call returns: a text is a circuit or is refused, never both, and has at most one of each.
     ensures one_reading { HasOneReading text.now }
 
-    // Each library of the text has the cycles and runs of the text's circuit, which knows its lines alone (`specs/Run.antt`). Where it is
-    // sound, as it is where it can be flattened, there are values of the circuit's variables that fit its lines for all values of inputs
-    // and latches, and any two agree on what the lines define.
+    // Each library of the text has the cycles and runs of the text's circuit, which are defined by its lines alone
+    // (`specs/Run.antt`). If it is sound, and so if it can be flattened, then for all values of inputs and latches there are
+    // values of the circuit's variables that fit its lines, and any two agree on what the lines define.
     ensures runs { (library : LibraryValue) → IsLibraryOf text.now library → HasRunsOf text.now library }
 
     // Each library of the text is well formed, with clean names, one model, and short names of ports.

@@ -13,7 +13,7 @@ fn parts<'a>(alloc: Global, text: &'a [u8]) -> Result<Vec<&'a [u8]>, AllocError>
     text.split(|b| *b == b'\n').collect(alloc)
 }
 
-// A part before a line feed, without the carriage return at its end.
+// The part before a line feed, without a carriage return at its end.
 fn without_return<'a>(part: &'a [u8]) -> &'a [u8]
     ensures { result.now ≡ strip_carriage_return part.now }
 {
@@ -23,8 +23,8 @@ fn without_return<'a>(part: &'a [u8]) -> &'a [u8]
     &part[..part.len() - 1]
 }
 
-/// The lines of a text, in time and memory linear in it. A line ends with a line feed or with the end of the text, and a carriage
-/// return before a line feed is dropped.
+/// The lines of a text. A line ends with a line feed or with the end of the text; a carriage return before a line feed is
+/// dropped. Time and memory are linear in the text.
 pub(crate) fn rows<'a>(alloc: Global, text: &'a [u8]) -> Result<Vec<&'a [u8]>, AllocError>
     ensures few { IfOk result (λ rows. length rows.items ≤ length text.now + 1) }
     ensures lines { IfOk result (λ rows. map (λ row. row.now) rows.items ≡ lines text.now) }
@@ -41,14 +41,14 @@ pub(crate) fn rows<'a>(alloc: Global, text: &'a [u8]) -> Result<Vec<&'a [u8]>, A
     Ok(rows)
 }
 
-/// The words of a line, which one blank separates, in time and memory linear in it.
+/// The words of a line, separated by single blanks. Time and memory are linear in the line.
 pub(crate) fn words<'a>(alloc: Global, row: &'a [u8]) -> Result<Vec<&'a [u8]>, AllocError>
     ensures { IfOk result (λ words. map (λ word. word.now) words.items ≡ words_of row.now) }
 {
     row.split(|b| *b == b' ').collect(alloc)
 }
 
-/// The row at a place.
+/// The line at a place.
 pub(crate) fn row_at<'a>(rows: &[&'a [u8]], place: usize) -> &'a [u8]
     requires { place < length rows.now }
     ensures { slice_get (map (λ row. row.now) rows.now) place ≡ Some result.now }
@@ -56,7 +56,7 @@ pub(crate) fn row_at<'a>(rows: &[&'a [u8]], place: usize) -> &'a [u8]
     rows[place]
 }
 
-/// The rows behind so many.
+/// The lines after the first `count`.
 pub(crate) fn rows_behind<'a, 'b>(rows: &'b [&'a [u8]], count: usize) -> &'b [&'a [u8]]
     requires { count ≤ length rows.now }
     ensures rows { map (λ row. row.now) result.now ≡ drop count (map (λ row. row.now) rows.now) }

@@ -1,4 +1,4 @@
-//! One symbol.
+//! Reading one symbol.
 ghost use Rattle.std.specs.Prelude.{◌≡◌, ◌≤◌, ◌==◌, length};
 ghost use Rattle.std.specs.List.{list_any, position_or_len};
 ghost use Rattle.std.specs.Option.{option_map};
@@ -8,7 +8,7 @@ ghost use Rattle.aiger_io.specs.Symbols.{kind_of, is_bad_byte, is_bad_name, symb
 use crate::item::Kind;
 use crate::number::number;
 
-/// What a line says that names an input, a latch or an output.
+/// The content of a line that names an input, a latch or an output.
 #[derive(Drop)]
 pub struct Symbol<'a> {
     pub kind: Kind,
@@ -28,7 +28,7 @@ fn kind(letter: u8) -> Option<Kind>
     }
 }
 
-// The place of the first blank, or the length.
+// The place of the first blank, or the length if there is none.
 fn blank_place(row: &[u8]) -> usize
     ensures within { result ≤ length row.now }
     ensures value { result ≡ position_or_len (λ b. b == 32) row.now }
@@ -41,7 +41,7 @@ fn blank_place(row: &[u8]) -> usize
     row.len()
 }
 
-// What stands before the first blank and what stands behind it say.
+// The symbol with this text before the first blank and this name after it.
 fn symbol_with<'a>(key: &[u8], name: &'a [u8]) -> Option<Symbol<'a>>
     ensures { option_map symbol_value result ≡ option_map capped_symbol (symbol_by key.now name.now) }
 {
@@ -57,7 +57,7 @@ fn symbol_with<'a>(key: &[u8], name: &'a [u8]) -> Option<Symbol<'a>>
     })
 }
 
-/// What a line says that names an input, a latch or an output; `None` exactly where it isn't of this form. It takes time linear in the line.
+/// The symbol on a line; `None` if and only if the line has another form. Time is linear in the line.
 pub(crate) fn read_symbol<'a>(row: &'a [u8]) -> Option<Symbol<'a>>
     ensures { option_map symbol_value result ≡ option_map capped_symbol (symbol_of row.now) }
 {
@@ -74,7 +74,7 @@ fn has_bad_byte(name: &[u8]) -> bool
     name.iter().any(|b| *b < 33 || *b == b'#' || *b == 127)
 }
 
-/// Can no word of a netlist be this name? It takes time linear in the name.
+/// Whether the name can't be a word of a netlist. Time is linear in the name.
 pub(crate) fn is_bad(name: &[u8]) -> bool
     ensures { result ≡ is_bad_name name.now }
 {

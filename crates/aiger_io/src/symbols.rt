@@ -1,4 +1,4 @@
-//! All symbols.
+//! Reading all symbols.
 ghost use Rattle.std.specs.Prelude.{◌≡◌, ◌+◌, ◌<◌, ◌^◌, ◌&&◌, not, nat_lt, length, map, replicate, slice_index_or, Some, None, Ok, Err, IfOk, MatchResult, IsTrue};
 ghost use Rattle.std.specs.Option.{is_some};
 ghost use Rattle.tl_fault.specs.OrMemory.{OrMemory};
@@ -15,7 +15,8 @@ use std::alloc::{AllocError, Global};
 use std::marker::Model;
 use tl_text::Name;
 
-/// What symbols say: the name at each place of an input, a latch or an output that has one, and the places in the order of the lines.
+/// The symbols: the name at each place of an input, a latch or an output that has one, and the places in the order of the
+/// lines.
 #[derive(Drop)]
 pub struct Symbols {
     pub names: Vec<Option<Name>>,
@@ -30,7 +31,7 @@ impl Model for Symbols {
     ghost view = { λ s. record { names = s.names.items; places = s.places.items } };
 }
 
-// No name at so many places.
+// `count` places without a name.
 fn no_names(alloc: Global, count: u64) -> Result<Vec<Option<Name>>, AllocError>
     ensures { IfOk result (λ names. names.items ≡ replicate count no_name) }
 {
@@ -41,7 +42,7 @@ fn no_names(alloc: Global, count: u64) -> Result<Vec<Option<Name>>, AllocError>
     Ok(names)
 }
 
-// How many of a kind may have a symbol.
+// The number of items of a kind that may have a symbol.
 fn count(header: &Header, kind: Kind) -> u32
     ensures { result ≡ count_of header.now kind }
 {
@@ -68,7 +69,7 @@ fn place(header: &Header, s: &Symbol) -> u32
     }
 }
 
-// May a symbol stand behind others?
+// Whether a symbol is allowed after others.
 fn may_stand(header: &Header, said: &Symbols, s: &Symbol) -> bool
     requires few { named_count header.now < 2 ^ 32 }
     requires size { length said.now.names ≡ named_count header.now }
@@ -82,7 +83,7 @@ fn may_stand(header: &Header, said: &Symbols, s: &Symbol) -> bool
     said.names[place].is_none() && !is_bad(s.name)
 }
 
-// Adds what a line says.
+// Adds the symbol on a line.
 fn add(
     alloc: Global,
     header: &Header,
@@ -106,7 +107,7 @@ fn add(
     Ok(())
 }
 
-/// The symbol at a place, and no bytes where there is none.
+/// The symbol at a place; empty if there is none.
 pub(crate) fn symbol_at_place(said: &Symbols, place: u32) -> &[u8]
     ensures { result.now ≡ name_at said.now place }
 {
@@ -116,10 +117,10 @@ pub(crate) fn symbol_at_place(said: &Symbols, place: u32) -> &[u8]
     }
 }
 
-/// What the lines behind the items say, up to the comment; the first of them has this number.
+/// The symbols on the lines after the items, up to the comment. The first of these lines has this number.
 ///
 /// # Errors
-/// A2 and A4 at the first line that has one, but for names that are alike; `Memory` where there is none.
+/// A2 and A4 at the first line that has one, except for equal names; `Memory` if memory runs out.
 pub(crate) fn read_symbols(
     alloc: Global,
     header: &Header,

@@ -1,4 +1,4 @@
-//! The lines of a text that is written.
+//! The lines of the written text.
 ghost use Rattle.tl_io.specs.Sink.{IsPut};
 ghost use Rattle.tl_piece.specs.Added.{IsAdded};
 ghost use Rattle.std.specs.Prelude.{◌∷◌, decimal};
@@ -10,7 +10,7 @@ use crate::item::Item;
 use tl_io::Sink;
 use tl_piece::Writer;
 
-// Adds a number behind a blank.
+// Adds a number after a blank.
 fn add_number<O: Sink>(number: u32, writer: &mut Writer<'_, O>)
     ensures { IsAdded O.seen writer.old (32 ∷ decimal number) writer.new }
 {
@@ -31,7 +31,7 @@ pub(crate) fn add_header<O: Sink>(h: &Header, writer: &mut Writer<'_, O>)
     writer.add_byte(b'\n');
 }
 
-// Adds a state at the start, where it is 1.
+// Adds an initial state, if it is 1.
 fn add_init<O: Sink>(init: bool, writer: &mut Writer<'_, O>)
     ensures { IsAdded O.seen writer.old (words_text (init_words init)) writer.new }
 {

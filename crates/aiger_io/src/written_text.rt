@@ -1,4 +1,4 @@
-//! The text of a graph.
+//! Writing the text of a graph.
 ghost use Rattle.std.specs.Prelude.{◌≡◌, ◌+◌, ◌<◌, ◌≤◌, ◌^◌, ℕ, [], length, slice_index_or};
 ghost use Rattle.std.specs.List.{flat_map, range_with_len};
 ghost use Rattle.aig_core.specs.Aig.{first_and};
@@ -19,7 +19,7 @@ use tl_io::{Failed, Sink};
 use tl_piece::{Piece, Writer};
 use tl_text::Name;
 
-// Adds the lines of so many inputs.
+// Adds the lines of `count` inputs.
 fn add_inputs<O: Sink>(count: u32, writer: &mut Writer<'_, O>)
     requires { count < 2 ^ 30 }
     ensures { IsAdded O.seen writer.old (flat_map (λ (n : ℕ). item_text (input_item n)) (range_with_len 1 count)) writer.new }
@@ -29,7 +29,7 @@ fn add_inputs<O: Sink>(count: u32, writer: &mut Writer<'_, O>)
     }
 }
 
-// Adds the lines of latches behind so many inputs.
+// Adds the lines of the latches, whose variables follow those of the inputs.
 fn add_latches<O: Sink>(
     inputs: u32,
     latches: &[FlatLatch],
@@ -66,7 +66,7 @@ fn add_gates<O: Sink>(graph: &Graph, writer: &mut Writer<'_, O>)
     }
 }
 
-// The name at a place, and no bytes where there is none.
+// The name at a place; empty if there is none.
 fn name_at(names: &[Name], place: u32) -> &[u8]
     ensures { result.now ≡ slice_index_or names.now place [] }
 {
@@ -86,7 +86,7 @@ fn add_regular<O: Sink>(inputs: &[Name], regular: &[u32], writer: &mut Writer<'_
     }
 }
 
-// Adds the symbols of parameters, the first of which has this ordinal.
+// Adds the symbols of the parameters. The first one has this ordinal.
 fn add_params<O: Sink>(first: u32, params: &[Param], writer: &mut Writer<'_, O>)
     requires { first + length params.now < 2 ^ 30 }
     ensures { IsAdded O.seen writer.old (numbered_text (λ k (p : ParamValue). symbol_text 105 k p.name) first params.now) writer.new }
@@ -106,7 +106,7 @@ fn add_names<O: Sink>(outputs: &[OutPort], writer: &mut Writer<'_, O>)
     }
 }
 
-// Adds the header and the lines of a graph, which has so many inputs.
+// Adds the header and the lines of a graph with this number of inputs.
 fn add_lines<O: Sink>(
     inputs: u32,
     flat: &Flat,
@@ -133,7 +133,7 @@ fn add_lines<O: Sink>(
     add_gates(graph, writer);
 }
 
-// How many inputs there are.
+// The number of inputs.
 fn count_inputs(regular: &[u32], params: &Params) -> u32
     requires { input_count regular.now params.now.list < 2 ^ 30 }
     ensures { result ≡ input_count regular.now params.now.list }
@@ -152,14 +152,14 @@ fn add_symbols<O: Sink>(flat: &Flat, params: &Params, regular: &[u32], writer: &
     add_names(&flat.outputs, writer);
 }
 
-/// Puts the text of the circuit of a graph (`specs/GraphCircuit.antt`), in pieces of 4,096 bytes of which the last may be shorter. Its
-/// inputs are the regular ones, whose places are handed in, and then the parameters; it has a symbol for each input and each output.
-/// It takes no memory, and time linear in the text.
+/// Writes the text of the circuit of a graph (`specs/GraphCircuit.antt`), in pieces of 4,096 bytes (the last may be shorter).
+/// Its inputs are the regular ones, whose places are passed in, and then the parameters. It has a symbol for each input and
+/// each output. Allocates no memory; time is linear in the text.
 ///
 /// [`graph_law`](crate::graph_law) says what this circuit keeps.
 ///
 /// # Errors
-/// `Failed` only where the sink's count of faults rose: then a prefix of the text stands.
+/// `Failed` only if the sink's count of faults rose. A prefix of the text is then written.
 pub fn put_aag<O: Sink>(
     flat: &Flat,
     params: &Params,

@@ -1,4 +1,4 @@
-//! The functions of a cone's nodes: one pass over its order makes the literal of each, once.
+//! The functions of a cone's nodes. One pass over its postorder builds the literal of each node once.
 ghost use Rattle.std.specs.Prelude.{◌≡◌, ℕ, ◌+◌, ◌*◌, ◌/◌, ◌<◌, ◌≤◌, ◌∷◌, [], length, reverse, IfOk, OnOk};
 ghost use Rattle.list_laws.specs.Members.{In};
 ghost use Rattle.list_laws.specs.Digits.{bit_value};
@@ -14,7 +14,7 @@ use cover_pick::Lut;
 use list_laws::digit;
 use std::alloc::AllocError;
 
-// A literal in the phase of another one: an odd one is the complement.
+// A literal in the phase of another one: complemented if that is odd.
 fn in_phase_of(lit: Lit, made: Lit) -> Lit
     ensures { result.0 ≡ phase_literal lit.0 made.0 }
 {
@@ -33,7 +33,7 @@ fn fan_in_lit(lits: &[Lit], lit: Lit) -> Lit
     in_phase_of(lit, lits[lit.0 as usize / 2])
 }
 
-// The product of two literals in a pack with room for a node.
+// The product of two literals in a pack that has room for a node.
 fn product_of(pack: &mut Graph, a: Lit, b: Lit) -> Result<Lit, AllocError>
     requires a_in { IsLit pack.old a.0 }
     requires b_in { IsLit pack.old b.0 }
@@ -49,7 +49,7 @@ fn product_of(pack: &mut Graph, a: Lit, b: Lit) -> Result<Lit, AllocError>
     }
 }
 
-// The literal of an AND node, from those of its fan-ins.
+// Sets the literal of an AND node, given those of its fan-ins.
 fn make_node(graph: &Graph, n: u32, pack: &mut Graph, lits: &mut [Lit]) -> Result<(), AllocError>
     requires node { IsAnd graph.now n }
     requires lits { AreLits graph.now pack.old lits.old }
@@ -63,7 +63,7 @@ fn make_node(graph: &Graph, n: u32, pack: &mut Graph, lits: &mut [Lit]) -> Resul
     Ok(())
 }
 
-// The literals of the nodes of an order, in turn.
+// Sets the literals of the nodes in an order, one after another.
 fn make_nodes(
     graph: &Graph,
     order: &[u32],
@@ -81,14 +81,14 @@ fn make_nodes(
     Ok(())
 }
 
-// The constant of a bit.
+// The constant literal of a bit.
 fn bit_lit(bit: bool) -> Lit
     ensures { result.0 ≡ bit_value bit }
 {
     Lit(u32::from(bit))
 }
 
-// Gives each leaf the constant of its digit of v.
+// Sets each leaf to the constant of its digit in `v`.
 fn set_leaves(leaves: &[u32], v: u32, lits: &mut [Lit])
     requires few { length leaves.now ≤ MOST_LEAVES }
     requires inside { (m : ℕ) → In leaves.now m → m < length lits.old }
@@ -101,7 +101,7 @@ fn set_leaves(leaves: &[u32], v: u32, lits: &mut [Lit])
     }
 }
 
-// The literal of a table's bit for v.
+// The literal of a LUT's bit for the leaf values `v`.
 pub fn make_bit(
     graph: &Graph,
     table: &Lut,

@@ -1,4 +1,4 @@
-//! The cone of a table as a graph to walk, and its order.
+//! The cone of a LUT as a graph for a walk, and its postorder.
 ghost use Rattle.std.specs.Prelude.{◌≡◌, ◌<◌, OnOk};
 ghost use Rattle.aig_core.specs.Aig.{first_and, node_count, AreNormal};
 ghost use Rattle.cover_pick.specs.Cone.{is_stop as ends_way};
@@ -8,7 +8,7 @@ use aig_core::Graph;
 use depth_first::{Edge, Successors, Walk};
 use std::alloc::AllocError;
 
-// Does a node end the way down: the constant, a source or a leaf?
+// Whether the walk stops at a node: it is the constant, a source or a leaf.
 fn is_stop(graph: &Graph, leaves: &[u32], n: u32) -> bool
     ensures stops { result ≡ ends_way graph.now leaves.now n }
     ensures normal { AreNormal (first_and graph.now) graph.now.pairs }
@@ -16,7 +16,7 @@ fn is_stop(graph: &Graph, leaves: &[u32], n: u32) -> bool
     n < 1 + graph.sources() || leaves.contains(&n)
 }
 
-// A graph above some leaves.
+// The part of a graph above some leaves.
 #[derive(Drop)]
 struct Cone<'a> {
     graph: &'a Graph,
@@ -54,7 +54,7 @@ impl Successors for Cone<'_> {
     }
 }
 
-// Walks the cone of a node above some leaves, from nothing: no node for one that ends the way down.
+// Walks the cone of a node above some leaves, from a cleared walk. The cone is empty if the walk stops at the node itself.
 pub fn walk_cone(graph: &Graph, leaves: &[u32], top: u32, walk: &mut Walk) -> Result<(), AllocError>
     requires top { top < node_count graph.now }
     requires count { walk.old.count ≡ node_count graph.now }

@@ -1,42 +1,43 @@
-//! The bits of tunable tables as functions of the parameters.
+//! The bits of tunable LUTs as functions of the parameters.
 //!
 //! # The idea
 //!
-//! A circuit is mapped to tables with some inputs, the parameters, left open: they are no leaves, so that the bits of a
-//! table are functions of them (Bruneel, Heirman, Stroobandt, 2011). All these functions stand over one graph of ANDs whose
-//! sources are the parameters, a pack, so that what several bits share stands once.
+//! The circuit is mapped to LUTs with some inputs, the parameters, left open. These are no leaves, so the bits of a LUT are
+//! functions of them (Bruneel, Heirman, Stroobandt, 2011). All these functions are over one AND graph whose sources are the
+//! parameters, a pack, so bits share common parts.
 //!
-//! # The words
+//! # Terms
 //!
-//! - A *table* belongs to a literal, which is twice a node's index, plus one for its complement, and has *leaves*. With m
-//!   leaves it has 2^m bits, from its *base* on. Its *cone* is what lies between its node and its leaves.
-//! - The *parameters' values* are a list with one bit for each parameter, in the order of the graph's sources
+//! - A *LUT* belongs to a literal, which is twice the index of a node, plus one for its complement, and has *leaves*. With m
+//!   leaves it has 2^m bits, which begin at its *base*. Its *cone* is the part of the graph between its node and its leaves.
+//! - The *values of the parameters* are a list with one bit for each parameter, in the order of the graph's sources
 //!   (`specs/Parameters.antt`).
-//! - The *bit* at the address b of a table is the value of its literal where leaf j has the binary digit j of b minus the
-//!   base, a parameter has its value, the constant is 0, and an AND node is the product of its two literals' values
+//! - The *bit* at address b of a LUT is the value of its literal under these values: leaf j has the binary digit j of b minus
+//!   the base, a parameter has its value, the constant is 0, and an AND node is the product of its two fan-ins
 //!   (`specs/BitFunction.antt`).
 //! - The *configuration* has the bit of each address (`specs/Configuration.antt`).
 //!
-//! # What is promised
+//! # What is proved
 //!
-//! Where the tables map the graph, the leaves of each block its node: each way down ends at a leaf, a parameter or the
-//! constant. So at each address there is one bit, and under each list of parameters' values there is one configuration
-//! (`bit`, `configuration`): both are functions of the parameters' values alone. The law of the configuration follows
-//! (`specs/Lawful.antt`): whatever values the regular sources have, the values of the graph's literals fit the tables under
-//! it, so a cycle of the tables is the graph's.
+//! If the LUTs map the graph, the leaves of each LUT block its node: each path down ends at a leaf, a parameter or the
+//! constant. So there is exactly one bit at each address, and exactly one configuration for each list of values of the
+//! parameters (`bit`, `configuration`): both are functions of the values of the parameters alone. The law of the
+//! configuration follows (`specs/Lawful.antt`): whatever values the regular sources have, the values of the graph's literals
+//! fit the LUTs under it. So a cycle of the LUTs is a cycle of the graph.
 //!
-//! [`functions`] makes these functions: all bits as literals of one graph over the parameters, a pack. The function of a
-//! node for the digits of v is made by the recursion from it (`specs/PackOf.antt`): a leaf is a constant, a parameter its source,
-//! and an AND node the product of its fan-ins, the lower one made first. Making it again adds nothing, so one pass over the
-//! postorder of a table's cone makes the same, with one look-up a node and address (`proofs/ConeMakesLemmas.antt`). There is one
-//! such pack (`one`), and its configurations are those of the template, lawful for all values of the parameters (`conf`).
+//! [`functions`] builds these functions: all bits as literals of one graph over the parameters, a pack. The function of a
+//! node for the digits of v is built by recursion (`specs/PackOf.antt`): a leaf is a constant, a parameter is its source, and
+//! an AND node is the product of its fan-ins, the lower one built first. Building it again adds nothing. So one pass over the
+//! postorder of a LUT's cone gives the same, with one lookup for each node and address (`proofs/ConeMakesLemmas.antt`).
+//! Exactly one such pack exists (`one`), and its configurations are those of the template, lawful for all values of the
+//! parameters (`conf`).
 //!
-//! `proofs/BitExample.antt` works out the table of a multiplexer, and `proofs/PackExample.antt` its pack.
+//! `proofs/BitExample.antt` works out the LUT of a multiplexer, and `proofs/PackExample.antt` its pack.
 //!
 //! # The files
 //!
-//! `cone_graph` has a table's cone as a graph to walk, `cone_functions` the functions of its nodes, made by one pass over its
-//! order, and `template_functions` those of all tables, the pack.
+//! `cone_graph` has the cone of a LUT as a graph for a walk, `cone_functions` the functions of its nodes, and
+//! `template_functions` those of all LUTs, the pack.
 #![tactic(auto)]
 
 mod cone_functions;

@@ -1,4 +1,4 @@
-//! The functions of a template's bits: its pack, in which they stand over one graph.
+//! The functions of a template's bits over one graph: its pack.
 ghost use Rattle.std.specs.Prelude.{◌≡◌, ℕ, ◌+◌, ◌*◌, ◌/◌, ◌^◌, ◌<◌, ◌≤◌, List, [], Bool, length, map, replicate, reverse, IfOk, OnOk};
 ghost use Rattle.list_laws.specs.Members.{In};
 ghost use Rattle.param_list.specs.Parameters.{AreNamed};
@@ -27,7 +27,8 @@ use ppc_pack::{MOST_PACK_NODES, Pack, PackParam};
 use std::alloc::{AllocError, Global};
 use tl_text::Name;
 
-// Gives a source its literal if it is a parameter, where `count` parameters stand before it. Answers how many stand up to it.
+// Sets the literal of source `i` if it is a parameter; `count` parameters come before it. Returns the number of parameters up
+// to and including it.
 fn set_source(graph: &Graph, i: u32, count: u32, lits: &mut [Lit]) -> u32
     requires few { param_count graph.now.kinds ≤ MOST_PARAMETERS }
     requires small { length graph.now.kinds < 2 ^ 30 }
@@ -44,7 +45,7 @@ fn set_source(graph: &Graph, i: u32, count: u32, lits: &mut [Lit]) -> u32
     }
 }
 
-// A literal for each node: the constant's is 0, each parameter has its source in the pack, and all others wait.
+// A literal for each node: 0 for the constant, the source in the pack for a parameter; the others are set later.
 fn source_lits(alloc: Global, graph: &Graph) -> Result<Vec<Lit>, AllocError>
     requires { param_count graph.now.kinds ≤ MOST_PARAMETERS }
     ensures lits { IfOk result (λ lits. HaveSourceLits graph.now lits.items) }
@@ -58,7 +59,7 @@ fn source_lits(alloc: Global, graph: &Graph) -> Result<Vec<Lit>, AllocError>
     Ok(lits)
 }
 
-// Puts the literals of a table's bits behind others, v ascending.
+// Appends the literals of a LUT's bits, v ascending.
 fn push_table(
     graph: &Graph,
     table: &Lut,
@@ -82,7 +83,7 @@ fn push_table(
     Ok(())
 }
 
-// The literals of the bits of all tables, in the order of their addresses.
+// The literals of the bits of all LUTs, in the order of their addresses.
 fn push_tables(
     alloc: Global,
     graph: &Graph,
@@ -107,7 +108,7 @@ fn push_tables(
     Ok(bits)
 }
 
-// The parameters of a list as those of a pack.
+// The parameters of a list as parameters of a pack.
 fn pack_params(alloc: Global, params: &Params) -> Result<Vec<PackParam>, AllocError>
     ensures { IfOk result (λ made. made.items ≡ map pack_param params.now.list) }
 {
@@ -157,14 +158,14 @@ fn make_pack(
     Ok(Pack::make(pack_params, pack, bits))
 }
 
-/// The functions of a template's bits as a pack.
+/// The functions of a template's bits, as a pack.
 ///
-/// A table's cone is walked once, and for each of the table's addresses one pass over its order makes the functions of its
-/// nodes, each once. So the time is linear in the work of the tables, and the pack has at most as many nodes. No call is
-/// nested deeper than the code says, however deep the graph is.
+/// The cone of each LUT is walked once. For each address of the LUT, one pass over the postorder builds the functions of its
+/// nodes, each once. So time is linear in the work of the LUTs, and the pack has at most as many nodes. The depth of calls
+/// doesn't grow with the graph.
 ///
 /// # Errors
-/// Only for want of memory.
+/// Only if memory runs out.
 pub fn functions(
     alloc: Global,
     graph: &Graph,
@@ -178,14 +179,14 @@ pub fn functions(
     ensures pack { IfOk result (λ pack. IsPackOf graph.now template.now.luts params.now.list pack) }
     ensures conf { IfOk result (λ pack. HasConfigurations graph.now template.now.luts pack) }
 
-    // It keeps what every pack keeps, and its graph what every graph does.
+    // It keeps what every pack keeps, and its graph keeps what every graph does.
     ensures kept { IfOk result (λ pack. IsPack pack.params pack.graph pack.bits) }
     ensures normal { IfOk result (λ pack. AreNormal (first_and pack.graph) pack.graph.pairs) }
 
-    // There is one pack of these parameters, and no other.
+    // Exactly one pack of these parameters exists.
     ensures one { HasOnePack graph.now template.now.luts params.now.list }
 
-    // Under any values of the parameters there is one bit at each address, and one configuration.
+    // For any values of the parameters there is exactly one bit at each address, and exactly one configuration.
     ensures bit { (given : List Bool) → length given ≡ param_count graph.now.kinds → (b : ℕ) → b < bits_of template.now.luts → HasOneBit graph.now template.now.luts given b }
     ensures configuration { (given : List Bool) → length given ≡ param_count graph.now.kinds → HasOneConfiguration graph.now template.now.luts given }
 {

@@ -1,4 +1,4 @@
-//! The latches.
+//! The lines of the latches.
 ghost use Rattle.std.specs.Prelude.{◌≡◌, [], ◌∷◌, ◌++◌, Some, length, map};
 ghost use Rattle.std.specs.List.{flat_map};
 ghost use Rattle.tl_piece.specs.Added.{IsAdded};
@@ -14,7 +14,7 @@ use tl_io::Sink;
 use tl_piece::Writer;
 use tl_text::Name;
 
-// Adds the type and the control of a latch.
+// Adds the type and the control net of a latch.
 fn add_clock<O: Sink>(control: &Name, writer: &mut Writer<'_, O>)
     ensures { IsAdded O.seen writer.old (words_text (control_words (Some control.now))) writer.new }
 {
@@ -22,7 +22,7 @@ fn add_clock<O: Sink>(control: &Name, writer: &mut Writer<'_, O>)
     add_word(control, writer);
 }
 
-// Adds the type and the control of a latch that has one.
+// Adds the type and the control net of a latch, if it has one.
 fn add_control<O: Sink>(control: &Option<Name>, clocked: bool, writer: &mut Writer<'_, O>)
     ensures { IsAdded O.seen writer.old (words_text (control_words (clock_of control.now clocked))) writer.new }
 {
@@ -32,7 +32,7 @@ fn add_control<O: Sink>(control: &Option<Name>, clocked: bool, writer: &mut Writ
     }
 }
 
-// Adds the state at the start, which ends a latch's line.
+// Adds the initial state, which ends the line of a latch.
 fn add_init<O: Sink>(init: bool, writer: &mut Writer<'_, O>)
     ensures { IsAdded O.seen writer.old (32 ∷ (output_token init ++ 10 ∷ [])) writer.new }
 {
@@ -62,7 +62,7 @@ fn add_latch<O: Sink>(
     add_init(latch.init, writer);
 }
 
-/// Adds the lines of the latches, with the literals of their next states.
+/// Adds the lines of the latches. Their inputs are the literals of the next states.
 pub(crate) fn add_latches<O: Sink>(
     names: &Names,
     control: &Option<Name>,

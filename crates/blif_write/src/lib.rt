@@ -1,20 +1,20 @@
-//! Mapped netlists as text, in the Berkeley Logic Interchange Format (BLIF), as its manual of July 1992 has it.
+//! Mapped netlists as text in the Berkeley Logic Interchange Format (BLIF), according to its manual of July 1992.
 //!
-//! [`specialised`] writes the netlist whose tables have fixed bits, [`template`] the one in which each bit of a table is an
-//! input. Both have one model, with a cover for each table and for each output that has another name than its root.
+//! [`specialised`] writes the netlist whose LUTs have fixed bits. [`template`] writes the one in which each bit of a LUT is
+//! an input. Both have one model, with a cover for each LUT and for each output whose name isn't that of its root.
 //!
-//! The written text is said in two steps: a netlist without hierarchy and its lines (`specs/PlainNetlist.antt`), and the
-//! two netlists of tables (`specs/Netlists.antt`) with the names in them (`specs/OwnNames.antt`). `proofs/WrittenExamples.antt`
+//! The text is defined in two steps: a netlist without hierarchy and its lines (`specs/PlainNetlist.antt`), and the two
+//! netlists of LUTs (`specs/Netlists.antt`) with the names in them (`specs/OwnNames.antt`). `proofs/WrittenExamples.antt`
 //! works out four.
 //!
-//! What the text means is said over the definition of BLIF, not over a reader (`specs/Meaning.antt`): it denotes one model,
-//! which is sound, and whose cycles are those of the tables. `tl_text/proofs/WrittenLineLemmas.antt` reads the lines again,
-//! `DenoteLemmas.antt` the model; `PlainSoundLemmas.antt` and `PlainCycleLemmas.antt` have a library of one model without
-//! subcircuits; `OrderlyLemmas.antt` shows that the netlists of tables are in order, and `TableCycleLemmas.antt` that their
-//! cycles are the tables'.
+//! The meaning of the text is given by the definition of BLIF, not by a reader (`specs/Meaning.antt`): it denotes one model,
+//! which is sound, and whose cycles are those of the LUTs. `tl_text/proofs/WrittenLineLemmas.antt` reads the lines again, and
+//! `DenoteLemmas.antt` the model. `PlainSoundLemmas.antt` and `PlainCycleLemmas.antt` are about a library of one model
+//! without subcircuits. `OrderlyLemmas.antt` shows that the netlists of LUTs are in order, and `TableCycleLemmas.antt` that
+//! their cycles are those of the LUTs.
 //!
-//! - `names.rt` and `words.rt` have the names. The bytes wait to be put in a `Piece` of `tl_piece`.
-//! - `rows.rt` and `tables.rt` have the tables, `latches.rt` and `wires.rt` the other commands, `writing.rt` the whole.
+//! - `names.rt` and `words.rt` have the names. The bytes wait in a `Piece` of `tl_piece`.
+//! - `rows.rt` and `tables.rt` have the LUTs, `latches.rt` and `wires.rt` the other commands, `writing.rt` the whole netlist.
 #![tactic(auto)]
 
 mod latches;

@@ -12,8 +12,8 @@ use tl_io::Sink;
 use tl_piece::Writer;
 use tl_text::Name;
 
-/// What names are made from: the most underscores that a port's name begins with, the inputs and the places of the regular
-/// ones among them, and the shape of the sources.
+/// What the names depend on: the most underscores with which the name of a port begins, the inputs and the places of the
+/// regular ones among them, and the numbers of the sources.
 #[derive(Drop)]
 pub(crate) struct Names<'a> {
     pub under: u32,
@@ -35,7 +35,7 @@ impl<'a> Model for Names<'a> {
 }
 
 impl<'a> Names<'a> {
-    /// Adds an own name: one underscore more than any port's name begins with, a letter and a number.
+    /// Adds a generated name: one underscore more than any port's name begins with, a letter and a number.
     pub(crate) fn add_own<O: Sink>(&self, letter: u8, number: u64, writer: &mut Writer<'_, O>)
         ensures { IsAdded O.seen writer.old (own_name self.now letter number) writer.new }
     {
@@ -44,7 +44,7 @@ impl<'a> Names<'a> {
         writer.add_number(number);
     }
 
-    // Is this the positive literal of a regular input?
+    // Whether this is the positive literal of a regular input.
     fn is_input(&self, lit: u64) -> bool
         ensures value { result ≡ (is_plain self.now.shape lit && nat_le (lit / 2) self.now.shape.regular) }
         ensures some { IsTrue result → 1 ≤ lit / 2 }
@@ -75,7 +75,8 @@ impl<'a> Names<'a> {
         self.add_own(b'l', n - 1 - before_latches, writer);
     }
 
-    /// Adds the name of a literal: its source's where it is the positive one of a regular source, else its table's.
+    /// Adds the name of a literal: that of the source for the positive literal of a regular source, otherwise that of its
+    /// LUT.
     pub(crate) fn add_literal<O: Sink>(&self, lit: u64, writer: &mut Writer<'_, O>)
         ensures { IsAdded O.seen writer.old (literal_name self.now lit) writer.new }
     {
@@ -86,7 +87,7 @@ impl<'a> Names<'a> {
         self.add_own(b'n', lit, writer);
     }
 
-    /// Has this root's literal this name, which is an output's?
+    /// Whether the literal of this root has the name of this output.
     pub(crate) fn is_own(&self, root: Lit, output: &Name) -> bool
         requires { underscores output.now ≤ self.now.under }
         ensures { result ≡ bytes_eq output.now (literal_name self.now root.0) }

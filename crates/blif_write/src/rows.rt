@@ -1,4 +1,4 @@
-//! The rows of a table.
+//! The rows of a LUT.
 ghost use Rattle.std.specs.Prelude.{◌≡◌, ◌≤◌, ◌<◌, ◌+◌, ◌^◌, ◌++◌, [], if◌then◌else◌, false, map, slice_index_or};
 ghost use Rattle.std.specs.List.{flat_map};
 ghost use Rattle.tl_piece.specs.Added.{IsAdded};
@@ -11,7 +11,7 @@ ghost use Rattle.blif_write.specs.Netlists.{digit_cell, digit_cells, chosen_cell
 use tl_io::Sink;
 use tl_piece::Writer;
 
-/// How many bits a table has.
+/// The number of bits of a LUT with this many leaves.
 pub(crate) fn bit_count(leaves: usize) -> usize
     requires { leaves ≤ MOST_LEAVES }
     ensures value { result ≡ 2 ^ leaves }
@@ -20,7 +20,7 @@ pub(crate) fn bit_count(leaves: usize) -> usize
     1 << leaves
 }
 
-// The character of a binary digit of v.
+// The character of the binary digit of `v` at a place.
 fn digit_character(v: usize, place: usize) -> u8
     requires { place < MOST_LEAVES }
     ensures { result ≡ cell_character (digit_cell (digit v place)) }
@@ -28,7 +28,7 @@ fn digit_character(v: usize, place: usize) -> u8
     if (v >> place) % 2 == 1 { b'1' } else { b'0' }
 }
 
-// Adds the binary digits of v, leaf 0 the lowest.
+// Adds the binary digits of `v`, that of leaf 0 first.
 fn add_digits<O: Sink>(leaves: usize, v: usize, writer: &mut Writer<'_, O>)
     requires few { leaves ≤ MOST_LEAVES }
     ensures { IsAdded O.seen writer.old (map cell_character (digit_cells leaves v)) writer.new }
@@ -38,7 +38,7 @@ fn add_digits<O: Sink>(leaves: usize, v: usize, writer: &mut Writer<'_, O>)
     }
 }
 
-// Adds the row of the leaf values v.
+// Adds the row for the leaf values `v`.
 fn add_fixed_row<O: Sink>(leaves: usize, v: usize, writer: &mut Writer<'_, O>)
     requires few { leaves ≤ MOST_LEAVES }
     ensures { IsAdded O.seen writer.old (line_text (row_line (digit_cells leaves v))) writer.new }
@@ -51,14 +51,14 @@ fn add_fixed_row<O: Sink>(leaves: usize, v: usize, writer: &mut Writer<'_, O>)
     writer.add_text(b" 1\n");
 }
 
-// The bit at an address, and false past the end.
+// The bit at an address; false past the end.
 fn bit_at(config: &[bool], address: usize) -> bool
     ensures { result ≡ slice_index_or config.now address false }
 {
     address < config.len() && config[address]
 }
 
-// Adds the row of the leaf values v if their bit is 1.
+// Adds the row for the leaf values `v` if their bit is 1.
 fn add_fixed_row_if<O: Sink>(bit: bool, leaves: usize, v: usize, writer: &mut Writer<'_, O>)
     requires few { leaves ≤ MOST_LEAVES }
     ensures { IsAdded O.seen writer.old (if bit then line_text (row_line (digit_cells leaves v)) else []) writer.new }
@@ -68,7 +68,8 @@ fn add_fixed_row_if<O: Sink>(bit: bool, leaves: usize, v: usize, writer: &mut Wr
     }
 }
 
-/// Adds a row for each leaf values whose bit of the configuration is 1, ascending. The table's bits begin at `base`.
+/// Adds a row for each assignment of the leaves whose bit of the configuration is 1, ascending. The bits of the LUT begin at
+/// `base`.
 pub(crate) fn add_fixed_rows<O: Sink>(
     config: &[bool],
     base: usize,
@@ -84,7 +85,7 @@ pub(crate) fn add_fixed_rows<O: Sink>(
     }
 }
 
-// Adds the row that asks for the leaf values v and for bit v.
+// Adds the row that requires the leaf values `v` and bit `v`.
 fn add_tunable_row<O: Sink>(leaves: usize, v: usize, writer: &mut Writer<'_, O>)
     requires few { leaves ≤ MOST_LEAVES }
     requires there { v < 2 ^ leaves }
@@ -98,7 +99,7 @@ fn add_tunable_row<O: Sink>(leaves: usize, v: usize, writer: &mut Writer<'_, O>)
     writer.add_text(b" 1\n");
 }
 
-/// Adds a row for each leaf values, ascending, which asks for the bit of these values.
+/// Adds a row for each assignment of the leaves, ascending, which requires the bit of this assignment.
 pub(crate) fn add_tunable_rows<O: Sink>(leaves: usize, writer: &mut Writer<'_, O>)
     requires few { leaves ≤ MOST_LEAVES }
     ensures { IsAdded O.seen writer.old (flat_map line_text (map (λ row. row_line row.cells) (tunable_rows leaves))) writer.new }

@@ -1,4 +1,4 @@
-//! The outputs that are wires from their roots.
+//! The outputs that are connected to their roots by a buffer.
 ghost use Rattle.std.specs.Prelude.{◌≡◌, ◌≤◌, [], ◌∷◌, length, bytes_eq, codes};
 ghost use Rattle.std.specs.List.{flat_map};
 ghost use Rattle.list_laws.specs.Members.{In};
@@ -16,7 +16,7 @@ use tl_io::Sink;
 use tl_piece::Writer;
 use tl_text::Name;
 
-// Adds a cover by which an output has the value of its root.
+// Adds a cover that gives an output the value of its root.
 fn add_cover<O: Sink>(names: &Names, root: Lit, output: &Name, writer: &mut Writer<'_, O>)
     ensures { IsAdded O.seen writer.old (flat_map line_text ((codes ".names" ∷ literal_name names.now root.0 ∷ output.now ∷ []) ∷ (codes "1" ∷ codes "1" ∷ []) ∷ [])) writer.new }
 {
@@ -26,7 +26,7 @@ fn add_cover<O: Sink>(names: &Names, root: Lit, output: &Name, writer: &mut Writ
     writer.add_text(b"\n1 1\n");
 }
 
-// Adds that cover if the output's name isn't its root's.
+// Adds this cover if the output's name isn't that of its root.
 fn add_wire<O: Sink>(names: &Names, root: Lit, output: &Name, writer: &mut Writer<'_, O>)
     requires under { underscores output.now ≤ names.now.under }
     ensures { IsAdded O.seen writer.old (flat_map line_text (flat_map cover_lines (wire (literal_name names.now root.0) output.now))) writer.new }
@@ -36,7 +36,7 @@ fn add_wire<O: Sink>(names: &Names, root: Lit, output: &Name, writer: &mut Write
     }
 }
 
-/// Adds the covers of the outputs whose names aren't their roots'.
+/// Adds the covers of the outputs whose names aren't those of their roots.
 pub(crate) fn add_wires<O: Sink>(
     names: &Names,
     outputs: &[OutPort],

@@ -31,7 +31,7 @@ use tl_io::{Failed, Sink};
 use tl_piece::{Piece, Writer};
 use tl_text::Name;
 
-// Adds the names of the regular inputs, each behind a blank.
+// Adds the names of the regular inputs, each after a blank.
 fn add_regular<O: Sink>(names: &Names, writer: &mut Writer<'_, O>)
     ensures { IsAdded O.seen writer.old (words_text names.now.regular) writer.new }
 {
@@ -40,7 +40,7 @@ fn add_regular<O: Sink>(names: &Names, writer: &mut Writer<'_, O>)
     }
 }
 
-// Adds the net of the latch controls, where there is one, behind a blank.
+// Adds the net of the latch controls, if there is one, after a blank.
 fn add_control_net<O: Sink>(control: &Option<Name>, writer: &mut Writer<'_, O>)
     ensures { IsAdded O.seen writer.old (words_text (control_names control.now)) writer.new }
 {
@@ -50,7 +50,7 @@ fn add_control_net<O: Sink>(control: &Option<Name>, writer: &mut Writer<'_, O>)
     }
 }
 
-// Adds the lines of the model's name and of its regular inputs and clock.
+// Adds the lines with the model's name, its regular inputs and its clock.
 fn add_head<O: Sink>(
     names: &Names,
     model: &Name,
@@ -67,7 +67,7 @@ fn add_head<O: Sink>(
     writer.add_byte(b'\n');
 }
 
-// Adds the names of the outputs, each behind a blank.
+// Adds the names of the outputs, each after a blank.
 fn add_output_names<O: Sink>(outputs: &[OutPort], writer: &mut Writer<'_, O>)
     ensures { IsAdded O.seen writer.old (words_text (map (λ (o : OutPort). o.name) outputs.now)) writer.new }
 {
@@ -85,7 +85,7 @@ fn add_outputs<O: Sink>(outputs: &[OutPort], writer: &mut Writer<'_, O>)
     writer.add_byte(b'\n');
 }
 
-// What the names are made from.
+// What the names of a circuit depend on.
 fn names_of<'a>(flat: &'a Flat, params: &Params, regular: &'a [u32]) -> Names<'a>
     requires { CanBeNamed flat.now params.now.list regular.now }
     ensures { result ≡ naming_of flat.now params.now.list }
@@ -143,21 +143,21 @@ fn add_flat_wires<O: Sink>(
     add_wires(names, &flat.outputs, &template.outputs, writer);
 }
 
-// Adds the lines of a template's bits as inputs.
+// Adds the lines that list a template's bits as inputs.
 fn add_template_bits<O: Sink>(names: &Names, template: &Template, writer: &mut Writer<'_, O>)
     ensures { IsAdded O.seen writer.old (flat_map line_text (map (λ bits. codes ".inputs" ∷ bits) (map (bit_names names.now) template.now.luts))) writer.new }
 {
     add_bit_lines(names, &template.luts, writer);
 }
 
-// Adds a template's tables, with their bits as inputs.
+// Adds the LUTs of a template, with their bits as inputs.
 fn add_template_tables<O: Sink>(names: &Names, template: &Template, writer: &mut Writer<'_, O>)
     ensures { IsAdded O.seen writer.old (flat_map line_text (flat_map cover_lines (map (tunable_table names.now) template.now.luts))) writer.new }
 {
     add_tunable_tables(names, &template.luts, writer);
 }
 
-// Adds a template's tables, with the bits of a configuration.
+// Adds the LUTs of a template, with their bits from a configuration.
 fn add_configured_tables<O: Sink>(
     names: &Names,
     config: &[bool],
@@ -169,7 +169,7 @@ fn add_configured_tables<O: Sink>(
     add_fixed_tables(names, config, &template.luts, writer);
 }
 
-// Adds the lines of the template.
+// Adds the lines of the template netlist.
 fn add_template<O: Sink>(
     names: &Names,
     flat: &Flat,
@@ -209,17 +209,17 @@ fn add_specialised<O: Sink>(
     writer.add_text(b".end\n");
 }
 
-/// Writes the netlist of the tables with each of their bits as an input: the source circuit's tables for every configuration.
+/// Writes the netlist of the LUTs with each of their bits as an input: the source circuit's LUTs for every configuration.
 ///
-/// The inputs are the regular ones, whose places are handed in, the net of the latch controls where there is one, and then the
-/// configuration bits in the order of their addresses. It takes no memory; the bytes go in pieces of 4,096, of which the last
-/// may be shorter.
+/// The inputs are the regular ones, whose places are passed in; the net of the latch controls, if there is one; and the
+/// configuration bits in the order of their addresses. Allocates no memory. Writes pieces of 4,096 bytes; the last may be
+/// shorter.
 ///
-/// Read by the definition of BLIF, the text denotes one model. It is sound, and its cycles are those of the tables under what
-/// the configuration bits' inputs have; its latches start as the source's.
+/// By the definition of BLIF, the text denotes one model. It is sound, and its cycles are those of the LUTs under the
+/// configuration on its bit inputs. Its latches start as those of the source circuit.
 ///
 /// # Errors
-/// `Failed` only where the sink's count of faults rose: then a prefix of the text stands.
+/// `Failed` only if the sink's count of faults rose. A prefix of the text is then written.
 #[tactic(auto, using(crate::proofs::MeaningLemmas::template_denotes))]
 pub fn template<O: Sink>(
     flat: &Flat,
@@ -242,17 +242,17 @@ pub fn template<O: Sink>(
     writer.finish()
 }
 
-/// Writes the netlist of the tables with the bits of a configuration: the source circuit under the parameters' values that the
-/// configuration was made for.
+/// Writes the netlist of the LUTs with the bits of a configuration: the source circuit for the values of the parameters to
+/// which the configuration belongs.
 ///
-/// The inputs are the regular ones, whose places are handed in, and then the net of the latch controls where there is one. It
-/// takes no memory; the bytes go in pieces of 4,096, of which the last may be shorter.
+/// The inputs are the regular ones, whose places are passed in, and then the net of the latch controls, if there is one.
+/// Allocates no memory. Writes pieces of 4,096 bytes; the last may be shorter.
 ///
-/// Read by the definition of BLIF, the text denotes one model. It is sound, and its cycles are those of the tables under the
-/// configuration; its latches start as the source's.
+/// By the definition of BLIF, the text denotes one model. It is sound, and its cycles are those of the LUTs under the
+/// configuration. Its latches start as those of the source circuit.
 ///
 /// # Errors
-/// `Failed` only where the sink's count of faults rose: then a prefix of the text stands.
+/// `Failed` only if the sink's count of faults rose. A prefix of the text is then written.
 #[tactic(auto, using(crate::proofs::MeaningLemmas::specialised_denotes))]
 pub fn specialised<O: Sink>(
     flat: &Flat,

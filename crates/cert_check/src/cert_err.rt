@@ -3,8 +3,8 @@ use std::alloc::{AllocError, AllocFailed};
 use tl_fault::{Details, Refusal};
 use tl_text::TextErr;
 
-/// Why a text is no certificate, or a certificate isn't valid. Each line is a logical one, but for the first two a physical
-/// one; lines are counted from 1.
+/// Why a text is no certificate, or a certificate is invalid. The first number is that of a logical line, or of a physical
+/// line for the first two variants. Lines are counted from 1.
 #[derive(Debug, PartialEq, Eq, Drop, thiserror::Error)]
 pub enum CertErr {
     /// T1: a byte that no line may have.
@@ -13,25 +13,25 @@ pub enum CertErr {
     /// T2: a token ends in `\`.
     #[error("trailing backslash in line {0}")]
     TrailingSlash(u32),
-    /// C1: the line isn't of its form or place.
+    /// C1: the line has an invalid form, or is in the wrong place.
     #[error("malformed line {0}")]
     Malformed(u32),
     /// C2: the node of the step isn't an AND node, or isn't above that of the step before.
     #[error("bad claim in line {0}")]
     BadClaim(u32),
-    /// C3: the path isn't one from a regular source to the node of its step.
+    /// C3: the path doesn't lead from a regular source to the node of its step.
     #[error("bad path in line {0}")]
     BadPath(u32),
-    /// C4: the number of the step's paths isn't that of its claim.
+    /// C4: the step has the wrong number of paths for its claim.
     #[error("wrong number of paths of the claim in line {0}")]
     PathCount(u32),
-    /// C5: the path in this line shares a node with an earlier one of its step, whose claim is too low for that.
+    /// C5: the path on this line shares a node with an earlier path of its step, and the claim of that node is too low.
     #[error("shared node in line {0}")]
     Shared(u32, u32),
-    /// C6: no root is as deep as the certificate says.
+    /// C6: no root is as deep as the certificate states.
     #[error("depth not reached")]
     NotReached,
-    /// There is no memory.
+    /// Memory ran out.
     #[error("out of memory")]
     Memory,
 }
@@ -62,7 +62,7 @@ impl CertErr {
     ghost use Rattle.std.specs.Prelude.{◌≡◌};
     ghost use Rattle.cert_check.specs.Refusals.{refusal_of};
 
-    /// What the refusal tells; none for want of memory.
+    /// The refusal that the fault line reports. `None` if memory ran out.
     pub fn refusal(self) -> Option<Refusal>
         ensures { result ≡ refusal_of self }
     {

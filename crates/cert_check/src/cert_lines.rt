@@ -27,7 +27,7 @@ fn add_path(steps: &mut Vec<Step>, path: NodePath) -> Result<(), CertErr>
     Ok(())
 }
 
-// Adds what a line says that stands behind others to the steps which these say.
+// Adds the content of a line to the steps of the lines before.
 fn add_saying(
     alloc: Global,
     steps: &mut Vec<Step>,
@@ -53,7 +53,7 @@ fn add_saying(
     }
 }
 
-// The steps that the lines behind the first one say.
+// The steps of the lines after the first.
 fn read_steps(alloc: Global, text: &[u8], lines: &[Line]) -> Result<Vec<Step>, CertErr>
     requires { AreLinesIn text.now lines.now }
     ensures steps { IfOk result (λ steps. AreSaid (map (words_line text.now) lines.now) (steps_said steps.items)) }
@@ -67,7 +67,7 @@ fn read_steps(alloc: Global, text: &[u8], lines: &[Line]) -> Result<Vec<Step>, C
     Ok(steps)
 }
 
-// The depth that the first line says.
+// The depth on the first line.
 fn read_depth(alloc: Global, text: &[u8], line: &Line) -> Result<u32, CertErr>
     requires { IsLineIn text.now line.now }
     ensures { MatchResult result
@@ -80,10 +80,11 @@ fn read_depth(alloc: Global, text: &[u8], line: &Line) -> Result<u32, CertErr>
     }
 }
 
-/// The certificate that the lines of a text say. It takes time and memory linear in the text.
+/// The certificate on the lines of a text. Time and memory are linear in the text.
 ///
 /// # Errors
-/// C1 at the first line that isn't of its form or place, and at line 1 where there is no line; `Memory` where there is none.
+/// C1 at the first line that has an invalid form or is in the wrong place, and at line 1 if there is no line; `Memory` if
+/// memory runs out.
 pub(crate) fn read_lines(alloc: Global, text: &[u8], lines: &[Line]) -> Result<Certificate, CertErr>
     requires { AreLinesIn text.now lines.now }
     ensures certificate { IfOk result (AreLinesOf (map (words_line text.now) lines.now)) }

@@ -1,4 +1,4 @@
-//! The text of a certificate, read.
+//! Reading the text of a certificate.
 ghost use Rattle.std.specs.Prelude.{◌≡◌, ◌≤◌, length, Ok, IfOk, IfErr};
 ghost use Rattle.tl_fault.specs.OrMemory.{OrMemory};
 ghost use Rattle.tl_text.specs.LineValue.{AreLinesIn};
@@ -15,7 +15,7 @@ use crate::certificate::Certificate;
 use std::alloc::Global;
 use tl_text::{Line, TextErr, lines};
 
-// A refusal of a text's lines as one of a certificate.
+// The refusal of a certificate that stands for this fault of its lines.
 fn lines_err(error: TextErr) -> CertErr
     ensures { result ≡ cert_err error }
 {
@@ -39,16 +39,16 @@ fn text_lines(alloc: Global, text: &[u8]) -> Result<Vec<Line>, CertErr>
     }
 }
 
-/// The certificate that a text is: the line `depth D`, and then for each step a line `claim NODE H`, H at least 1, and any number
-/// of lines `path` with the numbers of two or more nodes. All are decimal numbers of at most 4,294,967,295.
+/// Reads a certificate: the line `depth D`, and then for each step a line `claim NODE H`, with H at least 1, and any number
+/// of lines `path` with the numbers of two or more nodes. All numbers are decimal and at most 4,294,967,295.
 ///
-/// What is read can be written: its claims are 1 at least, and its paths have two nodes at least. It takes time and memory linear in
-/// the text.
+/// The result can be written again: its claims are at least 1, and its paths have at least two nodes. Time and memory are
+/// linear in the text.
 ///
 /// # Errors
-/// The text's refusal, by `specs/CertText.antt`: T1 and T2 of its physical lines, else C1 at the first logical line that isn't of
-/// its form or place, and at line 1 where there is none. `Memory` where there is none. A text is one certificate at most, or has
-/// one refusal at most, and never both.
+/// The refusal of the text, by `specs/CertText.antt`: T1 and T2 of its physical lines; otherwise C1 at the first logical line
+/// that has an invalid form or is in the wrong place, and at line 1 if there is none. `Memory` if memory runs out. A text is
+/// at most one certificate or has at most one refusal, and never both.
 pub fn read_cert(alloc: Global, text: &[u8]) -> Result<Certificate, CertErr>
     requires { length text.now ≤ MOST_BYTES }
     ensures certificate { IfOk result (IsCertText text.now) }

@@ -1,12 +1,12 @@
 //! Certificates, their steps, and the paths of a step.
 use std::marker::Model;
 
-/// A path of a graph: from a regular source up to the node of its step.
+/// A path in a graph, from a regular source up to the node of its step.
 #[derive(Debug, Drop)]
 pub struct NodePath {
-    /// The line of the text where it stands, counted from 1.
+    /// Its line in the text, counted from 1.
     pub line: u32,
-    /// Its nodes, each a fan-in node of the next.
+    /// Its nodes. Each is a fan-in node of the next.
     pub nodes: Vec<u32>,
 }
 
@@ -18,16 +18,16 @@ impl Model for NodePath {
     ghost view = { λ p. record { line = p.line; nodes = p.nodes.items } };
 }
 
-/// A step: a claim that an AND node is no less deep than this in any cover, and the paths that show it.
+/// A step: the claim that an AND node has at least this depth in any cover, and the paths that show it.
 #[derive(Debug, Drop)]
 pub struct Step {
-    /// The line of the text where it stands, counted from 1.
+    /// Its line in the text, counted from 1.
     pub line: u32,
-    /// The AND node.
+    /// The AND node, by its index.
     pub node: u32,
-    /// The depth that is claimed for it.
+    /// The depth that is claimed for the node.
     pub claim: u32,
-    /// One path for a claim of 1, K + 1 for another one.
+    /// One path for a claim of 1, and K + 1 paths for a greater claim.
     pub paths: Vec<NodePath>,
 }
 
@@ -39,12 +39,12 @@ impl Model for Step {
     ghost view = { λ s. record { line = s.line; node = s.node; claim = s.claim; paths = s.paths.items } };
 }
 
-/// A certificate: a depth that no cover falls below, and the steps that show it, in ascending order of their nodes.
+/// A certificate: a depth that every cover has at least, and the steps that show it, in ascending order of their nodes.
 #[derive(Debug, Drop)]
 pub struct Certificate {
-    /// The depth.
+    /// The depth, in levels of LUTs.
     pub depth: u32,
-    /// The steps.
+    /// The steps, in ascending order of their nodes.
     pub steps: Vec<Step>,
 }
 

@@ -1,4 +1,4 @@
-//! The check of a certificate.
+//! The check of a certificate against a graph.
 ghost use Rattle.std.specs.Prelude.{◌≡◌, ℕ, ◌<◌, ◌≤◌, [], length, true, false, slice_index, slice_set, IfOk, IfErr, OnOk};
 ghost use Rattle.aig_core.specs.Aig.{node_count, first_and, IsAnd, AreNormal};
 ghost use Rattle.aig_core.specs.Roots.{lits_of, roots_of};
@@ -26,7 +26,7 @@ fn zeros(alloc: Global, count: u32) -> Result<Vec<u32>, AllocError>
     Ok(numbers)
 }
 
-// Checks a step, where the node of the step before it is `last`, and adds its claim.
+// Checks a step and adds its claim. `last` is the node of the step before.
 fn take_step(
     graph: &Graph,
     k: u8,
@@ -73,7 +73,7 @@ fn take_steps(alloc: Global, graph: &Graph, k: u8, steps: &[Step]) -> Result<Vec
     Ok(claims)
 }
 
-// Whether a root needs the depth.
+// Whether a root needs the depth: it is at least this deep in every cover.
 fn needs(graph: &Graph, claims: &[u32], root: Lit, depth: u32) -> bool
     requires { length claims.now ≡ node_count graph.now }
     ensures yes { result ≡ true → Needs graph.now (λ m. slice_index claims.now m) depth root.0 }
@@ -86,7 +86,7 @@ fn needs(graph: &Graph, claims: &[u32], root: Lit, depth: u32) -> bool
     depth == 1 && root.0 % 2 == 1 && is_regular(graph, n)
 }
 
-// Whether some of these roots needs the depth.
+// Whether at least one of these roots needs the depth.
 fn one_needs(graph: &Graph, claims: &[u32], roots: &[Lit], depth: u32) -> bool
     requires { length claims.now ≡ node_count graph.now }
     ensures yes { result ≡ true → SomeNeeds graph.now (lits_of roots.now) (λ m. slice_index claims.now m) depth }
@@ -100,7 +100,7 @@ fn one_needs(graph: &Graph, claims: &[u32], roots: &[Lit], depth: u32) -> bool
     false
 }
 
-// Whether the depth is 0, or some root needs it.
+// Whether the depth is 0, or at least one root needs it.
 fn is_reached(graph: &Graph, claims: &[u32], roots: &Roots, depth: u32) -> bool
     requires { length claims.now ≡ node_count graph.now }
     ensures yes { result ≡ true → IsReached graph.now (roots_of roots.now) (λ m. slice_index claims.now m) depth }
@@ -115,15 +115,15 @@ fn is_reached(graph: &Graph, claims: &[u32], roots: &Roots, depth: u32) -> bool
     one_needs(graph, claims, &roots.next, depth)
 }
 
-/// Checks a certificate for a graph and its roots, and for tables of at most `k` leaves: `Ok` comes exactly where it is valid, by
-/// `specs/Valid.antt`. Then no cover of the graph by such tables, whatever its cuts, has a depth below that of the certificate, and
-/// none has a node at a lower depth than is claimed for it.
+/// Checks a certificate for a graph and its roots, and for LUTs of at most `k` inputs. Returns `Ok` if and only if it is
+/// valid, by `specs/Valid.antt`. Then no cover of the graph by such LUTs, whatever its cuts, has a depth below that of the
+/// certificate, and none has a node at a lower depth than the certificate claims for it.
 ///
-/// Nothing is asked of the certificate. It takes time and memory linear in the graph and the certificate.
+/// Nothing is assumed about the certificate. Time and memory are linear in the graph and the certificate.
 ///
 /// # Errors
-/// The certificate's first fault, by `specs/Faults.antt`: the steps in their order, of each C2, then C4, then path by path C3 and
-/// C5; then C6. `Memory` where there is none. A certificate has one fault at most, and none where it is valid.
+/// The certificate's first fault, by `specs/Faults.antt`: the steps in their order, for each C2, then C4, then path by path
+/// C3 and C5; then C6. `Memory` if memory runs out. A certificate has at most one fault, and none if it is valid.
 pub fn check(
     alloc: Global,
     graph: &Graph,
@@ -135,7 +135,7 @@ pub fn check(
     ensures fault { IfErr result (OrMemory refusal_of (IsFault graph.now (roots_of roots.now) k cert.now)) }
     ensures one_verdict { HasOneVerdict graph.now (roots_of roots.now) k cert.now }
 
-    // What a valid certificate is good for.
+    // What a valid certificate shows.
     ensures least { OnOk result (IsLowerBound graph.now k (roots_of roots.now) cert.now.depth) }
     ensures claims { OnOk result (AreLowerBounds graph.now k (claim_of cert.now.steps)) }
 {

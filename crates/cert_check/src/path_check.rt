@@ -1,4 +1,4 @@
-//! Whether nodes are a path of a graph.
+//! The check of a path.
 ghost use Rattle.std.specs.Prelude.{◌≡◌, ◌<◌, ◌≤◌, ℕ, true, false, length};
 ghost use Rattle.aig_core.specs.Aig.{first_and, node_count, IsAnd, IsSource, AreNormal};
 ghost use Rattle.aig_core.specs.declared.lit.Kind.TheVariants.{Regular};
@@ -45,7 +45,7 @@ fn is_fan_in(graph: &Graph, m: u32, n: u32) -> bool
     pair.y.0 / 2 == m
 }
 
-/// Whether the nodes are a path to n; then none of them is above n. It takes time linear in their number.
+/// Whether the nodes are a path to n. If so, none of them is above n. Time is linear in their number.
 pub(crate) fn is_path(graph: &Graph, nodes: &[u32], n: u32) -> bool
     ensures yes { result ≡ true → IsPath graph.now n nodes.now }
     ensures no { result ≡ false → IsPath graph.now n nodes.now → ⊥ }

@@ -1,4 +1,4 @@
-//! What a line of a certificate's text says.
+//! The content of one line of a certificate.
 ghost use Rattle.std.specs.Prelude.{◌≡◌, ◌<◌, ◌≤◌, length, map, None, Some, MatchResult};
 ghost use Rattle.std.specs.Option.{option_map};
 ghost use Rattle.list_laws.specs.Members.{In};
@@ -14,18 +14,18 @@ use crate::cert_err::CertErr;
 use std::alloc::Global;
 use tl_text::{Line, Token, decimal};
 
-/// What a line says.
+/// The content of a line.
 #[derive(Debug, Drop)]
 pub enum Saying {
-    /// The depth.
+    /// The depth of the certificate.
     Depth(u32),
-    /// The claim of a node.
+    /// The claim for a node: the node's index and the depth.
     Claim(u32, u32),
-    /// The nodes of a path.
+    /// The nodes of a path, by their indices.
     Path(Vec<u32>),
 }
 
-// The number that a word is.
+// The number in a word, if it is one.
 fn number(word: &[u8]) -> Option<u32>
     ensures { result ≡ number_of word.now }
 {
@@ -36,7 +36,7 @@ fn number(word: &[u8]) -> Option<u32>
     Some(number as u32)
 }
 
-// The numbers that tokens are.
+// The numbers in the tokens.
 fn read_numbers(
     alloc: Global,
     text: &[u8],
@@ -91,7 +91,7 @@ fn path(numbers: Vec<u32>) -> Option<Saying>
     Some(Saying::Path(numbers))
 }
 
-// What a first word says with the numbers behind it.
+// The content of a line with this first word and the numbers after it.
 fn saying_of(word: &[u8], numbers: Vec<u32>) -> Option<Saying>
     ensures { option_map saying_value result ≡ saying_by word.now numbers.items }
 {
@@ -107,10 +107,10 @@ fn saying_of(word: &[u8], numbers: Vec<u32>) -> Option<Saying>
     None
 }
 
-/// What a line of a text says. It takes time and memory linear in the line.
+/// The content of a line. Time and memory are linear in the line.
 ///
 /// # Errors
-/// C1 where the line has none of the three forms; `Memory` where there is none.
+/// C1 if the line has none of the three forms; `Memory` if memory runs out.
 pub(crate) fn read_saying(alloc: Global, text: &[u8], line: &Line) -> Result<Saying, CertErr>
     requires { IsLineIn text.now line.now }
     ensures { MatchResult result

@@ -1,12 +1,12 @@
-//! Nodes that stand in two paths of a step.
+//! Nodes on two paths of a step.
 //!
-//! A node that was met in a path is stamped with the step's node. The nodes of the steps ascend, so no stamp of an earlier step is
-//! the same, and no stamp has to be taken away.
+//! A node that was met on a path is stamped with the step's node. The nodes of the steps ascend, so stamps of earlier steps
+//! differ and needn't be removed.
 ghost use Rattle.std.specs.Prelude.{◌≡◌, ℕ, ◌<◌, true, false, length};
 ghost use Rattle.list_laws.specs.Members.{In};
 ghost use Rattle.cert_check.specs.Stamps.{Clashes, IsFirstClash, AreStamped};
 
-// Whether a node has a stamp, is another node, and has a claim below `claim - 1`.
+// Whether a node has the stamp, isn't `n` itself, and has a claim below `claim - 1`.
 fn clashes(stamps: &[u32], claims: &[u32], n: u32, claim: u32, m: u32) -> bool
     requires stamps { m < length stamps.now }
     requires claims { m < length claims.now }
@@ -16,7 +16,7 @@ fn clashes(stamps: &[u32], claims: &[u32], n: u32, claim: u32, m: u32) -> bool
     stamps[m as usize] == n && m != n && claims[m as usize] < claim.saturating_sub(1)
 }
 
-/// The first of these nodes that has the stamp n, is another node, and has a claim below `claim - 1`.
+/// The first of these nodes that has the stamp `n`, isn't `n` itself, and has a claim below `claim - 1`.
 pub(crate) fn first_clash(
     stamps: &[u32],
     claims: &[u32],
@@ -36,7 +36,7 @@ pub(crate) fn first_clash(
     None
 }
 
-/// Stamps these nodes with n.
+/// Stamps these nodes with `n`.
 pub(crate) fn stamp(stamps: &mut Vec<u32>, n: u32, nodes: &[u32])
     requires { (m : ℕ) → In nodes.now m → m < length stamps.old.items }
     ensures { AreStamped stamps.old.items n nodes.now stamps.new.items }

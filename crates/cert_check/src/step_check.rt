@@ -11,14 +11,14 @@ use crate::path_check::is_path;
 use crate::sharing::{first_clash, stamp};
 use aig_core::Graph;
 
-// How many paths show a claim.
+// The number of paths that a claim requires.
 fn paths_needed(k: u8, claim: u32) -> usize
     ensures { result ≡ path_count k claim }
 {
     if claim == 1 { 1 } else { k as usize + 1 }
 }
 
-// Checks a path of a step, where the nodes of the paths before it are stamped.
+// Checks a path of a step. The nodes of the paths before it are stamped.
 fn check_path(
     graph: &Graph,
     claims: &[u32],
@@ -45,8 +45,8 @@ fn check_path(
     }
 }
 
-/// Checks the paths of a step whose node is an AND node, where these are the claims of the nodes, and the stamps are of lower
-/// nodes. It takes time linear in the nodes of the paths.
+/// Checks the paths of a step whose node is an AND node, given the claims of the nodes. All stamps are of lower nodes. Time
+/// is linear in the nodes of the paths.
 ///
 /// # Errors
 /// The step's first fault: C4, then path by path C3 and C5.

@@ -1,4 +1,4 @@
-//! The text of a certificate, written.
+//! Writing the text of a certificate.
 ghost use Rattle.std.specs.List.{flat_map};
 ghost use Rattle.tl_io.specs.Sink.{IsPut};
 ghost use Rattle.tl_piece.specs.Added.{IsAdded};
@@ -10,7 +10,7 @@ use crate::certificate::{Certificate, NodePath, Step};
 use tl_io::{Failed, Sink};
 use tl_piece::{Piece, Writer};
 
-// Adds a number behind a blank.
+// Adds a number after a blank.
 fn add_number<O: Sink>(number: u32, writer: &mut Writer<'_, O>)
     ensures { IsAdded O.seen writer.old (number_text number) writer.new }
 {
@@ -18,7 +18,7 @@ fn add_number<O: Sink>(number: u32, writer: &mut Writer<'_, O>)
     writer.add_number(number as u64);
 }
 
-// Adds numbers, each behind a blank.
+// Adds numbers, each after a blank.
 fn add_numbers<O: Sink>(numbers: &[u32], writer: &mut Writer<'_, O>)
     ensures { IsAdded O.seen writer.old (flat_map number_text numbers.now) writer.new }
 {
@@ -89,15 +89,15 @@ fn add_cert<O: Sink>(cert: &Certificate, writer: &mut Writer<'_, O>)
     add_steps(&cert.steps, writer);
 }
 
-/// Puts the text of a certificate, in pieces of 4,096 bytes of which the last may be shorter: what [`read_cert`](crate::read_cert)
-/// reads back as the same certificate, but for the numbers of its lines. It takes no memory, and time linear in the text.
+/// Writes the text of a certificate, in pieces of 4,096 bytes (the last may be shorter). [`read_cert`](crate::read_cert)
+/// reads it as the same certificate, except for the line numbers. Allocates no memory; time is linear in the text.
 ///
 /// # Errors
-/// `Failed` only where the sink's count of faults rose: then a prefix of the text stands.
+/// `Failed` only if the sink's count of faults rose. A prefix of the text is then written.
 pub fn put_cert<O: Sink>(cert: &Certificate, out: &mut O) -> Result<(), Failed>
     ensures put { IsPut (O.seen out.old) (cert_text cert.now) (O.seen out.new) result }
 
-    // What is read back, where claims are 1 at least and paths have two nodes at least.
+    // The text is read as the same certificate if the claims are at least 1 and the paths have at least two nodes.
     ensures reads_back { IsWritable cert.now → ReadsBack (cert_text cert.now) cert.now }
 {
     let mut piece = Piece::new();

@@ -1,4 +1,4 @@
-//! The line on the error output.
+//! The fault line on stderr.
 ghost use Rattle.std.specs.Prelude.{[], ◌∷◌, map, codes, decimal};
 ghost use Rattle.std.specs.List.{concat};
 ghost use Rattle.tl_io.specs.Sink.{IsPut};
@@ -11,7 +11,7 @@ use itoa::Buffer;
 use tl_fault::{Details, Name, Refusal};
 use tl_io::{Failed, Sink};
 
-// Puts the pieces one after another, up to the first that fails.
+// Writes the pieces one after another, up to the first that fails.
 fn put_all<S: Sink>(sink: &mut S, pieces: &[&[u8]]) -> Result<(), Failed>
     ensures { IsPut (S.seen sink.old) (concat (map (λ piece. piece.now) pieces.now)) (S.seen sink.new) result }
 {
@@ -21,14 +21,14 @@ fn put_all<S: Sink>(sink: &mut S, pieces: &[&[u8]]) -> Result<(), Failed>
     Ok(())
 }
 
-// Puts a line of a file's name and a word.
+// Writes a line with a file's name and a word.
 fn put_plain<E: Sink>(err: &mut E, name: &[u8], word: &[u8]) -> Result<(), Failed>
     ensures { IsPut (E.seen err.old) (plain_line name.now word.now) (E.seen err.new) result }
 {
     put_all(err, &[b"tlut: ", name, word, b"\n"])
 }
 
-// Puts words, each after a blank.
+// Writes words, each after a blank.
 fn put_words<E: Sink>(err: &mut E, words: &[&[u8]]) -> Result<(), Failed>
     ensures { IsPut (E.seen err.old) (spaced (map (λ word. word.now) words.now)) (E.seen err.new) result }
 {
@@ -38,7 +38,7 @@ fn put_words<E: Sink>(err: &mut E, words: &[&[u8]]) -> Result<(), Failed>
     Ok(())
 }
 
-// Puts names, each after a blank.
+// Writes names, each after a blank.
 fn put_names<E: Sink>(err: &mut E, names: &[Name]) -> Result<(), Failed>
     ensures { IsPut (E.seen err.old) (spaced names.now) (E.seen err.new) result }
 {
@@ -48,7 +48,7 @@ fn put_names<E: Sink>(err: &mut E, names: &[Name]) -> Result<(), Failed>
     Ok(())
 }
 
-// Puts a line's number, a word and another number.
+// Writes the number of a line, a word and another number.
 fn put_counted<E: Sink>(err: &mut E, line: u32, word: &[u8], count: u32) -> Result<(), Failed>
     ensures { IsPut (E.seen err.old) (spaced (codes "line" ∷ decimal line ∷ word.now ∷ decimal count ∷ [])) (E.seen err.new) result }
 {
@@ -59,7 +59,7 @@ fn put_counted<E: Sink>(err: &mut E, line: u32, word: &[u8], count: u32) -> Resu
     put_words(err, &[b"line", line, word, count])
 }
 
-// Puts the details of a refusal.
+// Writes the details of a refusal.
 fn put_details<E: Sink>(err: &mut E, details: &Details) -> Result<(), Failed>
     ensures { IsPut (E.seen err.old) (spaced (details_words details.now)) (E.seen err.new) result }
 {
@@ -86,7 +86,7 @@ fn put_details<E: Sink>(err: &mut E, details: &Details) -> Result<(), Failed>
     }
 }
 
-// Puts a file's name, a code and a word.
+// Writes a file's name, a code and a word.
 fn put_title<'a, E: Sink>(
     err: &mut E,
     name: &'a [u8],
@@ -98,21 +98,21 @@ fn put_title<'a, E: Sink>(
     put_all(err, &[b"tlut: ", name, b": ", code, b" ", word])
 }
 
-// Puts a file's name, and the code and the word of a refusal.
+// Writes a file's name, and the code and the word of a refusal.
 fn put_head<E: Sink>(err: &mut E, name: &[u8], refusal: &Refusal) -> Result<(), Failed>
     ensures { IsPut (E.seen err.old) (head_line name.now refusal.now.code refusal.now.word) (E.seen err.new) result }
 {
     put_title(err, name, refusal.code.as_bytes(), refusal.word.as_bytes())
 }
 
-// Puts what a refusal tells behind its word.
+// Writes the details of a refusal after its word.
 fn put_told<E: Sink>(err: &mut E, refusal: &Refusal) -> Result<(), Failed>
     ensures { IsPut (E.seen err.old) (spaced (details_words refusal.now.details)) (E.seen err.new) result }
 {
     put_details(err, &refusal.details)
 }
 
-// Puts the line of a refusal in the file of this name.
+// Writes the line of a refusal of the file with this name.
 fn put_refusal<E: Sink>(err: &mut E, name: &[u8], refusal: &Refusal) -> Result<(), Failed>
     ensures { IsPut (E.seen err.old) (refusal_line name.now refusal.now) (E.seen err.new) result }
 {
@@ -121,7 +121,7 @@ fn put_refusal<E: Sink>(err: &mut E, name: &[u8], refusal: &Refusal) -> Result<(
     put_all(err, &[b"\n"])
 }
 
-// Puts the line of an outcome.
+// Writes the line of an outcome.
 fn put_outcome<E: Sink>(
     err: &mut E,
     usage: &[&[u8]],
@@ -142,7 +142,7 @@ fn put_outcome<E: Sink>(
     }
 }
 
-/// Puts the fault line of an outcome; that of words of no form has the pieces of the usage. A failing sink changes nothing else.
+/// Writes the fault line of an outcome. For a usage error this is the `usage` text. If `err` fails, nothing else changes.
 #[tactic(auto, using(crate::proofs::PutLemmas::reports))]
 pub fn report<E: Sink>(err: &mut E, usage: &[&[u8]], name: &[u8], outcome: &Outcome)
     ensures reports { Reports (E.seen err.old) (E.seen err.new) (line_of (map (λ piece. piece.now) usage.now) name.now outcome.now) }

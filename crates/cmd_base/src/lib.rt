@@ -1,12 +1,13 @@
-//! What all commands share: how a call ends, and what its words and files deserve.
+//! What all commands share: how a call ends, and what its arguments and files call for.
 //!
-//! A *command* is its words and the files that they name. It walks them in the order of work, and refuses what it has to
-//! before the next file is reached. How the walk ends is an *outcome*: done, or a refusal of a file with the details of its
-//! fault line, or a fault of the outside. What the words and files deserve is the *verdict*, stated apart from the code: a
-//! *walk* (`specs/Walk.antt`), which each command defines, and what each outcome says of it (`specs/Ends.antt`).
+//! A *command* is its arguments and the files that they name. It works through them in order, and refuses a file before it
+//! reaches the next one. The way it ends is an *outcome*: done, a refusal of a file with the details of its fault line, or an
+//! external fault. The outcome that the arguments and files call for is the *verdict*, defined independently of the code: a
+//! *walk* (`specs/Walk.antt`), which each command defines, and what each outcome says about it (`specs/Ends.antt`).
 //!
-//! - `outcome.rt` has [`Outcome`] and [`File`], `status.rt` the [`Status`] of each, and `refusals.rt` the refusal of any file.
-//! - `fault_line.rt` puts the line of an outcome on the error output.
+//! - `outcome.rt` has [`Outcome`] and [`File`], `status.rt` the [`Status`] of each, and `refusals.rt` the refusal of any
+//!   file.
+//! - `fault_line.rt` writes the line of an outcome to stderr.
 #![tactic(auto)]
 
 mod fault_line;

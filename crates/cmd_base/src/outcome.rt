@@ -1,11 +1,11 @@
-//! How a call ends.
+//! The outcome of a call.
 ghost use Rattle.std.specs.Prelude.{◌≡◌};
 ghost use Rattle.cmd_base.specs.Statuses.{refusal_status as status_of_refusal, status_of};
 
 use crate::status::Status;
 use tl_fault::Refusal;
 
-/// A file that a job reads.
+/// A file that a command reads.
 #[derive(Clone, Copy, Debug, PartialEq, Eq)]
 pub enum File {
     Netlist,
@@ -15,12 +15,12 @@ pub enum File {
     Cert,
 }
 
-/// How a call ends.
+/// The outcome of a call.
 #[derive(Debug, Drop)]
 pub enum Outcome {
     Done,
     Usage,
-    /// L1: the file has more bytes than one of its kind may have, a text `MOST_BYTES` and a pack `MOST_PACK_BYTES`.
+    /// L1: the file is longer than its kind may be: `MOST_BYTES` for a text, `MOST_PACK_BYTES` for a pack.
     TooLong(File),
     /// The file, or the circuit that a netlist denotes, is refused for another reason.
     Refused(File, Refusal),
@@ -30,7 +30,7 @@ pub enum Outcome {
     Memory,
 }
 
-// The status of a refusal: a limit, or a text that is refused.
+// The status of a refusal: over a limit, or refused.
 fn refusal_status(refusal: &Refusal) -> Status
     ensures { result ≡ status_of_refusal refusal.now }
 {
@@ -41,7 +41,7 @@ fn refusal_status(refusal: &Refusal) -> Status
 }
 
 impl Outcome {
-    /// The status that the program ends with.
+    /// The exit status for this outcome.
     pub fn status(&self) -> Status
         ensures { result ≡ status_of self.now }
     {

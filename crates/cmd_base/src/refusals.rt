@@ -1,10 +1,10 @@
-//! The refusals of the command line itself.
+//! The refusal that any file may get.
 ghost use Rattle.std.specs.Prelude.{◌≡◌};
 ghost use Rattle.cmd_base.specs.Refusals as own;
 
 use tl_fault::{Details, Refusal};
 
-/// The file has more bytes than one of its kind may have, a text `MOST_BYTES` and a pack `MOST_PACK_BYTES`.
+/// The refusal of a file that is longer than its kind may be: `MOST_BYTES` for a text, `MOST_PACK_BYTES` for a pack.
 pub fn too_long() -> Refusal
     ensures { result ≡ own.too_long }
 {

@@ -1,23 +1,23 @@
-//! The status of a call.
+//! The exit status of a call.
 
-/// How a call of `tlut` ends.
+/// The way in which a call of `tlut` ends.
 #[derive(Clone, Copy, Debug, PartialEq, Eq)]
 pub enum Status {
     /// The job is done.
     Done,
-    /// The words aren't of a form of the command line.
+    /// The arguments are invalid: a usage error.
     Usage,
-    /// A file is refused for what it says.
+    /// The content of a file is refused.
     Refused,
-    /// A file or the circuit is over a limit.
+    /// A file or the circuit exceeds a limit.
     Limit,
     /// A file could not be read.
     ReadFault,
     /// The output could not be written.
     WriteFault,
-    /// The configuration ports failed.
+    /// A region of the configuration lost its port while no spare was left.
     PortFault,
-    /// There was no memory.
+    /// Memory ran out.
     Memory,
 }
 
@@ -25,7 +25,7 @@ impl Status {
     ghost use Rattle.std.specs.Prelude.{◌≡◌};
     ghost use Rattle.cmd_base.specs.Statuses.{code_of};
 
-    /// The number that the program ends with.
+    /// The exit status as a number.
     pub fn code(&self) -> u8
         ensures { result ≡ code_of self.now }
     {

@@ -1,4 +1,4 @@
-//! What a certificate's file says.
+//! The file of a certificate: reading, checking and writing.
 ghost use Rattle.std.specs.Prelude.{◌≡◌, ◌≤◌, false, length, IfOk, IfErr, OnOk};
 ghost use Rattle.tl_fault.specs.OrMemory.{OrMemory};
 ghost use Rattle.tl_text.specs.declared.logical_lines.TheConstants.{MOST_BYTES};
@@ -33,7 +33,7 @@ fn outcome_of(error: CertErr) -> Outcome
     }
 }
 
-// The certificate that a text is, checked for a graph and its roots.
+// The certificate in a text, checked for a graph and its roots.
 fn read_checked(
     alloc: Global,
     text: &[u8],
@@ -50,10 +50,10 @@ fn read_checked(
     Ok(cert)
 }
 
-/// Reads the certificate's file, and checks it for the graph of a source circuit that was read.
+/// Reads a certificate from its file, and checks it for the graph of the source circuit.
 ///
 /// # Errors
-/// The outcome of `audit`, whose walk ends there.
+/// The outcome of `audit`, which ends here.
 pub fn read_valid<S: Shelf>(
     alloc: Global,
     words: &CertWords,
@@ -84,7 +84,7 @@ pub fn read_valid<S: Shelf>(
 /// Writes the file of a certificate.
 ///
 /// # Errors
-/// `Failed` only where the count of write faults rose: then the file has a prefix of its bytes, or is as before.
+/// `Failed` only if the count of write faults rose. The file then has a prefix of its bytes, or is unchanged.
 pub fn write_cert<S: Shelf>(cert: &Certificate, name: &str, shelf: &mut S) -> Result<(), Failed>
     ensures cause { HasCause (S.seen shelf.old).write_faults (S.seen shelf.new).write_faults result }
     ensures written { WritesFile (record { name = name.now; bytes = cert_text cert.now }) (S.seen shelf.old).files (S.seen shelf.new).files result }

@@ -1,12 +1,12 @@
 //! The commands `prove` and `audit`: certificates of the least depth of a source circuit's covers.
 //!
-//! `prove` writes the certificate that no cover is less deep than the mapper's; `audit` checks one against the netlist. It
-//! enumerates no cuts, and has nothing of the mapper but the graph.
+//! `prove` writes a certificate that no cover is less deep than the mapper's. `audit` checks one against the netlist. It
+//! doesn't enumerate cuts, and shares only the graph with the mapper.
 //!
-//! - `words.rt` has the words of both, `certs.rt` what a certificate's file says, and `lines.rt` the lines that they print.
+//! - `words.rt` has the arguments of both, `certs.rt` the file of a certificate, and `lines.rt` the lines that they print.
 //! - `prove/` and `audit/` are the commands.
 //!
-//! The definitions of `specs/` lie in the same rooms.
+//! The folders of `specs/` are the same.
 #![tactic(auto)]
 
 mod audit;

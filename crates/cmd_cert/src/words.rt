@@ -1,4 +1,4 @@
-//! The words of `prove` and `audit`.
+//! The arguments of `prove` and `audit`.
 ghost use Rattle.std.specs.Prelude.{◌≡◌, map, string_bytes, codes, IfSome};
 ghost use Rattle.std.specs.Option.{option_map};
 ghost use Rattle.cmd_stations.specs.Words.{IsTableSize};
@@ -8,14 +8,14 @@ use cmd_base::File;
 use cmd_stations::{SourceWords, read_source_words, source_name};
 use cover_pick::Rule;
 
-/// The source circuit, and the word that names the certificate's file.
+/// The source circuit, and the argument that names the certificate's file.
 #[derive(Clone, Copy)]
 pub struct CertWords<'a> {
     pub source: SourceWords<'a>,
     pub cert: &'a str,
 }
 
-// The words of a command with this name; no cover is chosen, so the fewest leaves stand for its rule.
+// Reads the arguments of the command with this name. No cover is chosen, so the rule is a placeholder, the fewest leaves.
 fn read_words<'a>(name: &str, words: &'a [String]) -> Option<CertWords<'a>>
     ensures value { option_map (λ w. cert_seen w) result ≡ cert_words_of name.now (map string_bytes words.now) }
     ensures range { IfSome result (λ w. IsTableSize w.source.k) }
@@ -34,7 +34,7 @@ fn read_words<'a>(name: &str, words: &'a [String]) -> Option<CertWords<'a>>
     }
 }
 
-/// The words `prove K NETLIST PARAMS CERT`; `None` exactly where they aren't of this form.
+/// Reads the arguments `prove K NETLIST PARAMS CERT`. `None` if and only if they have another form.
 pub fn read_prove(words: &[String]) -> Option<CertWords<'_>>
     ensures value { option_map (λ w. cert_seen w) result ≡ cert_words_of (codes "prove") (map string_bytes words.now) }
     ensures range { IfSome result (λ w. IsTableSize w.source.k) }
@@ -42,7 +42,7 @@ pub fn read_prove(words: &[String]) -> Option<CertWords<'_>>
     read_words("prove", words)
 }
 
-/// The words `audit K NETLIST PARAMS CERT`; `None` exactly where they aren't of this form.
+/// Reads the arguments `audit K NETLIST PARAMS CERT`. `None` if and only if they have another form.
 pub fn read_audit(words: &[String]) -> Option<CertWords<'_>>
     ensures value { option_map (λ w. cert_seen w) result ≡ cert_words_of (codes "audit") (map string_bytes words.now) }
     ensures range { IfSome result (λ w. IsTableSize w.source.k) }
@@ -50,7 +50,7 @@ pub fn read_audit(words: &[String]) -> Option<CertWords<'_>>
     read_words("audit", words)
 }
 
-/// The word that names a file.
+/// The argument that names a file.
 pub fn cert_name<'a>(words: &CertWords<'a>, file: File) -> &'a str
     ensures { result.now ≡ cert_word (cert_seen words.now) file }
 {

@@ -1,4 +1,4 @@
-//! A source circuit's graph that is ready to be written.
+//! Preparing and writing the graph of a source circuit.
 ghost use Rattle.std.specs.Prelude.{◌≡◌, IfOk, string_bytes};
 ghost use Rattle.param_list.specs.RegularPlaces.{AreRegularPlaces};
 ghost use Rattle.aiger_io.specs.GraphCircuit.{IsWrittenFrom};
@@ -15,7 +15,7 @@ use param_list::regular;
 use std::alloc::{AllocError, Global};
 use tl_io::{Failed, FileSink, Shelf};
 
-/// A source circuit with its graph, the places of its regular inputs, and the line that tells the graph's counts.
+/// A source circuit with its graph, the places of its regular inputs, and the line with the graph's counts.
 #[derive(Drop)]
 pub struct Export {
     pub built: BuiltSource,
@@ -23,7 +23,7 @@ pub struct Export {
     pub line: String,
 }
 
-// The places of the regular inputs, with which the graph can be written.
+// The places of the regular inputs, which writing the graph requires.
 fn regular_places(alloc: Global, built: &BuiltSource) -> Result<Vec<u32>, AllocError>
     requires { IsBuiltSource built.now }
     ensures places { IfOk result (λ places. AreRegularPlaces built.now.source.netlist.flat built.now.source.params.list places.items) }
@@ -33,7 +33,7 @@ fn regular_places(alloc: Global, built: &BuiltSource) -> Result<Vec<u32>, AllocE
     Ok(places)
 }
 
-// The line that tells the graph's counts.
+// The line with the graph's counts.
 fn counts_line(alloc: Global, built: &BuiltSource, regular: &[u32]) -> Result<String, AllocError>
     requires { IsWrittenFrom built.now.source.netlist.flat built.now.source.params.list regular.now built.now.graph built.now.roots }
     ensures { IfOk result (λ line. string_bytes line ≡ graph_line (circuit_at built.now.source regular.now built.now.graph built.now.roots).header) }
@@ -44,7 +44,7 @@ fn counts_line(alloc: Global, built: &BuiltSource, regular: &[u32]) -> Result<St
     format!(in alloc; "inputs {} latches {} ands {}\n", inputs, latches, ands)
 }
 
-// The law of the circuit that is written: it is that of the source circuit. There is nothing to do: the call is its contract.
+// The law of the circuit that is written: it is that of the source circuit. The body is empty: the call is its contract.
 fn export_law(built: &BuiltSource, regular: &[u32])
     requires built { IsBuiltSource built.now }
     requires written { IsWrittenFrom built.now.source.netlist.flat built.now.source.params.list regular.now built.now.graph built.now.roots }
@@ -60,7 +60,7 @@ fn export_law(built: &BuiltSource, regular: &[u32])
     );
 }
 
-/// What is made ready before a source circuit's graph is written. `Err` comes only for want of memory.
+/// Prepares the graph of a source circuit for writing. `Err` only if memory runs out.
 pub fn make_export(alloc: Global, built: BuiltSource) -> Result<Export, AllocError>
     requires { IsBuiltSource built }
     ensures built { IfOk result (λ e. e.built ≡ built) }
@@ -79,7 +79,7 @@ pub fn make_export(alloc: Global, built: BuiltSource) -> Result<Export, AllocErr
 /// Writes the file of a graph.
 ///
 /// # Errors
-/// `Failed` only where the count of write faults rose: then the file has a prefix of its bytes, or is as before.
+/// `Failed` only if the count of write faults rose. The file then has a prefix of its bytes, or is unchanged.
 pub fn write_export<S: Shelf>(export: &Export, name: &str, shelf: &mut S) -> Result<(), Failed>
     requires { IsExport export.now }
     ensures cause { HasCause (S.seen shelf.old).write_faults (S.seen shelf.new).write_faults result }

@@ -21,7 +21,7 @@ use cmd_stations::read_graph;
 use std::alloc::Global;
 use tl_io::{Failed, Shelf, Sink};
 
-// Reads a source circuit, and makes ready what is written of its graph.
+// Reads a source circuit, and prepares its graph for writing.
 fn read_export<S: Shelf>(
     alloc: Global,
     words: &GraphWords,
@@ -46,7 +46,7 @@ fn read_export<S: Shelf>(
     }
 }
 
-// Writes the file, and puts the line.
+// Writes the file, and then the line.
 fn write_out<S: Shelf, O: Sink>(
     export: &Export,
     name: &str,
@@ -63,7 +63,7 @@ fn write_out<S: Shelf, O: Sink>(
     }
 }
 
-/// Runs the command: makes the graph of a source circuit, and writes it.
+/// Runs the command: builds the graph of a source circuit, and writes it.
 pub fn graph_job<S: Shelf, O: Sink>(
     alloc: Global,
     words: &GraphWords,

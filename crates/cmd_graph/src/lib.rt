@@ -1,6 +1,6 @@
-//! The command `graph`: the graph of a source circuit, as a file in AIGER's ASCII form.
+//! The command `graph`: writes the graph of a source circuit as a file in AIGER's ASCII format.
 //!
-//! - `words.rt` has its words, `export.rt` what it makes ready before it writes, and `job.rt` is the command.
+//! - `words.rt` has its arguments, `export.rt` the preparation and the file, and `job.rt` the command.
 #![tactic(auto)]
 
 mod export;

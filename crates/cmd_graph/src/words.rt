@@ -1,4 +1,4 @@
-//! The words of `graph`.
+//! The arguments of `graph`.
 ghost use Rattle.std.specs.Prelude.{◌≡◌, map, string_bytes};
 ghost use Rattle.std.specs.Option.{option_map};
 ghost use Rattle.cmd_graph.specs.Words.{graph_words_of, graph_seen};
@@ -6,17 +6,17 @@ ghost use Rattle.cmd_graph.specs.Words.{graph_words_of, graph_seen};
 use cmd_stations::SourceWords;
 use cover_pick::Rule;
 
-/// The source circuit, and the word that names the file that is written.
+/// The source circuit, and the argument that names the output file.
 #[derive(Clone, Copy)]
 pub struct GraphWords<'a> {
     pub source: SourceWords<'a>,
     pub out: &'a str,
 }
 
-// The size of tables that stands where none are made; the fewest leaves stand for their rule.
+// A placeholder for the number of LUT inputs, since no LUTs are computed. The rule is a placeholder too, the fewest leaves.
 const NO_TABLES: u8 = 0;
 
-/// The words `graph NETLIST PARAMS OUT`; `None` exactly where they aren't of this form.
+/// Reads the arguments `graph NETLIST PARAMS OUT`. `None` if and only if they have another form.
 pub fn read_graph_words(words: &[String]) -> Option<GraphWords<'_>>
     ensures { option_map (λ w. graph_seen w) result ≡ graph_words_of (map string_bytes words.now) }
 {

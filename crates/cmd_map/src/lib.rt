@@ -1,11 +1,11 @@
-//! The commands `spec` and `map`: a source circuit is mapped, and its tables are written as a netlist.
+//! The commands `spec` and `map`: they map a source circuit and write its LUTs as a netlist.
 //!
-//! `spec` writes them under the configuration of the listed values of the parameters; `map` writes a template, with each bit of
-//! the tables as an input, and the pack of these bits.
+//! `spec` writes them under the configuration for the listed values of the parameters. `map` writes a template, in which each
+//! bit of the LUTs is an input, and the pack of these bits.
 //!
-//! - `spec/` and `map/` are the commands: the words of each, and its writing.
+//! - `spec/` and `map/` are the commands: the arguments and the writing of each.
 //!
-//! The definitions of `specs/` lie in the same rooms.
+//! The folders of `specs/` are the same.
 #![tactic(auto)]
 
 mod map;

@@ -1,8 +1,8 @@
-//! The commands `bits` and `repack`: a pack is read, and a script of the host is played on it alone, or it is written again.
+//! The commands `bits` and `repack`: they read a pack, and play a host script on it or write it again.
 //!
-//! - `bits/` and `repack/` are the commands: the words of each, its job made ready, and its playing or its writing.
+//! - `bits/` and `repack/` are the commands: the arguments of each, its preparation, and its playing or writing.
 //!
-//! The definitions of `specs/` lie in the same rooms.
+//! The folders of `specs/` are the same.
 #![tactic(auto)]
 
 mod bits;

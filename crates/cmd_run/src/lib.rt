@@ -1,12 +1,12 @@
-//! The commands `run` and `gen`: a source circuit is mapped, and the events of a script are played on its tables.
+//! The commands `run` and `gen`: they map a source circuit and play the events of a script on its LUTs.
 //!
-//! A *job* is a source circuit, the template that it is mapped to, and the events of a script. It is made *ready*, with all the
-//! memory that its events need, before the first byte is put. `gen` plays a generated case, whose texts are read as the files of
-//! `run` are: its walk is that of `run` over them.
+//! A *job* is a source circuit, the template to which it is mapped, and the events of a script. All the memory that its
+//! events need is allocated before the first byte is written: then the job is *ready*. `gen` plays a generated case, whose
+//! texts are read like the files of `run`: its walk is that of `run` over them.
 //!
-//! - `run/` and `gen_command/` are the commands: the words of each, its job made ready, and its playing.
+//! - `run/` and `gen_command/` are the commands: the arguments, the preparation and the playing of each.
 //!
-//! The definitions of `specs/` lie in the same rooms.
+//! The folders of `specs/` are the same.
 #![tactic(auto)]
 
 mod gen_command;

@@ -18,7 +18,7 @@ use run_text::{LineBuf, regular};
 use std::alloc::{AllocError, Global};
 use tl_io::Shelf;
 
-/// A mapped source circuit, with all that its files and its line need: the places of its regular inputs, and a buffer.
+/// A mapped source circuit with everything that its files and its line need: the places of its regular inputs, and a buffer.
 #[derive(Drop)]
 pub struct Draft {
     pub mapped: MappedSource,
@@ -50,10 +50,10 @@ fn make_draft(alloc: Global, mapped: MappedSource) -> Result<Draft, AllocError>
     })
 }
 
-/// Reads a source circuit, maps it, and takes what its files and its line need.
+/// Reads a source circuit, maps it, and prepares what its files and its line need.
 ///
 /// # Errors
-/// The outcome of a command whose walk ends there.
+/// The outcome of the command, which ends here.
 pub fn read_draft<S: Shelf>(
     alloc: Global,
     words: &SourceWords,

@@ -1,4 +1,4 @@
-//! The files of a command.
+//! Reading the files of a command.
 ghost use Rattle.std.specs.Prelude.{◌≡◌, ◌≤◌, false, length, IfOk, IfErr, OnOk};
 ghost use Rattle.tl_io.specs.Shelf.{Files};
 ghost use Rattle.cmd_base.specs.Ends.{Told};
@@ -11,12 +11,12 @@ use std::alloc::Global;
 use tl_io::{Shelf, Slurp, slurp};
 use tl_text::{MOST_BYTES, MOST_PACK_BYTES};
 
-// The most bytes that a text may have, and a pack.
+// The maximal size of a text and of a pack, in bytes.
 const MOST_TEXT: u64 = MOST_BYTES as u64;
 
 const MOST_PACK: u64 = MOST_PACK_BYTES as u64;
 
-// The most bytes that a file may have.
+// The maximal size of a file, in bytes.
 fn limit(file: File) -> u64
     ensures { result ≡ most_bytes file }
 {
@@ -29,10 +29,10 @@ fn limit(file: File) -> u64
     }
 }
 
-/// Reads a file of this name.
+/// Reads the file with this name.
 ///
 /// # Errors
-/// It is too long, it could not be read, or there is no memory.
+/// The file is too long or can't be read, or memory runs out.
 pub fn read_file<S: Shelf>(
     alloc: Global,
     name: &str,

@@ -65,10 +65,10 @@ fn build_source(alloc: Global, source: &Source) -> Result<(Graph, Roots), Stop>
     Ok(made)
 }
 
-/// Reads a source circuit, and makes its graph.
+/// Reads a source circuit, and builds its graph.
 ///
 /// # Errors
-/// The outcome of a command whose walk ends there.
+/// The outcome of the command, which ends here.
 pub fn read_graph<S: Shelf>(
     alloc: Global,
     words: &SourceWords,

@@ -7,11 +7,11 @@ use cover_pick::Template;
 use run_text::{LineBuf, put_header};
 use tl_io::{Failed, Sink};
 
-/// Puts the header line of a template, which has no more tables than bits: how many tables there are, how many bits they have,
-/// and how deep they stand.
+/// Writes the header line of a template, which has no more LUTs than bits: the number of LUTs, the number of their bits, and
+/// their depth.
 ///
 /// # Errors
-/// `Failed` only where the sink's count of faults rose: then a prefix of the line stands.
+/// `Failed` only if the sink's count of faults rose. A prefix of the line is then written.
 pub fn put_template_header<O: Sink>(
     template: &Template,
     buf: &mut LineBuf,

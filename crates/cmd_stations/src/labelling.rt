@@ -67,10 +67,10 @@ fn label_source(alloc: Global, source: &Source, k: u8) -> Result<LabelledGraph, 
     })
 }
 
-/// Reads a source circuit, makes its graph, and labels the graph's nodes.
+/// Reads a source circuit, builds its graph, and labels the nodes.
 ///
 /// # Errors
-/// The outcome of a command whose walk ends there.
+/// The outcome of the command, which ends here.
 pub fn read_labelled<S: Shelf>(
     alloc: Global,
     words: &SourceWords,

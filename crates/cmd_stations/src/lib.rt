@@ -1,17 +1,17 @@
-//! The stations that commands share, in the order of work: each reads a file or makes something of what was read, and refuses
-//! what it has to before the next one is reached.
+//! The stations that commands share, in the order of work. Each reads a file or processes what was read, and refuses it
+//! before the next one is reached.
 //!
-//! A *source circuit* is a netlist under its parameters. It is *mapped* to tables, whose bits are a *pack*; a *draft* is a mapped
-//! source circuit that is ready to be written. A *stop* is why a text isn't read, or a source circuit isn't mapped; at a file it
-//! is an outcome.
+//! A *source circuit* is a netlist with its parameters. It is *mapped* to LUTs, whose bits are a *pack*. A *draft* is a
+//! mapped source circuit that is ready to be written. A *stop* is the reason why a text can't be read or a source circuit
+//! can't be mapped. Together with a file it becomes an outcome.
 //!
 //! - From a netlist to its graph, the graph's labels or its mapping: `files.rt`, `library_text.rt`, `netlist_text.rt`,
-//!   `params.rt`, `graphs.rt`, `labelling.rt`, `mapping.rt`, `mapped.rt`, and `words.rt`, the words that name them.
-//! - What is written of it: `drafts.rt`, `netlist_files.rt`, `pack_files.rt`, and `header.rt`, its line.
-//! - What is played: `packs.rt`, `script.rt`, and `scripted.rt`, a mapped source circuit with its script.
+//!   `params.rt`, `graphs.rt`, `labelling.rt`, `mapping.rt`, `mapped.rt`, and `words.rt`, the arguments that name them.
+//! - Writing: `drafts.rt`, `netlist_files.rt`, `pack_files.rt`, and `header.rt`, the header line.
+//! - Playing: `packs.rt`, `script.rt`, and `scripted.rt`, a mapped source circuit with its script.
 //!
-//! The definitions of `specs/` bear the same names; `Machine.antt` and `Host.antt` say what the events of a script do to a
-//! machine and to its host.
+//! The definitions in `specs/` have the same names. `Machine.antt` and `Host.antt` there define what the events of a script
+//! do to a machine and to its host.
 #![tactic(auto)]
 
 mod drafts;

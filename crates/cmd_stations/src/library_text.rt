@@ -13,18 +13,18 @@ use blif_read::read;
 use netlist::Library;
 use std::alloc::Global;
 
-// Does a text begin as AIGER's ASCII form does?
+// Whether a text begins like AIGER's ASCII format.
 fn is_aag(text: &[u8]) -> bool
     ensures { result ≡ is_aag text.now }
 {
     text.starts_with(b"aag ")
 }
 
-/// The library that the text of a netlist denotes: in AIGER's ASCII form where it begins with `aag` and a blank, else in BLIF.
-/// The text's memory is free behind the call.
+/// The library that the text of a netlist denotes. The format is AIGER's ASCII format if the text begins with `aag` and a
+/// blank, and otherwise BLIF. The call frees the memory of the text.
 ///
 /// # Errors
-/// `Refused` with the first refusal of the text; `Memory` where there is none.
+/// `Refused` with the first refusal of the text; `Memory` if memory runs out.
 pub fn read_library(alloc: Global, text: Vec<u8>) -> Result<Library, Stop>
     requires { length text.items ≤ MOST_BYTES }
     ensures library { IfOk result (DenotesLibrary text.items) }

@@ -1,4 +1,4 @@
-//! The source circuit that files hold, mapped to tables.
+//! Reading a source circuit and mapping it to LUTs.
 ghost use Rattle.std.specs.Prelude.{◌≡◌, ◌≤◌, false, IfOk, IfErr, OnOk};
 ghost use Rattle.tl_text.specs.declared.logical_lines.TheConstants.{MOST_BYTES};
 ghost use Rattle.tl_io.specs.Shelf.{Files};
@@ -18,7 +18,7 @@ use cmd_base::{File, Outcome};
 use std::alloc::Global;
 use tl_io::Shelf;
 
-/// A source circuit with its tables.
+/// A source circuit with its LUTs.
 #[derive(Drop)]
 pub struct MappedSource {
     pub source: Source,
@@ -28,7 +28,7 @@ pub struct MappedSource {
 /// Reads a source circuit, and maps it.
 ///
 /// # Errors
-/// The outcome of a command whose walk ends there.
+/// The outcome of the command, which ends here.
 pub fn read_mapped<S: Shelf>(
     alloc: Global,
     words: &SourceWords,

@@ -1,4 +1,4 @@
-//! The mapping of a source circuit to tables.
+//! The mapping of a source circuit to LUTs.
 ghost use Rattle.std.specs.Prelude.{◌≡◌, ◌≤◌, length, IfOk, IfErr, MatchResult};
 ghost use Rattle.tl_fault.specs.OrMemory.{OrMemory};
 ghost use Rattle.aig_core.specs.Aig.{first_and, AreNormal};
@@ -44,7 +44,7 @@ fn choose(alloc: Global, rule: Rule, graph: &Graph, roots: &Roots, k: u8) -> Res
     Ok(template)
 }
 
-// The shape of a graph's sources: the latches and the parameters, and what is left.
+// The shape of a graph's sources: the latches, the parameters, and the other inputs.
 fn source_shape(graph: &Graph, source: &Source) -> Shape
     requires { graph.now.kinds ≡ source_kinds source.now.netlist.flat source.now.params.list }
     ensures value { result ≡ shape_of source.now }
@@ -58,7 +58,7 @@ fn source_shape(graph: &Graph, source: &Source) -> Shape
     Shape::new(sources - params - latches, params, latches)
 }
 
-// The tables of a graph by its template.
+// The LUTs of a graph according to its template.
 fn tabulate(
     alloc: Global,
     source: &Source,
@@ -81,10 +81,10 @@ fn tabulate(
     })
 }
 
-/// Maps a source circuit to tables of at most `k` inputs, with the least depth, whose cuts are chosen by a rule.
+/// Maps a source circuit to LUTs of at most `k` inputs with the least depth. The rule chooses their cuts.
 ///
 /// # Errors
-/// `Refused` for the first limit that its graph is over; `Memory` where there is none.
+/// `Refused` for the first limit that its graph exceeds; `Memory` if memory runs out.
 pub fn map_source(alloc: Global, rule: Rule, source: &Source, k: u8) -> Result<Tables, Stop>
     requires least { 2 ≤ k }
     requires most { k ≤ MOST_LEAVES }

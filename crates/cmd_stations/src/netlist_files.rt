@@ -1,4 +1,4 @@
-//! The files of the two netlists of a source circuit.
+//! Writing the two netlists of a source circuit.
 ghost use Rattle.std.specs.Prelude.{◌≡◌, Bool, List, length};
 ghost use Rattle.tl_io.specs.Causes.{HasCause};
 ghost use Rattle.tl_io.specs.Sink.{IsPut};
@@ -12,7 +12,7 @@ use crate::drafts::Draft;
 use blif_write::{specialised, template};
 use tl_io::{Failed, FileSink, Shelf, Sink};
 
-// Puts the netlist of the tables under a configuration.
+// Writes the netlist of the LUTs under a configuration.
 fn put_specialised<O: Sink>(draft: &Draft, config: &[bool], out: &mut O) -> Result<(), Failed>
     requires { IsDraft draft.now }
     ensures { IsPut (O.seen out.old) (netlist_text (specialised_of draft.now.mapped.source draft.now.mapped.tables.template config.now)) (O.seen out.new) result }
@@ -28,7 +28,7 @@ fn put_specialised<O: Sink>(draft: &Draft, config: &[bool], out: &mut O) -> Resu
     )
 }
 
-// Puts the netlist of the tables with their bits as inputs.
+// Writes the netlist of the LUTs with their bits as inputs.
 fn put_template<O: Sink>(draft: &Draft, out: &mut O) -> Result<(), Failed>
     requires { IsDraft draft.now }
     ensures { IsPut (O.seen out.old) (netlist_text (template_of draft.now.mapped.source draft.now.mapped.tables.template)) (O.seen out.new) result }
@@ -43,12 +43,13 @@ fn put_template<O: Sink>(draft: &Draft, out: &mut O) -> Result<(), Failed>
     )
 }
 
-/// Writes the file of the netlist of the tables under a configuration.
+/// Writes the file of the LUT netlist under a configuration.
 ///
-/// Under that of values of the parameters, whatever is answered, the netlist runs as the source circuit under these.
+/// If this is the configuration for values of the parameters, the netlist behaves like the source circuit for these values,
+/// whatever the call returns.
 ///
 /// # Errors
-/// `Failed` only where the count of write faults rose: then the file has a prefix of its bytes, or is as before.
+/// `Failed` only if the count of write faults rose. The file then has a prefix of its bytes, or is unchanged.
 pub fn write_specialised<S: Shelf>(
     draft: &Draft,
     config: &[bool],
@@ -66,13 +67,13 @@ pub fn write_specialised<S: Shelf>(
     put_specialised(draft, config, &mut file)
 }
 
-/// Writes the file of the netlist of the tables with their bits as inputs.
+/// Writes the file of the LUT netlist with the configuration bits as inputs.
 ///
-/// Whatever is answered, the netlist is the source circuit wherever these inputs have the configuration of values of the
-/// parameters.
+/// If these inputs have the configuration for values of the parameters, the netlist is the source circuit for these values,
+/// whatever the call returns.
 ///
 /// # Errors
-/// `Failed` only where the count of write faults rose: then the file has a prefix of its bytes, or is as before.
+/// `Failed` only if the count of write faults rose. The file then has a prefix of its bytes, or is unchanged.
 pub fn write_template<S: Shelf>(draft: &Draft, name: &str, shelf: &mut S) -> Result<(), Failed>
     requires { IsDraft draft.now }
     ensures cause { HasCause (S.seen shelf.old).write_faults (S.seen shelf.new).write_faults result }

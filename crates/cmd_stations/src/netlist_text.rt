@@ -19,10 +19,10 @@ pub struct Netlist {
     pub flat: Flat,
 }
 
-/// The netlist that a text denotes. The text's memory is free once the library is read.
+/// The netlist that a text denotes. The memory of the text is freed once the library is read.
 ///
 /// # Errors
-/// `Refused` with the first refusal of the text, else with that of its library; `Memory` where there is none.
+/// `Refused` with the first refusal of the text, otherwise with that of its library; `Memory` if memory runs out.
 pub fn read_netlist(alloc: Global, text: Vec<u8>) -> Result<Netlist, Stop>
     requires { length text.items ≤ MOST_BYTES }
     ensures ok { IfOk result (λ n. IsNetlistText text.items n) }

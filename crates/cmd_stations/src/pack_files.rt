@@ -1,4 +1,4 @@
-//! The file of a pack.
+//! Writing the file of a pack.
 ghost use Rattle.std.specs.Prelude.{◌≡◌};
 ghost use Rattle.tl_io.specs.Causes.{HasCause};
 ghost use Rattle.cmd_stations.specs.FileWrites.{WritesFile};
@@ -11,7 +11,7 @@ use tl_io::{Failed, FileSink, Shelf};
 /// Writes the file of a pack, in version 2.
 ///
 /// # Errors
-/// `Failed` only where the count of write faults rose: then the file has a prefix of its bytes, or is as before.
+/// `Failed` only if the count of write faults rose. The file then has a prefix of its bytes, or is unchanged.
 pub fn write_pack<S: Shelf>(pack: &Pack, name: &str, shelf: &mut S) -> Result<(), Failed>
     ensures cause { HasCause (S.seen shelf.old).write_faults (S.seen shelf.new).write_faults result }
     ensures written { WritesFile (record { name = name.now; bytes = present_bytes pack.now }) (S.seen shelf.old).files (S.seen shelf.new).files result }

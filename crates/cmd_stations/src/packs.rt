@@ -1,4 +1,4 @@
-//! The pack that a file holds.
+//! Reading a pack, and what its scripts may name.
 ghost use Rattle.std.specs.Prelude.{◌≡◌, ◌≤◌, false, length, map, IfOk, IfErr, OnOk};
 ghost use Rattle.ppc_pack.specs.Pack.{IsPack};
 ghost use Rattle.ppc_pack.specs.declared.pack.PackParam.{PackParam as PackParamValue};
@@ -18,7 +18,7 @@ use std::alloc::{AllocError, Global};
 use tl_io::Shelf;
 use tl_text::Name;
 
-// The pack of a file's bytes.
+// The pack with this file.
 fn decode_pack(alloc: Global, bytes: &[u8]) -> Result<Pack, Stop>
     requires { length bytes.now ≤ most_bytes File.Pack }
     ensures pack { IfOk result (λ pack. IsPackFile bytes.now pack) }
@@ -29,10 +29,10 @@ fn decode_pack(alloc: Global, bytes: &[u8]) -> Result<Pack, Stop>
     Ok(pack)
 }
 
-/// Reads a pack.
+/// Reads a pack from its file.
 ///
 /// # Errors
-/// The outcome of a command whose walk ends there.
+/// The outcome of the command, which ends here.
 pub fn read_pack<S: Shelf>(alloc: Global, name: &str, shelf: &mut S) -> Result<Pack, Outcome>
     ensures pack { IfOk result (λ pack. Told (S.seen shelf.old).files (λ files. HasPack files name.now pack)) }
     ensures settled { OnOk result (Told (S.seen shelf.old).files (λ files. IsPackSettled files name.now)) }
@@ -53,7 +53,7 @@ pub fn read_pack<S: Shelf>(alloc: Global, name: &str, shelf: &mut S) -> Result<P
     }
 }
 
-/// How many configuration bits a pack has.
+/// The number of configuration bits of a pack.
 pub fn bit_count(pack: &Pack) -> u32
     ensures { result ≡ length pack.now.bits }
 {
@@ -71,9 +71,10 @@ fn names_of_params(alloc: Global, params: &[PackParam]) -> Result<Vec<Name>, All
     Ok(names)
 }
 
-/// What a script by these forms may name that is played on a pack: cycles too, where its circuit has so many regular inputs.
+/// What a script that is played on a pack may name. It may have cycles if its circuit is given by the number of its regular
+/// inputs.
 ///
-/// `Err` comes only for want of memory.
+/// `Err` only if memory runs out.
 pub fn script_names(
     alloc: Global,
     forms: Forms,

@@ -1,4 +1,4 @@
-//! The netlist and the parameters that files hold: the source circuit.
+//! Reading a source circuit: the netlist and the parameters.
 ghost use Rattle.std.specs.Prelude.{◌≡◌, ◌≤◌, false, length, IfOk, IfErr, OnOk};
 ghost use Rattle.tl_text.specs.declared.logical_lines.TheConstants.{MOST_BYTES};
 ghost use Rattle.tl_io.specs.Shelf.{Files};
@@ -24,7 +24,7 @@ use run_text::{Params, read_params};
 use std::alloc::Global;
 use tl_io::Shelf;
 
-// Reads the netlist.
+// Reads the netlist file.
 fn read_netlist_file<S: Shelf>(
     alloc: Global,
     words: &SourceWords,
@@ -53,7 +53,7 @@ fn read_netlist_file<S: Shelf>(
 /// The parameters that a text lists, for a netlist.
 ///
 /// # Errors
-/// `Refused` with the refusal of the text; `Memory` where there is none.
+/// `Refused` with the refusal of the text; `Memory` if memory runs out.
 pub fn list_params(alloc: Global, text: &[u8], netlist: &Netlist) -> Result<Params, Stop>
     requires short { length text.now ≤ MOST_BYTES }
     requires read { IsReadNetlist netlist.now }
@@ -66,7 +66,7 @@ pub fn list_params(alloc: Global, text: &[u8], netlist: &Netlist) -> Result<Para
     Ok(params)
 }
 
-// Reads the parameters of a netlist.
+// Reads the parameter file of a netlist.
 fn read_params_file<S: Shelf>(
     alloc: Global,
     words: &SourceWords,
@@ -98,7 +98,7 @@ fn read_params_file<S: Shelf>(
 /// Reads a source circuit: the netlist, then its parameters.
 ///
 /// # Errors
-/// The outcome of a command whose walk ends there.
+/// The outcome of the command, which ends here.
 pub fn read_source<S: Shelf>(
     alloc: Global,
     words: &SourceWords,

@@ -1,4 +1,4 @@
-//! The script that a file holds.
+//! Reading a script.
 ghost use Rattle.std.specs.Prelude.{◌≡◌, ◌≤◌, length, IfOk, IfErr, OnOk, map};
 ghost use Rattle.list_laws.specs.Members.{In};
 ghost use Rattle.tl_text.specs.Once.{AreOnce};
@@ -20,10 +20,10 @@ use run_text::{Event, Names, read_script};
 use std::alloc::Global;
 use tl_io::Shelf;
 
-/// The events of a text, which may name these.
+/// The events of a text, which may use these names.
 ///
 /// # Errors
-/// `Refused` with the refusal of the text; `Memory` where there is none.
+/// `Refused` with the refusal of the text; `Memory` if memory runs out.
 pub fn list_events(alloc: Global, text: &[u8], names: &Names) -> Result<Vec<Event>, Stop>
     requires short { length text.now ≤ MOST_BYTES }
     requires few { length names.now.params ≤ MOST_PARAMETERS }
@@ -37,10 +37,10 @@ pub fn list_events(alloc: Global, text: &[u8], names: &Names) -> Result<Vec<Even
     Ok(events)
 }
 
-/// Reads a script, which may name these.
+/// Reads a script file, which may use these names.
 ///
 /// # Errors
-/// The outcome of a command whose walk ends there.
+/// The outcome of the command, which ends here.
 pub fn read_script_file<S: Shelf>(
     alloc: Global,
     name: &str,

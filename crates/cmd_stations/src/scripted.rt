@@ -20,7 +20,7 @@ use run_text::{Event, Forms, Names};
 use std::alloc::{AllocError, Global};
 use tl_io::Shelf;
 
-/// The words that name a source circuit and its script, and by which words the script has its forms.
+/// The arguments that name a source circuit and its script, and the words with which the script's lines begin.
 #[derive(Clone, Copy)]
 pub struct ScriptedWords<'a> {
     pub source: SourceWords<'a>,
@@ -35,9 +35,9 @@ pub struct Scripted {
     pub events: Vec<Event>,
 }
 
-/// What the script of a mapped source circuit may name, by these forms.
+/// What the script of a mapped source circuit may name.
 ///
-/// `Err` comes only for want of memory.
+/// `Err` only if memory runs out.
 pub fn mapped_names(alloc: Global, forms: Forms, mapped: &MappedSource) -> Result<Names, AllocError>
     requires { AreMade mapped.now.source mapped.now.tables }
     ensures { IfOk result (λ names. names ≡ names_in forms mapped.now.source mapped.now.tables.template.bits) }
@@ -74,7 +74,7 @@ fn read_events<S: Shelf>(
 /// Reads and maps a source circuit, and reads its script.
 ///
 /// # Errors
-/// The outcome of a command whose walk ends there.
+/// The outcome of the command, which ends here.
 pub fn read_scripted<S: Shelf>(
     alloc: Global,
     words: &ScriptedWords,

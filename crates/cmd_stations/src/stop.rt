@@ -1,4 +1,4 @@
-//! Why a text isn't read, or a source circuit isn't mapped.
+//! Why a text can't be read or a source circuit can't be mapped.
 use aig_build::BuildErr;
 use aiger_io::AagErr;
 use blif_flat::FlatErr;
@@ -12,12 +12,12 @@ use std::alloc::{AllocError, AllocFailed};
 use tl_fault::Refusal;
 use tl_text::TextErr;
 
-/// Why a text isn't read, or a source circuit isn't mapped.
+/// Why a text can't be read or a source circuit can't be mapped.
 #[derive(Debug, Drop)]
 pub enum Stop {
-    /// It is refused.
+    /// The text or the circuit is refused.
     Refused(Refusal),
-    /// There is no memory.
+    /// Memory ran out.
     Memory,
 }
 
@@ -25,7 +25,7 @@ impl Stop {
     ghost use Rattle.std.specs.Prelude.{◌≡◌};
     ghost use Rattle.cmd_stations.specs.Stops.{refusal_of, outcome_at};
 
-    // The stop at an error that tells this: want of memory tells nothing.
+    // The stop for an error with this refusal; `None` means that memory ran out.
     fn of(refusal: Option<Refusal>) -> Stop
         ensures { refusal_of result ≡ refusal }
     {
@@ -35,7 +35,7 @@ impl Stop {
         }
     }
 
-    /// The outcome of a stop at a file.
+    /// The outcome if this stop occurs at a file.
     pub fn at(self, file: File) -> Outcome
         ensures { result ≡ outcome_at file self }
     {

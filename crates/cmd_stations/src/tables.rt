@@ -1,9 +1,9 @@
-//! The tables of a source circuit.
+//! The LUTs of a source circuit.
 use cover_pick::Template;
 use lut_sim::Shape;
 use ppc_pack::Pack;
 
-/// The tables of a source circuit: their template, the pack of their bits, and the shape of the circuit's sources.
+/// The LUTs of a source circuit: their template, the pack of their bits, and the shape of the circuit's sources.
 #[derive(Drop)]
 pub struct Tables {
     pub template: Template,

@@ -1,4 +1,4 @@
-//! The words that name a source circuit.
+//! The arguments that name a source circuit.
 ghost use Rattle.std.specs.Prelude.{◌≡◌, ◌≤◌, IfSome};
 ghost use Rattle.std.specs.Option.{option_map};
 ghost use Rattle.cut_enum.specs.declared.limits.TheConstants.{MOST_LEAVES};
@@ -9,7 +9,8 @@ use cmd_base::File;
 use cover_pick::Rule;
 use cut_enum::MOST_LEAVES;
 
-/// The words that name a source circuit's files, the size of its tables, and the rule by which their cuts are chosen.
+/// The arguments that name the files of a source circuit, the number of inputs of its LUTs, and the rule that chooses their
+/// cuts.
 #[derive(Clone, Copy)]
 pub struct SourceWords<'a> {
     pub rule: Rule,
@@ -18,10 +19,10 @@ pub struct SourceWords<'a> {
     pub params: &'a str,
 }
 
-// The digit of the most inputs of a table.
+// The digit of the maximal number of LUT inputs.
 const LAST_DIGIT: u8 = b'0' + MOST_LEAVES as u8;
 
-/// The number of a table's inputs, from 2 to `MOST_LEAVES`.
+/// The number of LUT inputs in an argument, from 2 to `MOST_LEAVES`.
 pub fn table_size(word: &str) -> Option<u8>
     ensures value { result ≡ k_of word.now }
     ensures range { IfSome result (λ k. (2 ≤ k) × (k ≤ MOST_LEAVES)) }
@@ -32,7 +33,8 @@ pub fn table_size(word: &str) -> Option<u8>
     }
 }
 
-/// The words of a source circuit, whose cuts are chosen by a rule; `None` exactly where the first word isn't such a number.
+/// Reads the arguments of a source circuit, with the rule that chooses its cuts. `None` if and only if the first one isn't a
+/// valid number of LUT inputs.
 pub fn read_source_words<'a>(
     rule: Rule,
     k: &str,
@@ -53,7 +55,7 @@ pub fn read_source_words<'a>(
     }
 }
 
-/// The word that names a file of a source circuit.
+/// The argument that names a file of a source circuit.
 pub fn source_name<'a>(words: &SourceWords<'a>, file: File) -> &'a str
     ensures { result.now ≡ source_word (source_seen words.now) file }
 {

@@ -1,4 +1,4 @@
-//! The choice of a cut for a node with a required depth, by a rule.
+//! The rule of the fewest leaves: the choice of a cut for a node with a required depth.
 ghost use Rattle.std.specs.Prelude.{◌≡◌, ℕ, ◌<◌, ◌≤◌, true, List, [], length, Option, Some, None, slice_index_or};
 ghost use Rattle.cut_sets.specs.Sets.{IsOrdered};
 ghost use Rattle.cut_enum.specs.Table.{row_at};
@@ -13,7 +13,7 @@ use crate::rule::Rule;
 use cut_enum::CutTable;
 use depth_label::Labels;
 
-// A cut of a node, by its place, with the number of its leaves and its height.
+// A cut of a node by its place, with its number of leaves and its height.
 #[derive(Clone, Copy)]
 struct Candidate {
     place: u32,
@@ -37,7 +37,7 @@ fn candidate_at(labels: &Labels, table: &CutTable, n: u32, i: u32) -> Candidate
     }
 }
 
-// The better of the best cut so far and a later one, which has no fewer leaves.
+// The better of the best cut so far and a later one, which has at least as many leaves.
 fn better(
     labels: &Labels,
     table: &CutTable,
@@ -66,7 +66,7 @@ fn better(
     }
 }
 
-// Has the best cut so far fewer leaves?
+// Whether the best cut so far has fewer leaves than `len`.
 fn has_fewer(best: Option<Candidate>, len: usize) -> bool
     ensures { result ≡ true → IsShorter best len }
 {
@@ -76,7 +76,8 @@ fn has_fewer(best: Option<Candidate>, len: usize) -> bool
     }
 }
 
-// The best cut of a node for a required depth, if one is low enough. No cut after one with more leaves is better.
+// The best cut of a node for a required depth, if one is low enough. Stops at the first cut with more leaves than the best
+// one.
 fn fewest(labels: &Labels, table: &CutTable, n: u32, r: u32) -> Option<Candidate>
     requires { IsOrdered (row_at table.now n) }
     ensures { IsAt (label_of labels.now) (row_at table.now n) result (the_fewest (label_of labels.now) r None (row_at table.now n)) }
@@ -91,7 +92,7 @@ fn fewest(labels: &Labels, table: &CutTable, n: u32, r: u32) -> Option<Candidate
     best
 }
 
-// The place of the cut that is chosen for a node and its required depth, if one is low enough.
+// The place of the cut chosen for a node and its required depth, if one is low enough.
 pub fn choose(
     rule: Rule,
     table: &CutTable,

@@ -1,4 +1,4 @@
-//! How many AND nodes a table computes.
+//! The number of AND nodes that a LUT computes.
 ghost use Rattle.std.specs.Prelude.{◌≡◌, ℕ, ◌+◌, ◌/◌, ◌<◌, ◌≤◌, ◌^◌, length, OnOk, IfOk};
 ghost use Rattle.aig_core.specs.Aig.{first_and, node_count, AreNormal};
 ghost use Rattle.cover_pick.specs.Cone.{is_stop as ends_way, cone_of};
@@ -8,7 +8,7 @@ use aig_core::{Graph, Pair};
 use std::alloc::{AllocError, Global};
 use std::marker::Model;
 
-/// A search of the nodes below a node: a stamp of each node, and the nodes that are reached.
+/// A search below a node: a stamp for each node, and the nodes reached so far.
 #[derive(Drop)]
 pub struct Search {
     stamps: Vec<u32>,
@@ -23,7 +23,7 @@ impl Model for Search {
     ghost view = { λ s. record { stamps = s.stamps.items; reached = s.reached.items } };
 }
 
-// Does a node end the way down: a source or a leaf?
+// Whether the search stops at a node: it is a source or a leaf.
 fn is_stop(graph: &Graph, leaves: &[u32], n: u32) -> bool
     ensures { result ≡ ends_way graph.now leaves.now n }
 {
@@ -34,7 +34,7 @@ impl Search {
     ghost use Rattle.std.specs.Prelude.{[], replicate};
     ghost use Rattle.cover_pick.specs.Search.{SearchValue};
 
-    // A search of a graph in which no node has a stamp.
+    // A search of a graph in which no node is stamped.
     pub fn start(alloc: Global, graph: &Graph) -> Result<Search, AllocError>
         ensures none { IfOk result (λ s. s ≡ record { stamps = replicate (node_count graph.now) 0; reached = [] }) }
         ensures small { node_count graph.now ≤ 2 ^ 30 }
@@ -47,7 +47,7 @@ impl Search {
         })
     }
 
-    // Takes a node, unless it ends the way down or is stamped.
+    // Adds a node, unless the search stops there or it is stamped.
     fn reach(&mut self, graph: &Graph, leaves: &[u32], stamp: u32, n: u32) -> Result<(), AllocError>
         requires { n < length self.old.stamps }
         ensures { OnOk result (self.new ≡ reached_by graph.now leaves.now stamp self.old n) }
@@ -63,14 +63,14 @@ impl Search {
         Ok(())
     }
 
-    // How many nodes are reached.
+    // The number of nodes reached.
     fn count(&self) -> usize
         ensures { result ≡ length self.now.reached }
     {
         self.reached.len()
     }
 
-    // The node that was reached at a place.
+    // The node at a place among those reached.
     fn node(&self, i: usize) -> u32
         requires { i < length self.now.reached }
         ensures { result ≡ stamp_at self.now.reached i }
@@ -78,14 +78,14 @@ impl Search {
         self.reached[i]
     }
 
-    // Forgets the nodes that are reached.
+    // Forgets the nodes reached.
     fn forget(&mut self)
         ensures { self.new ≡ record { stamps = self.old.stamps; reached = [] } }
     {
         self.reached.clear();
     }
 
-    // Takes the fan-ins of an AND node.
+    // Adds the fan-ins of an AND node.
     fn reach_fan_ins(
         &mut self,
         graph: &Graph,
@@ -102,9 +102,9 @@ impl Search {
         Ok(())
     }
 
-    /// How many AND nodes are reached from a node without passing a leaf, the node itself counted.
+    /// The number of AND nodes that can be reached from a node without passing a leaf, including the node itself.
     ///
-    /// It takes time in the number of these nodes. The stamp is one that no node has.
+    /// Time is linear in this number. No node may have this stamp yet.
     pub fn cone_size(
         &mut self,
         graph: &Graph,

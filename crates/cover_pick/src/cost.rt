@@ -1,4 +1,4 @@
-//! What a cut costs where some nodes are needed already, and the cut of the least cost.
+//! The rule of the least cost: what a cut costs if some nodes are needed already, and the cheapest cut.
 ghost use Rattle.std.specs.Prelude.{◌≡◌, ℕ, ◌+◌, ◌*◌, ◌<◌, ◌≤◌, ◌^◌, List, [], length, Option, Some, None, sum_by, slice_index_or};
 ghost use Rattle.cut_enum.specs.declared.limits.TheConstants.{MOST_LEAVES};
 ghost use Rattle.cut_enum.specs.Table.{row_at};
@@ -12,14 +12,14 @@ use crate::tables::table_bits;
 use cut_enum::CutTable;
 use depth_label::Labels;
 
-// A cut of a node, by its place, with what it costs.
+// A cut of a node by its place, with its cost.
 #[derive(Clone, Copy)]
 pub struct Offer {
     pub place: u32,
     pub cost: u64,
 }
 
-// What a leaf costs: nothing where it is needed already.
+// The cost of a leaf: 0 if it is needed already.
 fn leaf_cost(flows: &[u64], reqs: &[Option<u32>], m: u32) -> u64
     requires { AreCapped flows.now }
     ensures value { result ≡ the_leaf_cost flows.now reqs.now m }
@@ -31,7 +31,7 @@ fn leaf_cost(flows: &[u64], reqs: &[Option<u32>], m: u32) -> u64
     }
 }
 
-// What some leaves cost.
+// The sum of the costs of leaves.
 fn leaves_cost(flows: &[u64], reqs: &[Option<u32>], leaves: &[u32]) -> u64
     requires capped { AreCapped flows.now }
     requires few { length leaves.now ≤ MOST_LEAVES }
@@ -45,7 +45,7 @@ fn leaves_cost(flows: &[u64], reqs: &[Option<u32>], leaves: &[u32]) -> u64
     cost
 }
 
-// What a cut costs: the bits of its table, and its leaves.
+// The cost of a cut: the bits of its LUT plus the costs of its leaves.
 pub fn cut_cost(table: &CutTable, flows: &[u64], reqs: &[Option<u32>], n: u32, i: u32) -> u64
     requires inside { i < length (row_at table.now n) }
     requires capped { AreCapped flows.now }
@@ -76,7 +76,7 @@ fn cheaper(
     }
 }
 
-// The same where the later one is low enough.
+// The cheaper of the best cut so far and a later one, ignoring the later one if it is too high.
 fn cheaper_low(
     table: &CutTable,
     labels: &Labels,

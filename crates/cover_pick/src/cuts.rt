@@ -44,7 +44,7 @@ impl<'a> ChosenCuts<'a> {
     ghost use Rattle.depth_label.specs.Fold.{or_empty};
     ghost use Rattle.cover_pick.specs.Planned.{cut_at};
 
-    /// The chosen cut of a node, if it is a needed AND node.
+    /// The chosen cut of a node, or `None` if it isn't a needed AND node.
     pub fn cut(&self, n: u32) -> Option<Cut>
         ensures { result ≡ cut_at self.now n }
     {
@@ -54,7 +54,7 @@ impl<'a> ChosenCuts<'a> {
         }
     }
 
-    /// The leaves of a node's chosen cut, without a copy; none of any other node.
+    /// The leaves of a node's chosen cut, without a copy. Empty for a node without one.
     pub fn leaves(&self, n: u32) -> &[u32]
         ensures { result.now ≡ or_empty (cut_at self.now n) }
     {
@@ -65,7 +65,7 @@ impl<'a> ChosenCuts<'a> {
     }
 }
 
-/// The chosen cuts of the needed AND nodes: a cover of the graph, of the least depth.
+/// The chosen cuts of the needed AND nodes. They are a cover of the graph with the least depth.
 pub fn chosen_cuts<'a>(
     alloc: Global,
     rule: Rule,

@@ -1,4 +1,4 @@
-//! The flows of the nodes, for the rule of the least cost.
+//! The area flows of the nodes, for the rule of the least cost.
 ghost use Rattle.std.specs.Prelude.{◌≡◌, ℕ, ◌+◌, ◌*◌, ◌/◌, ◌<◌, ◌≤◌, ◌^◌, [], length, IfOk};
 ghost use Rattle.aig_core.specs.Aig.{first_and, node_count};
 ghost use Rattle.cut_enum.specs.Table.{row_at};
@@ -15,7 +15,7 @@ use aig_core::{Graph, Pair};
 use cut_enum::CutTable;
 use std::alloc::{AllocError, Global};
 
-// Counts one more reader of a node.
+// Adds one to the fan-out of a node.
 fn count_one(counts: &mut [u32], m: u32)
     requires inside { m < length counts.old }
     requires room { count_at counts.old m + 1 < 2 ^ 32 }
@@ -24,7 +24,7 @@ fn count_one(counts: &mut [u32], m: u32)
     counts[m as usize] += 1;
 }
 
-// Counts an AND node as a reader of its fan-ins.
+// Counts an AND node in the fan-out of its fan-ins.
 fn count_pair(counts: &mut [u32], pair: Pair)
     requires x { pair.x.0 / 2 < length counts.old }
     requires y { pair.y.0 / 2 < length counts.old }
@@ -35,7 +35,7 @@ fn count_pair(counts: &mut [u32], pair: Pair)
     count_one(counts, pair.y.0 / 2);
 }
 
-// Counts the AND nodes, each as a reader of its fan-ins.
+// Counts all AND nodes in the fan-out of their fan-ins.
 fn count_pairs(graph: &Graph, counts: &mut [u32])
     requires { AreCounted graph.now (first_and graph.now) counts.old }
     ensures { AreCounted graph.now (node_count graph.now) counts.new }
@@ -45,7 +45,7 @@ fn count_pairs(graph: &Graph, counts: &mut [u32])
     }
 }
 
-// How many AND nodes have each node as a fan-in.
+// The fan-out of each node: the number of AND nodes that read it.
 fn fan_outs(alloc: Global, graph: &Graph) -> Result<Vec<u32>, AllocError>
     ensures { IfOk result (λ counts. AreCounted graph.now (node_count graph.now) counts.items) }
 {
@@ -54,14 +54,14 @@ fn fan_outs(alloc: Global, graph: &Graph) -> Result<Vec<u32>, AllocError>
     Ok(counts)
 }
 
-// How many AND nodes have a node as a fan-in.
+// The fan-out of a node.
 fn fan_out(counts: &[u32], n: u32) -> u32
     ensures { result ≡ count_at counts.now n }
 {
     counts.get(n as usize).copied().unwrap_or(0)
 }
 
-// The least flow through a cut of a node.
+// The least flow over the cuts of a node.
 fn least_flow(table: &CutTable, flows: &[u64], n: u32) -> u64
     requires { AreCapped flows.now }
     ensures { result ≡ the_least_flow flows.now (row_at table.now n) }
@@ -73,7 +73,7 @@ fn least_flow(table: &CutTable, flows: &[u64], n: u32) -> u64
     least
 }
 
-// The flow of a node over those of the nodes below it.
+// The flow of a node, given those of the nodes below it.
 fn node_flow(graph: &Graph, table: &CutTable, fan_out: u32, flows: &[u64], n: u32) -> u64
     requires { AreCapped flows.now }
     ensures value { result ≡ the_node_flow graph.now table.now (λ _. fan_out) flows.now n }
@@ -99,7 +99,7 @@ fn node_flows(alloc: Global, graph: &Graph, table: &CutTable) -> Result<Vec<u64>
     Ok(flows)
 }
 
-// The flow of each node, where the rule asks for it.
+// The flow of each node, if the rule needs it.
 pub fn flows_for(
     alloc: Global,
     rule: Rule,

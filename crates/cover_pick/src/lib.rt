@@ -1,46 +1,47 @@
-//! The tables that a graph is mapped to: a cover of the least depth, with few bits or few tables off the longest paths.
+//! The LUTs to which a graph is mapped: a cover of the least depth, with few bits or few LUTs off the critical path.
 //!
 //! # The idea
 //!
-//! The labels (crate `depth_label`) say how deep each node must stand. So the *target*, the greatest label over the roots, is
-//! the least depth of any cover. A cover of that depth has room elsewhere: a node that few tables wait for may stand deeper,
-//! and take a cut of fewer leaves, whose table has fewer bits, or one whose leaves are needed anyway, which saves tables. So
-//! each needed node gets a *required depth*, from the roots down, and takes one of its cuts that keep within it, by a *rule*.
-//! The labelling is FlowMap's (Cong and Ding, 1994), the area recovery by required depths is that of later mappers (as `if` of
-//! ABC).
+//! The labels (crate `depth_label`) give the least depth of each node. The *target*, the greatest label over the roots, is
+//! the least depth of any cover. Off the critical path such a cover has a choice. A node with slack may be deeper: it can
+//! take a cut of fewer leaves, whose LUT has fewer bits, or a cut whose leaves are needed anyway, which saves LUTs. So each
+//! needed node gets a *required depth*, from the roots down, and a *rule* chooses one of its cuts within that depth. The
+//! labelling is FlowMap's (Cong and Ding, 1994). The area recovery by required depths is that of later mappers, such as `if`
+//! of ABC.
 //!
-//! # The words
+//! # Terms
 //!
-//! - A *cover* gives AND nodes cuts of at most K leaves, and has every AND node of a root and every AND leaf of its cuts. Its
-//!   depth is the greatest over the roots; a root that is a complemented regular source counts 1.
-//! - A *literal* is twice a node's index, plus one for its complement. The *needed* literals are the roots, in their phase,
-//!   and the positive literals of the leaves of the chosen cuts.
-//! - A *table* belongs to a needed literal. It has the leaves of the chosen cut, or the source itself where the literal is a
-//!   complemented regular source, or none where it is of the constant or a parameter; a positive regular source is a wire and
-//!   has none. A table of m leaves has 2^m bits, from its *base* on.
-//! - The *work* of a table is its bits times one more than the AND nodes that it computes, its *cone*.
+//! - A *cover* assigns to AND nodes cuts of at most K leaves. It contains every AND node of a root and every AND leaf of its
+//!   cuts. Its depth is the greatest over the roots; a root that is a complemented regular source counts 1.
+//! - A *literal* is twice the index of a node, plus one for its complement. The *needed* literals are the roots, in their
+//!   phase, and the positive literals of the leaves of the chosen cuts.
+//! - A *LUT* belongs to a needed literal. Its inputs are the leaves of the chosen cut; the source itself for a complemented
+//!   regular source; and none for a constant or a parameter. A positive regular source is a wire and has no LUT. A LUT of m
+//!   leaves has 2^m bits, which begin at its *base*.
+//! - The *work* of a LUT is its bits times one more than the number of AND nodes that it computes, its *cone*.
 //!
-//! # The steps, each in a file
+//! # The steps, one file each
 //!
 //! 1. `target`: the target of the roots.
-//! 2. `rule`, `choice`: the rules by which a cut is chosen for a required depth, and the choice. Each rule is one definition:
-//!    that of the fewest leaves `IsChosen` of `specs/Choice.antt`, that of the least cost `IsCheapest` of `specs/Sharing.antt`
-//!    over the flows of `specs/Flow.antt`. All that the theorem asks of a rule is `Chooses` of `specs/Planned.antt`.
-//! 3. `flow`, `cost`: the flows, in one walk up, and the cheapest cut of a node.
-//! 4. `required`: the required depths and the choices, each once, in one walk from the last AND node down.
+//! 2. `rule`, `choice`: the rules, and the choice of a cut for a required depth. Each rule is one definition: `IsChosen` of
+//!    `specs/Choice.antt` for the fewest leaves, and `IsCheapest` of `specs/Sharing.antt` for the least cost, over the flows
+//!    of `specs/Flow.antt`. `Chooses` of `specs/Planned.antt` is all that the theorem needs of a rule.
+//! 3. `flow`, `cost`: the flows, in one pass up, and the cheapest cut of a node.
+//! 4. `required`: the required depths and the choices, each once, in one pass down from the last AND node.
 //! 5. `cuts`: the chosen cuts, each by its place in the table of cuts.
-//! 6. `needed`, `tables`: the needed literals and their tables, in ascending order.
-//! 7. `cone`: the AND nodes of a table's cone, each visited once.
+//! 6. `needed`, `tables`: the needed literals and their LUTs, in ascending order.
+//! 7. `cone`: the AND nodes in the cone of a LUT, each visited once.
 //!
-//! # What is promised
+//! # What is proved
 //!
-//! `pick_by` says what its tables are in three ways: they are the rule's (`specs/Template.antt`, `IsTemplate`), they map the
-//! graph (`specs/Mapping.antt`, `IsMapping`), and no cover of the graph is less deep (`IsLeast` there). The rule is said by
-//! relations alone, apart from the walk that finds the answer: required depths and chosen cuts by `IsPlan`
-//! (`specs/Schedule.antt`), the tables by `AreTables`, the work by the cones as sets of nodes (`specs/Work.antt`). A graph,
-//! its cuts, labels and roots have one plan, one template and one work, so too much work is always answered.
+//! The contract of `pick_by` says three things about its LUTs: the rule chooses them (`specs/Template.antt`, `IsTemplate`),
+//! they map the graph (`specs/Mapping.antt`, `IsMapping`), and no cover of the graph is less deep (`IsLeast`, same file). The
+//! rule is defined by relations alone, independently of the pass that finds the answer: required depths and chosen cuts by
+//! `IsPlan` (`specs/Schedule.antt`), the LUTs by `AreTables`, and the work by the cones as sets of nodes (`specs/Work.antt`).
+//! A graph with its cuts, labels and roots has exactly one plan, one template and one work. So too much work is always
+//! reported.
 //!
-//! `proofs/Examples.antt` has the plan, the table and the work of a small graph.
+//! `proofs/Examples.antt` has the plan, the LUT and the work of a small graph.
 #![tactic(auto)]
 
 mod choice;

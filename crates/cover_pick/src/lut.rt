@@ -1,10 +1,10 @@
-//! A table, and why there is no template.
+//! A LUT, and why a call returns no template.
 use aig_core::Lit;
 use cut_enum::Cut;
 use std::alloc::{AllocError, AllocFailed};
 use tl_fault::{Details, Refusal};
 
-/// The table of a literal: its leaves, and the address of its first bit. A table of m leaves has 2^m bits.
+/// The LUT of a literal: its leaves, and the address of its first bit. A LUT of m leaves has 2^m bits.
 #[derive(Drop)]
 pub struct Lut {
     pub lit: Lit,
@@ -12,13 +12,13 @@ pub struct Lut {
     pub base: u32,
 }
 
-/// Why there is no template.
+/// Why a call returns no template.
 #[derive(Debug, PartialEq, Eq, Drop, thiserror::Error)]
 pub enum PickErr {
-    /// The work exceeds `MOST_WORK`.
+    /// The work exceeds [`MOST_WORK`](crate::MOST_WORK).
     #[error("too much work")]
     Work,
-    /// There is no memory.
+    /// Memory ran out.
     #[error("out of memory")]
     Memory,
 }
@@ -27,7 +27,7 @@ impl PickErr {
     ghost use Rattle.std.specs.Prelude.{◌≡◌};
     ghost use Rattle.cover_pick.specs.Refusals.{refusal_of};
 
-    /// What the refusal tells; none for want of memory.
+    /// The refusal that the fault line reports. `None` if memory ran out.
     pub fn refusal(self) -> Option<Refusal>
         ensures { result ≡ refusal_of self }
     {

@@ -19,7 +19,7 @@ use cut_enum::CutTable;
 use depth_label::Labels;
 use std::alloc::{AllocError, Global};
 
-// The least of a depth and another that may be missing.
+// The lesser of a depth and another one that may be missing.
 fn least_of(best: Option<u32>, r: u32) -> Option<u32>
     ensures { result ≡ the_least best r }
 {
@@ -29,7 +29,7 @@ fn least_of(best: Option<u32>, r: u32) -> Option<u32>
     }
 }
 
-// Requires a node at a depth.
+// Lowers the required depth of a node to `r`.
 fn require(reqs: &mut [Option<u32>], m: u32, r: u32)
     requires { m < length reqs.old }
     ensures { reqs.new ≡ with_required reqs.old m r }
@@ -37,7 +37,7 @@ fn require(reqs: &mut [Option<u32>], m: u32, r: u32)
     reqs[m as usize] = least_of(reqs[m as usize], r);
 }
 
-// Requires each of some nodes at a depth.
+// Lowers the required depth of each leaf to `r`.
 fn require_each(reqs: &mut [Option<u32>], leaves: &[u32], r: u32)
     requires { (i : ℕ) → i < length leaves.now → slice_index_or leaves.now i 0 < length reqs.old }
     ensures { reqs.new ≡ with_each_required reqs.old leaves.now r }
@@ -47,7 +47,7 @@ fn require_each(reqs: &mut [Option<u32>], leaves: &[u32], r: u32)
     }
 }
 
-// Chooses the cut of a needed node, and requires its leaves at one less than the node's required depth. The cut's place.
+// Chooses the cut of a needed node, requires its leaves one level lower than the node, and returns the place of the cut.
 fn visit(
     rule: Rule,
     graph: &Graph,
@@ -72,7 +72,7 @@ fn visit(
     Some(place)
 }
 
-// Takes the AND nodes in descending order, and sets the places of their chosen cuts.
+// Visits the AND nodes in descending order, and sets the places of their chosen cuts.
 fn walk(
     rule: Rule,
     graph: &Graph,
@@ -97,7 +97,7 @@ fn walk(
     }
 }
 
-// Requires a root's node, if it is an AND node.
+// Requires the node of a root at the target, if it is an AND node.
 fn require_root(graph: &Graph, root: Lit, t: u32, reqs: &mut [Option<u32>])
     requires { root.0 / 2 < length reqs.old }
     ensures { reqs.new ≡ with_root (first_and graph.now) t reqs.old root.0 }
@@ -108,7 +108,7 @@ fn require_root(graph: &Graph, root: Lit, t: u32, reqs: &mut [Option<u32>])
     }
 }
 
-// Requires the roots' nodes.
+// Requires the nodes of the roots at the target.
 fn require_roots(graph: &Graph, roots: &[Lit], t: u32, reqs: &mut [Option<u32>])
     requires len { length reqs.old ≡ node_count graph.now }
     requires roots { AreRoots graph.now (lits_of roots.now) }

@@ -1,10 +1,10 @@
 //! The rules by which a cut is chosen.
 
-/// By what a needed node takes one of its cuts that keep within its required depth.
+/// The rule by which a needed node chooses among its cuts within the required depth.
 #[derive(Clone, Copy, Debug, PartialEq, Eq)]
 pub enum Rule {
-    /// The fewest leaves, then the least height: few bits, and functions of few parameters.
+    /// The fewest leaves, then the least height. Gives few bits, and functions of few parameters.
     FewestLeaves,
-    /// The least cost, in which a leaf that is needed already costs nothing: few tables.
+    /// The least cost, where a leaf that is needed already costs nothing. Gives few LUTs.
     LeastCost,
 }

@@ -1,4 +1,4 @@
-//! The tables of the needed literals.
+//! The LUTs of the needed literals.
 ghost use Rattle.std.specs.Prelude.{◌≡◌, ℕ, List, ◌+◌, ◌*◌, ◌/◌, ◌<◌, ◌≤◌, ◌^◌, length, Option, Some, [], IfOk, IfErr, OnOk};
 ghost use Rattle.aig_core.specs.Aig.{first_and, node_count, AreNormal};
 ghost use Rattle.aig_core.specs.Roots.{lits_of, AreRoots};
@@ -19,7 +19,7 @@ use cut_enum::Cut;
 use std::alloc::Global;
 use std::marker::Model;
 
-/// Tables, the sum of their bits and the sum of their work.
+/// LUTs, the sum of their bits and the sum of their work.
 #[derive(Drop)]
 pub struct Tables {
     pub luts: Vec<Lut>,
@@ -35,7 +35,7 @@ impl Model for Tables {
     ghost view = { λ t. record { luts = t.luts.items; bits = t.bits; work = t.work } };
 }
 
-// The leaves of a literal's table, if it has one.
+// The leaves of the LUT of a literal, if it has one.
 fn leaves_of(alloc: Global, graph: &Graph, cuts: &ChosenCuts, lit: Lit) -> Option<Cut>
     requires { lit.0 / 2 < node_count graph.now }
     ensures { result ≡ the_leaves graph.now cuts.now lit.0 }
@@ -59,7 +59,7 @@ fn leaves_of(alloc: Global, graph: &Graph, cuts: &ChosenCuts, lit: Lit) -> Optio
     }
 }
 
-// The bits of a table.
+// The number of bits of a LUT with this many leaves.
 pub fn table_bits(leaves: usize) -> u32
     requires { leaves ≤ MOST_LEAVES }
     ensures value { result ≡ 2 ^ leaves }
@@ -68,7 +68,7 @@ pub fn table_bits(leaves: usize) -> u32
     1 << leaves
 }
 
-// Adds a table at the end, unless the work is then too much.
+// Appends a LUT, unless the work would exceed the limit.
 fn add_table(
     graph: &Graph,
     search: &mut Search,
@@ -103,7 +103,7 @@ fn add_table(
     Ok(())
 }
 
-// Adds the table of a literal, if it is needed and has one.
+// Appends the LUT of a literal, if it is needed and has one.
 fn add_marked(
     alloc: Global,
     graph: &Graph,
@@ -136,7 +136,7 @@ fn add_marked(
     }
 }
 
-// The tables of the marked literals.
+// The LUTs of the marked literals.
 fn marked_tables(
     alloc: Global,
     graph: &Graph,
@@ -170,7 +170,7 @@ fn marked_tables(
     Ok(made)
 }
 
-// The tables of the needed literals, in ascending order, while their work is within the limit.
+// The LUTs of the needed literals, in ascending order, unless their work exceeds the limit.
 pub fn make_tables(
     alloc: Global,
     graph: &Graph,

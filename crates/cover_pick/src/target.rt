@@ -1,4 +1,4 @@
-//! The target depth of some roots.
+//! The target depth of the roots.
 ghost use Rattle.std.specs.Prelude.{◌≡◌, ℕ, ◌/◌, ◌<◌};
 ghost use Rattle.aig_core.specs.Aig.{first_and};
 ghost use Rattle.aig_core.specs.Roots.{lits_of};
@@ -8,7 +8,7 @@ ghost use Rattle.cover_pick.specs.Target.{source_level as the_source_level, root
 use aig_core::{Graph, Kind, Lit};
 use depth_label::Labels;
 
-// What a root of a source counts.
+// The level of a root that is a source.
 fn source_level(graph: &Graph, root: Lit) -> u32
     requires { root.0 / 2 < first_and graph.now }
     ensures { result ≡ the_source_level graph.now root.0 }
@@ -23,7 +23,7 @@ fn source_level(graph: &Graph, root: Lit) -> u32
     }
 }
 
-// What a root counts.
+// The level of a root.
 fn root_level(graph: &Graph, labels: &Labels, root: Lit) -> u32
     ensures { result ≡ the_root_level graph.now (label_of labels.now) root.0 }
 {
@@ -33,7 +33,7 @@ fn root_level(graph: &Graph, labels: &Labels, root: Lit) -> u32
     labels.label(root.0 / 2)
 }
 
-// The greatest of what the roots count.
+// The greatest level of the roots.
 pub fn target(graph: &Graph, labels: &Labels, roots: &[Lit]) -> u32
     ensures { result ≡ the_target graph.now (label_of labels.now) (lits_of roots.now) }
 {

@@ -1,4 +1,4 @@
-//! The chosen template.
+//! The chosen template, and the public calls.
 ghost use Rattle.std.specs.Prelude.{◌≡◌, ◌⊎◌, ℕ, IfOk, IfErr};
 ghost use Rattle.aig_core.specs.Aig.{node_count};
 ghost use Rattle.aig_core.specs.Roots.{lits_of, roots_of, AreRoots};
@@ -23,7 +23,7 @@ use depth_label::Labels;
 use std::alloc::{AllocError, Global};
 use std::marker::Model;
 
-/// The tables of the needed literals, the roots' literals, the sum of the tables' bits, and the depth of the roots' tables.
+/// The LUTs of the needed literals, the literals of the roots, the sum of the LUTs' bits, and the depth at the roots.
 #[derive(Drop)]
 pub struct Template {
     pub luts: Vec<Lut>,
@@ -51,7 +51,7 @@ fn all_roots(alloc: Global, roots: &Roots) -> Result<Vec<Lit>, AllocError>
     Ok(all)
 }
 
-// The tables of the needed literals over the chosen cuts, while their work is within the limit.
+// The LUTs of the needed literals over the chosen cuts, unless their work exceeds the limit.
 fn chosen_tables(
     alloc: Global,
     rule: Rule,
@@ -72,7 +72,7 @@ fn chosen_tables(
     Ok(made)
 }
 
-// The template, within the limit on the work.
+// The template, unless its work exceeds the limit.
 fn template_of(
     alloc: Global,
     rule: Rule,
@@ -103,33 +103,33 @@ fn template_of(
     })
 }
 
-/// The template of a graph for some roots by a rule, of the least depth that its cuts allow.
+/// The template of a graph for the roots, chosen by `rule`, with the least depth that the cuts of the graph allow.
 ///
-/// The target is the greatest over the roots of the label of an AND root, 1 for a complemented regular source, and 0 for
-/// any other root. The AND nodes are taken in descending order: a root's node is required by the target, and a leaf of the
-/// chosen cut of a node required by r by r - 1. The chosen cut is one of the minimal cuts whose height is at most the
-/// required depth, so a node off the longest paths takes a cheaper table (Cong and Ding 1994, with the area recovery by
-/// required depths of later mappers). Of these cuts
+/// The target is the greatest level over the roots: the label of an AND root, 1 for a complemented regular source, and 0 for
+/// any other root. The AND nodes are visited in descending order. The node of a root is required at the target. If a node is
+/// required at depth r, the leaves of its chosen cut are required at r - 1. The chosen cut is one of the minimal cuts with a
+/// height of at most the required depth, so a node off the critical path takes a cheaper LUT (Cong and Ding 1994, with the
+/// area recovery by required depths of later mappers). Of these cuts
 ///
-/// - `FewestLeaves` takes one of the fewest leaves, then of the least height, then the lexicographically least;
-/// - `LeastCost` takes one of the least cost, then of the fewest leaves, then the lexicographically least. A cut of m leaves
-///   costs 2^m, and the flows of those of its leaves that no root and no chosen cut of a node above needs. The *flow* of an
-///   AND node is the least over its cuts of 256 + 2^m and the flows of the leaves, 2^40 at most, divided by the number of AND
-///   nodes that read it, by 1 if none does, and rounded down (the area flow of Manohararajah, Brown and Vranesic, 2006).
+/// - `FewestLeaves` takes one with the fewest leaves, then the least height, then the lexicographically least;
+/// - `LeastCost` takes one with the least cost, then the fewest leaves, then the lexicographically least. A cut of m leaves
+///   costs 2^m plus the flows of its leaves, without those that a root or the chosen cut of a node above needs. The *flow* of
+///   an AND node is the least over its cuts of 256 + 2^m plus the flows of the leaves, at most 2^40, divided by the fan-out
+///   (by 1 if it is 0) and rounded down (the area flow of Manohararajah, Brown and Vranesic, 2006).
 ///
-/// Each root and each leaf of a chosen cut has a table, but for the positive regular sources, which are wires.
+/// Each root and each leaf of a chosen cut has a LUT, except positive regular sources, which are wires.
 ///
 /// # Errors
 ///
-/// `Work` exactly where the work of the tables exceeds `MOST_WORK`: the sum over the tables of their bits times one more than the
-/// AND nodes that they compute. `Memory` where there is none.
+/// `Work` if and only if the work exceeds `MOST_WORK`. The work is the sum over the LUTs of their bits times one more than
+/// the number of AND nodes that they compute. `Memory` if memory runs out.
 ///
 /// # Complexity
 ///
-/// By `FewestLeaves` the minimal cuts of a needed node are read once, up to the first that has more leaves than the chosen
-/// one; by `LeastCost` those of each AND node once, and those of a needed node once more. Each AND node of a table's cone is
-/// read once for the table: so the time is bounded by the table of cuts and the work, of which no more than the limit and one
-/// cone is counted.
+/// `FewestLeaves` reads the minimal cuts of a needed node once, up to the first with more leaves than the chosen one.
+/// `LeastCost` reads those of each AND node once, and those of a needed node once more. Each AND node in the cone of a LUT is
+/// read once for that LUT. So the table of cuts and the work bound the time; at most the limit and one more cone of the work
+/// is counted.
 pub fn pick_by(
     alloc: Global,
     rule: Rule,
@@ -144,23 +144,23 @@ pub fn pick_by(
     ensures template { IfOk result (λ t. IsTemplate rule graph.now table.now (label_of labels.now) roots.now t) }
     ensures timely { IfOk result (λ t. AreTimely rule graph.now table.now (label_of labels.now) (roots_of roots.now) t.luts) }
 
-    // There is one template, which maps the graph with the least depth over all its covers, whatever the answer.
+    // Exactly one template exists. It maps the graph with the least depth over all covers, whatever the call returns.
     ensures mapping { (t : TemplateValue) → IsTemplate rule graph.now table.now (label_of labels.now) roots.now t → (k : ℕ) → AreRows graph.now k (node_count graph.now) table.now → IsMapping graph.now k (roots_of roots.now) t.luts t.bits }
     ensures least { (t : TemplateValue) → IsTemplate rule graph.now table.now (label_of labels.now) roots.now t → (k : ℕ) → AreRows graph.now k (node_count graph.now) table.now → IsLeast graph.now k (roots_of roots.now) t.luts t.depth }
     ensures once { (t u : TemplateValue) → IsTemplate rule graph.now table.now (label_of labels.now) roots.now t → IsTemplate rule graph.now table.now (label_of labels.now) roots.now u → t ≡ u }
 
-    // The limit on the work, both ways.
+    // The limit on the work, in both directions.
     ensures light { IfOk result (λ t. IsLight graph.now t.luts) }
     ensures work { IfErr result (OrMemory refusal_of (λ _. IsTooMuch rule graph.now table.now (label_of labels.now) (roots_of roots.now))) }
     ensures excluded { (t : TemplateValue) → IsTemplate rule graph.now table.now (label_of labels.now) roots.now t → IsLight graph.now t.luts → IsTooMuch rule graph.now table.now (label_of labels.now) (roots_of roots.now) → ⊥ }
     ensures too_much { IsTooMuch rule graph.now table.now (label_of labels.now) (roots_of roots.now) → (result ≡ Err PickErr.Work) ⊎ (result ≡ Err PickErr.Memory) }
 {
-    // The call tells that the graph's pairs are normal, which the laws stand on.
+    // The contract of this call says that the graph's pairs are normal, which the laws need.
     let _count = graph.len();
     template_of(alloc, rule, graph, roots, table, labels)
 }
 
-/// The template of a graph for some roots by the rule of the fewest leaves: `pick_by` at `FewestLeaves`.
+/// The template of a graph for the roots by the rule of the fewest leaves: `pick_by` with `FewestLeaves`.
 pub fn pick(
     alloc: Global,
     graph: &Graph,
@@ -174,12 +174,12 @@ pub fn pick(
     ensures template { IfOk result (λ t. IsTemplate FewestLeaves graph.now table.now (label_of labels.now) roots.now t) }
     ensures timely { IfOk result (λ t. AreTimely FewestLeaves graph.now table.now (label_of labels.now) (roots_of roots.now) t.luts) }
 
-    // There is one template, which maps the graph with the least depth over all its covers, whatever the answer.
+    // Exactly one template exists. It maps the graph with the least depth over all covers, whatever the call returns.
     ensures mapping { (t : TemplateValue) → IsTemplate FewestLeaves graph.now table.now (label_of labels.now) roots.now t → (k : ℕ) → AreRows graph.now k (node_count graph.now) table.now → IsMapping graph.now k (roots_of roots.now) t.luts t.bits }
     ensures least { (t : TemplateValue) → IsTemplate FewestLeaves graph.now table.now (label_of labels.now) roots.now t → (k : ℕ) → AreRows graph.now k (node_count graph.now) table.now → IsLeast graph.now k (roots_of roots.now) t.luts t.depth }
     ensures once { (t u : TemplateValue) → IsTemplate FewestLeaves graph.now table.now (label_of labels.now) roots.now t → IsTemplate FewestLeaves graph.now table.now (label_of labels.now) roots.now u → t ≡ u }
 
-    // The limit on the work, both ways.
+    // The limit on the work, in both directions.
     ensures light { IfOk result (λ t. IsLight graph.now t.luts) }
     ensures work { IfErr result (OrMemory refusal_of (λ _. IsTooMuch FewestLeaves graph.now table.now (label_of labels.now) (roots_of roots.now))) }
     ensures excluded { (t : TemplateValue) → IsTemplate FewestLeaves graph.now table.now (label_of labels.now) roots.now t → IsLight graph.now t.luts → IsTooMuch FewestLeaves graph.now table.now (label_of labels.now) (roots_of roots.now) → ⊥ }

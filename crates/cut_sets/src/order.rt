@@ -2,7 +2,7 @@
 ghost use Rattle.std.specs.Prelude.{◌≡◌};
 ghost use Rattle.cut_sets.specs.Sets.{lex, before};
 
-// The lexicographic order of two lists.
+// Whether list `a` is lexicographically before list `b`.
 fn lex_before(a: &[u32], b: &[u32]) -> bool
     ensures { result ≡ lex a.now b.now }
 {
@@ -15,7 +15,7 @@ fn lex_before(a: &[u32], b: &[u32]) -> bool
     }
 }
 
-/// Whether a list of leaves comes before another one: the one with fewer leaves, then the lexicographically smaller.
+/// Whether cut `a` comes before cut `b`: it has fewer leaves, or as many and is lexicographically smaller.
 pub fn comes_before(a: &[u32], b: &[u32]) -> bool
     ensures { result ≡ before a.now b.now }
 {

@@ -1,39 +1,39 @@
-//! Edges, and the graph that is walked.
+//! Edges, and the trait of a graph that can be walked.
 ghost use Rattle.std.specs.Prelude.{◌≡◌, ℕ, ◌+◌, ◌<◌, ◌^◌, List, IsSome, slice_get};
 ghost use Rattle.depth_first.specs.declared.edge.Edge.{Edge};
 
-/// Where an edge leads.
+/// Where an edge leads, or why it leads nowhere.
 #[derive(Drop)]
 pub enum Edge<S> {
     /// To a node.
     Node(u32),
     /// Nowhere: it ends the walk, for this reason.
     Stop(S),
-    /// Nowhere: it is passed over.
+    /// Nowhere: the walk ignores it.
     Pass,
 }
 
-/// What ends a walk before all is visited.
+/// Why a walk ended before all nodes were visited.
 #[derive(Drop)]
 pub enum End<S> {
-    /// An edge leads back to this node of the path.
+    /// An edge leads back to this node, which is on the current path.
     Loop(u32),
-    /// An edge of the path's last node is a stop.
+    /// An edge of the last node of the path is a stop.
     Stop(S),
 }
 
-/// A graph that can be walked: the edges of each node, left to right.
+/// A graph that can be walked: the edges of each node, from left to right.
 pub trait Successors {
     /// Why an edge ends a walk.
     type Stop: Drop;
 
-    /// Is this number a node?
+    /// Whether this number is a node.
     ghost is_node: { Self → ℕ → Type 0 };
 
-    /// The edges of a node, left to right.
+    /// The edges of a node, from left to right.
     ghost edges: { Self → ℕ → List (Edge Self.Stop) };
 
-    /// The edge of a node at a place, counted from 0, if it has so many.
+    /// The edge of a node at a place, counted from 0; `None` past the last edge.
     fn successor(&self, node: u32, place: usize) -> Option<Edge<Self::Stop>>
         requires { is_node self.now node }
         ensures edge { result ≡ slice_get (edges self.now node) place }

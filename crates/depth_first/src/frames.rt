@@ -1,4 +1,4 @@
-//! The state of a walk.
+//! The state of a walk: the marks and the stack.
 ghost use Rattle.std.specs.Prelude.{◌≡◌, ℕ, ◌+◌, ◌<◌, ◌^◌, [], ◌∷◌, length, replicate, reverse, slice_get, Some, IfOk, OnOk, OnErr};
 ghost use Rattle.list_laws.specs.Members.{In};
 ghost use Rattle.depth_first.specs.declared.frames.Mark.TheVariants.{New};
@@ -7,7 +7,7 @@ ghost use Rattle.depth_first.specs.Frames.{entered, advanced, finished, has_path
 use std::alloc::{AllocError, Global};
 use std::marker::Model;
 
-// How far the visit of a node is.
+// How far the visit of a node has come.
 #[derive(Clone, Copy, Drop)]
 pub(crate) enum Mark {
     New,
@@ -15,15 +15,15 @@ pub(crate) enum Mark {
     Done,
 }
 
-// A node on the path, and the place of the edge that is next.
+// A node on the path, and the place of its next edge.
 #[derive(Clone, Copy, Drop)]
 pub(crate) struct Frame {
     pub(crate) node: u32,
     pub(crate) place: usize,
 }
 
-// A mark for each node, the nodes in the order in which they were entered, those that are done in the order in which they
-// were left, and the path.
+// A mark for each node, the nodes in the order in which they were entered, the finished nodes in the order in which they were
+// left, and the path.
 #[derive(Drop)]
 pub(crate) struct Frames {
     marks: Vec<Mark>,
@@ -42,7 +42,7 @@ impl Model for Frames {
 }
 
 impl Frames {
-    // The state before a walk of this many nodes.
+    // The state before a walk over this many nodes.
     pub(crate) fn make(alloc: Global, count: usize) -> Result<Frames, AllocError>
         ensures { IfOk result (λ w. w ≡ record { marks = replicate count New; begun = []; order = []; stack = [] }) }
     {
@@ -63,7 +63,7 @@ impl Frames {
         self.marks[n as usize]
     }
 
-    // Does a node stand on the path, by its mark?
+    // Whether the mark of a node says that it is on the path.
     pub(crate) fn is_on_path(&self, n: u32) -> bool
         ensures { result ≡ has_path_mark (slice_get self.now.marks n) }
     {
@@ -117,7 +117,7 @@ impl Frames {
         self.stack.last().copied()
     }
 
-    // Puts a node on the path; its first edge is next.
+    // Pushes a node onto the path. Its first edge is next.
     pub(crate) fn enter(&mut self, n: u32) -> Result<(), AllocError>
         requires { n < length self.old.marks }
         ensures ok { OnOk result (self.new ≡ entered self.old n) }
@@ -131,7 +131,7 @@ impl Frames {
         Ok(())
     }
 
-    // Goes on to the next edge of the path's last frame, which is given.
+    // Advances to the next edge of `frame`, which is the last one of the path.
     pub(crate) fn advance(&mut self, frame: Frame)
         requires top { first_of self.old.stack ≡ Some frame }
         requires room { frame.place + 1 < 2 ^ 64 }
@@ -144,7 +144,7 @@ impl Frames {
         });
     }
 
-    // Leaves the path's last node, which is given.
+    // Leaves `n`, the last node of the path.
     pub(crate) fn finish(&mut self, n: u32) -> Result<(), AllocError>
         requires { n < length self.old.marks }
         ensures ok { OnOk result (self.new ≡ finished self.old n) }
@@ -157,7 +157,7 @@ impl Frames {
         Ok(())
     }
 
-    // Takes the node away that was entered last.
+    // Removes the node that was entered last.
     fn pop_begun(&mut self) -> Option<u32>
         ensures last { result ≡ first_of self.old.begun }
         ensures rest { self.new ≡ without_begun self.old }
@@ -186,7 +186,7 @@ pub(crate) fn forget(frames: &mut Frames)
     frames.stack.clear();
 }
 
-// Takes the nodes away that were entered last, until so many are left, and forgets their marks.
+// Removes the nodes entered last until `count` are left, and forgets their marks.
 fn renew_since(frames: &mut Frames, count: usize)
     requires { (n : ℕ) → In frames.old.begun n → n < length frames.old.marks }
     ensures { frames.new ≡ renewed_since count frames.old }
@@ -197,7 +197,7 @@ fn renew_since(frames: &mut Frames, count: usize)
     }
 }
 
-// Takes back what was entered and left since so many nodes had been entered and so many were done, and the path.
+// Undoes the walk back to the point at which `begun` nodes had been entered and `order` were done, and forgets the path.
 pub(crate) fn take_back(frames: &mut Frames, begun: usize, order: usize)
     requires { (n : ℕ) → In frames.old.begun n → n < length frames.old.marks }
     ensures { frames.new ≡ taken_back begun order frames.old }

@@ -10,7 +10,7 @@ use crate::edge::{Edge, End, Successors};
 use crate::frames::{Frame, Frames, Mark, take_back};
 use std::alloc::AllocError;
 
-// Follows an edge: a new node is put on the path, and a node of the path or a stop is the end.
+// Follows an edge. A new node is pushed onto the path; a node of the path or a stop is the end.
 fn follow<S: Drop>(frames: &mut Frames, edge: Edge<S>) -> Result<Option<End<S>>, AllocError>
     requires { IsEdgeWithin edge (length frames.old.marks) }
     ensures ok { IfOk result (λ found. Followed frames.old edge frames.new found) }
@@ -30,7 +30,7 @@ fn follow<S: Drop>(frames: &mut Frames, edge: Edge<S>) -> Result<Option<End<S>>,
     }
 }
 
-// One step at the path's last frame: its next edge is followed, or its node is left.
+// One step of the walk: follows the next edge of the last node of the path, or leaves that node.
 fn step<G: Successors>(
     graph: &G,
     frames: &mut Frames,
@@ -56,7 +56,7 @@ fn step<G: Successors>(
     }
 }
 
-// Walks on until the stack is empty or an end is found.
+// Continues the walk until the stack is empty or an end is found.
 fn run<G: Successors>(graph: &G, frames: &mut Frames) -> Result<Option<End<G::Stop>>, AllocError>
     requires nodes { AreNodes (G.is_node graph.now) (successors (G.edges graph.now)) (length frames.old.marks) }
     requires going { IsGoing (G.edges graph.now) (G.is_node graph.now) frames.old }
@@ -99,7 +99,7 @@ fn go_from<G: Successors>(
     }
 }
 
-// Walks from a start, unless it is done. Out of memory, all is as before.
+// Walks from a start, unless it is done. If memory runs out, nothing has changed.
 pub(crate) fn visit_from<G: Successors>(
     graph: &G,
     frames: &mut Frames,
@@ -149,7 +149,7 @@ fn go_all<G: Successors>(
     Ok(None)
 }
 
-// Walks from several starts in turn, up to the first end. Out of memory, all is as before.
+// Walks from several starts in turn, up to the first end. If memory runs out, nothing has changed.
 pub(crate) fn visit_each<G: Successors>(
     graph: &G,
     frames: &mut Frames,

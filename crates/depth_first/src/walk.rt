@@ -1,4 +1,4 @@
-//! Walks that share their marks.
+//! The public walk. Walks from several starts share its marks.
 ghost use Rattle.std.specs.Prelude.{◌≡◌, ◌↔◌, [], All, IsTrue, reverse, IfOk, OnErr};
 ghost use Rattle.list_laws.specs.Members.{In};
 ghost use Rattle.depth_first.specs.Frames.{first_of};
@@ -12,8 +12,8 @@ use crate::run::{visit_each, visit_from};
 use std::alloc::{AllocError, Global};
 use std::marker::Model;
 
-/// A depth-first walk over numbered nodes: those that were entered and those that are done, in the order in which they were
-/// entered and left, and the path on which an end was found.
+/// A depth-first walk over numbered nodes. It keeps the nodes in the order in which they were entered, the finished nodes in
+/// the order in which they were left, and the path on which an end was found.
 #[derive(Drop)]
 pub struct Walk {
     frames: Frames,
@@ -32,10 +32,10 @@ impl Model for Walk {
 }
 
 impl Walk {
-    /// A walk of nodes below the count, of which none is done. It takes time linear in the count.
+    /// A walk over the nodes below `count`, none of them done. Time is linear in `count`.
     ///
     /// # Errors
-    /// Only for want of memory.
+    /// Only if memory runs out.
     pub fn make(alloc: Global, count: usize) -> Result<Walk, AllocError>
         ensures { IfOk result (λ w. w ≡ record { count = count; begun = []; order = []; path = [] }) }
     {
@@ -43,14 +43,14 @@ impl Walk {
         Ok(Walk { frames })
     }
 
-    /// Walks depth first, left to right, from a start. Nodes that are done are passed.
+    /// Walks depth first, from left to right, from a start. Skips nodes that are done.
     ///
-    /// `None`: all that the start reaches is done; `order` has it, and `begun`. `Some`: the first end that a walk from the
-    /// start comes to, a node that is met again on the path or a stop; `path` has the path. The stack stands in memory, and
-    /// the time is linear in the edges that are looked at.
+    /// `None`: all that the start reaches is done, and is in `order` and `begun`. `Some`: the first end that the walk
+    /// reaches, which is a stop or a node that is already on the path; `path` has the path. The stack is in memory. Time is
+    /// linear in the number of edges that are looked at.
     ///
     /// # Errors
-    /// Only for want of memory: then the walk is as before.
+    /// Only if memory runs out. The walk is then unchanged.
     pub fn visit<G: Successors>(
         &mut self,
         graph: &G,
@@ -71,7 +71,7 @@ impl Walk {
     /// Walks from several starts in turn, as `visit` does, up to the first end.
     ///
     /// # Errors
-    /// Only for want of memory: then the walk is as before.
+    /// Only if memory runs out. The walk is then unchanged.
     pub fn visit_all<G: Successors>(
         &mut self,
         graph: &G,
@@ -89,7 +89,7 @@ impl Walk {
         Ok(found)
     }
 
-    /// The nodes that were entered, in this order.
+    /// The nodes that were entered, in the order in which they were entered.
     pub fn begun(&self) -> &[u32]
         ensures { reverse result.now ≡ self.now.begun }
     {
@@ -113,17 +113,17 @@ impl Walk {
         }
     }
 
-    /// Does a node stand on the path on which an end was found? It takes constant time.
+    /// Whether a node is on the path on which an end was found. Constant time.
     pub fn is_on_path(&self, node: u32) -> bool
         ensures { IsTrue result ↔ In self.now.path node }
     {
         self.frames.is_on_path(node)
     }
 
-    /// The path on which an end was found, from the start on.
+    /// The path on which an end was found, beginning at the start.
     ///
     /// # Errors
-    /// Only for want of memory.
+    /// Only if memory runs out.
     pub fn path(&self, alloc: Global) -> Result<Vec<u32>, AllocError>
         ensures { IfOk result (λ path. reverse path.items ≡ self.now.path) }
     {
@@ -134,10 +134,10 @@ impl Walk {
         Ok(path)
     }
 
-    /// The path on which an end was found, from a node on.
+    /// The path on which an end was found, beginning at `node`.
     ///
     /// # Errors
-    /// Only for want of memory.
+    /// Only if memory runs out.
     pub fn path_from(&self, alloc: Global, node: u32) -> Result<Vec<u32>, AllocError>
         ensures { IfOk result (λ nodes. nodes.items ≡ from_node node self.now.path) }
     {
@@ -151,7 +151,7 @@ impl Walk {
         Ok(nodes)
     }
 
-    /// Forgets which nodes are done, and the path. It takes time linear in their number.
+    /// Forgets which nodes are done, and the path. Time is linear in the number of nodes that were entered.
     pub fn clear(&mut self)
         ensures { self.new ≡ record { count = self.old.count; begun = []; order = []; path = [] } }
     {

@@ -18,7 +18,7 @@ struct Low {
     height: u32,
 }
 
-// The lower of the best cut so far and a later one, the first where they are as low.
+// The lower of the best cut so far and a later one; the first if both are equally low.
 fn lower(labels: &[u32], table: &CutTable, n: u32, best: Option<Low>, i: u32) -> Option<Low>
     requires small { AreSmall labels.now }
     requires inside { i < length (row_at table.now n) }
@@ -36,7 +36,7 @@ fn lower(labels: &[u32], table: &CutTable, n: u32, best: Option<Low>, i: u32) ->
     }
 }
 
-// The first of the lowest cuts of a node.
+// The first among the lowest cuts of a node.
 fn lowest_of(labels: &[u32], table: &CutTable, n: u32) -> Option<Low>
     requires { AreSmall labels.now }
     ensures { IsAt (label_at labels.now) (row_at table.now n) result (lowest (label_at labels.now) None (row_at table.now n)) }
@@ -55,7 +55,7 @@ struct Best {
     height: u32,
 }
 
-// The cut of a source.
+// The empty cut of a source.
 fn without_leaves(alloc: Global) -> Best
     ensures cut { result.cut ≡ [] }
     ensures height { result.height ≡ 0 }
@@ -66,7 +66,7 @@ fn without_leaves(alloc: Global) -> Best
     }
 }
 
-// The best cut of the next node, and its height: the node's label.
+// The best cut of the next node, and its height, which is the label of the node.
 fn best_cut(alloc: Global, graph: &Graph, table: &CutTable, labels: &[u32], n: u32) -> Best
     requires { AreSmall labels.now }
     ensures source { n < first_and graph.now → result.cut ≡ [] }
@@ -85,22 +85,22 @@ fn best_cut(alloc: Global, graph: &Graph, table: &CutTable, labels: &[u32], n: u
     }
 }
 
-/// The label and the best cut of each node of a graph, from the table of its minimal cuts.
+/// The label and the best cut of each node of a graph, given the table of its minimal cuts.
 ///
-/// The label of a source is 0, that of an AND node the least height of its minimal cuts, which is the least depth at
-/// which it can stand in any cover (Cong and Ding 1994). The nodes are taken in ascending order, each cut once.
+/// The label of a source is 0. The label of an AND node is the least height of its minimal cuts, which is its least depth in
+/// any cover (Cong and Ding 1994). Goes through the nodes in ascending order, and looks at each cut once.
 ///
 /// # Errors
 ///
-/// Only where there is no memory.
+/// Only if memory runs out.
 pub fn labels(alloc: Global, graph: &Graph, table: &CutTable) -> Result<Labels, AllocError>
     requires { IsCutTable graph.now table.now }
     ensures ok { IfOk result (λ labels. AreLabelled graph.now table.now labels) }
 
-    // The table has one labelling.
+    // The table of cuts has exactly one labelling.
     ensures once { HasOneLabelling graph.now table.now }
 
-    // No cover has a node at a lower depth.
+    // No cover has a node at a lower depth than its label.
     ensures least { IfOk result (λ labels. (k : ℕ) → AreRows graph.now k (node_count graph.now) table.now → AreLeastDepths graph.now k (label_of labels)) }
 {
     let mut labels = Vec::new(alloc);

@@ -29,7 +29,7 @@ impl Labels {
     ghost use Rattle.depth_label.specs.Label.{LabelsValue, label_of, best_of};
     ghost use Rattle.depth_label.specs.Fold.{AreSmall};
 
-    // The labels and best cuts of these nodes.
+    // The labels and the best cuts of these nodes.
     pub(crate) fn make(labels: Vec<u32>, best: Vec<Cut>) -> Labels
         requires { AreSmall labels.items }
         ensures { result ≡ record { labels = labels.items; best = best.items } }
@@ -37,9 +37,9 @@ impl Labels {
         Labels { labels, best }
     }
 
-    /// The label of a node: 0 for a source, else the least height of its minimal cuts. Past the last node it is 0.
+    /// The label of a node: 0 for a source, otherwise the least height of its minimal cuts. Past the last node it is 0.
     ///
-    /// It takes constant time.
+    /// Constant time.
     pub fn label(&self, n: u32) -> u32
         ensures value { result ≡ label_of self.now n }
         ensures small { 1 + result < 2 ^ 32 }
@@ -47,8 +47,8 @@ impl Labels {
         label_in(&self.labels, n)
     }
 
-    /// The best cut of an AND node: of the least height, among these of the fewest leaves, among these the
-    /// lexicographically least. Of any other node it is empty.
+    /// The best cut of an AND node: the least height; among these the fewest leaves; among these the lexicographically least.
+    /// Empty for any other node.
     pub fn best(&self, n: u32) -> Cut
         ensures { result ≡ best_of self.now n }
     {
@@ -58,14 +58,14 @@ impl Labels {
         }
     }
 
-    /// The height of a cut: 0 where it is empty, else one more than the greatest label of its leaves.
+    /// The height of a cut: 0 if it is empty, otherwise one more than the greatest label of its leaves.
     pub fn cut_height(&self, cut: &Cut) -> u32
         ensures { result ≡ height_of (label_of self.now) cut.now }
     {
         cut_height(&self.labels, cut.leaves())
     }
 
-    /// The height of a cut of the table, the one at place i of node n.
+    /// The height of cut `i` of node `n` in the table of cuts.
     pub fn height(&self, table: &CutTable, n: u32, i: u32) -> u32
         requires { i < length (row_at table.now n) }
         ensures { result ≡ height_of (label_of self.now) (slice_index_or (row_at table.now n) i []) }

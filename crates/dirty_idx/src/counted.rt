@@ -1,4 +1,4 @@
-//! A pack whose pairs can only be read by a counted call.
+//! A pack whose pairs can be read only by a counted call.
 ghost use Rattle.std.specs.Prelude.{◌≡◌, ◌+◌};
 ghost use Rattle.aig_core.specs.Aig.{IsAnd, IsNormal, pair_of};
 ghost use Rattle.ppc_pack.specs.Pack.{IsPack};
@@ -9,10 +9,10 @@ use ppc_pack::{Pack, PackParam};
 use std::marker::Model;
 use std::sync::ledger::Ledger;
 
-/// A pack whose pairs are read by [`CountedPack::node`] alone, and how often that was called.
+/// A pack whose pairs can be read only by [`CountedPack::node`], and the number of these reads.
 ///
-/// A reading is a step of the counter that is handed in, and counts in the pack too, by a number that takes no bytes. So a clause
-/// can say that all readings of a call are steps of one counter.
+/// A read is a step of the counter that is passed in. It also adds one to a ghost number of the pack. So a clause can say
+/// that all reads of a call are steps of one counter.
 #[derive(Drop)]
 pub struct CountedPack {
     pack: Pack,
@@ -28,7 +28,7 @@ impl Model for CountedPack {
 }
 
 impl CountedPack {
-    /// A pack that was not read yet.
+    /// A pack that has not been read yet.
     pub fn unread(pack: Pack) -> CountedPack
         ensures { result ≡ record { pack = pack; reads = 0 } }
     {
@@ -46,7 +46,7 @@ impl CountedPack {
         self.pack.params()
     }
 
-    /// The literal of each bit, by its address.
+    /// The literal of each bit, in the order of their addresses.
     pub fn bits(&self) -> &[Lit]
         ensures value { result.now ≡ self.now.pack.bits }
         ensures pack { IsPack self.now.pack.params self.now.pack.graph self.now.pack.bits }
@@ -54,7 +54,7 @@ impl CountedPack {
         self.pack.bits()
     }
 
-    /// The pair of an AND node. It takes no memory, constant time, and counts as a step and as a reading of the pack.
+    /// The pair of an AND node. Counts as a step and as a read of the pack. Constant time; allocates no memory.
     pub fn node<L: Ledger>(&mut self, n: u32, steps: &mut Steps<L>) -> Pair
         requires { IsAnd self.old.pack.graph n }
         ensures pair { pair_of self.old.pack.graph n ≡ Some result }

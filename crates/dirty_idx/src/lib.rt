@@ -1,22 +1,23 @@
-//! What an evaluation that reads few nodes needs: a set of marked numbers, and who reads a node.
+//! What an incremental evaluation needs: a set of marked numbers, and the readers of each node.
 //!
-//! Where few parameters of a pack change, few nodes of its graph change their values. An evaluation of these alone marks the
-//! readers of each node that has changed, and takes the least mark until there is none. An AND node stands above its
-//! fan-ins, so each marked node is read once, after all that it depends on.
+//! If few parameters of a pack change, few nodes of its graph change their values. Evaluating only these works as follows:
+//! the readers of each changed node are marked, and the least mark is taken until no mark is left. An AND node is above its
+//! fan-ins, so each marked node is read once, after everything that it depends on.
 //!
 //! `Tiers` is the set, seen as its marks, one for each number below its size (`specs/Marks.antt`). It is a bit set in layers,
-//! 64 words of a layer below each word of the one above: the least member is found by one word of each layer.
+//! with 64 words of a layer below each word of the layer above. Finding the least member reads one word of each layer.
 //!
-//! `Readers` has for each node of a pack's graph the AND nodes with a fan-in of it and the addresses of the bits that are
-//! its literals, exactly and ascending (`specs/Readers.antt`). The lists lie one after another in one vector, made by
-//! counting, as a counting sort does (Knuth, The Art of Computer Programming, volume 3, section 5.2).
+//! `Readers` has for each node of a pack's graph the AND nodes that have it as a fan-in and the addresses of the bits that
+//! are its literals, exactly and ascending (`specs/Readers.antt`). The lists are one after another in one vector, built by
+//! counting, as in a counting sort (Knuth, The Art of Computer Programming, volume 3, section 5.2).
 //!
-//! `CountedPack` is a pack whose pairs can only be read by a call that counts, so that a contract can bound how many are read: each
-//! reading is a step of the counter that is handed in, and raises the pack's own number of readings, a [`Tally`] that takes no
-//! bytes.
+//! `CountedPack` is a pack whose pairs can be read only by a call that counts, so a contract can bound the number of reads.
+//! Each read is a step of the counter that is passed in, and adds one to the pack's own number of reads, a [`Tally`] that
+//! takes no bytes.
 //!
-//! `proofs/ReadLemmas.antt` has for the crates above that a reader is an AND node above what it reads, and an address one of
-//! the pack's; `proofs/MarksExample.antt` and `proofs/ReadersExample.antt` work out a set and the readers of a small pack.
+//! `proofs/ReadLemmas.antt` shows, for the crates above, that a reader is an AND node above the node that it reads, and that
+//! an address is one of the pack. `proofs/MarksExample.antt` and `proofs/ReadersExample.antt` work out a set and the readers
+//! of a small pack.
 #![tactic(auto)]
 
 mod counted;

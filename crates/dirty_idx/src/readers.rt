@@ -1,4 +1,4 @@
-//! Who reads each node of a pack's graph.
+//! The readers of each node of a pack's graph.
 ghost use Rattle.std.specs.Prelude.{◌≡◌, ◌^◌, ◌<◌, ◌≤◌, length, IfOk};
 ghost use Rattle.aig_core.specs.Aig.{first_and, node_count};
 ghost use Rattle.dirty_idx.specs.Listed.{AreOf, lists_of, node_readings, bit_readings};
@@ -26,7 +26,7 @@ impl Model for Readers {
     ghost view = { λ r. record { nodes = r.nodes; addresses = r.addresses } };
 }
 
-// The readings of a graph's AND nodes, read with this counter of steps.
+// The pairs of node and reader of a graph's AND nodes, counted by this counter.
 fn node_readings_with<L: Ledger>(
     alloc: Global,
     graph: &Graph,
@@ -62,7 +62,7 @@ fn node_lists(alloc: Global, graph: &Graph) -> Result<Lists, AllocError>
     Lists::make(alloc, graph.len(), &readings)
 }
 
-// The readings of bits.
+// The pairs of node and reader of the bits.
 fn readings_of_bits(alloc: Global, bits: &[Lit]) -> Result<Vec<Reading>, AllocError>
     requires { length bits.now ≤ 2 ^ 25 }
     ensures { IfOk result (λ readings. readings.items ≡ bit_readings 0 bits.now) }
@@ -77,7 +77,7 @@ fn readings_of_bits(alloc: Global, bits: &[Lit]) -> Result<Vec<Reading>, AllocEr
     Ok(readings)
 }
 
-// The addresses whose bits read each of the first nodes.
+// For each node below `count`, the addresses of the bits that read it.
 fn address_lists(alloc: Global, count: u32, bits: &[Lit]) -> Result<Lists, AllocError>
     requires nodes { AreOf count (bit_readings 0 bits.now) }
     requires few { length bits.now ≤ 2 ^ 25 }
@@ -88,9 +88,9 @@ fn address_lists(alloc: Global, count: u32, bits: &[Lit]) -> Result<Lists, Alloc
 }
 
 impl Readers {
-    /// The readers of a pack, in time linear in its nodes and bits, by counting.
+    /// The readers of a pack, by counting. Time is linear in its nodes and bits.
     ///
-    /// `Err` comes only for want of memory, and no other call takes any.
+    /// `Err` only if memory runs out. No other call allocates memory.
     pub fn make(alloc: Global, pack: &Pack) -> Result<Readers, AllocError>
         ensures { IfOk result (λ readers. AreReaders pack.now readers) }
     {
@@ -100,7 +100,7 @@ impl Readers {
         Ok(Readers { nodes, addresses })
     }
 
-    /// The AND nodes with a fan-in of node `n`, ascending.
+    /// The AND nodes that have node `n` as a fan-in, ascending.
     pub fn nodes(&self, n: u32) -> &[u32]
         requires { n < length self.now.nodes }
         ensures { result.now ≡ nodes_of self.now n }

@@ -1,10 +1,10 @@
-//! A number of readings that takes no bytes when the program runs.
+//! A ghost number of reads. It takes no bytes at run time.
 ghost use Rattle.std.specs.Prelude.{◌≡◌, ℕ, ◌+◌};
 ghost use base.Fml.{ftrue};
 
 use std::marker::{Model, PhantomData};
 
-/// How many readings were made. It takes no bytes, and only `add` changes it.
+/// The number of reads so far. It takes no bytes at run time, and only `add` changes it.
 #[derive(Drop)]
 pub struct Tally {
     marker: PhantomData<()>,
@@ -16,7 +16,7 @@ impl Model for Tally {
 }
 
 impl Tally {
-    /// No readings yet.
+    /// A number of 0.
     pub fn start() -> Tally
         ensures { result.total ≡ 0 }
     {
@@ -25,7 +25,7 @@ impl Tally {
         }
     }
 
-    /// Adds one.
+    /// Adds one read.
     pub fn add(&mut self)
         ensures { self.new.total ≡ self.old.total + 1 }
     {}

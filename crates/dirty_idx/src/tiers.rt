@@ -6,21 +6,21 @@ ghost use Rattle.dirty_idx.specs.Layers.{word_at, upper_words, bit_above, mark_b
 use std::alloc::{AllocError, Global};
 use std::marker::Model;
 
-/// The largest size of a set, 2^26.
+/// The largest possible size of a set, 2^26.
 pub const MOST_MARKS: u32 = 67_108_864;
 
 /// A set of numbers below a size.
 ///
-/// Each number has a bit in the words of the lowest layer. Each word has a bit in the layer above, which is set exactly
-/// where the word has one itself, and the topmost layer is one word. So the least member is found by one word of each
-/// layer, and there are five layers at most.
+/// Each number has a bit in the words of the lowest layer. Each word has a bit in the layer above, which is set if and only
+/// if the word has a bit set itself. The topmost layer is one word. So finding the least member reads one word of each layer,
+/// and there are at most five layers.
 ///
-/// All layers lie in one vector, the topmost first: below the word at place p lie the 64 from place 64 p + 1 on. Every
-/// layer but the lowest has room for as many words as can be below the one above it, 266,305 in all at most.
+/// All layers are in one vector, the topmost first: below the word at place p are the 64 words that begin at place 64 p + 1.
+/// Every layer except the lowest has room for as many words as can be below the one above it, at most 266,305 in all.
 #[derive(Drop)]
 pub struct Tiers {
     size: u32,
-    // How many layers there are above the lowest, and how many words they have.
+    // The number of layers above the lowest, and the number of their words.
     depth: u32,
     base: usize,
     words: Vec<u64>,
@@ -37,7 +37,7 @@ impl Model for Tiers {
     ghost invariant = { λ t. AreTiers t.size t.depth t.base t.words.items };
 }
 
-// Tells the words above the word at a place that it has a bit.
+// Records in the words above that the word at a place has a bit.
 fn tell_some(words: &mut Vec<u64>, at: usize)
     requires { at < vec_len words.old }
     ensures { (base : ℕ) → AreTold base at words.old.items → at ≤ 64 * base → 0 < word_at words.old.items at → IsRetold base words.old.items words.new.items }
@@ -50,7 +50,7 @@ fn tell_some(words: &mut Vec<u64>, at: usize)
     }
 }
 
-// Tells the words above the word at a place, which had a bit, whether it still has one.
+// Records in the words above whether the word at a place, which had a bit, still has one.
 fn tell_none(words: &mut Vec<u64>, at: usize)
     requires { at < vec_len words.old }
     ensures { (base : ℕ) → AreTold base at words.old.items → at ≤ 64 * base → (0 < at → bit_above words.old.items at ≡ 1) → IsRetold base words.old.items words.new.items }
@@ -75,7 +75,7 @@ fn set_bit(words: &mut Vec<u64>, base: usize, i: usize)
     tell_some(words, at);
 }
 
-// Clears the bit of a number, which is set.
+// Clears the bit of a number, which must be set.
 fn clear_bit(words: &mut Vec<u64>, base: usize, i: usize)
     requires within { base + i / 64 < vec_len words.old }
     requires fits { vec_len words.old ≤ 64 * base + 1 }
@@ -103,7 +103,7 @@ fn first_word(words: &[u64], depth: u32) -> usize
     at
 }
 
-// How many layers there are above a lowest layer of so many words, and how many words they have.
+// The number of layers above a lowest layer of `count` words, and the number of their words.
 fn layers_above(count: usize) -> (u32, usize)
     requires { count ≤ 2 ^ 21 }
     ensures above { result.1 ≡ upper_words result.0 }
@@ -122,7 +122,7 @@ fn layers_above(count: usize) -> (u32, usize)
 impl Tiers {
     /// The empty set of numbers below `size`, which is at most `MOST_MARKS`.
     ///
-    /// `Err` comes only for want of memory, and no other call takes any.
+    /// `Err` only if memory runs out. No other call allocates memory.
     pub fn make(alloc: Global, size: u32) -> Result<Tiers, AllocError>
         requires { size ≤ MOST_MARKS }
         ensures { IfOk result (λ tiers. tiers ≡ replicate size false) }
@@ -164,7 +164,7 @@ impl Tiers {
         self.words[self.base + i / 64] >> (i % 64) & 1 == 1
     }
 
-    /// The least member, and `None` exactly where there is none. It takes constant time for each layer.
+    /// The least member; `None` if and only if the set is empty. Constant time for each layer.
     pub fn first(&self) -> Option<u32>
         ensures { MatchOption result (IsEmpty self.now) (λ i. IsLeast self.now i) }
     {
@@ -176,7 +176,7 @@ impl Tiers {
         Some((at - self.base) as u32 * 64 + word.trailing_zeros())
     }
 
-    /// Removes the least member and tells it; `None` exactly where there is none.
+    /// Removes the least member and returns it; `None` if and only if the set is empty.
     pub fn take_first(&mut self) -> Option<u32>
         ensures least { MatchOption result (IsEmpty self.old) (λ i. IsLeast self.old i) }
         ensures rest { self.new ≡ without self.old result }

@@ -1,4 +1,4 @@
-//! One more path, from what the search met.
+//! Adding one more path, given what the search met.
 ghost use Rattle.std.specs.Prelude.{◌≡◌, ℕ, ◌<◌, ◌+◌, ◌-◌, length, OnOk, slice_index, slice_set};
 ghost use Rattle.aig_core.specs.Aig.{node_count};
 ghost use Rattle.flow_cert.specs.Links.{AreLinks, owner_in};
@@ -9,7 +9,8 @@ use crate::scratch::{Links, Search};
 use crate::site::Site;
 use std::alloc::AllocError;
 
-// The owner of the place before chooses the node of this place in place of its own: the place before is next.
+// Reassigns one step of the search: the owner of the place before chooses the node of this place instead of its old one.
+// Returns the place before.
 fn turn(site: &Site, links: &mut Links, search: &Search, j: u32) -> u32
     requires size { length links.old.owners ≡ node_count site.now.graph }
     requires inside { j < length search.now.queue.items }
@@ -31,7 +32,7 @@ fn turn(site: &Site, links: &mut Links, search: &Search, j: u32) -> u32
 /// Adds the path that the search found.
 ///
 /// # Errors
-/// Only where there is no memory for where the path starts.
+/// Only if there is no memory for the start of the path.
 pub fn add_path(
     site: &Site,
     links: &mut Links,

@@ -1,4 +1,4 @@
-//! The certificate.
+//! The public call.
 ghost use Rattle.std.specs.Prelude.{◌≡◌, ◌≤◌, IfOk};
 ghost use Rattle.aig_core.specs.Aig.{node_count};
 ghost use Rattle.aig_core.specs.Roots.{lits_of, roots_of, AreRoots};
@@ -27,10 +27,10 @@ fn all_roots(alloc: Global, roots: &Roots) -> Result<Vec<Lit>, AllocError>
     Ok(all)
 }
 
-/// A certificate that no cover of the graph by tables of at most `k` leaves is less deep than its labels say.
+/// A certificate that no cover of the graph by LUTs of at most `k` inputs is less deep than its labels say.
 ///
 /// # Errors
-/// Only where there is no memory.
+/// Only if memory runs out.
 pub fn certify(
     alloc: Global,
     graph: &Graph,
@@ -45,16 +45,16 @@ pub fn certify(
     requires roots { AreRoots graph.now (roots_of roots.now) }
     ensures valid { IfOk result (IsValid graph.now (roots_of roots.now) k) }
 
-    // Its depth is the least that a cover has.
+    // Its depth is the least depth of any cover.
     ensures depth { IfOk result (λ cert. IsLeastDepth graph.now k (roots_of roots.now) cert.depth) }
 
-    // Each claim is the label of its node, and exactly the nodes whose claims are needed have one: given the paths, there is one
-    // such set of nodes.
+    // Each claim is the label of its node, and exactly the nodes whose claims are needed have one. For given paths there is
+    // exactly one such set of nodes.
     ensures claims { IfOk result (λ cert. AreLabelClaims labels.now cert) }
     ensures needed { IfOk result (λ cert. AreNeeded graph.now (roots_of roots.now) (label_of labels.now) cert) }
     ensures once { HasOneClaiming graph.now (roots_of roots.now) (label_of labels.now) }
 
-    // It can be written as a text that is read back.
+    // Its text, once written, can be read.
     ensures formed { IfOk result IsWritable }
 {
     let _count = graph.len();

@@ -11,7 +11,7 @@ use aig_core::Graph;
 use depth_label::Labels;
 use std::alloc::{AllocError, Global};
 
-// Does a path come to m: is it a regular source, or an AND node with a label of at least 1?
+// Whether a path reaches m: it is a regular source, or an AND node with a label of at least 1.
 fn is_way(graph: &Graph, labels: &Labels, m: u32) -> bool
     requires { m < node_count graph.now }
     ensures yes { result ≡ true → IsWayDown graph.now (label_of labels.now) m }
@@ -26,7 +26,7 @@ fn is_way(graph: &Graph, labels: &Labels, m: u32) -> bool
     labels.label(m) >= 1
 }
 
-// A fan-in to which a path comes.
+// A fan-in that a path reaches.
 fn below(graph: &Graph, labels: &Labels, v: u32) -> u32
     requires node { IsAnd graph.now v }
     requires high { 1 ≤ label_of labels.now v }
@@ -46,7 +46,7 @@ fn below(graph: &Graph, labels: &Labels, v: u32) -> u32
 /// A path to a node with a label of at least 1.
 ///
 /// # Errors
-/// Only where there is no memory.
+/// Only if memory runs out.
 pub fn path_to(
     alloc: Global,
     graph: &Graph,

@@ -5,7 +5,7 @@ ghost use Rattle.cut_sets.specs.Cuts.{CanBeLeaf};
 
 use aig_core::{Graph, Kind};
 
-/// Can the node be a leaf of a cut: is it a regular source or an AND node?
+/// Whether the node can be a leaf of a cut: it is a regular source or an AND node.
 pub fn can_be_leaf(graph: &Graph, m: u32) -> bool
     requires { m < node_count graph.now }
     ensures yes { result ≡ true → CanBeLeaf graph.now m }

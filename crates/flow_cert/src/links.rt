@@ -1,4 +1,4 @@
-//! How the paths to a node run.
+//! The paths to a node, as a matching.
 ghost use Rattle.std.specs.Prelude.{◌≡◌, ℕ, [], length};
 ghost use Rattle.aig_core.specs.Aig.{node_count};
 ghost use Rattle.flow_cert.specs.Links.{AreLinks, owner_in};
@@ -6,7 +6,7 @@ ghost use Rattle.flow_cert.specs.Links.{AreLinks, owner_in};
 use crate::scratch::Links;
 use crate::site::Site;
 
-/// Who has chosen m.
+/// The node that has chosen m.
 pub fn owner(site: &Site, links: &Links, m: u32) -> u32
     ensures { result ≡ owner_in site.now links.now.owners m }
 {
@@ -17,7 +17,7 @@ pub fn owner(site: &Site, links: &Links, m: u32) -> u32
     set
 }
 
-/// Takes all paths away.
+/// Removes all paths.
 pub fn clear_links(site: &Site, links: &mut Links)
     requires { length links.old.owners ≡ node_count site.now.graph }
     ensures linked { AreLinks site.now links.new.owners links.new.starts.items }

@@ -1,13 +1,13 @@
-//! The nodes that stand in two paths of a step.
+//! The nodes on two paths of a step.
 //!
-//! A node that was met has the place behind that of the first path in which it stands.
+//! For a node that was met, `met` has the place of the first path that contains it, plus one.
 ghost use Rattle.std.specs.Prelude.{◌≡◌, ℕ, ◌<◌, ◌≤◌, ◌+◌, ◌^◌, Bool, List, [], length, Some, slice_get};
 ghost use Rattle.flow_cert.specs.Marks.{HasTaken, AreTaken, AreMarkedTo, AreMarked, FitStep};
 
 use crate::stamped::Stamped;
 use cert_check::{NodePath, Step};
 
-// Takes a node of the path at a place: it is marked where it was met in an earlier path, and is not the path's end.
+// Visits a node of the path at a place. It is marked if an earlier path met it and it isn't the end of the path.
 fn take_node(marks: &mut Vec<bool>, met: &mut Stamped, node: u32, place: u32, m: u32)
     requires marks { m < length marks.old.items }
     requires met { m < length met.old }
@@ -25,7 +25,7 @@ fn take_node(marks: &mut Vec<bool>, met: &mut Stamped, node: u32, place: u32, m:
     marks[m as usize] = true;
 }
 
-// Takes the path at a place.
+// Visits the nodes of the path at a place.
 fn mark_path(marks: &mut Vec<bool>, met: &mut Stamped, step: &Step, place: u32, path: &NodePath)
     requires fit { FitStep step.now (length marks.old.items) }
     requires room { length met.old ≡ length marks.old.items }
@@ -42,7 +42,7 @@ fn mark_path(marks: &mut Vec<bool>, met: &mut Stamped, step: &Step, place: u32, 
     }
 }
 
-/// Marks each node that stands in two paths of a step and is not their end.
+/// Marks each node that is on two paths of a step and isn't their end.
 pub fn mark_shared(marks: &mut Vec<bool>, met: &mut Stamped, step: &Step)
     requires fit { FitStep step.now (length marks.old.items) }
     requires room { length met.old ≡ length marks.old.items }

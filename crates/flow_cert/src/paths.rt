@@ -1,4 +1,4 @@
-//! The paths that show a node's label.
+//! The paths that show the label of a node.
 ghost use Rattle.std.specs.Prelude.{◌≡◌, ℕ, ◌≤◌, ◌+◌, length, IfOk, OnOk};
 ghost use Rattle.aig_core.specs.Aig.{node_count, IsAnd};
 ghost use Rattle.depth_label.specs.Label.{label_of};
@@ -18,7 +18,7 @@ use cert_check::NodePath;
 use depth_label::Labels;
 use std::alloc::{AllocError, Global};
 
-// Adds one path after another, until there are k + 1.
+// Adds paths until there are k + 1.
 fn add_paths(site: &Site, links: &mut Links, search: &mut Search, k: u8) -> Result<(), AllocError>
     requires linked { AreLinks site.now links.old.owners links.old.starts.items }
     requires none { length links.old.starts.items ≡ 0 }
@@ -35,10 +35,11 @@ fn add_paths(site: &Site, links: &mut Links, search: &mut Search, k: u8) -> Resu
     Ok(())
 }
 
-/// K + 1 paths to a node with a label of at least 2, which share nodes only where the label is at least one less than the node's.
+/// K + 1 paths to a node with a label of at least 2. They share only nodes whose label is at least the node's label minus
+/// one.
 ///
 /// # Errors
-/// Only where there is no memory.
+/// Only if memory runs out.
 pub fn paths_to(
     alloc: Global,
     graph: &Graph,

@@ -1,10 +1,11 @@
-//! What the work on one node writes, allocated once for all nodes.
+//! Working memory for one node, allocated once for all nodes.
 ghost use Rattle.std.specs.Prelude.{◌≡◌, length, IfOk};
 
 use crate::stamped::Stamped;
 use std::alloc::{AllocError, Global};
 
-/// The walk down from a node: who read each node first, the upper nodes in the order in which they were met, and the ends.
+/// The walk down from a node: the first reader of each node, the upper nodes in the order in which they were met, and the
+/// ends.
 #[derive(Drop)]
 pub struct Walk {
     pub readers: Stamped,
@@ -12,14 +13,15 @@ pub struct Walk {
     pub ends: Vec<u32>,
 }
 
-/// The paths: who has chosen each node, where it is not as at first, and where they start.
+/// The paths: the owner of each node, if it isn't the first one, and the starts of the paths.
 #[derive(Drop)]
 pub struct Links {
     pub owners: Stamped,
     pub starts: Vec<u32>,
 }
 
-/// The search for one more path: which nodes it has met, these nodes in order, and the place before which each comes from.
+/// The search for one more path: whether each node was met, the nodes in the order in which they were met, and the place from
+/// which each was met.
 #[derive(Drop)]
 pub struct Search {
     pub seen: Stamped,
@@ -27,7 +29,7 @@ pub struct Search {
     pub backs: Vec<u32>,
 }
 
-/// All of it, and which nodes were met on the paths of a step.
+/// All of it, and the nodes that were met on the paths of a step.
 #[derive(Drop)]
 pub struct Scratch {
     pub walk: Walk,
@@ -36,7 +38,7 @@ pub struct Scratch {
     pub met: Stamped,
 }
 
-// Nothing walked.
+// The memory of a walk that has met nothing.
 fn new_walk(alloc: Global, count: u32) -> Result<Walk, AllocError>
     ensures { IfOk result (λ walk. length walk.readers ≡ count) }
 {
@@ -48,7 +50,7 @@ fn new_walk(alloc: Global, count: u32) -> Result<Walk, AllocError>
     })
 }
 
-// No links.
+// The memory of links without paths.
 fn new_links(alloc: Global, count: u32) -> Result<Links, AllocError>
     ensures { IfOk result (λ links. length links.owners ≡ count) }
 {
@@ -59,7 +61,7 @@ fn new_links(alloc: Global, count: u32) -> Result<Links, AllocError>
     })
 }
 
-// Nothing searched.
+// The memory of a search that has met nothing.
 fn new_search(alloc: Global, count: u32) -> Result<Search, AllocError>
     ensures { IfOk result (λ search. length search.seen ≡ count) }
 {
@@ -71,10 +73,10 @@ fn new_search(alloc: Global, count: u32) -> Result<Search, AllocError>
     })
 }
 
-/// Room for a graph of so many nodes.
+/// Working memory for a graph of `count` nodes.
 ///
 /// # Errors
-/// Only where there is no memory.
+/// Only if memory runs out.
 pub fn new_scratch(alloc: Global, count: u32) -> Result<Scratch, AllocError>
     ensures walk { IfOk result (λ scratch. length scratch.walk.readers ≡ count) }
     ensures links { IfOk result (λ scratch. length scratch.links.owners ≡ count) }

@@ -10,7 +10,7 @@ use crate::scratch::{Links, Search};
 use crate::site::Site;
 use std::alloc::AllocError;
 
-// One more node, unless it was seen.
+// Adds a node to the search, unless it was met.
 fn meet(search: &mut Search, m: u32, back: u32) -> Result<(), AllocError>
     requires { m < length search.old.seen }
     ensures { OnOk result (HasPushed m back search.old.seen search.old.queue.items search.old.backs.items search.new.seen search.new.queue.items search.new.backs.items) }
@@ -24,7 +24,7 @@ fn meet(search: &mut Search, m: u32, back: u32) -> Result<(), AllocError>
     Ok(())
 }
 
-// One more node, if it can be a leaf and unless it was seen.
+// Adds a node to the search if it can be a leaf, unless it was met.
 fn meet_leaf(site: &Site, search: &mut Search, m: u32, back: u32) -> Result<(), AllocError>
     requires node { m < node_count site.now.graph }
     requires room { m < length search.old.seen }
@@ -37,7 +37,7 @@ fn meet_leaf(site: &Site, search: &mut Search, m: u32, back: u32) -> Result<(), 
     Ok(())
 }
 
-// Meets all that the owner of the node at this place may choose.
+// Meets everything that the owner of the node at this place may choose.
 fn hand_on(site: &Site, links: &Links, search: &mut Search, place: u32) -> Result<(), AllocError>
     requires linked { AreLinks site.now links.now.owners links.now.starts.items }
     requires searching { IsSearching (net_of site.now) (owner_in site.now links.now.owners) search.old.seen search.old.queue.items search.old.backs.items place }
@@ -58,7 +58,7 @@ fn hand_on(site: &Site, links: &Links, search: &mut Search, place: u32) -> Resul
     Ok(())
 }
 
-// Begins at the ends.
+// Starts the search at the ends.
 fn begin(site: &Site, search: &mut Search) -> Result<(), AllocError>
     requires { length search.old.seen ≡ node_count site.now.graph }
     ensures { OnOk result ((owner : ℕ → ℕ) → IsSearching (net_of site.now) owner search.new.seen search.new.queue.items search.new.backs.items 0) }
@@ -76,14 +76,15 @@ fn begin(site: &Site, search: &mut Search) -> Result<(), AllocError>
     Ok(())
 }
 
-/// Searches for one more path: it goes down from the node, and back up where a path is in the way, until it meets a node that no
-/// path has, which is a regular source. The place of this node in the queue.
+/// Searches for one more path. The search goes down from the node, and back up if a path is in the way, until it meets a node
+/// that is on no path, which is a regular source. Returns the place of this node in the queue.
 ///
-/// A node is tested as soon as the nodes before it are, and handed on only when all that were met are tested.
+/// A node is tested as soon as the nodes before it are. The search continues from it only when all nodes met so far are
+/// tested.
 ///
 /// # Errors
-/// Only where there is no memory: where there are at most K paths, a search that met no such node would have found a cut that
-/// is lower than the node's label.
+/// Only if memory runs out. With at most K paths, a search that met no such node would have found a cut that is lower than
+/// the node's label.
 pub fn find(site: &Site, links: &Links, search: &mut Search) -> Result<u32, AllocError>
     requires linked { AreLinks site.now links.now.owners links.now.starts.items }
     requires room { HasRoom site.now (length links.now.starts.items) }

@@ -1,4 +1,4 @@
-//! A node to which paths are sought, with what the search reads.
+//! The node to which paths are sought, with the data that the search reads.
 ghost use Rattle.std.specs.Prelude.{◌≡◌, ℕ, ◌<◌, ◌≤◌, ◌+◌, ◌^◌, length, nat_lt, slice_index, true, false};
 ghost use Rattle.aig_core.specs.Aig.{node_count, IsAnd, IsNode, IsNormal};
 ghost use Rattle.cut_sets.specs.Cuts.{CanBeLeaf};
@@ -12,7 +12,7 @@ use aig_core::{Graph, Pair};
 use depth_label::Labels;
 use std::marker::Model;
 
-/// The node, its graph with the labels, and what the walk down from it found: the readers and the ends.
+/// The node, its graph with the labels, and the results of the walk down from it: the readers and the ends.
 #[derive(Drop)]
 pub struct Site<'a> {
     graph: &'a Graph,
@@ -33,7 +33,7 @@ impl<'a> Model for Site<'a> {
 }
 
 impl<'a> Site<'a> {
-    /// A node with its readers and ends.
+    /// A site: a node with its readers and ends.
     pub fn make(
         graph: &'a Graph,
         labels: &'a Labels,
@@ -54,7 +54,7 @@ impl<'a> Site<'a> {
         }
     }
 
-    /// The node. It also tells what every site keeps.
+    /// The node. The contract also says what every site keeps.
     pub fn node(&self) -> u32
         ensures is { result ≡ self.now.node }
         ensures net { IsNet (net_of self.now) }
@@ -64,42 +64,42 @@ impl<'a> Site<'a> {
         self.node
     }
 
-    /// How many nodes the graph has.
+    /// The number of nodes of the graph.
     pub fn count(&self) -> u32
         ensures is { result ≡ node_count self.now.graph }
     {
         self.graph.len()
     }
 
-    /// Is the label of m at least two less than that of the node?
+    /// Whether the label of m is at least two less than that of the node.
     pub fn is_low(&self, m: u32) -> bool
         ensures { result ≡ nat_lt (label_of self.now.labels m + 1) (label_of self.now.labels self.now.node) }
     {
         self.labels.label(m) + 1 < self.labels.label(self.node)
     }
 
-    /// Is m a low AND node below the node?
+    /// Whether m is a low AND node below the node.
     pub fn is_inner(&self, m: u32) -> bool
         ensures { result ≡ is_inner self.now m }
     {
         m > self.graph.sources() && m < self.node && self.is_low(m)
     }
 
-    /// Who has chosen m before the first path: an inner node has chosen itself, and 0 is nobody.
+    /// The node that has chosen m before the first path is added: an inner node has chosen itself; 0 means none.
     pub fn first_owner(&self, m: u32) -> u32
         ensures { result ≡ first_owner self.now m }
     {
         if self.is_inner(m) { m } else { 0 }
     }
 
-    /// The node that read m first, 0 for none.
+    /// The node that first read m; 0 means none.
     pub fn reader(&self, m: u32) -> u32
         ensures { result ≡ slice_index self.now.readers m }
     {
         self.readers.get(m)
     }
 
-    /// Can m be a leaf?
+    /// Whether m can be a leaf.
     pub fn can_be_leaf(&self, m: u32) -> bool
         requires { m < node_count self.now.graph }
         ensures yes { result ≡ true → CanBeLeaf self.now.graph m }

@@ -1,11 +1,11 @@
-//! A list of numbers that is made all zeros in one step.
+//! A list of numbers that can be set to zero in one step.
 ghost use Rattle.std.specs.Prelude.{◌≡◌, ◌<◌, ◌≤◌, length, slice_index, slice_set, IfOk, ℕ};
 ghost use Rattle.flow_cert.specs.Stamps.{zeros};
 
 use std::alloc::{AllocError, Global};
 use std::marker::Model;
 
-/// A number for each node. A value counts where its stamp is the present one, and elsewhere it is 0.
+/// A number for each node. A value is valid if its stamp is the current one, and otherwise it is 0.
 #[derive(Drop)]
 pub struct Stamped {
     stamps: Vec<u32>,
@@ -28,10 +28,10 @@ impl Stamped {
     ghost use Rattle.std.specs.Prelude.{◌≡◌, ◌<◌, length, slice_index, slice_set, IfOk};
     ghost use Rattle.flow_cert.specs.Stamps.{zeros, values_at};
 
-    /// Zeros, `count` of them.
+    /// `count` zeros.
     ///
     /// # Errors
-    /// Only where there is no memory.
+    /// Only if memory runs out.
     pub fn new(alloc: Global, count: u32) -> Result<Stamped, AllocError>
         ensures { IfOk result (λ numbers. numbers ≡ zeros count) }
     {
@@ -40,7 +40,7 @@ impl Stamped {
         Ok(Stamped::of(stamps, values))
     }
 
-    // Numbers without a stamp.
+    // Numbers without a valid stamp, so all of them are 0.
     fn of(stamps: Vec<u32>, values: Vec<u32>) -> Stamped
         requires size { length stamps.items ≡ length values.items }
         requires stamps { stamps.items ≡ zeros (length stamps.items) }
@@ -72,7 +72,7 @@ impl Stamped {
         self.values[i as usize] = value;
     }
 
-    /// Makes all numbers 0: every stamp is an earlier one then. Where there is no later stamp, the stamps are wiped.
+    /// Sets all numbers to 0 by moving to the next stamp. After the last possible stamp, all stamps are wiped.
     pub fn clear(&mut self)
         ensures { self.new ≡ zeros (length self.old) }
     {

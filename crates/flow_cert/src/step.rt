@@ -13,7 +13,7 @@ use cert_check::{NodePath, Step};
 use depth_label::Labels;
 use std::alloc::{AllocError, Global};
 
-// The step of a node with the label 1: a path shows it.
+// The step of a node with label 1, shown by one path.
 fn low_step(
     alloc: Global,
     graph: &Graph,
@@ -38,10 +38,10 @@ fn low_step(
     })
 }
 
-/// The step of a node with a label of at least 1: it claims the label.
+/// The step of a node with a label of at least 1. It claims the label.
 ///
 /// # Errors
-/// Only where there is no memory.
+/// Only if memory runs out.
 pub fn step_of(
     alloc: Global,
     graph: &Graph,

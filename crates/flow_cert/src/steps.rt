@@ -15,7 +15,7 @@ use cert_check::Step;
 use depth_label::Labels;
 use std::alloc::{AllocError, Global};
 
-// The step of a node, if it is marked; and the nodes below that it needs are marked.
+// Adds the step of a node if it is marked, and marks the nodes below that this step needs.
 fn visit(
     alloc: Global,
     graph: &Graph,
@@ -58,7 +58,7 @@ fn first_marks(alloc: Global, count: u32, begin: u32) -> Result<Vec<bool>, Alloc
     Ok(marks)
 }
 
-// The steps from above.
+// The steps, from the highest node down.
 fn steps_down(
     alloc: Global,
     graph: &Graph,
@@ -91,10 +91,10 @@ fn steps_down(
     Ok(steps)
 }
 
-/// The steps of the node where the certificate begins and of all nodes that these steps need, in ascending order.
+/// The steps of the first node of the certificate and of all nodes that these steps need, in ascending order.
 ///
 /// # Errors
-/// Only where there is no memory.
+/// Only if memory runs out.
 pub fn steps_of(
     alloc: Global,
     graph: &Graph,

@@ -1,4 +1,4 @@
-//! The depth of some roots.
+//! The depth of the roots.
 ghost use Rattle.std.specs.Prelude.{◌≡◌, ◌<◌, ◌≤◌, ◌^◌};
 ghost use Rattle.aig_core.specs.Aig.{IsLit};
 ghost use Rattle.aig_core.specs.Roots.{lits_of, AreRoots};
@@ -8,7 +8,7 @@ ghost use Rattle.flow_cert.specs.Target.{IsLevel, IsTarget, IsDeeper};
 use aig_core::{Graph, Kind, Lit};
 use depth_label::Labels;
 
-/// The depth, and the AND node of the first root that needs it: 0 where none does, or where it is the complement of a source.
+/// The depth, and the AND node of the first root that needs it; 0 if no root does, or if it is the complement of a source.
 #[derive(Clone, Copy)]
 pub struct Target {
     pub depth: u32,
@@ -33,7 +33,7 @@ fn level(graph: &Graph, labels: &Labels, root: Lit) -> u32
     }
 }
 
-// The deeper of what was found and one more root, the first where they are as deep.
+// The deeper of the target so far and one more root; the target so far if both are equally deep.
 fn deeper(graph: &Graph, labels: &Labels, best: Target, root: Lit) -> Target
     requires { IsLit graph.now root.0 }
     ensures { IsDeeper graph.now (label_of labels.now) root.0 best.depth best.begin result.depth result.begin }
@@ -51,7 +51,7 @@ fn deeper(graph: &Graph, labels: &Labels, best: Target, root: Lit) -> Target
     Target { depth, begin: 0 }
 }
 
-/// The depth that the roots need, and where their certificate begins.
+/// The depth that the roots need, and the first node of their certificate.
 pub fn target_of(graph: &Graph, labels: &Labels, roots: &[Lit]) -> Target
     requires { AreRoots graph.now (lits_of roots.now) }
     ensures { IsTarget graph.now (label_of labels.now) (lits_of roots.now) result.depth result.begin }

@@ -11,7 +11,7 @@ use aig_core::Graph;
 use depth_label::Labels;
 use std::alloc::AllocError;
 
-// Meets m, which v reads, if it can be a leaf and was not met before.
+// Meets `m`, which `v` reads, if it can be a leaf and hasn't been met.
 fn read(
     graph: &Graph,
     labels: &Labels,
@@ -36,7 +36,7 @@ fn read(
     Ok(())
 }
 
-// Lets the upper node at a place read.
+// Lets the upper node at a place read its fan-ins.
 fn read_at(
     graph: &Graph,
     labels: &Labels,
@@ -61,10 +61,10 @@ fn read_at(
     Ok(())
 }
 
-/// Walks down from n through deep nodes: who read each node first that it meets, and which low nodes it meets.
+/// Walks down from `n` through deep nodes. Records the first reader of each node met, and the low nodes met.
 ///
 /// # Errors
-/// Only where there is no memory.
+/// Only if memory runs out.
 pub fn walk_down(graph: &Graph, labels: &Labels, n: u32, walk: &mut Walk) -> Result<(), AllocError>
     requires node { IsAnd graph.now n }
     requires high { 2 ≤ label_of labels.now n }

@@ -1,4 +1,4 @@
-//! The paths, from where they start up to the node.
+//! The paths as lists, from their starts up to the node.
 ghost use Rattle.std.specs.Prelude.{◌≡◌, ℕ, ◌<◌, IfOk};
 ghost use Rattle.aig_core.specs.Aig.{IsSource};
 ghost use Rattle.aig_core.specs.declared.lit.Kind.TheVariants.{Regular};
@@ -12,7 +12,7 @@ use crate::site::Site;
 use cert_check::NodePath;
 use std::alloc::{AllocError, Global};
 
-// The next node up: the owner of a low node, but for an end, and otherwise the reader.
+// The next node up: the owner of a low node that isn't an end, and otherwise the reader.
 fn next(site: &Site, links: &Links, m: u32) -> u32
     ensures { result ≡ next_of (net_of site.now) (owner_in site.now links.now.owners) m }
 {
@@ -47,7 +47,7 @@ fn path_from(alloc: Global, site: &Site, links: &Links, s: u32) -> Result<Vec<u3
 /// The paths of the links, one from each start.
 ///
 /// # Errors
-/// Only where there is no memory.
+/// Only if memory runs out.
 pub fn paths_of(alloc: Global, site: &Site, links: &Links) -> Result<Vec<NodePath>, AllocError>
     requires { AreLinks site.now links.now.owners links.now.starts.items }
     ensures { IfOk result (λ paths. AreWays (net_of site.now) (owner_in site.now links.now.owners) links.now.starts.items paths.items) }

@@ -1,14 +1,14 @@
-//! A generated case.
+//! The texts of a generated case.
 use std::marker::Model;
 
 /// A netlist with a parameter list and a script for it, as texts.
 #[derive(Drop)]
 pub struct Case {
-    /// The netlist.
+    /// The netlist, in BLIF.
     pub netlist: Vec<u8>,
-    /// The list of its parameters, with their values at the start.
+    /// The parameter list, with the initial values.
     pub params: Vec<u8>,
-    /// The script.
+    /// The script, a hundred rounds of a `set` and a `cycle`.
     pub script: Vec<u8>,
 }
 

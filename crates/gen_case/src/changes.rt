@@ -33,7 +33,7 @@ pub fn add_params(text: &mut String, n: u32, seed: u32) -> Result<(), AllocError
     Ok(())
 }
 
-// Adds a blank and the setting of a digit of the coefficient.
+// Adds a blank and the setting of one digit of the coefficient.
 fn add_setting(text: &mut String, value: u32, place: u32) -> Result<(), AllocError>
     requires { place < 32 }
     ensures { OnOk result (string_bytes text.new ≡ string_bytes text.old ++ 32 ∷ setting value place) }
@@ -46,7 +46,7 @@ fn add_setting(text: &mut String, value: u32, place: u32) -> Result<(), AllocErr
     )
 }
 
-// Adds a setting of each digit of the coefficient, each behind a blank.
+// Adds a setting for each digit of the coefficient, each after a blank.
 fn add_settings(text: &mut String, n: u32, value: u32) -> Result<(), AllocError>
     requires { n ≤ 32 }
     ensures { OnOk result (string_bytes text.new ≡ string_bytes text.old ++ after_blanks (map (setting value) (below n))) }

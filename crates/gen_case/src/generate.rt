@@ -1,4 +1,4 @@
-//! Multipliers with changing coefficients.
+//! The texts of a multiplier with a changing coefficient.
 ghost use Rattle.std.specs.Prelude.{◌≡◌, ◌≤◌, IfOk, string_bytes};
 ghost use Rattle.gen_case.specs.Case.{IsShort};
 ghost use Rattle.gen_case.specs.Lines.{text_of};
@@ -46,11 +46,11 @@ fn script_text(alloc: Global, n: u32, seed: u32) -> Result<String, AllocError>
     Ok(text)
 }
 
-/// The case of a multiplier of `n` digits and a seed: its netlist, the list of its parameters with the digits of the seed, and
-/// a script of a hundred rounds, byte by byte. Each text is short enough to be read. It takes time and memory linear in the
+/// The case of a multiplier of `n` digits and a seed: its netlist, its parameter list with the digits of the seed, and a
+/// script of a hundred rounds, byte for byte. Each text is within the limits of its reader. Time and memory are linear in the
 /// square of `n`.
 ///
-/// `Err` comes only for want of memory.
+/// `Err` only if memory runs out.
 pub fn multiplier(alloc: Global, n: u32, seed: u32) -> Result<Case, AllocError>
     requires low { 1 ≤ n }
     requires high { n ≤ 32 }

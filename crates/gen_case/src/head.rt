@@ -7,7 +7,7 @@ ghost use Rattle.gen_case.specs.Steps.{after_blanks};
 use crate::net::{Bus, Net};
 use std::alloc::AllocError;
 
-// Adds the names of the first `n` digits of a number, each behind a blank.
+// Adds the names of the first `n` digits of a number, each after a blank.
 fn add_bus(text: &mut String, bus: Bus, n: u32) -> Result<(), AllocError>
     ensures { OnOk result (string_bytes text.new ≡ string_bytes text.old ++ after_blanks (bus_names bus n)) }
 {

@@ -1,14 +1,14 @@
 //! The nets of a multiplier, and their names.
 use std::fmt;
 
-/// A number of the multiplier, by its binary digits.
+/// A number of the multiplier, as a bus of its binary digits.
 #[derive(Clone, Copy)]
 pub enum Bus {
-    /// The data.
+    /// The data, `x`.
     Data,
-    /// The coefficient.
+    /// The coefficient, `c`.
     Coefficient,
-    /// The product of both.
+    /// The product of both, `y`.
     Product,
 }
 
@@ -27,18 +27,18 @@ impl fmt::Display for Bus {
     }
 }
 
-/// A net.
+/// A net of the multiplier, printed as its name.
 #[derive(Clone, Copy)]
 pub enum Net {
-    /// The net that is always 0.
+    /// The constant 0.
     Zero,
-    /// The digit of a number at a place.
+    /// The digit of a number at a place, counted from 0.
     Digit(Bus, u32),
-    /// The partial product of a digit of the data and a digit of the coefficient.
+    /// The partial product of a digit of the data and a digit of the coefficient, given by their places.
     Partial(u32, u32),
-    /// The sum bit of the full adder in a row at a place.
+    /// The sum bit of the full adder in a row, at a place.
     Sum(u32, u32),
-    /// The carry bit of the full adder in a row at a place.
+    /// The carry bit of the full adder in a row, at a place.
     Carry(u32, u32),
 }
 

@@ -40,7 +40,7 @@ pub fn add_partials(text: &mut String, n: u32) -> Result<(), AllocError>
     Ok(())
 }
 
-// What a row finds at a place in the rows before it.
+// The net that a row adds to at a place: a result of the rows before it.
 fn from_before(n: u32, j: u32, i: u32) -> Net
     requires row { 1 ≤ j }
     requires place { i < n }
@@ -60,7 +60,7 @@ fn from_before(n: u32, j: u32, i: u32) -> Net
     }
 }
 
-// The carry bit from one place lower in a row.
+// The carry bit from the next lower place in a row.
 fn carry_in(j: u32, i: u32) -> Net
     ensures { result ≡ carry_in_of j i }
 {
@@ -71,7 +71,7 @@ fn carry_in(j: u32, i: u32) -> Net
     }
 }
 
-// Adds the full adder of a row at a place, which adds its partial product to two nets.
+// Adds the full adder of a row at a place, which adds its partial product and two nets.
 fn add_adder_of(
     text: &mut String,
     before: Net,
@@ -121,7 +121,7 @@ pub fn add_adders(text: &mut String, n: u32) -> Result<(), AllocError>
     Ok(())
 }
 
-// The net of a digit of the product.
+// The net that drives a digit of the product.
 fn source_of(n: u32, t: u32) -> Net
     requires low { 1 ≤ n }
     requires high { n ≤ 32 }
@@ -142,7 +142,7 @@ fn source_of(n: u32, t: u32) -> Net
     Net::Carry(n - 1, n - 1)
 }
 
-// Adds the copy of a digit of the product.
+// Adds the buffer of a digit of the product.
 fn add_output(text: &mut String, n: u32, t: u32) -> Result<(), AllocError>
     requires low { 1 ≤ n }
     requires high { n ≤ 32 }
@@ -156,7 +156,7 @@ fn add_output(text: &mut String, n: u32, t: u32) -> Result<(), AllocError>
     )
 }
 
-// Adds the copies of all digits of the product.
+// Adds the buffers of all digits of the product.
 pub fn add_outputs(text: &mut String, n: u32) -> Result<(), AllocError>
     requires low { 1 ≤ n }
     requires high { n ≤ 32 }

@@ -1,4 +1,4 @@
-//! The numbers of the rounds, and their binary digits as they are written.
+//! The numbers of the rounds, and the texts of their binary digits.
 ghost use Rattle.std.specs.Prelude.{◌≡◌, ◌%◌, ◌^◌, ◌<◌, ◌≤◌};
 ghost use Rattle.list_laws.specs.Digits.{digit as digit_of};
 ghost use Rattle.gen_case.specs.Numbers.{first_coefficient as first_of, coefficient_of as round_coefficient, data_of as round_data, digit_text as text_of_digit};
@@ -39,7 +39,7 @@ pub fn data_of(n: u32, seed: u32, round: u32) -> u32
     low_digits(n, seed as u64 + 40_503 * round as u64 * round as u64)
 }
 
-// A digit of a number as it is written.
+// The text of a binary digit of a number.
 pub fn digit_text(value: u32, place: u32) -> &'static str
     requires { place < 32 }
     ensures { result.now ≡ text_of_digit (digit_of value place) }

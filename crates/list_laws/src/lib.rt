@@ -1,17 +1,18 @@
-//! What several crates say of lists and of binary digits, and the laws of it, each stated once.
+//! Definitions and laws about lists and binary digits that several crates share, each stated once.
 //!
-//! The words stand in `specs`: `Members` has membership, `Order` ascending and descending lists, `Digits` numbers by their
-//! binary digits, the lowest first.
+//! The definitions are in `specs/`: `Members` (membership), `Order` (ascending and descending lists) and `Digits` (numbers by
+//! their binary digits, the lowest first).
 //!
-//! The laws stand in `proofs`, over any type of elements: `Members` (of joined, mapped and filtered lists), `Reversed`, `Apart` (lists in
-//! which nothing stands twice), `Places` (elements by their places, with one set), `Ranges` (of numbers), `Items` (what a loop over a list meets),
-//! `TwoLists`, `FirstPlace` (where a test passes first), `Choice` (what holds of a value that a test chooses), `Digits`.
+//! The laws are in `proofs/`, for any type of elements: `Members` (of joined, mapped and filtered lists), `Reversed`, `Apart`
+//! (lists without repeated elements), `Places` (elements by their places, with one set), `Ranges` (of numbers), `Items` (what
+//! a loop over a list meets), `TwoLists`, `FirstPlace` (the first element that passes a test), `Choice` (values chosen by a
+//! test) and `Digits`.
 #![tactic(auto)]
 
 ghost use Rattle.std.specs.Prelude.{◌≡◌, ◌<◌};
 ghost use Rattle.list_laws.specs.Digits.{digit as digit_of};
 
-/// The binary digit `place` of a number, place 0 being the lowest.
+/// The binary digit at `place` of a number, where place 0 is the lowest.
 pub fn digit(number: u32, place: u32) -> bool
     requires { place < 32 }
     ensures { result ≡ digit_of number place }

@@ -1,4 +1,4 @@
-//! A circuit with room for the values of its literals, and a cycle on it.
+//! A circuit with the values of its literals, and a cycle on it.
 ghost use Rattle.std.specs.Prelude.{◌≡◌, ◌<◌, length, map};
 ghost use Rattle.list_laws.specs.Members.{In};
 ghost use Rattle.aig_core.specs.Roots.{lits_of};
@@ -12,7 +12,7 @@ use crate::play::{play, read_roots};
 use crate::shape::Shape;
 use cover_pick::{Lut, Template};
 
-// A circuit, the values of its literals, and what its last cycle left.
+// A circuit, the values of its literals, and the results of its last cycle.
 #[derive(Drop)]
 pub struct Board {
     pub template: Template,
@@ -22,7 +22,7 @@ pub struct Board {
     pub states: Vec<bool>,
 }
 
-// A literal above those of all tables.
+// A literal above those of all LUTs.
 fn tables_end(tables: &[Lut]) -> usize
     requires { AscendByLit tables.now }
     ensures { (t : Lut) → In tables.now t → t.lit.0 < result }
@@ -33,7 +33,7 @@ fn tables_end(tables: &[Lut]) -> usize
     }
 }
 
-// How many literals the tables and sources have values for.
+// The number of literals whose values are kept for the LUTs and sources.
 pub fn literal_count(template: &Template, shape: &Shape) -> usize
     requires { AscendByLit template.now.luts }
     ensures { HasRoom template.now shape.now result }
@@ -44,7 +44,7 @@ pub fn literal_count(template: &Template, shape: &Shape) -> usize
 }
 
 impl Board {
-    // Gives the literals their values in a cycle from the states on.
+    // Computes the values of the literals in a cycle that begins in the current states.
     pub fn play(&mut self, config: &[bool], inputs: &[bool])
         requires playable { IsPlayable self.old.template self.old.shape }
         requires room { HasRoom self.old.template self.old.shape (length self.old.values.items) }
@@ -68,7 +68,7 @@ impl Board {
         );
     }
 
-    // Takes the outputs and the next states from the values of the literals.
+    // Reads the outputs and the next states from the values of the literals.
     pub fn read_roots(&mut self)
         requires room { HasRoom self.old.template self.old.shape (length self.old.values.items) }
         requires playable { IsPlayable self.old.template self.old.shape }

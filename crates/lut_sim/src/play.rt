@@ -1,4 +1,4 @@
-//! A cycle on the values of the literals: the sources' values, then the tables' bits, then the roots' values.
+//! A cycle on the values of the literals: the sources' values, then the LUTs' bits, then the roots' values.
 ghost use Rattle.std.specs.Prelude.{◌≡◌, ◌<◌, ℕ, ◌+◌, ◌-◌, ◌*◌, ◌≤◌, ◌^◌, length, map, drop};
 ghost use Rattle.list_laws.specs.Members.{In};
 ghost use Rattle.list_laws.specs.Digits.{number};
@@ -14,7 +14,7 @@ use aig_core::Lit;
 use cover_pick::{Lut, Template};
 use cut_enum::Cut;
 
-// The number of the values of a cut's leaves, the first the lowest digit.
+// The number whose binary digits are the values of a cut's leaves, leaf 0 the lowest.
 fn number_of(values: &[bool], cut: &Cut) -> usize
     requires { (m : ℕ) → In cut.now m → 2 * m < length values.now }
     ensures number { result ≡ number (leaf_values (value_in values.now) cut.now) }
@@ -30,7 +30,7 @@ fn number_of(values: &[bool], cut: &Cut) -> usize
     above
 }
 
-// Gives bits to the sources from the first on.
+// Sets the values of the sources that begin at `first`.
 fn set_sources(values: &mut [bool], first: usize, bits: &[bool])
     requires { 2 * (first + length bits.now) ≤ length values.old + 1 }
     ensures { values.new ≡ with_sources values.old first bits.now }
@@ -42,7 +42,7 @@ fn set_sources(values: &mut [bool], first: usize, bits: &[bool])
     }
 }
 
-// Gives a table's bit to its literal.
+// Gives the bit of a LUT to its literal.
 fn play_table(shape: &Shape, config: &[bool], table: &Lut, values: &mut [bool])
     requires { IsTableInRoom table.now (length config.now) (length values.old) }
     ensures { values.new ≡ with_table shape.now config.now values.old table.now }
@@ -53,7 +53,7 @@ fn play_table(shape: &Shape, config: &[bool], table: &Lut, values: &mut [bool])
     }
 }
 
-// Plays the tables in order.
+// Plays the LUTs in order.
 fn play_tables(shape: &Shape, config: &[bool], tables: &[Lut], values: &mut [bool])
     requires { (t : Lut) → In tables.now t → IsTableInRoom t (length config.now) (length values.old) }
     ensures { values.new ≡ with_tables shape.now config.now values.old tables.now }
@@ -63,7 +63,7 @@ fn play_tables(shape: &Shape, config: &[bool], tables: &[Lut], values: &mut [boo
     }
 }
 
-// Writes the values of some roots over bits.
+// Overwrites bits with the values of roots.
 fn write_roots(values: &[bool], roots: &[Lit], bits: &mut [bool])
     requires room { (l : ℕ) → In (lits_of roots.now) l → l < length values.now }
     requires len { length bits.old ≡ length roots.now }
@@ -76,7 +76,7 @@ fn write_roots(values: &[bool], roots: &[Lit], bits: &mut [bool])
     }
 }
 
-// Reads the values of some roots.
+// Writes the values of the roots to `bits`.
 pub fn read_roots(values: &[bool], roots: &[Lit], bits: &mut [bool])
     requires room { (l : ℕ) → In (lits_of roots.now) l → l < length values.now }
     requires len { length bits.old ≡ length roots.now }
@@ -85,7 +85,7 @@ pub fn read_roots(values: &[bool], roots: &[Lit], bits: &mut [bool])
     write_roots(values, roots, bits);
 }
 
-// Gives all sources their values.
+// Sets the values of all sources.
 fn set_all_sources(shape: &Shape, inputs: &[bool], states: &[bool], values: &mut [bool])
     requires room { 2 * last_source shape.now + 1 < length values.old }
     requires inputs { length inputs.now ≡ shape.now.regular }
@@ -97,7 +97,7 @@ fn set_all_sources(shape: &Shape, inputs: &[bool], states: &[bool], values: &mut
     set_sources(values, 1 + before_latches, states);
 }
 
-// Plays a whole cycle into the values of the literals.
+// Computes the values of all literals in a cycle.
 pub fn play(
     template: &Template,
     shape: &Shape,

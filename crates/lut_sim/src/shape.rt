@@ -1,4 +1,4 @@
-//! The shape of a circuit's sources.
+//! The numbers of a circuit's sources.
 ghost use Rattle.std.specs.Prelude.{◌≡◌, ℕ, List, length};
 ghost use Rattle.list_laws.specs.Members.{In};
 ghost use Rattle.aig_core.specs.Aig.{Aig};
@@ -11,25 +11,25 @@ ghost use Rattle.lut_sim.specs.Sources.{is_regular as regular_of, is_plain as pl
 
 use cover_pick::Template;
 
-/// How many sources there are: the regular inputs first, then the parameters, then the latches.
+/// The number of sources of each kind: the regular inputs first, then the parameters, then the latches.
 ///
-/// Index 0 of a graph is the constant, so the sources have the indices from 1 on. Regular inputs and latches
-/// are the regular sources.
+/// Index 0 of a graph is the constant, so the indices of the sources begin at 1. Regular inputs and latches are the regular
+/// sources.
 #[derive(Clone, Copy, Debug, PartialEq, Eq)]
 pub struct Shape {
-    /// The inputs that change from cycle to cycle.
+    /// The number of inputs that change from cycle to cycle.
     pub regular: u32,
-    /// The inputs that a configuration is made for.
+    /// The number of parameters: inputs for which a configuration is computed.
     pub params: u32,
-    /// The latches.
+    /// The number of latches.
     pub latches: u32,
 }
 
 impl Shape {
-    /// The shape of so many regular inputs, parameters and latches.
+    /// The shape with these numbers of regular inputs, parameters and latches.
     ///
-    /// It also tells that each template whose tables map a graph of this shape, for roots among which its outputs and
-    /// next states are, can be played, given one next state for each latch.
+    /// The contract also says that a template can be played if its LUTs map a graph of this shape for roots that include its
+    /// outputs and next states, and it has one next state for each latch.
     pub fn new(regular: u32, params: u32, latches: u32) -> Shape
         ensures value { result ≡ record { regular = regular; params = params; latches = latches } }
         ensures playable { (g : Aig) (k : ℕ) (roots : List ℕ) (t : TemplateValue) → HasShape g result → IsMapping g k roots t.luts t.bits → ((l : ℕ) → In (lits_of t.outputs) l → In roots l) → ((l : ℕ) → In (lits_of t.next) l → In roots l) → length t.next ≡ result.latches → IsPlayable t result }
@@ -41,7 +41,7 @@ impl Shape {
         }
     }
 
-    /// How many tables a circuit of this shape has. Each has a bit at least.
+    /// The number of LUTs of a circuit of this shape. Each has at least one bit.
     pub fn table_count(&self, template: &Template) -> u32
         requires { IsPlayable template.now self.now }
         ensures { result ≡ length template.now.luts }
@@ -51,7 +51,7 @@ impl Shape {
     }
 }
 
-// Is this a regular input or a latch?
+// Whether this is a regular input or a latch.
 fn is_regular(shape: &Shape, n: u64) -> bool
     ensures { result ≡ regular_of shape.now n }
 {
@@ -61,8 +61,8 @@ fn is_regular(shape: &Shape, n: u64) -> bool
     (1 <= n && n <= regular) || (before_latches < n && n <= last)
 }
 
-/// Whether this is the positive literal of a regular source, which needs no table. A literal has 64 bits here, since the
-/// leaves of tables that were made elsewhere may be any numbers.
+/// Whether this is the positive literal of a regular source, which needs no LUT. A literal has 64 bits here, since the leaves
+/// of LUTs from elsewhere may be any numbers.
 pub fn is_plain(shape: &Shape, lit: u64) -> bool
     ensures { result ≡ plain_of shape.now lit }
 {

@@ -1,4 +1,4 @@
-//! The simulator: a board that keeps what a cycle needs.
+//! The simulator: a circuit with all that a cycle needs.
 ghost use Rattle.std.specs.Prelude.{◌≡◌, length, IfOk, replicate, false};
 ghost use Rattle.lut_sim.specs.Playable.{IsPlayable};
 
@@ -8,7 +8,7 @@ use cover_pick::Template;
 use std::alloc::{AllocError, Global};
 use std::marker::Model;
 
-/// A circuit of tables, the states of its latches, and the outputs of its last cycle.
+/// A circuit of LUTs, the states of its latches, and the outputs of its last cycle.
 #[derive(Drop)]
 pub struct Sim {
     board: Board,
@@ -29,10 +29,9 @@ impl Sim {
     ghost use Rattle.lut_sim.specs.Cycle.{IsTableCycle, IsOnlyTableCycle};
     ghost use Rattle.lut_sim.specs.Sim.{SimValue};
 
-    /// A circuit with its latches at `inits`, and all outputs false.
+    /// A circuit whose latches are at `inits`, and whose outputs are false.
     ///
-    /// It takes all the memory that its cycles need, a byte a literal, and time linear in this. `Err` comes only for
-    /// want of memory.
+    /// Allocates all the memory that cycles need, one byte for each literal, in linear time. `Err` only if memory runs out.
     pub fn make(
         alloc: Global,
         template: Template,
@@ -56,17 +55,17 @@ impl Sim {
         Ok(Sim { board })
     }
 
-    /// Plays one cycle under a configuration: the outputs and the next states follow from the inputs and the states.
+    /// Plays one cycle under a configuration: computes the outputs and the next states from the inputs and the states.
     ///
-    /// `config` has all bits in the order of their addresses, and may be any list of bits, as one with an upset bit.
-    /// `inputs` has a value for each regular input. Each table is played once, so that a cycle takes time linear in the
-    /// sources, the tables, their leaves and the roots. It takes no memory and can't be refused.
+    /// `config` has all bits in the order of their addresses. It may be any list of bits, also one with an upset bit.
+    /// `inputs` has a value for each regular input. Each LUT is played once, so time is linear in the sources, the LUTs,
+    /// their leaves and the roots. Allocates no memory and can't fail.
     pub fn cycle(&mut self, config: &[bool], inputs: &[bool])
         requires config { length config.now ≡ self.old.template.bits }
         requires inputs { length inputs.now ≡ self.old.shape.regular }
         ensures cycle { IsTableCycle self.old.template self.old.shape config.now inputs.now self.old.states self.new.outputs self.new.states }
 
-        // Whatever values of the literals fit the tables, the outputs and states are theirs.
+        // Whatever values of the literals fit the LUTs, the outputs and the states are their values.
         ensures only { IsOnlyTableCycle self.old.template self.old.shape config.now inputs.now self.old.states self.new.outputs self.new.states }
         ensures template { self.new.template ≡ self.old.template }
         ensures shape { self.new.shape ≡ self.old.shape }
@@ -75,7 +74,7 @@ impl Sim {
         self.board.read_roots();
     }
 
-    /// The outputs of the last cycle, in order; all false before the first. It takes constant time.
+    /// The outputs of the last cycle, in order; all false before the first. Constant time.
     pub fn outputs(&self) -> &[bool]
         ensures value { result.now ≡ self.now.outputs }
         ensures len { length result.now ≡ length self.now.template.outputs }
@@ -83,7 +82,7 @@ impl Sim {
         &self.board.outputs
     }
 
-    /// The states of the latches after the last cycle, in their order; the inits before the first. It takes constant time.
+    /// The states of the latches after the last cycle, in their order; their initial values before the first. Constant time.
     pub fn states(&self) -> &[bool]
         ensures value { result.now ≡ self.now.states }
         ensures len { length result.now ≡ self.now.shape.latches }

@@ -1,11 +1,11 @@
-//! Parameters: the inputs of a circuit that change seldom, and the lists that name them.
+//! Parameters: the inputs of a circuit that seldom change, and the lists that name them.
 //!
-//! [`read_params`] reads a parameter list, a line for each [`Param`], or answers the text's first refusal
-//! (`specs/ParamsText.antt`). The parameters are inputs of a flat circuit, each once (`specs/Parameters.antt`), and [`regular`]
-//! gives the places of the inputs that are left.
+//! [`read_params`] reads a parameter list, one line for each [`Param`], or returns the first refusal of the text
+//! (`specs/ParamsText.antt`). The parameters are inputs of a flat circuit, each at most once (`specs/Parameters.antt`).
+//! [`regular`] gives the places of the other inputs.
 //!
 //! - `params.rt` has `read_params` and its types, and `par_err.rt` the refusals.
-//! - `param_line.rt` reads a line, and `param_lines.rt` all lines of a text.
+//! - `param_line.rt` reads one line, and `param_lines.rt` all lines of a text.
 //! - `regular_inputs.rt` has `regular`.
 #![tactic(auto)]
 

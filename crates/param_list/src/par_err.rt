@@ -1,10 +1,10 @@
-//! Why a text is no parameter list.
+//! Why a text is refused as a parameter list.
 use std::alloc::{AllocError, AllocFailed};
 use tl_fault::{Details, Name, Refusal};
 use tl_text::TextErr;
 
-/// Why a text is no parameter list. Each number is that of a logical line, but for the first two that of a physical one;
-/// lines are counted from 1.
+/// Why a text is refused as a parameter list. The number is that of a logical line, or of a physical line for the first two
+/// variants. Lines are counted from 1.
 #[derive(Debug, Drop, thiserror::Error)]
 pub enum ParErr {
     /// T1: a byte that no line may have.
@@ -25,10 +25,10 @@ pub enum ParErr {
     /// P3: the name is a clock net.
     #[error("a clock in line {0}")]
     IsClock(u32, Name),
-    /// P4: the name stood earlier.
+    /// P4: an earlier line has the same name.
     #[error("a name repeated in line {0}")]
     Repeated(u32, Name),
-    /// There is no memory.
+    /// Memory ran out.
     #[error("out of memory")]
     Memory,
 }
@@ -59,7 +59,7 @@ impl ParErr {
     ghost use Rattle.std.specs.Prelude.{◌≡◌};
     ghost use Rattle.param_list.specs.Refusals.{refusal_of};
 
-    /// What the refusal tells; none for want of memory.
+    /// The refusal that the fault line reports. `None` if memory ran out.
     pub fn refusal(self) -> Option<Refusal>
         ensures { result ≡ refusal_of self }
     {

@@ -11,7 +11,7 @@ use crate::params::Param;
 use std::alloc::Global;
 use tl_text::{Line, MOST_NAME_BYTES, MOST_PARAMETERS, Name, NameIndex, Token, bit};
 
-// The tokens of a list of two.
+// The two tokens of a list of two.
 fn two(tokens: &[Token]) -> Option<(Token, Token)>
     ensures { MatchOption result (length tokens.now ≡ 2 → ⊥) (λ pair. tokens.now ≡ pair.0 ∷ pair.1 ∷ []) }
 {
@@ -21,7 +21,7 @@ fn two(tokens: &[Token]) -> Option<(Token, Token)>
     Some((tokens[0], tokens[1]))
 }
 
-// The name and the value that a line says.
+// The name and the value on a line.
 fn entry(alloc: Global, text: &[u8], line: &Line) -> Result<(Name, bool), ParErr>
     requires { IsLineIn text.now line.now }
     ensures { MatchResult result
@@ -38,7 +38,7 @@ fn entry(alloc: Global, text: &[u8], line: &Line) -> Result<(Name, bool), ParErr
     Ok((name, init))
 }
 
-// The parameter of a name and a value, or why they are none where these names stood earlier.
+// The parameter with a name and an initial value, or its refusal. `seen` has the names of the lines before.
 fn param_of(
     inputs: &NameIndex,
     clocks: &NameIndex,
@@ -72,11 +72,11 @@ fn param_of(
     })
 }
 
-/// The parameter of a line, where the lines before it say these names. It takes time linear in the line, on average over the
+/// The parameter on a line. The names of the lines before it are given. Time is linear in the line, on average over the
 /// hashes.
 ///
 /// # Errors
-/// The first of P1, L8, P2, P3 and P4 that the line has; `Memory` where there is none.
+/// The first of P1, L8, P2, P3 and P4 that the line has; `Memory` if memory runs out.
 pub(crate) fn read_line(
     alloc: Global,
     text: &[u8],

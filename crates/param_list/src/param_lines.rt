@@ -17,7 +17,7 @@ use netlist::Flat;
 use std::alloc::{AllocError, Global};
 use tl_text::{Line, NameIndex};
 
-// Adds a parameter, and its name to those that stood earlier, among which it isn't.
+// Adds a parameter whose name is new, and adds the name to the earlier ones.
 fn add(
     alloc: Global,
     seen: &mut NameIndex,
@@ -33,7 +33,7 @@ fn add(
     Ok(())
 }
 
-// The parameters of lines, where the names of the inputs and of the clock nets are these.
+// The parameters of lines, given the names of the inputs and of the clock nets.
 fn read_each(
     alloc: Global,
     text: &[u8],
@@ -57,11 +57,11 @@ fn read_each(
     Ok(params)
 }
 
-/// The parameters of the lines of a text, for a flat circuit whose inputs' names differ. It takes time linear in the text and
-/// in the names of the inputs and of the clock nets, on average over the hashes.
+/// The parameters of the lines of a text, for a flat circuit whose inputs have different names. Time is linear in the text
+/// and in the names of the inputs and the clock nets, on average over the hashes.
 ///
 /// # Errors
-/// The first line that has a refusal; `Memory` where there is none.
+/// The refusal of the first line that has one; `Memory` if memory runs out.
 pub(crate) fn read_lines(
     alloc: Global,
     text: &[u8],

@@ -19,13 +19,13 @@ use std::alloc::Global;
 use std::marker::Model;
 use tl_text::{Line, Name, TextErr, lines};
 
-/// A parameter: an input that changes seldom.
+/// A parameter: an input that seldom changes.
 #[derive(Debug, Drop)]
 pub struct Param {
     pub name: Name,
     /// Its place in [`Flat::inputs`], counted from 0.
     pub input: u32,
-    /// Its value at the start.
+    /// Its initial value.
     pub init: bool,
 }
 
@@ -43,7 +43,7 @@ impl Model for Params {
     ghost view = { λ p. record { list = p.list.items } };
 }
 
-// A refusal of a text's lines as one of a parameter list.
+// The refusal of a parameter list that stands for this fault of its lines.
 fn lines_err(error: TextErr) -> ParErr
     ensures { result ≡ par_err error }
 {
@@ -68,16 +68,16 @@ fn text_lines(alloc: Global, text: &[u8]) -> Result<Vec<Line>, ParErr>
     }
 }
 
-/// The parameters that a list names, for a flat circuit: a line for each, with the name of an input and its value at the start,
-/// `0` or `1`. The names of the inputs differ, and there are fewer than 2^32.
+/// The parameters in a list, for a flat circuit. Each line has the name of an input and its initial value, `0` or `1`. The
+/// names of the inputs differ, and there are fewer than 2^32.
 ///
-/// It takes time and memory linear in the text and in the names of the circuit's inputs and clock nets, on average over the
+/// Time and memory are linear in the text and in the names of the circuit's inputs and clock nets, on average over the
 /// hashes.
 ///
 /// # Errors
-/// The text's first refusal, by `specs/ParamsText.antt`: T1 and T2 of its physical lines, else the first of P1, L8, P2, P3 and
-/// P4 of the first logical line that has one; `Memory` where there is none. A text has one list of parameters at most, or has
-/// one refusal at most, and never both.
+/// The first refusal of the text, by `specs/ParamsText.antt`: T1 and T2 of its physical lines; otherwise the first of P1, L8,
+/// P2, P3 and P4 of the first logical line that has one. `Memory` if memory runs out. A text has at most one list of
+/// parameters or at most one refusal, and never both.
 pub fn read_params(alloc: Global, text: &[u8], flat: &Flat) -> Result<Params, ParErr>
     requires short { length text.now ≤ MOST_BYTES }
     requires few { length flat.now.inputs < 2 ^ 32 }

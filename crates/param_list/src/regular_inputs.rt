@@ -12,7 +12,7 @@ use netlist::Flat;
 use std::alloc::{AllocError, Global};
 use tl_text::Name;
 
-// For each input, is it a parameter?
+// For each input, whether it is a parameter.
 fn marks(alloc: Global, inputs: &[Name], params: &[Param]) -> Result<Vec<bool>, AllocError>
     requires once { AreOnce inputs.now }
     requires places { (p : ParamValue) → In params.now p → slice_get inputs.now p.input ≡ Some p.name }
@@ -25,7 +25,7 @@ fn marks(alloc: Global, inputs: &[Name], params: &[Param]) -> Result<Vec<bool>, 
     Ok(marks)
 }
 
-// The places of the marks that are off.
+// The places of the marks that are false.
 fn off(alloc: Global, marks: &[bool]) -> Result<Vec<u32>, AllocError>
     requires { length marks.now < 2 ^ 32 }
     ensures { IfOk result (λ places. places.items ≡ off_places 0 marks.now) }
@@ -39,7 +39,7 @@ fn off(alloc: Global, marks: &[bool]) -> Result<Vec<u32>, AllocError>
     Ok(places)
 }
 
-// The places of the inputs whose marks are off.
+// The places of the inputs that have no mark.
 fn unmarked(alloc: Global, flat: &Flat, params: &Params) -> Result<Vec<u32>, AllocError>
     requires few { length flat.now.inputs < 2 ^ 32 }
     requires once { AreOnce flat.now.inputs }
@@ -52,10 +52,9 @@ fn unmarked(alloc: Global, flat: &Flat, params: &Params) -> Result<Vec<u32>, All
 }
 
 /// The places of the inputs that aren't parameters, ascending. The names of the inputs differ, there are fewer than 2^32, and
-/// the parameters are among them. `Err` comes only for want of memory. It takes time and memory linear in the inputs and the
-/// parameters.
+/// the parameters are among them. `Err` only if memory runs out. Time and memory are linear in the inputs and the parameters.
 ///
-/// The names at these places and then those of the parameters are the inputs' names, each once.
+/// The names at these places, and then those of the parameters, are the names of the inputs, each once.
 pub fn regular(alloc: Global, flat: &Flat, params: &Params) -> Result<Vec<u32>, AllocError>
     requires few { length flat.now.inputs < 2 ^ 32 }
     requires once { AreOnce flat.now.inputs }

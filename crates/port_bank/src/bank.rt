@@ -1,4 +1,4 @@
-//! The ports of a configuration: those that serve its regions, their spares, and the calls that they get.
+//! The ports of a configuration: those that serve its regions, the spares, and the calls made to them.
 ghost use Rattle.std.specs.Prelude.{◌≡◌, ◌+◌, ◌*◌, ◌/◌, ◌≤◌, ◌<◌, ◌^◌, vec_len, Bool, List, [], map, take, drop, length, OnOk, OnErr, IfOk, IfErr, true, false};
 ghost use Rattle.tl_io.specs.Writes.{writes_from};
 ghost use Rattle.port_bank.specs.Bank.{Called, Replaced, Retired, all_ports};
@@ -20,7 +20,7 @@ pub struct PortFault {
     pub region: usize,
 }
 
-/// Ports that serve, spares, others and failed ones, in this order in one list.
+/// Ports in one list: those that serve, the spares, the others, and the failed ones.
 #[derive(Drop)]
 pub struct PortBank<P: Drop> {
     ports: Vec<P>,
@@ -36,8 +36,8 @@ pub type Bank = PortBank<Box<dyn ConfigPort>>;
 impl<P: ConfigPort> PortBank<P> {
     ghost use Rattle.port_bank.specs.Seen.{bank_seen};
 
-    /// A bank whose first ports serve, in the order of their regions, and whose next ones are the spares. The others are
-    /// not touched.
+    /// A bank of these ports. The first `serving` ports serve the regions in order, and the next `spares` are the spares. The
+    /// others are never touched.
     pub fn make(ports: Vec<P>, serving: usize, spares: usize) -> PortBank<P>
         requires { serving + spares ≤ vec_len ports }
         ensures { bank_seen P.port_seen result ≡ record {
@@ -55,8 +55,8 @@ impl<P: ConfigPort> PortBank<P> {
         }
     }
 
-    /// The ports: those that serve in the order of their regions, then the spares that are left, the others, and the
-    /// failed ones in the order of failure.
+    /// Returns the ports: those that serve, in the order of their regions; the spares that are left; the others; and the
+    /// failed ones, in the order of failure.
     pub fn release(self) -> Vec<P>
         ensures { map P.port_seen result.items ≡ all_ports (bank_seen P.port_seen self) }
     {
@@ -64,14 +64,14 @@ impl<P: ConfigPort> PortBank<P> {
         ports
     }
 
-    /// How many ports serve.
+    /// The number of serving ports.
     pub fn serving(&self) -> usize
         ensures { result ≡ length (bank_seen P.port_seen self.now).serving }
     {
         self.serving
     }
 
-    /// How many ports failed.
+    /// The number of failed ports.
     pub fn failed(&self) -> usize
         ensures { result ≡ length (bank_seen P.port_seen self.now).failed }
     {
@@ -89,7 +89,7 @@ impl<P: ConfigPort> PortBank<P> {
         self.ports[region].write(write.address, write.bit)
     }
 
-    /// Puts the first spare in the place of a region's port, which failed.
+    /// Replaces the port of a region, which failed, with the first spare.
     fn replace(&mut self, region: usize) -> Result<(), PortFault>
         requires { region < self.old.serving }
         ensures ok { OnOk result (Replaced region (bank_seen P.port_seen self.old) (bank_seen P.port_seen self.new)) }
@@ -131,7 +131,7 @@ impl<P: ConfigPort> PortBank<P> {
         Ok(())
     }
 
-    /// Puts spares in the place of a region's port, which failed, until one of them takes the whole region.
+    /// Replaces the port of a region, which failed, with spares until one of them takes the whole region.
     fn mend(&mut self, region: usize, width: usize, config: &[bool]) -> Result<(), PortFault>
         requires region { region < self.old.serving }
         requires small { length config.now < 2 ^ 32 }
@@ -148,8 +148,8 @@ impl<P: ConfigPort> PortBank<P> {
         }
     }
 
-    /// Sends a write to the port of its region, unless the region is below `passed`. Answers the first region whose later
-    /// writes are still to be sent.
+    /// Sends a write to the port of its region, unless the region is below `passed`. Returns the first region whose later
+    /// writes must still be sent.
     fn send_one(
         &mut self,
         write: Write,
@@ -176,7 +176,7 @@ impl<P: ConfigPort> PortBank<P> {
         Ok(region + 1)
     }
 
-    /// Sends each bit of a configuration, ascending, to the port of its region.
+    /// Sends each bit of a configuration, in ascending order, to the port of its region.
     fn send_bits(&mut self, config: &[bool]) -> Result<(), PortFault>
         requires { length config.now < 2 ^ 32 }
         ensures { Plays config.now (writes_from 0 config.now) (bank_seen P.port_seen self.old) (bank_seen P.port_seen self.new) result }
@@ -214,11 +214,11 @@ impl<P: ConfigPort> PortBank<P> {
         Ok(())
     }
 
-    /// Writes a whole configuration, region by region and ascending, each bit to the port of its region. Takes no memory.
-    /// It makes one call for each bit, and at most the calls of one region for each spare that takes a place.
+    /// Writes a whole configuration, region by region and in ascending order, each bit to the port of its region. Allocates
+    /// no memory. Makes one call for each bit, and at most the calls of one region for each spare that is used.
     ///
     /// # Errors
-    /// [`PortFault`] where a serving port fails while no spare is left.
+    /// [`PortFault`] if a serving port fails while no spare is left.
     pub fn load(&mut self, config: &[bool]) -> Result<(), PortFault>
         requires { length config.now < 2 ^ 32 }
         ensures plays { Plays config.now (writes_from 0 config.now) (bank_seen P.port_seen self.old) (bank_seen P.port_seen self.new) result }
@@ -232,12 +232,12 @@ impl<P: ConfigPort> PortBank<P> {
         self.send_bits(config)
     }
 
-    /// Sends an event's writes, ascending, each to the port of its region. The configuration is the one after the event.
-    /// Takes no memory. It makes one call for each write, and at most the calls of one region for each spare that takes a
-    /// place.
+    /// Sends the writes of an event, which are ascending, each to the port of its region. `config` is the configuration after
+    /// the event. Allocates no memory. Makes one call for each write, and at most the calls of one region for each spare that
+    /// is used.
     ///
     /// # Errors
-    /// [`PortFault`] where a serving port fails while no spare is left.
+    /// [`PortFault`] if a serving port fails while no spare is left.
     pub fn send(&mut self, writes: &[Write], config: &[bool]) -> Result<(), PortFault>
         requires small { length config.now < 2 ^ 32 }
         requires ascending { AreAscending writes.now }

@@ -1,4 +1,4 @@
-//! Moves of boxes within a list, to its end and to a place.
+//! Moves of boxes within a list.
 ghost use Rattle.std.specs.Prelude.{◌≡◌, ◌<◌, ◌+◌, vec_len};
 ghost use Rattle.port_bank.specs.Boxes.{MovesToEnd, TakesPlace};
 
@@ -14,7 +14,7 @@ pub fn retire<B: Drop>(boxes: &mut Vec<B>, i: usize)
     let _ = boxes.push(failed);
 }
 
-/// Puts the box of a place into a lower one, and the box that stood there to the end.
+/// Moves the box at place `from` to the lower place `i`, and the box that was there to the end.
 pub fn put_in_place<B: Drop>(boxes: &mut Vec<B>, from: usize, i: usize)
     requires below { i < from }
     requires within { from < vec_len boxes.old }

@@ -1,8 +1,8 @@
-//! The regions of a configuration, one for each port that serves.
+//! The regions of a configuration, one for each serving port.
 ghost use Rattle.std.specs.Prelude.{◌≡◌, ◌≤◌, ◌*◌, ◌^◌, ◌<◌, take, drop, length};
 ghost use Rattle.port_bank.specs.Regions.{width};
 
-/// How many addresses a region has, but for the last ones.
+/// The number of addresses in a region. The last regions may have fewer.
 pub fn width_of(ports: usize, bits: usize) -> usize
     requires { bits < 2 ^ 32 }
     ensures { result ≡ width ports bits }
@@ -11,7 +11,7 @@ pub fn width_of(ports: usize, bits: usize) -> usize
     bits / ports + (bits % ports).min(1)
 }
 
-/// The region of this number: its first address, and its bits.
+/// Region `i`: its first address, and its bits.
 pub fn region_bits(width: usize, config: &[bool], i: usize) -> (usize, &[bool])
     requires { i * width ≤ length config.now }
     ensures start { result.0 ≡ i * width }

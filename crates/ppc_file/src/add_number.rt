@@ -1,4 +1,4 @@
-//! How numbers are added.
+//! Writing the numbers of a pack file.
 ghost use Rattle.std.specs.Prelude.{◌≡◌, ◌+◌, ◌%◌, ◌<◌};
 ghost use Rattle.std.specs.Int.{w16, w32};
 ghost use Rattle.tl_piece.specs.Added.{IsAdded};
@@ -8,14 +8,14 @@ use crate::version::Version;
 use tl_io::Sink;
 use tl_piece::Writer;
 
-// The lowest seven bits of a number below the top bit, which is set.
+// The lowest seven bits of a number, with the top bit set.
 fn top(number: u32) -> u8
     ensures { result ≡ 128 + number % 128 }
 {
     128 + (number % 128) as u8
 }
 
-// Adds a number by bytes of seven bits, the lowest first.
+// Writes a number as bytes of seven bits, the lowest bits first.
 fn add_sevens<O: Sink>(number: u32, writer: &mut Writer<'_, O>)
     ensures { IsAdded O.seen writer.old (sevens 5 number) writer.new }
 {
@@ -49,7 +49,7 @@ fn add_sevens<O: Sink>(number: u32, writer: &mut Writer<'_, O>)
     writer.add_text(&bytes);
 }
 
-/// Adds a number of a field that has two bytes in version 1.
+/// Writes the number of a field that has two bytes in version 1.
 pub(crate) fn add_short<O: Sink>(version: Version, number: u16, writer: &mut Writer<'_, O>)
     ensures { IsAdded O.seen writer.old (spelled version w16 number) writer.new }
 {
@@ -59,7 +59,7 @@ pub(crate) fn add_short<O: Sink>(version: Version, number: u16, writer: &mut Wri
     }
 }
 
-/// Adds a number of a field that has four bytes in version 1.
+/// Writes the number of a field that has four bytes in version 1.
 pub(crate) fn add_number<O: Sink>(version: Version, number: u32, writer: &mut Writer<'_, O>)
     ensures { IsAdded O.seen writer.old (spelled version w32 number) writer.new }
 {

@@ -1,4 +1,4 @@
-//! How the parts of a pack file are added.
+//! Writing the parts of a pack file.
 ghost use Rattle.std.specs.Prelude.{◌≡◌, ◌+◌, ◌≤◌, ◌<◌, ◌++◌, length};
 ghost use Rattle.std.specs.Int.{w32};
 ghost use Rattle.list_laws.specs.Members.{In};
@@ -17,7 +17,7 @@ use ppc_pack::PackParam;
 use tl_io::Sink;
 use tl_piece::Writer;
 
-// Adds the four letters and the version.
+// Writes the four letters of the magic and the version.
 pub(crate) fn add_head<O: Sink>(version: Version, writer: &mut Writer<'_, O>)
     ensures { IsAdded O.seen writer.old (head_bytes version) writer.new }
 {
@@ -27,14 +27,14 @@ pub(crate) fn add_head<O: Sink>(version: Version, writer: &mut Writer<'_, O>)
     }
 }
 
-// The byte of a value at the start.
+// The byte of an initial value.
 fn init_byte(init: bool) -> u8
     ensures { result ≡ bit_byte init }
 {
     if init { 1 } else { 0 }
 }
 
-// Adds a parameter.
+// Writes a parameter.
 fn add_param<O: Sink>(version: Version, param: &PackParam, writer: &mut Writer<'_, O>)
     requires { length param.now.name ≤ MOST_LENGTH }
     ensures { IsAdded O.seen writer.old (param_bytes version param.now) writer.new }
@@ -45,7 +45,7 @@ fn add_param<O: Sink>(version: Version, param: &PackParam, writer: &mut Writer<'
     writer.add_byte(init_byte(param.init));
 }
 
-// Adds how many parameters there are, and each of them.
+// Writes the number of parameters, and each of them.
 pub(crate) fn add_params<O: Sink>(
     version: Version,
     params: &[PackParam],
@@ -61,7 +61,7 @@ pub(crate) fn add_params<O: Sink>(
     }
 }
 
-// The two numbers that tell the fan-ins of the node with an index.
+// The two numbers that encode the fan-ins of the node with an index.
 fn told(version: Version, node: u32, pair: Pair) -> (u32, u32)
     requires normal { IsNormal node pair }
     requires small { node < 2147483648 }
@@ -73,7 +73,7 @@ fn told(version: Version, node: u32, pair: Pair) -> (u32, u32)
     }
 }
 
-// Adds the fan-ins of the node with an index.
+// Writes the fan-ins of the node with an index.
 fn add_node<O: Sink>(version: Version, node: u32, pair: Pair, writer: &mut Writer<'_, O>)
     requires normal { IsNormal node pair }
     requires small { node < 2147483648 }
@@ -84,7 +84,7 @@ fn add_node<O: Sink>(version: Version, node: u32, pair: Pair, writer: &mut Write
     add_number(version, second, writer);
 }
 
-// Adds how many nodes a graph has, and each of them.
+// Writes the number of nodes of a graph, and each of them.
 pub(crate) fn add_nodes<O: Sink>(version: Version, graph: &Graph, writer: &mut Writer<'_, O>)
     ensures { IsAdded O.seen writer.old (nodes_part version (first_and graph.now) (length graph.now.pairs) graph.now.pairs) writer.new }
 {
@@ -97,7 +97,7 @@ pub(crate) fn add_nodes<O: Sink>(version: Version, graph: &Graph, writer: &mut W
     }
 }
 
-// Adds how many bits there are, and each of them.
+// Writes the number of bits, and each of them.
 pub(crate) fn add_bits<O: Sink>(version: Version, bits: &[Lit], writer: &mut Writer<'_, O>)
     requires { length bits.now ≤ MOST_BITS }
     ensures { IsAdded O.seen writer.old (bits_part version (length bits.now) bits.now) writer.new }

@@ -1,4 +1,4 @@
-//! Packs from their files.
+//! Reading pack files.
 ghost use Rattle.std.specs.Prelude.{◌≡◌, ◌≤◌, length, IfOk, IfErr};
 ghost use Rattle.tl_fault.specs.OrMemory.{OrMemory};
 ghost use Rattle.tl_text.specs.declared.limits.TheConstants.{MOST_PACK_BYTES};
@@ -18,7 +18,7 @@ use crate::version::Version;
 use ppc_pack::Pack;
 use std::alloc::Global;
 
-// The version of a file, and what is left behind it.
+// The version of a file, and the bytes after it.
 fn read_head(file: &[u8]) -> Result<(Version, &[u8]), PackErr>
     requires { length file.now ≤ MOST_PACK_BYTES }
     ensures stands { IfOk result (λ x. StandsAt file.now (versioned x.0) x.1.now) }
@@ -30,15 +30,15 @@ fn read_head(file: &[u8]) -> Result<(Version, &[u8]), PackErr>
     Ok((version, rest))
 }
 
-/// The pack of a file, in either version of it.
+/// Reads the pack from its file, of version 1 or 2.
 ///
-/// It takes time and memory linear in the bytes, on average over the hashes: nothing is reserved by a number that the file
-/// tells, but for what was read.
+/// Time and memory are linear in the bytes, on average over the hashes. The counts in the file reserve no memory: vectors
+/// grow with what has been read.
 ///
 /// # Errors
-/// The file's first refusal, by `specs/PackFile.antt`: K1 to K8, each with the offset of the field that is refused. A field is
-/// refused as truncated before anything else of it is looked at. `Memory` where there is none. Bytes are the file of one pack
-/// at most, or have one refusal at most, and never both.
+/// The first refusal of the file, by `specs/PackFile.antt`: K1 to K8, each with the offset of the refused field. A truncated
+/// field is refused as truncated before anything else about it is checked. `Memory` if memory runs out. Bytes are the file of
+/// at most one pack or have at most one refusal, and never both.
 #[tactic(auto, using(crate::proofs::OneReading::one_reading))]
 pub fn decode(alloc: Global, bytes: &[u8]) -> Result<Pack, PackErr>
     requires { length bytes.now ≤ MOST_PACK_BYTES }

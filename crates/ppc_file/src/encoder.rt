@@ -1,4 +1,4 @@
-//! The files of packs.
+//! Writing pack files.
 ghost use Rattle.tl_io.specs.Sink.{IsPut};
 ghost use Rattle.tl_piece.specs.Added.{IsAdded};
 ghost use Rattle.ppc_file.specs.Bytes.{bytes_of};
@@ -10,13 +10,13 @@ use ppc_pack::Pack;
 use tl_io::{Failed, Sink};
 use tl_piece::{Piece, Writer};
 
-// Adds the file of a pack in a version of it.
+// Writes the file of a pack in the given version.
 fn add_pack<O: Sink>(version: Version, pack: &Pack, writer: &mut Writer<'_, O>)
     ensures added { IsAdded O.seen writer.old (bytes_of version pack.now) writer.new }
     ensures file { IsPackFile (bytes_of version pack.now) pack.now }
 {
     let graph = pack.graph();
-    // The call tells that the graph's pairs are normal, as a file's are.
+    // The contract of this call says that the graph's pairs are normal, as those of a file are.
     let _count = graph.len();
     add_head(version, writer);
     add_params(version, pack.params(), writer);
@@ -24,7 +24,7 @@ fn add_pack<O: Sink>(version: Version, pack: &Pack, writer: &mut Writer<'_, O>)
     add_bits(version, pack.bits(), writer);
 }
 
-// Puts the file of a pack in a version of it.
+// Writes the file of a pack in the given version to a sink.
 fn put_pack<O: Sink>(version: Version, pack: &Pack, out: &mut O) -> Result<(), Failed>
     ensures put { IsPut (O.seen out.old) (bytes_of version pack.now) (O.seen out.new) result }
     ensures file { IsPackFile (bytes_of version pack.now) pack.now }
@@ -35,27 +35,29 @@ fn put_pack<O: Sink>(version: Version, pack: &Pack, out: &mut O) -> Result<(), F
     writer.finish()
 }
 
-/// Puts the file of a pack in version 2, in pieces of 4,096 bytes of which the last may be shorter. It takes no memory, and time linear in the bytes.
+/// Writes the file of a pack in version 2, in pieces of 4,096 bytes (the last may be shorter). Allocates no memory; time is
+/// linear in the bytes.
 ///
 /// # Errors
-/// `Failed` only where the sink's count of faults rose: then a prefix of the file stands.
+/// `Failed` only if the sink's count of faults rose. A prefix of the file is then written.
 pub fn encode<O: Sink>(pack: &Pack, out: &mut O) -> Result<(), Failed>
     ensures put { IsPut (O.seen out.old) (bytes_of Version.Two pack.now) (O.seen out.new) result }
 
-    // These bytes are the file of this pack, whatever the answer.
+    // These bytes are the file of this pack, whatever the call returns.
     ensures file { IsPackFile (bytes_of Version.Two pack.now) pack.now }
 {
     put_pack(Version::Two, pack, out)
 }
 
-/// Puts the file of a pack in version 1, in pieces of 4,096 bytes of which the last may be shorter. It takes no memory, and time linear in the bytes.
+/// Writes the file of a pack in version 1, in pieces of 4,096 bytes (the last may be shorter). Allocates no memory; time is
+/// linear in the bytes.
 ///
 /// # Errors
-/// `Failed` only where the sink's count of faults rose: then a prefix of the file stands.
+/// `Failed` only if the sink's count of faults rose. A prefix of the file is then written.
 pub fn encode_one<O: Sink>(pack: &Pack, out: &mut O) -> Result<(), Failed>
     ensures put { IsPut (O.seen out.old) (bytes_of Version.One pack.now) (O.seen out.new) result }
 
-    // These bytes are the file of this pack, whatever the answer.
+    // These bytes are the file of this pack, whatever the call returns.
     ensures file { IsPackFile (bytes_of Version.One pack.now) pack.now }
 {
     put_pack(Version::One, pack, out)

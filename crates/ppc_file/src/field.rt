@@ -1,4 +1,4 @@
-//! The fields of a pack file, one by one.
+//! Reading the fields of a pack file, one by one. Each call returns a field and the bytes after it.
 ghost use Rattle.std.specs.Prelude.{◌≡◌, ◌<◌};
 ghost use Rattle.std.specs.List.{list_any};
 ghost use Rattle.tl_text.specs.Lines.{ends_in};
@@ -12,7 +12,7 @@ use aig_core::{Lit, Pair};
 use ppc_pack::{MOST_NAME_BYTES, MOST_PACK_BITS, MOST_PACK_NODES, MOST_PARAMETERS};
 use tl_text::NameIndex;
 
-// So many bytes.
+// The next `count` bytes, and those after them.
 fn bytes_at(total: u32, count: usize, rest: &[u8]) -> Result<(&[u8], &[u8]), PackErr>
     ensures { Gives (λ x. (x.0.now, x.1.now)) result (bytes_there total count rest.now) }
 {
@@ -22,7 +22,7 @@ fn bytes_at(total: u32, count: usize, rest: &[u8]) -> Result<(&[u8], &[u8]), Pac
     Ok(rest.split_at(count))
 }
 
-// The four letters that each file begins with; what is left behind them.
+// The four letters of the magic.
 pub(crate) fn magic(total: u32, rest: &[u8]) -> Result<(&[u8], &[u8]), PackErr>
     ensures { Gives (λ x. (x.0.now, x.1.now)) result (magic_at total rest.now) }
 {
@@ -33,7 +33,7 @@ pub(crate) fn magic(total: u32, rest: &[u8]) -> Result<(&[u8], &[u8]), PackErr>
     Ok((letters, behind))
 }
 
-// The version, and what is left behind it.
+// The version.
 pub(crate) fn version(total: u32, rest: &[u8]) -> Result<(Version, &[u8]), PackErr>
     ensures { Gives (λ x. (x.0, x.1.now)) result (version_at total rest.now) }
 {
@@ -45,7 +45,7 @@ pub(crate) fn version(total: u32, rest: &[u8]) -> Result<(Version, &[u8]), PackE
     }
 }
 
-// How many parameters there are, and what is left behind the field.
+// The number of parameters.
 pub(crate) fn param_count(
     version: Version,
     total: u32,
@@ -60,7 +60,7 @@ pub(crate) fn param_count(
     Ok((count, behind))
 }
 
-// How many nodes there are, and what is left behind the field.
+// The number of nodes.
 pub(crate) fn node_count(version: Version, total: u32, rest: &[u8]) -> Result<(u32, &[u8]), PackErr>
     ensures { Gives (λ x. (x.0, x.1.now)) result (node_count_at total version rest.now) }
 {
@@ -71,7 +71,7 @@ pub(crate) fn node_count(version: Version, total: u32, rest: &[u8]) -> Result<(u
     Ok((count, behind))
 }
 
-// How many bits there are, and what is left behind the field.
+// The number of bits.
 pub(crate) fn bit_count(version: Version, total: u32, rest: &[u8]) -> Result<(u32, &[u8]), PackErr>
     ensures { Gives (λ x. (x.0, x.1.now)) result (bit_count_at total version rest.now) }
 {
@@ -82,7 +82,7 @@ pub(crate) fn bit_count(version: Version, total: u32, rest: &[u8]) -> Result<(u3
     Ok((count, behind))
 }
 
-// How many bytes the name of a parameter has, and what is left behind the field.
+// The length of the name of a parameter, in bytes.
 fn name_length(version: Version, total: u32, rest: &[u8]) -> Result<(u32, &[u8]), PackErr>
     ensures { Gives (λ x. (x.0, x.1.now)) result (name_length_at total version rest.now) }
 {
@@ -93,7 +93,7 @@ fn name_length(version: Version, total: u32, rest: &[u8]) -> Result<(u32, &[u8])
     Ok((length, behind))
 }
 
-// A byte that no name has.
+// Whether no name may contain this byte.
 fn is_bad_byte(byte: u8) -> bool
     ensures { result ≡ is_bad_byte_there byte }
 {
@@ -112,7 +112,7 @@ fn ends_in_slash(name: &[u8]) -> bool
     !name.is_empty() && name[name.len() - 1] == b'\\'
 }
 
-// The name of a parameter, and what is left behind it.
+// The name of a parameter.
 fn name<'a>(
     total: u32,
     earlier: &NameIndex,
@@ -128,7 +128,7 @@ fn name<'a>(
     Ok((name, behind))
 }
 
-// The value of a parameter at the start, and what is left behind it.
+// The initial value of a parameter.
 fn value(total: u32, rest: &[u8]) -> Result<(bool, &[u8]), PackErr>
     ensures { Gives (λ x. (x.0, x.1.now)) result (value_at total rest.now) }
 {
@@ -140,14 +140,14 @@ fn value(total: u32, rest: &[u8]) -> Result<(bool, &[u8]), PackErr>
     }
 }
 
-// A parameter as it stands in a file.
+// A parameter as it is in the file.
 #[derive(Clone, Copy)]
 pub(crate) struct NamedInit<'a> {
     pub name: &'a [u8],
     pub init: bool,
 }
 
-// A parameter behind others with these names, and what is left behind it.
+// A parameter, given the names of the earlier ones.
 pub(crate) fn param<'a>(
     version: Version,
     total: u32,
@@ -162,7 +162,7 @@ pub(crate) fn param<'a>(
     Ok((NamedInit { name, init }, rest))
 }
 
-// The fan-ins of a node of version 1, and what is left behind them.
+// The fan-ins of a node in version 1.
 fn fan_ins_of_bytes(total: u32, rest: &[u8]) -> Result<(Pair, &[u8]), PackErr>
     ensures { Gives (λ x. (x.0, x.1.now)) result (fan_ins_at total Version.One 0 rest.now) }
 {
@@ -180,7 +180,7 @@ fn fan_ins_of_bytes(total: u32, rest: &[u8]) -> Result<(Pair, &[u8]), PackErr>
     ))
 }
 
-// The fan-ins of the node with an index in version 2, and what is left behind them.
+// The fan-ins of the node with an index in version 2.
 fn fan_ins_of_differences(total: u32, node: u32, rest: &[u8]) -> Result<(Pair, &[u8]), PackErr>
     requires { node < 2147483648 }
     ensures { Gives (λ x. (x.0, x.1.now)) result (fan_ins_at total Version.Two node rest.now) }
@@ -198,7 +198,7 @@ fn fan_ins_of_differences(total: u32, node: u32, rest: &[u8]) -> Result<(Pair, &
     ))
 }
 
-// The fan-ins of the node with an index, and what is left behind them.
+// The fan-ins of the node with an index.
 pub(crate) fn fan_ins(
     version: Version,
     total: u32,
@@ -214,7 +214,8 @@ pub(crate) fn fan_ins(
     }
 }
 
-// Are these no fan-ins of the node with this index: a constant, not in order, of one node, or not below the node?
+// Whether these can't be the fan-ins of the node with this index: one is a constant, they aren't in order, both are of one
+// node, or one isn't below the node.
 pub(crate) fn is_bad_pair(node: u32, pair: Pair) -> bool
     ensures { result ≡ is_bad_pair_there node pair }
 {
@@ -222,7 +223,7 @@ pub(crate) fn is_bad_pair(node: u32, pair: Pair) -> bool
     x.0 < 2 || y.0 <= x.0 || x.0 / 2 == y.0 / 2 || node <= y.0 / 2
 }
 
-// The literal of a bit, and what is left behind it.
+// The literal of a bit.
 pub(crate) fn bit(
     version: Version,
     total: u32,

@@ -1,4 +1,4 @@
-//! How numbers are read.
+//! Reading the numbers of a pack file.
 ghost use Rattle.std.specs.Prelude.{◌≡◌, ◌<◌, ◌≤◌, ◌^◌, IfOk};
 ghost use Rattle.std.specs.Int.{w16, w32};
 ghost use Rattle.ppc_file.specs.Numbers.{offset as offset_of, sevens_at as sevens_there, number_at};
@@ -7,14 +7,14 @@ ghost use Rattle.ppc_file.specs.Reading.{Gives};
 use crate::pack_err::PackErr;
 use crate::version::Version;
 
-// The place in a file of so many bytes, by what is left of it.
+// The offset in a file of `total` bytes at which `rest` begins.
 pub(crate) fn offset(total: u32, rest: &[u8]) -> u32
     ensures { result ≡ offset_of total rest.now }
 {
     (total as usize).saturating_sub(rest.len()) as u32
 }
 
-// The number at a place that some bytes begin with, in at most so many bytes of seven bits, and what is left behind it.
+// The number at an offset, in at most `left` bytes of seven bits, and the bytes after it.
 fn sevens_at(at: u32, left: u32, rest: &[u8]) -> Result<(u64, &[u8]), PackErr>
     requires { left ≤ 5 }
     ensures number { Gives (λ x. (x.0, x.1.now)) result (sevens_there at left rest.now) }
@@ -38,7 +38,7 @@ fn sevens_at(at: u32, left: u32, rest: &[u8]) -> Result<(u64, &[u8]), PackErr>
     }
 }
 
-// The number of version 2 that the bytes begin with, and what is left behind it.
+// The number of version 2 with which the bytes begin, and the bytes after it.
 fn number_of_sevens(total: u32, rest: &[u8]) -> Result<(u32, &[u8]), PackErr>
     ensures { Gives (λ x. (x.0, x.1.now)) result (number_at total Version.Two w32 rest.now) }
 {
@@ -50,7 +50,7 @@ fn number_of_sevens(total: u32, rest: &[u8]) -> Result<(u32, &[u8]), PackErr>
     Ok((number as u32, behind))
 }
 
-// The number of a field that has two bytes in version 1, and what is left behind it.
+// The number of a field that has two bytes in version 1, and the bytes after it.
 pub(crate) fn short_number(
     version: Version,
     total: u32,
@@ -70,7 +70,7 @@ pub(crate) fn short_number(
     }
 }
 
-// The number of a field that has four bytes in version 1, and what is left behind it.
+// The number of a field that has four bytes in version 1, and the bytes after it.
 pub(crate) fn number(version: Version, total: u32, rest: &[u8]) -> Result<(u32, &[u8]), PackErr>
     ensures { Gives (λ x. (x.0, x.1.now)) result (number_at total version w32 rest.now) }
 {

@@ -1,8 +1,8 @@
-//! Why bytes are no pack file.
+//! Why bytes are refused as a pack file.
 use std::alloc::{AllocError, AllocFailed};
 use tl_fault::{Details, Refusal};
 
-/// Why bytes are no pack file, each with the offset of the field that is refused.
+/// Why bytes are refused as a pack file. The number is the offset of the refused field.
 #[derive(Clone, Copy, Debug, PartialEq, Eq, thiserror::Error)]
 pub enum PackErr {
     /// K1: the file doesn't begin with the magic.
@@ -14,23 +14,24 @@ pub enum PackErr {
     /// K3: the file ends before the field or inside it.
     #[error("truncated at byte {0}")]
     Truncated(u32),
-    /// K4: the name of a parameter or its length or its value at the start is none, or the name stood earlier.
+    /// K4: the name, its length or the initial value of a parameter is invalid, or an earlier parameter has this name.
     #[error("bad name at byte {0}")]
     BadName(u32),
-    /// K5: there are more than 2^25 nodes, a node's fan-ins are none of two earlier nodes in order, or the pair stood earlier.
+    /// K5: there are more than 2^25 nodes, the fan-ins of a node aren't two earlier nodes in order, or an earlier node has
+    /// this pair.
     #[error("bad node at byte {0}")]
     BadNode(u32),
-    /// K6: there are more than 2^25 bits, or a bit is no literal of the graph.
+    /// K6: there are more than 2^25 bits, or a bit isn't a literal of the graph.
     #[error("bad bit at byte {0}")]
     BadBit(u32),
     /// K7: bytes follow the last bit.
     #[error("trailing bytes from byte {0}")]
     Trailing(u32),
-    /// K8: a number of version 2 is of more than five bytes or above 2^32 - 1, or its last byte isn't needed; or there are more
+    /// K8: a number of version 2 has more than five bytes, is above 2^32 - 1, or has a needless last byte; or there are more
     /// than 65,535 parameters.
     #[error("bad number at byte {0}")]
     BadNumber(u32),
-    /// There is no memory.
+    /// Memory ran out.
     #[error("out of memory")]
     Memory,
 }
@@ -61,7 +62,7 @@ impl PackErr {
     ghost use Rattle.std.specs.Prelude.{◌≡◌};
     ghost use Rattle.ppc_file.specs.Refusals.{refusal_of};
 
-    /// What the refusal tells; none for want of memory.
+    /// The refusal that the fault line reports. `None` if memory ran out.
     pub fn refusal(self) -> Option<Refusal>
         ensures { result ≡ refusal_of self }
     {

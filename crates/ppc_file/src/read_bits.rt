@@ -14,7 +14,7 @@ use aig_core::{Graph, Lit};
 use ppc_pack::PackParam;
 use std::alloc::Global;
 
-// As many bits as the file says that it has, and what is left behind them.
+// As many bits as the file states, and the bytes after them.
 fn read_each<'a>(
     alloc: Global,
     version: Version,
@@ -42,7 +42,7 @@ fn read_each<'a>(
     Ok((bits, rest))
 }
 
-// The bits of a file behind its nodes, and what is left behind them. It takes time and memory linear in their bytes.
+// The bits of a file, which follow its nodes, and the bytes after them. Time and memory are linear in their bytes.
 pub(crate) fn read_bits<'a>(
     alloc: Global,
     version: Version,

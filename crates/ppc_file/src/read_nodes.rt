@@ -32,8 +32,8 @@ fn graph_over(alloc: Global, params: &[PackParam]) -> Result<Graph, PackErr>
     Ok(graph)
 }
 
-// Adds the node of these fan-ins, unless they are none of the next node, or the pair stood earlier: then the field at this
-// place is refused. The graph has room for one more node.
+// Adds the node with these fan-ins. The field at this offset is refused if they can't be the fan-ins of the next node, or if
+// an earlier node has this pair. The graph has room for one more node.
 fn add_node(graph: &mut Graph, pair: Pair, at: u32) -> Result<(), PackErr>
     requires few { node_count graph.old < 2 ^ 30 }
     requires room { length graph.old.pairs < graph.old.max }
@@ -56,7 +56,7 @@ fn add_node(graph: &mut Graph, pair: Pair, at: u32) -> Result<(), PackErr>
     Ok(())
 }
 
-// The next node of a graph, which is added; its fan-ins, and what is left behind them.
+// Reads the next node and adds it to the graph. Returns its fan-ins, and the bytes after them.
 fn read_node<'a>(
     version: Version,
     total: u32,
@@ -74,7 +74,7 @@ fn read_node<'a>(
     Ok((pair, behind))
 }
 
-// As many nodes as the file says that it has, and what is left behind them.
+// As many nodes as the file states, and the bytes after them.
 fn read_each<'a>(
     version: Version,
     params: &[PackParam],
@@ -100,7 +100,7 @@ fn read_each<'a>(
     Ok((graph, rest))
 }
 
-// The nodes of a file behind its parameters as a graph over these, and what is left behind them. It takes time and memory
+// The nodes of a file, which follow its parameters, as a graph over these, and the bytes after them. Time and memory are
 // linear in their bytes, on average over the hashes.
 pub(crate) fn read_nodes<'a>(
     alloc: Global,

@@ -15,7 +15,7 @@ use ppc_pack::PackParam;
 use std::alloc::{AllocError, Global};
 use tl_text::{Name, NameIndex};
 
-// One more parameter, whose name is new.
+// Appends a parameter whose name is new.
 fn push_param(
     alloc: Global,
     names: &mut NameIndex,
@@ -33,7 +33,7 @@ fn push_param(
     Ok(())
 }
 
-// As many parameters as the file says that it has, and what is left behind them.
+// As many parameters as the file states, and the bytes after them.
 fn read_each<'a>(
     alloc: Global,
     version: Version,
@@ -58,8 +58,8 @@ fn read_each<'a>(
     Ok((params, rest))
 }
 
-// The parameters of a file behind its version, and what is left behind them. It takes time and memory linear in their bytes,
-// on average over the hashes.
+// The parameters of a file, which follow its version, and the bytes after them. Time and memory are linear in their bytes, on
+// average over the hashes.
 pub(crate) fn read_params<'a>(
     alloc: Global,
     version: Version,

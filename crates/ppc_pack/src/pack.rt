@@ -11,19 +11,19 @@ use std::alloc::{AllocError, Global};
 use std::marker::Model;
 use tl_text::Name;
 
-/// The most AND nodes and the most bits of a pack, 2^25.
+/// The maximal number of AND nodes of a pack, and of its bits: 2^25.
 pub const MOST_PACK_NODES: u32 = 33_554_432;
 
 pub const MOST_PACK_BITS: u32 = 33_554_432;
 
-/// A parameter of a pack: its name and its value at the start.
+/// A parameter of a pack: its name and its initial value.
 #[derive(Debug, Drop)]
 pub struct PackParam {
     pub name: Name,
     pub init: bool,
 }
 
-/// The bits of a configuration as functions of the parameters: literals of one graph, by their addresses.
+/// The bits of a configuration as functions of the parameters: literals of one graph, in the order of their addresses.
 #[derive(Drop)]
 pub struct Pack {
     params: Vec<PackParam>,
@@ -41,7 +41,7 @@ impl Model for Pack {
     ghost invariant = { λ p. IsPack p.params.items p.graph p.bits.items };
 }
 
-// The values of some literals under the values of the nodes.
+// The values of literals, given the values of the nodes.
 fn values_of_lits(
     alloc: Global,
     node_values: &[bool],
@@ -58,7 +58,7 @@ fn values_of_lits(
 }
 
 impl Pack {
-    /// The pack of these parameters, this graph over them, and these bits.
+    /// The pack with these parameters, this graph over them, and these bits.
     pub fn make(params: Vec<PackParam>, graph: Graph, bits: Vec<Lit>) -> Pack
         requires { IsPack params.items graph bits.items }
         ensures { result ≡ record { params = params.items; graph = graph; bits = bits.items } }
@@ -70,7 +70,7 @@ impl Pack {
         }
     }
 
-    /// The parameters in their order.
+    /// The parameters, in their order.
     pub fn params(&self) -> &[PackParam]
         ensures value { result.now ≡ self.now.params }
         ensures pack { IsPack self.now.params self.now.graph self.now.bits }
@@ -78,7 +78,7 @@ impl Pack {
         &self.params
     }
 
-    /// The graph, whose sources are the parameters.
+    /// The graph. Its sources are the parameters.
     pub fn graph(&self) -> &Graph
         ensures value { result.now ≡ self.now.graph }
         ensures pack { IsPack self.now.params self.now.graph self.now.bits }
@@ -86,7 +86,7 @@ impl Pack {
         &self.graph
     }
 
-    /// The literal of each bit, by its address.
+    /// The literal of each bit, in the order of their addresses.
     pub fn bits(&self) -> &[Lit]
         ensures value { result.now ≡ self.now.bits }
         ensures pack { IsPack self.now.params self.now.graph self.now.bits }
@@ -94,15 +94,15 @@ impl Pack {
         &self.bits
     }
 
-    /// The configuration under the parameters' values: the value of each bit, by its address. One evaluation of the graph, in
-    /// time linear in the nodes and the bits.
+    /// The configuration for given values of the parameters: the value of each bit, in the order of their addresses.
+    /// Evaluates the graph once. Time is linear in the nodes and the bits.
     ///
-    /// `Err` comes only for want of memory.
+    /// `Err` only if memory runs out.
     pub fn conf(&self, alloc: Global, values: &[bool]) -> Result<Vec<bool>, AllocError>
         requires { length values.now ≡ length self.now.params }
         ensures conf { IfOk result (λ bits. IsConf self.now values.now bits.items) }
 
-        // Under any values of the parameters there is one configuration, and no other.
+        // For any values of the parameters exactly one configuration exists.
         ensures one { (given : List Bool) → length given ≡ length self.now.params → HasOneConf self.now given }
     {
         let node_values = self.graph.eval(alloc, values)?;

@@ -29,7 +29,7 @@ use std::marker::Model;
 use std::sync::ledger::Ledger;
 use tl_io::{ConfigPort, Failed, Sink, Write};
 
-/// A pack under changing values of its parameters, with a buffer for lines.
+/// A pack whose parameters change, with a buffer for lines.
 #[derive(Drop)]
 pub struct Host {
     specialiser: Specialiser,
@@ -47,7 +47,7 @@ impl Model for Host {
     ghost invariant = { λ h. KeepsHost h.specialiser };
 }
 
-// The write of a configuration's bit.
+// The write of the configuration bit at an address.
 fn write_at(config: &[bool], address: u32) -> Write
     requires { address < length config.now }
     ensures { result ≡ write_of config.now address }
@@ -59,15 +59,15 @@ fn write_at(config: &[bool], address: u32) -> Write
 }
 
 impl Host {
-    /// The pack at the listed values, with their configuration. It takes all the memory that events need: `Err` comes only
-    /// for want of it.
+    /// The pack at its initial values, with their configuration. Allocates all the memory that events need. `Err` only if it
+    /// runs out.
     pub fn make(alloc: Global, pack: Pack) -> Result<Host, AllocError>
         ensures pack { IfOk result (λ host. host.pack ≡ pack) }
         ensures params { IfOk result (λ host. host.state.params ≡ inits_of pack.params) }
         ensures config { IfOk result (λ host. IsConf pack (inits_of pack.params) host.state.config) }
         ensures writes { IfOk result (λ host. host.writes ≡ []) }
 
-        // Under any values of the parameters there is one configuration, and no other.
+        // For any values of the parameters exactly one configuration exists.
         ensures one { (given : List Bool) → length given ≡ length pack.params → HasOneConf pack given }
     {
         let specialiser = Specialiser::make(alloc, pack)?;
@@ -75,7 +75,7 @@ impl Host {
         Ok(Host { specialiser, buf })
     }
 
-    // Plays an event; a cycle changes nothing here.
+    // Plays an event. A cycle changes nothing here.
     pub(crate) fn play<L: Ledger>(&mut self, event: &Event, steps: &mut Steps<L>)
         requires fits { FitsPack self.old.pack (event_value event.now) }
         ensures played { IsHostPlayed (event_value event.now) self.old self.new }
@@ -111,7 +111,7 @@ impl Host {
         }
     }
 
-    // Sends the writes of the last event that made some.
+    // Sends the writes of the last event that had some.
     fn send_writes<P: ConfigPort>(&self, bank: &mut PortBank<P>) -> Result<(), PortFault>
         ensures plays { Plays self.now.state.config self.now.writes (bank_seen P.port_seen bank.old) (bank_seen P.port_seen bank.new) result }
         ensures holds { OnOk result ((before : List Bool) → Holds before (bank_seen P.port_seen bank.old) → self.now.state.config ≡ written before self.now.writes → Holds self.now.state.config (bank_seen P.port_seen bank.new)) }
@@ -122,7 +122,7 @@ impl Host {
         bank.send(self.specialiser.writes(), self.specialiser.image())
     }
 
-    // Puts the line of an event that was played; a cycle has none here.
+    // Writes the line of an event that was played. A cycle has none here.
     pub(crate) fn put<O: Sink>(&mut self, event: &Event, out: &mut O) -> Result<(), Failed>
         requires { FitsPack self.old.pack (event_value event.now) }
         ensures same { self.new ≡ self.old }
@@ -141,7 +141,7 @@ impl Host {
         }
     }
 
-    // Puts the header line of a machine with this host.
+    // Writes the header line of a machine with this host.
     pub(crate) fn put_header<O: Sink>(
         &mut self,
         luts: u32,
@@ -155,7 +155,7 @@ impl Host {
         put_header(luts, bits, depth, &mut self.buf, out)
     }
 
-    // Puts the line of the last cycle of a simulator.
+    // Writes the line of a simulator's last cycle.
     pub(crate) fn put_cycle<O: Sink>(&mut self, sim: &Sim, out: &mut O) -> Result<(), Failed>
         ensures same { self.new ≡ self.old }
         ensures put { IsPut (O.seen out.old) (cycle_line sim.now.outputs sim.now.states) (O.seen out.new) result }
@@ -182,19 +182,20 @@ impl Host {
         self.specialiser.image()
     }
 
-    // The writes of the last event that made some.
+    // The writes of the last event that had some.
     pub(crate) fn writes(&self) -> &[Write]
         ensures { result.now ≡ self.now.writes }
     {
         self.specialiser.writes()
     }
 
-    /// Plays an event, sends its writes, and puts its line. The state is the one behind the event whatever is answered.
+    /// Plays an event, sends its writes, and writes its line. The state is the one after the event, whatever the call
+    /// returns.
     ///
     /// # Errors
-    /// [`StepErr::PortFault`] where a region lost its port while no spare was left: then no byte of the line was put.
-    /// [`StepErr::WriteFault`] only where the sink's count of faults rose: then the whole send was made, and a prefix of the
-    /// line was put.
+    /// [`StepErr::PortFault`] if a region lost its port while no spare was left. No byte of the line was then written.
+    /// [`StepErr::WriteFault`] only if the sink's count of faults rose. The whole send was then made, and a prefix of the
+    /// line written.
     pub fn step<O: Sink, P: ConfigPort, L: Ledger>(
         &mut self,
         event: &Event,
@@ -210,12 +211,12 @@ impl Host {
         ensures sent { IsSent (event_value event.now) self.new (bank_seen P.port_seen bank.old) (bank_seen P.port_seen bank.new) result }
         ensures put { PutsLine (host_line (event_value event.now) self.new) (O.seen out.old) (O.seen out.new) result }
 
-        // Spares took the places of ports that failed, so each region still has its port, or one has none.
+        // Spares replaced the ports that failed, so each region still has its port; or one region has none.
         ensures left { LeavesPorts (bank_seen P.port_seen bank.old) (bank_seen P.port_seen bank.new) result }
         ensures places { HasPlaces (bank_seen P.port_seen bank.old) (bank_seen P.port_seen bank.new) result }
         ensures holds { StillHolds self.old self.new (bank_seen P.port_seen bank.old) (bank_seen P.port_seen bank.new) result }
 
-        // Where no bit was upset, a change leaves none upset, and a scrub leaves none in any case.
+        // If no bit was upset, a change leaves none upset. A scrub always leaves none upset.
         ensures steady { IsSteady (event_value event.now) self.old self.new }
     {
         self.play(event, steps);

@@ -30,7 +30,7 @@ use tl_io::{ConfigPort, Failed, Sink, Write};
 pub struct Machine {
     host: Host,
     sim: Sim,
-    // The numbers of the header: how many tables there are, and how deep they stand.
+    // The numbers of the header: the number of LUTs, and their depth.
     luts: u32,
     depth: u32,
 }
@@ -47,8 +47,8 @@ impl Model for Machine {
 }
 
 impl Machine {
-    /// A circuit of tables with its latches at `inits`, and the pack of its bits at the listed values, with their
-    /// configuration. It takes all the memory that events need: `Err` comes only for want of it.
+    /// A circuit of LUTs whose latches are at `inits`, and the pack of its bits at the initial values, with their
+    /// configuration. Allocates all the memory that events need. `Err` only if it runs out.
     pub fn make(
         alloc: Global,
         template: Template,
@@ -66,7 +66,7 @@ impl Machine {
         ensures writes { IfOk result (λ machine. machine.host.writes ≡ []) }
         ensures sim { IfOk result (λ machine. machine.sim ≡ record { template = template; shape = shape; outputs = replicate (length template.outputs) false; states = inits.now }) }
 
-        // Under any values of the parameters there is one configuration, and no other.
+        // For any values of the parameters exactly one configuration exists.
         ensures one { (given : List Bool) → length given ≡ length pack.params → HasOneConf pack given }
     {
         let luts = shape.table_count(&template);
@@ -81,10 +81,10 @@ impl Machine {
         })
     }
 
-    /// Puts the header line: how many tables there are, how many bits they have, and how deep they stand.
+    /// Writes the header line: the number of LUTs, the number of their bits, and their depth.
     ///
     /// # Errors
-    /// [`StepErr::WriteFault`] only where the sink's count of faults rose: then a prefix of the line stands.
+    /// [`StepErr::WriteFault`] only if the sink's count of faults rose. A prefix of the line is then written.
     pub fn header<O: Sink>(&mut self, out: &mut O) -> Result<(), StepErr>
         ensures same { self.new ≡ self.old }
         ensures put { IsPut (O.seen out.old) (header_line (length self.old.sim.template.luts) self.old.sim.template.bits self.old.sim.template.depth) (O.seen out.new) result }
@@ -97,7 +97,7 @@ impl Machine {
     /// Writes the whole configuration to the bank's ports.
     ///
     /// # Errors
-    /// [`StepErr::PortFault`] where a region lost its port while no spare was left.
+    /// [`StepErr::PortFault`] if a region lost its port while no spare was left.
     pub fn load<P: ConfigPort>(&mut self, bank: &mut PortBank<P>) -> Result<(), StepErr>
         ensures same { self.new ≡ self.old }
         ensures loaded { IsLoaded self.old.host.state.config (bank_seen P.port_seen bank.old) (bank_seen P.port_seen bank.new) result }
@@ -109,12 +109,13 @@ impl Machine {
         Ok(())
     }
 
-    /// Plays an event, sends its writes, and puts its line. The state is the one behind the event whatever is answered.
+    /// Plays an event, sends its writes, and writes its line. The state is the one after the event, whatever the call
+    /// returns.
     ///
     /// # Errors
-    /// [`StepErr::PortFault`] where a region lost its port while no spare was left: then no byte of the line was put.
-    /// [`StepErr::WriteFault`] only where the sink's count of faults rose: then the whole send was made, and a prefix of the
-    /// line was put.
+    /// [`StepErr::PortFault`] if a region lost its port while no spare was left. No byte of the line was then written.
+    /// [`StepErr::WriteFault`] only if the sink's count of faults rose. The whole send was then made, and a prefix of the
+    /// line written.
     pub fn step<O: Sink, P: ConfigPort, L: Ledger>(
         &mut self,
         event: &Event,
@@ -130,12 +131,12 @@ impl Machine {
         ensures sent { IsSent (event_value event.now) self.new.host (bank_seen P.port_seen bank.old) (bank_seen P.port_seen bank.new) result }
         ensures put { PutsLine (event_line (event_value event.now) self.new) (O.seen out.old) (O.seen out.new) result }
 
-        // Spares took the places of ports that failed, so each region still has its port, or one has none.
+        // Spares replaced the ports that failed, so each region still has its port; or one region has none.
         ensures left { LeavesPorts (bank_seen P.port_seen bank.old) (bank_seen P.port_seen bank.new) result }
         ensures places { HasPlaces (bank_seen P.port_seen bank.old) (bank_seen P.port_seen bank.new) result }
         ensures holds { StillHolds self.old.host self.new.host (bank_seen P.port_seen bank.old) (bank_seen P.port_seen bank.new) result }
 
-        // Where no bit was upset, a change leaves none upset, and a scrub leaves none in any case.
+        // If no bit was upset, a change leaves none upset. A scrub always leaves none upset.
         ensures steady { IsSteady (event_value event.now) self.old.host self.new.host }
     {
         self.play(event, steps);
@@ -144,7 +145,7 @@ impl Machine {
         Ok(())
     }
 
-    /// Plays an event: neither sends its writes nor puts its line. It can't be refused.
+    /// Plays an event. Doesn't send its writes or write its line. It can't fail.
     pub fn play<L: Ledger>(&mut self, event: &Event, steps: &mut Steps<L>)
         requires pack { FitsPack self.old.host.pack (event_value event.now) }
         requires shape { FitsShape self.old.sim.shape (event_value event.now) }
@@ -171,7 +172,7 @@ impl Machine {
         self.sim.outputs()
     }
 
-    // Ticks the clock at a cycle, under the host's configuration.
+    // Ticks the clock if the event is a cycle, under the host's configuration.
     fn tick(&mut self, event: &Event)
         requires { FitsShape self.old.sim.shape (event_value event.now) }
         ensures host { self.new.host ≡ self.old.host }
@@ -186,7 +187,7 @@ impl Machine {
         }
     }
 
-    // Puts the line of an event that was played.
+    // Writes the line of an event that was played.
     fn put<O: Sink>(&mut self, event: &Event, out: &mut O) -> Result<(), Failed>
         requires { FitsPack self.old.host.pack (event_value event.now) }
         ensures same { self.new ≡ self.old }

@@ -2,10 +2,10 @@
 use port_bank::PortFault as BankFault;
 use tl_io::Failed;
 
-/// A fault of the outside in a step.
+/// An external fault during a step.
 #[derive(Clone, Copy, Debug, PartialEq, Eq, thiserror::Error)]
 pub enum StepErr {
-    /// The output took only a prefix of a line.
+    /// The output accepted only a prefix of a line.
     #[error("write fault")]
     WriteFault,
     /// A region of the configuration lost its port while no spare was left.

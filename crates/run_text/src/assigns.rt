@@ -1,4 +1,4 @@
-//! The parameters that a line of a script sets, by their numbers.
+//! The parameters that a line of a script sets, by their ordinals.
 ghost use Rattle.std.specs.Prelude.{◌≡◌, ◌≤◌, ◌++◌, [], ◌∷◌, List, length, None, Some, MatchResult};
 ghost use Rattle.tl_text.specs.declared.limits.TheConstants.{MOST_PARAMETERS};
 ghost use Rattle.tl_fault.specs.OrMemory.{OrMemory};
@@ -14,7 +14,7 @@ use std::alloc::Global;
 use tl_io::Assign;
 use tl_text::{Name, NameIndex};
 
-// The parameter of a setting, where the settings before it in the line have these names.
+// The parameter of a setting, given the names of the earlier settings in the line.
 fn read_assign(
     alloc: Global,
     number: u32,
@@ -41,10 +41,10 @@ fn read_assign(
     })
 }
 
-/// The parameters of the settings of a line, by their numbers. It takes time linear in the names, on average over the hashes.
+/// The parameters of the settings of a line, by their ordinals. Time is linear in the names, on average over the hashes.
 ///
 /// # Errors
-/// The first of S3 and S4, setting by setting; `Memory` where there is none.
+/// The first of S3 and S4, setting by setting; `Memory` if memory runs out.
 pub(crate) fn read_assigns(
     alloc: Global,
     number: u32,

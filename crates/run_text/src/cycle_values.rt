@@ -1,4 +1,4 @@
-//! The values of a cycle as a word of a script.
+//! The word of a script that has the values of a cycle.
 ghost use Rattle.std.specs.Prelude.{◌≡◌, None, Some, MatchResult};
 ghost use Rattle.tl_fault.specs.OrMemory.{OrMemory};
 ghost use Rattle.run_text.specs.Each.{each_of};
@@ -21,7 +21,7 @@ fn digit_value(digit: u8) -> Option<bool>
     None
 }
 
-// The values that a string of digits is.
+// The values of a string of digits.
 fn read_digits(alloc: Global, number: u32, word: &[u8]) -> Result<Vec<bool>, ScriptErr>
     ensures { MatchResult result
         (λ values. each_of digit_bit word.now ≡ Some values.items)
@@ -37,10 +37,10 @@ fn read_digits(alloc: Global, number: u32, word: &[u8]) -> Result<Vec<bool>, Scr
     Ok(values)
 }
 
-/// The values that a word is: a string of `0` and `1`, or `-` for none. It takes time linear in the word.
+/// The values of a word: a string of `0` and `1`, or `-` for none. Time is linear in the word.
 ///
 /// # Errors
-/// S1 where it is neither; `Memory` where there is none.
+/// S1 if it is neither; `Memory` if memory runs out.
 pub(crate) fn read_values(alloc: Global, number: u32, word: &[u8]) -> Result<Vec<bool>, ScriptErr>
     ensures { MatchResult result
         (λ values. bits_of word.now ≡ Some values.items)

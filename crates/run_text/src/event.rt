@@ -1,44 +1,44 @@
-//! Events, and what a script may name.
+//! Events, and the names that a script may use.
 use std::marker::Model;
 use tl_io::Assign;
 use tl_text::Name;
 
-/// The most events of a script.
+/// The maximal number of events in a script.
 pub const MOST_EVENTS: usize = 1_048_576;
 
 /// An event of a script.
 #[derive(Debug, Drop)]
 pub enum Event {
-    /// Some parameters get values, each parameter once.
+    /// Gives new values to parameters, each at most once.
     Set(Vec<Assign>),
-    /// The clock ticks, with these values of the regular inputs in their order.
+    /// Ticks the clock, with these values of the regular inputs in their order.
     Cycle(Vec<bool>),
-    /// The configuration bit at this address changes by itself.
+    /// Flips the configuration bit at this address, as a fault does.
     Upset(u32),
-    /// Each bit that was upset is set right.
+    /// Sets every upset bit right.
     Scrub,
-    /// The configuration is told.
+    /// Prints the configuration.
     Image,
 }
 
-/// By which words a script has its forms.
+/// The words with which the lines of a script begin.
 #[derive(Clone, Copy, Debug, PartialEq, Eq)]
 pub enum Forms {
     /// `set`, `cycle`, `upset`, `scrub` and `image`.
     Run,
-    /// `ask` and `tick`, in the place of `set` and `cycle`; no other form has a word.
+    /// `ask` and `tick` instead of `set` and `cycle`, and no other words.
     Pace,
 }
 
-/// What a script may name, and by which words it has its forms.
+/// What a script may name, and the words with which its lines begin.
 #[derive(Drop)]
 pub struct Names {
     pub forms: Forms,
-    /// The names of the parameters in order.
+    /// The names of the parameters, in order.
     pub params: Vec<Name>,
-    /// How many regular inputs there are; `None` where the script may have no cycles.
+    /// The number of regular inputs; `None` if the script may have no cycles.
     pub width: Option<u32>,
-    /// How many configuration bits there are.
+    /// The number of configuration bits.
     pub bits: u32,
 }
 

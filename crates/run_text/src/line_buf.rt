@@ -1,11 +1,11 @@
-//! The buffer in which a line of the output waits.
+//! The buffer of a line of output.
 ghost use Rattle.std.specs.Prelude.{◌≡◌, [], IfOk};
 
 use std::alloc::{AllocError, Global};
 use std::marker::Model;
 use tl_piece::Piece;
 
-/// A buffer for the bytes of a line that were not put yet. Between lines it may hold anything.
+/// A buffer for the bytes of a line that aren't written yet. Between lines its content has no meaning.
 ///
 /// A contract sees it as these bytes.
 #[derive(Drop)]
@@ -22,10 +22,10 @@ impl Model for LineBuf {
 }
 
 impl LineBuf {
-    /// An empty buffer, with 4,096 bytes reserved.
+    /// An empty buffer with 4,096 bytes reserved.
     ///
     /// # Errors
-    /// `AllocError` where there is no memory for them.
+    /// `AllocError` if there is no memory for them.
     pub fn make(alloc: Global) -> Result<LineBuf, AllocError>
         ensures { IfOk result (λ buf. buf ≡ []) }
     {

@@ -1,4 +1,4 @@
-//! The lines of the output that tell a template, a pack, a cycle and an image.
+//! The output lines for a template, a pack, a cycle and an image.
 ghost use Rattle.tl_io.specs.Sink.{IsPut};
 ghost use Rattle.run_text.specs.Lines.{header_line, bits_header_line, cycle_line, image_line};
 
@@ -6,11 +6,11 @@ use crate::line_buf::LineBuf;
 use crate::part::{Part, put_line};
 use tl_io::{Failed, Sink};
 
-/// Puts the line `luts LUTS bits BITS depth DEPTH`: how many tables a template has, how many configuration bits, and
-/// its depth. The bytes go in pieces of 4,096, of which the last may be shorter. It takes no memory.
+/// Writes the line `luts LUTS bits BITS depth DEPTH`: the number of LUTs of a template, the number of its configuration bits,
+/// and its depth. Writes pieces of 4,096 bytes; the last may be shorter. Allocates no memory.
 ///
 /// # Errors
-/// `Failed` only where the sink's count of faults rose: then a prefix of the line stands.
+/// `Failed` only if the sink's count of faults rose. A prefix of the line is then written.
 pub fn put_header<O: Sink>(
     luts: u32,
     bits: u32,
@@ -32,11 +32,11 @@ pub fn put_header<O: Sink>(
     put_line(&parts, buf, out)
 }
 
-/// Puts the line `bits BITS`: how many configuration bits a pack has. The bytes go in pieces of 4,096, of which the last may
-/// be shorter. It takes no memory.
+/// Writes the line `bits BITS`: the number of configuration bits of a pack. Writes pieces of 4,096 bytes; the last may be
+/// shorter. Allocates no memory.
 ///
 /// # Errors
-/// `Failed` only where the sink's count of faults rose: then a prefix of the line stands.
+/// `Failed` only if the sink's count of faults rose. A prefix of the line is then written.
 pub fn put_bits_header<O: Sink>(bits: u32, buf: &mut LineBuf, out: &mut O) -> Result<(), Failed>
     ensures { IsPut (O.seen out.old) (bits_header_line bits) (O.seen out.new) result }
 {
@@ -48,11 +48,11 @@ pub fn put_bits_header<O: Sink>(bits: u32, buf: &mut LineBuf, out: &mut O) -> Re
     put_line(&parts, buf, out)
 }
 
-/// Puts the line `cycle OUTPUTS STATES`: the outputs of a cycle and the states after it, each a string of `0` and `1`,
-/// or `-` where there are none. The bytes go in pieces of 4,096, of which the last may be shorter. It takes no memory.
+/// Writes the line `cycle OUTPUTS STATES`: the outputs of a cycle and the states after it, each a string of `0` and `1`, or
+/// `-` if there are none. Writes pieces of 4,096 bytes; the last may be shorter. Allocates no memory.
 ///
 /// # Errors
-/// `Failed` only where the sink's count of faults rose: then a prefix of the line stands.
+/// `Failed` only if the sink's count of faults rose. A prefix of the line is then written.
 pub fn put_cycle<'a, O: Sink>(
     outputs: &'a [bool],
     states: &'a [bool],
@@ -71,11 +71,11 @@ pub fn put_cycle<'a, O: Sink>(
     put_line(&parts, buf, out)
 }
 
-/// Puts the line `image BITS`: the bits of a configuration in the order of their addresses, a string of `0` and `1`, or `-`
-/// where there are none. The bytes go in pieces of 4,096, of which the last may be shorter. It takes no memory.
+/// Writes the line `image BITS`: the configuration bits in the order of their addresses, a string of `0` and `1`, or `-` if
+/// there are none. Writes pieces of 4,096 bytes; the last may be shorter. Allocates no memory.
 ///
 /// # Errors
-/// `Failed` only where the sink's count of faults rose: then a prefix of the line stands.
+/// `Failed` only if the sink's count of faults rose. A prefix of the line is then written.
 pub fn put_image<'a, O: Sink>(
     config: &'a [bool],
     buf: &mut LineBuf,

@@ -1,4 +1,4 @@
-//! The parts that a line of the output is made of.
+//! The parts of an output line.
 ghost use Rattle.std.specs.Prelude.{◌≡◌, map};
 ghost use Rattle.std.specs.List.{flat_map};
 ghost use Rattle.tl_io.specs.Sink.{IsPut};
@@ -13,20 +13,20 @@ use tl_piece::Writer;
 /// A part of a line.
 #[derive(Clone, Copy)]
 pub enum Part<'a> {
-    /// A text as it stands.
+    /// Literal text.
     Text(&'a [u8]),
     /// A decimal number.
     Number(u64),
-    /// A string of `0` and `1`, or `-` where there are no bits.
+    /// A string of `0` and `1`, or `-` if there are no bits.
     Bits(&'a [bool]),
-    /// Writes, each after a blank: its address, `=` and its bit.
+    /// Writes, each with a blank before it: the address, `=` and the bit.
     Writes(&'a [Write]),
 }
 
-/// Puts a line of these parts, in pieces of 4,096 bytes of which the last may be shorter. It takes no memory.
+/// Writes a line of these parts, in pieces of 4,096 bytes (the last may be shorter). Allocates no memory.
 ///
 /// # Errors
-/// `Failed` only where the sink's count of faults rose: then a prefix of the line stands.
+/// `Failed` only if the sink's count of faults rose. A prefix of the line is then written.
 pub fn put_line<O: Sink>(parts: &[Part], buf: &mut LineBuf, out: &mut O) -> Result<(), Failed>
     ensures { IsPut (O.seen out.old) (flat_map part_text parts.now) (O.seen out.new) result }
 {

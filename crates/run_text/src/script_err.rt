@@ -1,9 +1,10 @@
-//! Why a text is no script.
+//! Why a text is refused as a script.
 use std::alloc::{AllocError, AllocFailed};
 use tl_fault::{Details, Name, Refusal};
 use tl_text::TextErr;
 
-/// Why a text is no script. Each line is a logical line, but for the first two a physical one; lines are counted from 1.
+/// Why a text is refused as a script. The first number is that of a logical line, or of a physical line for the first two
+/// variants. Lines are counted from 1.
 #[derive(Debug, Drop, thiserror::Error)]
 pub enum ScriptErr {
     /// T1: a byte that no line may have.
@@ -12,28 +13,28 @@ pub enum ScriptErr {
     /// T2: a token ends in `\`.
     #[error("trailing backslash in line {0}")]
     TrailingSlash(u32),
-    /// L7: 2^20 events stand already.
+    /// L7: there are 2^20 events already.
     #[error("too many events in line {0}")]
     Events(u32),
     /// S1: the line has none of the five forms.
     #[error("malformed line {0}")]
     Malformed(u32),
-    /// S6: a cycle, where there are none.
+    /// S6: a cycle in a script that may have none.
     #[error("a cycle in line {0}")]
     NotHere(u32),
-    /// S2: a cycle has another number of values than there are regular inputs, which is the second number.
+    /// S2: the number of values in a cycle isn't the number of regular inputs, which is the second number.
     #[error("not {1} values in line {0}")]
     Width(u32, u32),
     /// S3: the name isn't a parameter.
     #[error("no parameter in line {0}")]
     NotParameter(u32, Name),
-    /// S4: the parameter stood earlier in the line.
+    /// S4: the parameter is already set on this line.
     #[error("a parameter repeated in line {0}")]
     RepeatedInSet(u32, Name),
-    /// S5: the address isn't below the number of configuration bits, which is the second number.
+    /// S5: the address isn't less than the number of configuration bits, which is the second number.
     #[error("not below {1} in line {0}")]
     Address(u32, u32),
-    /// There is no memory.
+    /// Memory ran out.
     #[error("out of memory")]
     Memory,
 }
@@ -64,7 +65,7 @@ impl ScriptErr {
     ghost use Rattle.std.specs.Prelude.{◌≡◌};
     ghost use Rattle.run_text.specs.ScriptRefusals.{refusal_of};
 
-    /// What the refusal tells; none for want of memory.
+    /// The refusal that the fault line reports. `None` if memory ran out.
     pub fn refusal(self) -> Option<Refusal>
         ensures { result ≡ refusal_of self }
     {

@@ -21,7 +21,7 @@ use crate::setting::read_settings;
 use std::alloc::Global;
 use tl_text::{Line, NameIndex, Token, decimal};
 
-// The word of a token that is the only one.
+// The word of the token, if it is the only one.
 fn only<'a>(text: &'a [u8], tokens: &[Token]) -> Option<&'a [u8]>
     requires { (token : TokenValue) → In tokens.now token → IsWithin text.now token }
     ensures { MatchOption result (only_word (map (token_bytes text.now) tokens.now) ≡ None) (λ word. only_word (map (token_bytes text.now) tokens.now) ≡ Some word.now) }
@@ -32,7 +32,7 @@ fn only<'a>(text: &'a [u8], tokens: &[Token]) -> Option<&'a [u8]>
     Some(tokens[0].bytes(text))
 }
 
-// A line of `set`, by the tokens behind it.
+// The event of a `set` line, given the tokens after `set`.
 fn read_set(
     alloc: Global,
     text: &[u8],
@@ -51,7 +51,7 @@ fn read_set(
     Ok(Event::Set(assigns))
 }
 
-// The cycle that a word says.
+// The cycle with the values of a word.
 fn cycle(alloc: Global, number: u32, names: &Names, word: &[u8]) -> Result<Event, ScriptErr>
     ensures { Reads names.now number (option_map cycles (bits_of word.now)) result }
 {
@@ -65,7 +65,7 @@ fn cycle(alloc: Global, number: u32, names: &Names, word: &[u8]) -> Result<Event
     Ok(Event::Cycle(values))
 }
 
-// A line of `cycle`, by the tokens behind it.
+// The event of a `cycle` line, given the tokens after `cycle`.
 fn read_cycle(
     alloc: Global,
     text: &[u8],
@@ -82,7 +82,7 @@ fn read_cycle(
     }
 }
 
-// The address that a word says.
+// The address that a word states.
 fn address(word: &[u8]) -> Option<u32>
     ensures { result ≡ address_of word.now }
 {
@@ -93,7 +93,7 @@ fn address(word: &[u8]) -> Option<u32>
     Some(number as u32)
 }
 
-// The upset that a word says.
+// The upset at the address that a word states.
 fn upset(number: u32, names: &Names, word: &[u8]) -> Result<Event, ScriptErr>
     ensures { Reads names.now number (option_map upsets (address_of word.now)) result }
 {
@@ -106,7 +106,7 @@ fn upset(number: u32, names: &Names, word: &[u8]) -> Result<Event, ScriptErr>
     Ok(Event::Upset(address))
 }
 
-// A line of `upset`, by the tokens behind it.
+// The event of an `upset` line, given the tokens after `upset`.
 fn read_upset(text: &[u8], number: u32, names: &Names, tokens: &[Token]) -> Result<Event, ScriptErr>
     requires { (token : TokenValue) → In tokens.now token → IsWithin text.now token }
     ensures { Reads names.now number (option_map upsets (option_and_then address_of (only_word (map (token_bytes text.now) tokens.now)))) result }
@@ -129,7 +129,7 @@ fn read_alone(event: Event, number: u32, tokens: &[Token]) -> Result<Event, Scri
     Ok(event)
 }
 
-// The event of a line with this first word and the tokens behind it.
+// The event of a line with this first word and the tokens after it.
 fn read_event(
     alloc: Global,
     text: &[u8],
@@ -162,7 +162,7 @@ fn read_event(
     Err(ScriptErr::Malformed(number))
 }
 
-// The word that a form has in a script that is run, where another script has this word for it; none where it has none.
+// The word of [`Forms::Run`] for the same event as `word` in these forms; empty if there is none.
 fn form(forms: Forms, word: &[u8]) -> &[u8]
     ensures { result.now ≡ form_of forms word.now }
 {
@@ -180,11 +180,11 @@ fn form(forms: Forms, word: &[u8]) -> &[u8]
     }
 }
 
-/// The event of a line behind so many others, where the names of the parameters are indexed. It takes time linear in the line,
-/// on average over the hashes.
+/// The event of a line after `earlier` others, given an index of the names of the parameters. Time is linear in the line, on
+/// average over the hashes.
 ///
 /// # Errors
-/// The first of L7, S1, S6 and S2 that the line has, or of S3 and S4 setting by setting, or S5; `Memory` where there is none.
+/// The first of L7, S1, S6 and S2 that the line has, or of S3 and S4 setting by setting, or S5; `Memory` if memory runs out.
 pub(crate) fn read_line(
     alloc: Global,
     text: &[u8],

@@ -14,7 +14,7 @@ use crate::script_line::read_line;
 use std::alloc::Global;
 use tl_text::{Line, NameIndex};
 
-// The events of lines, where the names of the parameters are indexed.
+// The events of lines, given an index of the names of the parameters.
 fn read_each(
     alloc: Global,
     text: &[u8],
@@ -36,11 +36,11 @@ fn read_each(
     Ok(events)
 }
 
-/// The events of the lines of a text. It takes time linear in the text and in the names of the parameters, on average over the
+/// The events of the lines of a text. Time is linear in the text and in the names of the parameters, on average over the
 /// hashes.
 ///
 /// # Errors
-/// The first line that has a refusal; `Memory` where there is none.
+/// The refusal of the first line that has one; `Memory` if memory runs out.
 pub(crate) fn read_lines(
     alloc: Global,
     text: &[u8],

@@ -1,4 +1,4 @@
-//! Scripts.
+//! Reading a whole script.
 ghost use Rattle.std.specs.Prelude.{◌≡◌, ◌≤◌, length, Ok, IfOk, IfErr};
 ghost use Rattle.list_laws.specs.Members.{In};
 ghost use Rattle.tl_text.specs.declared.limits.TheConstants.{MOST_PARAMETERS};
@@ -20,7 +20,7 @@ use crate::script_lines::read_lines;
 use std::alloc::Global;
 use tl_text::{Line, TextErr, lines};
 
-// A refusal of a text's lines as one of a script.
+// The refusal of a script that stands for this fault of its lines.
 fn lines_err(error: TextErr) -> ScriptErr
     ensures { result ≡ script_err error }
 {
@@ -44,17 +44,17 @@ fn text_lines(alloc: Global, text: &[u8]) -> Result<Vec<Line>, ScriptErr>
     }
 }
 
-/// The events of a script, a line for each: `set` and words `NAME=BIT`, each split at its last `=`; `cycle` and a string of a
-/// `0` or `1` for each regular input, or `-`; `upset` and an address; `scrub`; `image`. By the forms of [`Forms::Pace`] it is `ask`
-/// in the place of `set`, `tick` in the place of `cycle`, and no other form. Each event fits what may be named. The names of the
-/// parameters differ.
+/// The events of a script, one line each: `set` and words `NAME=BIT`, each split at its last `=`; `cycle` and a string with a
+/// `0` or `1` for each regular input, or `-`; `upset` and an address; `scrub`; `image`. With [`Forms::Pace`] the words are
+/// `ask` instead of `set` and `tick` instead of `cycle`, and the others don't exist. Each event fits `names`. The names of
+/// the parameters differ.
 ///
-/// It takes time and memory linear in the text and in the names of the parameters, on average over the hashes.
+/// Time and memory are linear in the text and in the names of the parameters, on average over the hashes.
 ///
 /// # Errors
-/// The text's first refusal, by `specs/ScriptText.antt`: T1 and T2 of its physical lines, else that of the first logical line
-/// that has one. In one line the order is L7, S1, S6, S2, S3 and S4 word by word, S5. `Memory` where there is none. A text is
-/// one script at most, or has one refusal at most, and never both.
+/// The first refusal of the text, by `specs/ScriptText.antt`: T1 and T2 of its physical lines; otherwise that of the first
+/// logical line that has one. Within a line the order is L7, S1, S6, S2, S3 and S4 word by word, S5. `Memory` if memory runs
+/// out. A text is at most one script or has at most one refusal, and never both.
 pub fn read_script(alloc: Global, text: &[u8], names: &Names) -> Result<Vec<Event>, ScriptErr>
     requires short { length text.now ≤ MOST_BYTES }
     requires few { length names.now.params ≤ MOST_PARAMETERS }

@@ -1,4 +1,4 @@
-//! The words `name=bit` of a line of a script.
+//! The words `NAME=BIT` of a line of a script.
 ghost use Rattle.std.specs.Prelude.{◌≡◌, ◌≤◌, None, Some, MatchOption, MatchResult, IfOk, map};
 ghost use Rattle.list_laws.specs.Members.{In};
 ghost use Rattle.tl_fault.specs.OrMemory.{OrMemory};
@@ -20,7 +20,7 @@ pub struct Setting {
     pub bit: bool,
 }
 
-// What stands before the last `=` of a word, and behind it.
+// The parts of a word before and after its last `=`.
 fn split_last(word: &[u8]) -> Option<(&[u8], &[u8])>
     ensures { MatchOption result (halves word.now ≡ None) (λ pair. halves word.now ≡ Some (record { front = pair.0.now; back = pair.1.now })) }
 {
@@ -30,7 +30,7 @@ fn split_last(word: &[u8]) -> Option<(&[u8], &[u8])>
     }
 }
 
-// The setting that a word is.
+// The setting in a word, if it is one.
 fn read_setting(alloc: Global, word: &[u8]) -> Result<Option<Setting>, AllocError>
     ensures { IfOk result (λ setting. setting ≡ setting_of word.now) }
 {
@@ -47,7 +47,7 @@ fn read_setting(alloc: Global, word: &[u8]) -> Result<Option<Setting>, AllocErro
     Ok(Some(Setting { name, bit }))
 }
 
-// The settings that tokens are.
+// The settings in the tokens.
 fn read_each(
     alloc: Global,
     text: &[u8],
@@ -69,10 +69,10 @@ fn read_each(
     Ok(settings)
 }
 
-/// The settings that the tokens behind `set` are, one or more. It takes time linear in them.
+/// The settings in the tokens after `set`, one or more. Time is linear in them.
 ///
 /// # Errors
-/// S1 where they are none; `Memory` where there is none.
+/// S1 if a token isn't a setting; `Memory` if memory runs out.
 pub(crate) fn read_settings(
     alloc: Global,
     text: &[u8],

@@ -1,4 +1,4 @@
-//! The lines of writes: configuration bits, each with its address and its value.
+//! The output lines with writes: configuration bits, each with its address and its value.
 ghost use Rattle.tl_io.specs.Sink.{IsPut};
 ghost use Rattle.run_text.specs.Lines.{writes_line, set_line, scrub_line, upset_line, wait_line, ask_line};
 
@@ -6,7 +6,7 @@ use crate::line_buf::LineBuf;
 use crate::part::{Part, put_line};
 use tl_io::{Failed, Sink, Write};
 
-// Puts a line of writes behind a word.
+// Writes a line of writes after a word.
 fn put_writes<'a, O: Sink>(
     word: &'a [u8],
     writes: &'a [Write],
@@ -24,11 +24,11 @@ fn put_writes<'a, O: Sink>(
     put_line(&parts, buf, out)
 }
 
-/// Puts the line `set COUNT` and each write as `ADDRESS=BIT`: how many bits a change of parameters wrote, and which.
-/// The bytes go in pieces of 4,096, of which the last may be shorter. It takes no memory.
+/// Writes the line `set COUNT` and each write as `ADDRESS=BIT`: the bits that a change of parameters rewrote. Writes pieces
+/// of 4,096 bytes; the last may be shorter. Allocates no memory.
 ///
 /// # Errors
-/// `Failed` only where the sink's count of faults rose: then a prefix of the line stands.
+/// `Failed` only if the sink's count of faults rose. A prefix of the line is then written.
 pub fn put_set<'a, O: Sink>(
     writes: &'a [Write],
     buf: &mut LineBuf,
@@ -39,11 +39,11 @@ pub fn put_set<'a, O: Sink>(
     put_writes(b"set ", writes, buf, out)
 }
 
-/// Puts the line `wait COUNT` and each write as `ADDRESS=BIT`: how many bits a tick wrote while the circuit waited, and which.
-/// The bytes go in pieces of 4,096, of which the last may be shorter. It takes no memory.
+/// Writes the line `wait COUNT` and each write as `ADDRESS=BIT`: the bits that a tick rewrote while the circuit waited.
+/// Writes pieces of 4,096 bytes; the last may be shorter. Allocates no memory.
 ///
 /// # Errors
-/// `Failed` only where the sink's count of faults rose: then a prefix of the line stands.
+/// `Failed` only if the sink's count of faults rose. A prefix of the line is then written.
 pub fn put_wait<'a, O: Sink>(
     writes: &'a [Write],
     buf: &mut LineBuf,
@@ -54,11 +54,11 @@ pub fn put_wait<'a, O: Sink>(
     put_writes(b"wait ", writes, buf, out)
 }
 
-/// Puts the line `ask COUNT`: how many configuration bits differ from those of the values that were asked for.
-/// The bytes go in pieces of 4,096, of which the last may be shorter. It takes no memory.
+/// Writes the line `ask COUNT`: the number of configuration bits that differ from those of the values that were asked for.
+/// Writes pieces of 4,096 bytes; the last may be shorter. Allocates no memory.
 ///
 /// # Errors
-/// `Failed` only where the sink's count of faults rose: then a prefix of the line stands.
+/// `Failed` only if the sink's count of faults rose. A prefix of the line is then written.
 pub fn put_ask<O: Sink>(count: u32, buf: &mut LineBuf, out: &mut O) -> Result<(), Failed>
     ensures { IsPut (O.seen out.old) (ask_line count) (O.seen out.new) result }
 {
@@ -70,11 +70,11 @@ pub fn put_ask<O: Sink>(count: u32, buf: &mut LineBuf, out: &mut O) -> Result<()
     put_line(&parts, buf, out)
 }
 
-/// Puts the line `scrub COUNT` and each write as `ADDRESS=BIT`: how many upset bits were set right, and which.
-/// The bytes go in pieces of 4,096, of which the last may be shorter. It takes no memory.
+/// Writes the line `scrub COUNT` and each write as `ADDRESS=BIT`: the upset bits that were set right. Writes pieces of 4,096
+/// bytes; the last may be shorter. Allocates no memory.
 ///
 /// # Errors
-/// `Failed` only where the sink's count of faults rose: then a prefix of the line stands.
+/// `Failed` only if the sink's count of faults rose. A prefix of the line is then written.
 pub fn put_scrub<'a, O: Sink>(
     writes: &'a [Write],
     buf: &mut LineBuf,
@@ -85,11 +85,11 @@ pub fn put_scrub<'a, O: Sink>(
     put_writes(b"scrub ", writes, buf, out)
 }
 
-/// Puts the line `upset ADDRESS=BIT`: which bit was upset, and its new value.
-/// The bytes go in pieces of 4,096, of which the last may be shorter. It takes no memory.
+/// Writes the line `upset ADDRESS=BIT`: the bit that was upset, and its new value. Writes pieces of 4,096 bytes; the last may
+/// be shorter. Allocates no memory.
 ///
 /// # Errors
-/// `Failed` only where the sink's count of faults rose: then a prefix of the line stands.
+/// `Failed` only if the sink's count of faults rose. A prefix of the line is then written.
 pub fn put_upset<O: Sink>(write: Write, buf: &mut LineBuf, out: &mut O) -> Result<(), Failed>
     ensures { IsPut (O.seen out.old) (upset_line write) (O.seen out.new) result }
 {

@@ -1,4 +1,4 @@
-//! A specialiser of which only its changes are seen.
+//! A specialiser that shows only its changes.
 ghost use Rattle.std.specs.Prelude.{◌≡◌, ◌+◌, length};
 ghost use Rattle.tl_io.specs.Assigns.{AreAssigned};
 ghost use Rattle.ppc_pack.specs.Pack.{IsConf};
@@ -11,7 +11,8 @@ use std::marker::Model;
 use std::sync::ledger::Ledger;
 use tl_io::{Assign, Write};
 
-/// A specialiser that is asked for changes only: nobody can look at its configuration, but at the bits that a change makes others.
+/// A specialiser that can only be asked for changes. Its configuration can't be read, except for the bits that a change
+/// rewrites.
 #[derive(Drop)]
 pub struct Changer {
     specialiser: Specialiser,
@@ -26,14 +27,14 @@ impl Model for Changer {
 }
 
 impl Changer {
-    /// The changes of a specialiser.
+    /// Only the changes of this specialiser.
     pub fn over(specialiser: Specialiser) -> Changer
         ensures { result ≡ specialiser }
     {
         Changer { specialiser }
     }
 
-    /// Gives some parameters new values, as [`Specialiser::change`] does.
+    /// Gives new values to parameters, as [`Specialiser::change`] does.
     pub fn change<L: Ledger>(&mut self, assigns: &[Assign], steps: &mut Steps<L>)
         requires assigns { AreAssigned (length self.old.state.params) assigns.now }
         ensures pack { self.new.pack ≡ self.old.pack }

@@ -1,4 +1,4 @@
-//! A device's configuration, and the writes of the last event.
+//! The configuration of a device, and the writes of the last event.
 ghost use Rattle.std.specs.Prelude.{◌≡◌, ◌<◌, ◌≤◌, [], length, replicate, false, IfOk};
 ghost use Rattle.dirty_idx.specs.Marks.{is_marked};
 ghost use Rattle.spec_core.specs.Differences.{config_bit, differs_at};
@@ -10,7 +10,7 @@ use std::alloc::{AllocError, Global};
 use std::marker::Model;
 use tl_io::Write;
 
-// The bits that a device has, and the writes that were sent to it since the last call of `clear`, with room for one of each bit.
+// The bits of a device, and the writes sent to it since the last call of `clear`, with room for one write of each bit.
 #[derive(Drop)]
 pub(crate) struct Device {
     config: Vec<bool>,
@@ -29,7 +29,7 @@ impl Model for Device {
 }
 
 impl Device {
-    // A device with these bits. `Err` comes only for want of memory, and no other call takes any.
+    // A device with these bits. `Err` only if memory runs out. No other call allocates memory.
     pub(crate) fn make(alloc: Global, config: Vec<bool>) -> Result<Device, AllocError>
         ensures { IfOk result (λ d. d ≡ record { config = config.items; writes = [] }) }
     {
@@ -66,7 +66,7 @@ impl Device {
         let _ = self.writes.push(Write { address, bit });
     }
 
-    // Writes the bits at the marked addresses, as they are under the values of the nodes.
+    // Writes the bits at the marked addresses, with their values under those of the nodes.
     pub(crate) fn write_marked(&mut self, evaluation: &mut Evaluation)
         requires cleared { self.old.writes ≡ [] }
         requires bits { length self.old.config ≡ length evaluation.old.pack.bits }
@@ -79,7 +79,7 @@ impl Device {
         }
     }
 
-    // Writes the bits that are others under the values of the nodes.
+    // Writes the bits that differ from their values under those of the nodes.
     pub(crate) fn write_differing(&mut self, evaluation: &Evaluation)
         requires cleared { self.old.writes ≡ [] }
         requires bits { length self.old.config ≡ length evaluation.now.pack.bits }

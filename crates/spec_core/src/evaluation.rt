@@ -1,4 +1,4 @@
-//! A pack evaluated under its parameters' values, and how a change of these runs through it.
+//! A pack evaluated for the values of its parameters, and how a change propagates through it.
 ghost use Rattle.std.specs.Prelude.{◌≡◌, ℕ, ◌+◌, ◌<◌, ◌≤◌, Bool, List, length, replicate, map, IfOk, MatchOption};
 ghost use Rattle.list_laws.specs.Members.{In};
 ghost use Rattle.tl_io.specs.Assigns.{AreAssigned};
@@ -20,15 +20,15 @@ use std::marker::Model;
 use std::sync::ledger::Ledger;
 use tl_io::Assign;
 
-// A pack under given values of its parameters, and what is out of date after a change of these. Its pairs are read by counted calls
-// alone.
+// A pack for given values of its parameters, and what is out of date after a change. Its pairs are read only by counted
+// calls.
 #[derive(Drop)]
 pub(crate) struct Evaluation {
     pack: CountedPack,
     readers: Readers,
     // The values of the pack's nodes by their indices: the constant, the parameters, and the AND nodes.
     values: Vec<bool>,
-    // The AND nodes to be evaluated again, and the addresses whose literals changed: none between events.
+    // The AND nodes that must be evaluated again, and the addresses whose literals changed. Both are empty between events.
     nodes: Tiers,
     addresses: Tiers,
 }
@@ -53,14 +53,14 @@ fn mark_all(marks: &mut Tiers, numbers: &[u32])
     }
 }
 
-// The parameters' values at the start.
+// The initial values of parameters.
 fn inits(alloc: Global, params: &[PackParam]) -> Result<Vec<bool>, AllocError>
     ensures { IfOk result (λ values. values.items ≡ inits_of params.now) }
 {
     params.iter().map(|param| param.init).collect(alloc)
 }
 
-// The values of a pack's nodes at the start: one evaluation of its graph.
+// The initial values of a pack's nodes: one evaluation of its graph.
 fn start_values(alloc: Global, pack: &Pack) -> Result<Vec<bool>, AllocError>
     ensures { IfOk result (λ values. FitsGraph pack.now.graph (inits_of pack.now.params) values.items) }
 {
@@ -69,9 +69,9 @@ fn start_values(alloc: Global, pack: &Pack) -> Result<Vec<bool>, AllocError>
 }
 
 impl Evaluation {
-    // The pack under the values at the start.
+    // The pack at the initial values.
     //
-    // `Err` comes only for want of memory, and no other call takes any.
+    // `Err` only if memory runs out. No other call allocates memory.
     pub(crate) fn make(alloc: Global, pack: Pack) -> Result<Evaluation, AllocError>
         ensures pack { IfOk result (λ e. e.pack ≡ pack) }
         ensures unread { IfOk result (λ e. e.reads ≡ 0) }
@@ -95,7 +95,7 @@ impl Evaluation {
         })
     }
 
-    // How many bits there are.
+    // The number of bits.
     pub(crate) fn bits(&self) -> u32
         ensures { result ≡ length self.now.pack.bits }
     {
@@ -130,7 +130,7 @@ impl Evaluation {
         &self.values[1..1 + self.pack.params().len()]
     }
 
-    // Stores the value of a node, and marks all that reads it where that is another value.
+    // Stores the value of a node. If the value is new, marks everything that reads the node.
     fn store(&mut self, n: u32, value: bool)
         requires { n < node_count self.old.pack.graph }
         ensures { self.new ≡ record self.old { now = stored self.old.readers self.old.now n value } }
@@ -142,7 +142,7 @@ impl Evaluation {
         }
     }
 
-    // Gives parameters new values.
+    // Gives new values to parameters.
     fn assign(&mut self, assigns: &[Assign])
         requires { AreAssigned (length self.old.pack.graph.kinds) assigns.now }
         ensures { self.new ≡ record self.old { now = with_assigned self.old.readers self.old.now assigns.now } }
@@ -152,7 +152,7 @@ impl Evaluation {
         }
     }
 
-    // Takes the least marked node. It also tells what every evaluation keeps.
+    // Takes the least marked node. The contract also says what every evaluation keeps.
     fn take_node(&mut self) -> Option<u32>
         ensures least { MatchOption result (IsEmpty self.old.now.nodes) (λ n. IsLeast self.old.now.nodes n) }
         ensures rest { self.new ≡ record self.old { now = record self.old.now { nodes = without self.old.now.nodes result } } }
@@ -181,7 +181,7 @@ impl Evaluation {
         self.store(n, x && y);
     }
 
-    // Evaluates the marked nodes again, and all that changes with them, the least first.
+    // Evaluates the marked nodes and everything that changes with them, the least first.
     fn sweep<L: Ledger>(&mut self, steps: &mut Steps<L>)
         ensures pack { self.new.pack ≡ self.old.pack }
         ensures readers { self.new.readers ≡ self.old.readers }
@@ -194,7 +194,7 @@ impl Evaluation {
         }
     }
 
-    // Gives parameters new values, and brings the values of the nodes up to date.
+    // Gives new values to parameters, and brings the values of the nodes up to date.
     pub(crate) fn change<L: Ledger>(&mut self, assigns: &[Assign], steps: &mut Steps<L>)
         requires idle { IsIdle self.old.pack self.old.now }
         requires assigns { AreAssigned (length self.old.pack.graph.kinds) assigns.now }

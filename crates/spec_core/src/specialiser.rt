@@ -1,4 +1,4 @@
-//! The specialiser: a pack, the values of its nodes, and the configuration that the device has.
+//! The specialiser: a pack, the values of its nodes, and the configuration of the device.
 ghost use Rattle.std.specs.Prelude.{◌≡◌, ◌+◌, ◌<◌, ◌≤◌, Bool, List, [], length, IfOk};
 ghost use Rattle.tl_io.specs.Assigns.{AreAssigned};
 ghost use Rattle.tl_io.specs.Writes.{AreAscending, AreBitsOf};
@@ -15,7 +15,7 @@ use std::marker::Model;
 use std::sync::ledger::Ledger;
 use tl_io::{Assign, Write};
 
-/// A pack under given values of its parameters, with the configuration that the device has and the writes of the last event.
+/// A pack for given values of its parameters, with the configuration of the device and the writes of the last event.
 #[derive(Drop)]
 pub struct Specialiser {
     evaluation: Evaluation,
@@ -34,9 +34,9 @@ impl Model for Specialiser {
 }
 
 impl Specialiser {
-    /// The pack at the listed values, with their configuration on the device, and no writes.
+    /// The pack at its initial values, with their configuration on the device, and no writes.
     ///
-    /// One evaluation of the pack. It takes all the memory that events need: `Err` comes only for want of it.
+    /// Evaluates the pack once, and allocates all the memory that events need. `Err` only if it runs out.
     pub fn make(alloc: Global, pack: Pack) -> Result<Specialiser, AllocError>
         ensures pack { IfOk result (λ s. s.pack ≡ pack) }
         ensures params { IfOk result (λ s. s.state.params ≡ inits_of pack.params) }
@@ -44,7 +44,7 @@ impl Specialiser {
         ensures writes { IfOk result (λ s. s.writes ≡ []) }
         ensures unread { IfOk result (λ s. s.reads ≡ 0) }
 
-        // Under any values of the parameters there is one configuration, and no other.
+        // For any values of the parameters exactly one configuration exists.
         ensures one { (given : List Bool) → length given ≡ length pack.params → HasOneConf pack given }
     {
         let evaluation = Evaluation::make(alloc, pack)?;
@@ -53,20 +53,20 @@ impl Specialiser {
         Ok(Specialiser { evaluation, device })
     }
 
-    /// Gives some parameters new values, each parameter once.
+    /// Gives new values to parameters, each at most once.
     ///
-    /// The writes are the bits in which the configurations specialised from scratch before and after differ, ascending.
-    /// Only nodes with a fan-in whose value changed are read, each once.
+    /// The writes are the bits in which the configurations specialised from scratch before and after differ, ascending. Only
+    /// nodes with a changed fan-in are read, each once.
     pub fn change<L: Ledger>(&mut self, assigns: &[Assign], steps: &mut Steps<L>)
         requires assigns { AreAssigned (length self.old.state.params) assigns.now }
         ensures pack { self.new.pack ≡ self.old.pack }
         ensures set { IsSet self.old.pack assigns.now self.old.state self.new.writes self.new.state }
         ensures cost { IsWithinTouched self.old.pack.graph self.old.state.params self.new.state.params steps.old steps.new }
 
-        // All pairs that were read are steps of this counter.
+        // All reads of pairs are steps of this counter.
         ensures counted { self.new.reads + steps.old ≡ self.old.reads + steps.new }
 
-        // Where no bit was upset, none is.
+        // If no bit was upset before, none is upset after.
         ensures steady { IsConf self.old.pack self.old.state.params self.old.state.config → IsConf self.old.pack self.new.state.params self.new.state.config }
     {
         self.device.clear();
@@ -86,13 +86,13 @@ impl Specialiser {
         self.device.write(address, !bit);
     }
 
-    /// Sets the bits right that were upset, in time linear in all bits.
+    /// Sets every upset bit right. Time is linear in the number of all bits.
     pub fn scrub(&mut self)
         ensures pack { self.new.pack ≡ self.old.pack }
         ensures unread { self.new.reads ≡ self.old.reads }
         ensures scrub { IsScrub self.old.pack self.old.state self.new.writes self.new.state }
 
-        // No bit is upset any more.
+        // No bit is upset.
         ensures right { IsConf self.old.pack self.new.state.params self.new.state.config }
     {
         self.device.clear();
@@ -117,7 +117,7 @@ impl Specialiser {
         self.device.config()
     }
 
-    /// The parameters' values, in their order.
+    /// The values of the parameters, in their order.
     pub fn values(&self) -> &[bool]
         ensures value { result.now ≡ self.now.state.params }
         ensures len { length self.now.state.params ≡ length self.now.pack.params }

@@ -1,4 +1,4 @@
-//! The program `tlut`: it maps by the rule of the fewest leaves.
+//! The program `tlut`: it maps with the rule of the fewest leaves.
 #![tactic(auto)]
 
 use cover_pick::Rule;

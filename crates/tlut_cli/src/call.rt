@@ -30,7 +30,7 @@ use cover_pick::Rule;
 use std::alloc::Global;
 use tl_io::{ConfigPort, Shelf, Sink};
 
-// How a call ended, and the word that its fault line tells.
+// The end of a call, and the argument that its fault line names.
 #[derive(Drop)]
 struct Ended<'a> {
     outcome: Outcome,
@@ -62,7 +62,7 @@ fn run_command<S: Shelf, O: Sink, P: ConfigPort>(
     }
 }
 
-// The file that a fault line tells.
+// The file that a fault line names.
 fn told_file(outcome: &Outcome) -> Option<File>
     ensures { result ≡ fault_file outcome.now }
 {
@@ -78,7 +78,7 @@ fn told_file(outcome: &Outcome) -> Option<File>
     }
 }
 
-// The word that a fault line tells.
+// The argument that a fault line names.
 fn fault_name<'a>(command: &Command<'a>, outcome: &Outcome) -> &'a str
     ensures { result.now ≡ word_at (fault_file outcome.now) (Some (command_seen command.now)) }
 {
@@ -88,7 +88,7 @@ fn fault_name<'a>(command: &Command<'a>, outcome: &Outcome) -> &'a str
     }
 }
 
-// Runs the command of some words.
+// Runs the command given by some arguments.
 fn run_words<'a, S: Shelf, O: Sink, P: ConfigPort>(
     alloc: Global,
     rule: Rule,
@@ -115,29 +115,29 @@ fn run_words<'a, S: Shelf, O: Sink, P: ConfigPort>(
     }
 }
 
-/// Runs the command that the words are, over the files of a shelf and the ports that are handed in. The commands that map choose
-/// their cuts by the rule.
+/// Runs the command given by the arguments, over the files of a shelf and the configuration ports that are passed in.
+/// Commands that map choose their cuts by `rule`.
 ///
-/// - `run K NETLIST PARAMS SCRIPT PORTS SPARES` maps a netlist to tables of at most K inputs with the least depth, loads their
+/// - `run K NETLIST PARAMS SCRIPT PORTS SPARES` maps a netlist to LUTs of at most K inputs with the least depth, loads their
 ///   configuration into the first PORTS ports, and plays the events of a script: changes of parameters, clock cycles, upset
-///   bits, scrubs, and images of the configuration. The SPARES next ports stand by for those that fail.
-/// - `spec K NETLIST PARAMS OUT` maps a netlist, and writes its tables under the listed values of the parameters.
-/// - `map K NETLIST PARAMS TEMPLATE PACK` writes the tables with each of their bits as an input, and these bits as functions of
+///   bits, scrubs, and images of the configuration. The next SPARES ports replace any that fail.
+/// - `spec K NETLIST PARAMS OUT` maps a netlist, and writes its LUTs for the listed values of the parameters.
+/// - `map K NETLIST PARAMS TEMPLATE PACK` writes the LUTs with each of their bits as an input, and these bits as functions of
 ///   the parameters.
-/// - `bits PACK SCRIPT` plays a script of the host on a pack alone.
+/// - `bits PACK SCRIPT` plays a host script on a pack alone.
 /// - `gen N SEED` maps a generated multiplier, and changes its coefficient a hundred times.
 /// - `repack OLD NEW` writes a pack in version 2.
-/// - `prove K NETLIST PARAMS CERT` writes the certificate that no cover is less deep than the mapper's.
+/// - `prove K NETLIST PARAMS CERT` writes a certificate that no cover is less deep than the mapper's.
 /// - `audit K NETLIST PARAMS CERT` checks a certificate against the netlist.
-/// - `graph NETLIST PARAMS OUT` writes the netlist's graph in AIGER's ASCII form.
-/// - `pace K NETLIST PARAMS SCRIPT RATE` plays a script of asks and ticks, where the configuration port takes RATE bits a tick and the
-///   circuit waits while it is behind.
+/// - `graph NETLIST PARAMS OUT` writes the netlist's graph in AIGER's ASCII format.
+/// - `pace K NETLIST PARAMS SCRIPT RATE` plays a script of asks and ticks. The configuration port takes RATE bits in each
+///   tick, and the circuit waits while the port is behind.
 ///
-/// A netlist is BLIF, or AIGER's ASCII form where it begins with `aag` and a blank.
+/// A netlist is in AIGER's ASCII format if it begins with `aag` and a blank, and otherwise in BLIF.
 ///
-/// The status says how the call ended. On every status but `Done` one line stands on `err`; a failing `err`
-/// changes no status. Want of memory is the one free answer, and comes only before the first byte of `out` and before a file is
-/// begun for writing.
+/// The status says how the call ended. For every status except `Done` one line is written to `err`; if `err` fails, the
+/// status stays the same. `Memory` is the only status without a stated cause. It is returned only before the first byte of
+/// `out` and before a file is opened for writing.
 pub fn tlut_by<S: Shelf, O: Sink, E: Sink>(
     alloc: Global,
     rule: Rule,
@@ -149,42 +149,43 @@ pub fn tlut_by<S: Shelf, O: Sink, E: Sink>(
 ) -> Status
     ensures usage { result ≡ Status.Usage ↔ command_of rule (length ports.old.items) (map string_bytes words.now) ≡ None }
 
-    // A refusal or a limit is the verdict's on the words and the files.
+    // A refusal or a limit is the one that the arguments and the files call for.
     ensures refusal { (result ≡ Status.Refused) ⊎ (result ≡ Status.Limit) → HasRefusal rule (S.seen shelf.old).files (length ports.old.items) (map string_bytes words.now) result }
 
-    // The other way round, such a refusal is the answer, where no read fails and memory suffices.
+    // Conversely, such a refusal is returned if no read fails and memory suffices.
     ensures refused { IsAnswered rule (map string_bytes words.now) (S.seen shelf.old) (S.seen shelf.new) (length ports.old.items) result }
 
-    // The output grew by the lines of the accepted job, and the ports got its load and its writes: all of them, or those up to
-    // the fault.
+    // The output grew by the lines of the accepted job, and the ports received its load and its writes: all of them, or those
+    // up to the fault.
     ensures done { result ≡ Status.Done → HasDone rule (map string_bytes words.now) (outside (S.seen shelf.old) (O.seen out.old) (map (λ port. port_seen port) ports.old.items)) (outside (S.seen shelf.new) (O.seen out.new) (map (λ port. port_seen port) ports.new.items)) }
     ensures part { result ≡ Status.WriteFault → HasCutOff rule (map string_bytes words.now) (outside (S.seen shelf.old) (O.seen out.old) (map (λ port. port_seen port) ports.old.items)) (outside (S.seen shelf.new) (O.seen out.new) (map (λ port. port_seen port) ports.new.items)) }
     ensures lost { result ≡ Status.PortFault → HasLost rule (map string_bytes words.now) (outside (S.seen shelf.old) (O.seen out.old) (map (λ port. port_seen port) ports.old.items)) (outside (S.seen shelf.new) (O.seen out.new) (map (λ port. port_seen port) ports.new.items)) }
 
-    // The headline of `run`: the source circuit's outputs and latch states cycle by cycle, at each change exactly the bits in which the
-    // configurations specialised from scratch differ, tables of at most K inputs, and the least depth over all covers.
+    // The main statement about `run`: the source circuit's outputs and latch states cycle by cycle, at each change exactly
+    // the bits in which the configurations specialised from scratch differ, LUTs of at most K inputs, and the least depth
+    // over all covers.
     ensures headline { result ≡ Status.Done → (run : RunWords) → command_of rule (length ports.old.items) (map string_bytes words.now) ≡ Some (Run run) → Told (S.seen shelf.old).files (λ files. HasHeadline files run (outside (S.seen shelf.old) (O.seen out.old) (map (λ port. port_seen port) ports.old.items)) (outside (S.seen shelf.new) (O.seen out.new) (map (λ port. port_seen port) ports.new.items))) }
 
-    // The headline of `pace`: the circuit steps only under the configuration that is specialised from scratch for the values that were
+    // The main statement about `pace`: the circuit steps only under the configuration specialised from scratch for the values
     // asked for last, as the source circuit does, and waits exactly as long as its writes take at the rate of the port.
     ensures paced { result ≡ Status.Done → (paced : PaceWords) → command_of rule (length ports.old.items) (map string_bytes words.now) ≡ Some (Pace paced) → Told (S.seen shelf.old).files (λ files. HasPaceHeadline files paced (outside (S.seen shelf.old) (O.seen out.old) (map (λ port. port_seen port) ports.old.items)) (outside (S.seen shelf.new) (O.seen out.new) (map (λ port. port_seen port) ports.new.items))) }
 
-    // What `map` wrote is played by `bits` as `run` plays its tables, for each script without cycles.
+    // `bits` plays what `map` wrote as `run` plays its LUTs, for each script without cycles.
     ensures replays { result ≡ Status.Done → (written : MapWords) → command_of rule (length ports.old.items) (map string_bytes words.now) ≡ Some (Map written) → Told (S.seen shelf.old).files (λ files. ReplaysRun files written (outside (S.seen shelf.old) (O.seen out.old) (map (λ port. port_seen port) ports.old.items)) (outside (S.seen shelf.new) (O.seen out.new) (map (λ port. port_seen port) ports.new.items))) }
 
-    // An accepted job is done, where no read, no write and no more ports than stand by fail, and memory suffices.
+    // An accepted job is done if no read or write fails, no more ports fail than there are spares, and memory suffices.
     ensures complete { IsComplete rule (map string_bytes words.now) (S.seen shelf.old) (S.seen shelf.new) (outside (S.seen shelf.old) (O.seen out.old) (map (λ port. port_seen port) ports.old.items)) (outside (S.seen shelf.new) (O.seen out.new) (map (λ port. port_seen port) ports.new.items)) result }
     ensures finished { IsFinished rule (map string_bytes words.now) (S.seen shelf.old) (S.seen shelf.new) (outside (S.seen shelf.old) (O.seen out.old) (map (λ port. port_seen port) ports.old.items)) (outside (S.seen shelf.new) (O.seen out.new) (map (λ port. port_seen port) ports.new.items)) result }
 
-    // A fault has its cause.
+    // Each fault has its cause.
     ensures read_fault { result ≡ Status.ReadFault → HasFault rule (length ports.old.items) (map string_bytes words.now) (S.seen shelf.old) (S.seen shelf.new) }
     ensures write_fault { result ≡ Status.WriteFault → HasWriteCause rule (map string_bytes words.now) (outside (S.seen shelf.old) (O.seen out.old) (map (λ port. port_seen port) ports.old.items)) (outside (S.seen shelf.new) (O.seen out.new) (map (λ port. port_seen port) ports.new.items)) }
     ensures port_fault { result ≡ Status.PortFault → HasPortCause rule (map string_bytes words.now) (outside (S.seen shelf.old) (O.seen out.old) (map (λ port. port_seen port) ports.old.items)) (outside (S.seen shelf.new) (O.seen out.new) (map (λ port. port_seen port) ports.new.items)) }
 
-    // What becomes of the ports, whatever the files are.
+    // What happens to the ports, whatever the files are.
     ensures boxes { (result ≡ Status.Done) ⊎ (result ≡ Status.WriteFault) → HasKeptPorts rule (map string_bytes words.now) (outside (S.seen shelf.old) (O.seen out.old) (map (λ port. port_seen port) ports.old.items)) (outside (S.seen shelf.new) (O.seen out.new) (map (λ port. port_seen port) ports.new.items)) }
 
-    // What stays.
+    // What is unchanged.
     ensures quiet { IsQuiet result → (O.seen out.new).bytes ≡ (O.seen out.old).bytes }
     ensures ports { IsQuiet result → map (λ port. port_seen port) ports.new.items ≡ map (λ port. port_seen port) ports.old.items }
     ensures files { IsQuiet result → (S.seen shelf.new).files ≡ (S.seen shelf.old).files }
@@ -200,7 +201,7 @@ pub fn tlut_by<S: Shelf, O: Sink, E: Sink>(
     ended.outcome.status()
 }
 
-/// Runs the command that the words are by the rule of the fewest leaves: `tlut_by` at `FewestLeaves`.
+/// Runs the command given by the arguments with the rule of the fewest leaves: `tlut_by` with `FewestLeaves`.
 pub fn tlut<S: Shelf, O: Sink, E: Sink>(
     alloc: Global,
     words: &[String],
@@ -211,42 +212,43 @@ pub fn tlut<S: Shelf, O: Sink, E: Sink>(
 ) -> Status
     ensures usage { result ≡ Status.Usage ↔ command_of FewestLeaves (length ports.old.items) (map string_bytes words.now) ≡ None }
 
-    // A refusal or a limit is the verdict's on the words and the files.
+    // A refusal or a limit is the one that the arguments and the files call for.
     ensures refusal { (result ≡ Status.Refused) ⊎ (result ≡ Status.Limit) → HasRefusal FewestLeaves (S.seen shelf.old).files (length ports.old.items) (map string_bytes words.now) result }
 
-    // The other way round, such a refusal is the answer, where no read fails and memory suffices.
+    // Conversely, such a refusal is returned if no read fails and memory suffices.
     ensures refused { IsAnswered FewestLeaves (map string_bytes words.now) (S.seen shelf.old) (S.seen shelf.new) (length ports.old.items) result }
 
-    // The output grew by the lines of the accepted job, and the ports got its load and its writes: all of them, or those up to
-    // the fault.
+    // The output grew by the lines of the accepted job, and the ports received its load and its writes: all of them, or those
+    // up to the fault.
     ensures done { result ≡ Status.Done → HasDone FewestLeaves (map string_bytes words.now) (outside (S.seen shelf.old) (O.seen out.old) (map (λ port. port_seen port) ports.old.items)) (outside (S.seen shelf.new) (O.seen out.new) (map (λ port. port_seen port) ports.new.items)) }
     ensures part { result ≡ Status.WriteFault → HasCutOff FewestLeaves (map string_bytes words.now) (outside (S.seen shelf.old) (O.seen out.old) (map (λ port. port_seen port) ports.old.items)) (outside (S.seen shelf.new) (O.seen out.new) (map (λ port. port_seen port) ports.new.items)) }
     ensures lost { result ≡ Status.PortFault → HasLost FewestLeaves (map string_bytes words.now) (outside (S.seen shelf.old) (O.seen out.old) (map (λ port. port_seen port) ports.old.items)) (outside (S.seen shelf.new) (O.seen out.new) (map (λ port. port_seen port) ports.new.items)) }
 
-    // The headline of `run`: the source circuit's outputs and latch states cycle by cycle, at each change exactly the bits in which the
-    // configurations specialised from scratch differ, tables of at most K inputs, and the least depth over all covers.
+    // The main statement about `run`: the source circuit's outputs and latch states cycle by cycle, at each change exactly
+    // the bits in which the configurations specialised from scratch differ, LUTs of at most K inputs, and the least depth
+    // over all covers.
     ensures headline { result ≡ Status.Done → (run : RunWords) → command_of FewestLeaves (length ports.old.items) (map string_bytes words.now) ≡ Some (Run run) → Told (S.seen shelf.old).files (λ files. HasHeadline files run (outside (S.seen shelf.old) (O.seen out.old) (map (λ port. port_seen port) ports.old.items)) (outside (S.seen shelf.new) (O.seen out.new) (map (λ port. port_seen port) ports.new.items))) }
 
-    // The headline of `pace`: the circuit steps only under the configuration that is specialised from scratch for the values that were
+    // The main statement about `pace`: the circuit steps only under the configuration specialised from scratch for the values
     // asked for last, as the source circuit does, and waits exactly as long as its writes take at the rate of the port.
     ensures paced { result ≡ Status.Done → (paced : PaceWords) → command_of FewestLeaves (length ports.old.items) (map string_bytes words.now) ≡ Some (Pace paced) → Told (S.seen shelf.old).files (λ files. HasPaceHeadline files paced (outside (S.seen shelf.old) (O.seen out.old) (map (λ port. port_seen port) ports.old.items)) (outside (S.seen shelf.new) (O.seen out.new) (map (λ port. port_seen port) ports.new.items))) }
 
-    // What `map` wrote is played by `bits` as `run` plays its tables, for each script without cycles.
+    // `bits` plays what `map` wrote as `run` plays its LUTs, for each script without cycles.
     ensures replays { result ≡ Status.Done → (written : MapWords) → command_of FewestLeaves (length ports.old.items) (map string_bytes words.now) ≡ Some (Map written) → Told (S.seen shelf.old).files (λ files. ReplaysRun files written (outside (S.seen shelf.old) (O.seen out.old) (map (λ port. port_seen port) ports.old.items)) (outside (S.seen shelf.new) (O.seen out.new) (map (λ port. port_seen port) ports.new.items))) }
 
-    // An accepted job is done, where no read, no write and no more ports than stand by fail, and memory suffices.
+    // An accepted job is done if no read or write fails, no more ports fail than there are spares, and memory suffices.
     ensures complete { IsComplete FewestLeaves (map string_bytes words.now) (S.seen shelf.old) (S.seen shelf.new) (outside (S.seen shelf.old) (O.seen out.old) (map (λ port. port_seen port) ports.old.items)) (outside (S.seen shelf.new) (O.seen out.new) (map (λ port. port_seen port) ports.new.items)) result }
     ensures finished { IsFinished FewestLeaves (map string_bytes words.now) (S.seen shelf.old) (S.seen shelf.new) (outside (S.seen shelf.old) (O.seen out.old) (map (λ port. port_seen port) ports.old.items)) (outside (S.seen shelf.new) (O.seen out.new) (map (λ port. port_seen port) ports.new.items)) result }
 
-    // A fault has its cause.
+    // Each fault has its cause.
     ensures read_fault { result ≡ Status.ReadFault → HasFault FewestLeaves (length ports.old.items) (map string_bytes words.now) (S.seen shelf.old) (S.seen shelf.new) }
     ensures write_fault { result ≡ Status.WriteFault → HasWriteCause FewestLeaves (map string_bytes words.now) (outside (S.seen shelf.old) (O.seen out.old) (map (λ port. port_seen port) ports.old.items)) (outside (S.seen shelf.new) (O.seen out.new) (map (λ port. port_seen port) ports.new.items)) }
     ensures port_fault { result ≡ Status.PortFault → HasPortCause FewestLeaves (map string_bytes words.now) (outside (S.seen shelf.old) (O.seen out.old) (map (λ port. port_seen port) ports.old.items)) (outside (S.seen shelf.new) (O.seen out.new) (map (λ port. port_seen port) ports.new.items)) }
 
-    // What becomes of the ports, whatever the files are.
+    // What happens to the ports, whatever the files are.
     ensures boxes { (result ≡ Status.Done) ⊎ (result ≡ Status.WriteFault) → HasKeptPorts FewestLeaves (map string_bytes words.now) (outside (S.seen shelf.old) (O.seen out.old) (map (λ port. port_seen port) ports.old.items)) (outside (S.seen shelf.new) (O.seen out.new) (map (λ port. port_seen port) ports.new.items)) }
 
-    // What stays.
+    // What is unchanged.
     ensures quiet { IsQuiet result → (O.seen out.new).bytes ≡ (O.seen out.old).bytes }
     ensures ports { IsQuiet result → map (λ port. port_seen port) ports.new.items ≡ map (λ port. port_seen port) ports.old.items }
     ensures files { IsQuiet result → (S.seen shelf.new).files ≡ (S.seen shelf.old).files }

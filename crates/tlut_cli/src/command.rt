@@ -1,4 +1,4 @@
-//! The words of the command line.
+//! Parsing the command line.
 ghost use Rattle.std.specs.Prelude.{◌≡◌, ℕ, map, string_bytes, IfSome};
 ghost use Rattle.std.specs.Option.{option_map};
 ghost use Rattle.cmd_base.specs.FaultLine.{Reports};
@@ -16,7 +16,7 @@ use cmd_stations::source_name;
 use cover_pick::Rule;
 use tl_io::Sink;
 
-/// A command with its words.
+/// A command with its arguments.
 #[derive(Clone, Copy)]
 pub enum Command<'a> {
     Run(RunWords<'a>),
@@ -31,7 +31,7 @@ pub enum Command<'a> {
     Pace(PaceWords<'a>),
 }
 
-// The command of certificates.
+// Reads one of the commands about certificates.
 fn read_cert_command(words: &[String]) -> Option<Command<'_>>
     ensures value { option_map (λ c. command_seen c) result ≡ cert_commands (map string_bytes words.now) }
     ensures range { (ports : ℕ) → IfSome result (HasRange ports) }
@@ -45,7 +45,7 @@ fn read_cert_command(words: &[String]) -> Option<Command<'_>>
     }
 }
 
-// The command of words that aren't those of an earlier one.
+// Reads one of the later commands.
 fn read_later(rule: Rule, words: &[String]) -> Option<Command<'_>>
     ensures value { option_map (λ c. command_seen c) result ≡ later_commands rule (map string_bytes words.now) }
     ensures range { (ports : ℕ) → IfSome result (HasRange ports) }
@@ -62,7 +62,7 @@ fn read_later(rule: Rule, words: &[String]) -> Option<Command<'_>>
     }
 }
 
-// The command of words that aren't those of `run`.
+// Reads any command other than `run`.
 fn read_other(rule: Rule, words: &[String]) -> Option<Command<'_>>
     ensures value { option_map (λ c. command_seen c) result ≡ other_commands rule (map string_bytes words.now) }
     ensures range { (ports : ℕ) → IfSome result (HasRange ports) }
@@ -85,7 +85,8 @@ fn read_other(rule: Rule, words: &[String]) -> Option<Command<'_>>
     }
 }
 
-/// The command of some words by a rule of choice, where so many ports are handed in; `None` exactly where they are of no command's form.
+/// Reads the command given by the arguments, with the rule that chooses cuts and the number of ports passed in. `None` if and
+/// only if no command has this form.
 pub fn read_command(rule: Rule, ports: usize, words: &[String]) -> Option<Command<'_>>
     ensures value { option_map (λ c. command_seen c) result ≡ command_of rule ports (map string_bytes words.now) }
     ensures range { IfSome result (HasRange ports) }
@@ -96,7 +97,7 @@ pub fn read_command(rule: Rule, ports: usize, words: &[String]) -> Option<Comman
     }
 }
 
-/// The word that names a file of a command; `gen` for the generated case.
+/// The argument that names a file of a command; `gen` for a generated case.
 pub fn file_name<'a>(command: &Command<'a>, file: File) -> &'a str
     ensures { result.now ≡ (walk_of (command_seen command.now)).reading.word file }
 {
@@ -114,7 +115,8 @@ pub fn file_name<'a>(command: &Command<'a>, file: File) -> &'a str
     }
 }
 
-/// Puts the fault line of an outcome; that of words of no form lists the forms. A failing sink changes nothing else.
+/// Writes the fault line of an outcome. For a usage error it lists the forms of all commands. If `err` fails, nothing else
+/// changes.
 pub fn report<E: Sink>(err: &mut E, name: &[u8], outcome: &Outcome)
     ensures reports { Reports (E.seen err.old) (E.seen err.new) (line_of name.now outcome.now) }
 {

@@ -1,14 +1,14 @@
-//! The command line: one call, [`tlut_by`], that runs the command that its words are by a rule of choice, and [`tlut`], the same by
-//! the rule of the fewest leaves.
+//! The command line. [`tlut_by`] runs the command given by its arguments with a rule that chooses cuts, and [`tlut`] does so
+//! with the rule of the fewest leaves.
 //!
-//! The commands stand in crates of their own, each with its words, its walk and its job; what they share is in `cmd_base`. Here
-//! is only the choice among them, and what a call says of itself, whatever the command.
+//! Each command is in another crate, with its arguments, its walk and its job; `cmd_base` has what they share. This crate
+//! only chooses among them, and states what a call says about itself, whatever the command.
 //!
-//! - `call.rt` has both, and the choice of a command's job.
-//! - `command.rt` has the forms of the words of all commands, and the fault line.
+//! - `call.rt` has both calls, and the choice of a command's job.
+//! - `command.rt` parses the arguments of all commands, and writes the fault line.
 //!
-//! `specs/Commands.antt` has the forms and the walk of each command, and `specs/Call.antt` what each status means. A new command
-//! adds an entry to `command.rt`, to `specs/Commands.antt`, and to the choice in `call.rt` with its answer.
+//! `specs/Commands.antt` has the forms and the walk of each command, and `specs/Call.antt` the meaning of each status. A new
+//! command adds an entry to `command.rt`, to `specs/Commands.antt`, and to the choice in `call.rt` with its answer.
 #![tactic(auto)]
 
 mod call;

@@ -1,4 +1,4 @@
-//! The program `tlut-compact`: it maps by the rule of the least cost.
+//! The program `tlut-compact`: it maps with the rule of the least cost.
 #![tactic(auto)]
 
 use cover_pick::Rule;

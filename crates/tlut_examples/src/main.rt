@@ -1,8 +1,9 @@
-//! Runs the examples, and compares what each one prints, and what its configuration ports take, with the texts beside it.
+//! Runs the examples, and compares their output and the writes to their configuration ports with the expected texts.
 //!
-//! `data/` has a folder for each netlist, and is what `examples` at the top of the repository names. The program runs in there: each
-//! example is the words of a command line on these files, and the files of what it must print and of what its ports must take. A
-//! line for each tells how it went, and the file `stdout` beside `src/` has the lines that are wanted.
+//! `data/` has a folder for each netlist; `examples` at the top of the repository is a link to it. The program runs in that
+//! folder. Each example has the arguments of a command line on these files, the file with the expected output, and the files
+//! with the expected writes to its ports. One line for each example reports the result; the file `stdout` beside `src/` has
+//! the expected lines.
 #![tactic(auto)]
 
 use std::alloc::{AllocError, Global};
@@ -10,16 +11,16 @@ use std::io;
 use tl_io::{ConfigPort, DiskShelf, MemPort, MemSink, Shelf, slurp};
 use tlut_cli::{Rule, Status, tlut_by};
 
-// The room for what an example prints.
+// The size of the buffer for an example's output, in bytes.
 const ROOM: usize = 10_000;
 
-// How many ports the program is handed, and how many writes each one takes.
+// The number of ports, and the number of writes that each can take.
 const PORTS: usize = 4;
 
 const WRITES: usize = 1_000;
 
-// The rule by which is mapped, the words of a command line, the file of what it prints, and those of what its first ports take. Each
-// further port takes nothing.
+// The rule, the arguments of a command line, the file with the expected output, and the files with the expected writes to the
+// first ports. All other ports are expected to receive nothing.
 struct Example {
     rule: Rule,
     words: &'static str,
@@ -146,7 +147,7 @@ fn strings(alloc: Global, words: &str) -> Result<Vec<String>, AllocError> {
     Ok(strings)
 }
 
-// Answers whether a file has these bytes.
+// Returns whether a file has these bytes.
 fn has_bytes<S: Shelf>(alloc: Global, shelf: &mut S, file: &str, bytes: &[u8]) -> bool {
     match slurp(alloc, shelf, file, ROOM as u64) {
         Ok(text) => text.as_slice() == bytes,
@@ -154,7 +155,7 @@ fn has_bytes<S: Shelf>(alloc: Global, shelf: &mut S, file: &str, bytes: &[u8]) -
     }
 }
 
-// The lines of the writes that a port took, as a port over a file writes them.
+// The lines of the writes to a port, in the format of a port that writes to a file.
 fn port_lines<P: ConfigPort>(alloc: Global, port: &P) -> Result<String, AllocError> {
     let mut lines = String::new(alloc);
     for i in 0..WRITES {
@@ -166,7 +167,7 @@ fn port_lines<P: ConfigPort>(alloc: Global, port: &P) -> Result<String, AllocErr
     Ok(lines)
 }
 
-// Answers whether each port took what its file has, and the ports without a file nothing.
+// Returns whether each port received the writes in its file, and the ports without a file nothing.
 fn have_taken<S: Shelf, P: ConfigPort>(
     alloc: Global,
     shelf: &mut S,
@@ -186,7 +187,7 @@ fn have_taken<S: Shelf, P: ConfigPort>(
     Ok(true)
 }
 
-// Runs an example, and answers whether it is done, prints what its file has, and its ports take what theirs have.
+// Runs an example. Returns whether it is done, its output is as expected, and its ports received the expected writes.
 fn is_as_expected<S: Shelf>(
     alloc: Global,
     shelf: &mut S,

@@ -1,4 +1,4 @@
-//! Output that is held back, and that nothing of it is left when a call is done.
+//! Output that is buffered, and the proof that none of it is left when a call is done.
 ghost use Rattle.std.specs.Prelude.{◌≡◌, ◌⊎◌, [], IfOk};
 ghost use Rattle.std.specs.Io.Buffered.{writer_buffer};
 
@@ -7,18 +7,18 @@ use std::io::{BufWriter, Write};
 use tl_io::Sink;
 use tlut_cli::{Outcome, Status, report};
 
-// How many bytes of the output are held back at most.
+// The size of the output buffer, in bytes.
 const ROOM: usize = 65_536;
 
-/// A writer that holds back up to 64 KiB. `Err` comes only for want of memory.
+/// A writer with a buffer of 64 KiB. `Err` only if memory runs out.
 pub fn hold<W: Write + Drop>(alloc: Global, output: W) -> std::io::Result<BufWriter<W>>
     ensures { IfOk result (λ held. writer_buffer held ≡ []) }
 {
     BufWriter::with_capacity(alloc, ROOM, output)
 }
 
-/// Writes what is still held back. A call that was done ends by a fault of writing where that fails: so where a call is done,
-/// nothing waits.
+/// Flushes the buffer. If that fails, a call that was done ends with a write fault instead. So if a call is done, nothing is
+/// left in the buffer.
 pub fn let_go<W: Write + Drop, E: Sink>(
     held: &mut BufWriter<W>,
     status: Status,

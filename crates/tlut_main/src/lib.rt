@@ -1,8 +1,8 @@
-//! The programs' main: the top call over the system's files, streams and words.
+//! The main of both programs: the top call over the system's files, streams and arguments.
 //!
-//! - `streams.rt` looks at the standard streams before any file is opened: those that are closed, and an output that is a file
-//!   which the command writes.
-//! - `held.rt` holds back output, and lets it go.
+//! - `streams.rt` checks the standard streams before any file is opened: whether they are closed, and whether stdout is a
+//!   file that the command writes.
+//! - `held.rt` buffers the output and flushes it.
 #![tactic(auto)]
 
 mod held;
@@ -20,13 +20,13 @@ use tlut_cli::{Outcome, Rule, Status, report, tlut_by};
 // The files of the configuration ports.
 const PORTS: [&str; 4] = ["port0.bits", "port1.bits", "port2.bits", "port3.bits"];
 
-// Why there are no words.
+// Why there are no arguments.
 enum NoWords {
     Refused,
     Memory,
 }
 
-// The words of the command line after the program's name.
+// The arguments after the program's name.
 fn words<R: Env + AllocGlobal>(rt: &R) -> Result<Vec<String>, NoWords> {
     let args = match env::args(rt) {
         Ok(args) => args,
@@ -42,7 +42,8 @@ fn words<R: Env + AllocGlobal>(rt: &R) -> Result<Vec<String>, NoWords> {
     Ok(words)
 }
 
-// Answers whether words are those of a command without ports, whose writes stand between its lines.
+// Returns whether these are the arguments of a command without ports. The writes of a command with ports come between its
+// lines.
 fn is_portless(words: &[String]) -> bool {
     match words {
         [command, _, _, _, _, serving, spares] if command.as_str() == "run" => {
@@ -52,13 +53,14 @@ fn is_portless(words: &[String]) -> bool {
     }
 }
 
-// Ends a call by a fault that the top call doesn't know of.
+// Ends a call with a fault that the top call doesn't know of.
 fn fail<E: Sink>(err: &mut E, outcome: &Outcome) -> Status {
     report(err, b"", outcome);
     outcome.status()
 }
 
-// Waits until the device has the files that a call wrote. A call that was done ends by a fault of writing where it refuses them.
+// Waits until the device has the files that a call wrote. If it refuses them, a call that was done ends with a write fault
+// instead.
 fn settle<R: Files + Drop, E: Sink>(
     shelf: &mut DiskShelf<R>,
     status: Status,
@@ -70,7 +72,7 @@ fn settle<R: Files + Drop, E: Sink>(
     fail(err, &Outcome::WriteFault)
 }
 
-// Runs the command of some words over the system's files and streams.
+// Runs the command given by the arguments, over the system's files and streams.
 fn run(rt: HostRuntime, rule: Rule, words: &[String]) -> Status {
     let alloc = rt.alloc();
     let mut err = StdSink::make(rt.stderr());
@@ -113,12 +115,12 @@ fn run(rt: HostRuntime, rule: Rule, words: &[String]) -> Status {
     let_go(&mut held, status, &mut err)
 }
 
-/// Runs the command of the program's words by a rule of choice: the exit status is the call's.
+/// Runs the command given by the program's arguments, with the rule that chooses cuts. Returns the exit status of the call.
 ///
-/// Where standard output is closed, or is a file that the command writes, the call ends as at a fault of writing before any file
-/// is opened; the other standard streams that are closed are filled, so that no file takes their place. Where standard output is no
-/// terminal and no port serves, up to 64 KiB of it are held back. Where the last of them can't be written, or a device refuses a
-/// file late, the call ends as at any other fault of writing.
+/// If stdout is closed, or is a file that the command writes, the call ends with a write fault before any file is opened. If
+/// stdin or stderr is closed, it is replaced by the null device, so that no file gets its descriptor. If stdout is no
+/// terminal and no port serves, up to 64 KiB of output are buffered. If flushing fails, or a device refuses a file late, the
+/// call ends with a write fault too.
 pub fn main_by(rt: HostRuntime, rule: Rule) -> ExitCode {
     let status = match words(&rt) {
         Ok(words) => run(rt, rule, &words),

@@ -1,7 +1,7 @@
-//! The standard streams as the program finds them, before it opens any file.
+//! Checks of the standard streams before the program opens any file.
 //!
-//! A file that is opened gets the lowest descriptor that is free. Where a standard stream is closed, that is the stream's, and what
-//! is printed would go into the file.
+//! A file that is opened gets the lowest free descriptor. If a standard stream is closed, this is the stream's descriptor,
+//! and output for the stream would go into the file.
 
 use crate::is_portless;
 use std::fs::{File, Metadata};
@@ -10,30 +10,30 @@ use std::os::unix::fs::MetadataExt;
 use std::rt::Files;
 use std::{fs, io};
 
-// The device that reads as empty and takes what is written to it.
+// The null device.
 const NULL: &str = "/dev/null";
 
-// The names of standard output as a file.
+// Stdout as a file.
 const OUTPUT: &str = "/dev/stdout";
 
-// Answers whether a stream is open: the descriptor of one that is closed can't be duplicated.
+// Returns whether a stream is open: the descriptor of a closed one can't be duplicated.
 fn is_open<S: AsFd>(stream: &S) -> bool {
     stream.as_fd().try_clone_to_owned().is_ok()
 }
 
-/// Answers whether standard output is open.
+/// Returns whether stdout is open.
 pub fn is_output_open<S: AsFd>(output: &S) -> bool {
     is_open(output)
 }
 
-/// What stands in the place of streams that are closed, as long as it lives.
+/// Replacements of closed streams, for as long as this value lives.
 #[derive(Drop)]
 pub struct Fillers<F: Drop> {
     input: Option<F>,
     errors: Option<F>,
 }
 
-// Opens the null device where a stream is closed.
+// Opens the null device if a stream is closed.
 fn filler<R: Files, S: AsFd>(rt: &R, stream: &S) -> io::Result<Option<R::File>> {
     if is_open(stream) {
         return Ok(None);
@@ -42,8 +42,8 @@ fn filler<R: Files, S: AsFd>(rt: &R, stream: &S) -> io::Result<Option<R::File>> 
     Ok(Some(device))
 }
 
-/// Fills the streams of input and errors where they are closed. Standard output is open, so each file gets the place of the
-/// stream that it stands for.
+/// Replaces stdin and stderr by the null device if they are closed. Stdout must be open, so that each file gets the
+/// descriptor of the stream that it replaces.
 pub fn fill_closed<R: Files, I: AsFd, E: AsFd>(
     rt: &R,
     input: &I,
@@ -55,7 +55,7 @@ pub fn fill_closed<R: Files, I: AsFd, E: AsFd>(
     })
 }
 
-// Answers whether a name is that of a file.
+// Returns whether a name is that of this file.
 fn is_same<R: Files>(rt: &R, name: &str, file: &Metadata) -> bool {
     match fs::metadata(rt, name) {
         Ok(named) => named.dev() == file.dev() && named.ino() == file.ino(),
@@ -63,7 +63,7 @@ fn is_same<R: Files>(rt: &R, name: &str, file: &Metadata) -> bool {
     }
 }
 
-// Answers whether a command writes a file: by the word that names it, or as one of the ports.
+// Returns whether a command writes this file: one of its arguments names it, or it is one of the ports.
 fn writes<R: Files>(rt: &R, words: &[String], ports: &[&str], file: &Metadata) -> bool {
     match words {
         [command, _, _, _, name] if matches!(command.as_str(), "spec" | "prove") => {
@@ -79,8 +79,8 @@ fn writes<R: Files>(rt: &R, words: &[String], ports: &[&str], file: &Metadata) -
     }
 }
 
-/// Answers whether standard output is a plain file that the command of these words writes, or one of the ports of a `run`: what
-/// is printed would spoil it.
+/// Returns whether stdout is a plain file that the command given by these arguments writes, or one of the ports of `run`.
+/// Printed output would spoil such a file.
 pub fn writes_its_output<R: Files>(rt: &R, words: &[String], ports: &[&str]) -> bool {
     match fs::metadata(rt, OUTPUT) {
         Ok(output) if output.is_file() => writes(rt, words, ports, &output),

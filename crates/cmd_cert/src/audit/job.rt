@@ -54,9 +54,9 @@ fn read_audited<S: Shelf>(
     }
 }
 
-/// Runs the command: makes the graph of a source circuit, and checks a certificate against it. It enumerates no cuts.
+/// Runs the command: builds the graph of a source circuit, and checks a certificate against it. Doesn't enumerate cuts.
 ///
-/// All memory is taken before the first byte of `out`.
+/// All memory is allocated before the first byte of `out`.
 pub fn audit_job<S: Shelf, O: Sink>(
     alloc: Global,
     words: &CertWords,

@@ -1,2 +1,2 @@
-//! The command `audit`: the graph of a source circuit is made, and a certificate is checked against it.
+//! The command `audit`: builds the graph of a source circuit, and checks a certificate against it.
 pub mod job;

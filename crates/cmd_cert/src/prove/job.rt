@@ -29,7 +29,7 @@ use flow_cert::certify;
 use std::alloc::{AllocError, Global};
 use tl_io::{Failed, Shelf, Sink};
 
-/// A labelled source circuit, the certificate of its least depth, and the line that tells it.
+/// A labelled source circuit, the certificate of its least depth, and the line to print.
 #[derive(Drop)]
 pub struct Proof {
     pub labelled: LabelledSource,
@@ -83,7 +83,7 @@ fn read_proof<S: Shelf>(alloc: Global, words: &CertWords, shelf: &mut S) -> Resu
     }
 }
 
-// Writes the certificate, and puts the line.
+// Writes the certificate, and then the line.
 fn write_out<S: Shelf, O: Sink>(
     proof: &Proof,
     name: &str,

@@ -1,2 +1,2 @@
-//! The command `prove`: a source circuit is labelled, and the certificate of its least depth is written.
+//! The command `prove`: labels a source circuit, and writes the certificate of its least depth.
 pub mod job;

@@ -20,7 +20,7 @@ use cmd_stations::{Draft, put_template_header, read_draft, write_pack, write_tem
 use std::alloc::Global;
 use tl_io::{Failed, Shelf, Sink};
 
-// Writes the template, then the pack of its bits, and puts the header line.
+// Writes the template, then the pack of its bits, and then the header line.
 fn write_out<S: Shelf, O: Sink>(
     draft: &mut Draft,
     template: &str,

@@ -1,3 +1,3 @@
-//! The command `map`: a source circuit is mapped, and its template and the pack of its bits are written.
+//! The command `map`: maps a source circuit, and writes its template and the pack of its bits.
 pub mod job;
 pub mod words;

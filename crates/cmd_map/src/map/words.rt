@@ -1,4 +1,4 @@
-//! The words of `map`.
+//! The arguments of `map`.
 ghost use Rattle.std.specs.Prelude.{◌≡◌, map, string_bytes, IfSome};
 ghost use Rattle.std.specs.Option.{option_map};
 ghost use Rattle.cmd_map.specs.Map.Words.{map_of, map_seen};
@@ -7,7 +7,7 @@ ghost use Rattle.cmd_stations.specs.Words.{IsTableSize};
 use cmd_stations::{SourceWords, read_source_words};
 use cover_pick::Rule;
 
-/// The source circuit, and the words that name the files to be written.
+/// The source circuit, and the arguments that name the output files.
 #[derive(Clone, Copy)]
 pub struct MapWords<'a> {
     pub source: SourceWords<'a>,
@@ -15,8 +15,8 @@ pub struct MapWords<'a> {
     pub pack: &'a str,
 }
 
-/// The words `map K NETLIST PARAMS TEMPLATE PACK`, of which the last two differ, where cuts are chosen by a rule; `None` exactly
-/// where they aren't of this form.
+/// Reads the arguments `map K NETLIST PARAMS TEMPLATE PACK`, the last two of which differ, with the rule that chooses cuts.
+/// `None` if and only if they have another form.
 pub fn read_map(rule: Rule, words: &[String]) -> Option<MapWords<'_>>
     ensures value { option_map (λ w. map_seen w) result ≡ map_of rule (map string_bytes words.now) }
     ensures range { IfSome result (λ w. IsTableSize w.source.k) }

@@ -43,7 +43,7 @@ fn listed_config(alloc: Global, draft: &Draft) -> Result<Vec<bool>, AllocError>
     Ok(config)
 }
 
-// Writes the specialised netlist, and puts the header line.
+// Writes the specialised netlist, and then the header line.
 fn write_out<S: Shelf, O: Sink>(
     draft: &mut Draft,
     config: &[bool],
@@ -62,7 +62,7 @@ fn write_out<S: Shelf, O: Sink>(
     }
 }
 
-/// Runs the command: maps a source circuit, and writes its tables under the configuration of the listed values.
+/// Runs the command: maps a source circuit, and writes its LUTs under the configuration for the listed values.
 pub fn spec_job<S: Shelf, O: Sink>(
     alloc: Global,
     words: &SpecWords,

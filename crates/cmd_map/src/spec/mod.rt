@@ -1,3 +1,3 @@
-//! The command `spec`: a source circuit is mapped, and its tables are written under the configuration of the listed values.
+//! The command `spec`: maps a source circuit, and writes its LUTs under the configuration for the listed values.
 pub mod job;
 pub mod words;

@@ -15,7 +15,7 @@ use port_bank::PortBank;
 use std::alloc::Global;
 use tl_io::{ConfigPort, Shelf, Sink};
 
-/// Runs the command: plays a script of the host on a pack, over an empty bank of ports of a type.
+/// Runs the command: plays a host script on a pack, with an empty bank of ports of this type.
 pub fn bits_job<S: Shelf, O: Sink, P: ConfigPort>(
     alloc: Global,
     words: &BitsWords,

@@ -1,4 +1,4 @@
-//! The command `bits`: a script of the host is played on a pack alone.
+//! The command `bits`: plays a host script on a pack alone.
 pub mod job;
 pub mod play;
 pub mod prepare;

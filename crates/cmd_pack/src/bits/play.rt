@@ -1,4 +1,4 @@
-//! The playing of a script on a pack.
+//! Playing a script on a pack.
 ghost use Rattle.std.specs.Prelude.{◌≡◌, ◌<◌, length, Option, List};
 ghost use Rattle.tl_io.specs.Causes.{HasCause};
 ghost use Rattle.tl_io.specs.Port.{PortSeen};
@@ -17,7 +17,7 @@ use std::marker::Brand;
 use std::sync::ledger::{Blank, Ledger};
 use tl_io::{ConfigPort, Failed, Sink};
 
-// Plays events over a bank in which no port serves, with a counter of the steps that their changes of parameters take.
+// Plays events over a bank without serving ports, with a counter of the steps that their changes of parameters take.
 fn play_with<O: Sink, P: ConfigPort, L: Ledger>(
     host: &mut Host,
     events: &[Event],
@@ -43,7 +43,7 @@ fn play_with<O: Sink, P: ConfigPort, L: Ledger>(
     Ok(())
 }
 
-// Plays events over a bank in which no port serves.
+// Plays events over a bank without serving ports.
 fn play_events<O: Sink, P: ConfigPort>(
     host: &mut Host,
     events: &[Event],
@@ -58,10 +58,10 @@ fn play_events<O: Sink, P: ConfigPort>(
     play_with::<O, P, Brand>(host, events, out, bank, Blank::new(1))
 }
 
-/// Plays a script: puts the header, and then plays each event and puts its line, over a bank in which no port serves.
+/// Plays a script over a bank without serving ports: writes the header, and for each event plays it and writes its line.
 ///
 /// # Errors
-/// `Failed` only where the count of `out` rose.
+/// `Failed` only if the count of faults of `out` rose.
 pub fn play<O: Sink, P: ConfigPort>(
     ready: &mut ReadyScript,
     out: &mut O,

@@ -1,4 +1,4 @@
-//! The job of `bits`, made ready to be played.
+//! Preparing the job of `bits`.
 ghost use Rattle.std.specs.Prelude.{◌≡◌, ◌≤◌, length, IfOk, IfErr, OnOk};
 ghost use Rattle.list_laws.specs.Members.{In};
 ghost use Rattle.tl_text.specs.declared.logical_lines.TheConstants.{MOST_BYTES};
@@ -20,7 +20,7 @@ use run_text::{Event, Forms, LineBuf};
 use std::alloc::{AllocError, Global};
 use tl_io::Shelf;
 
-/// A script that is ready to be played on a pack: all its memory is taken.
+/// A script that is ready to be played on a pack: all its memory is allocated.
 #[derive(Drop)]
 pub struct ReadyScript {
     pub host: Host,
@@ -51,7 +51,7 @@ fn read_events<S: Shelf>(
     }
 }
 
-// Takes all the memory that a pack's events need.
+// Allocates all the memory that a pack's events need.
 fn make_ready(alloc: Global, pack: Pack, events: Vec<Event>) -> Result<ReadyScript, AllocError>
     ensures { IfOk result (IsReady pack (event_values events.items)) }
 {
@@ -66,10 +66,10 @@ fn make_ready(alloc: Global, pack: Pack, events: Vec<Event>) -> Result<ReadyScri
     })
 }
 
-/// Reads the files of a job in the order of work, and takes all the memory that its events need.
+/// Reads the files of a job in the order of work, and allocates all the memory that its events need.
 ///
 /// # Errors
-/// The outcome of the command: the first refusal, a read fault, or want of memory.
+/// The outcome of the command: the first refusal, a read fault, or out of memory.
 pub fn prepare<S: Shelf>(
     alloc: Global,
     words: &BitsWords,

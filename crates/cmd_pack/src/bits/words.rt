@@ -1,4 +1,4 @@
-//! The words of `bits`.
+//! The arguments of `bits`.
 ghost use Rattle.std.specs.Prelude.{◌≡◌, map, string_bytes};
 ghost use Rattle.std.specs.Option.{option_map};
 ghost use Rattle.cmd_pack.specs.Bits.Words.{bits_of, bits_seen};
@@ -6,14 +6,14 @@ ghost use Rattle.cmd_pack.specs.Bits.Job.{bits_word};
 
 use cmd_base::File;
 
-/// The words that name the pack and the script.
+/// The arguments that name the pack and the script.
 #[derive(Clone, Copy)]
 pub struct BitsWords<'a> {
     pub pack: &'a str,
     pub script: &'a str,
 }
 
-/// The words `bits PACK SCRIPT`; `None` exactly where they aren't of this form.
+/// Reads the arguments `bits PACK SCRIPT`. `None` if and only if they have another form.
 pub fn read_bits(words: &[String]) -> Option<BitsWords<'_>>
     ensures { option_map (λ w. bits_seen w) result ≡ bits_of (map string_bytes words.now) }
 {
@@ -26,7 +26,7 @@ pub fn read_bits(words: &[String]) -> Option<BitsWords<'_>>
     }
 }
 
-/// The word that names a file.
+/// The argument that names a file.
 pub fn file_name<'a>(words: &BitsWords<'a>, file: File) -> &'a str
     ensures { result.now ≡ bits_word (bits_seen words.now) file }
 {

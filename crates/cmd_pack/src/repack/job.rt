@@ -18,7 +18,7 @@ use run_text::{LineBuf, put_bits_header};
 use std::alloc::Global;
 use tl_io::{Failed, Shelf, Sink};
 
-// Writes the file of a pack, and puts the line.
+// Writes the file of a pack, and then the line.
 fn write_all<S: Shelf, O: Sink>(
     pack: &Pack,
     name: &str,
@@ -33,7 +33,7 @@ fn write_all<S: Shelf, O: Sink>(
     put_bits_header(bit_count(pack), buf, out)
 }
 
-/// Runs the command: writes the file of a pack in version 2, and tells how many configuration bits it has.
+/// Runs the command: writes the file of a pack in version 2, and prints the number of its configuration bits.
 pub fn repack_job<S: Shelf, O: Sink>(
     alloc: Global,
     words: &RepackWords,

@@ -1,3 +1,3 @@
-//! The command `repack`: a pack is written in version 2.
+//! The command `repack`: writes a pack in version 2.
 pub mod job;
 pub mod words;

@@ -1,16 +1,16 @@
-//! The words of `repack`.
+//! The arguments of `repack`.
 ghost use Rattle.std.specs.Prelude.{◌≡◌, map, string_bytes};
 ghost use Rattle.std.specs.Option.{option_map};
 ghost use Rattle.cmd_pack.specs.Repack.Words.{repack_of, repack_seen};
 
-/// The words that name the pack, and the file to be written.
+/// The arguments that name the pack and the output file.
 #[derive(Clone, Copy)]
 pub struct RepackWords<'a> {
     pub old: &'a str,
     pub new: &'a str,
 }
 
-/// The words `repack OLD NEW`, of which the last two differ; `None` exactly where they aren't of this form.
+/// Reads the arguments `repack OLD NEW`, which differ. `None` if and only if they have another form.
 pub fn read_repack(words: &[String]) -> Option<RepackWords<'_>>
     ensures { option_map (λ w. repack_seen w) result ≡ repack_of (map string_bytes words.now) }
 {

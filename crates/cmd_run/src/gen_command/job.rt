@@ -21,7 +21,7 @@ use run_core::{Machine, StepErr};
 use std::alloc::Global;
 use tl_io::Sink;
 
-// Puts a line, the header line of a machine, and another line.
+// Writes a line, the header line of a machine, and another line.
 fn put_lines<O: Sink>(
     machine: &mut Machine,
     first: &str,
@@ -36,10 +36,10 @@ fn put_lines<O: Sink>(
     Ok(())
 }
 
-/// Runs the command: maps a generated multiplier, plays its hundred rounds, and tells what they add up to.
+/// Runs the command: maps a generated multiplier, plays its hundred rounds, and prints their totals.
 ///
-/// All memory is taken before the first byte of `out`. [`Outcome::Memory`] is answered only for want of it: what a generated
-/// case adds up to always fits its types.
+/// All memory is allocated before the first byte of `out`. [`Outcome::Memory`] only if memory runs out: the totals of a
+/// generated case always fit their types.
 pub fn gen_job<O: Sink>(alloc: Global, words: &GenWords, out: &mut O) -> Outcome
     requires { HasDigits words.now }
     ensures ends { (old : ShelfSeen) (ports : List PortSeen) → Ends (gen_walk words.now) old old (outside old (O.seen out.old) ports) (outside old (O.seen out.new) ports) result }

@@ -1,4 +1,4 @@
-//! The command `gen`: a generated multiplier is mapped, and its coefficient is changed a hundred times.
+//! The command `gen`: maps a generated multiplier, and changes its coefficient a hundred times.
 pub mod job;
 pub mod lines;
 pub mod play;

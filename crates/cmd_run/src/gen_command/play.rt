@@ -1,4 +1,4 @@
-//! The playing of a case.
+//! Playing a generated case.
 ghost use Rattle.std.specs.Prelude.{◌≡◌, ◌<◌};
 ghost use Rattle.run_text.specs.EventValue.{event_values};
 ghost use Rattle.cmd_run.specs.GenCommand.Totals.{Totals, IsSmall};
@@ -12,7 +12,7 @@ use run_text::Event;
 use std::marker::Brand;
 use std::sync::ledger::{Blank, Ledger};
 
-// Plays events, with a counter of the steps that their changes of parameters take, and adds up what they give.
+// Plays events, with a counter of the steps that their changes of parameters take, and returns their totals.
 fn play_with<L: Ledger>(machine: &mut Machine, events: &[Event], blank: Blank) -> CaseTotals
     requires name { blank.name ≡ L.name }
     requires parts { blank.parts ≡ L.parts }
@@ -33,7 +33,7 @@ fn play_with<L: Ledger>(machine: &mut Machine, events: &[Event], blank: Blank) -
     totals
 }
 
-// Plays events, and adds up what they give.
+// Plays events, and returns their totals.
 fn play_events(machine: &mut Machine, events: &[Event]) -> CaseTotals
     requires can_play { CanPlay (event_values events.now) machine.old }
     requires small { IsSmall (event_values events.now) machine.old }
@@ -42,7 +42,7 @@ fn play_events(machine: &mut Machine, events: &[Event]) -> CaseTotals
     play_with::<Brand>(machine, events, Blank::new(1))
 }
 
-/// Plays a case, and adds up what its events give.
+/// Plays a case, and returns the totals of its events.
 pub fn play_case(ready: &mut Ready) -> CaseTotals
     requires can_play { CanPlay (event_values ready.old.events.items) ready.old.machine }
     requires small { IsSmall (event_values ready.old.events.items) ready.old.machine }

@@ -1,4 +1,4 @@
-//! The generated case, made ready to be played: its texts are read as those of the files of `run` are.
+//! Preparing a generated case. Its texts are read like the files of `run`.
 ghost use Rattle.std.specs.Prelude.{◌≡◌, ◌≤◌, length, codes, IfOk, IfErr, OnOk};
 ghost use Rattle.list_laws.specs.Members.{In};
 ghost use Rattle.tl_text.specs.declared.logical_lines.TheConstants.{MOST_BYTES};
@@ -30,7 +30,7 @@ use gen_case::multiplier;
 use run_text::{Event, Forms};
 use std::alloc::Global;
 
-// The most inputs that a table may have.
+// The maximal number of LUT inputs.
 const TABLE_SIZE: u8 = 4;
 
 // The source circuit of a case's texts.
@@ -99,7 +99,7 @@ fn case_events(
     }
 }
 
-// The job of a case's texts.
+// The prepared job of a case's texts.
 fn ready_case(
     alloc: Global,
     rule: Rule,
@@ -128,10 +128,10 @@ fn ready_case(
     }
 }
 
-/// Generates the case of some words, reads and maps it, and takes all the memory that its events need.
+/// Generates the case for the arguments, reads and maps it, and allocates all the memory that its events need.
 ///
 /// # Errors
-/// The outcome of the command: the first refusal of the texts, or want of memory.
+/// The outcome of the command: the first refusal of the texts, or out of memory.
 pub fn prepare_case(alloc: Global, words: &GenWords) -> Result<Ready, Outcome>
     requires { HasDigits words.now }
     ensures ready { IfOk result (λ r. CanPlay (event_values r.events.items) r.machine) }

@@ -1,4 +1,4 @@
-//! What the events of a case add up to.
+//! The totals of a case's events.
 ghost use Rattle.std.specs.Prelude.{◌≡◌, ◌+◌, ◌*◌, ◌^◌, ◌<◌};
 ghost use Rattle.list_laws.specs.Digits.{bit_value, number};
 ghost use Rattle.run_text.specs.EventValue.{event_value};
@@ -7,16 +7,16 @@ ghost use Rattle.cmd_run.specs.GenCommand.Totals.{writes_of, output_of};
 use run_core::Machine;
 use run_text::Event;
 
-/// What the events of a case add up to.
+/// The totals of a case's events.
 #[derive(Clone, Copy)]
 pub struct CaseTotals {
-    /// The writes of the changes.
+    /// The number of writes in the changes.
     pub writes: u64,
-    /// The outputs of the cycles, read as binary numbers.
+    /// The sum of the outputs of the cycles, read as binary numbers.
     pub total: u128,
 }
 
-// The number with one more digit below those that it has.
+// The number with one more binary digit appended as the lowest.
 fn with_lowest(number: u128, digit: bool) -> u128
     requires { bit_value digit + 2 * number < 2 ^ 128 }
     ensures { result ≡ bit_value digit + 2 * number }
@@ -36,7 +36,7 @@ fn number_of(digits: &[bool]) -> u128
     value
 }
 
-/// The totals with what an event adds that a machine has just played.
+/// The totals after an event that the machine has just played.
 pub fn with_event(totals: CaseTotals, event: &Event, machine: &Machine) -> CaseTotals
     requires writes { totals.writes + writes_of (event_value event.now) machine.now < 2 ^ 64 }
     requires total { totals.total + output_of (event_value event.now) machine.now < 2 ^ 128 }

@@ -1,16 +1,16 @@
-//! The words of `gen`.
+//! The arguments of `gen`.
 ghost use Rattle.std.specs.Prelude.{◌≡◌, map, string_bytes, IfSome};
 ghost use Rattle.cmd_run.specs.GenCommand.Words.{gen_words, gen_of, HasDigits};
 
 use cover_pick::Rule;
 use tl_text::decimal;
 
-// The most digits, and the greatest seed.
+// The maximal number of digits, and the greatest seed.
 const MOST_DIGITS: u64 = 32;
 
 const MOST_SEED: u64 = 4_294_967_295;
 
-/// By which rule cuts are chosen, how many digits the numbers of the multiplier have, and the seed of its coefficients and data.
+/// The rule that chooses cuts, the number of digits of the multiplier's numbers, and the seed of its coefficients and data.
 #[derive(Clone, Copy)]
 pub struct GenWords {
     pub rule: Rule,
@@ -18,7 +18,7 @@ pub struct GenWords {
     pub seed: u32,
 }
 
-// The words of `gen` from their numbers, where these are in range.
+// The arguments of `gen`, if their numbers are in range.
 fn whole(rule: Rule, digits: Option<u64>, seed: Option<u64>) -> Option<GenWords>
     ensures value { result ≡ gen_words rule digits seed }
     ensures range { IfSome result HasDigits }
@@ -35,8 +35,8 @@ fn whole(rule: Rule, digits: Option<u64>, seed: Option<u64>) -> Option<GenWords>
     None
 }
 
-/// The words `gen N SEED`, with N from 1 to 32 and SEED from 0 to 4294967295, where cuts are chosen by a rule; `None` exactly
-/// where they aren't of this form.
+/// Reads the arguments `gen N SEED`, with N from 1 to 32 and SEED from 0 to 4294967295. `None` if and only if they have
+/// another form.
 pub fn read_gen(rule: Rule, words: &[String]) -> Option<GenWords>
     ensures value { result ≡ gen_of rule (map string_bytes words.now) }
     ensures range { IfSome result HasDigits }

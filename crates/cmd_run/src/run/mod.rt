@@ -1,4 +1,4 @@
-//! The command `run`: a source circuit is mapped, and a script is played on it.
+//! The command `run`: maps a source circuit, and plays a script on it.
 pub mod job;
 pub mod play;
 pub mod prepare;

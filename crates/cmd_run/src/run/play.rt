@@ -1,4 +1,4 @@
-//! The playing of a job.
+//! Playing a job.
 ghost use Rattle.std.specs.Prelude.{◌≡◌, ◌≤◌, ◌<◌, ◌+◌, length, map, Err};
 ghost use Rattle.tl_io.specs.Causes.{Rose};
 ghost use Rattle.tl_io.specs.Shelf.{ShelfSeen};
@@ -61,7 +61,7 @@ fn play_events<O: Sink, P: ConfigPort>(
     play_with::<O, P, Brand>(machine, events, out, bank, Blank::new(1))
 }
 
-// Puts the header, loads the ports, and plays events.
+// Writes the header, loads the ports, and plays events.
 fn play_all<O: Sink, P: ConfigPort>(
     machine: &mut Machine,
     events: &[Event],
@@ -77,10 +77,11 @@ fn play_all<O: Sink, P: ConfigPort>(
     play_events(machine, events, out, bank)
 }
 
-/// Plays a job: puts its header, loads the ports that serve, and plays each event, sends its writes and puts its line.
+/// Plays a job: writes its header, loads the serving ports, and for each event plays it, sends its writes and writes its
+/// line.
 ///
 /// # Errors
-/// `WriteFault` only where the count of `out` rose, `PortFault` only where all the spares failed and one port more.
+/// `WriteFault` only if the count of faults of `out` rose. `PortFault` only if all the spares and one more port failed.
 pub fn play<O: Sink, P: ConfigPort>(
     alloc: Global,
     ready: &mut Ready,

@@ -1,4 +1,4 @@
-//! The job of `run`, made ready to be played.
+//! Preparing the job of `run`.
 ghost use Rattle.std.specs.Prelude.{◌≡◌, ◌≤◌, IfOk, IfErr, OnOk};
 ghost use Rattle.tl_text.specs.declared.logical_lines.TheConstants.{MOST_BYTES};
 ghost use Rattle.tl_io.specs.Shelf.{Files};
@@ -18,14 +18,14 @@ use run_text::Event;
 use std::alloc::{AllocError, Global};
 use tl_io::Shelf;
 
-/// A job that is ready to be played: all its memory is taken.
+/// A job that is ready to be played: all its memory is allocated.
 #[derive(Drop)]
 pub struct Ready {
     pub machine: Machine,
     pub events: Vec<Event>,
 }
 
-/// The machine of a mapped source circuit at the start.
+/// The machine of a mapped source circuit, in its initial state.
 pub fn start_machine(alloc: Global, mapped: MappedSource) -> Result<Machine, AllocError>
     requires read { IsReadSource mapped.source }
     requires tables { AreMade mapped.source mapped.tables }
@@ -37,10 +37,10 @@ pub fn start_machine(alloc: Global, mapped: MappedSource) -> Result<Machine, All
     Ok(machine)
 }
 
-/// Reads and maps the files of a job in the order of work, and takes all the memory that its events need.
+/// Reads and maps the files of a job in the order of work, and allocates all the memory that its events need.
 ///
 /// # Errors
-/// The outcome of the command: the first refusal, a read fault, or want of memory.
+/// The outcome of the command: the first refusal, a read fault, or out of memory.
 pub fn prepare<S: Shelf>(alloc: Global, words: &RunWords, shelf: &mut S) -> Result<Ready, Outcome>
     requires least { 2 ≤ words.now.source.k }
     requires most { words.now.source.k ≤ MOST_LEAVES }

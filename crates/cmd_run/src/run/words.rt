@@ -1,4 +1,4 @@
-//! The words of `run`.
+//! The arguments of `run`.
 ghost use Rattle.std.specs.Prelude.{◌≡◌, ◌≤◌, ◌+◌, map, string_bytes, IfSome, Some};
 ghost use Rattle.std.specs.Option.{option_map};
 ghost use Rattle.cmd_stations.specs.Scripted.{scripted_seen};
@@ -11,14 +11,14 @@ use cover_pick::Rule;
 use run_text::Forms;
 use tl_text::decimal;
 
-/// How many of the ports that are handed in serve, and how many more stand by as spares.
+/// The numbers of ports that serve, and of ports that are spares.
 #[derive(Clone, Copy)]
 pub struct PortCounts {
     pub serving: usize,
     pub spares: usize,
 }
 
-/// The source circuit, the word that names the script, and the ports.
+/// The source circuit, the argument that names the script, and the ports.
 #[derive(Clone, Copy)]
 pub struct RunWords<'a> {
     pub source: SourceWords<'a>,
@@ -26,7 +26,7 @@ pub struct RunWords<'a> {
     pub ports: PortCounts,
 }
 
-// Two numbers of ports, where they aren't more in all than are handed in.
+// The numbers of serving and spare ports, if together they aren't more than `ports`.
 fn counts(ports: usize, serving: Option<u64>, spares: Option<u64>) -> Option<PortCounts>
     ensures value { result ≡ counts_of ports serving spares }
     ensures within { IfSome result (λ c. c.serving + c.spares ≤ ports) }
@@ -43,7 +43,7 @@ fn counts(ports: usize, serving: Option<u64>, spares: Option<u64>) -> Option<Por
     })
 }
 
-// The words of `run` from their parts.
+// The arguments of `run`, from their parts.
 fn whole<'a>(
     rule: Rule,
     netlist: &'a str,
@@ -71,8 +71,8 @@ fn whole<'a>(
     }
 }
 
-/// The words `run K NETLIST PARAMS SCRIPT PORTS SPARES`, where cuts are chosen by a rule; `None` exactly where they aren't of
-/// this form.
+/// Reads the arguments `run K NETLIST PARAMS SCRIPT PORTS SPARES`, with the rule that chooses cuts. `None` if and only if
+/// they have another form.
 pub fn read_run(rule: Rule, ports: usize, words: &[String]) -> Option<RunWords<'_>>
     ensures value { option_map (λ w. run_seen w) result ≡ run_of rule ports (map string_bytes words.now) }
     ensures range { IfSome result (IsInRange ports) }
@@ -108,7 +108,7 @@ pub fn scripted<'a>(words: &RunWords<'a>) -> ScriptedWords<'a>
     }
 }
 
-/// The word that names a file.
+/// The argument that names a file.
 pub fn file_name<'a>(words: &RunWords<'a>, file: File) -> &'a str
     ensures { result.now ≡ run_word (run_seen words.now) file }
 {
