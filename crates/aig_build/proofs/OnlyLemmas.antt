@@ -1,4 +1,4 @@
--- The signals made anew at every use are one list of nodes and literals: what makes them determines them.
+-- The signals made again at every use are one list of nodes and literals: what makes them determines them.
 use Rattle.std.proofs.Common.{◌≡◌, ℕ, ◌+◌, ◌*◌, List, [], ◌∷◌, length, Some, sym, ap, ◌∙◌, subst}
 use Rattle.std.specs.Prelude.{slice_get}
 use Rattle.std.proofs.lemmas.Option.{same_Some}

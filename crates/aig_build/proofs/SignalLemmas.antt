@@ -1,4 +1,4 @@
--- Covers made in the order of a depth-first walk, each once, give the nodes and the literals of the signals that are made anew at every use.
+-- Covers made in the order of a depth-first walk, each once, give the nodes and the literals of the signals that are made again at every use.
 use Rattle.std.proofs.Common.{◌≡◌, ℕ, ◌+◌, ◌<◌, List, [], ◌∷◌, ◌++◌, length, Option, Some, None, refl, sym, ap, ◌∙◌, subst, inl, inr, reverse}
 use Rattle.std.specs.Prelude.{slice_get, unwrap_or, IsSome}
 use mathlib.Core.List.{reverse_aux, reverse-reverse}

@@ -1,4 +1,4 @@
--- The graph of a flat circuit: its sources, and the nodes and the literal of each signal, made anew at every use.
+-- The graph of a flat circuit: its sources, and the nodes and the literal of each signal, made again at every use.
 use Rattle.std.specs.Prelude.{◌≡◌, ℕ, ◌+◌, ◌*◌, ◌<◌, List, [], ◌∷◌, ◌++◌, length, map, replicate, Some, slice_get}
 use Rattle.netlist.specs.CoverValue.{CoverValue}
 use Rattle.netlist.specs.LibraryValue.{LibraryValue}

@@ -1,4 +1,4 @@
--- What a refusal of a netlist's graph tells.
+-- What the fault line reports for a refusal of a netlist's graph.
 use Rattle.std.specs.Prelude.{Option, Some, None, codes}
 use Rattle.tl_fault.specs.RefusalValue.{RefusalValue, refusal}
 use Rattle.tl_fault.specs.declared.refusal.Details.TheVariants.{Nothing}

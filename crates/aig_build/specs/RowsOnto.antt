@@ -1,4 +1,4 @@
--- The rows of a cover as the code makes them, behind the literals so far.
+-- The rows of a cover as the code makes them, after the literals so far.
 use Rattle.std.specs.Prelude.{ℕ, List, [], ◌∷◌, ◌++◌}
 use Rattle.netlist.specs.CoverValue.{RowValue}
 use Rattle.aig_core.specs.declared.lit.Lit.{Lit}

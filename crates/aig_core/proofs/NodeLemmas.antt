@@ -1,4 +1,4 @@
--- The nodes of a graph: the sources stand before the AND nodes, and each of these has a pair, which is normal.
+-- The nodes of a graph: the sources come before the AND nodes, and each of these has a pair, which is normal.
 use Rattle.std.proofs.Common.{◌≡◌, ℕ, ◌+◌, ◌-◌, ◌<◌, ◌≤◌, length, get_or, sym, ◌∙◌, subst, arith}
 use Rattle.std.proofs.lemmas.Option.{slice_get-get_or, slice_get_within, same_Some}
 use Rattle.aig_core.specs.declared.lit.Kind.{Kind}

@@ -1,4 +1,4 @@
--- The product of two literals: a constant or one of them where that is its value, else the node of their pair, made where it doesn't stand yet.
+-- The product of two literals: a constant or one of them where that is its value, else the node of their pair, made unless it exists.
 use Rattle.std.specs.Prelude.{ℕ, ◌+◌, ◌-◌, ◌*◌, ◌/◌, ◌%◌, Bool, ◌&&◌, if◌then◌else◌, ◌==◌, min, max, List, [], ◌∷◌, ◌++◌, length, Option, Some, None, position}
 use Rattle.aig_core.specs.declared.lit.Pair.{Pair}
 use Rattle.aig_core.specs.Aig.{Aig, first_and}

@@ -1,4 +1,4 @@
--- What the calls answer that read a text, step by step.
+-- What the calls return that read a text, step by step.
 use Rattle.std.proofs.Common.{◌≡◌, ℕ, ◌+◌, ◌<◌, max, get_or, List, [], ◌∷◌, ◌++◌, length, map, drop, Option, Some, None, Result, Ok, Err, codes, Bor, refl, sym, ap, ◌∙◌, arith}
 use Rattle.std.specs.Prelude.{bytes_eq, MatchResult}
 use Rattle.std.specs.Cmp.Lexicographic.{bytes_decides}

@@ -1,4 +1,4 @@
--- What only bodies are compared with: numbers up to a greatest one, and names that stand twice, as they are found.
+-- What only bodies are compared with: numbers up to a greatest one, and names that occur twice, as they are found.
 use Rattle.std.specs.Prelude.{◌≡◌, ℕ, ◌+◌, ◌≤◌, min, true, if◌then◌else◌, List, [], ◌∷◌, length, Option, Some, Result, Ok, Err}
 use Rattle.std.specs.Option.{option_map}
 use Rattle.tl_text.specs.NameSets.{has_name, with_name}

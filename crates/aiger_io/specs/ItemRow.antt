@@ -1,4 +1,4 @@
--- The lines behind the header: inputs, latches, outputs and AND gates, in this order and as many as the header says.
+-- The lines after the header: inputs, latches, outputs and AND gates, in this order and as many as the header says.
 use Rattle.std.specs.Prelude.{◌≡◌, ℕ, ◌+◌, ◌*◌, ◌%◌, Bool, true, false, ◌&&◌, if◌then◌else◌, ◌==◌, nat_lt, nat_le, List, [], ◌∷◌, ◌++◌, length, codes}
 use Rattle.std.specs.List.{join_with_byte}
 use Rattle.list_laws.specs.Members.{In}

@@ -1,4 +1,4 @@
--- The lines behind the header: inputs, latches, outputs and AND gates, in this order and as many as the header says. The place of such a
+-- The lines after the header: inputs, latches, outputs and AND gates, in this order and as many as the header says. The place of such a
 -- line is counted from 0, so that its number is the place plus 2.
 use Rattle.std.specs.Prelude.{ℕ, ◌+◌, Bool, true, false, ◌||◌, if◌then◌else◌, nat_le, List, [], ◌∷◌, ◌++◌, length, Option, Some, None, Result, Ok, Err, bytes_eq, codes}
 use Rattle.std.specs.Option.{option_map}

@@ -1,4 +1,4 @@
--- The first refusal of a text: what precedes the line is well formed, and the line is not. That a name is another one's too is told behind all lines.
+-- The first refusal of a text: what precedes the line is well formed, and the line is not. That a name is another one's too is told after all lines.
 use Rattle.std.specs.Prelude.{◌≡◌, ℕ, ◌+◌, ◌<◌, true, false, List, [], ◌∷◌, ◌++◌, length, Some, slice_get, codes}
 use Rattle.std.specs.Str.Lines.{lines}
 use Rattle.list_laws.specs.Members.{In}

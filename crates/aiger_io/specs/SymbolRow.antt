@@ -1,4 +1,4 @@
--- Symbols: the lines `i`, `l` or `o` with an ordinal, a blank, and a name. They name an input, a latch or an output. Behind them a comment may stand.
+-- Symbols: the lines `i`, `l` or `o` with an ordinal, a blank, and a name. They name an input, a latch or an output. After them a comment may stand.
 use Rattle.std.specs.Prelude.{◌≡◌, ℕ, ◌<◌, Bool, false, ◌||◌, ◌==◌, nat_lt, List, [], ◌∷◌, ◌++◌, length, codes}
 use Rattle.std.specs.List.{list_any}
 use Rattle.list_laws.specs.Members.{In}

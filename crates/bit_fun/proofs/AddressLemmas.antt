@@ -1,4 +1,4 @@
--- The bit at a table's base plus v is the table's bit for v; the addresses of the tables stand apart, and are all.
+-- The bit at a LUT's base plus v is the LUT's bit for v; the addresses of the LUTs stand apart, and are all.
 use Rattle.std.proofs.Common.{◌≡◌, ℕ, zero, suc, ◌+◌, ◌^◌, ◌<◌, ◌≤◌, Bool, false, List, [], ◌∷◌, ◌++◌, length, get_or, refl, sym, ap, ◌∙◌, subst, inl, inr, arith, length-append, append_assoc}
 use Rattle.std.proofs.Math.ListN.{get_or-append}
 use Rattle.std.proofs.lemmas.List.{get_or-append-add}

@@ -1,4 +1,4 @@
--- A worked example: the multiplexer with the one table of its root, the literal 13, over the inputs a and b. With p = 0 the table has b's values, the configuration 0 0 1 1, and with p = 1 it has a's, 0 1 0 1.
+-- A worked example: the multiplexer with the one LUT of its root, the literal 13, over the inputs a and b. With p = 0 the LUT has b's values, the configuration 0 0 1 1, and with p = 1 it has a's, 0 1 0 1.
 use Rattle.std.proofs.Common.{◌≡◌, ℕ, zero, suc, ◌-◌, ◌<◌, Bool, true, false, not, ◌&&◌, [], ◌∷◌, get_or, refl, inl, inr, arith}
 use Rattle.list_laws.specs.Members.{In}
 use Rattle.list_laws.specs.Digits.{digit}

@@ -1,4 +1,4 @@
--- A pass over a table's order makes the table's bit for v; bits of a table and tables, one after the other.
+-- A pass over a LUT's order makes the LUT's bit for v; bits of a LUT and LUTs, one after the other.
 use Rattle.std.proofs.Common.{◌≡◌, ℕ, suc, ◌+◌, ◌-◌, ◌*◌, ◌/◌, ◌^◌, ◌<◌, ◌≤◌, List, [], ◌∷◌, ◌++◌, length, refl, sym, ap, ◌∙◌, subst, inl, inr, arith, append_assoc, append-nil}
 use Rattle.std.proofs.Math.Nat.{add-mul, mul-add, mul-one, one-mul, mul-le-mul_left}
 use Rattle.std.proofs.lemmas.Option.{slice_get_within}

@@ -1,4 +1,4 @@
--- Going over the postorder of a table's cone once, with one literal a node, makes what the recursion from the table's node makes.
+-- Going over the postorder of a LUT's cone once, with one literal a node, makes what the recursion from the LUT's node makes.
 use Rattle.std.proofs.Common.{◌≡◌, ℕ, zero, suc, ◌-◌, ◌/◌, ◌<◌, ◌≤◌, true, min, max, List, ◌∷◌, length, slice_set, get_or-set_same, get_or-set_other, Option, refl, sym, ap, ◌∙◌, subst, inl, inr, arith}
 use Rattle.std.proofs.Math.ListN.{length-set}
 use Rattle.std.proofs.lemmas.Bool.{true≢false}

@@ -1,4 +1,4 @@
--- A walk over the cone of a table: its edges fall, its postorder visits the lower fan-in first, and what it reaches is the cone.
+-- A walk over the cone of a LUT: its edges fall, its postorder visits the lower fan-in first, and what it reaches is the cone.
 use Rattle.std.proofs.Common.{◌≡◌, ℕ, ◌-◌, ◌/◌, ◌<◌, ◌≤◌, Bool, true, false, cond, ltb, List, [], ◌∷◌, length, Option, Some, refl, sym, ap, ◌∙◌, subst, inl, inr, arith}
 use Rattle.std.proofs.lemmas.Bool.{cases_lt, cond-true, cond-false, le-ltb, lt-ltb}
 use Rattle.std.proofs.lemmas.Option.{slice_get_past}

@@ -1,4 +1,4 @@
--- Where tables map a graph, each address has one bit, and there is one configuration: the bits that the walks give.
+-- Where LUTs map a graph, each address has one bit, and there is one configuration: the bits that the walks give.
 use Rattle.std.proofs.Common.{◌≡◌, ℕ, ◌+◌, ◌-◌, ◌/◌, ◌^◌, ◌<◌, ◌≤◌, Bool, false, List, [], length, get_or, refl, sym, ap, ◌∙◌, subst, inl, inr, arith}
 use Rattle.std.proofs.lemmas.List.{ext_get_or}
 use Rattle.list_laws.specs.Members.{In}

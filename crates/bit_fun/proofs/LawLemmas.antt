@@ -1,4 +1,4 @@
--- The values of a graph's literals fit the tables of a mapping under the configuration, and a mapping can be played.
+-- The values of a graph's literals fit the LUTs of a mapping under the configuration, and a mapping can be played.
 use Rattle.std.proofs.Common.{◌≡◌, ℕ, ◌+◌, ◌-◌, ◌*◌, ◌/◌, ◌%◌, ◌^◌, ◌<◌, ◌≤◌, Bool, true, false, eqb, leb, List, ◌++◌, length, get_or, refl, ap, ◌∙◌, subst, arith}
 use Rattle.std.proofs.Math.ListN.{get_or-append}
 use Rattle.std.proofs.lemmas.List.{length-map, get_or-map, get_or-append-add}

@@ -1,4 +1,4 @@
--- Worked examples: the multiplexer's table over its two inputs, whose bits are the functions 0, p, not p and 1 of the parameter, and a table without leaves, the product of two parameters.
+-- Worked examples: the multiplexer's LUT over its two inputs, whose bits are the functions 0, p, not p and 1 of the parameter, and a LUT without leaves, the product of two parameters.
 use Rattle.std.proofs.Common.{ℕ, ◌<◌, List, [], ◌∷◌, refl, inl, inr, arith}
 use Rattle.list_laws.specs.Members.{In}
 use Rattle.list_laws.specs.Digits.{bit_value, digit}

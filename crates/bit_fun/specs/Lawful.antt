@@ -1,4 +1,4 @@
--- The law of a configuration: whatever values the regular sources have, the values of the graph's literals fit the tables under it.
+-- The law of a configuration: whatever values the regular sources have, the values of the graph's literals fit the LUTs under it.
 use Rattle.std.specs.Prelude.{Bool, List}
 use Rattle.aig_core.specs.Aig.{Aig}
 use Rattle.aig_core.specs.Value.{value_of, FitsGraph}

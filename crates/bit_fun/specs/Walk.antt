@@ -1,4 +1,4 @@
--- The walk from a table's node down to its leaves, and the lists of bits that the code makes.
+-- The walk from a LUT's node down to its leaves, and the lists of bits that the code makes.
 use Rattle.std.specs.Prelude.{ℕ, zero, suc, ◌+◌, ◌/◌, ◌^◌, Bool, true, false, ◌&&◌, nat_lt, ◌==◌, List, [], ◌∷◌, ◌++◌, length, Option, Some, None, slice_index_or, position}
 use Rattle.list_laws.specs.Digits.{digit}
 use Rattle.aig_core.specs.declared.lit.Kind.{Kind}

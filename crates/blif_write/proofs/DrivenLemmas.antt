@@ -1,4 +1,4 @@
--- The names of a written netlist's parts: of which kind they are, and that each stands once.
+-- The names of a written netlist's parts: of which kind they are, and that each occurs once.
 use Rattle.std.proofs.Common.{◌≡◌, ℕ, suc, ◌+◌, ◌^◌, ◌<◌, ◌≤◌, Bool, true, false, cond, List, [], ◌∷◌, ◌++◌, length, map, slice_get, bytes_eq, Option, Some, refl, sym, inl, inr, arith, decimal}
 use Rattle.std.proofs.lemmas.Slice.Eq.{bytes_eq-Decides}
 use Rattle.list_laws.specs.Members.{In}

@@ -1,4 +1,4 @@
--- The names: own names are no output's, the places of the regular inputs, and the bytes of names behind blanks.
+-- The names: own names are no output's, the places of the regular inputs, and the bytes of names after blanks.
 use Rattle.std.proofs.Common.{◌≡◌, ℕ, zero, suc, ◌+◌, ◌-◌, ◌/◌, ◌<◌, ◌≤◌, leb, Bool, true, false, cond, ◌&&◌, List, [], ◌∷◌, ◌++◌, length, map, replicate, get_or, Some, bytes_eq, decimal, refl, sym, ap, subst, ◌∙◌, inl, inr, arith}
 use Rattle.std.specs.List.{flat_map, slice_get}
 use lib.Pointwise.{bytes_decides}

@@ -1,4 +1,4 @@
--- A written netlist is orderly: each name that it reads has one driver, and its tables are in order.
+-- A written netlist is orderly: each name that it reads has one driver, and its LUTs are in order.
 use Rattle.std.proofs.Common.{◌≡◌, ◌⊎◌, ℕ, suc, ◌+◌, ◌-◌, ◌*◌, ◌/◌, ◌%◌, ◌^◌, ◌<◌, ◌≤◌, Bool, true, false, cond, eqb, nat_le, IsTrue, List, [], ◌∷◌, ◌++◌, length, map, get_or, slice_get, bytes_eq, Some, refl, sym, ap, subst, ◌∙◌, inl, inr, arith}
 use Rattle.std.specs.List.{flat_map}
 use Rattle.std.proofs.lemmas.List.{map-append}

@@ -1,4 +1,4 @@
--- Worked examples: a multiplexer with a parameter, as a template and specialised, and a latch with a clock and a constant table.
+-- Worked examples: a multiplexer with a parameter, as a template and specialised, and a latch with a clock and a constant LUT.
 use Rattle.std.proofs.Common.{◌≡◌, true, false, [], ◌∷◌, Some, None, codes, refl}
 use Rattle.std.specs.Fmt.{digits}
 use Rattle.netlist.specs.declared.flat.Net.TheVariants.{Input, Latch, Cover}

@@ -1,4 +1,4 @@
--- What a written netlist means: its one model is sound, and its cycles are those of the tables.
+-- What a written netlist means: its one model is sound, and its cycles are those of the LUTs.
 use Rattle.std.specs.Prelude.{◌≡◌, ℕ, ◌<◌, ◌≤◌, ◌^◌, Bool, true, if◌then◌else◌, List, [], ◌∷◌, ◌++◌, length, map, slice_get, codes, bytes_eq, Option, Some, None}
 use Rattle.std.specs.List.{range_with_len}
 use Rattle.list_laws.specs.Members.{In}

@@ -1,4 +1,4 @@
--- The two netlists that are written: the specialised one, whose tables are fixed, and the template, in which each bit of a table is an input.
+-- The two netlists that are written: the specialised one, whose LUTs are fixed, and the template, in which each bit of a LUT is an input.
 use Rattle.std.specs.Prelude.{ℕ, ◌+◌, ◌-◌, ◌*◌, ◌^◌, suc, Bool, true, false, if◌then◌else◌, List, [], ◌∷◌, ◌++◌, length, map, filter, replicate, slice_index_or, bytes_eq, Option, Some, None}
 use Rattle.std.specs.List.{range_with_len}
 use Rattle.list_laws.specs.Digits.{digit}

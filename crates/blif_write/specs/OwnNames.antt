@@ -1,4 +1,4 @@
--- The names in a written netlist. The regular inputs and the outputs have their own; tables, latches and configuration bits have names
+-- The names in a written netlist. The regular inputs and the outputs have their own; LUTs, latches and configuration bits have names
 -- that begin with more underscores than any port's.
 use Rattle.std.specs.Prelude.{ℕ, suc, ◌+◌, ◌-◌, ◌/◌, nat_le, if◌then◌else◌, List, [], ◌∷◌, ◌++◌, length, replicate, slice_index_or, decimal}
 use Rattle.netlist.specs.FlatValue.{FlatValue}

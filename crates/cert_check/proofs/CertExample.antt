@@ -1,4 +1,4 @@
--- A worked example: the product of an input and an exclusive or of two others, which needs two tables of two leaves on a way.
+-- A worked example: the product of an input and an exclusive or of two others, which needs two LUTs of two leaves on a way.
 --
 -- The sources are the inputs 1, 2 and 3. Nodes 4 and 5 are the products of the exclusive or of inputs 1 and 2, node 6 is its
 -- complement, and node 7 is the product of input 3 and the exclusive or.

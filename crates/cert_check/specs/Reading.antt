@@ -1,4 +1,4 @@
--- What the calls answer that read a line of a certificate's text.
+-- What the calls return that read a line of a certificate's text.
 use Rattle.std.specs.Prelude.{◌≡◌, ℕ, List, Some}
 use Rattle.tl_text.specs.LineValue.{WordsLine}
 use Rattle.tl_text.specs.declared.text_err.TextErr.{TextErr}

@@ -1,4 +1,4 @@
--- The reading of a source circuit up to its graph is part of that of `audit`; and behind it the certificate is settled.
+-- The reading of a source circuit up to its graph is part of that of `audit`; and after it the certificate is settled.
 use Rattle.std.proofs.Common.{◌≡◌, Option, refl, subst}
 use Rattle.tl_io.specs.Shelf.{Files, ShelfSeen}
 use Rattle.aig_core.specs.Aig.{Aig, first_and, AreNormal}

@@ -1,4 +1,4 @@
--- The outcome of a certificate's refusal; want of memory has none.
+-- The outcome of a certificate's refusal; out of memory has none.
 use Rattle.std.specs.Prelude.{Option, Some, None}
 use Rattle.tl_fault.specs.RefusalValue.{RefusalValue}
 use Rattle.cmd_base.specs.declared.outcome.File.TheVariants.{Cert}

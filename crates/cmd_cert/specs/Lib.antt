@@ -1,4 +1,4 @@
--- What public clauses say: of the words of both commands,
+-- What public clauses say: of the arguments of both commands,
 pub mod Words
 -- of a certificate's file,
 pub mod Certs

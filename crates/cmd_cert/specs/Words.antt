@@ -1,4 +1,4 @@
--- The words of `prove` and `audit`.
+-- The arguments of `prove` and `audit`.
 use Rattle.std.specs.Prelude.{ℕ, if◌then◌else◌, List, [], ◌∷◌, bytes_eq, Option, Some, None}
 use Rattle.cover_pick.specs.declared.rule.Rule.TheVariants.{FewestLeaves}
 use Rattle.cmd_base.specs.declared.outcome.File.{File}

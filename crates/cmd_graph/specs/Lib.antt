@@ -1,4 +1,4 @@
--- What public clauses say: of the words,
+-- What public clauses say: of the arguments,
 pub mod Words
 -- and of the walk.
 pub mod Graph

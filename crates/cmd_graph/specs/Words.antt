@@ -1,4 +1,4 @@
--- The words of `graph`.
+-- The arguments of `graph`.
 use Rattle.std.specs.Prelude.{ℕ, if◌then◌else◌, List, [], ◌∷◌, bytes_eq, codes, Option, Some, None}
 use Rattle.cover_pick.specs.declared.rule.Rule.TheVariants.{FewestLeaves}
 use Rattle.cmd_graph.specs.declared.words.GraphWords.{GraphWords as GraphWordsRead}

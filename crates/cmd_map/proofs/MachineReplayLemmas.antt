@@ -1,4 +1,4 @@
--- The pack of a source circuit's tables is played as their machine plays it.
+-- The pack of a source circuit's LUTs is played as their machine plays it.
 use Rattle.std.proofs.Common.{◌≡◌, ℕ, Bool, List, ◌∷◌, refl, sym, ap, ◌∙◌, subst, inl, inr}
 use Rattle.list_laws.specs.Members.{In}
 use Rattle.aig_core.specs.Aig.{Aig}

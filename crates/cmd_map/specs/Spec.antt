@@ -1,3 +1,3 @@
--- The command `spec`: a source circuit is mapped, and its tables are written under the configuration of the listed values.
+-- The command `spec`: a source circuit is mapped, and its LUTs are written under the configuration of the listed values.
 pub mod Words
 pub mod Verdict

@@ -1,4 +1,4 @@
--- The playing of a script on a pack: what can be played, what stands behind some events, and how it ends at the next one.
+-- The playing of a script on a pack: what can be played, what is after some events, and how it ends at the next one.
 use Rattle.std.proofs.Common.{◌≡◌, ℕ, ◌+◌, ◌≤◌, List, [], ◌∷◌, ◌++◌, length, take, Option, Result, Ok, Err, OnErr, refl, sym, ap, ◌∙◌, subst, inl, inr, append_assoc, arith}
 use Rattle.std.specs.List.{concat}
 use Rattle.std.proofs.lemmas.List.{length-map}

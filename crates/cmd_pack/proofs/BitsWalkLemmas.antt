@@ -1,4 +1,4 @@
--- The walk of `bits`: an accepted job isn't refused, a job is refused for one reason, and what its stations answer explains how it ends.
+-- The walk of `bits`: an accepted job isn't refused, a job is refused for one reason, and what its stations return explains how it ends.
 use Rattle.std.proofs.Common.{◌≡◌, Option, refl, subst}
 use Rattle.tl_fault.specs.RefusalValue.{RefusalValue}
 use Rattle.tl_io.specs.Shelf.{Files, ShelfSeen}

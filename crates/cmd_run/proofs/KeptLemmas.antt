@@ -1,4 +1,4 @@
--- What stays from one event of a script to the next while no bit stands upset: the pack and the tables, how many values and states there are, and that the configuration is the one specialised from scratch.
+-- What stays from one event of a script to the next while no bit stands upset: the pack and the LUTs, how many values and states there are, and that the configuration is the one specialised from scratch.
 use Rattle.std.proofs.Common.{◌≡◌, ℕ, Bool, List, length, sym, ap, ◌∙◌, subst}
 use Rattle.std.proofs.lemmas.Option.{same_Some}
 use Rattle.run_text.specs.EventValue.{EventValue, Set, Cycle, Upset, Scrub, Image}

@@ -1,4 +1,4 @@
--- The playing of events: what stands behind some of them, and how it ends at the next one.
+-- The playing of events: what is after some of them, and how it ends at the next one.
 use Rattle.std.proofs.Common.{◌≡◌, ℕ, ◌+◌, List, [], ◌∷◌, ◌++◌, take, drop, Option, Result, Ok, Err, refl, sym, ap, ◌∙◌, inl, inr, append-nil, append_assoc}
 use Rattle.std.specs.List.{concat}
 use Rattle.std.proofs.lemmas.List.{take-append-drop}

@@ -1,4 +1,4 @@
--- The ports behind a job: those that serve and stand by were called, and spares took the places of those that failed.
+-- The ports after a job: those that serve and stand by were called, and spares took the places of those that failed.
 use Rattle.std.proofs.Common.{◌≡◌, ℕ, ◌+◌, ◌≤◌, List, length, take, drop, Option, Result, Ok, Err, Bool, sym, subst, ◌∙◌, arith, inl, inr, refl, length-drop}
 use Rattle.std.proofs.lemmas.List.{length-take-le}
 use Rattle.tl_io.specs.Port.{PortSeen}

@@ -1,4 +1,4 @@
--- What the events of a case add up to fits its types: a change writes no more bits than the tables have, and the outputs of a cycle are a number of as many digits.
+-- What the events of a case add up to fits its types: a change writes no more bits than the LUTs have, and the outputs of a cycle are a number of as many digits.
 use Rattle.std.proofs.Common.{◌≡◌, ℕ, ◌+◌, ◌*◌, ◌^◌, ◌<◌, ◌≤◌, List, [], ◌∷◌, ◌++◌, length, take, refl, ap, ◌∙◌, subst, arith, length-append}
 use Rattle.std.specs.List.{filter, range_with_len}
 use Rattle.std.proofs.Math.Pow.{pow_mono}

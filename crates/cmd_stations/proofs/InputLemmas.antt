@@ -1,4 +1,4 @@
--- The inputs of a source circuit by their names: each stands once, so that there are values for any values of the regular inputs and of the parameters.
+-- The inputs of a source circuit by their names: each occurs once, so that there are values for any values of the regular inputs and of the parameters.
 use Rattle.std.proofs.Common.{◌≡◌, ℕ, ◌+◌, Bool, true, false, cond, List, [], ◌∷◌, ◌++◌, length, map, drop, get_or, bytes_eq, refl, sym, ap, ◌∙◌, subst, arith}
 use Rattle.std.specs.Prelude.{if◌then◌else◌}
 use Rattle.std.proofs.lemmas.Slice.Eq.{bytes_eq-Decides}

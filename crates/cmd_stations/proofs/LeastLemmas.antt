@@ -1,4 +1,4 @@
--- The tables of a mapping of the least depth have few leaves.
+-- The LUTs of a mapping of the least depth have few leaves.
 use Rattle.std.proofs.Common.{◌≡◌, ℕ, ◌≤◌, ◌/◌, [], ◌∷◌, length, sym, ap, subst, inl, inr, arith}
 use Rattle.list_laws.specs.Members.{In}
 use Rattle.aig_core.specs.declared.lit.Kind.TheVariants.{Regular}

@@ -1,4 +1,4 @@
--- No station refuses a text or a pack for its length: that is told by the count of its bytes.
+-- No station refuses a text or a pack for its length: that depends on the count of its bytes alone.
 use Rattle.std.proofs.Common.{◌≡◌, ℕ, Bool, true, false, List, Option, Some, None, bytes_eq, ap, ◌∙◌}
 use Rattle.tl_fault.specs.RefusalValue.{RefusalValue}
 use Rattle.netlist.specs.FlatValue.{FlatValue}

@@ -1,4 +1,4 @@
--- A mapped source circuit with its script: what its files hold isn't refused, it is refused for one reason, and what its stations answer explains how a command ends there.
+-- A mapped source circuit with its script: what its files hold isn't refused, it is refused for one reason, and what its stations return explains how a command ends there.
 use Rattle.std.proofs.Common.{◌≡◌, List, Option, refl, subst}
 use Rattle.tl_fault.specs.RefusalValue.{RefusalValue}
 use Rattle.tl_io.specs.Shelf.{Files, ShelfSeen}

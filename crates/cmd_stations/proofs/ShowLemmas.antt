@@ -1,4 +1,4 @@
--- The tables of a source circuit's graph, under the configuration of any values of the parameters, play the source circuit's cycles.
+-- The LUTs of a source circuit's graph, under the configuration of any values of the parameters, play the source circuit's cycles.
 use Rattle.std.proofs.Common.{◌≡◌, ℕ, Bool, List, length, map, sym, ap, ◌∙◌, subst, subst₂}
 use Rattle.std.proofs.lemmas.List.{length-map}
 use Rattle.std.proofs.lemmas.Simd.{map-map}

@@ -1,4 +1,4 @@
--- One event more, behind some that were played.
+-- One event more, after some that were played.
 use Rattle.std.proofs.Common.{ℕ, List, [], ◌∷◌, ◌++◌}
 use Rattle.run_text.specs.EventValue.{EventValue}
 use Rattle.run_core.specs.EventLines.{event_line, host_line}

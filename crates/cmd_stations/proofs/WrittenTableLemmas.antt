@@ -1,4 +1,4 @@
--- The tables of a source circuit that was read can be written: they are few, their numbers are small, and an output that is a regular input has this input as its root.
+-- The LUTs of a source circuit that was read can be written: they are few, their numbers are small, and an output that is a regular input has this input as its root.
 use Rattle.std.proofs.Common.{◌≡◌, ℕ, zero, suc, ◌+◌, ◌-◌, ◌*◌, ◌/◌, ◌^◌, ◌<◌, ◌≤◌, Bool, true, cond, ◌&&◌, leb, ltb, List, [], length, map, Some, refl, sym, ap, ◌∙◌, inl, inr, subst, subst₂, arith}
 use Rattle.std.specs.Prelude.{slice_get, slice_index_or}
 use Rattle.std.specs.Option.{option_map}

@@ -1,4 +1,4 @@
--- What a command makes of its source circuit: its graph, the labels of the graph's nodes, or tables; and what a source circuit is refused for on the way.
+-- What a command makes of its source circuit: its graph, the labels of the graph's nodes, or LUTs; and what a source circuit is refused for on the way.
 use Rattle.std.specs.Prelude.{◌≡◌, ℕ, ◌≤◌, length, Some}
 use Rattle.tl_fault.specs.RefusalValue.{RefusalValue}
 use Rattle.aig_build.specs.declared.TheConstants.{MOST_NODES}

@@ -1,4 +1,4 @@
--- The host of a pack: at the start, and behind events.
+-- The host of a pack: initially, and after events.
 use Rattle.std.specs.Prelude.{◌≡◌, Bool, List, [], ◌∷◌, ℕ, length}
 use Rattle.ppc_pack.specs.Pack.{PackValue, IsConf, HasOneConf, inits_of}
 use Rattle.run_text.specs.EventValue.{EventValue}

@@ -1,4 +1,4 @@
--- The machine of a job with its ports: at the start, and behind events.
+-- The machine of a job with its ports: initially, and after events.
 use Rattle.std.specs.Prelude.{◌≡◌, ℕ, Bool, List, [], ◌∷◌, length, Ok}
 use Rattle.tl_io.specs.Writes.{writes_from}
 use Rattle.ppc_pack.specs.Pack.{IsConf, HasOneConf}

@@ -1,4 +1,4 @@
--- The source circuit that files hold, and its tables: the walk through NETLIST, PARAMS and what a command makes of them.
+-- The source circuit that files hold, and its LUTs: the walk through NETLIST, PARAMS and what a command makes of them.
 use Rattle.std.specs.Prelude.{◌≡◌, ℕ, List}
 use Rattle.tl_fault.specs.RefusalValue.{RefusalValue}
 use Rattle.tl_io.specs.Shelf.{Files}

@@ -1,4 +1,4 @@
--- What a stop at a text or a netlist tells: want of memory, which is free, tells nothing.
+-- Why a stop at a text or a netlist occurs: its refusal. Running out of memory is free, and has no refusal.
 use Rattle.std.specs.Prelude.{Option, Some, None, IfSome}
 use Rattle.tl_fault.specs.RefusalValue.{RefusalValue}
 use Rattle.cmd_stations.specs.declared.stop.Stop.{Stop}

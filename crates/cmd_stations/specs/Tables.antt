@@ -1,4 +1,4 @@
--- The tables of a source circuit as the code makes them.
+-- The LUTs of a source circuit as the code makes them.
 use Rattle.std.specs.Prelude.{◌≡◌, ℕ, length, map}
 use Rattle.tl_io.specs.Shelf.{Files}
 use Rattle.aig_core.specs.Aig.{Aig}

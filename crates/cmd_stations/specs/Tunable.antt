@@ -1,4 +1,4 @@
--- The configuration bits of a source circuit's tables as functions of its parameters.
+-- The configuration bits of a source circuit's LUTs as functions of its parameters.
 use Rattle.std.specs.Prelude.{◌≡◌, Bool, List, length}
 use Rattle.aig_core.specs.Aig.{Aig}
 use Rattle.aig_core.specs.Roots.{RootsValue}

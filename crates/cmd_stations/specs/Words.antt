@@ -1,4 +1,4 @@
--- The words that name a source circuit, the size of its tables, and the rule by which its cuts are chosen.
+-- The words that name a source circuit, the size of its LUTs, and the rule by which its cuts are chosen.
 use Rattle.std.specs.Prelude.{ℕ, ◌≤◌, ◌+◌, ◌-◌, ◌&&◌, nat_le, if◌then◌else◌, List, [], ◌∷◌, Option, Some, None}
 use Rattle.cut_enum.specs.declared.limits.TheConstants.{MOST_LEAVES}
 use Rattle.cover_pick.specs.declared.rule.Rule.{Rule}

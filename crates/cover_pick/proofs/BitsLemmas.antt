@@ -1,4 +1,4 @@
--- The bits of some tables: those of each lie within those of all, and all are no more than the tables' work.
+-- The bits of some LUTs: those of each lie within those of all, and all are no more than the LUTs' work.
 use Rattle.std.proofs.Common.{◌≡◌, ℕ, ◌+◌, ◌*◌, ◌^◌, ◌≤◌, List, [], ◌∷◌, length, sym, subst, inl, inr, arith}
 use Rattle.std.proofs.Math.Nat.{mul-le-mul_left, mul-one}
 use Rattle.std.proofs.lemmas.List.Sums.{sum_by-cons}

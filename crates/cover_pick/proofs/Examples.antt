@@ -1,4 +1,4 @@
--- Worked examples: the chosen table of the multiplexer whose choice is a parameter, with the complement of its last node as the root; its flows, and what a cut costs.
+-- Worked examples: the chosen LUT of the multiplexer whose choice is a parameter, with the complement of its last node as the root; its flows, and what a cut costs.
 use Rattle.std.proofs.Common.{◌≡◌, ℕ, ◌*◌, ◌/◌, ◌<◌, ◌≤◌, cond, eqb, List, [], ◌∷◌, Option, Some, None, refl, sym, ap, subst, inl, inr, arith}
 use Rattle.std.proofs.lemmas.Option.{same_Some, none-some}
 use Rattle.std.proofs.lemmas.Bool.{eqb-true}

@@ -1,4 +1,4 @@
--- How the cone of a node is listed, the greatest node first, and the work of tables as a sum over these lists.
+-- How the cone of a node is listed, the greatest node first, and the work of LUTs as a sum over these lists.
 use Rattle.std.specs.Prelude.{ℕ, zero, suc, ◌+◌, ◌*◌, ◌/◌, ◌^◌, Bool, ◌||◌, if◌then◌else◌, ◌==◌, nat_lt, List, [], ◌∷◌, length, sum_by, Option, Some, None}
 use Rattle.std.specs.List.{list_any}
 use Rattle.aig_core.specs.Aig.{Aig, first_and, pair_of}

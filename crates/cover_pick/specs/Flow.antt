@@ -1,4 +1,4 @@
--- The flow of a node: what its table and all tables below it cost, each shared evenly among the AND nodes that read it.
+-- The flow of a node: what its LUT and all LUTs below it cost, each shared evenly among the AND nodes that read it.
 use Rattle.std.specs.Prelude.{ℕ, zero, suc, ◌+◌, ◌/◌, ◌^◌, min, max, if◌then◌else◌, ◌==◌, nat_lt, List, [], ◌∷◌, ◌++◌, length, sum_by, slice_index_or}
 use Rattle.aig_core.specs.Aig.{Aig, first_and, node_count}
 use Rattle.aig_core.specs.declared.lit.Pair.{Pair}

@@ -1,4 +1,4 @@
--- Tables that map a graph, and tables of the least depth.
+-- LUTs that map a graph, and LUTs of the least depth.
 use Rattle.std.specs.Prelude.{◌≡◌, ℕ, ◌+◌, ◌*◌, ◌/◌, ◌%◌, ◌^◌, ◌<◌, List, [], ◌∷◌, length, sum_by, Option, Some, ◌⊎◌}
 use Rattle.aig_core.specs.Aig.{Aig, IsAnd, IsSource}
 use Rattle.aig_core.specs.declared.lit.Kind.TheVariants.{Regular, Parameter}

@@ -1,4 +1,4 @@
--- How the tables are made: the needed literals are marked, and the marked ones taken in ascending order.
+-- How the LUTs are made: the needed literals are marked, and the marked ones taken in ascending order.
 use Rattle.std.specs.Prelude.{◌≡◌, ℕ, ◌+◌, ◌-◌, ◌*◌, ◌/◌, ◌%◌, ◌^◌, ◌<◌, Bool, true, false, if◌then◌else◌, ◌==◌, nat_lt, List, [], ◌∷◌, ◌++◌, length, Option, Some, None, slice_get, slice_set, replicate}
 use Rattle.aig_core.specs.Aig.{Aig, first_and, node_count}
 use Rattle.aig_core.specs.declared.lit.Kind.{Kind}

@@ -1,4 +1,4 @@
--- What the refusal of a graph tells whose tables are too much work.
+-- What the fault line reports for a graph whose LUTs are too much work.
 use Rattle.std.specs.Prelude.{Option, Some, None, codes}
 use Rattle.tl_fault.specs.RefusalValue.{RefusalValue, refusal}
 use Rattle.tl_fault.specs.declared.refusal.Details.TheVariants.{Nothing}

@@ -1,4 +1,4 @@
--- The needed literals and their tables.
+-- The needed literals and their LUTs.
 use Rattle.std.specs.Prelude.{◌≡◌, ℕ, ◌*◌, ◌/◌, ◌%◌, List, [], ◌∷◌, Option, Some}
 use Rattle.aig_core.specs.Aig.{Aig, IsSource}
 use Rattle.aig_core.specs.declared.lit.Kind.TheVariants.{Regular, Parameter}

@@ -1,4 +1,4 @@
--- The work of tables: what it takes to make the functions of their bits.
+-- The work of LUTs: what it takes to make the functions of their bits.
 use Rattle.std.specs.Prelude.{◌≡◌, ℕ, ◌+◌, ◌*◌, ◌/◌, ◌^◌, ◌≤◌, List, [], ◌∷◌, length}
 use Rattle.aig_core.specs.Aig.{Aig, IsAnd, IsNode}
 use Rattle.aig_core.specs.declared.lit.Pair.{Pair}

@@ -1,4 +1,4 @@
--- Orders in which each node stands behind its successors.
+-- Orders in which each node is after its successors.
 use Rattle.std.specs.Prelude.{List, [], ◌∷◌}
 use Rattle.list_laws.specs.Members.{In}
 use Rattle.depth_first.specs.DepthFirst.{Way, leads, stops}

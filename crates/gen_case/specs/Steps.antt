@@ -1,4 +1,4 @@
--- Parts of a line as they are written one behind the other.
+-- Parts of a line as they are written one after the other.
 use Rattle.std.specs.Prelude.{ℕ, List, ◌∷◌}
 use Rattle.std.specs.List.{flat_map}
 

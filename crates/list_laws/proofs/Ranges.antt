@@ -1,4 +1,4 @@
--- A range of numbers: its members, and two behind one another.
+-- A range of numbers: its members, and two adjacent ranges.
 use Rattle.std.proofs.Common.{◌≡◌, ℕ, zero, suc, ◌+◌, ◌<◌, ◌≤◌, List, ◌∷◌, ◌++◌, ap, ◌∙◌, inl, inr, arith}
 use Rattle.std.specs.List.{range_with_len}
 use Rattle.list_laws.specs.Members.{In}

@@ -1,4 +1,4 @@
--- Places in two lists: behind the first of two joined lists, and in two lists of one length.
+-- Places in two lists: after the first of two joined lists, and in two lists of one length.
 use Rattle.std.proofs.Common.{◌≡◌, ◌⊎◌, ℕ, zero, suc, ◌+◌, List, [], ◌∷◌, ◌++◌, length, Some, refl, sym, subst, inl, inr, arith}
 use Rattle.std.specs.Prelude.{slice_get}
 use Rattle.std.proofs.lemmas.Option.{none-some, same_Some}

@@ -1,4 +1,4 @@
--- Values that fit the tables: those that a cycle leaves do, and any others agree with them at each table.
+-- Values that fit the LUTs: those that a cycle leaves do, and any others agree with them at each LUT.
 use Rattle.std.proofs.Common.{◌≡◌, ℕ, zero, suc, ◌+◌, ◌*◌, ◌/◌, ◌%◌, ◌<◌, ◌≤◌, Bool, true, false, eqb, List, [], ◌∷◌, length, get_or, map, refl, sym, ap, ◌∙◌, subst, inl, inr, arith}
 use Rattle.std.proofs.lemmas.Bool.{cases_Bool, and_parts, and_from, eq-eqb, eqb-true}
 use Rattle.list_laws.specs.Members.{In}

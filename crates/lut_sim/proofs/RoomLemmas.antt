@@ -1,4 +1,4 @@
--- There is room for each table of a playable circuit.
+-- There is room for each LUT of a playable circuit.
 use Rattle.std.proofs.Common.{◌≡◌, ℕ, suc, ◌+◌, ◌-◌, ◌*◌, ◌/◌, ◌^◌, ◌<◌, ◌≤◌, Bool, true, List, [], ◌∷◌, length, get_or, slice_set, take, refl, sym, ap, ◌∙◌, subst, inl, inr, arith, ◌&&◌, ◌||◌, leb, ltb, ◌++◌, append-nil, append_assoc}
 use Rattle.std.proofs.Math.ListN.{length-set}
 use Rattle.std.proofs.lemmas.Bool.{or_cases, and_parts, leb-true}

@@ -1,4 +1,4 @@
--- How many tables a circuit can have.
+-- How many LUTs a circuit can have.
 use Rattle.std.proofs.Common.{◌≡◌, ◌+◌, ◌^◌, ◌≤◌, List, [], ◌∷◌, length, arith}
 use Rattle.std.proofs.lemmas.List.Sums.{sum_by-cons}
 use Rattle.std.proofs.Math.Nat.{one-le-pow}

@@ -1,4 +1,4 @@
--- The circuit of one table with the latch as its leaf can be played.
+-- The circuit of one LUT with the latch as its leaf can be played.
 use Rattle.std.proofs.Common.{◌≡◌, ℕ, ◌<◌, [], ◌∷◌, IsTrue, refl, sym, subst, inl, inr, arith}
 use Rattle.list_laws.specs.Members.{In}
 use Rattle.cover_pick.specs.declared.lut.Lut.{Lut}

@@ -1,4 +1,4 @@
--- One cycle of the tables, as a relation between the values of all literals: nothing is played in an order.
+-- One cycle of the LUTs, as a relation between the values of all literals: nothing is played in an order.
 use Rattle.std.specs.Prelude.{◌≡◌, ℕ, ◌+◌, ◌*◌, Bool, false, IsTrue, List, map, slice_index_or}
 use Rattle.list_laws.specs.Members.{In}
 use Rattle.list_laws.specs.Digits.{number}

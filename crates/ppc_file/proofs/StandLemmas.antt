@@ -1,4 +1,4 @@
--- A reader that stands behind a front stands behind a longer one once the next field is taken.
+-- A reader that is after a front is after a longer one once the next field is taken.
 use Rattle.std.proofs.Common.{◌≡◌, ℕ, suc, ◌+◌, ◌*◌, ◌<◌, ◌≤◌, List, [], ◌∷◌, ◌++◌, length, Some, Ok, Err, refl, sym, ap, subst, ◌∙◌, append_assoc, append-nil, arith, inl, inr, length-append}
 use Rattle.std.specs.Prelude.{slice_get}
 use Rattle.std.specs.Int.{w16, w32, to_be_bytes}

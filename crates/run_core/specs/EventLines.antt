@@ -1,4 +1,4 @@
--- The line of an event, by the state behind it.
+-- The line of an event, by the state after it.
 use Rattle.std.specs.Prelude.{ℕ, List, [], ◌∷◌}
 use Rattle.run_text.specs.EventValue.{EventValue, Set, Cycle, Upset, Scrub, Image}
 use Rattle.run_text.specs.Lines.{set_line, scrub_line, upset_line, cycle_line, image_line}

@@ -1,4 +1,4 @@
--- The script machine: the host's part, which has the parameters' values and the configuration, and the circuit of tables that the clock plays under this configuration. Each event gives a new state and its writes.
+-- The script machine: the host's part, which has the parameters' values and the configuration, and the circuit of LUTs that the clock plays under this configuration. Each event gives a new state and its writes.
 use Rattle.std.specs.Prelude.{◌≡◌, ℕ, Bool, List}
 use Rattle.ppc_pack.specs.Pack.{IsConf}
 use Rattle.run_text.specs.EventValue.{EventValue, Set, Cycle, Upset, Scrub, Image}

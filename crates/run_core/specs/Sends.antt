@@ -1,4 +1,4 @@
--- What an event sends to the bank of ports: its writes, with the configuration behind it.
+-- What an event sends to the bank of ports: its writes, with the configuration after it.
 use Rattle.std.specs.Prelude.{◌≡◌, Bool, List, Ok, Err}
 use Rattle.tl_io.specs.declared.Write.{Write}
 use Rattle.port_bank.specs.declared.bank.PortFault.{PortFault}

@@ -1,4 +1,4 @@
--- What the calls answer that read a line of a script, and a refusal of a text's lines as one of a script.
+-- What the calls return that read a line of a script, and a refusal of a text's lines as one of a script.
 use Rattle.std.specs.Prelude.{◌≡◌, ℕ, Option, Some, None, Result, MatchResult}
 use Rattle.std.specs.Option.{option_and_then}
 use Rattle.tl_fault.specs.OrMemory.{OrMemory}

@@ -1,4 +1,4 @@
--- Worked examples: the events of a multiplexer of two tables of two bits, and the nodes of a chain that a change touches.
+-- Worked examples: the events of a multiplexer of two LUTs of two bits, and the nodes of a chain that a change touches.
 use Rattle.std.proofs.Common.{◌≡◌, ◌-◌, Bool, true, false, List, [], ◌∷◌, get_or, refl, sym, subst, arith}
 use Rattle.std.proofs.lemmas.Option.{none-some}
 use Rattle.tl_io.specs.declared.Assign.{Assign}

@@ -1,4 +1,4 @@
--- What an end says of a call: what its status tells, and what the words and the files deserve.
+-- What an end says of a call: what its status means, and what the arguments and the files call for.
 use Rattle.std.proofs.Common.{◌≡◌, ℕ, Bool, true, false, cond, List, Some, None, length, refl, sym, ap, ◌∙◌, subst, inl, inr, ◌⊎◌}
 use Rattle.std.proofs.lemmas.Option.{none-some}
 use Rattle.tl_fault.specs.RefusalValue.{RefusalValue}

@@ -1,4 +1,4 @@
--- How a command ends is how the command of its words does.
+-- How a command ends is how the command of its arguments does.
 use Rattle.std.proofs.Common.{◌≡◌, ℕ, List, Some, None, sym, ◌∙◌, subst}
 use Rattle.std.proofs.lemmas.Option.{none-some, same_Some}
 use Rattle.cover_pick.specs.declared.rule.Rule.{Rule}

@@ -1,4 +1,4 @@
--- A job of `map` that is done wrote what `bits` plays as `run` plays its tables.
+-- A job of `map` that is done wrote what `bits` plays as `run` plays its LUTs.
 use Rattle.std.proofs.Common.{◌≡◌, ℕ, suc, List, ◌∷◌, length, Ok, Some, refl, sym, ap, ◌∙◌, subst, subst₂}
 use Rattle.std.specs.FinMap.{get}
 use Rattle.std.specs.List.{concat}

@@ -1,4 +1,4 @@
--- The commands, by the words of the command line, and the walk of each.
+-- The commands, by the command-line arguments, and the walk of each.
 use Rattle.std.specs.Prelude.{ℕ, List, [], ◌∷◌, codes, Option, Some, None}
 use Rattle.std.specs.Option.{option_map}
 use Rattle.cover_pick.specs.declared.rule.Rule.{Rule}

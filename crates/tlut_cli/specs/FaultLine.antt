@@ -1,4 +1,4 @@
--- The fault line of a call: that of words of no form lists the forms of all commands.
+-- The fault line of a call: for a usage error it lists the forms of all commands.
 use Rattle.std.specs.Prelude.{ℕ, List}
 use Rattle.cmd_base.specs.FaultLine.{line_of as line_with}
 use Rattle.cmd_base.specs.declared.outcome.Outcome.{Outcome}

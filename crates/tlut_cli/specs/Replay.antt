@@ -1,4 +1,4 @@
--- What `map` writes is played by `bits` as `run` plays its tables.
+-- What `map` writes is played by `bits` as `run` plays its LUTs.
 use Rattle.std.specs.Prelude.{◌≡◌, ℕ, List, ◌∷◌, length, Ok, Some}
 use Rattle.std.specs.FinMap.{get}
 use Rattle.std.specs.List.{concat}

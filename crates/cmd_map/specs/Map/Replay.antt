@@ -1,4 +1,4 @@
--- The pack of a source circuit's tables shows for a script what their machine does.
+-- The pack of a source circuit's LUTs shows for a script what their machine does.
 use Rattle.std.specs.Prelude.{◌≡◌, ℕ, List, Some}
 use Rattle.std.specs.FinMap.{get}
 use Rattle.tl_io.specs.Shelf.{Files}

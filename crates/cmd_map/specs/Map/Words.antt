@@ -1,4 +1,4 @@
--- The words of `map`.
+-- The arguments of `map`.
 use Rattle.std.specs.Prelude.{ℕ, not, ◌&&◌, if◌then◌else◌, List, [], ◌∷◌, codes, bytes_eq, Option, Some, None}
 use Rattle.cover_pick.specs.declared.rule.Rule.{Rule}
 use Rattle.cmd_map.specs.declared.map.words.MapWords.{MapWords as MapWordsRead}

@@ -1,4 +1,4 @@
--- The words of `spec`.
+-- The arguments of `spec`.
 use Rattle.std.specs.Prelude.{ℕ, if◌then◌else◌, List, [], ◌∷◌, codes, bytes_eq, Option, Some, None}
 use Rattle.cover_pick.specs.declared.rule.Rule.{Rule}
 use Rattle.cmd_map.specs.declared.spec.words.SpecWords.{SpecWords as SpecWordsRead}

@@ -1,4 +1,4 @@
--- The words of `bits`.
+-- The arguments of `bits`.
 use Rattle.std.specs.Prelude.{ℕ, if◌then◌else◌, List, [], ◌∷◌, codes, bytes_eq, Option, Some, None}
 use Rattle.cmd_pack.specs.declared.bits.words.BitsWords.{BitsWords as BitsWordsRead}
 

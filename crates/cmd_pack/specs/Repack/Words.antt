@@ -1,4 +1,4 @@
--- The words of `repack`.
+-- The arguments of `repack`.
 use Rattle.std.specs.Prelude.{ℕ, not, ◌&&◌, if◌then◌else◌, List, [], ◌∷◌, codes, bytes_eq, Option, Some, None}
 use Rattle.cmd_pack.specs.declared.repack.words.RepackWords.{RepackWords as RepackWordsRead}
 

@@ -1,4 +1,4 @@
--- The generated texts as the files of a job of `run`, with tables of at most 4 inputs whose cuts are chosen by a rule, and no ports.
+-- The generated texts as the files of a job of `run`, with LUTs of at most 4 inputs whose cuts are chosen by a rule, and no ports.
 use Rattle.std.specs.Prelude.{codes}
 use Rattle.std.specs.FinMap.{insert, empty}
 use Rattle.tl_io.specs.Shelf.{Files}

@@ -1,4 +1,4 @@
--- The words of `gen`.
+-- The arguments of `gen`.
 use Rattle.std.specs.Prelude.{ℕ, ◌≤◌, ◌&&◌, nat_le, if◌then◌else◌, List, [], ◌∷◌, codes, bytes_eq, Option, Some, None}
 use Rattle.tl_text.specs.Decimal.{decimal_of}
 use Rattle.cover_pick.specs.declared.rule.Rule.{Rule}

@@ -1,4 +1,4 @@
--- How a job of `run` ends: what stands in the output and in the ports.
+-- How a job of `run` ends: what is in the output and in the ports.
 use Rattle.std.specs.Prelude.{◌≡◌, ◌≤◌, ◌⊎◌, ℕ, ◌+◌, List, ◌∷◌, ◌++◌, length, take, Result, Ok, Err}
 use Rattle.std.specs.List.{concat}
 use Rattle.tl_io.specs.Causes.{Rose}

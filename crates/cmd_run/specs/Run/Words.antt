@@ -1,4 +1,4 @@
--- The words of `run`.
+-- The arguments of `run`.
 use Rattle.std.specs.Prelude.{ℕ, ◌+◌, ◌≤◌, nat_le, if◌then◌else◌, List, [], ◌∷◌, codes, bytes_eq, Option, Some, None}
 use Rattle.tl_text.specs.Decimal.{decimal_of}
 use Rattle.cut_enum.specs.declared.limits.TheConstants.{MOST_LEAVES}
