@@ -1,4 +1,4 @@
-"""Netlists in AIGER's ASCII form, as the library of one model that `tlut` makes of them."""
+"""Reads netlists in AIGER's ASCII format, as the library of one model that `tlut` reads."""
 
 from __future__ import annotations
 
@@ -23,7 +23,7 @@ class Graph:
         return self.names.get(number, f"{self.mark}{number}")
 
     def cover(self, literals: list[int], output: str) -> None:
-        """A cover that is 1 where all literals are; a constant among them is left out or makes it 0."""
+        """A cover that is 1 if all literals are. A constant literal is left out, or makes the cover 0."""
         kept = [it for it in literals if it != 1]
         if 0 in kept:
             self.model.covers.append(Cover([], output))
@@ -86,5 +86,5 @@ def parse_aiger(text: str, file: str) -> Library:
         for own, left, right in rows[at + outputs :]:
             graph.cover([left, right], graph.variable(own >> 1))
     except (ValueError, IndexError):
-        raise Fault(f"{file}: it isn't AIGER's ASCII form here; ./tlut tells what is wrong with it") from None
+        raise Fault(f"{file}: it isn't valid in AIGER's ASCII format; ./tlut reports what is wrong with it") from None
     return Library(file, [graph.model])

@@ -44,7 +44,7 @@ class Mapping:
     def make(cls, netlist: str, parameters: str, k: int, folder: str, rule: str = "tlut", program: Optional[str] = None) -> Mapping:
         """Maps a netlist to LUTs of k inputs by a rule, `tlut` or `compact`, and writes NAME_t.blif and NAME.ppc into a folder."""
         if rule not in RULES:
-            raise Fault(f"the rules are {', '.join(RULES)}, and {rule} was given")
+            raise Fault(f"unknown rule {rule}; the rules are {', '.join(RULES)}")
         base = f"{folder}/{os.path.splitext(os.path.basename(netlist))[0]}"
         made = cls(f"{base}_t.blif", f"{base}.ppc")
         os.makedirs(folder, exist_ok=True)
@@ -93,5 +93,5 @@ def build(*files: str, out: str, **options: Any) -> str:
             words += [word for it in (value if isinstance(value, (list, tuple)) else [value]) for word in (option, str(it))]
     status = main(words)
     if status:
-        raise Fault(f"the build ended with status {status}; its reason is on standard error")
+        raise Fault(f"the build ended with exit status {status}; stderr says why")
     return f"{out}/index.html"

@@ -191,7 +191,7 @@ def places(nets: Iterable[str]) -> dict[str, int]:
 
 
 def config_words(device: Device) -> list[str]:
-    """The short words of the configuration's ports, in their order."""
+    """The short names of the configuration ports, in their order."""
     if hasattr(device, "width"):
         return ["clk", "we", "bit", "addr", *(["busy"] if device.model else [])]
     return ["clk", "we", "in", *([] if device.model else ["commit"]), "out"]

@@ -56,7 +56,7 @@ class Built:
 
 
 def versions(program: str) -> dict[str, str]:
-    """The first line in which each program says its version; those that aren't there are left out."""
+    """The version line of each program. Programs that aren't installed are left out."""
     found = {"tlut": first_line([program, "--version"]), "Python": sys.version.split()[0]}
     for title, names, words in VERSIONS:
         path = tools.find(names)
@@ -73,7 +73,7 @@ def first_line(words: list[str]) -> str:
 
 
 class Build:
-    """A build: the words of the call, the folder, and the names of its files."""
+    """A build: its arguments, its folder, and the names of its files."""
 
     def __init__(self, given: argparse.Namespace):
         self.given, self.folder = given, given.out
@@ -90,7 +90,7 @@ class Build:
         return f"{self.folder}/{self.name}{end}"
 
     def all(self) -> Built:
-        """Makes everything but the page."""
+        """Creates everything except the page."""
         self.netlist()
         self.sizes()
         self.map()
@@ -136,7 +136,7 @@ class Build:
         self.built.commands.append(self.call_shown())
 
     def call_shown(self) -> str:
-        """The call that makes the netlist alone, as it could be given."""
+        """The command line that creates only the netlist."""
         given = self.given
         words = [*given.files]
         words += ["--top", given.top, *(word for it in given.param for word in ("--param", it))] if self.is_verilog else []
@@ -158,7 +158,7 @@ class Build:
             return told_of(made.found, made.summary)
 
     def from_netlist(self) -> dict[str, Any]:
-        """A netlist that was given, prepared where that wasn't refused."""
+        """A netlist that was given, prepared unless that was refused."""
         given = self.given
         netlist, params = given.files
         if given.abc:
@@ -191,7 +191,7 @@ class Build:
         order = [{"tables": 0, "depth": 1, "bits": 2, "changed": 2}[name] for name in AIMS[self.given.aim]]
         fits = {rule: cells for rule, cells in at.items() if cells[1]}
         if not fits:
-            raise Fault(f"tlut refuses the netlist at K {self.given.k} for a limit ({at['tlut'][0]})")
+            raise Fault(f"tlut refuses the netlist at K {self.given.k}, which exceeds a limit ({at['tlut'][0]})")
         self.built.rule = min(fits, key=lambda rule: [int(fits[rule][place]) for place in order])
 
     def measured(self, ks: list[int]) -> dict[str, dict[str, list[str]]]:
@@ -260,7 +260,7 @@ class Build:
         return ran.returncode, ran.stdout, ran.stderr.strip()
 
     def hardware(self) -> tuple[list[list[str]], list[str]]:
-        """The run of the script, and the circuit in Verilog, which plays it too where Icarus Verilog is there."""
+        """The run of the script, and the circuit in Verilog, which also plays it if Icarus Verilog is installed."""
         files, script, module = [self.path("_t.blif"), self.path(".ppc")], self.given.script, f"{self.folder}/{self.name}_mapped"
         words = ["hdl", *files, "--target", self.given.target, "--module", f"{self.name}_mapped", "--out", self.folder]
         if not script:
@@ -283,7 +283,7 @@ class Build:
         return [check], [*shown, f"{shlex.join(['flow', *wave])} < {self.path('_run.txt')} > {self.path('.vcd')}"]
 
     def simulated(self, words: list[str], printed: str) -> list[str]:
-        """Makes the Verilog, and says what the simulation showed."""
+        """Creates the Verilog, and says what the simulation showed."""
         what, by = "the Verilog plays the script as the run did", "Icarus Verilog"
         if "--simulate" not in words:
             self.must(words, printed)
@@ -304,7 +304,7 @@ class Build:
         return told
 
     def picture(self) -> tuple[list[list[str]], list[str]]:
-        """The drawing, and a picture of it where Graphviz is there and the circuit isn't too large."""
+        """The drawing, and a picture of it if Graphviz is installed and the circuit isn't too large."""
         files = [self.path("_t.blif"), self.path(".ppc")]
         tables = int(self.built.sizes[str(self.given.k)][self.built.rule][0])
         end = ".svg" if tools.find(tools.DOT) and tables <= DRAWN else ".dot"
@@ -342,7 +342,7 @@ class Build:
         what = "the prepared netlist is the one that preparations started from"
         if self.built.preparation.get("best"):
             return [what, "ABC cec, flip-flop by flip-flop", "equal", "ok"]
-        return [what, "nobody", "one preparation was taken, without a comparison" if self.is_verilog else "it is the very file", "open" if self.is_verilog else "ok"]
+        return [what, "nobody", "one preparation was used, without a comparison" if self.is_verilog else "it is the same file", "open" if self.is_verilog else "ok"]
 
     def compared(self, what: str, words: list[str]) -> list[str]:
         """What a comparison says; a difference is a fault."""
@@ -355,7 +355,7 @@ class Build:
 
 
 def by_abc(abc: str, source: str, words: str) -> Callable[[int, str], Sizes]:
-    """What maps a netlist by ABC, with words of its mapper."""
+    """The commands by which ABC maps a netlist, with arguments of its mapper."""
     return lambda k, folder: sizes_by_abc(abc, k, source, words[2:], folder)
 
 
@@ -371,13 +371,13 @@ def told_of(found: Optional[Found], summary: str) -> dict[str, Any]:
 
 
 def program_file(program: str) -> str:
-    """The file that changes where the program does: behind the wrapper the one that it runs."""
+    """The file that changes if the program does: for the wrapper, the program that it runs."""
     built = [f"{os.path.dirname(os.path.realpath(program))}/{it}" for it in tools.BUILT]
     return next((it for it in built if os.path.exists(it)), program)
 
 
 def make_folder(path: str) -> None:
-    """Makes a folder where it isn't there."""
+    """Creates a folder unless it exists."""
     try:
         os.makedirs(path, exist_ok=True)
     except OSError as error:

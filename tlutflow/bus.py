@@ -31,7 +31,7 @@ class Bus:
 
     @property
     def span(self) -> str:
-        """The range of its indices as Verilog writes it; empty for a net that stands for itself."""
+        """The range of its indices in Verilog; empty for a net that isn't part of a bus."""
         if self.low is None:
             return ""
         ends = self.low + self.width - 1, self.low
@@ -57,10 +57,10 @@ class Bus:
         return value - (1 << self.width) if (signed or self.is_signed) and bits[self.nets[-1]] else value
 
     def value_of(self, word: str) -> int:
-        """The value of a word, where it fits."""
+        """The value that an argument states, if it fits."""
         value = parse_number(word)
         if value is None:
-            raise Fault(f"{self.name}={word}: the value is none of the forms 18, -3, 0x12, 0b10010, 5'h12")
+            raise Fault(f"{self.name}={word}: the value isn't of one of the forms 18, -3, 0x12, 0b10010, 5'h12")
         if not -(1 << self.width - 1) <= value < 1 << self.width:
             low, high = -(1 << self.width - 1), (1 << self.width) - 1
             raise Fault(f"{self.name}={word}: {self.title} has {count(self.width, 'bit')}, so its values are {low} to {high}")
@@ -68,7 +68,7 @@ class Bus:
 
 
 def parse_number(word: str) -> Optional[int]:
-    """The number of a word as Python or Verilog writes it, or None."""
+    """The number that a word is in the syntax of Python or Verilog, or None."""
     sized = SIZED.fullmatch(word.lstrip("-"))
     try:
         if sized:

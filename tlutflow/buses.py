@@ -54,7 +54,7 @@ def indexed_buses(names: list[str]) -> dict[str, Bus]:
 
 
 def assigned(words: Iterable[str], buses: dict[str, Bus], what: str) -> dict[str, int]:
-    """The bits of nets that words `NAME=VALUE` give; NAME is a bus or a single net. `what` says what they are, in a fault."""
+    """The bits of nets from arguments `NAME=VALUE`; NAME is a bus or a single net. `what` names the nets in a fault."""
     nets = {net: Bus(net, (net,)) for bus in buses.values() for net in bus.nets}
     bits: dict[str, int] = {}
     for word in words:
@@ -67,6 +67,6 @@ def assigned(words: Iterable[str], buses: dict[str, Bus], what: str) -> dict[str
             raise Fault(f"{name} is none of the {what}; these are: {there}")
         for net, bit in bus.digits(bus.value_of(value)).items():
             if net in bits:
-                raise Fault(f"{word}: {net} has a value in this line already")
+                raise Fault(f"{word}: {net} already has a value on this line")
             bits[net] = bit
     return bits

@@ -1,4 +1,4 @@
-"""Changes of parameters, drawn or all there are, and how many configuration bits they rewrite."""
+"""Changes of parameters, random or exhaustive, and how many configuration bits they rewrite."""
 
 from __future__ import annotations
 
@@ -54,7 +54,7 @@ def drawn_changes(nets: list[str], buses: list[Bus], many: int) -> Iterator[Chan
 
 
 def changes_of(nets: list[str], buses: list[Bus], many: int = SAMPLED) -> Iterator[Change]:
-    """All changes where there are few parameters, and drawn ones else."""
+    """All changes if there are few parameters, and otherwise random ones."""
     return all_changes(nets, buses) if len(nets) <= EXHAUSTIVE else drawn_changes(nets, buses, many)
 
 

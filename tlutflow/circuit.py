@@ -1,4 +1,4 @@
-"""The mapped circuit that a template and its pack are: tables, latches, outputs, depths, paths and cones."""
+"""The mapped circuit of a template and its pack: LUTs, latches, outputs, depths, paths and cones."""
 
 from __future__ import annotations
 
@@ -16,7 +16,7 @@ from tlutflow.port_file import Ports, find_ports
 
 @dataclass(frozen=True)
 class Table:
-    """A lookup table: its net, its leaves, leaf 0 first, and the addresses of its configuration bits, 2^leaves from `first` on."""
+    """A LUT: its net, its leaves, leaf 0 first, and the addresses of its configuration bits, 2^leaves from `first` on."""
 
     net: str
     leaves: list[str]
@@ -53,22 +53,22 @@ class Circuit:
 
     @cached_property
     def table_of(self) -> dict[str, Table]:
-        """The table of each net that is a table's."""
+        """The LUT of each net that a LUT drives."""
         return {table.net: table for table in self.tables}
 
     @property
     def nets(self) -> set[str]:
-        """The nets of inputs and tables."""
+        """The nets of inputs and LUTs."""
         return {*self.inputs, *self.table_of}
 
     @cached_property
     def table_at(self) -> list[int]:
-        """For each configuration bit the number of its table."""
+        """For each configuration bit the number of its LUT."""
         return [number for number, table in enumerate(self.tables) for _ in table.addresses]
 
     @cached_property
     def depths(self) -> dict[str, int]:
-        """The depth of each table: 0 without leaves, else one more than its deepest leaf."""
+        """The depth of each LUT: 0 without leaves, otherwise one more than its deepest leaf."""
         depths: dict[str, int] = {}
         for table in self.tables:
             depths[table.net] = 1 + max(depths.get(leaf, 0) for leaf in table.leaves) if table.leaves else 0
@@ -76,7 +76,7 @@ class Circuit:
 
     @property
     def depth(self) -> int:
-        """The greatest depth of a table."""
+        """The greatest depth of a LUT."""
         return max(self.depths.values(), default=0)
 
     @cached_property
@@ -85,7 +85,7 @@ class Circuit:
         return self.pack.supports()
 
     def support(self, table: Table) -> int:
-        """The parameters that some bit of a table reads, as a number with a digit for each."""
+        """The parameters that some bit of a LUT reads, as a number with a binary digit for each."""
         read = 0
         for address in table.addresses:
             read |= self.supports[address]
@@ -96,8 +96,8 @@ class Circuit:
         return [name for place, name in enumerate(self.pack.parameters) if support >> place & 1]
 
     def longest_path(self, within: Optional[set[str]] = None) -> list[str]:
-        """The nets of a longest path of the circuit, or of a cone: from an input or a latch through tables to an output or a latch.
-        Empty without tables."""
+        """The nets of the critical path of the circuit, or of a cone: from an input or a latch through LUTs to an output or a latch.
+        Empty without LUTs."""
         tables = [table for table in self.tables if within is None or table.net in within]
         if not tables:
             return []
@@ -116,7 +116,7 @@ class Circuit:
         return next((latch.state for latch in self.latches if latch.source == net), net)
 
     def cone(self, ends: Iterable[str]) -> set[str]:
-        """The nets that some nets are made of within one cycle, themselves among them: tables, latches and inputs."""
+        """The nets on which some nets depend within one cycle, including themselves: LUTs, latches and inputs."""
         found: set[str] = set()
         waiting = list(ends)
         while waiting:
@@ -137,7 +137,7 @@ def read_circuit(template: str, pack: str) -> Circuit:
 
 
 def bare_circuit(pack: Pack, file: str) -> Circuit:
-    """What a pack alone tells of its circuit: nothing but the bits and the parameters."""
+    """What is known of a circuit from its pack alone: the bits and the parameters."""
     return Circuit("pack", [], None, {}, [], [], pack, find_ports([file], None))
 
 
@@ -161,10 +161,10 @@ def circuit_of(library: Library, pack: Pack, file: str, ports: Ports = Ports()) 
         leaves = [name for name in cover.inputs if name not in set(room)]
         tables.append(Table(cover.output, leaves, first))
         if cover.inputs[len(leaves) :] != room or tables[-1].size != len(room):
-            raise Fault(f"{library.file}: no template as map writes it: the table {cover.output} doesn't have its bits as inputs")
+            raise Fault(f"{library.file}: not a template written by map: the LUT {cover.output} doesn't have its bits as inputs")
         first += len(room)
     if first != len(pack.bits):
-        raise Fault(f"{library.file} has {first} configuration bits and {file} has {len(pack.bits)}: they are not of one call of map")
+        raise Fault(f"{library.file} has {first} configuration bits and {file} has {len(pack.bits)}: they come from different calls of map")
     wires = {cover.output: cover.inputs[0] for cover in main.covers[len(tables) :]}
     roots = {name: wires.get(name, name) for name in main.outputs}
     return Circuit(main.name, [it for it in inputs if it != clock], clock, roots, main.latches, tables, pack, ports)

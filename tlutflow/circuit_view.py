@@ -11,7 +11,7 @@ from tlutflow.port_file import Ports
 
 
 def grouped(names: Iterable[str], among: Iterable[str], most: int = 6, ports: Ports = Ports()) -> str:
-    """Some nets in a few words: a whole bus by its name with its range, others one by one; nets that are `among` make the buses."""
+    """A short list of nets: a whole bus by its name with its range, others one by one. Buses are those of the nets `among`."""
     wanted, words = set(names), []
     for bus in buses_of(among, ports).values():
         inside = [net for net in bus.nets if net in wanted]

@@ -45,7 +45,7 @@ def logic_text(model: Model, inputs: list[str], ends: list[str]) -> str:
         for place, end in enumerate(ends):
             lines += cover_lines(Cover([names[end]], f"o{place}", [("1", "1")]))
     except KeyError as missing:
-        raise Fault(f"nothing drives {missing.args[0]}, or it is the clock; ./tlut tells what is wrong with the netlist") from None
+        raise Fault(f"nothing drives {missing.args[0]}, or it is the clock; ./tlut reports what is wrong with the netlist") from None
     return "\n".join([*lines, ".end", ""])
 
 

@@ -44,7 +44,7 @@ def attribute_value(port: Port) -> int:
 
 
 def parameters_of(ports: list[Port], given: list[str], clocks: list[str]) -> dict[str, int]:
-    """The parameters' bits: of the ports with the attribute and of those that words PORT=VALUE name, in the order of the ports."""
+    """The bits of the parameters: of the ports with the attribute and of those in arguments PORT=VALUE, in the order of the ports."""
     values = {}
     for word in given:
         name, _, value = word.rpartition("=")
@@ -69,17 +69,17 @@ def obstacle(library: Library) -> Optional[str]:
     main = library.main
     if main.subckts:
         kinds = sorted({it.model for it in main.subckts})
-        return f"there is no logic for the cells {', '.join(kinds)}: latches, tristates, analogue and vendor cells have to be written otherwise"
+        return f"there is no logic for the cells {', '.join(kinds)}: rewrite latches, tristates, analogue and vendor cells"
     levels = [latch.state for latch in main.latches if latch.control is None]
     if levels:
-        return f"{levels[0]} keeps a value without a clock, as a latch that a level opens does: write it as a register"
+        return f"{levels[0]} keeps a value without a clock, like a level-sensitive latch: write it as a register"
     clocks = library.clock_nets()
     made = [name for name in clocks if name not in main.inputs]
     if made:
-        return f"the clock {made[0]} is no input: clock at the positive edge of one input, and put gates and dividers into enables"
+        return f"the clock {made[0]} is no input: use the rising edge of one input, and turn gates and dividers into enables"
     if len(clocks) > 1:
-        return f"there are {len(clocks)} clocks, {', '.join(clocks)}, and one is taken: map each part alone"
+        return f"there are {len(clocks)} clocks, {', '.join(clocks)}, but only one is supported: map each part alone"
     read = {*gate_inputs(library), *main.outputs}
     if clocks and clocks[0] in read:
-        return f"the clock {clocks[0]} is read as data too, and a cycle has no value for it"
+        return f"the clock {clocks[0]} is also read as data, and a cycle has no value for it"
     return None

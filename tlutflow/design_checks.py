@@ -40,7 +40,7 @@ def ranges(design: Design, name: str, indices: list[int]) -> list[str]:
 
 
 def place_of(design: Design, bit: Any) -> str:
-    """Where the net of a bit stands in the source."""
+    """The place of a bit's net in the source."""
     return design.named[bit][1].place if bit in design.named else ""
 
 
@@ -49,9 +49,9 @@ def refuse_ports(design: Design, top: str) -> None:
     for name, port in design.ports.items():
         place = design.nets[name].place if name in design.nets else ""
         if port["direction"] == "inout":
-            raise Fault(f"{name}{place} is an inout: make it an input and an output, and an enable beside it")
+            raise Fault(f"{name}{place} is an inout: make it an input, an output and an enable")
         if "#" in name or name.endswith("\\"):
-            raise Fault(f"{name}{place}: a netlist can't have a name with # or with a \\ at its end")
+            raise Fault(f"{name}{place}: a name in a netlist can't contain # or end in \\")
     if not any(port["direction"] == "output" for port in design.ports.values()):
         raise Fault(f"{top} has no output, so nothing of it would be left")
 
@@ -61,10 +61,10 @@ def refuse_high_impedance(design: Design) -> None:
     for cell in design.cells:
         if "z" in cell.bits(False):
             name = next(filter(None, map(design.name, cell.bits(True))), cell.kind)
-            raise Fault(f"{name}{cell.place} gets the value z, which no LUT has: choose by a multiplexer")
+            raise Fault(f"{name}{cell.place} gets the value z, which no LUT can output: use a multiplexer")
     for name, port in design.ports.items():
         if "z" in port["bits"]:
-            raise Fault(f"{name}{design.nets[name].place} gets the value z, which no LUT has: choose by a multiplexer")
+            raise Fault(f"{name}{design.nets[name].place} gets the value z, which no LUT can output: use a multiplexer")
 
 
 def undriven(design: Design) -> list[str]:
@@ -96,23 +96,23 @@ def refuse_registers(design: Design) -> None:
     for cell in design.cells:
         if LATCH.fullmatch(cell.kind):
             name = design.name(cell.connections["Q"][0]) or cell.name
-            raise Fault(f"{name}{cell.place} keeps a value without a clock, as a latch that a level opens does: write it as a register")
+            raise Fault(f"{name}{cell.place} keeps a value without a clock, like a level-sensitive latch: write it as a register")
     inputs = {bit for port in design.ports.values() if port["direction"] == "input" for bit in port["bits"]}
     for cell, name in registers_of(design):
         clock = cell.connections["C"][0]
         edge = REGISTER.fullmatch(cell.kind)
         if edge and edge[1] == "N":
-            raise Fault(f"{name}{cell.place} is clocked at the falling edge of {design.name(clock)}: clock at the positive edge of one input")
+            raise Fault(f"{name}{cell.place} is clocked at the falling edge of {design.name(clock)}: use the rising edge of one input")
         if clock not in inputs:
             made = design.name(clock) or "a net that the design makes"
-            remedy = "clock at the positive edge of one input, and put gates and dividers into enables"
-            raise Fault(f"{name}{cell.place} has the clock {made}, which is no input: {remedy}")
+            remedy = "use the rising edge of one input, and turn gates and dividers into enables"
+            raise Fault(f"{name}{cell.place} has the clock {made}, which isn't an input: {remedy}")
 
 
 def late_resets(design: Design) -> list[str]:
-    """Lines on the registers whose reset doesn't wait for the clock."""
+    """Lines about the registers with an asynchronous reset."""
     found = [(cell.place, name) for cell, name in registers_of(design) if LATE_RESET.fullmatch(cell.kind)]
-    text = "has a reset that doesn't wait for the clock; in the netlist it waits for the next edge, so a pulse between two edges is lost"
+    text = "has an asynchronous reset; in the netlist it waits for the next edge, so a pulse between two edges is lost"
     return lines_by_place(design, found, text)
 
 

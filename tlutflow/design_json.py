@@ -1,4 +1,4 @@
-"""A design as Yosys writes it in JSON: the names of its bits, where they stand in the source, and what drives them."""
+"""A design as Yosys writes it in JSON: the names of its bits, their places in the source, and what drives them."""
 
 from __future__ import annotations
 
@@ -65,7 +65,7 @@ class Design:
 
 
 def source_place(attributes: dict[str, str]) -> str:
-    """Where something stands in the source, as ` (top.v:3)`; empty where Yosys doesn't know."""
+    """The place of something in the source, as ` (top.v:3)`; empty if Yosys doesn't know it."""
     places = attributes.get("src", "").split("|")
     file, colon, line = places[0].rpartition(":")
     return f" ({file}:{line.split('.')[0]})" if colon else ""

@@ -13,7 +13,7 @@ WIDEST = {"ice40": 4, "ecp5": 6, "xilinx": 6}
 
 @dataclass(frozen=True)
 class Placer:
-    """The program that places and routes for a device: its names, its arguments behind the netlist's, and what its output file ends with."""
+    """The program that places and routes for a device: its names, its arguments after the netlist's, and the ending of its output file."""
 
     names: tuple[str, ...]
     words: tuple[str, ...]
@@ -33,9 +33,9 @@ def cell_steps(target: str) -> list[Step]:
     """The steps from LUTs and flip-flops to a device's cells."""
     if target == "ice40":
         return [
-            Step("dfflegalize -cell $_DFF_P_ 0", "a flip-flop starts at 0: one that starts at 1 gets an inverter before and behind it"),
+            Step("dfflegalize -cell $_DFF_P_ 0", "a flip-flop starts at 0: one that starts at 1 gets an inverter before and after it"),
             Step("techmap -map +/gate2lut.v -D LUT_WIDTH=1 t:$_NOT_", "these inverters are LUTs too"),
-            Step("opt_lut", "an inverter goes into the LUT before or behind it where no other cell reads the net between"),
+            Step("opt_lut", "an inverter is merged into the LUT before or after it if no other cell reads the net between"),
             Step("techmap -map +/ice40/cells_map.v t:$lut", "SB_LUT4"),
             Step("techmap -map +/ice40/ff_map.v", "SB_DFF"),
         ]
@@ -58,12 +58,12 @@ def device_recipe(netlist: str, target: str, base: str) -> list[Step]:
     return [
         Step(f"read_verilog -lib {library}", "the device's cells"),
         Step(f"read_blif {quoted(netlist)}", "each LUT is one $lut"),
-        Step("simplemap t:$dff", "flip-flops become gates' cells; the LUTs stay whole"),
+        Step("simplemap t:$dff", "flip-flops become gate cells; the LUTs are unchanged"),
         *cell_steps(target),
-        Step("opt_clean", "nets that nothing reads go"),
+        Step("opt_clean", "nets that nothing reads are removed"),
         Step("check -assert", "each net has one driver"),
         Step("stat", "the cells are counted"),
-        Step("blackbox =A:whitebox", "what the device's cells do inside isn't written"),
+        Step("blackbox =A:whitebox", "the insides of the device's cells aren't written"),
         Step(f"write_json {quoted(base + '.json')}", "the netlist for nextpnr"),
         *writes,
     ]

@@ -17,7 +17,7 @@ HEAD = """digraph {name} {{
 
 
 def quote(text: str) -> str:
-    """A text as a quoted word; a line break is kept."""
+    """A text in quotes; a line break is kept."""
     return '"' + text.replace("\\", "\\\\").replace('"', '\\"').replace("\n", "\\n") + '"'
 
 
@@ -36,7 +36,7 @@ def drawing(circuit: Circuit, cone: Optional[set[str]] = None) -> str:
 
 
 def everything(circuit: Circuit) -> set[str]:
-    """All nets of tables, latches and inputs."""
+    """All nets of LUTs, latches and inputs."""
     return {*circuit.inputs, *circuit.table_of, *(latch.state for latch in circuit.latches)}
 
 
@@ -53,7 +53,7 @@ def edge(source: str, target: str, on_path: bool, more: str = "") -> str:
 
 
 def table_node(circuit: Circuit, table: Table, on_path: bool) -> str:
-    """A table: its net, its bits, and what they read of the parameters."""
+    """A LUT: its net, its bits, and the parameters that they read."""
     read = circuit.parameters_in(circuit.support(table))
     bits = f"bits {table.first}..{table.addresses[-1]}" if table.size > 1 else f"bit {table.first}"
     label = "\n".join(filter(None, [table.net, bits, parameter_words(circuit, read)]))
@@ -61,7 +61,7 @@ def table_node(circuit: Circuit, table: Table, on_path: bool) -> str:
 
 
 def parameter_words(circuit: Circuit, read: list[str]) -> str:
-    """Some parameters in a few words: whole buses by their names."""
+    """A short list of parameters: whole buses by their names."""
     words = []
     for bus in circuit.buses(circuit.pack.parameters).values():
         inside = [net for net in bus.nets if net in read]

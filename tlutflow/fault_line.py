@@ -1,4 +1,4 @@
-"""The lines in which `tlut` tells a fault."""
+"""The fault lines of `tlut`."""
 
 from __future__ import annotations
 
@@ -13,7 +13,7 @@ READ = re.compile(r"tlut: (.*): read failed")
 
 @dataclass(frozen=True)
 class FaultLine:
-    """A fault line in its parts: the file, the code and its word, the details, the number of a line, and what stands behind it. A line
+    """A fault line in its parts: the file, the code and its word, the details, the number of a line, and the text after it. A line
     without a code has its own words as the word."""
 
     word: str

@@ -30,7 +30,7 @@ def flat_model(library: Library) -> Model:
         flat.latches += [Latch(net_of(it.source), net_of(it.state), it.control and net_of(it.control), it.init) for it in model.latches]
         for ordinal, placed in reversed(list(enumerate(model.subckts))):
             if placed.model not in named or path.count("/") > len(named):
-                raise Fault(f"{library.file}: the models can't be flattened; ./tlut tells why")
+                raise Fault(f"{library.file}: the models can't be flattened; ./tlut reports why")
             below = f"{path}{ordinal}/"
             waiting.append((named[placed.model], below, instance_nets(placed, below, net_of)))
     return flat

@@ -33,7 +33,7 @@ class FlipFlops:
         return self.inside(address).replace(self.names.config["bits"], f"circuit.{self.names.config['bits']}")
 
     def table_lines(self, number: int, table: Table) -> list[str]:
-        """The lines of a table: a choice among its bits."""
+        """The lines of a LUT: a choice among its bits."""
         bits = [self.inside(address) for address in table.addresses]
         return selected(self.names, number, table, bits)
 

@@ -1,4 +1,4 @@
-"""The functions of a pack's bits as text that can be read.
+"""The functions of a pack's bits as readable text.
 
 ANDs and ORs of several operands are written in one row, exclusive ors and choices are found, and a node that several places read and
 that isn't short gets a name, `g` and its index, and a line of its own.
@@ -44,7 +44,7 @@ class Formulas:
         return [f"{self.mark}{index} = {lines[index]}" for index in sorted(lines)]
 
     def named_index(self, word: str) -> Optional[int]:
-        """The index that a word of a formula is the name of, or None."""
+        """The index of which a word of a formula is the name, or None."""
         found = re.fullmatch(self.mark + "([0-9]+)", word)
         return int(found[1]) if found else None
 
@@ -54,7 +54,7 @@ class Formulas:
         return self.operand(literal)[0]
 
     def write(self, index: int) -> None:
-        """Makes the formulas of a node and of all below it, the lowest first, so that nothing recurs deeply."""
+        """Builds the formulas of a node and of all nodes below it, the lowest first, so the recursion isn't deep."""
         needed, waiting = set(), [index]
         while waiting:
             it = waiting.pop()
@@ -67,7 +67,7 @@ class Formulas:
                 self.written[2 * it + complement] = self.formula(it, bool(complement))
 
     def operand(self, literal: int) -> tuple[str, int]:
-        """What stands for a literal within a formula, and how many operands that has."""
+        """The text of a literal within a formula, and the number of its operands."""
         index, complement = literal >> 1, literal & 1
         if index == 0:
             return str(complement), 1

@@ -1,6 +1,6 @@
 """A mapped circuit as Verilog, whose configuration is changed through a port while it runs.
 
-A target says how tables are made whose bits change, and a port how they are changed. Tables of constants are plain functions.
+A target says how LUTs with changing bits are implemented, and a port how they are changed. LUTs of constants are plain functions.
 """
 
 from __future__ import annotations
@@ -20,7 +20,7 @@ Device = Union[Chain, Random, CfglutChain, CfglutRandom]
 
 
 def device_of(circuit: Circuit, names: Names, target: str, port: str, bits: str, regions: int) -> Device:
-    """The tables and the configuration port of a circuit."""
+    """The LUTs and the configuration port of a circuit."""
     if regions < 1 or regions > 1 and (target, port) != ("generic", "chain"):
         raise Fault(f"--regions {regions}: the generic target has one chain or more, one for each region, and all other ports have one region")
     if target == "xilinx":
@@ -31,7 +31,7 @@ def device_of(circuit: Circuit, names: Names, target: str, port: str, bits: str,
 
 
 def usual_port(target: str) -> str:
-    """The port where none is chosen."""
+    """The port if none is chosen."""
     return "random" if target == "xilinx" else "chain"
 
 

@@ -1,4 +1,4 @@
-"""The words of a call: the choice of a subcommand, its help, and what a fault shows."""
+"""The command line: the choice of a subcommand, its help, and how a fault is shown."""
 
 from __future__ import annotations
 
@@ -22,14 +22,14 @@ The exit status is 0 on success, 1 on failure, with one line on stderr, and 2 fo
 
 
 class Words(argparse.ArgumentParser):
-    """A parser of words that tells an error in one line."""
+    """An argument parser that reports a usage error in one line."""
 
     def error(self, message: str) -> NoReturn:
         self.exit(2, f"{self.prog}: {message}; see {self.prog} --help\n")
 
 
 def parser() -> argparse.ArgumentParser:
-    """The parser of all words."""
+    """The parser of all arguments."""
     name = os.path.basename(sys.argv[0])
     prog = name if name.startswith(("flow", "tlut")) else "flow"
     words = Words(prog=prog, description=HEAD, epilog=TAIL)

@@ -14,7 +14,7 @@ from tlutflow.output import parse_header
 
 @dataclass(frozen=True)
 class Sizes:
-    """How many tables and bits a mapped circuit has, and its depth; or why there is none."""
+    """The numbers of LUTs and bits of a mapped circuit, and its depth; or why it couldn't be mapped."""
 
     tables: int = 0
     depth: int = 0
@@ -22,12 +22,12 @@ class Sizes:
     refusal: str = ""
 
     def cells(self) -> list[str]:
-        """The three numbers, or the refusal in the place of the first."""
+        """The three numbers, or the refusal instead of the first."""
         return [self.refusal, "", ""] if self.refusal else [str(self.tables), str(self.depth), str(self.bits)]
 
 
 def sizes_by_tlut(program: str, size: int, netlist: str, parameters: str, folder: str, *rule: str) -> Sizes:
-    """The sizes that `tlut map` tells for tables of so many inputs; with a word for the rule where the program knows it."""
+    """The sizes that `tlut map` reports for LUTs of this many inputs; with an option for the rule if the program has it."""
     files = [os.path.abspath(it) for it in (netlist, parameters)]
     ran = tools.run([program, *rule, "map", str(size), *files, f"{folder}/template.blif", f"{folder}/bits.ppc"], folder)
     header = parse_header(ran.stdout.strip())
@@ -43,7 +43,7 @@ def sizes_by_tlut(program: str, size: int, netlist: str, parameters: str, folder
 
 
 def sizes_by_abc(abc: str, size: int, netlist: str, words: str, folder: str) -> Sizes:
-    """The sizes of what ABC's `if` with some words makes of a netlist in its form."""
+    """The sizes after mapping a netlist by ABC's `if` with these arguments."""
     commands = f"read_blif {netlist}; strash; if -K {size}{words}; write_blif abc.blif"
     ran = tools.run([abc, "-q", commands], folder)
     made = f"{folder}/abc.blif"
@@ -56,7 +56,7 @@ def sizes_by_abc(abc: str, size: int, netlist: str, words: str, folder: str) -> 
 
 
 def is_table(cover: Cover) -> bool:
-    """Whether a cover is a table, and no constant and no second name."""
+    """Whether a cover is a LUT, not a constant or a second name."""
     return bool(cover.inputs) and cover.rows != [("1", "1")]
 
 
@@ -67,7 +67,7 @@ def sizes_of(library: Library) -> Sizes:
 
 
 def depth_of(library: Library) -> int:
-    """How many tables the longest way through covers has."""
+    """The number of LUTs on the critical path."""
     covers = {cover.output: cover for cover in library.main.covers}
     depths: dict[str, int] = {}
     for net in covers:

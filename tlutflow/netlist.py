@@ -20,7 +20,7 @@ class Cover:
 
 @dataclass(frozen=True)
 class Latch:
-    """A latch: its next state's name, its own name, its control or None, and its init, which is 2 where it says none."""
+    """A latch: the name of its next state, its name, its control or None, and its initial value, which is 2 if it has none."""
 
     source: str
     state: str
@@ -93,7 +93,7 @@ class Library:
                 found.append(FlatLatch(path + it.state, it.control and net_of(it.control), it.start))
             for ordinal, placed in reversed(list(enumerate(model.subckts))):
                 if placed.model not in named or path.count("/") > len(named):
-                    raise Fault(f"{self.file}: the models can't be flattened; ./tlut tells why")
+                    raise Fault(f"{self.file}: the models can't be flattened; ./tlut reports why")
                 below = f"{path}{ordinal}/"
                 waiting.append((named[placed.model], below, instance_nets(placed, below, net_of)))
         return found
@@ -136,7 +136,7 @@ def parse_library(text: str, file: str) -> Library:
             elif word != ".end":
                 cover = read_command(models[-1], line)
         except (IndexError, ValueError):
-            raise Fault(f"{file}: line {line.number} is no line of a netlist here; ./tlut tells what is wrong with it") from None
+            raise Fault(f"{file}: line {line.number} isn't valid in a netlist; ./tlut reports what is wrong with it") from None
     if not models:
         raise Fault(f"{file}: no .model: it isn't a netlist in BLIF")
     return Library(file, models)
@@ -153,7 +153,7 @@ def read_row(cover: Optional[Cover], tokens: list[str]) -> None:
 
 
 def read_command(model: Model, line: Line) -> Optional[Cover]:
-    """Adds a line to the open model, and returns its cover where it begins one."""
+    """Adds a line to the open model, and returns its cover if it begins one."""
     word, names = line.tokens[0], line.tokens[1:]
     if word == ".inputs":
         model.inputs += names
@@ -176,7 +176,7 @@ def read_command(model: Model, line: Line) -> Optional[Cover]:
 
 
 def read_latch(words: list[str]) -> Latch:
-    """The latch of a line, of which these are the words behind `.latch`."""
+    """The latch of a line with these words after `.latch`."""
     source, state, *others = words
     control = others[1] if len(others) >= 2 and others[1] != "NIL" else None
     init = others[-1] if len(others) in (1, 3) else "2"

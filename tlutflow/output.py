@@ -20,7 +20,7 @@ IMAGE = re.compile(r"image ([01]+|-)")
 
 @dataclass(frozen=True)
 class Header:
-    """The first line, whole and in its parts: how many tables and bits there are, and the depth. That of a pack has bits alone."""
+    """The first line and its parts: the numbers of LUTs and bits, and the depth. That of a pack has only bits."""
 
     text: str
     bits: int
@@ -62,7 +62,7 @@ def digits_of(text: str) -> str:
 
 
 def writes_of(text: str) -> list[tuple[int, int]]:
-    """The writes of words `ADDRESS=BIT`."""
+    """The writes in words `ADDRESS=BIT`."""
     pairs = [word.split("=") for word in text.split()]
     return [(int(address), int(bit)) for address, bit in pairs]
 
@@ -95,5 +95,5 @@ def parse_output(text: str, file: str) -> Output:
         elif header is None and not events and parse_header(line):
             header = parse_header(line)
         else:
-            raise Fault(f"{file}: line {number} is no line that tlut prints for a run: {line[:60]}")
+            raise Fault(f"{file}: line {number} isn't a line that tlut prints for a run: {line[:60]}")
     return Output(header, events)

@@ -53,8 +53,8 @@ class Reader:
         self.data, self.file, self.at = data, file, 0
 
     def refuse(self) -> Fault:
-        """The fault of what stands at the offset."""
-        return Fault(f"{self.file}: no pack from byte {self.at} on; ./tlut tells what is wrong with it")
+        """The fault at the current offset."""
+        return Fault(f"{self.file}: not a pack from byte {self.at} on; ./tlut reports what is wrong with it")
 
     def take(self, length: int) -> bytes:
         """The next bytes."""
@@ -79,7 +79,7 @@ class Reader:
                 return value
 
     def number(self, version: int, length: int) -> int:
-        """A number that has so many bytes in version 1."""
+        """A number that has this many bytes in version 1."""
         return self.fixed(length) if version == 1 else self.short()
 
     def node(self, version: int, index: int) -> tuple[int, int]:
@@ -108,10 +108,10 @@ def parse_pack(data: bytes, file: str) -> Pack:
     """The pack of the bytes of a file; `file` is its name in a fault."""
     reader = Reader(data, file)
     if reader.take(4) != MAGIC:
-        raise Fault(f"{file}: no pack: a pack begins with TPPC")
+        raise Fault(f"{file}: not a pack: a pack begins with TPPC")
     version = reader.fixed(2)
     if version not in (1, 2):
-        raise Fault(f"{file}: a pack of version {version}, and versions 1 and 2 are read")
+        raise Fault(f"{file}: a pack of version {version}, and only versions 1 and 2 can be read")
     parameters = dict(reader.parameter(version) for _ in range(reader.number(version, 2)))
     first = 1 + len(parameters)
     nodes = [reader.node(version, first + place) for place in range(reader.number(version, 4))]

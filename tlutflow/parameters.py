@@ -50,7 +50,7 @@ def parse_parameters(text: str, file: str) -> dict[str, int]:
         if len(line.tokens) != 2 or line.tokens[1] not in ("0", "1"):
             raise Fault(f"{file}: line {line.number} isn't a name and 0 or 1")
         if line.tokens[0] in values:
-            raise Fault(f"{file}: line {line.number}: {line.tokens[0]} stands in an earlier line")
+            raise Fault(f"{file}: line {line.number}: {line.tokens[0]} is on an earlier line already")
         values[line.tokens[0]] = int(line.tokens[1])
     return values
 
@@ -71,7 +71,7 @@ def interface_of(library: Library, parameters: dict[str, int], file: str, ports:
     inputs = data_inputs(library)
     for name in parameters:
         if name not in inputs:
-            raise Fault(f"{file}: {name} is no input of {library.file} that can be a parameter")
+            raise Fault(f"{file}: {name} isn't an input of {library.file} that can be a parameter")
     latches = library.flat_latches()
     names = ports.register_names(len(latches), inputs) or [it.net for it in latches]
     states = [State(name, it.start) for name, it in zip(names, latches)]

@@ -22,7 +22,7 @@ CLEAR = 15
 
 
 def nice_step(top: float, parts: int) -> float:
-    """A step of 1, 2 or 5 times a power of ten, of which at most so many reach a number."""
+    """A step of 1, 2 or 5 times a power of ten, so that at most this many steps reach a number."""
     step = 0.01
     while True:
         for factor in (1, 2, 5):
@@ -37,7 +37,7 @@ def number(value: float) -> str:
 
 
 def text(x: float, y: float, words: str, anchor: str = "middle", size: int = 12, colour: str = INK, more: str = "") -> str:
-    """Words at a place."""
+    """A text at a place."""
     return f'<text x="{number(x)}" y="{number(y)}" text-anchor="{anchor}" font-size="{size}" fill="{colour}"{more}>{escape(words)}</text>'
 
 
@@ -65,11 +65,11 @@ class Panel:
     high: float = 52
 
     def x(self, value: float) -> float:
-        """Where a value stands from left to right."""
+        """The horizontal position of a value."""
         return self.left + (self.right - self.left) * value / self.top_x
 
     def y(self, value: float) -> float:
-        """Where a value stands from below."""
+        """The vertical position of a value."""
         return self.low - (self.low - self.high) * value / self.top_y
 
     def frame(self, title: str, below: str, beside: str, unit: str = "") -> list[str]:
@@ -116,7 +116,7 @@ def tick_parts(ticks: dict[int, tuple[int, int, int]]) -> list[str]:
 
 
 def ticks_of(counts: list[int]) -> dict[int, tuple[int, int, int]]:
-    """The least, the median and the greatest number of ticks that changes of so many bits take at each rate."""
+    """The least, the median and the greatest number of ticks at each rate, for changes of these numbers of bits."""
     return {rate: spread([-(-it // rate) for it in counts]) for rate in RATES}
 
 

@@ -27,7 +27,7 @@ class Ports:
     registers: list[str] = field(default_factory=list)
 
     def register_names(self, latches: int, taken: Iterable[str]) -> list[str]:
-        """The names of so many latches, none of which is taken; empty where the file is of another netlist."""
+        """The names of this many latches, none of which is taken; empty if the file belongs to another netlist."""
         if len(self.registers) != latches:
             return []
         used = set(taken)
@@ -79,7 +79,7 @@ def read_ports_file(path: str) -> Ports:
         buses = [bus_of_json(it) for it in [*given["ports"], *given["buses"]]]
         registers = [str(it) for it in given["registers"]]
     except (ValueError, KeyError, TypeError, AttributeError):
-        raise Fault(f"{path}: it isn't what `flow verilog` writes; remove it, or write it again") from None
+        raise Fault(f"{path}: `flow verilog` didn't write it; remove it, or run `flow verilog` again") from None
     return Ports({bus.name: bus for bus in buses}, registers)
 
 
@@ -90,5 +90,5 @@ def bus_of_json(given: dict[str, Any]) -> Bus:
 
 
 def json_of_bus(bus: Bus, **more: Any) -> dict[str, Any]:
-    """The entry of a bus. Its bits stand from the lowest digit on."""
+    """The entry of a bus. Its bits are in order, the lowest digit first."""
     return {"name": bus.name, **more, "bits": list(bus.nets), "low": bus.low, "turned": bus.is_turned, "signed": bus.is_signed}

@@ -1,4 +1,4 @@
-"""The recipe by which Yosys makes a netlist that `tlut` takes, each line with its reason."""
+"""The Yosys recipe that creates a netlist for `tlut`, each line with its reason."""
 
 from __future__ import annotations
 
@@ -18,7 +18,7 @@ READERS = {
 
 @dataclass(frozen=True)
 class Step:
-    """A command of Yosys and why it stands there."""
+    """A command of Yosys and its reason."""
 
     command: str
     reason: str
@@ -26,7 +26,7 @@ class Step:
 
 @dataclass(frozen=True)
 class Sources:
-    """A design's files, its top module, and what its reader is told: macros, folders of included files, values of module parameters."""
+    """A design's files, its top module, and the options of its reader: macros, include folders, values of module parameters."""
 
     files: list[str]
     top: str
@@ -37,7 +37,7 @@ class Sources:
 
 
 def quoted(path: str) -> str:
-    """A file's name as a word of a Yosys script."""
+    """A file name as an argument in a Yosys script."""
     return f'"{path}"'
 
 
@@ -63,16 +63,16 @@ def look(sources: Sources, design: str) -> list[Step]:
 def recipe(sources: Sources, preparation: str, netlist: str, registers: str, ports: str, gates: Optional[str] = None) -> list[Step]:
     """The steps from files in Verilog to the files of the netlist, of its registers and of its ports. With `gates` the netlist before its
     preparation is written to that file too, for others to start from."""
-    before = [Step("opt_clean -purge", "aliases go"), Step(f"write_blif {quoted(gates)}", "where preparations start"), Step(f"write_json {quoted(gates + '.json')}", "")] if gates else []
+    before = [Step("opt_clean -purge", "aliases are removed"), Step(f"write_blif {quoted(gates)}", "where preparations start"), Step(f"write_json {quoted(gates + '.json')}", "")] if gates else []
     return [
         *reading(sources),
         Step(f"synth -flatten -top {sources.top}", "one module of gates and flip-flops; memories become flip-flops"),
         Step(f"write_json {quoted(registers)}", "the registers with their names and resets, as the source has them"),
-        Step("async2sync", "a reset that doesn't wait for the clock becomes logic before and behind its flip-flop, since a latch has none"),
+        Step("async2sync", "an asynchronous reset becomes logic before and after its flip-flop, since a latch has none"),
         Step("dfflegalize -cell $_DFF_P_ 01", "enables and resets become logic before a plain flip-flop at the positive edge, which starts at 0 or 1"),
         *before,
         Step(f"abc -g AND,OR,XOR,MUX -script +{preparation}", "gates of two inputs, and of little depth: the mapper keeps the graph that it reads"),
-        Step("opt_clean -purge", "aliases go, as the second name of a clock, which would count as data"),
+        Step("opt_clean -purge", "aliases are removed, such as the second name of a clock, which would count as data"),
         Step(f"write_blif {quoted(netlist)}", "the netlist"),
         Step(f"write_json {quoted(ports)}", "the ports with their attributes"),
     ]

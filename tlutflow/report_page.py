@@ -40,7 +40,7 @@ def number(value: Any) -> str:
 
 
 def table(head: list[str], rows: Iterable[tuple[list[str], str]], texts: tuple[int, ...] = ()) -> str:
-    """A table: its head and rows of cells that are HTML, each row with a class; the columns `texts` are set to the left."""
+    """An HTML table: its head and rows of cells that are HTML, each row with a class. The columns `texts` are left-aligned."""
 
     def row(cells: list[str], tag: str, style: str) -> str:
         named = f' class="{style}"' if style else ""
@@ -69,7 +69,7 @@ def sizes_part(built: Built) -> str:
     for k, found in built.sizes.items():
         cells = [k, *(number(cell) for key, _ in columns for cell in found[key])]
         rows.append((cells, "best" if k == str(built.k) else ""))
-    note = "<b>tlut</b> looks for few bits and <b>tlut --compact</b> for few LUTs, both at the least depth. The next columns have the parameters as ordinary inputs: by tlut --compact"
+    note = "<b>tlut</b> aims at few bits and <b>tlut --compact</b> at few LUTs, both at the least depth. In the next columns the parameters are ordinary inputs: mapped by tlut --compact"
     note += ", and by ABC's mapper for depth (if) and for area (if -a) on the same netlist." if "if" in dict(columns) else ". ABC isn't installed."
     best = built.preparation.get("abc")
     if best:
@@ -158,7 +158,7 @@ def parameters_part(circuit: Circuit, found: Statistics) -> str:
         lists = "".join(parameter_lists(name, tables[name]) for name in bus.nets)
         rows.append(([escape(bus.title), number(value), f"{len(inside):,}", f"{bits:,}", f"<details><summary>bit by bit</summary>{lists}</details>"], ""))
     head = ["parameter", "initial value", "LUTs", "configuration bits", "in which LUTs"]
-    return '<p class="soft">A LUT or bit counts where its function reads the parameter.</p>' + table(head, rows, (4,))
+    return '<p class="soft">A LUT or bit counts if its function reads the parameter.</p>' + table(head, rows, (4,))
 
 
 def parameter_lists(name: str, nets: list[str]) -> str:
@@ -172,24 +172,24 @@ def changes_part(built: Built, found: Statistics) -> str:
     if not built.changes:
         return "<p>Without parameters nothing is rewritten.</p>"
     rows = []
-    for title, counts in (("one bit of a parameter turns", built.changes["a bit"]), ("a parameter gets another value", built.changes["a value"])):
+    for title, counts in (("one bit of a parameter flips", built.changes["a bit"]), ("a parameter gets a new value", built.changes["a value"])):
         rows.append(([title, f"{len(counts):,}", *(f"{it:,}" for it in spread(counts)), f"{found.bits:,}"], ""))
     shown = table(["change", "changes", "least", "median", "greatest", "of bits"], rows)
     counts = built.changes["a value"]
     ticks = ticks_of(counts)
     steps = [([str(rate), *(f"{it:,}" for it in ticks[rate]), f"{-(-found.bits // rate):,}"], "") for rate in RATES]
-    shown += "<p>Ticks that a new value takes, where the configuration port takes RATE bits a tick:</p>"
-    shown += table(["RATE", "least", "median", "greatest", "all bits again"], steps)
-    drawing = plot(f"{built.name}, K {built.k}: a parameter gets another value", counts, spread(counts)[1], ticks) if max(counts) else ""
-    drawn = "all that there are" if len(found.reach) <= EXHAUSTIVE else f"{len(counts):,} drawn ones"
-    return f'<p class="soft">By <code>tlut bits</code> from the pack, for {drawn}.</p>{shown}<div class="plot">{drawing}</div>'
+    shown += "<p>Ticks that a new value takes if the configuration port takes RATE bits a tick:</p>"
+    shown += table(["RATE", "least", "median", "greatest", "rewriting all bits"], steps)
+    drawing = plot(f"{built.name}, K {built.k}: a parameter gets a new value", counts, spread(counts)[1], ticks) if max(counts) else ""
+    drawn = "all possible changes" if len(found.reach) <= EXHAUSTIVE else f"{len(counts):,} random changes"
+    return f'<p class="soft">Measured by <code>tlut bits</code> on the pack, for {drawn}.</p>{shown}<div class="plot">{drawing}</div>'
 
 
 def preparations_part(built: Built) -> str:
     """The preparations that were tried."""
     found = built.preparation
     if not found.get("rows"):
-        return "<p>One preparation was taken, and nothing was measured (<code>--quick</code> or <code>--abc</code>).</p>"
+        return "<p>One preparation was used, and nothing was measured (<code>--quick</code> or <code>--abc</code>).</p>"
     measured = found["rows"][0]["changed"] is not None
     head = ["preparation", "rule", "LUTs", "depth", "bits", *(["a change"] if measured else []), "seconds", "front"]
     rows = []
@@ -197,7 +197,7 @@ def preparations_part(built: Built) -> str:
         sizes = [it["tables"], it["depth"], it["bits"], *([it["changed"]] if measured else [])]
         cells = [escape(it["name"]), RULE_NAMES[it["rule"]], *(f"{size:,}" for size in sizes), f"{it['seconds']:.1f}", "&#9733;" if it["front"] else ""]
         rows.append((cells, "" if place else "best"))
-    note = f"{found['tried']} preparations, mapped by both rules at K {built.k}; the best for {escape(built.aim)} is the first row. A star marks those that none beats in LUTs, depth and bits. <code>flow prepare --list</code> prints the commands."
+    note = f"{found['tried']} preparations, mapped by both rules at K {built.k}; the best for {escape(built.aim)} is the first row. A star marks those that no other beats in LUTs, depth and bits. <code>flow prepare --list</code> prints the commands."
     more = table(head, rows[FIRST:], (1,)) if rows[FIRST:] else ""
     shown = table(head, rows[:FIRST], (1,)) + (f"<details><summary>{count(len(rows) - FIRST, 'more row')}</summary>{more}</details>" if more else "")
     out = "".join(f"<li>{escape(name)}: {escape(why)}</li>" for name, why in found["failures"])
@@ -208,8 +208,8 @@ def checks_part(built: Built) -> str:
     """What was checked by whom."""
     words = {"ok": "yes", "open": "not shown", "missing": "not run"}
     rows = [([escape(what), escape(by), escape(told), f'<span class="{state}">{words[state]}</span>'], "") for what, by, told, state in built.checks]
-    proved = "That tlut's outputs are the source's, cycle by cycle, is proved of the program itself; these checks are made on this design's files by other programs."
-    return f'<p class="soft">{proved}</p>' + table(["what", "by", "it says", "shown"], rows, (0, 1, 2, 3))
+    proved = "The program itself is proved: its outputs are the source's, cycle by cycle. Other programs make these checks on this design's files."
+    return f'<p class="soft">{proved}</p>' + table(["what", "by", "it reports", "shown"], rows, (0, 1, 2, 3))
 
 
 def files_part(built: Built) -> str:
@@ -217,7 +217,7 @@ def files_part(built: Built) -> str:
     rows = [([f'<a href="{escape(name)}"><code>{escape(name)}</code></a>', escape(what)], "") for name, what in built.files]
     commands = escape("\n".join(built.commands))
     versions = table(["program", "version"], [([escape(name), escape(it)], "") for name, it in built.versions.items()], (0, 1))
-    return table(["file", "contents"], rows, (0, 1)) + f"<p>The commands that make them one by one:</p><pre>{commands}</pre>{versions}"
+    return table(["file", "contents"], rows, (0, 1)) + f"<p>The commands that create them one by one:</p><pre>{commands}</pre>{versions}"
 
 
 def page(built: Built, circuit: Circuit) -> str:

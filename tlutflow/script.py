@@ -22,7 +22,7 @@ class Event:
 
 
 def is_line_of(event: Event, word: str) -> bool:
-    """Whether a line with this word can be what an event printed: a tick steps, or waits while bits are written."""
+    """Whether an event can print a line with this word: a tick steps, or waits while bits are written."""
     return word in ("cycle", "wait") if event.word == "tick" else word == event.word
 
 
@@ -38,7 +38,7 @@ def parse_script(text: str, file: str, regular: list[str]) -> list[Event]:
         try:
             events.append(event_of(line, regular))
         except ValueError:
-            raise Fault(f"{file}: line {line.number} is no event of this netlist; ./tlut tells what is wrong with it") from None
+            raise Fault(f"{file}: line {line.number} isn't an event for this netlist; ./tlut reports what is wrong with it") from None
     return events
 
 
@@ -59,5 +59,5 @@ def event_of(line: Line, regular: list[str]) -> Event:
 
 
 def bits_text(bits: list[int]) -> str:
-    """Bits as a script and an output have them: a string of digits, or `-` where there are none."""
+    """Bits as in a script and an output: a string of digits, or `-` if there are none."""
     return "".join(str(bit) for bit in bits) or "-"

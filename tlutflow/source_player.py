@@ -35,7 +35,7 @@ class SourcePlayer:
                 waiting.append((named[placed.model], below, instance_nets(placed, below, net_of)))
 
     def ordered(self) -> list[Cover]:
-        """The covers, each behind those that it reads."""
+        """The covers, each after those that it reads."""
         done: set[str] = set()
         order: list[Cover] = []
         for root in self.covers:
@@ -48,7 +48,7 @@ class SourcePlayer:
                     continue
                 missing = [it for it in self.covers[net].inputs if it in self.covers and it not in done]
                 if missing and net in open_nets:
-                    raise Fault(f"{self.library.file}: {net} is in a loop of logic; ./tlut tells more")
+                    raise Fault(f"{self.library.file}: {net} is in a combinational loop; ./tlut reports more")
                 if missing:
                     open_nets.add(net)
                     waiting += missing
@@ -69,7 +69,7 @@ class SourcePlayer:
 
 
 def value_of(cover: Cover, values: dict[str, int]) -> int:
-    """The value of a cover; rows that end in 0 say where it is 0."""
+    """The value of a cover. Rows that end in 0 are its off-set."""
     bits = [str(values.get(name, 0)) for name in cover.inputs]
     is_met = any(all(cell in ("-", bit) for cell, bit in zip(cells, bits)) for cells, _ in cover.rows)
     if cover.rows and cover.rows[0][1] == "0":

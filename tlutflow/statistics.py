@@ -17,7 +17,7 @@ KINDS = ("constant", "one parameter", "several parameters")
 
 @dataclass(frozen=True)
 class Reach:
-    """How many bits a parameter is in, and how many tables these bits have."""
+    """The number of bits that read a parameter, and the number of LUTs with such bits."""
 
     bits: int
     tables: int
@@ -25,7 +25,7 @@ class Reach:
 
 @dataclass(frozen=True)
 class Statistics:
-    """The counts of a circuit. Kinds tell what a bit, or all the bits of a table together, read of the parameters."""
+    """The counts of a circuit. A kind is what a bit, or all bits of a LUT together, read of the parameters."""
 
     name: str
     inputs: int
@@ -73,7 +73,7 @@ def statistics(circuit: Circuit) -> Statistics:
 
 
 def reach_of(circuit: Circuit, table_supports: list[int]) -> dict[str, Reach]:
-    """For each parameter the bits and the tables that it reaches."""
+    """For each parameter the bits and the LUTs that read it."""
     in_bits, in_tables = digit_counts(circuit.supports), digit_counts(table_supports)
     return {name: Reach(in_bits[place], in_tables[place]) for place, name in enumerate(circuit.pack.parameters)}
 
@@ -89,7 +89,7 @@ def digit_counts(numbers: list[int]) -> Counter[int]:
 
 
 def as_json(circuit: Circuit, formulas: Formulas) -> dict[str, Any]:
-    """All that a report has, for other programs: the counts, and each table with the functions of its bits."""
+    """The whole report for other programs: the counts, and each LUT with the functions of its bits."""
     tables = [table_json(circuit, table, formulas) for table in circuit.tables]
     texts = [text for table in tables for text in table["functions"]]
     definitions = dict(line.split(" = ", 1) for line in formulas.definitions(texts))
@@ -106,7 +106,7 @@ def as_json(circuit: Circuit, formulas: Formulas) -> dict[str, Any]:
 
 
 def table_json(circuit: Circuit, table: Table, formulas: Formulas) -> dict[str, Any]:
-    """A table for other programs."""
+    """A LUT for other programs."""
     return {
         "net": table.net,
         "leaves": table.leaves,
@@ -129,7 +129,7 @@ def grid(rows: list[list[str]]) -> list[str]:
 
 
 def counted(counts: dict[int, int], title: str) -> list[list[str]]:
-    """Two rows: numbers, and how many tables have each."""
+    """Two rows: numbers, and how many LUTs have each."""
     return [[title, *map(str, counts)], ["LUTs", *map(str, counts.values())]]
 
 

@@ -1,6 +1,6 @@
-"""Steps that are made again only where what they read has changed.
+"""Steps that run again only if what they read has changed.
 
-A record in the folder has for each step the checksum of its words and of the files that it read, and those of the files that it wrote.
+A record in the folder has for each step the checksum of its arguments and of the files that it read, and those of the files that it wrote.
 """
 
 from __future__ import annotations
@@ -22,7 +22,7 @@ FORMAT = "1"
 
 
 def checksum(path: str) -> str:
-    """The checksum of a file, empty where there is none."""
+    """The checksum of a file; empty if there is no file."""
     try:
         with open(path, "rb") as file:
             return hashlib.sha256(file.read()).hexdigest()
@@ -39,7 +39,7 @@ class Steps:
         self.known: dict[str, Any] = {} if again else self.read()
 
     def read(self) -> dict[str, Any]:
-        """The record of the folder, empty where there is none that can be read."""
+        """The record of the folder; empty if none can be read."""
         try:
             with open(f"{self.folder}/{RECORD}", encoding="utf-8") as file:
                 found = json.load(file)
@@ -48,7 +48,7 @@ class Steps:
             return {}
 
     def make(self, name: str, words: list[Any], reads: list[str], writes: list[str], work: Callable[[], Any]) -> Any:
-        """Does a step, or nothing where it would do the same as before; returns what the work returned, which JSON can hold."""
+        """Runs a step unless it would do the same as before. Returns the result of the work, which JSON can hold."""
         key = hashlib.sha256(json.dumps([FORMAT, words, [[path, checksum(path)] for path in reads]]).encode()).hexdigest()
         known = self.known.get(name)
         if isinstance(known, dict) and known.get("key") == key and known.get("files") == self.written(writes) and "" not in known["files"].values():

@@ -27,7 +27,7 @@ class Store:
 
     @property
     def size(self) -> int:
-        """How many cells there are."""
+        """The number of cells."""
         return len(self.cells)
 
     def values(self, configuration: list[int]) -> list[int]:
@@ -80,8 +80,8 @@ def check_writes(store: Store, writes: list[tuple[int, int]], configuration: lis
     """Refuses writes that the cells can't take: `configuration` has the bits before them, and an upset is a fault of one bit."""
     for address, bit in writes:
         if address >= len(store.start):
-            raise Fault(f"`{text[:60]}`: there are {len(store.start)} configuration bits, so it is of another circuit")
+            raise Fault(f"`{text[:60]}`: there are {len(store.start)} configuration bits, so it belongs to another circuit")
         if address not in store.places and bit != configuration[address]:
-            raise Fault(f"`{text[:60]}`: bit {address} reads no parameter, so it is a constant of the circuit; --bits all lets it be written")
+            raise Fault(f"`{text[:60]}`: bit {address} depends on no parameter, so it is constant in this circuit; with --bits all it can be written")
         if is_fault and store.shared(address):
-            raise Fault(f"`{text[:60]}`: other bits have the flip-flop of bit {address}; --bits changing has one for each")
+            raise Fault(f"`{text[:60]}`: bit {address} shares its flip-flop with other bits; --bits changing gives each bit its own")

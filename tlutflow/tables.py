@@ -1,4 +1,4 @@
-"""What the ways to make tables in Verilog have in common: texts of vectors, and a table as a choice among its bits."""
+"""What the implementations of LUTs in Verilog share: texts of vectors, and a LUT as a choice among its bits."""
 
 from __future__ import annotations
 
@@ -22,7 +22,7 @@ class Operation:
 
 
 def vector(size: int, always: bool = False) -> str:
-    """The range of so many bits, empty for one unless it has to be a vector."""
+    """The range of this many bits; empty for one bit unless it has to be a vector."""
     return f"[{size - 1}:0] " if size > 1 or always else ""
 
 
@@ -48,5 +48,5 @@ def chosen(names: Names, name: str, leaves: list[str], bits: list[str], net: str
 
 
 def selected(names: Names, number: int, table: Table, bits: list[str]) -> list[str]:
-    """The lines of a table whose bits are these expressions."""
+    """The lines of a LUT whose bits are these expressions."""
     return chosen(names, names.instance(number), table.leaves, bits, names.nets[table.net])

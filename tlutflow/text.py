@@ -1,4 +1,4 @@
-"""Texts: files that are read, logical lines and their tokens.
+"""Reading texts: files, logical lines and their tokens.
 
 The readers take every text that `tlut` accepts. What `tlut` refuses they may take, or refuse by a line of their own.
 """
@@ -19,7 +19,7 @@ BLANKS = re.compile(r"[ \t]+")
 
 @dataclass(frozen=True)
 class Line:
-    """A logical line: the number of its first physical line, counted from 1, and its tokens, of which there is one at least."""
+    """A logical line: the number of its first physical line, counted from 1, and its tokens, at least one."""
 
     number: int
     tokens: list[str]
@@ -40,7 +40,7 @@ def read_bytes(path: str) -> bytes:
 
 
 def write_text(path: str, text: str) -> None:
-    """Writes a file anew."""
+    """Creates a file or overwrites it."""
     try:
         with open(path, "w", newline="", encoding="utf-8", errors="surrogateescape") as file:
             file.write(text)
@@ -54,7 +54,7 @@ def read_input() -> str:
 
 
 def physical_lines(text: str) -> list[str]:
-    """What stands between two LF, before the first or behind the last; a CR directly before an LF is dropped."""
+    """The text between two LF, before the first or after the last. A CR directly before an LF is dropped."""
     return text.replace("\r\n", "\n").split("\n")
 
 
@@ -81,5 +81,5 @@ def logical_lines(text: str) -> Iterator[Line]:
 
 
 def count(number: int, word: str) -> str:
-    """A number with a word in its singular or plural."""
+    """A number with a noun in the singular or plural."""
     return f"{number} {word}{'' if number == 1 else 's'}"

@@ -1,4 +1,4 @@
-"""The other programs that are called: where they are found, and how they are run."""
+"""The other programs: where they are found, and how they are run."""
 
 from __future__ import annotations
 
@@ -45,7 +45,7 @@ def find(names: tuple[str, ...]) -> Optional[str]:
 
 
 def need(names: tuple[str, ...], purpose: str) -> str:
-    """The path of a program; a fault that names it where it isn't there."""
+    """The path of a program. A fault if it isn't installed."""
     path = find(names)
     if path is None:
         raise Fault(f"{TITLES[names]} isn't on the PATH, and {purpose} needs it")
@@ -75,7 +75,7 @@ def tlut(given: Optional[str]) -> str:
     path = given or os.environ.get("TLUT") or (f"{TOP}/tlut" if os.path.exists(f"{TOP}/tlut") else "tlut")
     found = shutil.which(path)
     if found is None:
-        raise Fault(f"{path}: there is no such program; --tlut or the variable TLUT names tlut")
+        raise Fault(f"{path}: no such program; name tlut by --tlut or the environment variable TLUT")
     if path == f"{TOP}/tlut" and not any(os.path.exists(f"{TOP}/{built}") for built in BUILT):
-        raise Fault(f"{path} isn't built yet: its first call does that, which takes a while and says how far it is")
+        raise Fault(f"{path} isn't built yet: its first call builds it, which takes a while, and reports its progress")
     return os.path.abspath(found)

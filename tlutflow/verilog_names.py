@@ -33,11 +33,11 @@ BEGINNINGS = ("row", "end", "token", "between")
 
 
 def identifier(name: str) -> str:
-    """A name as an identifier, an escaped one where it has to be."""
+    """A name as an identifier, escaped if necessary."""
     if SIMPLE.fullmatch(name) and name not in KEYWORDS:
         return name
     if not all(32 < ord(it) < 127 for it in name):
-        raise Fault(f"the name {name!r} can't stand in Verilog, which takes printable characters only")
+        raise Fault(f"the name {name!r} can't be written in Verilog, which allows printable characters only")
     return f"\\{name} "
 
 
@@ -45,21 +45,21 @@ def module_name(given: Optional[str], circuit: str) -> str:
     """The name of the module: the one that was given, which has to be a plain one since a file has it too, or one that the circuit's name makes."""
     if given is not None:
         if not SIMPLE.fullmatch(given) or given in KEYWORDS:
-            raise Fault(f"--module {given}: a module's name has letters, digits and _, begins with none of the digits, and is no keyword of Verilog")
+            raise Fault(f"--module {given}: a module name has letters, digits and _, doesn't begin with a digit, and isn't a keyword of Verilog")
         return given
     made = re.sub("[^A-Za-z0-9_]", "_", circuit) + "_mapped"
     return f"_{made}" if made[0].isdigit() else made
 
 
 def free_name(name: str, taken: Iterable[str]) -> str:
-    """A name that isn't taken: this one, or with underscores behind it."""
+    """A name that isn't taken: this one, or with underscores appended."""
     while name in set(taken):
         name += "_"
     return name
 
 
 def free_beginning(beginning: str, taken: Iterable[str]) -> str:
-    """What no taken name begins with: this, or with underscores behind it."""
+    """A prefix of no taken name: this one, or with underscores appended."""
     while any(name.startswith(beginning) for name in taken):
         beginning += "_"
     return beginning
@@ -101,7 +101,7 @@ class Names:
     table: str
 
     def instance(self, number: int) -> str:
-        """The name of a table's instance."""
+        """The name of a LUT's instance."""
         return f"{self.table}{number}"
 
 

@@ -1,7 +1,7 @@
 """A run as a waveform: a value change dump (VCD), which GTKWave and simulators open.
 
 Each event but `image` has a slot of ten units. In that of a cycle the inputs, the parameters, the states before the clock's edge and the
-outputs stand together; the edge is where the slot ends. In the others the outputs aren't known, since the run doesn't tell them.
+outputs are shown together; the edge is at the end of the slot. In the others the outputs aren't known, since the run doesn't tell them.
 """
 
 from __future__ import annotations
@@ -85,7 +85,7 @@ def code_of(number: int) -> str:
 
 
 def word_of(name: str) -> str:
-    """A name as one word of printable characters."""
+    """A name as one token of printable characters."""
     return "".join(it if 32 < ord(it) < 127 else "_" for it in name)
 
 
@@ -121,10 +121,10 @@ def check_end(events: int, output: Output) -> None:
 def pairs(events: list[Event], output: Output) -> Iterator[tuple[Event, Played]]:
     """The events with their lines. A run that a fault ended has fewer lines than events."""
     if len(output.events) > len(events):
-        raise Fault(f"the output has {len(output.events)} lines for {len(events)} events: it is of another script")
+        raise Fault(f"the output has {len(output.events)} lines for {len(events)} events: it belongs to another script")
     for event, played in zip(events, output.events):
         if not is_line_of(event, played.word):
-            raise Fault(f"the output has `{played.text[:60]}` where the script has {event.word}: it is of another script")
+            raise Fault(f"the output has `{played.text[:60]}` where the script has {event.word}: it belongs to another script")
         yield event, played
 
 
@@ -139,7 +139,7 @@ class Player:
         self.states = {state.name: str(state.start) for state in interface.states}
 
     def play(self, event: Event, played: Played) -> None:
-        """Shows an event in a slot of its own."""
+        """Shows an event in its own slot."""
         if event.word == "image":
             return
         outputs = {name: "x" for name in self.interface.outputs}
@@ -157,7 +157,7 @@ class Player:
         self.time += SLOT
 
     def show(self, outputs: dict[str, str], writes: int) -> None:
-        """Shows what stands in the slot that begins now."""
+        """Shows the values in the slot that begins now."""
         dump, time = self.dump, self.time
         dump.put(time, self.clock, "1" if self.ticked else "0")
         dump.put(time, self.written, f"{writes:b}")
@@ -171,4 +171,4 @@ class Player:
         """Refuses a line of another netlist."""
         if len(played.outputs) != len(self.interface.outputs) or len(played.states) != len(self.states):
             shape = f"{len(self.interface.outputs)} outputs and {len(self.states)} latches"
-            raise Fault(f"`{played.text[:60]}` isn't of this netlist, which has {shape}")
+            raise Fault(f"`{played.text[:60]}` doesn't fit this netlist, which has {shape}")

@@ -42,12 +42,12 @@ def add_words(parser: argparse.ArgumentParser) -> None:
 
 
 def check(given: argparse.Namespace) -> None:
-    """Refuses words that don't belong together."""
+    """Refuses arguments that don't belong together."""
     if given.files[0].endswith((".v", ".sv", ".vh")):
         if not given.top:
             raise Fault("--top names the module of a design in Verilog")
     elif len(given.files) != 2 or given.param or given.top:
-        raise Fault("a netlist has its parameter list behind it, NETLIST PARAMS, and neither --top nor --param; Verilog files end in .v or .sv")
+        raise Fault("a netlist is followed by its parameter list, NETLIST PARAMS, and takes neither --top nor --param; Verilog files end in .v or .sv")
 
 
 def run(given: argparse.Namespace) -> int:

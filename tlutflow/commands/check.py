@@ -51,7 +51,7 @@ def fixed_inputs(source: Library, there: list[str], values: dict[str, int]) -> d
     for name in source.main.all_inputs():
         if name not in there:
             if name not in values and name not in source.clock_nets():
-                raise Fault(f"{name} is an input of {source.file} and none of the written netlist: --params or --pack says what it is there")
+                raise Fault(f"{name} is an input of {source.file} but not of the written netlist: say by --params or --pack what it is there")
             fixed[name] = values.get(name, 0)
     return fixed
 
@@ -103,7 +103,7 @@ def check_run(given: argparse.Namespace) -> int:
         if played.word == "cycle":
             wanted = player.cycle(event.values)
             if (played.outputs, played.states) != wanted:
-                raise Fault(f"event {number} printed `{played.text[:60]}`, and the source has {wanted[0][:60] or '-'} {wanted[1][:60] or '-'}")
+                raise Fault(f"event {number} printed `{played.text[:60]}`, but the source has {wanted[0][:60] or '-'} {wanted[1][:60] or '-'}")
             compared += 1
     check_end(len(events), output)
     print(f"{count(compared, 'cycle')}, all as the source's")
@@ -113,10 +113,10 @@ def check_run(given: argparse.Namespace) -> int:
 def run(given: argparse.Namespace) -> int:
     if given.script:
         if given.written or given.pack or not given.params:
-            raise Fault("--script goes with --params and without WRITTEN")
+            raise Fault("--script needs --params, and excludes WRITTEN")
         return check_run(given)
     if not given.written:
-        raise Fault("WRITTEN is missing, or --script with the output of a run on standard input")
+        raise Fault("give WRITTEN, or --script with the output of a run on stdin")
     abc = tools.need(tools.ABC, "a comparison of netlists")
     source, left, right = texts(given)
     latches = source.flat_latches()

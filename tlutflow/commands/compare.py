@@ -1,4 +1,4 @@
-"""`flow compare`: tables, depth and bits beside those of ABC."""
+"""`flow compare`: LUTs, depth and bits beside those of ABC."""
 
 from __future__ import annotations
 
@@ -50,7 +50,7 @@ def sizes(given: argparse.Namespace, program: str, abc: str, folder: str) -> dic
 def run(given: argparse.Namespace) -> int:
     program, abc = tools.tlut(given.tlut), tools.need(tools.ABC, "a comparison with ABC")
     if not os.path.exists(given.netlist):
-        raise Fault(f"{given.netlist}: there is no such file")
+        raise Fault(f"{given.netlist}: no such file")
     parameters = len(read_parameters(given.params))
     with tempfile.TemporaryDirectory(prefix="flow-") as folder:
         found = sizes(given, program, abc, folder)

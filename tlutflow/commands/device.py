@@ -41,10 +41,10 @@ def check(path: str, target: str) -> str:
     """Refuses what the device has no cells for, and returns the circuit's name."""
     library = read_library(path)
     if library.main.subckts:
-        raise Fault(f"{path}: it places models; `tlut spec` writes a netlist without any")
+        raise Fault(f"{path}: it instantiates models; `tlut spec` writes a netlist without instances")
     widest = max(library.main.covers, key=lambda cover: len(cover.inputs), default=None)
     if widest and len(widest.inputs) > WIDEST[target]:
-        raise Fault(f"{path}: {widest.output} has {len(widest.inputs)} inputs, and a LUT of {target} {WIDEST[target]}: map it by K {WIDEST[target]}")
+        raise Fault(f"{path}: {widest.output} has {len(widest.inputs)} inputs, and a LUT of {target} {WIDEST[target]}: map it with K {WIDEST[target]}")
     return library.main.name
 
 
@@ -55,7 +55,7 @@ def cells_of(told: str) -> str:
 
 
 def place(given: argparse.Namespace, base: str) -> None:
-    """Places and routes, and tells what nextpnr said of it."""
+    """Places and routes, and returns what nextpnr reported."""
     placer = PLACERS.get(given.target)
     if placer is None or given.no_place:
         return

@@ -34,7 +34,7 @@ def add_words(parser: argparse.ArgumentParser) -> None:
 
 
 def ends_of(circuit: Circuit, names: list[str]) -> list[str]:
-    """The nets that outputs, registers (by their next states), buses of them and tables are."""
+    """The nets of outputs, registers (their next states), buses of both, and LUTs, by their names."""
     nexts = {latch.state: latch.source for latch in circuit.latches}
     outputs, registers = circuit.buses(circuit.roots), circuit.buses(nexts)
     ends = []
@@ -44,13 +44,13 @@ def ends_of(circuit: Circuit, names: list[str]) -> list[str]:
         found = found or [name] * (name in circuit.table_of)
         if not found:
             there = [", ".join(bus.title for bus in buses.values()) or "none" for buses in (outputs, registers)]
-            raise Fault(f"--cone {name}: it is no output, register or LUT; the outputs are {there[0]}, and the registers {there[1]}")
+            raise Fault(f"--cone {name}: it isn't an output, register or LUT; the outputs are {there[0]}, and the registers {there[1]}")
         ends += found
     return ends
 
 
 def paint(text: str, path: str) -> None:
-    """Makes a picture of a drawing."""
+    """Creates a picture from a drawing."""
     dot = tools.need(tools.DOT, f"a picture {os.path.splitext(path)[1]}")
     with tempfile.TemporaryDirectory(prefix="flow-") as folder:
         write_text(f"{folder}/drawing.dot", text)
@@ -64,7 +64,7 @@ def run(given: argparse.Namespace) -> int:
     cone = circuit.cone(ends_of(circuit, given.cone)) if given.cone else None
     tables = len(circuit.tables) if cone is None else len(cone & set(circuit.table_of))
     if tables > MANY and not given.all:
-        raise Fault(f"{tables} LUTs are too many to be read, and nothing was drawn: --cone NET draws what one output is made of, and --all draws them")
+        raise Fault(f"{tables} LUTs are too many to read, so nothing was drawn: --cone NET draws the cone of one output, and --all draws all LUTs")
     text = drawing(circuit, cone)
     if given.out is None:
         print(text, end="")

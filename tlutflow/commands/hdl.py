@@ -43,7 +43,7 @@ EXAMPLE = """examples:
 
 
 def add_device_words(parser: argparse.ArgumentParser) -> None:
-    """The words that choose the tables and the port."""
+    """The arguments that choose the LUTs and the port."""
     parser.add_argument("--target", choices=TARGETS, default="generic", help="how LUTs with changing bits are implemented (default: generic)")
     parser.add_argument("--port", choices=PORTS, help="how bits are changed (default: chain, for xilinx random)")
     kinds = "which bits can be written: those that read a parameter (changing, the default), the same with one flip-flop for all bits of one function (distinct), or all"
@@ -63,7 +63,7 @@ def add_words(parser: argparse.ArgumentParser) -> None:
 
 
 def make_folder(path: str) -> None:
-    """Makes a folder where it isn't there."""
+    """Creates a folder unless it exists."""
     try:
         os.makedirs(path, exist_ok=True)
     except OSError as error:
@@ -71,7 +71,7 @@ def make_folder(path: str) -> None:
 
 
 def device_and_names(given: argparse.Namespace, circuit: Circuit) -> tuple[Device, Names]:
-    """What the words choose for a circuit."""
+    """What the arguments choose for a circuit."""
     names = names_of(circuit, module_name(given.module, circuit.name))
     return device_of(circuit, names, given.target, given.port or usual_port(given.target), given.bits, given.regions), names
 
@@ -112,7 +112,7 @@ def simulate(base: str, netlist: list[str]) -> list[str]:
 
 
 def compare(shown: list[str], output: Output) -> str:
-    """What a comparison of the simulation with the run says, where they are alike."""
+    """What a comparison of the simulation with the run reports if they agree."""
     wanted = ([output.header.text] if output.header else shown[:1]) + [event.text for event in output.events]
     for number, pair in enumerate(zip(shown, wanted), 1):
         if pair[0] != pair[1]:
@@ -135,7 +135,7 @@ def compare_outputs(shown: list[str], output: Output) -> str:
 
 
 def play(given: argparse.Namespace, circuit: Circuit, folder: str) -> None:
-    """Writes the files, and runs the testbench where that is wanted."""
+    """Writes the files, and runs the testbench if asked."""
     base, output = write_files(given, circuit, folder)
     if given.simulate:
         shown = simulate(base, given.netlist)
@@ -145,7 +145,7 @@ def play(given: argparse.Namespace, circuit: Circuit, folder: str) -> None:
 def run(given: argparse.Namespace) -> int:
     circuit = read_circuit(given.template, given.pack)
     if given.simulate and not given.script:
-        raise Fault("--simulate needs --script, and the run's output on standard input")
+        raise Fault("--simulate needs --script, and the run's output on stdin")
     if given.simulate:
         tools.need(tools.ICARUS, "a simulation")
     if given.netlist and not given.simulate:

@@ -26,7 +26,7 @@ Each prepared netlist is compared with its source by ABC (cec), output by output
 initial values and all names of ports and flip-flops stay. A preparation that fails, takes too long or isn't shown to be equal is
 skipped, and stderr says why. Each one begins with strash, which factors covers of many inputs, such as those of a netlist of LUTs.
 
-The table has a row for each preparation and rule, the best one first. A star marks those that none beats in LUTs, depth and bits."""
+The table has a row for each preparation and rule, the best one first. A star marks those that no other beats in LUTs, depth and bits."""
 EXAMPLE = """examples:
   flow prepare fir.blif fir.par --k 4 --out fir_prepared.blif
   flow prepare fir.blif fir.par --k 6 --for tables --only raw --only dc2 --try short='dc2; balance'"""

@@ -33,7 +33,7 @@ def add_words(parser: argparse.ArgumentParser) -> None:
 
 
 def chosen_tables(circuit: Circuit, nets: list[str]) -> list[Table]:
-    """The tables of some nets, or all where none is named."""
+    """The LUTs of these nets, or all if none is named."""
     for net in nets:
         if net not in circuit.table_of:
             raise Fault(f"--table {net}: {circuit.name} has no LUT of this net; report --json lists them")
@@ -41,7 +41,7 @@ def chosen_tables(circuit: Circuit, nets: list[str]) -> list[Table]:
 
 
 def table_lines(table: Table, formulas: Formulas) -> list[str]:
-    """The functions of a table's bits."""
+    """The functions of a LUT's bits."""
     texts = [formulas.of_bit(address) for address in table.addresses]
     width = len(str(table.addresses[-1]))
     lines = [f"LUT {table.net}: {', '.join(table.leaves) or 'no leaves'}"]

@@ -28,7 +28,7 @@ EXAMPLE = """example:
 
 
 class Writer:
-    """Makes lines of a script; it keeps the values of the inputs."""
+    """Creates lines of a script. Keeps the values of the inputs."""
 
     def __init__(self, interface: Interface):
         self.regular, self.clocks = interface.regular, interface.clocks
@@ -55,11 +55,11 @@ class Writer:
             self.refuse(others, self.inputs, f"an input: use {'cycle' if word == 'set' else 'tick'}")
             return assigning_line(word, others, self.parameters)
         if word not in WORDS:
-            raise Fault(f"{word} is no event; these are: {', '.join([*WORDS, *PACED_WORDS])}")
+            raise Fault(f"{word} isn't an event; the events are: {', '.join([*WORDS, *PACED_WORDS])}")
         if word == "upset" and not (len(others) == 1 and others[0].isdecimal()):
-            raise Fault("upset has one address behind it, a decimal number")
+            raise Fault("upset takes one address, a decimal number")
         if word != "upset" and others:
-            raise Fault(f"{word} has nothing behind it")
+            raise Fault(f"{word} takes no arguments")
         return " ".join(event.tokens)
 
 
@@ -67,7 +67,7 @@ def assigning_line(word: str, words: list[str], parameters: dict[str, Bus]) -> s
     """The line of a set, or of an ask."""
     bits = assigned(words, parameters, "parameters")
     if not bits:
-        raise Fault(f"{word} has one NAME=VALUE or more behind it")
+        raise Fault(f"{word} takes one NAME=VALUE or more")
     return " ".join([word, *(f"{net}={bit}" for net, bit in bits.items())])
 
 
@@ -82,5 +82,5 @@ def run(given: argparse.Namespace) -> int:
         try:
             print(writer.line_of(event))
         except Fault as fault:
-            raise Fault(f"line {event.number} of standard input: {fault}") from None
+            raise Fault(f"line {event.number} of stdin: {fault}") from None
     return 0

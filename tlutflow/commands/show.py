@@ -59,7 +59,7 @@ class Viewer:
         if event.word != "cycle":
             return event.text
         if len(event.outputs) != len(self.outputs) or len(event.states) != len(self.states):
-            raise Fault(f"`{event.text[:60]}` isn't of this netlist, which has {len(self.outputs)} outputs and {len(self.states)} latches")
+            raise Fault(f"`{event.text[:60]}` doesn't fit this netlist, which has {len(self.outputs)} outputs and {len(self.states)} latches")
         shown = self.numbers("outputs", self.outputs, event.outputs)
         if self.with_states:
             shown += ["|", *self.numbers("states", self.states, event.states)]
@@ -81,7 +81,7 @@ def run(given: argparse.Namespace) -> int:
         check_end(len(events), output)
         list(pairs(events, output))
     elif not output.events and not output.header:
-        raise Fault("standard input is empty: the run printed nothing")
+        raise Fault("stdin is empty: the run printed nothing")
     elif not text.endswith("\n"):
-        raise Fault("standard input ends within a line")
+        raise Fault("stdin ends within a line")
     return 0

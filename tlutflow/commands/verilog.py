@@ -55,7 +55,7 @@ def add_words(parser: argparse.ArgumentParser) -> None:
 
 
 def add_source_words(parser: argparse.ArgumentParser) -> None:
-    """The words about a design in Verilog that `verilog` and `build` share."""
+    """The arguments about a design in Verilog that `verilog` and `build` share."""
     parser.add_argument("--set", metavar="NAME=VALUE", action="append", default=[], help="the value of a parameter of the module TOP (repeat it)")
     parser.add_argument("-D", "--define", metavar="NAME[=TEXT]", action="append", default=[], help="a macro (repeat it)")
     parser.add_argument("-I", "--include", metavar="FOLDER", action="append", default=[], help="where included files are looked for (repeat it)")
@@ -82,7 +82,7 @@ def sources_of(given: argparse.Namespace) -> Sources:
 
 
 def preparation_of(given: argparse.Namespace) -> str:
-    """The commands of ABC as one word, in which Yosys has commas for blanks."""
+    """The commands of ABC as one argument of Yosys, with commas for blanks."""
     commands = [",".join(part.split()) for part in (given.abc or PREPARATION).split(";")]
     return ";".join(filter(None, commands))
 
@@ -124,7 +124,7 @@ def is_quick(given: argparse.Namespace) -> bool:
 
 
 def choose(given: argparse.Namespace, folder: str, beside: bool = False) -> Found:
-    """Puts the preparation that measures best in the place of the recipe's netlist. Preparations start from the gates of the recipe,
+    """Replaces the recipe's netlist with the preparation that measures best. Preparations start from the gates of the recipe,
     and the netlist of its own preparation is a further one."""
     task = task_of(given, f"{folder}/gates.blif", f"{folder}/list.par")
     found = prepare(replace(task, ready={"yosys": f"{folder}/netlist.blif"}, beside=beside), f"{folder}/trials", progress(given.prog))
@@ -145,7 +145,7 @@ class Made:
 
 
 def make(given: argparse.Namespace, folder: str, beside: bool = False) -> Made:
-    """Makes the netlist in a folder, as netlist.blif."""
+    """Creates the netlist in a folder, as netlist.blif."""
     library, design, ports = synthesise(given, folder)
     parameters, found = parameters_of(ports_of(design), given.param, library.clock_nets()), None
     if not is_quick(given):

@@ -91,7 +91,7 @@ def yosys_share() -> str:
 
 
 class InFolder(unittest.TestCase):
-    """A test with a folder of its own, which is removed behind it."""
+    """A test with its own folder, which is removed after it."""
 
     def setUp(self) -> None:
         room = tempfile.TemporaryDirectory(prefix="flow-test-")

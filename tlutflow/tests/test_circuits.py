@@ -116,7 +116,7 @@ class Drawings(InFolder):
         # The longest path is that of the cone, and ends at its output.
         self.assertRegex(text, '"_n68" -> "output hit" .*#d01c1c')
         self.assertIn('"_n91"', flow("draw", *files, "--cone", "_l2").stdout)
-        self.assert_fault(flow("draw", *files, "--cone", "no"), "no output, register or LUT")
+        self.assert_fault(flow("draw", *files, "--cone", "no"), "it isn't an output, register or LUT")
         # A bus is all of its nets, of outputs or of registers.
         text = flow("draw", *files, "--cone", "count").stdout
         self.assertIn('"output count[2]"', text)
@@ -131,7 +131,7 @@ class Drawings(InFolder):
         pack = bytes.fromhex("54505043 0002 01 01 70 00 00") + bytes([602 & 127 | 128, 602 >> 7]) + bytes([2, 3] * 301)
         paths = self.put("t.blif", template), self.put("p.ppc", pack)
         ran = flow("draw", *paths, "--out", f"{self.folder}/x.dot")
-        self.assert_fault(ran, "301 LUTs are too many to be read, and nothing was drawn: --cone NET draws")
+        self.assert_fault(ran, "301 LUTs are too many to read, so nothing was drawn: --cone NET draws")
         self.assertFalse(os.path.exists(f"{self.folder}/x.dot"))
         self.assertIn('"_n300"', flow("draw", *paths, "--all").stdout)
         self.assertNotIn('"_n300"', flow("draw", *paths, "--cone", "y7").stdout)

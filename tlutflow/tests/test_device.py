@@ -60,7 +60,7 @@ class Devices(InFolder):
         text = flow("device", path, "--target", "ice40", "--recipe").stdout
         self.assertIn("techmap -map +/gate2lut.v -D LUT_WIDTH=1 t:$_NOT_\n", text)
         wide = self.put("wide.blif", ".model w\n.inputs a b c d e\n.outputs y\n.names a b c d e y\n11111 1\n.end\n")
-        self.assert_fault(flow("device", wide, "--target", "ice40"), "y has 5 inputs, and a LUT of ice40 4: map it by K 4")
+        self.assert_fault(flow("device", wide, "--target", "ice40"), "y has 5 inputs, and a LUT of ice40 4: map it with K 4")
         self.assert_fault(flow("device", f"{self.folder}/no.blif", "--target", "ecp5"), "No such file")
         self.assert_fault(flow("device", path), "--target", 2)
 

@@ -105,7 +105,7 @@ class Simulations(InFolder):
             self.assertEqual(ran.stdout, "13 lines of the simulation, all as the run's\n", ran.stderr)
             with open(f"{self.folder}/sim/mux_mapped.events", encoding="utf-8") as file:
                 self.assertEqual(file.read().splitlines()[: 3 + len(first)], ["cycle 10", "cycle 01", *first, "set 2 1=1 2=0"])
-        self.assert_fault(flow(*words, given=example("mux/expected.txt")), "bit 3 reads no parameter, so it is a constant of the circuit; --bits all lets it be written")
+        self.assert_fault(flow(*words, given=example("mux/expected.txt")), "bit 3 depends on no parameter, so it is constant in this circuit; with --bits all it can be written")
 
     @needs(ICARUS, ICARUS_PLAYER)
     def test_output_that_ends_early_is_no_pass(self):

@@ -70,7 +70,7 @@ class Registers(InFolder):
         self.put("matcher.ports.json", json.dumps({"ports": [], "buses": [], "registers": ["a"]}))
         self.assertIn('"_l0"', flow("draw", *self.files).stdout)
         self.put("matcher.ports.json", "{")
-        self.assert_fault(flow("draw", *self.files), "matcher.ports.json: it isn't what `flow verilog` writes")
+        self.assert_fault(flow("draw", *self.files), "matcher.ports.json: `flow verilog` didn't write it")
         self.assertEqual(find_ports([f"{self.folder}/none.blif"], "none"), Ports())
 
 

@@ -33,7 +33,7 @@ class Aiger(InFolder):
 
     def test_faults(self):
         for text in ("aag 1", "aag 1 1 0 0 0\n", "aag 1 1 0 0 0\nx\n", "aag 0 0 0 0 0\nq0 a\n", "aag 1 1 0 0 0\n2\n3\n"):
-            self.assert_fault(flow("params", self.put("n.aag", text)), "./tlut tells what is wrong")
+            self.assert_fault(flow("params", self.put("n.aag", text)), "./tlut reports what is wrong")
 
 
 class Runs(InFolder):
@@ -62,8 +62,8 @@ class Runs(InFolder):
         self.assertNotEqual(spoilt, text)
         self.assert_fault(self.check("fir", "ten", spoilt), "event 1 printed `cycle 001")
         self.assert_fault(self.check("fir", "ten", "".join(text.splitlines(True)[:4])), "the output ends at event 3 of 10")
-        self.assert_fault(flow("check", f"{EXAMPLES}/fir/fir.blif"), "WRITTEN is missing")
-        self.assert_fault(flow("check", f"{EXAMPLES}/fir/fir.blif", "x", "--script", "y"), "--script goes with --params")
+        self.assert_fault(flow("check", f"{EXAMPLES}/fir/fir.blif"), "give WRITTEN")
+        self.assert_fault(flow("check", f"{EXAMPLES}/fir/fir.blif", "x", "--script", "y"), "--script needs --params")
 
     def test_rows_that_end_in_0(self):
         library = parse_library(MUX.replace("11- 1\n0-1 1", "10- 0\n0-0 0"), "n")

@@ -70,9 +70,9 @@ class Streams(InFolder):
     def test_faults(self):
         self.assert_fault(flow("stream", FIR, "z=1"), "z is none of the parameters")
         self.assert_fault(flow("stream", FIR, given="set 1 9999=1\n"), "there are 484 configuration bits")
-        self.assert_fault(flow("stream", FIR, given="upset 474=0\n"), "bit 474 reads no parameter")
+        self.assert_fault(flow("stream", FIR, given="upset 474=0\n"), "bit 474 depends on no parameter")
         self.assert_fault(flow("stream", FIR, "--all"), "--all needs NAME=VALUE")
-        self.assert_fault(flow("stream", f"{DATA}/fir_t.blif", "c1=1"), "no pack")
+        self.assert_fault(flow("stream", f"{DATA}/fir_t.blif", "c1=1"), "not a pack")
 
 
 if __name__ == "__main__":

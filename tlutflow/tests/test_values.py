@@ -43,9 +43,9 @@ class Params(InFolder):
             (["c9=1"], "these are: x[2:0], c0[2:0], c1[2:0], c2[2:0]"),
             (["c0=8"], "c0[2:0] has 3 bits, so its values are -4 to 7"),
             (["c0=-5"], "-4 to 7"),
-            (["c0=five"], "none of the forms"),
+            (["c0=five"], "isn't of one of the forms"),
             (["c0"], "isn't NAME=VALUE"),
-            (["c0=1", "c0[2]=1"], "has a value in this line already"),
+            (["c0=1", "c0[2]=1"], "already has a value on this line"),
             (["clk=1"], "clk is none of the inputs"),
         ):
             self.assert_fault(flow("params", FIR[0], *words), part)
@@ -65,7 +65,7 @@ cycle x=6\nupset 474\ncycle x=7\nset c2[0]=1\nscrub\ncycle x=3\nimage\n"""
     def test_events_at_a_limited_rate(self):
         events = "tick x=1\nask c1=7\ntick\ntick x=2\n"
         self.assertEqual(flow("script", *FIR, given=events).stdout, "tick 100\nask c1[0]=1 c1[1]=1 c1[2]=1\ntick 100\ntick 010\n")
-        self.assert_fault(flow("script", *FIR, given="ask\n"), "ask has one NAME=VALUE or more")
+        self.assert_fault(flow("script", *FIR, given="ask\n"), "ask takes one NAME=VALUE or more")
 
     def test_kept_values_and_no_inputs(self):
         netlist, params = self.put("n.blif", MUX), self.put("n.par", "p 0\n")
@@ -75,17 +75,17 @@ cycle x=6\nupset 474\ncycle x=7\nset c2[0]=1\nscrub\ncycle x=3\nimage\n"""
 
     def test_faults(self):
         for event, part in (
-            ("cycle z=1", "line 1 of standard input: z is none of the inputs; these are: x[2:0]"),
+            ("cycle z=1", "line 1 of stdin: z is none of the inputs; these are: x[2:0]"),
             ("set z=1", "z is none of the parameters; these are: c0[2:0], c1[2:0], c2[2:0]"),
             ("set x=1", "x is an input: use cycle"),
             ("ask x[1]=1", "x[1] is an input: use tick"),
             ("cycle c0=1", "c0 is a parameter: use set"),
             ("tick c0[1]=1", "c0[1] is a parameter: use ask"),
             ("cycle clk=1", "clk is the clock: each cycle and tick has one edge of it"),
-            ("set", "set has one NAME=VALUE or more"),
-            ("go", "go is no event"),
-            ("upset x", "upset has one address"),
-            ("scrub 1", "scrub has nothing behind it"),
+            ("set", "set takes one NAME=VALUE or more"),
+            ("go", "go isn't an event"),
+            ("upset x", "upset takes one address"),
+            ("scrub 1", "scrub takes no arguments"),
         ):
             self.assert_fault(flow("script", *FIR, given=event + "\n"), part)
 
@@ -102,7 +102,7 @@ class Shown(InFolder):
     def test_lines_at_a_limited_rate(self):
         given = "ask 3\nwait 2 4=1 9=0\nwait 1 12=1\ncycle 101000 100110\n"
         self.assertEqual(flow("show", *FIR, given=given).stdout, "ask 3\nwait 2 4=1 9=0\nwait 1 12=1\ncycle y=5\n")
-        self.assert_fault(flow("show", *FIR, given="wait 2 4=1\n"), "line 1 is no line that tlut prints")
+        self.assert_fault(flow("show", *FIR, given="wait 2 4=1\n"), "line 1 isn't a line that tlut prints")
 
     def test_states_signs_and_hexadecimal_digits(self):
         given = "cycle 101000 100110\n"
@@ -116,11 +116,11 @@ class Shown(InFolder):
         ran = flow("show", *FIR, script, given="".join(text.splitlines(True)[:5]))
         self.assert_fault(ran, "the output ends at event 4 of 16")
         self.assertEqual(ran.stdout.splitlines()[1], "cycle y=5")
-        self.assert_fault(flow("show", *FIR, given=""), "standard input is empty")
+        self.assert_fault(flow("show", *FIR, given=""), "stdin is empty")
         self.assert_fault(flow("show", *FIR, given=text[:-1]), "ends within a line")
-        self.assert_fault(flow("show", *FIR, f"{EXAMPLES}/fir/ten.scr", given=text), "it is of another script")
+        self.assert_fault(flow("show", *FIR, f"{EXAMPLES}/fir/ten.scr", given=text), "it belongs to another script")
 
     def test_faults(self):
-        self.assert_fault(flow("show", *FIR, given="cycle 1 -\n"), "isn't of this netlist, which has 6 outputs and 6 latches")
-        self.assert_fault(flow("show", *FIR, given="tlut: out of memory\n"), "line 1 is no line that tlut prints")
+        self.assert_fault(flow("show", *FIR, given="cycle 1 -\n"), "doesn't fit this netlist, which has 6 outputs and 6 latches")
+        self.assert_fault(flow("show", *FIR, given="tlut: out of memory\n"), "line 1 isn't a line that tlut prints")
         self.assert_fault(flow("show", *FIR, "--signed", "z"), "the buses shown are y[5:0]")

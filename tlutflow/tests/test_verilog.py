@@ -81,7 +81,7 @@ class Netlists(InFolder):
     @needs(YOSYS)
     def test_attribute_reset_and_initial_values(self):
         ran = flow("verilog", "--quick", self.put("top.v", MARKED), "--top", "top", "--out", self.folder)
-        told = f"flow verilog: y[3:0] ({self.folder}/top.v:3) has a reset that doesn't wait for the clock; in the netlist it waits for the next edge"
+        told = f"flow verilog: y[3:0] ({self.folder}/top.v:3) has an asynchronous reset; in the netlist it waits for the next edge"
         self.assertEqual((ran.returncode, ran.stderr.count("\n")), (0, 1), ran.stderr)
         self.assertTrue(ran.stderr.startswith(told), ran.stderr)
         self.assertIn("4 register bits, 4 of them without an initial value, which start at 0", ran.stdout)

@@ -75,8 +75,8 @@ class Waves(InFolder):
 
     def test_faults(self):
         script = f"{EXAMPLES}/fir/ten.scr"
-        self.assert_fault(flow("wave", *FIR, script, given="set 0\n"), "it is of another script")
-        self.assert_fault(flow("wave", *FIR, script, given="cycle 1 1\n"), "isn't of this netlist")
+        self.assert_fault(flow("wave", *FIR, script, given="set 0\n"), "it belongs to another script")
+        self.assert_fault(flow("wave", *FIR, script, given="cycle 1 1\n"), "doesn't fit this netlist")
         self.assert_fault(flow("wave", *FIR, script, given=example("fir/expected.txt") + "scrub 0\n"), "11 lines for 10 events")
 
 
