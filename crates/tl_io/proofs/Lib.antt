@@ -1,6 +1,6 @@
 pub mod BitLemmas
 pub mod ContentLemmas
-mod FilesLemmas
+pub mod FilesLemmas
 mod FirstNamed
 pub mod PutLemmas
 mod Reading

@@ -1,5 +1,5 @@
 -- Texts that are put in a sink one after another.
-use Rattle.std.proofs.Common.{◌≡◌, ℕ, ◌+◌, ◌≤◌, List, [], ◌++◌, length, take, Option, Result, Ok, Err, IsErrAnd, refl, sym, ap, subst, ◌∙◌, arith, length-append}
+use Rattle.std.proofs.Common.{◌≡◌, ℕ, ◌+◌, ◌<◌, ◌≤◌, List, [], ◌++◌, length, take, Option, Result, Ok, Err, IsErrAnd, refl, sym, ap, subst, ◌∙◌, arith, length-append}
 use Rattle.std.proofs.Math.Seq.{take-append-add}
 use Rattle.std.proofs.lemmas.List.{take-append-le}
 use Rattle.std.proofs.lemmas.Result.{err_from_is_err_and}
@@ -29,9 +29,9 @@ puts_twice old mid new text more (Err f) e puts = (
   puts.2 ∙ ap (λ (o : Option (List ℕ)). extended o (take puts.0 more)) e ∙ extended_twice old text (take puts.0 more) ∙ ap (extended old) (sym (take-append-add text more puts.0)),
 )
 
-puts_longer : (old new : Option (List ℕ)) (text more : List ℕ) → (n : ℕ) × (n ≤ length text) × (new ≡ extended old (take n text)) → (n : ℕ) × (n ≤ length (text ++ more)) × (new ≡ extended old (take n (text ++ more)))
+puts_longer : (old new : Option (List ℕ)) (text more : List ℕ) → (n : ℕ) × (n < length text) × (new ≡ extended old (take n text)) → (n : ℕ) × (n < length (text ++ more)) × (new ≡ extended old (take n (text ++ more)))
 puts_longer old new text more puts =
-    (puts.0, omega (arith, puts.1, length-append text more), puts.2 ∙ ap (extended old) (sym (take-append-le puts.0 text more puts.1)))
+    (puts.0, omega (arith, puts.1, length-append text more), puts.2 ∙ ap (extended old) (sym (take-append-le puts.0 text more (omega (arith, puts.1)))))
 
 -- nothing is put
 pub put_none : {E : Type 0} (sink : SinkSeen) → IsPut {E = E} sink [] sink (Ok tt)

@@ -1,5 +1,5 @@
 -- A sink in memory, and what a `put` leaves.
-use Rattle.std.specs.Prelude.{ℕ, ◌+◌, ◌||◌, Bool, if◌then◌else◌, nat_lt, List, ◌++◌, length, None, Some}
+use Rattle.std.specs.Prelude.{ℕ, ◌+◌, ◌||◌, ◌&&◌, Bool, if◌then◌else◌, nat_lt, List, ◌++◌, length, None, Some}
 use Rattle.tl_io.specs.Counts.{count_of}
 use Rattle.tl_io.specs.FaultPlan.{Plan, fails_next, after_call, taken_of}
 use Rattle.tl_io.specs.Shelf.{no_shelf}
@@ -21,9 +21,9 @@ sink_in_memory sink = record { bytes = Some sink.bytes; faults = count_of sink.f
 abbrev pub is_past_room : SinkValue → List ℕ → Bool
 is_past_room sink piece = nat_lt sink.room (length sink.bytes + length piece)
 
--- the next `put`, of this piece, fails
+-- the next `put`, of this piece, fails: never that of an empty one
 abbrev pub fails_put : SinkValue → List ℕ → Bool
-fails_put sink piece = fails_next sink.plan || is_past_room sink piece
+fails_put sink piece = (fails_next sink.plan && nat_lt 0 (length piece)) || is_past_room sink piece
 
 -- the sink after a `put`: nothing is taken past the room
 abbrev pub after_put : SinkValue → List ℕ → SinkValue

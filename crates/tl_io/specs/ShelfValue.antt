@@ -1,5 +1,5 @@
 -- A shelf in memory: everything that it means, and which of its calls fail.
-use Rattle.std.specs.Prelude.{ℕ, ◌+◌, ◌||◌, Bool, true, not, if◌then◌else◌, nat_lt, List, length, take, drop, Some, is_some}
+use Rattle.std.specs.Prelude.{ℕ, ◌+◌, ◌||◌, ◌&&◌, Bool, true, not, if◌then◌else◌, nat_lt, List, length, take, drop, Some, is_some}
 use Rattle.std.specs.Option.{option_map}
 use Rattle.std.specs.FinMap.{get}
 use Rattle.tl_io.specs.declared.told_name.TheConstants.{NAME_ROOM}
@@ -39,9 +39,9 @@ fails_begin shelf name = fails_next shelf.plan || not (is_some (get shelf.store.
 abbrev pub is_past_room : ShelfValue → List ℕ → Bool
 is_past_room shelf piece = nat_lt (room_left shelf.store) (length piece)
 
--- the next `push`, of this piece, fails
+-- the next `push`, of this piece, fails: never that of an empty one
 abbrev pub fails_push : ShelfValue → List ℕ → Bool
-fails_push shelf piece = fails_next shelf.plan || is_past_room shelf piece
+fails_push shelf piece = (fails_next shelf.plan && nat_lt 0 (length piece)) || is_past_room shelf piece
 
 -- the counts after a call of reading, or of writing, that failed or not
 abbrev pub with_read_fault : Bool → Counted → Counted

@@ -16,7 +16,7 @@ pub record SinkSeen : Type 0 where
   -- count of write faults, as its other files; else no shelf, and no file
   pub others : ShelfSeen
 
--- a text was put, or after an error a prefix of it, and the count of faults rose; what stands behind the sink stays
+-- a text was put, or after an error a shorter prefix of it, and the count of faults rose; what stands behind the sink stays
 pub record IsPut {E : Type 0} (old : SinkSeen) (text : List ℕ) (new : SinkSeen) (result : Result Unit E) : Type 0 where
   pub cause : HasCause old.faults new.faults result
   pub grown : Puts old.bytes new.bytes text result

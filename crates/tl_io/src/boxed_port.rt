@@ -1,4 +1,4 @@
-//! The trait at a box: a call goes to the port inside.
+//! `ConfigPort` for boxes: a call goes to the port inside.
 use crate::{ConfigPort, Failed, Write};
 
 impl ConfigPort for Box<dyn ConfigPort> {

@@ -1,4 +1,4 @@
-//! A shelf over the system's files.
+//! A shelf over the files of the operating system.
 ghost use Rattle.std.specs.Prelude.{◌≡◌, ◌-◌, ◌^◌, ◌≤◌, false, is_some, length, IfOk, OnOk, OnErr};
 ghost use Rattle.std.proofs.Common.{rules};
 ghost use Rattle.tl_io.specs.DiskValue.{DiskValue, shelf_on_disk};
@@ -13,7 +13,7 @@ use std::io::Read;
 use std::marker::Model;
 use std::rt::Files;
 
-/// A shelf over the system's files. It tells nothing of their content.
+/// A shelf over the files of the operating system. Its clauses say nothing about their content.
 #[derive(Drop)]
 pub struct DiskShelf<R: Files + Drop> {
     rt: R,
@@ -29,7 +29,7 @@ impl<R: Files + Drop> Model for DiskShelf<R> {
 }
 
 impl<R: Files + Drop> DiskShelf<R> {
-    /// A shelf over a runtime that has files. Nothing is being read or written, and no call has failed.
+    /// Creates a shelf over a runtime that has files. No file is being read or written, and no call has failed.
     pub fn make(rt: R) -> DiskShelf<R>
         ensures { result ≡ record { is_reading = false; is_writing = false; counts = no_counts } }
     {
@@ -41,8 +41,10 @@ impl<R: Files + Drop> DiskShelf<R> {
         }
     }
 
-    /// Waits until the device has what was written to the file, where it is a plain one: a quota or a network may refuse bytes
-    /// that a `push` had taken. `Failed` counts as a write fault.
+    /// Syncs the file that is being written to its device, if it is a regular file.
+    ///
+    /// # Errors
+    /// `Failed` if the device refuses bytes that `push` took, as a quota or a network disk may. It counts as a write fault.
     pub fn settle(&mut self) -> Result<(), Failed>
         ensures ok { OnOk result (self.new ≡ self.old) }
         ensures err { OnErr result (self.new ≡ record self.old { counts = with_write_fault self.old.counts }) }
@@ -55,7 +57,7 @@ impl<R: Files + Drop> DiskShelf<R> {
     }
 }
 
-// Waits until the device has a file's bytes. What is no plain file, as a pipe, has no device to wait for.
+// Syncs a regular file to its device. A pipe or a terminal has no device to wait for.
 fn settled<F: OpenFile>(file: &Option<F>) -> Result<(), Failed> {
     let Some(file) = file else {
         return Ok(());
@@ -66,11 +68,11 @@ fn settled<F: OpenFile>(file: &Option<F>) -> Result<(), Failed> {
     }
 }
 
-// How many bytes are asked of a file at most.
+// The most bytes that one read asks for.
 const PIECE: usize = 4_096;
 
-// Reads the next bytes of a file into the head of the buffer. What a read that fails leaves in its buffer isn't known, so the
-// bytes pass through a piece apart.
+// Reads the next bytes of a file to the front of the buffer. A failed read may leave anything in its buffer, so the bytes are
+// read into a separate piece first.
 fn read_piece<F: Read>(file: &mut F, buf: &mut [u8]) -> Result<usize, Failed>
     ensures bound { IfOk result (λ count. count ≤ length buf.new) }
     ensures kept { OnErr result (buf.new ≡ buf.old) }

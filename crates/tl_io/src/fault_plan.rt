@@ -1,10 +1,10 @@
-//! Which calls of an object in memory are to fail.
+//! Which calls of an in-memory object fail.
 ghost use Rattle.std.specs.Prelude.{◌≡◌, IfOk};
 
 use std::alloc::{AllocError, Global};
 use std::marker::Model;
 
-/// The calls that are to fail, by their numbers from 0, and the number of the next call.
+/// The numbers of the calls that fail, counted from 0, and the number of the next call.
 #[derive(Drop)]
 pub struct FaultPlan {
     fails: Vec<u64>,
@@ -29,7 +29,7 @@ impl FaultPlan {
         Ok(FaultPlan { fails, calls: 0 })
     }
 
-    /// Counts a call, and answers whether it is to fail.
+    /// Counts a call, and returns whether it fails.
     pub fn next_call_fails(&mut self) -> bool
         ensures listed { result ≡ fails_next self.old }
         ensures counted { self.new ≡ after_call self.old }

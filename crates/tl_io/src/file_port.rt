@@ -1,4 +1,4 @@
-//! A port over one of the system's files.
+//! A configuration port over a file.
 ghost use Rattle.std.specs.Io.KnownBytes.{Appends};
 ghost use Rattle.std.specs.Prelude.{◌≡◌, ◌-◌, ◌^◌, ◌≤◌, None, ℕ, OnOk};
 ghost use Rattle.tl_io.specs.Counts.{count_of};
@@ -14,7 +14,7 @@ use std::fs::OpenFile;
 use std::marker::Model;
 use std::rt::Files;
 
-/// A port that writes each bit as a line `ADDRESS=BIT` of a file. It tells nothing of the file.
+/// A port that writes each bit to a file as a line `ADDRESS=BIT`. Its clauses say nothing about the file.
 #[derive(Drop)]
 pub struct FilePort<R: Files + Drop> {
     rt: R,
@@ -32,8 +32,8 @@ impl<R: Files + Drop> Model for FilePort<R> {
 }
 
 impl<R: Files + Drop> FilePort<R> {
-    /// A port over the file of this name, which is made at the first write. The name is copied, and one of more than
-    /// 4,096 bytes names no file: then each write fails.
+    /// Creates a port over the file of this name. The first write creates the file. The name is copied; if it has more than
+    /// 4,096 bytes, every write fails.
     pub fn make(rt: R, name: &'static str) -> FilePort<R>
         ensures { result ≡ new_port }
     {
@@ -50,7 +50,7 @@ impl<R: Files + Drop> FilePort<R> {
     }
 }
 
-// The file of this name, made empty.
+// Creates the file of this name, or empties it.
 fn created<R: Files>(rt: &R, name: &[u8]) -> Result<R::File, Failed> {
     let Ok(name) = std::str::from_utf8(name) else {
         return Err(Failed);
@@ -61,10 +61,10 @@ fn created<R: Files>(rt: &R, name: &[u8]) -> Result<R::File, Failed> {
     }
 }
 
-// The bytes of the longest line: the 10 digits of an address, `=`, a bit and a line end.
+// The length of the longest line: the 10 digits of an address, `=`, a bit and a line feed.
 const LINE_ROOM: usize = 13;
 
-// Writes the line of a bit from one buffer, so that a file that takes it at once gets one write.
+// Writes the line of a bit from one buffer, so that it usually takes one system call.
 fn write_line<W: std::io::Write>(writer: &mut W, address: u32, bit: bool) -> Result<(), Failed>
     ensures { OnOk result (Appends (W.contents writer.old) (W.contents writer.new) (port_line address bit)) }
 {
@@ -77,7 +77,7 @@ fn write_line<W: std::io::Write>(writer: &mut W, address: u32, bit: bool) -> Res
     write_whole(writer, &line[..count + 3])
 }
 
-// Writes the line of a bit, and makes the file where it isn't there yet.
+// Writes the line of a bit. Creates the file first if it was not created yet.
 fn send<R: Files>(
     rt: &R,
     name: &[u8],

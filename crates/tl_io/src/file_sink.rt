@@ -4,7 +4,7 @@ ghost use Rattle.tl_io.specs.Shelf.{apart, written};
 
 use crate::{Failed, Shelf, Sink};
 
-/// A sink over a lent shelf: it pushes to the file that is being written.
+/// A sink over a borrowed shelf. `put` pushes to the file that is being written.
 #[derive(Drop)]
 pub struct FileSink<'a, S: Shelf> {
     shelf: &'a mut S,
@@ -12,7 +12,7 @@ pub struct FileSink<'a, S: Shelf> {
 }
 
 impl<'a, S: Shelf> FileSink<'a, S> {
-    /// A sink over this shelf, on which a file is being written.
+    /// Creates a sink over a shelf that is writing a file.
     pub fn over(shelf: &'a mut S) -> FileSink<'a, S>
         requires { IsTrue (S.seen shelf.old).is_writing }
         ensures value { result.shelf.now ≡ shelf.entry.now }

@@ -1,19 +1,28 @@
-//! The outside, as the flow sees it: a shelf of files, a sink of bytes and a port of configuration bits.
+//! Input and output of the flow: a shelf of files, a sink of bytes and a port of configuration bits.
 //!
-//! Everything that the flow reads, writes or configures goes through three traits. A [`Shelf`] has files by
-//! name: one is read in pieces, or one is written in pieces. A [`Sink`] takes bytes, one piece after another.
-//! A [`ConfigPort`] takes configuration bits, each with its address. [`Failed`] is the only fault of a call,
-//! and it tells nothing: what it was is the object's own matter.
+//! The flow reads, writes and configures only through three traits:
 //!
-//! Each object has a count of faults that never falls; a shelf has two, of reads and of writes. A count rose
-//! where it grew, or where it stands at its last value, 2^64 - 1. A call answers `Failed` only where its count
-//! rose, so a caller that reports a fault has a count to show for it (`specs/Causes.antt`).
+//! - A [`Shelf`] has files by name. It reads or writes one file at a time, in pieces.
+//! - A [`Sink`] takes bytes, one piece after another.
+//! - A [`ConfigPort`] takes configuration bits, each with its address.
 //!
-//! What an object holds may be told or not: a shelf in memory tells its files, one over the system's files
-//! doesn't. A clause on contents speaks of what is told (`specs/Content.antt`, `specs/Shelf.antt`,
-//! `specs/Port.antt`). [`MemShelf`], [`MemSink`] and [`MemPort`] are objects in memory that tell all and fail
-//! where they are told to, for tests and simulations. [`DiskShelf`], [`StdSink`] and [`FilePort`] stand over
-//! the system and tell nothing of content. [`FileSink`] is a sink over a shelf's file that is being written.
+//! A call that fails returns [`Failed`], which carries no further information.
+//!
+//! Each object has a count of faults that never falls. A shelf has two: one of reads and one of writes. A count rose
+//! if it grew, or if it is at its last value, 2^64 - 1. A call returns `Failed` only if its count rose, so every fault
+//! that a caller reports has a cause (`specs/Causes.antt`).
+//!
+//! Some objects tell their content and some don't. A clause on content applies only to objects that tell it
+//! (`specs/Content.antt`, `specs/Shelf.antt`, `specs/Port.antt`).
+//!
+//! | Object | Stands for | Content |
+//! |---|---|---|
+//! | [`MemShelf`], [`MemSink`], [`MemPort`] | objects in memory for tests and simulations; they fail at chosen calls | told |
+//! | [`DiskShelf`], [`StdSink`], [`FilePort`] | files and streams of the operating system | not told |
+//! | [`FileSink`] | the file that a shelf is writing, as a sink | as the shelf |
+//!
+//! If writing a piece fails, a prefix of the piece was written that is shorter than the piece. So writing an empty piece
+//! never fails.
 #![tactic(auto)]
 
 mod boxed_port;
@@ -49,24 +58,24 @@ pub use sink::Sink;
 pub use std_sink::StdSink;
 pub use whole_file::slurp;
 
-/// The only fault of a call of the outside.
+/// The error of every call of these traits.
 #[derive(Clone, Copy, Debug, PartialEq, Eq, thiserror::Error)]
 #[error("the call failed")]
 pub struct Failed;
 
-/// A configuration bit that is written.
+/// A write of a configuration bit.
 #[derive(Clone, Copy, Debug, PartialEq, Eq)]
 pub struct Write {
-    /// The bit's number in the configuration, from 0.
+    /// The number of the bit in the configuration, from 0.
     pub address: u32,
     /// Its value.
     pub bit: bool,
 }
 
-/// A parameter that gets a value.
+/// A new value of a parameter.
 #[derive(Clone, Copy, Debug, PartialEq, Eq)]
 pub struct Assign {
-    /// The parameter's number, from 0.
+    /// The number of the parameter, from 0.
     pub param: u16,
     /// Its value.
     pub bit: bool,

@@ -1,9 +1,9 @@
-//! A file in memory, and what is being done with the files there.
+//! A file in memory, and which file of a shelf is open.
 ghost use Rattle.std.specs.Prelude.{◌≡◌, ◌≤◌, vec_capacity};
 
 use std::alloc::{AllocError, Global};
 
-/// A file of a shelf in memory, with the number of bytes that it has room for when it is written.
+/// A file of an in-memory shelf, and the most bytes that it can hold when it is written.
 #[derive(Drop)]
 pub struct MemFile {
     pub name: String,
@@ -12,12 +12,12 @@ pub struct MemFile {
     ghost reserved: { room ≤ vec_capacity bytes },
 }
 
-/// What is being done with the files of a shelf in memory. A file goes by its index.
+/// Which file of an in-memory shelf is open, by its index.
 #[derive(Clone, Copy)]
 pub enum Activity {
-    /// Nothing.
+    /// No file.
     Idle,
-    /// A file is being read, of which so many bytes were given.
+    /// A file is being read, and this many of its bytes were given.
     Reading { file: usize, at: usize },
     /// A file is being written.
     Writing { file: usize },

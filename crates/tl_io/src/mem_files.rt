@@ -1,4 +1,4 @@
-//! The files of a shelf in memory.
+//! The files of an in-memory shelf.
 ghost use Rattle.std.specs.Prelude.{◌≡◌, ◌≤◌, is_some, IsSome, IfSome, IfOk, OnOk, OnErr, Some, length, min, take, drop, position, string_bytes};
 ghost use Rattle.std.specs.FinMap.{get};
 ghost use Rattle.std.specs.Option.{option_map};
@@ -8,8 +8,8 @@ use crate::mem_file::{Activity, MemFile};
 use std::alloc::{AllocError, Global};
 use std::marker::Model;
 
-/// The files of a shelf in memory, of which the first of a name counts, and the place in the one that is being read,
-/// or the one that is being written.
+/// The files of an in-memory shelf, and which of them is being read or written. If several files have the same name, the
+/// first one counts.
 #[derive(Drop)]
 pub struct MemFiles {
     alloc: Global,
@@ -36,7 +36,7 @@ impl MemFiles {
     ghost use Rattle.tl_io.specs.Content.{extended};
     ghost use Rattle.tl_io.specs.Shelf.{Gives, files_but, written_at};
 
-    /// No file.
+    /// Creates a list without files.
     pub fn new(alloc: Global) -> MemFiles
         ensures { result ≡ no_files }
     {
@@ -47,7 +47,7 @@ impl MemFiles {
         }
     }
 
-    /// Puts a file there, with room for this many bytes when it is written.
+    /// Adds a file that can hold this many bytes when it is written.
     pub fn add(&mut self, name: &str, bytes: &[u8], room: usize) -> Result<(), AllocError>
         ensures ok { OnOk result (self.new ≡ added self.old name.now bytes.now room) }
         ensures err { OnErr result (self.new ≡ self.old) }
@@ -58,7 +58,7 @@ impl MemFiles {
         Ok(())
     }
 
-    /// The bytes of the file of this name.
+    /// Returns the bytes of the file of this name.
     pub fn bytes(&self, name: &str) -> Option<&[u8]>
         ensures { option_map (λ bytes. bytes.now) result ≡ get self.now.files name.now }
     {
@@ -68,7 +68,7 @@ impl MemFiles {
         }
     }
 
-    /// Starts to read the file of this name, and answers whether it is there. What was read or written before ends.
+    /// Starts to read the file of this name. Returns whether it exists. Any earlier reading or writing ends.
     pub fn open(&mut self, name: &str) -> bool
         ensures found { result ≡ is_some (get self.old.files name.now) }
         ensures opened { self.new ≡ opened self.old name.now }
@@ -85,15 +85,15 @@ impl MemFiles {
         }
     }
 
-    /// Nothing is read or written any more.
+    /// Ends any reading or writing.
     pub fn close(&mut self)
         ensures { self.new ≡ closed self.old }
     {
         self.activity = Activity::Idle;
     }
 
-    /// Makes the file of this name empty and starts to write it, and answers whether it is there. What was read or
-    /// written before ends.
+    /// Empties the file of this name and starts to write it. Returns whether it exists. Any earlier reading or writing
+    /// ends.
     pub fn create(&mut self, name: &str) -> bool
         ensures found { result ≡ is_some (get self.old.files name.now) }
         ensures created { self.new ≡ created self.old name.now }
@@ -112,7 +112,7 @@ impl MemFiles {
         }
     }
 
-    /// Gives the next bytes of the file that is being read, at most a piece and at most what the buffer takes.
+    /// Copies the next bytes of the file that is being read: at most `piece` bytes, and at most the length of the buffer.
     pub fn give(&mut self, piece: usize, buf: &mut [u8]) -> usize
         requires some_piece { 1 ≤ piece }
         requires reading { IsSome self.old.left }
@@ -135,7 +135,7 @@ impl MemFiles {
         count
     }
 
-    /// How many bytes the file that is being written has room for, beside those that it has.
+    /// Returns how many more bytes fit into the file that is being written.
     pub fn room_left(&self) -> usize
         ensures { result ≡ room_left self.now }
     {
@@ -160,7 +160,7 @@ impl MemFiles {
     }
 }
 
-// A file with room for this many bytes.
+// Creates a file that can hold this many bytes.
 fn make_file(alloc: Global, name: &str, bytes: &[u8], room: usize) -> Result<MemFile, AllocError>
     ensures name { IfOk result (λ file. string_bytes file.name ≡ name.now) }
     ensures bytes { IfOk result (λ file. file.bytes.items ≡ bytes.now) }
@@ -176,7 +176,7 @@ fn make_file(alloc: Global, name: &str, bytes: &[u8], room: usize) -> Result<Mem
     })
 }
 
-// The index of the first file of this name.
+// Returns the index of the first file of this name.
 fn place_of(files: &[MemFile], name: &str) -> Option<usize>
     ensures first { result ≡ position (is_named name.now) files.now }
 {
@@ -185,7 +185,7 @@ fn place_of(files: &[MemFile], name: &str) -> Option<usize>
         .position(|file| name.cmp(file.name.as_str()).is_eq())
 }
 
-// Copies the next bytes, at most a piece and at most what the buffer takes.
+// Copies the next bytes: at most `piece` of them, and at most the length of the buffer.
 fn copy_next(bytes: &[u8], at: usize, piece: usize, buf: &mut [u8]) -> usize
     requires { 1 ≤ piece }
     ensures count { result ≡ min (min (length (drop at bytes.now)) piece) (length buf.new) }

@@ -1,4 +1,4 @@
-//! A port in memory.
+//! A configuration port in memory.
 ghost use Rattle.std.specs.Prelude.{◌≡◌, ◌↔◌, [], IfOk, IsErr, IsTrue, slice_get, Some};
 ghost use Rattle.tl_io.specs.Port.{Writes, IsCounted};
 
@@ -7,7 +7,7 @@ use crate::{ConfigPort, Failed, Write};
 use std::alloc::{AllocError, Global};
 use std::marker::Model;
 
-/// A port in memory with a fixed room, which fails at the writes that it was told to.
+/// A configuration port in memory that holds a fixed number of writes and fails at chosen calls.
 #[derive(Drop)]
 pub struct MemPort {
     writes: Vec<Write>,
@@ -28,11 +28,11 @@ impl Model for MemPort {
 }
 
 impl MemPort {
-    /// A port that accepts this many writes. The calls of `write` are numbered from 0, and those whose number
-    /// stands in `fails` fail.
+    /// Creates a port that accepts this many writes. The calls of `write` are numbered from 0. A call fails if its number
+    /// is in `fails`.
     ///
     /// # Errors
-    /// `AllocError` where there is no memory for the room or the numbers.
+    /// `AllocError` if there is no memory for the writes or the numbers.
     pub fn make(alloc: Global, room: usize, fails: &[u64]) -> Result<MemPort, AllocError>
         ensures { IfOk result (λ port. port ≡ record { log = []; room = room; plan = record { fails = fails.now; calls = 0 }; faults = 0 }) }
     {
@@ -46,7 +46,7 @@ impl MemPort {
         })
     }
 
-    /// The accepted writes.
+    /// Returns the accepted writes.
     pub fn log(&self) -> &[Write]
         ensures { result.now ≡ self.now.log }
     {

@@ -15,9 +15,9 @@ use crate::{Failed, Shelf};
 use std::alloc::{AllocError, Global};
 use std::marker::Model;
 
-/// A shelf in memory, which fails at the calls that it was told to.
+/// A shelf in memory that fails at chosen calls.
 ///
-/// A file is looked up by a search from the front, so a begin call takes time in the number of files.
+/// `begin_read` and `begin_write` search the files from the front, in time linear in their number.
 #[derive(Drop)]
 pub struct MemShelf {
     files: MemFiles,
@@ -45,11 +45,11 @@ impl MemShelf {
     ghost use Rattle.tl_io.specs.ShelfCounts.{no_counts};
     ghost use Rattle.tl_io.specs.Store.{no_files, added};
 
-    /// A shelf with no file, of which a `pull` gives at most `piece` bytes. The calls of the trait are numbered from
-    /// 0, and those whose number stands in `fails` fail.
+    /// Creates a shelf without files. A `pull` gives at most `piece` bytes. The calls of the trait are numbered from 0. A
+    /// call fails if its number is in `fails`, unless it is a `push` of an empty piece.
     ///
     /// # Errors
-    /// `AllocError` where there is no memory for the numbers.
+    /// `AllocError` if there is no memory for the numbers.
     pub fn make(alloc: Global, piece: usize, fails: &[u64]) -> Result<MemShelf, AllocError>
         requires { 1 ≤ piece }
         ensures { IfOk result (λ shelf. shelf ≡ record {
@@ -68,11 +68,11 @@ impl MemShelf {
         })
     }
 
-    /// Puts a file there, in the place of one of this name, and reserves `room` bytes for writing it. What was being
-    /// read or written ends.
+    /// Adds a file, or replaces the one of this name, and reserves `room` bytes for writing it. Any reading or writing
+    /// ends.
     ///
     /// # Errors
-    /// `AllocError` where there is no memory for the file: then the shelf is as before.
+    /// `AllocError` if there is no memory for the file. The shelf is unchanged.
     pub fn add(&mut self, name: &str, bytes: &[u8], room: usize) -> Result<(), AllocError>
         ensures ok { OnOk result (self.new ≡ record self.old { store = added self.old.store name.now bytes.now room }) }
         ensures err { OnErr result (self.new ≡ self.old) }
@@ -80,7 +80,7 @@ impl MemShelf {
         self.files.add(name, bytes, room)
     }
 
-    /// The bytes of the file of this name. `None` exactly where the name wasn't added.
+    /// Returns the bytes of the file of this name, or `None` if and only if no file of this name was added.
     pub fn file(&self, name: &str) -> Option<&[u8]>
         ensures { option_map (λ bytes. bytes.now) result ≡ get self.now.store.files name.now }
     {
@@ -176,7 +176,7 @@ impl Shelf for MemShelf {
             self.counts.count_write_fault();
             return Err(Failed);
         }
-        if listed {
+        if listed && !piece.is_empty() {
             self.files.append(&piece[..piece.len() / 2]);
             self.counts.count_write_fault();
             return Err(Failed);

@@ -8,7 +8,7 @@ use crate::{Failed, Sink};
 use std::alloc::{AllocError, Global};
 use std::marker::Model;
 
-/// A sink in memory with a fixed room, which fails at the calls that it was told to.
+/// A sink in memory that holds a fixed number of bytes and fails at chosen calls.
 #[derive(Drop)]
 pub struct MemSink {
     held: Vec<u8>,
@@ -29,11 +29,11 @@ impl Model for MemSink {
 }
 
 impl MemSink {
-    /// An empty sink with room for this many bytes. The calls of `put` are numbered from 0, and those whose number
-    /// stands in `fails` fail.
+    /// Creates an empty sink that can hold this many bytes. The calls of `put` are numbered from 0. A call fails if its
+    /// number is in `fails` and its piece isn't empty.
     ///
     /// # Errors
-    /// `AllocError` where there is no memory for the room or the numbers.
+    /// `AllocError` if there is no memory for the bytes or the numbers.
     pub fn make(alloc: Global, room: usize, fails: &[u64]) -> Result<MemSink, AllocError>
         ensures { IfOk result (λ sink. sink ≡ record { bytes = []; room = room; plan = record { fails = fails.now; calls = 0 }; faults = 0 }) }
     {
@@ -47,7 +47,7 @@ impl MemSink {
         })
     }
 
-    /// The bytes so far.
+    /// Returns the bytes so far.
     pub fn bytes(&self) -> &[u8]
         ensures { result.now ≡ self.now.bytes }
     {
@@ -70,7 +70,7 @@ impl Sink for MemSink {
             self.faults = self.faults.saturating_add(1);
             return Err(Failed);
         }
-        if listed {
+        if listed && !piece.is_empty() {
             let half = &piece[..piece.len() / 2];
             let _ = self.held.extend_from_slice(half);
             self.faults = self.faults.saturating_add(1);

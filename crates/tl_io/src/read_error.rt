@@ -1,4 +1,4 @@
-/// Why a file wasn't read to its end.
+/// Why a file was not read to its end.
 #[derive(Clone, Copy, Debug, PartialEq, Eq, thiserror::Error)]
 pub enum Slurp {
     /// A call of the shelf failed.
@@ -7,7 +7,7 @@ pub enum Slurp {
     /// The file has more bytes than the limit.
     #[error("file is too long")]
     TooLong,
-    /// There was no memory for the bytes.
+    /// Out of memory.
     #[error("out of memory")]
     Memory,
 }

@@ -1,4 +1,4 @@
-//! What a shelf of files is.
+//! The trait of shelves of files.
 ghost use Rattle.std.specs.Prelude.{◌≡◌, ◌-◌, ◌^◌, ◌≤◌, IsTrue, OnErr, false, take};
 ghost use Rattle.tl_io.specs.Causes.{HasCause};
 ghost use Rattle.tl_io.specs.Content.{Puts};
@@ -7,18 +7,19 @@ ghost use Rattle.tl_io.specs.Shelf.{ShelfSeen, Begins, BeginsWrite, Pulls, apart
 use crate::Failed;
 use crate::told_name::NAME_ROOM;
 
-/// Files by name, one of which is read in pieces, or written in pieces.
+/// Files by name. One file at a time is read or written, in pieces.
 ///
-/// A begin call ends whatever was being read or written. `begin_read` and `pull` raise the count of read faults
-/// alone and change no file; `begin_write` and `push` raise the count of write faults alone.
+/// `begin_read` and `begin_write` end any earlier reading or writing. `begin_read` and `pull` change no file, and a
+/// failure raises only the count of read faults. A failure of `begin_write` or `push` raises only the count of write
+/// faults.
 pub trait Shelf {
-    /// What it means.
+    /// The value that contracts see.
     ghost seen: { Self → ShelfSeen };
 
     /// Starts to read the file of this name at its first byte.
     ///
     /// # Errors
-    /// `Failed` where it can't be read, as where it isn't there: then no file is being read.
+    /// `Failed` if the file can't be read, for example because it doesn't exist. No file is being read then.
     fn begin_read(&mut self, name: &str) -> Result<(), Failed>
         ensures cause { HasCause (seen self.old).read_faults (seen self.new).read_faults result }
         ensures begins { Begins (seen self.old) name.now (seen self.new) result }
@@ -29,11 +30,11 @@ pub trait Shelf {
         ensures files { (seen self.new).files ≡ (seen self.old).files }
         ensures write_faults { (seen self.new).write_faults ≡ (seen self.old).write_faults };
 
-    /// Gives the next bytes of the file that is being read: their number, and they stand at the buffer's front.
-    /// `Ok(0)` for a buffer that isn't empty is the file's end.
+    /// Copies the next bytes of the file that is being read to the front of the buffer, and returns their number. `Ok(0)`
+    /// for a buffer that isn't empty means the end of the file.
     ///
     /// # Errors
-    /// `Failed` gives no bytes, and the buffer is as before; the file is still being read.
+    /// `Failed` gives no bytes. The buffer is unchanged, and the file is still being read.
     fn pull(&mut self, buf: &mut [u8]) -> Result<usize, Failed>
         requires { IsTrue (seen self.old).is_reading }
         ensures cause { HasCause (seen self.old).read_faults (seen self.new).read_faults result }
@@ -47,10 +48,10 @@ pub trait Shelf {
         ensures files { (seen self.new).files ≡ (seen self.old).files }
         ensures write_faults { (seen self.new).write_faults ≡ (seen self.old).write_faults };
 
-    /// Makes the file of this name empty and starts to write it.
+    /// Creates or empties the file of this name and starts to write it.
     ///
     /// # Errors
-    /// `Failed` where it can't be written: it is as before or empty, and no file is being written.
+    /// `Failed` if the file can't be written. It is unchanged or empty, and no file is being written.
     fn begin_write(&mut self, name: &str) -> Result<(), Failed>
         ensures cause { HasCause (seen self.old).write_faults (seen self.new).write_faults result }
         ensures begins { BeginsWrite (seen self.old) name.now (seen self.new) result }
@@ -63,7 +64,8 @@ pub trait Shelf {
     /// Appends the piece to the file that is being written, and changes nothing else.
     ///
     /// # Errors
-    /// `Failed` where not all of it was written: a prefix of it is appended; the file is still being written.
+    /// `Failed` if not all of the piece was written. A prefix of it is appended that is shorter than the piece, so an empty
+    /// piece never fails. The file is still being written.
     fn push(&mut self, piece: &[u8]) -> Result<(), Failed>
         requires { IsTrue (seen self.old).is_writing }
         ensures cause { HasCause (seen self.old).write_faults (seen self.new).write_faults result }
@@ -71,9 +73,9 @@ pub trait Shelf {
         ensures writing { IsTrue (seen self.new).is_writing }
         ensures apart { apart (seen self.new) ≡ apart (seen self.old) };
 
-    /// The count of read faults has a last value.
+    /// The count of read faults is at most 2^64 - 1.
     ghost read_faults_end: { (shelf : Self) → (seen shelf).read_faults ≤ 2 ^ 64 - 1 };
 
-    /// The count of write faults has a last value.
+    /// The count of write faults is at most 2^64 - 1.
     ghost write_faults_end: { (shelf : Self) → (seen shelf).write_faults ≤ 2 ^ 64 - 1 };
 }

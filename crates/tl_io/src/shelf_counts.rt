@@ -1,11 +1,11 @@
-//! What a shelf keeps of its calls: the last read, and the counts of faults.
+//! What a shelf records of its calls: the last file that it read, and its counts of faults.
 ghost use Rattle.std.specs.Prelude.{◌≡◌, ◌+◌, take};
 ghost use Rattle.tl_io.specs.Counts.{count_of};
 
 use crate::told_name::{NAME_ROOM, ToldName};
 use std::marker::Model;
 
-/// What a shelf keeps of its last read, and its counts of faults.
+/// The record of a shelf's last read, and its counts of faults.
 #[derive(Drop)]
 pub struct ShelfCounts {
     name: ToldName,
@@ -44,7 +44,7 @@ impl ShelfCounts {
         }
     }
 
-    /// A read of this file begins.
+    /// Records that a read of this file begins.
     pub fn begin_read(&mut self, name: &str)
         ensures { self.new ≡ record self.old { name = take NAME_ROOM name.now; given = 0; before = self.old.read_faults } }
     {
@@ -53,21 +53,21 @@ impl ShelfCounts {
         self.before = self.read_faults;
     }
 
-    /// Bytes were given.
+    /// Records that this many bytes were given.
     pub fn give(&mut self, count: usize)
         ensures { self.new ≡ record self.old { given = count_of (self.old.given + count) } }
     {
         self.given = self.given.saturating_add(count as u64);
     }
 
-    /// A read failed.
+    /// Records a failed read.
     pub fn count_read_fault(&mut self)
         ensures { self.new ≡ record self.old { read_faults = count_of (self.old.read_faults + 1) } }
     {
         self.read_faults = self.read_faults.saturating_add(1);
     }
 
-    /// A write failed.
+    /// Records a failed write.
     pub fn count_write_fault(&mut self)
         ensures { self.new ≡ with_write_fault self.old }
     {

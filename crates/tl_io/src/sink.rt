@@ -1,4 +1,4 @@
-//! What a sink of bytes is.
+//! The trait of sinks of bytes.
 ghost use Rattle.std.specs.Prelude.{◌-◌, ◌^◌, ◌≤◌};
 ghost use Rattle.tl_io.specs.Sink.{SinkSeen, IsPut};
 
@@ -6,16 +6,17 @@ use crate::Failed;
 
 /// Takes bytes.
 pub trait Sink {
-    /// What it means.
+    /// The value that contracts see.
     ghost seen: { Self → SinkSeen };
 
-    /// Appends the piece, and changes nothing behind the sink.
+    /// Appends the piece, and changes nothing else.
     ///
     /// # Errors
-    /// `Failed` where not all of it was taken: a prefix of it is appended, and the count of faults rose.
+    /// `Failed` if not all of the piece was taken. A prefix of it is appended that is shorter than the piece, so an empty
+    /// piece never fails. The count of faults rose.
     fn put(&mut self, piece: &[u8]) -> Result<(), Failed>
         ensures { IsPut (seen self.old) piece.now (seen self.new) result };
 
-    /// The count has a last value.
+    /// The count is at most 2^64 - 1.
     ghost faults_end: { (sink : Self) → (seen sink).faults ≤ 2 ^ 64 - 1 };
 }

@@ -1,4 +1,4 @@
-//! A sink over a writer of std.
+//! A sink over a `std::io::Write`.
 ghost use Rattle.std.specs.Prelude.{◌≡◌, ◌-◌, ◌^◌, ◌≤◌, OnOk};
 ghost use Rattle.std.specs.Io.KnownBytes.{Appends};
 ghost use Rattle.std.proofs.Common.{rules};
@@ -10,8 +10,8 @@ use crate::{Failed, Sink};
 use std::io::Write;
 use std::marker::Model;
 
-/// A sink over a writer of std. As a sink it tells nothing of the bytes; where the writer tells what it holds, `Ok` of
-/// a `put` has appended the piece there.
+/// A sink over a `std::io::Write`. As a sink it does not tell its bytes. If the writer tells its content, a `put` that
+/// returns `Ok` appended the piece to it.
 #[derive(Drop)]
 pub struct StdSink<W: Write + Drop> {
     writer: W,
@@ -25,7 +25,7 @@ impl<W: Write + Drop> Model for StdSink<W> {
 }
 
 impl<W: Write + Drop> StdSink<W> {
-    /// A sink over this writer, with no fault so far.
+    /// Creates a sink over this writer, with no faults so far.
     pub fn make(writer: W) -> StdSink<W>
         ensures { result ≡ record { contents = W.contents writer; faults = 0 } }
     {

@@ -1,12 +1,12 @@
-//! A name that is kept without memory, of which the first bytes are told.
+//! The first bytes of a name, kept without allocating memory.
 ghost use Rattle.std.specs.Prelude.{◌≡◌, ◌≤◌, [], List, ℕ, length, take};
 
 use std::marker::Model;
 
-/// How many bytes of a name are kept.
+/// The most bytes of a name that are kept.
 pub const NAME_ROOM: usize = 4_096;
 
-/// The first bytes of a name, as many as are kept.
+/// The first `NAME_ROOM` bytes of a name.
 #[derive(Drop)]
 pub struct ToldName {
     bytes: [u8; NAME_ROOM],

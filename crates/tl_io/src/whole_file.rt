@@ -10,35 +10,35 @@ use std::alloc::Global;
 
 /// Reads the whole file of this name, of at most `limit` bytes.
 ///
-/// The answer is the file's bytes to its end, where the shelf tells its files. It takes one pass over the file and
-/// holds it once.
+/// If the shelf tells its files, the result is all bytes of the file. It makes one pass over the file and one copy of it.
 ///
 /// # Errors
-/// `ReadFault` only where the shelf's count of read faults rose, in this call and since the read began. `TooLong`
-/// exactly where more than `limit` bytes were given. `Memory` where there is no memory for the bytes.
+/// - `ReadFault` only if the shelf's count of read faults rose, in this call and since the read began.
+/// - `TooLong` if and only if the shelf gave more than `limit` bytes.
+/// - `Memory` if there is no memory for the bytes.
 pub fn slurp<S: Shelf>(
     alloc: Global,
     shelf: &mut S,
     name: &str,
     limit: u64,
 ) -> Result<Vec<u8>, Slurp>
-    // The file to its end, or the cause of the error.
+    // All bytes of the file, or the cause of the error.
     ensures file { IfOk result (λ text. IsFile (S.seen shelf.old).files name.now text.items) }
     ensures short { IfOk result (λ text. length text.items ≤ limit) }
     ensures fault { IsErrOf result Slurp.ReadFault → Rose (S.seen shelf.old).read_faults (S.seen shelf.new).read_faults × Rose (S.seen shelf.new).before (S.seen shelf.new).read_faults }
     ensures too_long { IsErrOf result Slurp.TooLong → limit < (S.seen shelf.new).given }
     ensures longer { IsErrOf result Slurp.TooLong → IsLonger (S.seen shelf.old).files name.now limit }
 
-    // More than the limit was given at no other answer but want of memory.
+    // Besides `TooLong`, only `Memory` can come after more bytes than the limit.
     ensures within { OnOk result ((S.seen shelf.new).given ≤ limit) }
     ensures fault_within { IsErrOf result Slurp.ReadFault → (S.seen shelf.new).given ≤ limit }
 
-    // The name that the shelf tells then is this one.
+    // The shelf then tells this name.
     ensures name { OnOk result ((S.seen shelf.new).name ≡ take NAME_ROOM name.now) }
     ensures fault_name { IsErrOf result Slurp.ReadFault → (S.seen shelf.new).name ≡ take NAME_ROOM name.now }
     ensures too_long_name { IsErrOf result Slurp.TooLong → (S.seen shelf.new).name ≡ take NAME_ROOM name.now }
 
-    // What stays.
+    // What is unchanged.
     ensures later { (S.seen shelf.old).read_faults ≤ (S.seen shelf.new).read_faults }
     ensures files { (S.seen shelf.new).files ≡ (S.seen shelf.old).files }
     ensures write_faults { (S.seen shelf.new).write_faults ≡ (S.seen shelf.old).write_faults }

@@ -1,5 +1,5 @@
 -- Bytes that wait, and texts that are added behind them.
-use Rattle.std.proofs.Common.{◌≡◌, ℕ, ◌+◌, ◌≤◌, List, [], ◌++◌, length, take, Option, Result, Ok, Err, sym, ap, subst, ◌∙◌, arith, append_assoc, append-nil, length-append}
+use Rattle.std.proofs.Common.{◌≡◌, ℕ, ◌+◌, ◌<◌, List, [], ◌++◌, length, take, Option, Result, Ok, Err, sym, ap, subst, ◌∙◌, arith, append_assoc, append-nil, length-append}
 use Rattle.std.proofs.Math.Seq.{take-append-add}
 use Rattle.std.proofs.lemmas.List.{take-append-le}
 use Rattle.tl_io.specs.Content.{extended, Puts}
@@ -28,7 +28,7 @@ adds_twice {old = old} {waiting = waiting} {text = text} {between = between} {mo
 }
 
 -- a prefix of what waited was put
-pub stops_put : {old new : Option (List ℕ)} (waiting : List ℕ) → (n : ℕ) × (n ≤ length waiting) × (new ≡ extended old (take n waiting)) → Stops old waiting [] new
+pub stops_put : {old new : Option (List ℕ)} (waiting : List ℕ) → (n : ℕ) × (n < length waiting) × (new ≡ extended old (take n waiting)) → Stops old waiting [] new
 stops_put {old = old} waiting p =
     let whole : waiting ≡ waiting ++ [] = sym (append-nil waiting) in
     record { count = p.0; within = omega (arith, p.1, ap length whole); put = p.2 ∙ ap (λ (t : List ℕ). extended old (take p.0 t)) whole }
@@ -38,7 +38,7 @@ pub stops_longer : {old new : Option (List ℕ)} {waiting text : List ℕ} (more
 stops_longer {old = old} {waiting = waiting} {text = text} more s = record {
   count = s.count;
   within = omega (arith, s.within, length-append waiting text, length-append waiting (text ++ more), length-append text more);
-  put = s.put ∙ ap (extended old) (sym (take-append-le s.count (waiting ++ text) more s.within) ∙ ap (take s.count) (append_assoc waiting text more));
+  put = s.put ∙ ap (extended old) (sym (take-append-le s.count (waiting ++ text) more (omega (arith, s.within))) ∙ ap (take s.count) (append_assoc waiting text more));
 }
 
 -- a text was added, and the next one stopped
@@ -61,8 +61,8 @@ stops_still s e = record { count = s.count; within = s.within; put = e ∙ s.put
 pub adds_put : {old mid new : Option (List ℕ)} {text left : List ℕ} → Adds old [] text mid left → new ≡ extended mid left → new ≡ extended old text
 adds_put {old = old} {left = left} a e = e ∙ ap (λ (o : Option (List ℕ)). extended o left) a.put ∙ extended_twice old a.sent left ∙ ap (extended old) a.rest
 
-pub adds_put_part : {old mid new : Option (List ℕ)} {text left : List ℕ} → Adds old [] text mid left → (n : ℕ) → n ≤ length left → new ≡ extended mid (take n left)
-    → (m : ℕ) × (m ≤ length text) × (new ≡ extended old (take m text))
+pub adds_put_part : {old mid new : Option (List ℕ)} {text left : List ℕ} → Adds old [] text mid left → (n : ℕ) → n < length left → new ≡ extended mid (take n left)
+    → (m : ℕ) × (m < length text) × (new ≡ extended old (take m text))
 adds_put_part {old = old} {text = text} {left = left} a n h e = (
   length a.sent + n,
   omega (arith, h, ap length a.rest, length-append a.sent left),
@@ -76,6 +76,6 @@ adds_then_puts {old = old} {mid = mid} {text = text} {left = left} new (Ok u) e 
 adds_then_puts {old = old} {mid = mid} {text = text} {left = left} new (Err f) e a puts = adds_put_part (subst (λ (w : List ℕ). Adds old w text mid left) e a) puts.0 puts.1 puts.2
 
 -- a text that stopped at an empty buffer left a prefix of it
-pub stops_part : {old new : Option (List ℕ)} {waiting text : List ℕ} → waiting ≡ [] → Stops old waiting text new → (m : ℕ) × (m ≤ length text) × (new ≡ extended old (take m text))
+pub stops_part : {old new : Option (List ℕ)} {waiting text : List ℕ} → waiting ≡ [] → Stops old waiting text new → (m : ℕ) × (m < length text) × (new ≡ extended old (take m text))
 stops_part {old = old} {new = new} {text = text} e s =
     let here : Stops old [] text new = subst (λ (w : List ℕ). Stops old w text new) e s in (here.count, here.within, here.put)

@@ -17,7 +17,7 @@ pub record IsNew {O : Type 0} (out : MutBor O) (new : Writer O) : Type 0 where
 pub data Grows {O : Type 0} (seen : O → SinkSeen) (old : Writer O) (text : List ℕ) (new : Writer O) : Type 0 where
   -- a front of what waited and the text was put, and the rest waits
   waits : old.failed ≡ false → new.failed ≡ false → Adds (seen old.out.now).bytes old.piece.now text (seen new.out.now).bytes new.piece.now → Grows seen old text new
-  -- a put failed: the count of faults rose, and a prefix of what waited and the text was put
+  -- a put failed: the count of faults rose, and a prefix of what waited and the text was put, not all of it
   cut : old.failed ≡ false → new.failed ≡ true → Rose (seen old.out.now).faults (seen new.out.now).faults
       → Stops (seen old.out.now).bytes old.piece.now text (seen new.out.now).bytes → Grows seen old text new
   -- a put had failed before: nothing more is put
@@ -31,7 +31,7 @@ pub record IsAdded {O : Type 0} (seen : O → SinkSeen) (old : Writer O) (text :
   pub through : (seen new.out.now).through ≡ (seen old.out.now).through
   pub others : (seen new.out.now).others ≡ (seen old.out.now).others
 
--- what waited was put, or after an error a prefix of it; where a put had failed before, that is the error
+-- what waited was put, or after an error a shorter prefix of it; where a put had failed before, that is the error
 pub record IsFinished {O E : Type 0} (seen : O → SinkSeen) (old new : Writer O) (result : Result Unit E) : Type 0 where
   pub name : new.out.ghost_name ≡ old.out.ghost_name
   pub put : old.failed ≡ false → IsPut (seen old.out.now) old.piece.now (seen new.out.now) result

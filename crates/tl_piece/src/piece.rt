@@ -1,15 +1,15 @@
-//! The bytes of a text that wait to be put.
+//! The buffer of a writer.
 ghost use Rattle.std.specs.Prelude.{◌≡◌, ◌<◌, ◌≤◌, ◌↔◌, [], ◌∷◌, ◌++◌, IsTrue, length};
 
 use arrayvec::ArrayVec;
 use std::marker::Model;
 
-/// How many bytes a piece has, but the last of a text.
+/// The length of each piece of a text except the last.
 pub(crate) const PIECE: usize = 4_096;
 
-/// The bytes of a text that were not put yet, `PIECE` at most. They wait in place: no memory is asked for.
+/// The bytes of a text that were not put yet, at most 4,096. They are stored in place, so no memory is allocated.
 ///
-/// A contract sees it as these bytes.
+/// Contracts see a piece as these bytes.
 #[derive(Drop)]
 pub struct Piece {
     bytes: ArrayVec<u8, PIECE>,
@@ -24,7 +24,7 @@ impl Model for Piece {
 }
 
 impl Piece {
-    /// Nothing waits.
+    /// Creates an empty piece.
     pub fn new() -> Piece
         ensures { result ≡ [] }
     {
@@ -33,14 +33,14 @@ impl Piece {
         }
     }
 
-    /// Forgets what waits.
+    /// Removes all bytes.
     pub fn clear(&mut self)
         ensures { self.new ≡ [] }
     {
         self.bytes.clear();
     }
 
-    // Has it room for a byte?
+    // Returns whether one more byte fits.
     pub(crate) fn has_room(&self) -> bool
         ensures { IsTrue result ↔ length self.now < PIECE }
     {
@@ -55,7 +55,7 @@ impl Piece {
         self.bytes.push(byte);
     }
 
-    // What waits.
+    // Returns the bytes.
     pub(crate) fn bytes(&self) -> &[u8]
         ensures { result.now ≡ self.now }
     {

@@ -1,4 +1,4 @@
-//! A text that is added to a sink part by part.
+//! A buffered writer over a sink.
 ghost use Rattle.std.specs.Prelude.{◌<◌, [], ◌∷◌, length, replicate, decimal};
 ghost use Rattle.tl_piece.specs.Added.{IsNew, IsAdded, IsFinished};
 
@@ -6,9 +6,10 @@ use crate::piece::{PIECE, Piece};
 use itoa::Buffer;
 use tl_io::{Failed, Sink};
 
-/// A lent sink, and the bytes of a text that were not put there yet.
+/// A buffered writer over a borrowed sink.
 ///
-/// What is added waits until there is a whole piece of it. Once a put has failed nothing more is put, and [`Writer::finish`] tells it.
+/// Bytes that are added wait until a whole piece of them is there. After a failed put nothing more is put, and
+/// [`Writer::finish`] returns the error.
 #[derive(Drop)]
 pub struct Writer<'a, O: Sink> {
     out: &'a mut O,
@@ -17,7 +18,7 @@ pub struct Writer<'a, O: Sink> {
 }
 
 impl<'a, O: Sink> Writer<'a, O> {
-    /// A writer over this sink, whose bytes wait in this piece. What the piece held is forgotten.
+    /// Creates a writer over this sink that uses this piece as its buffer. The old bytes of the piece are removed.
     pub fn over(out: &'a mut O, piece: &'a mut Piece) -> Writer<'a, O>
         ensures { IsNew out.entry result }
     {
@@ -29,10 +30,10 @@ impl<'a, O: Sink> Writer<'a, O> {
         }
     }
 
-    /// Puts what waits, as the text's last piece.
+    /// Puts the bytes that wait, as the last piece of the text.
     ///
     /// # Errors
-    /// `Failed` where a put failed, this one or one before.
+    /// `Failed` if this put or an earlier one failed. Then not all of the text is in the sink.
     pub fn finish(&mut self) -> Result<(), Failed>
         ensures { IsFinished O.seen self.old self.new result }
     {
@@ -42,7 +43,7 @@ impl<'a, O: Sink> Writer<'a, O> {
         self.out.put(self.piece.bytes())
     }
 
-    // Puts what waits if that is a whole piece, so that a byte has room.
+    // Puts the bytes that wait if they are a whole piece, so that one more byte fits.
     fn make_room(&mut self)
         ensures added { IsAdded O.seen self.old [] self.new }
         ensures room { length self.new.piece.now < PIECE }
@@ -54,7 +55,7 @@ impl<'a, O: Sink> Writer<'a, O> {
         self.piece.clear();
     }
 
-    /// Adds a byte. What waits is put before it where that is a whole piece.
+    /// Adds a byte. If a whole piece waits, it is put first.
     pub fn add_byte(&mut self, byte: u8)
         ensures { IsAdded O.seen self.old (byte ∷ []) self.new }
     {
@@ -79,7 +80,7 @@ impl<'a, O: Sink> Writer<'a, O> {
         self.add_text(digits.format(number).as_bytes());
     }
 
-    /// Adds a byte so many times.
+    /// Adds a byte `count` times.
     pub fn add_repeated(&mut self, byte: u8, count: usize)
         ensures { IsAdded O.seen self.old (replicate count byte) self.new }
     {

@@ -15,8 +15,8 @@ loop-rest-preserved g c =
     let rest = c.loop-rest.rest.now in
     (done ++ take c.in-Ok.count rest, moves_front _ done rest c.in-Ok.count split, Appends-trans _ _ _ _ _ appended c.in-Ok.ensures.bytes)
 
-pub returns : goal.returns
-returns g c =
+pub returns-clause-ok : goal.returns-clause-ok
+returns-clause-ok g c =
     let (done, split, appended) = c.loop-rest.invariant in
     let rest = c.loop-rest.rest.now in
     let empty : rest ≡ [] = drop_of_length-le rest {i = 0} (search rules) in
