@@ -1,3 +1,4 @@
+mod CutLemmas
 mod PutLemmas
 mod SpacedLemmas
 pub mod EndLemmas

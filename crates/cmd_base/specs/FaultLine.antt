@@ -1,5 +1,5 @@
 -- The line on the error output.
-use Rattle.std.specs.Prelude.{◌≡◌, ℕ, ◌≤◌, ◌⊎◌, take, length, codes, [], ◌∷◌, ◌++◌, List}
+use Rattle.std.specs.Prelude.{◌≡◌, ℕ, ◌<◌, ◌⊎◌, take, length, codes, [], ◌∷◌, ◌++◌, List}
 use Rattle.std.specs.List.{concat}
 use Rattle.tl_io.specs.Causes.{Rose}
 use Rattle.tl_io.specs.Content.{extended}
@@ -36,4 +36,4 @@ line_of usage name outcome.Memory = concat (codes "tlut: out of memory\n" ∷ []
 -- the line was appended, or the count of faults rose and a prefix of it was
 abbrev pub Reports : SinkSeen → SinkSeen → List ℕ → Type 0
 Reports old new line =
-    (new.bytes ≡ extended old.bytes line) ⊎ (Rose old.faults new.faults × ((n : ℕ) × (n ≤ length line) × (new.bytes ≡ extended old.bytes (take n line))))
+    (new.bytes ≡ extended old.bytes line) ⊎ (Rose old.faults new.faults × ((n : ℕ) × (n < length line) × (new.bytes ≡ extended old.bytes (take n line))))

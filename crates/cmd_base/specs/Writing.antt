@@ -1,8 +1,8 @@
 -- What a job that writes files makes of what is outside: first its files, in their order, and then its line.
-use Rattle.std.specs.Prelude.{◌≡◌, ◌≤◌, ◌⊎◌, ℕ, List, [], ◌∷◌, ◌++◌, length, take, Option}
+use Rattle.std.specs.Prelude.{◌≡◌, ◌<◌, ◌⊎◌, ℕ, List, [], ◌∷◌, ◌++◌, length, take, Option}
 use Rattle.tl_io.specs.Causes.{Rose}
 use Rattle.tl_io.specs.Content.{extended}
-use Rattle.tl_io.specs.Shelf.{Files, with_file}
+use Rattle.tl_io.specs.Shelf.{Files, with_file, emptied}
 use Rattle.cmd_base.specs.Outside.{Outside}
 
 -- a file's name and its bytes
@@ -15,9 +15,9 @@ abbrev pub with_texts : Option Files → List FileText → Option Files
 with_texts files [] = files
 with_texts files (text ∷ texts) = with_texts (with_file files text.name text.bytes) texts
 
--- a file has a prefix of its bytes, or is as before; all others are as before
+-- a file is as before or empty, as a call that did not begin it leaves it, or has a prefix of its bytes that is shorter than all of them; all others are as before
 abbrev pub HasPrefix : FileText → Option Files → Option Files → Type 0
-HasPrefix text old new = (new ≡ old) ⊎ ((n : ℕ) × (n ≤ length text.bytes) × (new ≡ with_file old text.name (take n text.bytes)))
+HasPrefix text old new = (new ≡ old) ⊎ ((new ≡ emptied old text.name) ⊎ ((n : ℕ) × (n < length text.bytes) × (new ≡ with_file old text.name (take n text.bytes))))
 
 module _ (texts : List FileText) (line : List ℕ) (old new : Outside) where
   -- the files have their bytes, and the line was put
@@ -38,10 +38,10 @@ module _ (texts : List FileText) (line : List ℕ) (old new : Outside) where
     pub put_faults : new.put_faults ≡ old.put_faults
     pub ports : new.ports ≡ old.ports
 
-  -- a fault of writing in the line, of which the output's count rose: all files are whole, and a prefix of the line stands
+  -- a fault of writing in the line, of which the output's count rose: all files are whole, and a prefix of the line stands, not all of it
   pub record IsCutInLine : Type 0 where
     pub part : ℕ
-    pub within : part ≤ length line
+    pub within : part < length line
     pub files : new.files ≡ with_texts old.files texts
     pub bytes : new.bytes ≡ extended old.bytes (take part line)
     pub cause : Rose old.put_faults new.put_faults
