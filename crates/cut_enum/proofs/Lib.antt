@@ -9,7 +9,7 @@ mod LeastLemmas
 mod CutLemmas
 mod PutLemmas
 mod SignedLemmas
-mod SharedLemmas
+mod GroupLemmas
 mod StepLemmas
 mod RowLemmas
 mod SpanLemmas

@@ -1,10 +1,9 @@
 -- Unions and parts of ascending lists.
-use Rattle.std.proofs.Common.{◌≡◌, ℕ, ◌<◌, ◌≤◌, Bool, true, false, cond, ltb, eqb, List, [], ◌∷◌, length, refl, sym, ap, ◌∙◌, subst, inl, inr, ◌⊎◌, arith}
+use Rattle.std.proofs.Common.{◌≡◌, ℕ, ◌<◌, ◌≤◌, true, cond, ltb, eqb, List, [], ◌∷◌, refl, sym, subst, inl, inr, ◌⊎◌, arith}
 use Rattle.std.specs.List.{list_any}
 use Rattle.std.proofs.lemmas.Bool.{ltb-true, ltb-false, eqb-true, eqb-false, eq-eqb, and_parts, or_cases, or_left, or_right, and_from, false≢true}
 use Rattle.list_laws.specs.Members.{In, Within}
 use Rattle.list_laws.specs.Order.{IsAscending}
-use Rattle.cut_sets.specs.Sets.{lex, before, IsOrdered}
 use Rattle.cut_enum.specs.Merging.{put, union, subset}
 use Rattle.list_laws.proofs.Choice.{choose}
 

@@ -5,16 +5,8 @@ use Rattle.list_laws.proofs.Items.{drop_at}
 use Rattle.cut_enum.specs.Merging.{union, add_holder, add_holders, add_union, add_unions, add_pairs, leading, holders, unions_at}
 use Rattle.cut_enum.specs.Signature.{signature_of}
 use Rattle.cut_enum.proofs.LevelLemmas.{length-holders, length-unions, length-pairs, union-other}
-use Rattle.cut_enum.proofs.SignatureLemmas.{signature-union, union_over_bits}
+use Rattle.cut_enum.proofs.SignatureLemmas.{union_over_bits}
 use Rattle.cut_enum.proofs.SignedLemmas.{signed_at, signed_length}
-
--- the bits of two signatures are the union's
-pub union_signed : (c d : List ℕ) (ds : List (List ℕ)) (words : List ℕ) (i word : ℕ) → words ≡ map signature_of ds → i < length words → d ≡ get_or ds i d → word ≡ signature_of c
-    → bit_or (get_or words i 0) word ≡ signature_of (union d c)
-union_signed c d ds words i word signed l at w =
-    let n : length words ≡ length ds = signed_length words ds signed in
-    let s : get_or words i 0 ≡ signature_of d = signed_at words ds i d signed (omega arith) at in
-    ap (λ m. bit_or m word) s ∙ ap (λ m. bit_or (signature_of d) m) w ∙ sym (signature-union d c)
 
 longer_front : (base xs ys : List (List ℕ)) → length xs ≤ length ys → length (base ++ xs) ≤ length (base ++ ys)
 longer_front base xs ys l =

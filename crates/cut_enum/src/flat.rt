@@ -1,4 +1,4 @@
-//! A cut as a table keeps it: its leaves in place, and their number.
+//! A cut as a table keeps it: its leaves in place, their number, and their signature.
 ghost use Rattle.std.specs.Prelude.{◌≡◌, ℕ, ◌≤◌, List, [], ◌∷◌, length, MatchOption, IfSome, IfNone, IsTrue};
 ghost use Rattle.list_laws.specs.Order.{IsAscending};
 ghost use Rattle.cut_sets.specs.Sets.{before as is_before};
@@ -15,6 +15,7 @@ use std::marker::Model;
 pub struct FlatCut {
     leaves: [u32; MOST_LEAVES],
     len: u32,
+    signature: u64,
 }
 
 impl Model for FlatCut {
@@ -25,7 +26,7 @@ impl Model for FlatCut {
 
     ghost view = { λ c. take c.len c.leaves };
 
-    ghost invariant = { λ c. IsFlatCut c.leaves c.len };
+    ghost invariant = { λ c. IsFlatCut c.leaves c.len c.signature };
 }
 
 impl FlatCut {
@@ -36,6 +37,7 @@ impl FlatCut {
         FlatCut {
             leaves: [0; MOST_LEAVES],
             len: 0,
+            signature: 0,
         }
     }
 
@@ -45,7 +47,12 @@ impl FlatCut {
     {
         let mut leaves = [0; MOST_LEAVES];
         leaves[0] = leaf;
-        FlatCut { leaves, len: 1 }
+        let signature = leaf_bit(leaf);
+        FlatCut {
+            leaves,
+            len: 1,
+            signature,
+        }
     }
 
     // The same leaves again.
@@ -55,6 +62,7 @@ impl FlatCut {
         FlatCut {
             leaves: self.leaves,
             len: self.len,
+            signature: self.signature,
         }
     }
 
@@ -79,14 +87,7 @@ impl FlatCut {
     pub fn signature(&self) -> u64
         ensures { result ≡ signature_of self.now }
     {
-        let mut word = 0;
-        for (i, leaf) in self.leaves.iter().enumerate() {
-            if i >= self.len as usize {
-                return word;
-            }
-            word |= leaf_bit(*leaf);
-        }
-        word
+        self.signature
     }
 }
 
@@ -152,6 +153,8 @@ pub fn joined(a: &FlatCut, b: &FlatCut, size: usize) -> Option<FlatCut>
     requires { size ≤ MOST_LEAVES }
     ensures { MatchOption result (length (union a.now b.now) ≡ size → ⊥) (λ c. (c ≡ union a.now b.now) × (length c ≡ size)) }
 {
+    let bits = a.signature();
+    let more = b.signature();
     let mut leaves = [0; MOST_LEAVES];
     let mut xs = a.leaves();
     let mut ys = b.leaves();
@@ -170,6 +173,7 @@ pub fn joined(a: &FlatCut, b: &FlatCut, size: usize) -> Option<FlatCut>
         None => Some(FlatCut {
             leaves,
             len: size as u32,
+            signature: bits | more,
         }),
     }
 }

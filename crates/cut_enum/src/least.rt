@@ -12,8 +12,7 @@ ghost use Rattle.std.specs.Prelude.{◌≡◌, ℕ, ◌+◌, ◌<◌, ◌≤◌,
 ghost use Rattle.std.specs.List.{list_any};
 ghost use Rattle.tl_fault.specs.OrMemory.{OrMemory};
 ghost use Rattle.cut_enum.specs.Refusals.{refusal_of};
-ghost use Rattle.cut_enum.specs.Signature.{signature_of};
-ghost use Rattle.cut_enum.specs.Merging.{AreApart, AreClear, IsTooMany, subset, union, add as with_cut, add_holder as with_holder, add_holders as with_holders, add_union as with_union, add_unions as with_unions, add_pairs as with_pairs, unions_at, unions_below, merged as all_merged};
+ghost use Rattle.cut_enum.specs.Merging.{AreApart, AreClear, IsTooMany, subset, add as with_cut, add_holder as with_holder, add_holders as with_holders, add_union as with_union, add_unions as with_unions, add_pairs as with_pairs, unions_at, unions_below, merged as all_merged};
 
 use crate::flat::{FlatCut, joined};
 use crate::level::Level;
@@ -34,21 +33,19 @@ fn refuse_more(node: u32, smaller: &SignedPart<'_>, level: &Level) -> Result<(),
     Ok(())
 }
 
-// Adds a cut with this signature to those of its size, until the node has too many.
+// Adds a cut to those of its size, until the node has too many.
 fn add_cut(
     node: u32,
     smaller: &SignedPart<'_>,
-    signature: u64,
     cut: FlatCut,
     level: &mut Level,
 ) -> Result<(), CutErr>
-    requires signature { signature ≡ signature_of cut }
-    requires few { length smaller.now + length level.old ≤ MOST_OF_A_NODE }
+    requires { length smaller.now + length level.old ≤ MOST_OF_A_NODE }
     ensures ok { OnOk result (level.new ≡ with_cut smaller.now cut level.old) }
     ensures few { OnOk result (length smaller.now + length level.new ≤ MOST_OF_A_NODE) }
     ensures too_many { IfErr result (OrMemory refusal_of (λ e. IsTooMany node (smaller.now ++ with_cut smaller.now cut level.old) e)) }
 {
-    level.add(smaller, signature, cut)?;
+    level.add(smaller, cut)?;
     refuse_more(node, smaller, level)
 }
 
@@ -70,8 +67,7 @@ fn add_holder(
     if cut.len() != size {
         return Ok(());
     }
-    let signature = cut.signature();
-    if !has_part(parts, signature, cut) {
+    if !has_part(parts, cut) {
         return Ok(());
     }
     level.put(cut.copy())?;
@@ -99,17 +95,15 @@ fn add_holders(
     Ok(())
 }
 
-// Adds the union of c and d, whose signatures have these bits together, if it has size leaves.
+// Adds the union of c and d, if it has size leaves.
 fn add_union(
     node: u32,
     size: usize,
     smaller: &SignedPart<'_>,
-    signature: u64,
     c: &FlatCut,
     d: &FlatCut,
     level: &mut Level,
 ) -> Result<(), CutErr>
-    requires signature { signature ≡ signature_of (union d.now c.now) }
     requires size { size ≤ MOST_LEAVES }
     requires few { length smaller.now + length level.old ≤ MOST_OF_A_NODE }
     ensures ok { OnOk result (level.new ≡ with_union size smaller.now c.now d.now level.old) }
@@ -119,7 +113,7 @@ fn add_union(
     match joined(d, c, size) {
         None => Ok(()),
         Some(cut) => {
-            add_cut(node, smaller, signature, cut, level)?;
+            add_cut(node, smaller, cut, level)?;
             Ok(())
         }
     }
@@ -147,7 +141,7 @@ fn add_unions(
         if both.count_ones() as usize > size {
             continue;
         }
-        add_union(node, size, smaller, both, c, &cuts[i], level)?;
+        add_union(node, size, smaller, c, &cuts[i], level)?;
     }
     Ok(())
 }

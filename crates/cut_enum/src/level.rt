@@ -5,7 +5,6 @@
 ghost use Rattle.std.specs.Prelude.{◌≡◌, ℕ, ◌-◌, ◌<◌, ◌≤◌, [], ◌++◌, length, OnOk, IfSome, IfNone, insert, slice_index_or, vec_len, vec_capacity};
 ghost use Rattle.cut_sets.specs.Sets.{IsOrdered};
 ghost use Rattle.cut_enum.specs.Merging.{IsPlaceOf, IsAround, place, add as with_cut};
-ghost use Rattle.cut_enum.specs.Signature.{signature_of};
 
 use crate::flat::{FlatCut, before};
 use crate::limits::MOST_OF_A_NODE;
@@ -145,18 +144,12 @@ impl Level {
         }
     }
 
-    // Puts a cut with this signature in its place, unless one of the smaller ones is within it or it stands there.
-    pub fn add(
-        &mut self,
-        smaller: &SignedPart<'_>,
-        signature: u64,
-        cut: FlatCut,
-    ) -> Result<(), AllocError>
-        requires signature { signature ≡ signature_of cut }
-        requires few { length self.old ≤ MOST_OF_A_NODE }
+    // Puts a cut in its place, unless one of the smaller ones is within it or it stands there.
+    pub fn add(&mut self, smaller: &SignedPart<'_>, cut: FlatCut) -> Result<(), AllocError>
+        requires { length self.old ≤ MOST_OF_A_NODE }
         ensures { OnOk result (self.new ≡ with_cut smaller.now cut self.old) }
     {
-        if has_part(smaller, signature, &cut) {
+        if has_part(smaller, &cut) {
             return Ok(());
         }
         self.put(cut)?;

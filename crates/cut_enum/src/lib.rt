@@ -26,13 +26,14 @@
 //! The signature of a cut is a word with bit (leaf mod 64) of each leaf. A cut whose word has a bit that another's
 //! lacks is not within it, and two cuts whose words have more than k bits together have a union of more than k
 //! leaves. Both tests are proved to change no answer (`proofs/SignatureLemmas.antt`), and spare most comparisons.
-//! While the cuts of a node are made, the words stand in vectors of their own, one after another (`signed.rt`), and a
-//! union's word is that of both cuts together. Of 128 words and more each eight in a row are a group, and a group whose
-//! words share a bit that another word lacks is passed over at once.
+//! Each cut keeps its word: a union's is that of both cuts together, and what a fan-in hands on is read and not made
+//! again. While the cuts of a node are made, the words stand in vectors of their own, one after another (`signed.rt`). Of
+//! 32 words and more each eight in a row are tested together, and passed over where each has a bit that another word
+//! lacks.
 //!
 //! # What the table keeps
 //! All cuts lie in one vector, one node's after another's, those of a node with fewer leaves first and then
-//! lexicographically. Each is places for leaves and their number, and no signature (`flat.rt`). A node has at most
+//! lexicographically. Each is places for leaves, their number and their signature (`flat.rt`). A node has at most
 //! `MOST_OF_A_NODE` of them and the table at most `MOST_OF_A_TABLE`; a graph that has more is refused at the first node
 //! at which it shows. A graph has one such limit at most, and no table where it has one.
 //!

@@ -13,4 +13,4 @@ pub const MOST_OF_A_TABLE: usize = 8_388_608;
 pub const GROUP: usize = 8;
 
 /// Fewer signatures than these have no groups.
-pub const FEWEST_GROUPED: usize = 128;
+pub const FEWEST_GROUPED: usize = 32;

@@ -4,13 +4,12 @@
 //! than k bits, the union of the cuts has more than k leaves. So a walk over many cuts reads their signatures, one
 //! after another, and looks at the leaves of few.
 //!
-//! Of many signatures each eight in a row are a group, and beside them stand the bits that all of a group have. Where one
-//! of these is outside another cut's signature, no cut of the group is within that cut, and the group is passed over at
-//! once. Cuts in order have leaves in common with the next ones, so many groups are. The last signatures, and all where
-//! they are few, are in no group.
-ghost use Rattle.std.specs.Prelude.{◌≡◌, ◌+◌, ◌-◌, ◌*◌, ◌^◌, ◌++◌, ◌<◌, ◌≤◌, [], length, take, map, OnOk, IfOk};
+//! Of many signatures each eight in a row are tested together, in straight code: where each of them has a bit outside
+//! another cut's signature, no cut of the group is within that cut. The last signatures, and all where they are few, are
+//! tested one by one.
+ghost use Rattle.std.specs.Prelude.{◌≡◌, ◌+◌, ◌-◌, ◌^◌, ◌++◌, ◌≤◌, [], false, length, take, map, OnOk, IfOk};
 ghost use Rattle.std.specs.List.{list_any};
-ghost use Rattle.cut_enum.specs.Keeps.{AllHave, AreShared};
+ghost use Rattle.cut_enum.specs.Keeps.{NoneClear};
 ghost use Rattle.cut_enum.specs.Merging.{leading, subset};
 ghost use Rattle.cut_enum.specs.Signature.{signature_of};
 
@@ -20,12 +19,11 @@ use crate::limits::{FEWEST_GROUPED, GROUP};
 use std::alloc::{AllocError, Global};
 use std::marker::Model;
 
-// Cuts, their signatures, and the bits that all signatures of a group have.
+// Cuts and their signatures.
 #[derive(Drop)]
 pub struct Signed {
     cuts: Vec<FlatCut>,
     signatures: Vec<u64>,
-    shared: Vec<u64>,
 }
 
 impl Model for Signed {
@@ -36,7 +34,7 @@ impl Model for Signed {
 
     ghost view = { λ s. s.cuts.items };
 
-    ghost invariant = { λ s. AreSigned s.cuts.items s.signatures.items s.shared.items };
+    ghost invariant = { λ s. AreSigned s.cuts.items s.signatures.items };
 }
 
 // Some of them, one after another.
@@ -44,7 +42,6 @@ impl Model for Signed {
 pub struct SignedPart<'a> {
     pub cuts: &'a [FlatCut],
     pub signatures: &'a [u64],
-    shared: &'a [u64],
 }
 
 impl<'a> Model for SignedPart<'a> {
@@ -55,7 +52,7 @@ impl<'a> Model for SignedPart<'a> {
 
     ghost view = { λ p. p.cuts.now };
 
-    ghost invariant = { λ p. AreSigned p.cuts.now p.signatures.now p.shared.now };
+    ghost invariant = { λ p. AreSigned p.cuts.now p.signatures.now };
 }
 
 // Adds the signatures of some cuts.
@@ -65,32 +62,6 @@ fn sign(signatures: &mut Vec<u64>, cuts: &[FlatCut]) -> Result<(), AllocError>
     signatures.reserve(cuts.len())?;
     for cut in cuts {
         signatures.push(cut.signature())?;
-    }
-    Ok(())
-}
-
-// The bits that all of some words have.
-fn shared_bits(words: &[u64]) -> u64
-    ensures { AllHave result words.now }
-{
-    let mut bits = u64::MAX;
-    for word in words {
-        bits &= *word;
-    }
-    bits
-}
-
-// Adds the shared bits of the groups that have none yet, where the signatures are many.
-fn share(shared: &mut Vec<u64>, signatures: &[u64]) -> Result<(), AllocError>
-    requires { AreShared signatures.now shared.old.items }
-    ensures { OnOk result (AreShared signatures.now shared.new.items) }
-{
-    if signatures.len() < FEWEST_GROUPED {
-        return Ok(());
-    }
-    for n in shared.len()..signatures.len() / GROUP {
-        let start = n * GROUP;
-        shared.push(shared_bits(&signatures[start..start + GROUP]))?;
     }
     Ok(())
 }
@@ -116,7 +87,6 @@ impl Signed {
         Signed {
             cuts: Vec::new(alloc),
             signatures: Vec::new(alloc),
-            shared: Vec::new(alloc),
         }
     }
 
@@ -126,13 +96,7 @@ impl Signed {
     {
         let mut signatures = Vec::new(alloc);
         sign(&mut signatures, &cuts)?;
-        let mut shared = Vec::new(alloc);
-        share(&mut shared, &signatures)?;
-        Ok(Signed {
-            cuts,
-            signatures,
-            shared,
-        })
+        Ok(Signed { cuts, signatures })
     }
 
     // With the cuts of a level behind the others, in order.
@@ -142,17 +106,11 @@ impl Signed {
         let Signed {
             mut cuts,
             mut signatures,
-            mut shared,
         } = self;
         let before = cuts.len();
         level.append_to(&mut cuts)?;
         sign(&mut signatures, &cuts[before..])?;
-        share(&mut shared, &signatures)?;
-        Ok(Signed {
-            cuts,
-            signatures,
-            shared,
-        })
+        Ok(Signed { cuts, signatures })
     }
 
     // The cuts alone.
@@ -176,7 +134,6 @@ impl Signed {
         SignedPart {
             cuts: &self.cuts,
             signatures: &self.signatures,
-            shared: &self.shared,
         }
     }
 
@@ -188,7 +145,6 @@ impl Signed {
         SignedPart {
             cuts: &self.cuts[..count],
             signatures: &self.signatures[..count],
-            shared: &self.shared[..self.shared.len().min(count / GROUP)],
         }
     }
 }
@@ -219,20 +175,28 @@ fn has_listed_part(cuts: &[FlatCut], signatures: &[u64], outside: u64, cut: &Fla
     false
 }
 
-// Is one of a group within the cut? All of them have the shared bits.
-fn has_grouped_part(
-    cuts: &[FlatCut],
-    signatures: &[u64],
-    shared: u64,
-    outside: u64,
-    cut: &FlatCut,
-) -> bool
+// Has one of a group of words none of these bits?
+fn is_one_clear(words: &[u64], bits: u64) -> bool
+    requires { length words.now ≡ GROUP }
+    ensures { result ≡ false → NoneClear bits words.now }
+{
+    let mut clear = false;
+    for word in words {
+        if bits & *word == 0 {
+            clear = true;
+        }
+    }
+    clear
+}
+
+// Is one of a group within the cut?
+fn has_grouped_part(cuts: &[FlatCut], signatures: &[u64], outside: u64, cut: &FlatCut) -> bool
+    requires group { length signatures.now ≡ GROUP }
     requires signed { signatures.now ≡ map signature_of cuts.now }
-    requires shared { AllHave shared signatures.now }
     requires outside { outside + signature_of cut.now ≡ 2 ^ 64 - 1 }
     ensures { result ≡ list_any (λ d. subset d cut.now) cuts.now }
 {
-    if outside & shared != 0 {
+    if !is_one_clear(signatures, outside) {
         return false;
     }
     has_listed_part(cuts, signatures, outside, cut)
@@ -245,30 +209,24 @@ fn has_part_in_groups(parts: &SignedPart<'_>, outside: u64, cut: &FlatCut) -> bo
 {
     let cuts = parts.cuts;
     let signatures = parts.signatures;
-    for (n, shared) in parts.shared.iter().enumerate() {
+    let groups = signatures.len() / GROUP;
+    for n in 0..groups {
         let start = n * GROUP;
         let end = start + GROUP;
-        if has_grouped_part(
-            &cuts[start..end],
-            &signatures[start..end],
-            *shared,
-            outside,
-            cut,
-        ) {
+        if has_grouped_part(&cuts[start..end], &signatures[start..end], outside, cut) {
             return true;
         }
     }
-    let rest = parts.shared.len() * GROUP;
+    let rest = groups * GROUP;
     has_listed_part(&cuts[rest..], &signatures[rest..], outside, cut)
 }
 
-// Is one of these within the cut, which has this signature?
-pub fn has_part(parts: &SignedPart<'_>, signature: u64, cut: &FlatCut) -> bool
-    requires { signature ≡ signature_of cut.now }
+// Is one of these within the cut?
+pub fn has_part(parts: &SignedPart<'_>, cut: &FlatCut) -> bool
     ensures { result ≡ list_any (λ d. subset d cut.now) parts.now }
 {
-    let outside = !signature;
-    if parts.shared.is_empty() {
+    let outside = !cut.signature();
+    if parts.signatures.len() < FEWEST_GROUPED {
         return has_listed_part(parts.cuts, parts.signatures, outside, cut);
     }
     has_part_in_groups(parts, outside, cut)

@@ -70,8 +70,8 @@ impl From<AllocError> for CutErr {
 
 /// The minimal cuts of each AND node, and none of a source.
 ///
-/// All cuts lie in one vector, one node's after another's, seven numbers each; `starts` has the place of each node's
-/// first cut, and then the number of all cuts.
+/// All cuts lie in one vector, one node's after another's, each with its signature; `starts` has the place of each
+/// node's first cut, and then the number of all cuts.
 #[derive(Drop)]
 pub struct CutTable {
     cuts: Vec<FlatCut>,
@@ -144,8 +144,7 @@ fn enumerate_with<L: Ledger>(
 ///
 /// # Complexity
 /// For a node whose fan-ins hand on p and q cuts, and which has r: at most (k + 2) p q tests of two signatures, and for
-/// each union of few enough leaves at most r tests of two signatures, and then a search by halves. Where a signature is
-/// tested against many, one more test for each eight of them may spare all eight.
+/// each union of few enough leaves at most r tests of two signatures, and then a search by halves.
 ///
 /// # Source
 /// Cong, Wu and Ding, "Cut ranking and pruning", 1999, for the merging of the fan-ins' lists; the signatures are

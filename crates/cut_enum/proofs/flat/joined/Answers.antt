@@ -1,9 +1,11 @@
-use Rattle.std.proofs.Common.{◌≡◌, ◌≤◌, ◌∙◌, length, take, arith, subst, sym}
+use Rattle.std.proofs.Common.{◌≡◌, ◌≤◌, ◌∙◌, length, take, arith, subst, sym, ap, bit_or}
 use Rattle.std.proofs.lemmas.List.{length-take-le}
 use Rattle.list_laws.specs.Order.{IsAscending}
 use Rattle.list_laws.proofs.Places.{set_length}
 use Rattle.cut_enum.specs.Merging.{union}
+use Rattle.cut_enum.specs.Signature.{signature_of}
 use Rattle.cut_enum.proofs.SetLemmas.{IsAscending-union}
+use Rattle.cut_enum.proofs.SignatureLemmas.{signature-union}
 use Rattle.cut_enum.proofs.HeadLemmas.{joined_step, joined_all, joined_more}
 use Rattle.cut_enum.specs.declared.limits.TheConstants.{MOST_LEAVES}
 use Rattle.cut_enum.proofs.flat.joined.Goals as goal
@@ -25,7 +27,13 @@ invariant_of-result c =
     let n : c.loop-n.n ≡ c.args.size = omega arith in
     let all : take c.args.size c.loop-n.leaves ≡ union c.args.a.now c.args.b.now =
     joined_all c.loop-n.leaves (union c.args.a.now c.args.b.now) (union c.loop-n.xs.now c.loop-n.ys.now) c.loop-n.n c.args.size n c.loop-n.invariant.so_far c.in-None-least_head.ensures.none in
-    record { few = c.requires; ascending = subst IsAscending (sym all) (IsAscending-union c.args.a.now c.args.b.now c.leaves-ys.ensures.ascending) }
+    record {
+      few = c.requires;
+      ascending = subst IsAscending (sym all) (IsAscending-union c.args.a.now c.args.b.now c.leaves-ys.ensures.ascending);
+      signed =
+          ap (λ m. bit_or m c.signature-more.result) c.signature-bits.ensures ∙ ap (λ m. bit_or (signature_of c.args.a.now) m) c.signature-more.ensures ∙ sym (signature-union c.args.a.now c.args.b.now)
+          ∙ ap signature_of (sym all);
+    }
 
 pub returns-in-Some-least_head : goal.returns-in-Some-least_head
 returns-in-Some-least_head c h =

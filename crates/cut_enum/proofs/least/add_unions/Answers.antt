@@ -4,7 +4,7 @@ use Rattle.cut_enum.specs.Merging.{add_union, add_unions}
 use Rattle.cut_enum.specs.Signature.{signature_of}
 use Rattle.cut_enum.proofs.RowLemmas.{too_many_more}
 use Rattle.cut_enum.proofs.SignedLemmas.{signed_length}
-use Rattle.cut_enum.proofs.StepLemmas.{unions_pass, unions_step, union_signed}
+use Rattle.cut_enum.proofs.StepLemmas.{unions_pass, unions_step}
 use Rattle.cut_enum.proofs.least.add_unions.Goals as goal
 
 pub loop-i-preserved-then-both-size : goal.loop-i-preserved-then-both-size
@@ -30,10 +30,3 @@ returns-in_err-add_union-clause-too_many c =
     (c.args.smaller.now ++ add_unions c.args.size c.args.smaller.now c.args.c.now c.args.ds.now c.args.level.now) c.in_err-add_union.field-0.0
     (unions_step c.args.size c.args.smaller.now c.args.c.now d c.args.ds.now c.loop-i.level (add_unions c.args.size c.args.smaller.now c.args.c.now c.args.ds.now c.args.level.now) c.loop-i.i (omega arith) at c.loop-i.invariant.rest)
     c.in_err-add_union.ensures.too_many)
-
-pub add_union-requires-clause-signature : goal.add_union-requires-clause-signature
-add_union-requires-clause-signature c =
-    let d : List ℕ = c.index-cuts-i.result in
-    let signed : c.ds.inside.signatures.now ≡ map signature_of c.args.ds.now = c.ds.invariant.signed ∙ ap (λ (s : List (List ℕ)). map signature_of s) c.ds.view_is in
-    let at : d ≡ get_or c.args.ds.now c.loop-i.i d = c.index-cuts-i.is ∙ ap (λ (s : List (List ℕ)). get_or s c.loop-i.i d) c.ds.view_is in
-    union_signed c.args.c.now d c.args.ds.now c.ds.inside.signatures.now c.loop-i.i c.signature-signature.result signed c.loop-i-test.true at c.signature-signature.ensures

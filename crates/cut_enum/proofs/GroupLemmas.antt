@@ -1,0 +1,37 @@
+-- The words of a group, and the cuts that have them.
+use Rattle.std.proofs.Common.{◌≡◌, ℕ, suc, ◌+◌, ◌*◌, ◌-◌, ◌^◌, ◌<◌, ◌≤◌, min, Bool, false, ◌||◌, List, [], ◌∷◌, length, get_or, map, take, drop, slice_range, refl, sym, ap, ◌∙◌, arith, length-drop}
+use Rattle.std.specs.List.{list_any}
+use Rattle.std.proofs.lemmas.List.{length-take}
+use Rattle.std.proofs.lemmas.List.Folds.{drop_split, list_any-append}
+use Rattle.cut_enum.specs.declared.limits.TheConstants.{GROUP}
+use Rattle.cut_enum.specs.Keeps.{NoneClear}
+use Rattle.cut_enum.specs.Merging.{subset}
+use Rattle.cut_enum.specs.Signature.{signature_of}
+use Rattle.cut_enum.proofs.SignatureLemmas.{outside-subset}
+
+-- none of a group whose words all have a bit outside is a part
+pub none_clear : (cut : List ℕ) (outside : ℕ) → outside + signature_of cut ≡ 2 ^ 64 - 1 → (cs : List (List ℕ)) → ((i : ℕ) → i < length (map signature_of cs) → get_or (map signature_of cs) i 0 < 2 ^ 64)
+    → NoneClear outside (map signature_of cs) → false ≡ list_any (λ d. subset d cut) cs
+none_clear cut outside o [] l h = refl
+none_clear cut outside o (d ∷ ds) l h =
+    none_clear cut outside o ds (λ i k. l (suc i) (omega arith)) (λ i k. h (suc i) (omega arith))
+    ∙ ap (λ b. b || list_any (λ e. subset e cut) ds) (outside-subset d cut outside o (l 0 (omega arith)) (h 0 (omega arith)))
+
+-- a whole group has so many words
+pub group_length : (words : List ℕ) (a : ℕ) → a + GROUP ≤ length words → length (slice_range words a (a + GROUP)) ≡ GROUP
+group_length words a l =
+    let d : length (drop a words) ≡ length words - a = length-drop a words in
+    let t : length (take (a + GROUP - a) (drop a words)) ≡ min (a + GROUP - a) (length (drop a words)) = length-take (a + GROUP - a) (drop a words) in omega arith
+
+-- the cuts from a place on: those of a group, and the rest
+pub any_group : (cut : List ℕ) (cs : List (List ℕ)) (a b : ℕ) → a ≤ b → list_any (λ d. subset d cut) (drop a cs) ≡ (list_any (λ d. subset d cut) (slice_range cs a b) || list_any (λ d. subset d cut) (drop b cs))
+any_group cut cs a b l = ap (λ s. list_any (λ d. subset d cut) s) (drop_split cs a b l) ∙ list_any-append (λ d. subset d cut) (slice_range cs a b) (drop b cs)
+
+-- a group that has no part is passed over
+pub group_passed : (cut : List ℕ) (cs : List (List ℕ)) (n : ℕ) (all : Bool) → list_any (λ d. subset d cut) (slice_range cs (n * GROUP) (n * GROUP + GROUP)) ≡ false → list_any (λ d. subset d cut) (drop (n * GROUP) cs) ≡ all
+    → list_any (λ d. subset d cut) (drop ((n + 1) * GROUP) cs) ≡ all
+group_passed cut cs n all none e =
+    let after : (n + 1) * GROUP ≡ n * GROUP + GROUP = omega arith in
+    let step : list_any (λ d. subset d cut) (drop (n * GROUP) cs) ≡ list_any (λ d. subset d cut) (drop (n * GROUP + GROUP) cs) =
+    any_group cut cs (n * GROUP) (n * GROUP + GROUP) (omega arith) ∙ ap (λ b. b || list_any (λ d. subset d cut) (drop (n * GROUP + GROUP) cs)) none in
+    ap (λ a. list_any (λ d. subset d cut) (drop a cs)) after ∙ sym step ∙ e
