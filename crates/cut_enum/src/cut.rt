@@ -12,9 +12,9 @@ use smallvec::SmallVec;
 use std::alloc::Global;
 use std::marker::Model;
 
-/// The leaves of a cut: at most `MOST_LEAVES` nodes, ascending and without repeats, in place.
+/// A cut: at most `MOST_LEAVES` leaves, ascending and without repeats, stored in place.
 ///
-/// Beside them stands their signature, a word that has bit (leaf mod 64) of each leaf.
+/// It also stores their signature, a word in which bit (leaf mod 64) is set for each leaf.
 #[derive(Drop)]
 pub struct Cut {
     leaves: SmallVec<u32, MOST_LEAVES>,
@@ -90,9 +90,9 @@ fn joined(a: &Cut, b: &Cut, k: u8) -> Option<Cut>
     Some(Cut { leaves, signature })
 }
 
-/// The union of two cuts, or `None` exactly where it has more than `k` leaves.
+/// The union of two cuts, or `None` exactly when it has more than `k` leaves.
 ///
-/// It takes no memory, and at most 36 comparisons of leaves.
+/// It allocates no memory, and compares leaves at most 36 times.
 pub fn merge(a: &Cut, b: &Cut, k: u8) -> Option<Cut>
     requires { k ≤ MOST_LEAVES }
     ensures some { IfSome result (λ c. IsUnion a.now b.now c × (length c ≤ k)) }
@@ -112,7 +112,7 @@ fn is_part(a: &Cut, b: &Cut) -> bool
     is_subset(a.leaves.as_slice(), b.leaves.as_slice())
 }
 
-/// Whether every leaf of `a` is one of `b`.
+/// Whether `b` contains every leaf of `a`.
 pub fn within(a: &Cut, b: &Cut) -> bool
     ensures { IsTrue result ↔ Within a.now b.now }
 {
@@ -120,7 +120,7 @@ pub fn within(a: &Cut, b: &Cut) -> bool
 }
 
 impl Cut {
-    /// The cut without leaves.
+    /// The empty cut.
     pub fn empty(alloc: Global) -> Cut
         ensures { result ≡ [] }
     {
@@ -130,7 +130,7 @@ impl Cut {
         }
     }
 
-    /// The cut of one leaf.
+    /// A cut of one leaf.
     pub fn one(alloc: Global, leaf: u32) -> Cut
         ensures { result ≡ leaf ∷ [] }
     {
@@ -151,7 +151,7 @@ impl Cut {
         Cut { leaves, signature }
     }
 
-    /// The same leaves again. It takes no memory.
+    /// A copy of the cut. It allocates no memory.
     pub fn copy(&self) -> Cut
         ensures { result ≡ self.now }
     {
@@ -163,7 +163,7 @@ impl Cut {
         Cut { leaves, signature }
     }
 
-    /// How many leaves there are: at most `MOST_LEAVES`.
+    /// The number of leaves, at most `MOST_LEAVES`.
     pub fn len(&self) -> usize
         ensures count { result ≡ length self.now }
         ensures few { length self.now ≤ MOST_LEAVES }
@@ -171,7 +171,7 @@ impl Cut {
         self.leaves.len()
     }
 
-    /// Whether there are no leaves.
+    /// Whether the cut is empty.
     pub fn is_empty(&self) -> bool
         ensures { IsTrue result ↔ (self.now ≡ []) }
     {

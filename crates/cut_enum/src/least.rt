@@ -1,13 +1,14 @@
 //! The least unions of the cuts of two lists.
 //!
-//! The unions are taken by their size, those with no leaf first. So a cut that is kept is never within a later one
-//! of fewer leaves, nothing is dropped again, and a list that has grown too long stays so.
+//! Unions are taken by size, the empty one first. So a kept cut contains none that is kept later, no cut is removed, and a
+//! list that is too long stays too long.
 //!
-//! In the pass of one size all kept cuts of fewer leaves stand apart. Only one of these can be within a union of this
-//! size: two cuts of one size are equal, or neither is within the other. And where one of two cuts has all leaves of
-//! their union, the other is within it: so the cuts of this size that have one of the other list's within them are
-//! taken as they are, and only pairs of cuts that both have fewer are joined. Such a cut that is taken has no smaller union
-//! within it: this would have a smaller cut of the same list within it, and no cut of a list is within another one.
+//! While unions of one size are taken, the kept cuts of fewer leaves are in a list of their own. Only one of these can be
+//! contained in a union of this size, since two cuts of one size are equal or neither contains the other. If one of two
+//! cuts has all leaves of their union, it contains the other. So the cuts of this size that contain one of the other
+//! list are taken as they are, and only pairs of cuts that both have fewer leaves are joined. A cut that is taken so
+//! contains no smaller union: that union would contain a smaller cut of the same list, and no cut of a list contains
+//! another cut of it.
 ghost use Rattle.std.specs.Prelude.{◌≡◌, ℕ, ◌+◌, ◌<◌, ◌≤◌, [], ◌++◌, false, length, OnOk, IfOk, IfErr};
 ghost use Rattle.std.specs.List.{list_any};
 ghost use Rattle.tl_fault.specs.OrMemory.{OrMemory};

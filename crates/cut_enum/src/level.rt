@@ -1,7 +1,6 @@
 //! The cuts of one size that a node has so far, in order.
 //!
-//! A cut stays where it was put first, and the order is a vector of places, so that little is moved to make room for one
-//! more.
+//! A cut is never moved. The order is a vector of places, two bytes each, so inserting a cut moves little.
 ghost use Rattle.std.specs.Prelude.{◌≡◌, ℕ, ◌-◌, ◌<◌, ◌≤◌, [], ◌++◌, length, OnOk, IfSome, IfNone, insert, slice_index_or, vec_len, vec_capacity};
 ghost use Rattle.cut_sets.specs.Sets.{IsOrdered};
 ghost use Rattle.cut_enum.specs.Merging.{IsPlaceOf, IsAround, place, add as with_cut};

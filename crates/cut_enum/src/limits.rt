@@ -1,4 +1,4 @@
-//! How many leaves a cut may have, how many cuts there may be, and how signatures are grouped.
+//! How many leaves a cut may have, how many cuts there may be, and how many signatures are tested together.
 
 /// The most leaves of a cut.
 pub const MOST_LEAVES: usize = 6;
@@ -9,8 +9,8 @@ pub const MOST_OF_A_NODE: usize = 4_096;
 /// The most minimal cuts that a table may hold.
 pub const MOST_OF_A_TABLE: usize = 8_388_608;
 
-/// How many signatures a group has.
+/// How many signatures are tested together.
 pub const GROUP: usize = 8;
 
-/// Fewer signatures than these have no groups.
+/// In a list shorter than this, signatures are tested one by one.
 pub const FEWEST_GROUPED: usize = 32;

@@ -1,4 +1,4 @@
-//! The signature of leaves: a word that has bit (leaf mod 64) of each.
+//! The signature of a list of leaves: a word in which bit (leaf mod 64) is set for each leaf.
 ghost use Rattle.std.specs.Prelude.{◌≡◌};
 ghost use Rattle.cut_enum.specs.Signature.{leaf_bit as bit_of, signature_of};
 

@@ -1,12 +1,12 @@
 //! Cuts with their signatures in a vector of their own.
 //!
-//! A cut whose signature has a bit that another's lacks is not within it, and where two signatures together have more
-//! than k bits, the union of the cuts has more than k leaves. So a walk over many cuts reads their signatures, one
-//! after another, and looks at the leaves of few.
+//! If a cut's signature has a bit that another's lacks, the other cut doesn't contain it. If two signatures together have
+//! more than k bits, the union of the cuts has more than k leaves. So a scan over many cuts reads their signatures, one
+//! after another, and the leaves of few.
 //!
-//! Of many signatures each eight in a row are tested together, in straight code: where each of them has a bit outside
-//! another cut's signature, no cut of the group is within that cut. The last signatures, and all where they are few, are
-//! tested one by one.
+//! In a long list, eight signatures in a row are tested together, in code without branches. If each of the eight has a bit
+//! that the tested cut's signature lacks, that cut contains none of the eight. The signatures after the last eight, and
+//! all signatures of a short list, are tested one by one.
 ghost use Rattle.std.specs.Prelude.{◌≡◌, ◌+◌, ◌-◌, ◌^◌, ◌++◌, ◌≤◌, [], false, length, take, map, OnOk, IfOk};
 ghost use Rattle.std.specs.List.{list_any};
 ghost use Rattle.cut_enum.specs.Keeps.{NoneClear};

@@ -19,14 +19,14 @@ use std::marker::{Brand, Model};
 use std::sync::ledger::{Blank, Ledger};
 use tl_fault::{Details, Refusal};
 
-/// Why there is no table.
+/// Why `enumerate` returns no table.
 #[derive(Debug, PartialEq, Eq, Drop)]
 pub enum CutErr {
-    /// This is the first node that has more than `MOST_OF_A_NODE` minimal cuts.
+    /// The first node that has more than `MOST_OF_A_NODE` minimal cuts.
     NodeCuts(u32),
-    /// With this node's minimal cuts there are more than `MOST_OF_A_TABLE`, and it is the first such node.
+    /// The first node at which the table has more than `MOST_OF_A_TABLE` cuts.
     TotalCuts(u32),
-    /// There was no memory for the table.
+    /// Memory ran out.
     Memory,
 }
 
@@ -34,7 +34,7 @@ impl CutErr {
     ghost use Rattle.std.specs.Prelude.{◌≡◌};
     ghost use Rattle.cut_enum.specs.Refusals.{refusal_of};
 
-    /// What the refusal tells; none for want of memory.
+    /// The code and details of the refusal, or `None` if memory ran out.
     pub fn refusal(self) -> Option<Refusal>
         ensures { result ≡ refusal_of self }
     {
@@ -68,10 +68,10 @@ impl From<AllocError> for CutErr {
     }
 }
 
-/// The minimal cuts of each AND node, and none of a source.
+/// The minimal cuts of each AND node. A source has none.
 ///
-/// All cuts lie in one vector, one node's after another's, each with its signature; `starts` has the place of each
-/// node's first cut, and then the number of all cuts.
+/// All cuts are in one vector, one node's after another's, each with its signature. `starts` has the index of each
+/// node's first cut, and at its end the number of all cuts.
 #[derive(Drop)]
 pub struct CutTable {
     cuts: Vec<FlatCut>,
@@ -135,20 +135,20 @@ fn enumerate_with<L: Ledger>(
     Ok(table)
 }
 
-/// The minimal cuts of at most `k` leaves of every AND node, those with fewer leaves first, then
+/// The minimal cuts of at most `k` leaves of every AND node, sorted by the number of leaves and then
 /// lexicographically. `k` is 2 to 6.
 ///
 /// # Errors
-/// `NodeCuts` and `TotalCuts` come exactly at the first node at which a limit is passed, `NodeCuts` first at one
-/// node; `Memory` where there is none left.
+/// `NodeCuts` and `TotalCuts` name exactly the first node that exceeds a limit, and `NodeCuts` comes first if a node
+/// exceeds both. `Memory` means that memory ran out.
 ///
 /// # Complexity
-/// For a node whose fan-ins hand on p and q cuts, and which has r: at most (k + 2) p q tests of two signatures, and for
-/// each union of few enough leaves at most r tests of two signatures, and then a search by halves.
+/// For a node that has r cuts and whose fan-ins pass on p and q cuts: at most (k + 2) p q tests of two signatures. Then,
+/// for each union of few enough leaves, at most r tests of two signatures and a binary search.
 ///
 /// # Source
-/// Cong, Wu and Ding, "Cut ranking and pruning", 1999, for the merging of the fan-ins' lists; the signatures are
-/// those of ABC's cut package.
+/// Cong, Wu and Ding, "Cut ranking and pruning", 1999, for merging the fan-ins' lists. The signatures are those of ABC's
+/// cut package.
 pub fn enumerate(alloc: Global, graph: &Graph, k: u8) -> Result<CutTable, CutErr>
     requires least { 2 ≤ k }
     requires most { k ≤ MOST_LEAVES }
@@ -217,14 +217,14 @@ impl CutTable {
         part(&self.cuts, start, end)
     }
 
-    /// How many cuts a node has.
+    /// The number of a node's cuts.
     pub fn count(&self, n: u32) -> u32
         ensures { result ≡ length (row_at self.now n) }
     {
         self.cuts_of(n).len() as u32
     }
 
-    /// A cut of a node.
+    /// The cut at index `i` of a node's cuts.
     pub fn cut(&self, n: u32, i: u32) -> Cut
         requires { i < length (row_at self.now n) }
         ensures { slice_get (row_at self.now n) i ≡ Some result }
@@ -233,7 +233,7 @@ impl CutTable {
         Cut::of(*self.cuts.allocator(), row[i as usize].leaves())
     }
 
-    /// How many leaves a cut of a node has.
+    /// The number of leaves of a cut.
     pub fn leaf_count(&self, n: u32, i: u32) -> usize
         requires { i < length (row_at self.now n) }
         ensures count { result ≡ length (slice_index_or (row_at self.now n) i []) }
@@ -243,7 +243,7 @@ impl CutTable {
         row[i as usize].len()
     }
 
-    /// The leaves of a cut of a node, in ascending order, without a copy.
+    /// The leaves of a cut, in ascending order, without a copy.
     pub fn leaves(&self, n: u32, i: u32) -> &[u32]
         requires { i < length (row_at self.now n) }
         ensures { slice_get (row_at self.now n) i ≡ Some result.now }
