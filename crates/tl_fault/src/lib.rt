@@ -9,6 +9,7 @@
 //! contracts see a name as the plain list of its bytes, and [`Names`] as a list of these.
 #![tactic(auto)]
 
+mod kept;
 mod name;
 mod names;
 mod refusal;

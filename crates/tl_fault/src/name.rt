@@ -1,13 +1,14 @@
 //! The bytes of one token.
 ghost use Rattle.std.specs.Prelude.{◌≡◌, IfOk};
 
+use crate::kept::{Kept, keep};
 use std::alloc::{AllocError, Global};
 use std::marker::Model;
 
 /// The bytes of one token, which contracts see as a list of numbers below 256.
 #[derive(Debug, Drop)]
 pub struct Name {
-    bytes: Vec<u8>,
+    kept: Kept,
 }
 
 impl Model for Name {
@@ -15,7 +16,11 @@ impl Model for Name {
 
     ghost Value = { List ℕ };
 
-    ghost view = { λ n. n.bytes.items };
+    ghost use Rattle.tl_fault.specs.KeptBytes.{IsKept, kept_bytes};
+
+    ghost view = { λ n. kept_bytes n.kept };
+
+    ghost invariant = { λ n. IsKept n.kept };
 }
 
 impl Name {
@@ -25,7 +30,7 @@ impl Name {
         ensures { IfOk result (λ name. name ≡ bytes.now) }
     {
         Ok(Name {
-            bytes: Vec::from_slice(alloc, bytes)?,
+            kept: keep(alloc, bytes)?,
         })
     }
 
@@ -33,6 +38,6 @@ impl Name {
     pub fn bytes(&self) -> &[u8]
         ensures { result.now ≡ self.now }
     {
-        &self.bytes
+        self.kept.bytes()
     }
 }
