@@ -2,6 +2,5 @@
 pub mod RefusalValue
 pub mod Refusals
 pub mod OrMemory
-
 -- What the model of a name says.
 pub mod KeptBytes

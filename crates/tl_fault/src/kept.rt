@@ -1,4 +1,4 @@
-//! Where the bytes of a name are kept.
+//! How the bytes of a name are stored.
 ghost use Rattle.std.specs.Prelude.{◌≡◌, ◌≤◌, length, IfOk};
 ghost use Rattle.tl_fault.specs.KeptBytes.{IsKept, kept_bytes};
 
@@ -10,7 +10,7 @@ const IN_PLACE: usize = 22;
 /// Up to 22 bytes in place, or more in an allocation.
 #[derive(Debug, Drop)]
 pub(crate) enum Kept {
-    /// How many bytes there are, and these first in the array.
+    /// The number of bytes, and an array that begins with them.
     Short(u8, [u8; IN_PLACE]),
     Long(Box<Vec<u8>>),
 }
@@ -26,7 +26,7 @@ fn short(bytes: &[u8]) -> Kept
     Kept::Short(bytes.len() as u8, cells)
 }
 
-/// The bytes, copied. `Err` comes only for want of memory.
+/// A copy of the bytes. `Err` only if memory runs out.
 pub(crate) fn keep(alloc: Global, bytes: &[u8]) -> Result<Kept, AllocError>
     ensures value { IfOk result (λ kept. kept_bytes kept ≡ bytes.now) }
     ensures kept { IfOk result IsKept }

@@ -1,12 +1,12 @@
-//! What a refusal tells: its code, its word and its details.
+//! Refusals: their code, their word and their details.
 //!
-//! A call that refuses its input has an error type of its own, with one variant for each reason and one for want of memory.
-//! Beside the variants stands, once, what each of them tells: a [`Refusal`], and none for want of memory. Whoever prints a
-//! refusal asks for that, and needs to know no variant. `specs/Refusals.antt` has the words of the details, and which
-//! refusals are limits; `specs/OrMemory.antt` is what clauses say of an error that may be want of memory.
+//! Each call that can refuse its input has its own error type, with one variant per reason and one for out of memory. The
+//! error's method `refusal` converts it to a [`Refusal`], which is what is printed; out of memory has none. So the code that
+//! prints refusals doesn't depend on the variants. `specs/Refusals.antt` defines the words of the details, and which refusals
+//! are limits. `specs/OrMemory.antt` is used in clauses about an error that may be out of memory.
 //!
-//! A [`Name`] holds the bytes of one token. Names are compared byte by byte, so that upper and lower case differ, and
-//! contracts see a name as the plain list of its bytes, and [`Names`] as a list of these.
+//! A [`Name`] holds the bytes of one token. Names are compared byte by byte, so upper and lower case differ. Contracts see a
+//! name as the list of its bytes, and [`Names`] as a list of such lists.
 #![tactic(auto)]
 
 mod kept;

@@ -2,7 +2,7 @@
 use crate::name::Name;
 use std::marker::Model;
 
-/// Names in order: of the models of a chain, or of the nets of a cycle.
+/// Names in order: of the models in a chain, or of the nets in a cycle.
 #[derive(Debug, Drop)]
 pub struct Names {
     list: Vec<Name>,
@@ -19,14 +19,14 @@ impl Model for Names {
 impl Names {
     ghost use Rattle.std.specs.Prelude.{◌≡◌};
 
-    /// The list with these names.
+    /// A list of these names.
     pub fn make(list: Vec<Name>) -> Names
         ensures { result ≡ list.items }
     {
         Names { list }
     }
 
-    /// The names in order.
+    /// The names, in order.
     pub fn list(&self) -> &[Name]
         ensures { result.now ≡ self.now }
     {

@@ -3,7 +3,7 @@ use crate::name::Name;
 use crate::names::Names;
 use std::marker::Model;
 
-/// What a refusal tells behind its code and its word. A line is counted from 1.
+/// What a refusal reports after its code and its word. Lines are counted from 1.
 #[derive(Debug, Drop)]
 pub enum Details {
     /// Nothing more.
@@ -22,17 +22,17 @@ pub enum Details {
     Listed(Names),
     /// A node of a graph.
     Node(u32),
-    /// A line, and how many values a cycle has.
+    /// A line, and the number of values of a cycle.
     Width(u32, u32),
-    /// A line, and how many configuration bits there are.
+    /// A line, and the number of configuration bits.
     Bits(u32, u32),
-    /// A line, and a node of a graph that stands in it.
+    /// A line, and a node of a graph in it.
     NodeIn(u32, u32),
     /// The offset of a byte in a file, from 0.
     Byte(u32),
 }
 
-/// A refusal. A code that begins with `L` is a limit of the tool; each other one blames the input.
+/// A refusal. A code that begins with `L` means a limit of the tool. Any other code blames the input.
 #[derive(Debug, Drop)]
 pub struct Refusal {
     pub code: &'static str,
@@ -64,7 +64,7 @@ impl Refusal {
         }
     }
 
-    /// Whether it is a limit of the tool.
+    /// Whether the refusal is a limit of the tool.
     pub fn is_limit(&self) -> bool
         ensures { result ≡ is_limit self.now }
     {

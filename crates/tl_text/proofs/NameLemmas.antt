@@ -1,15 +1,16 @@
--- Names seen as plain lists: their places, and a new one behind them.
-use Rattle.std.proofs.Common.{◌≡◌, ℕ, ◌+◌, Bool, false, not, ◌||◌, cond, inl, inr, Vec, Global, bytes_eq, List, [], ◌∷◌, ◌++◌, map, None, refl, sym, subst, ap, ◌∙◌}
+-- Names seen as plain lists: their places, and one more of them.
+use Rattle.std.proofs.Common.{◌≡◌, ℕ, ◌+◌, Bool, false, not, ◌||◌, cond, inl, inr, bytes_eq, List, [], ◌∷◌, ◌++◌, map, None, refl, sym, subst, ap}
 use Rattle.std.specs.Prelude.{Result, Ok, Err, IfOk, OnErr}
 use Rattle.std.specs.List.{position, position_or_len, list_any}
-use Rattle.std.proofs.lemmas.List.{length-map, map-append}
-use Rattle.std.proofs.lemmas.Bool.{cond-false}
+use Rattle.std.proofs.lemmas.List.{length-map}
+use Rattle.std.proofs.lemmas.Bool.{cases_Bool, cond-true, cond-false}
 use Rattle.std.proofs.lemmas.Bool.{both_ways, or_parts}
 use Rattle.std.proofs.lemmas.Slice.Eq.{bytes_eq-Decides}
 use Rattle.list_laws.specs.Members.{In}
 use Rattle.list_laws.proofs.Members.{In-append}
 use Rattle.list_laws.proofs.FirstPlace.{list_any-position_none}
-use Rattle.tl_text.specs.NameIndex.{names_of, place_of}
+use Rattle.tl_text.specs.NameIndex.{place_of}
+use Rattle.tl_text.specs.NameSets.{has_name, with_name}
 use Rattle.tl_text.specs.Once.{AreOnce}
 
 pub position_or_len-map : {X Y : Type 0} (test : Y → Bool) (f : X → Y) (xs : List X) → position_or_len test (map f xs) ≡ position_or_len (λ x. test (f x)) xs
@@ -37,23 +38,18 @@ once_push (y ∷ ys) name once apart = (
   once_push ys name once.1 (λ i. apart (inr i)),
 )
 
--- the names after a new one is inserted
-pub names_of-insert : (keys news : List (Vec ℕ Global)) (copy : Vec ℕ Global) → news ≡ cond (list_any (λ v. bytes_eq copy.items v.items) keys) keys (keys ++ copy ∷ []) → place_of (names_of keys) copy.items ≡ None
-    → names_of news ≡ names_of keys ++ copy.items ∷ []
-names_of-insert keys news copy is none =
-    let f : Vec ℕ Global → List ℕ = λ v. v.items in
-    let no : list_any (bytes_eq copy.items) (map f keys) ≡ false = list_any-position_none (bytes_eq copy.items) (map f keys) none in
-    let no' : list_any (λ v. bytes_eq copy.items v.items) keys ≡ false = sym (list_any-map (bytes_eq copy.items) f keys) ∙ no in
-    ap (λ l. map f l) (is ∙ cond-false (list_any (λ v. bytes_eq copy.items v.items) keys) keys (keys ++ copy ∷ []) no') ∙ map-append f keys (copy ∷ [])
+-- the names after one is inserted
+with_one : (names : List (List ℕ)) (name : List ℕ) → AreOnce names → AreOnce (with_name names name)
+with_one names name once = elim (cases_Bool (has_name names name)) [
+  | inl t ↦ subst AreOnce (sym (cond-true (has_name names name) names (names ++ name ∷ []) t)) once
+  | inr f ↦ subst AreOnce (sym (cond-false (has_name names name) names (names ++ name ∷ []) f)) (once_push names name once (not_there names name f))
+]
 
--- and none of them is there twice
-pub once-insert : (keys news : List (Vec ℕ Global)) (copy : Vec ℕ Global) → news ≡ cond (list_any (λ v. bytes_eq copy.items v.items) keys) keys (keys ++ copy ∷ []) → place_of (names_of keys) copy.items ≡ None
-    → AreOnce (names_of keys) → AreOnce (names_of news)
-once-insert keys news copy is none once =
-    subst AreOnce (sym (names_of-insert keys news copy is none)) (once_push (names_of keys) copy.items once (not_there (names_of keys) copy.items (list_any-position_none (bytes_eq copy.items) (names_of keys) none)))
+-- and a new one stands behind the others
+pub with_new : (names : List (List ℕ)) (name : List ℕ) → place_of names name ≡ None → with_name names name ≡ names ++ name ∷ []
+with_new names name none = cond-false (has_name names name) names (names ++ name ∷ []) (list_any-position_none (bytes_eq name) names none)
 
--- so after an insertion that may fail
-pub once_kept : {V E : Type 0} (result : Result V E) (keys news : List (Vec ℕ Global)) (copy : Vec ℕ Global) → IfOk result (λ _. news ≡ cond (list_any (λ v. bytes_eq copy.items v.items) keys) keys (keys ++ copy ∷ [])) → OnErr result (news ≡ keys)
-    → place_of (names_of keys) copy.items ≡ None → AreOnce (names_of keys) → AreOnce (names_of news)
-once_kept (Ok v) keys news copy is same none once = once-insert keys news copy is none once
-once_kept (Err e) keys news copy is same none once = subst (λ k. AreOnce (names_of k)) (sym same) once
+-- none stands twice after an insertion that may fail
+pub once_kept : {V E : Type 0} (result : Result V E) (names news : List (List ℕ)) (name : List ℕ) → IfOk result (λ _. news ≡ with_name names name) → OnErr result (news ≡ names) → AreOnce names → AreOnce news
+once_kept (Ok v) names news name is same once = subst AreOnce (sym is) (with_one names name once)
+once_kept (Err e) names news name is same once = subst AreOnce (sym same) once

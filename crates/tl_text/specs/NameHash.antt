@@ -1,5 +1,8 @@
 -- The hash of a name.
-use Rattle.std.specs.Prelude.{ℕ, ◌+◌, ◌-◌, ◌*◌, ◌/◌, ◌%◌, ◌^◌, List, length, slice_index, if◌then◌else◌, ◌==◌, nat_lt, bit_and, bit_xor}
+use Rattle.std.specs.Prelude.{ℕ, ◌+◌, ◌-◌, ◌*◌, ◌/◌, ◌%◌, ◌^◌, List, length, drop, bit_and, bit_xor}
+use Rattle.std.specs.Int.{from_le_bytes, w64}
+use Rattle.std.specs.List.{fold}
+use Rattle.std.specs.Simd.{first_chunks}
 use Rattle.tl_text.specs.declared.name_hasher.NameHasher.{NameHasher}
 
 -- the two halves of the product with 2^64 divided by the golden ratio, joined by an exclusive or
@@ -12,13 +15,15 @@ longer pending byte = ((pending * 256) % 2 ^ 64 + byte) % 2 ^ 64
 
 -- a byte collected
 abbrev pub collected : NameHasher → ℕ → NameHasher
-collected h byte =
-    if nat_lt (longer h.pending byte) (2 ^ 56) then record { hash = h.hash; pending = longer h.pending byte }
-    else record { hash = folded (bit_xor h.hash (longer h.pending byte)); pending = 1 }
+collected h byte = record { hash = h.hash; pending = longer h.pending byte }
 
--- the hasher after bytes are written: the length, eight bytes at once, is passed over
+-- eight bytes folded in
+abbrev pub folded_in : NameHasher → List ℕ → NameHasher
+folded_in h chunk = record { hash = folded (bit_xor h.hash (from_le_bytes w64 chunk)); pending = h.pending }
+
+-- the hasher after bytes are written: eight at a time, and then those that are left over
 abbrev pub written : NameHasher → List ℕ → NameHasher
-written h bytes = if length bytes == 1 then collected h (slice_index bytes 0) else h
+written h bytes = fold collected (fold folded_in h (first_chunks 8 (length bytes / 8) bytes)) (drop (length bytes / 8 * 8) bytes)
 
 -- the hash
 abbrev pub hash_of : NameHasher → ℕ

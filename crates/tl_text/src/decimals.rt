@@ -1,4 +1,4 @@
-//! Decimal numbers and bits as they are written.
+//! Decimal numbers and bits in texts.
 ghost use Rattle.std.specs.Prelude.{◌≡◌, ◌+◌, ◌*◌, ◌^◌, ◌<◌, SomeIff};
 ghost use Rattle.tl_text.specs.Decimal.{decimal_of, bit_of};
 
@@ -9,8 +9,8 @@ fn with_digit(number: u64, digit: u8) -> Option<u64>
     number.checked_mul(10)?.checked_add(digit as u64)
 }
 
-/// The number that a text writes: `0`, or a digit 1 to 9 and then any digits. `None` exactly where the text has another
-/// form, or its number is 2^64 or more. It takes time linear in the text.
+/// The number that a text spells: `0`, or a digit 1 to 9 followed by any digits. `None` exactly when the text has another
+/// form or its number is 2^64 or more. The time is linear in the text.
 pub fn decimal(text: &[u8]) -> Option<u64>
     ensures { result ≡ decimal_of text.now }
 {
@@ -30,7 +30,7 @@ pub fn decimal(text: &[u8]) -> Option<u64>
     Some(number)
 }
 
-/// The bit that a text writes: `0` or `1`. `None` exactly where the text is neither. In constant time.
+/// The bit that a text spells: `0` or `1`. `None` for any other text. It takes constant time.
 pub fn bit(text: &[u8]) -> Option<bool>
     ensures { result ≡ bit_of text.now }
 {

@@ -2,12 +2,12 @@
 use crate::token::Token;
 use std::marker::Model;
 
-/// A logical line: what one physical line, or several that a `\` at their ends joins, have in tokens.
+/// A logical line: the tokens of a physical line and of its continuations.
 #[derive(Drop)]
 pub struct Line {
-    /// The number of its first physical line, counted from 1.
+    /// Its first physical line, counted from 1.
     pub number: u32,
-    /// Its tokens, left to right.
+    /// Its tokens, from left to right.
     pub tokens: Vec<Token>,
 }
 

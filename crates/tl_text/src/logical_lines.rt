@@ -14,15 +14,15 @@ use crate::reader::Reader;
 use crate::text_err::TextErr;
 use std::alloc::Global;
 
-/// The most bytes that a text may have: 64 MiB.
+/// The most bytes in a text: 64 MiB.
 pub const MOST_BYTES: usize = 67_108_864;
 
-/// The logical lines of a text of at most [`MOST_BYTES`] bytes that have a token, in order. Each token stands in the text. It takes time
-/// and memory linear in the text.
+/// The logical lines of a text that have tokens, in order. The text has at most [`MOST_BYTES`] bytes. The time and the memory
+/// are linear in the text.
 ///
 /// # Errors
-/// `BadByte` (T1) or `TrailingSlash` (T2), whichever comes first: the first physical line counts, and in one line T1.
-/// `Memory` only where there is none.
+/// `BadByte` (T1) or `TrailingSlash` (T2) of the first physical line that has one; `BadByte` if it has both. `Memory` if
+/// memory runs out.
 pub fn lines(alloc: Global, text: &[u8]) -> Result<Vec<Line>, TextErr>
     requires { length text.now ≤ MOST_BYTES }
     ensures answer { MatchResult result (λ v. lines_of text.now ≡ Ok v.items) (OrMemory refusal_of (λ e. lines_of text.now ≡ Err e)) }

@@ -1,6 +1,7 @@
 //! The hasher of names.
 ghost use Rattle.std.specs.Prelude.{◌≡◌};
-ghost use Rattle.tl_text.specs.NameHash.{collected, folded};
+ghost use Rattle.std.specs.List.{fold};
+ghost use Rattle.tl_text.specs.NameHash.{collected, folded, folded_in};
 
 use std::hash::Hasher;
 
@@ -10,11 +11,8 @@ const START: u64 = 0x243f_6a88_85a3_08d3;
 // 2^64 divided by the golden ratio.
 const FACTOR: u64 = 0x9e37_79b9_7f4a_7c15;
 
-// A word from here on is full: it holds seven bytes behind a 1.
-const FULL: u64 = 1 << 56;
-
-// Hashes the bytes of a slice, which come one at a time, seven at a time: they are collected behind a 1, and a full word is
-// folded into the hash. The length, which a slice writes first, is passed over: the last word tells where the bytes end.
+// Hashes bytes eight at a time, each word folded into the hash. Those that are left over are collected behind a 1, so that the
+// last word tells where the bytes end.
 #[derive(Clone, Copy)]
 pub struct NameHasher {
     hash: u64,
@@ -41,16 +39,33 @@ impl Default for NameHasher {
 }
 
 impl NameHasher {
+    // Takes eight bytes.
+    fn fold_in(&mut self, chunk: &[u8; 8])
+        ensures { self.new ≡ folded_in self.old chunk.now }
+    {
+        self.hash = folded(self.hash ^ u64::from_le_bytes(*chunk));
+    }
+
+    fn fold_all(&mut self, chunks: &[[u8; 8]])
+        ensures { self.new ≡ fold folded_in self.old chunks.now }
+    {
+        for chunk in chunks {
+            self.fold_in(chunk);
+        }
+    }
+
     // Takes a byte.
     fn collect(&mut self, byte: u8)
         ensures { self.new ≡ collected self.old byte }
     {
-        let pending = self.pending.wrapping_mul(256).wrapping_add(byte as u64);
-        if pending < FULL {
-            self.pending = pending;
-        } else {
-            self.hash = folded(self.hash ^ pending);
-            self.pending = 1;
+        self.pending = self.pending.wrapping_mul(256).wrapping_add(byte as u64);
+    }
+
+    fn collect_all(&mut self, bytes: &[u8])
+        ensures { self.new ≡ fold collected self.old bytes.now }
+    {
+        for byte in bytes {
+            self.collect(*byte);
         }
     }
 }
@@ -67,8 +82,8 @@ impl Hasher for NameHasher {
     }
 
     fn write(&mut self, bytes: &[u8]) {
-        if bytes.len() == 1 {
-            self.collect(bytes[0]);
-        }
+        let (chunks, rest) = bytes.as_chunks::<8>();
+        self.fold_all(chunks);
+        self.collect_all(rest);
     }
 }

@@ -1,38 +1,38 @@
-//! Names, numbered in the order in which they were first seen.
-ghost use Rattle.std.specs.Prelude.{◌≡◌, ℕ, [], ◌∷◌, ◌++◌, length, None, Some, IfOk, OnOk, OnErr};
-ghost use Rattle.tl_text.specs.NameIndex.{place_of, names_of};
+//! Names, numbered in the order of their first occurrences.
+ghost use Rattle.std.specs.Prelude.{◌≡◌, [], ◌∷◌, ◌++◌, not, length, None, IfOk, OnOk, OnErr};
+ghost use Rattle.tl_text.specs.NameIndex.{place_of};
 ghost use Rattle.tl_text.specs.NameSets.{has_name, with_name, with_names as with_all_names};
 ghost use Rattle.tl_text.specs.Once.{AreOnce};
 
 use crate::name_hasher::NameHasher;
+use crate::sought::Sought;
 use indexmap::IndexSet;
 use std::alloc::{AllocError, Global};
 use std::hash::BuildHasherDefault;
 use std::marker::Model;
 use tl_fault::Name;
 
-/// Names in the order in which they were added, each found by its hash. Contracts see the list of the names. None is in it
-/// twice, which is a law of the type.
+/// Names in the order in which they were added. Each is found by its hash. Contracts see the list of the names. It has no
+/// repeats, which is an invariant of the type.
 #[derive(Drop)]
 pub struct NameIndex {
-    names: IndexSet<Vec<u8>, BuildHasherDefault<NameHasher>>,
+    names: IndexSet<Name, BuildHasherDefault<NameHasher>>,
 }
 
 impl Model for NameIndex {
     ghost use Rattle.std.specs.Prelude.{ℕ, List};
-    ghost use Rattle.tl_text.specs.NameIndex.{names_of};
 
     ghost Value = { List (List ℕ) };
 
-    ghost view = { λ n. names_of n.names.keys };
+    ghost view = { λ n. n.names.keys };
 
     ghost use Rattle.tl_text.specs.Once.{AreOnce};
 
-    ghost invariant = { λ n. AreOnce (names_of n.names.keys) };
+    ghost invariant = { λ n. AreOnce (n.names.keys) };
 }
 
 impl NameIndex {
-    /// No names yet. It takes no memory.
+    /// An empty index. It needs no memory.
     pub fn new(alloc: Global) -> NameIndex
         ensures { result ≡ [] }
     {
@@ -41,14 +41,14 @@ impl NameIndex {
         }
     }
 
-    /// The names of a list, each once. It takes time linear in their bytes, on average over the hashes.
+    /// The names of a list, without repeats. The time is linear in their bytes, on average over the hashes.
     pub fn of(alloc: Global, names: &[Name]) -> Result<NameIndex, AllocError>
         ensures { IfOk result (λ index. index ≡ with_all_names [] names.now) }
     {
         NameIndex::new(alloc).with_names(alloc, names)
     }
 
-    /// How many names there are, in constant time. Each is there once.
+    /// The number of names, in constant time. No name is repeated.
     pub fn len(&self) -> usize
         ensures value { result ≡ length self.now }
         ensures once { AreOnce self.now }
@@ -56,45 +56,56 @@ impl NameIndex {
         self.names.len()
     }
 
-    /// The place of a name, counted from 0; `None` exactly where it isn't among them. It takes time linear in the name's
+    /// The place of a name, counted from 0. `None` exactly when the name isn't in the index. The time is linear in the name's
     /// bytes, on average over the hashes.
     pub fn place(&self, name: &[u8]) -> Option<usize>
         ensures { result ≡ place_of self.now name.now }
     {
-        self.names.get_index_of(name)
+        self.names.get_index_of(Sought { bytes: name })
     }
 
-    /// Is the name among them? It takes time linear in its bytes, on average over the hashes.
+    /// Whether the name is in the index. The time is linear in its bytes, on average over the hashes.
     pub fn has(&self, name: &[u8]) -> bool
         ensures { result ≡ has_name self.now name.now }
     {
         self.place(name).is_some()
     }
 
-    /// Adds a name that isn't among them at the end, and copies its bytes. `Err` comes only for want of memory, and adds
-    /// nothing. It takes time linear in the name's bytes, on average over the calls and hashes.
+    /// Appends a name that isn't in the index, and copies its bytes. `Err` only if memory runs out; then nothing is added. The
+    /// time is linear in the name's bytes, on average over the calls and hashes.
+    #[tactic(auto, using(crate::proofs::NameLemmas::with_new))]
     pub fn add(&mut self, alloc: Global, name: &[u8]) -> Result<(), AllocError>
         requires { place_of self.old name.now ≡ None }
         ensures ok { OnOk result (self.new ≡ self.old ++ name.now ∷ []) }
         ensures err { OnErr result (self.new ≡ self.old) }
     {
-        let copy = Vec::from_slice(alloc, name)?;
-        self.names.insert_full(copy)?;
+        self.add_once(alloc, name)?;
         Ok(())
     }
 
-    /// Adds a name, unless it is among them. `Err` comes only for want of memory, and adds nothing.
+    /// Appends a name unless it is in the index, and returns whether it is new. `Err` only if memory runs out; then nothing is
+    /// added. It copies the bytes and computes one hash.
+    pub fn add_new(&mut self, alloc: Global, name: &[u8]) -> Result<bool, AllocError>
+        ensures added { IfOk result (λ added. added ≡ not (has_name self.old name.now)) }
+        ensures ok { OnOk result (self.new ≡ with_name self.old name.now) }
+        ensures err { OnErr result (self.new ≡ self.old) }
+    {
+        let copy = Name::make(alloc, name)?;
+        let (_, added) = self.names.insert_full(copy)?;
+        Ok(added)
+    }
+
+    /// Appends a name unless it is in the index. `Err` only if memory runs out; then nothing is added. It copies the bytes and
+    /// computes one hash.
     pub fn add_once(&mut self, alloc: Global, name: &[u8]) -> Result<(), AllocError>
         ensures ok { OnOk result (self.new ≡ with_name self.old name.now) }
         ensures err { OnErr result (self.new ≡ self.old) }
     {
-        if self.has(name) {
-            return Ok(());
-        }
-        self.add(alloc, name)
+        self.add_new(alloc, name)?;
+        Ok(())
     }
 
-    /// These names and those of a list, each unless it is among those before.
+    /// These names and then those of a list that aren't among the ones before.
     pub fn with_names(self, alloc: Global, names: &[Name]) -> Result<NameIndex, AllocError>
         ensures { IfOk result (λ all. all ≡ with_all_names self names.now) }
     {
@@ -103,5 +114,14 @@ impl NameIndex {
             all.add_once(alloc, name.bytes())?;
         }
         Ok(all)
+    }
+
+    /// A copy of the names. `Err` only if memory runs out. The time is linear in their bytes, on average over the hashes.
+    #[tactic(auto, using(crate::proofs::NameSetLemmas::new_names))]
+    pub fn copy(&self, alloc: Global) -> Result<NameIndex, AllocError>
+        ensures { IfOk result (λ copy. copy ≡ self.now) }
+    {
+        let names = NameIndex::of(alloc, self.names.as_slice())?;
+        Ok(names)
     }
 }

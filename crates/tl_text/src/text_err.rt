@@ -1,17 +1,17 @@
-//! Why a text has no lines.
+//! Why a text is refused.
 use std::alloc::{AllocError, AllocFailed};
 use tl_fault::{Details, Refusal};
 
-/// Why a text has no lines. The number is that of the physical line, counted from 1.
+/// Why a text is refused. The number is that of the physical line, counted from 1.
 #[derive(Clone, Copy, Debug, PartialEq, Eq, thiserror::Error)]
 pub enum TextErr {
-    /// T1: a byte below 32 that is no tab and no line feed, or the byte 127; a carriage return before a line feed is none.
+    /// T1: a byte below 32 other than tab and line feed, or the byte 127. A carriage return before a line feed is allowed.
     #[error("bad byte in line {0}")]
     BadByte(u32),
     /// T2: a token ends in `\`.
     #[error("trailing backslash in line {0}")]
     TrailingSlash(u32),
-    /// There is no memory.
+    /// Out of memory.
     #[error("out of memory")]
     Memory,
 }
@@ -42,7 +42,7 @@ impl TextErr {
     ghost use Rattle.std.specs.Prelude.{◌≡◌};
     ghost use Rattle.tl_text.specs.Refusals.{refusal_of};
 
-    /// What the refusal tells; none for want of memory.
+    /// The refusal that is reported; `None` if memory ran out.
     pub fn refusal(self) -> Option<Refusal>
         ensures { result ≡ refusal_of self }
     {

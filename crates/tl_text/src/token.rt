@@ -2,7 +2,7 @@
 ghost use Rattle.std.specs.Prelude.{◌≡◌, ◌≤◌};
 ghost use Rattle.tl_text.specs.LineValue.{IsWithin, token_bytes};
 
-/// A token, by the place of its first byte in the text and the place behind its last one, both counted from 0.
+/// A token, as a range of the text: the offset of its first byte, and the offset after its last one.
 #[derive(Clone, Copy, Debug, PartialEq, Eq)]
 pub struct Token {
     pub start: u32,

@@ -1,0 +1,7 @@
+use Rattle.std.proofs.Common.{◌≡◌, drop}
+use Rattle.std.specs.List.{fold}
+use Rattle.tl_text.specs.NameHash.{collected}
+use Rattle.tl_text.proofs.name_hasher.NameHasher.collect_all.Given as goal
+
+abbrev pub invariant-loop-byte : goal.invariant-loop-byte
+invariant-loop-byte l = fold collected l.self (drop l.byte-index l.bytes) ≡ fold collected l.initial.self l.bytes
