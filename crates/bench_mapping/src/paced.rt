@@ -4,7 +4,7 @@
 //! device has the configuration that is asked for, at a bit a tick. Where there are many addresses, all those before the pack's
 //! are 0. So the asks and the waits are the same over few and over many, and so is their time, as long as neither looks at the
 //! addresses that don't change.
-ghost use Rattle.std.specs.Prelude.{◌≡◌, ◌≤◌, ℕ, length, IfOk};
+ghost use Rattle.std.specs.Prelude.{◌≡◌, ◌<◌, ◌≤◌, ℕ, length, IfOk};
 ghost use Rattle.ppc_pack.specs.declared.pack.TheConstants.{MOST_PACK_BITS as MOST_BITS};
 ghost use Rattle.pace_core.specs.EventValue.{Fits, pace_value};
 ghost use Rattle.pace_core.specs.Pace.{FitsPacer};
@@ -13,11 +13,14 @@ use crate::bench_err::BenchErr;
 use crate::meter::Meter;
 use crate::pack::{PARAMS, make_pack};
 use crate::single_bits::single_bits;
+use aig_core::Steps;
 use lut_sim::Shape;
 use pace_core::{PaceEvent, Pacer};
 use ppc_pack::{MOST_PACK_BITS, Pack};
 use std::alloc::{AllocError, Global};
 use std::io;
+use std::marker::Brand;
+use std::sync::ledger::{Blank, Ledger};
 use tl_io::{Assign, Failed, Sink, StdSink};
 
 // How many bits the port takes at a tick.
@@ -37,13 +40,31 @@ fn ask(alloc: Global, number: u32) -> Result<PaceEvent, AllocError>
     Ok(PaceEvent::Ask(assigns))
 }
 
+// Plays an event, with a counter of the steps that it takes.
+fn play_with<O: Sink, L: Ledger>(
+    pacer: &mut Pacer,
+    event: &PaceEvent,
+    out: &mut O,
+    blank: Blank,
+) -> Result<(), Failed>
+    requires name { blank.name ≡ L.name }
+    requires parts { blank.parts ≡ L.parts }
+    requires some { 0 < L.parts }
+    requires fits { FitsPacer pacer.old (pace_value event.now) }
+    ensures pack { pacer.new.pack ≡ pacer.old.pack }
+    ensures shape { pacer.new.sim.shape ≡ pacer.old.sim.shape }
+{
+    let mut steps = Steps::<L>::start(blank);
+    pacer.step(event, out, &mut steps)
+}
+
 // Plays an event.
 fn play<O: Sink>(pacer: &mut Pacer, event: &PaceEvent, out: &mut O) -> Result<(), Failed>
     requires { FitsPacer pacer.old (pace_value event.now) }
     ensures pack { pacer.new.pack ≡ pacer.old.pack }
     ensures shape { pacer.new.sim.shape ≡ pacer.old.sim.shape }
 {
-    pacer.step(event, out)
+    play_with::<O, Brand>(pacer, event, out, Blank::new(1))
 }
 
 // Ticks until the device isn't behind, and answers how often that was.

@@ -1,17 +1,18 @@
 -- What a device is behind by, once a wanted bit turns, or a mark is taken.
-use mathlib.Core.Bool.{beq}
-use Rattle.std.proofs.Common.{◌≡◌, ◌⊎◌, ℕ, suc, ◌+◌, ◌-◌, ◌<◌, ◌≤◌, Bool, true, false, not, List, [], ◌∷◌, ◌++◌, length, map, take, replicate, slice_set, refl, sym, ap, ◌∙◌, inl, inr, arith, append-nil}
+use Rattle.std.proofs.Common.{◌≡◌, ◌⊎◌, ℕ, suc, ◌+◌, ◌-◌, ◌<◌, ◌≤◌, Bool, true, false, not, List, [], ◌∷◌, ◌++◌, length, map, take, replicate, slice_set, refl, sym, ap, ◌∙◌, subst, inl, inr, arith, append-nil, append_assoc}
 use Rattle.std.specs.List.{filter, range_with_len}
 use Rattle.std.proofs.lemmas.Bool.{cases_Bool, false≢true}
 use Rattle.std.proofs.lemmas.List.{length-set, length-replicate, get_or-set_same, get_or-set_other, take_all, take_at}
 use Rattle.tl_io.specs.declared.Write.{Write}
+use Rattle.tl_io.specs.Writes.{written}
 use Rattle.list_laws.proofs.Places.{same_or}
 use Rattle.aig_core.specs.Value.{xor}
 use Rattle.dirty_idx.specs.Marks.{is_marked, IsLeast, IsEmpty}
 use Rattle.spec_core.specs.Differences.{config_bit, differs_at, write_of, differences}
+use Rattle.spec_core.proofs.AssignLemmas.{none_marked}
 use Rattle.spec_core.proofs.MarkLemmas.{xor-same}
-use Rattle.pace_core.specs.Backlog.{BacklogValue, IsBehind, with_write, IsCaughtUp, marked}
-use Rattle.pace_core.proofs.DifferenceLemmas.{one_more, first_is, differing, length-differences, differences_few, differs_some, no_own_differences, differs_nowhere, written_fails, written_agrees, wanted_agrees}
+use Rattle.pace_core.specs.Backlog.{BacklogValue, IsBehind, with_write, IsCaughtUp, IsCatchingUp}
+use Rattle.pace_core.proofs.DifferenceLemmas.{one_more, first_is, differing, length-differences, differences_few, differs_some, no_own_differences, differs_nowhere, written_fails, written_agrees, wanted_agrees, written-append}
 
 -- a bit differs from the other one
 xor-not : (a b : Bool) → a ≡ not b → xor a b ≡ true
@@ -20,45 +21,32 @@ xor-not true false e = refl
 xor-not false true e = refl
 xor-not false false e = absurd (false≢true e)
 
--- so does the other one from it
-xor-other : (a b : Bool) → b ≡ not a → xor a b ≡ true
-xor-other true b e = ap not e
-xor-other false b e = e
+-- a bit that differs from another one is the other one
+xor-apart : (a b : Bool) → xor a b ≡ true → a ≡ not b
+xor-apart true true e = absurd (false≢true e)
+xor-apart true false e = refl
+xor-apart false true e = refl
+xor-apart false false e = absurd (false≢true e)
 
--- two bits that pass a test of equality are one
-pub bits_same : (a b : Bool) → beq a b ≡ true → a ≡ b
-bits_same true true e = refl
-bits_same true false e = absurd (false≢true e)
-bits_same false true e = absurd (false≢true e)
-bits_same false false e = refl
+-- one that doesn't is the same
+xor-meet : (a b : Bool) → xor a b ≡ false → a ≡ b
+xor-meet true true e = refl
+xor-meet true false e = absurd (false≢true (sym e))
+xor-meet false true e = absurd (false≢true (sym e))
+xor-meet false false e = refl
 
--- two that fail it are each the other of the other
-pub bits_differ : (a b : Bool) → beq a b ≡ false → a ≡ not b
-bits_differ true true e = absurd (false≢true (sym e))
-bits_differ true false e = refl
-bits_differ false true e = refl
-bits_differ false false e = absurd (false≢true (sym e))
-
--- so are two that pass a test of difference
-pub bits_apart : (a b : Bool) → not (beq a b) ≡ true → a ≡ not b
-bits_apart true true e = absurd (false≢true e)
-bits_apart true false e = refl
-bits_apart false true e = refl
-bits_apart false false e = absurd (false≢true e)
-
--- two that fail it are one
-pub bits_meet : (a b : Bool) → not (beq a b) ≡ false → a ≡ b
-bits_meet true true e = refl
-bits_meet true false e = absurd (false≢true (sym e))
-bits_meet false true e = absurd (false≢true (sym e))
-bits_meet false false e = refl
+-- the other one's other one
+not-twice : (b : Bool) → not (not b) ≡ b
+not-twice true = refl
+not-twice false = refl
 
 -- a device is behind by nothing where it has what is wanted
-pub behind_nothing : (config : List Bool) → IsBehind (record { config = config; marks = replicate (length config) false; waiting = 0; writes = [] }) config
+pub behind_nothing : (config : List Bool) → IsBehind (record { config = config; marks = replicate (length config) false; waiting = 0; writes = []; looks = 0 }) config
 behind_nothing config = record {
   same = refl;
   marks = length-replicate (length config) false;
   marked = λ a d. absurd (false≢true (sym (differs_nowhere config a) ∙ d));
+  only = λ a m. absurd (false≢true (sym (none_marked (length config) a) ∙ m));
   waiting = sym (no_own_differences config);
 }
 
@@ -85,24 +73,32 @@ module _ (b : BacklogValue) (from : List Bool) (write : Write) (behind : IsBehin
   turned_bit : config_bit (slice_set from write.address write.bit) write.address ≡ write.bit
   turned_bit = get_or-set_same from write.address write.bit false within
 
-  -- the device has its new value: it was behind there, and is no longer
-  module _ (has : config_bit b.config write.address ≡ write.bit) where
+  -- the address is marked: the device was behind there, and is no longer
+  module _ (was : is_marked b.marks write.address ≡ true) where
     -- it differed there
     differed : differs_at b.config from write.address ≡ true
-    differed = xor-other (config_bit b.config write.address) (config_bit from write.address) (other ∙ ap not (sym has))
+    differed = behind.only write.address was
+
+    -- so it has the new value
+    has : config_bit b.config write.address ≡ write.bit
+    has = xor-apart (config_bit b.config write.address) (config_bit from write.address) differed ∙ ap not other ∙ not-twice write.bit
 
     -- so it was behind somewhere
     pub turn_waits : 0 < b.waiting
     turn_waits = let s : 0 < length (differences b.config from) = differs_some b.config from write.address within differed in let w : b.waiting ≡ length (differences b.config from) = behind.waiting in omega arith
 
     -- it is behind at one address less
-    pub one_behind_less : IsBehind (record b { waiting = b.waiting - 1 }) (slice_set from write.address write.bit)
+    pub one_behind_less : IsBehind (record b { marks = slice_set b.marks write.address false; waiting = b.waiting - 1; looks = b.looks + 1 }) (slice_set from write.address write.bit)
     one_behind_less = record {
       same = behind.same ∙ sym same_length;
-      marks = behind.marks ∙ sym same_length;
+      marks = length-set b.marks write.address false ∙ behind.marks ∙ sym same_length;
       marked = λ a d. elim (same_or a write.address) [
         | inl e ↦ absurd (false≢true (sym (ap (differs_at b.config (slice_set from write.address write.bit)) e ∙ differs_no_more) ∙ d))
-        | inr n ↦ behind.marked a (sym (wanted_agrees b.config from write.address write.bit a n) ∙ d)
+        | inr n ↦ get_or-set_other b.marks write.address a false false n ∙ behind.marked a (sym (wanted_agrees b.config from write.address write.bit a n) ∙ d)
+      ];
+      only = λ a m. elim (same_or a write.address) [
+        | inl e ↦ (let l : length b.marks ≡ length from = behind.marks in absurd (false≢true (sym (ap (is_marked (slice_set b.marks write.address false)) e ∙ get_or-set_same b.marks write.address false false (omega arith)) ∙ m)))
+        | inr n ↦ wanted_agrees b.config from write.address write.bit a n ∙ behind.only a (sym (get_or-set_other b.marks write.address a false false n) ∙ m)
       ];
       waiting =
           let w : b.waiting ≡ length (differences b.config from) = behind.waiting in
@@ -119,11 +115,15 @@ module _ (b : BacklogValue) (from : List Bool) (write : Write) (behind : IsBehin
         differs_no_more : differs_at b.config (slice_set from write.address write.bit) write.address ≡ false
         differs_no_more = xor-same (config_bit b.config write.address) (config_bit (slice_set from write.address write.bit) write.address) (has ∙ sym turned_bit)
 
-  -- it has the other one: it was not behind there, and is now
-  module _ (lacks : config_bit b.config write.address ≡ not write.bit) where
+  -- it is not marked: the device was not behind there, and is now
+  module _ (was : is_marked b.marks write.address ≡ false) where
     -- it did not differ there
     agreed : differs_at b.config from write.address ≡ false
-    agreed = xor-same (config_bit b.config write.address) (config_bit from write.address) (lacks ∙ sym other)
+    agreed = elim (cases_Bool (differs_at b.config from write.address)) [ inl d ↦ absurd (false≢true (sym was ∙ behind.marked write.address d)) | inr n ↦ n ]
+
+    -- so it has the old value
+    lacks : config_bit b.config write.address ≡ not write.bit
+    lacks = xor-meet (config_bit b.config write.address) (config_bit from write.address) agreed ∙ other
 
     -- it does now
     differs_now : differs_at b.config (slice_set from write.address write.bit) write.address ≡ true
@@ -151,13 +151,17 @@ module _ (b : BacklogValue) (from : List Bool) (write : Write) (behind : IsBehin
         omega arith
 
     -- it is behind at one address more
-    pub one_behind_more : IsBehind (record b { marks = slice_set b.marks write.address true; waiting = b.waiting + 1 }) (slice_set from write.address write.bit)
+    pub one_behind_more : IsBehind (record b { marks = slice_set b.marks write.address true; waiting = b.waiting + 1; looks = b.looks + 1 }) (slice_set from write.address write.bit)
     one_behind_more = record {
       same = behind.same ∙ sym same_length;
       marks = length-set b.marks write.address true ∙ behind.marks ∙ sym same_length;
       marked = λ a d. elim (same_or a write.address) [
         | inl e ↦ (let l : length b.marks ≡ length from = behind.marks in ap (is_marked (slice_set b.marks write.address true)) e ∙ get_or-set_same b.marks write.address true false (omega arith))
         | inr n ↦ get_or-set_other b.marks write.address a true false n ∙ (behind.marked a (sym (wanted_agrees b.config from write.address write.bit a n) ∙ d))
+      ];
+      only = λ a m. elim (same_or a write.address) [
+        | inl e ↦ ap (differs_at b.config (slice_set from write.address write.bit)) e ∙ differs_now
+        | inr n ↦ wanted_agrees b.config from write.address write.bit a n ∙ behind.only a (sym (get_or-set_other b.marks write.address a true false n) ∙ m)
       ];
       waiting = let m : length (differences b.config (slice_set from write.address write.bit)) ≡ suc b.waiting = more in omega arith;
     }
@@ -180,74 +184,77 @@ module _ (b : BacklogValue) (wanted : List Bool) (behind : IsBehind b wanted) (a
   pub least_within : a < length wanted
   least_within = let l : length b.marks ≡ length wanted = behind.marks in let w : a < length b.marks = least.within in omega arith
 
-  -- one number less is marked
-  fewer_marks : length (marked (slice_set b.marks a false)) < length (marked b.marks)
-  fewer_marks =
-      let o : length (marked b.marks) ≡ suc (length (filter (is_marked (slice_set b.marks a false)) (range_with_len 0 (length b.marks)))) =
-      one_more (is_marked b.marks) (is_marked (slice_set b.marks a false)) a taken_fails taken_agrees least.marked (length b.marks) 0 (omega arith) (let w : a < length b.marks = least.within in omega arith) in
-      let r : length (marked (slice_set b.marks a false)) ≡ length (filter (is_marked (slice_set b.marks a false)) (range_with_len 0 (length b.marks))) =
-      ap (λ n. length (filter (is_marked (slice_set b.marks a false)) (range_with_len 0 n))) same_marks in
+  -- the device has the other bit there
+  has_other : config_bit b.config a ≡ not (config_bit wanted a)
+  has_other = xor-apart (config_bit b.config a) (config_bit wanted a) (behind.only a least.marked)
+
+  -- so its other one is the wanted one
+  wanted_bit : not (config_bit b.config a) ≡ config_bit wanted a
+  wanted_bit = ap not has_other ∙ not-twice (config_bit wanted a)
+
+  -- this is the first difference, and the others are left
+  first_to_last : differences b.config wanted ≡ write_of wanted a ∷ differences (slice_set b.config a (config_bit wanted a)) wanted
+  first_to_last = ap (map (write_of wanted)) (first_is (differs_at b.config wanted) (differs_at (slice_set b.config a (config_bit wanted a)) wanted) a
+      (written_fails b.config wanted a (let s : length b.config ≡ length wanted = behind.same in let w : a < length wanted = least_within in omega arith))
+      (written_agrees b.config wanted a (config_bit wanted a)) (behind.only a least.marked)
+      (λ n l. elim (cases_Bool (differs_at b.config wanted n)) [ inl d ↦ absurd (false≢true (sym (least.least n l) ∙ behind.marked n d)) | inr f ↦ f ])
+      (length wanted) 0 (omega arith) (let w : a < length wanted = least_within in omega arith))
+
+  -- so it was behind
+  pub mark_waits : 0 < b.waiting
+  mark_waits =
+      let w : b.waiting ≡ length (differences b.config wanted) = behind.waiting in
+      let l : length (differences b.config wanted) ≡ suc (length (differences (slice_set b.config a (config_bit wanted a)) wanted)) = ap length first_to_last in
       omega arith
 
-  -- the device has the wanted bit there
-  pub mark_skipped : config_bit b.config a ≡ config_bit wanted a → IsCaughtUp wanted b (record b { marks = slice_set b.marks a false })
-  mark_skipped has = record {
+  -- the bit is sent, and the device is behind by the others
+  pub mark_written : IsCaughtUp wanted b (with_write b a (config_bit wanted a))
+  mark_written = record {
     behind = record {
-      same = behind.same;
+      same = length-set b.config a (config_bit wanted a) ∙ behind.same;
       marks = same_marks ∙ behind.marks;
       marked = λ n d. elim (same_or n a) [
-        | inl e ↦ absurd (false≢true (sym (ap (differs_at b.config wanted) e ∙ xor-same (config_bit b.config a) (config_bit wanted a) has) ∙ d))
-        | inr o ↦ taken_agrees n o ∙ behind.marked n d
+        | inl e ↦ absurd (false≢true (sym (ap (differs_at (slice_set b.config a (config_bit wanted a)) wanted) e ∙ written_fails b.config wanted a (let s : length b.config ≡ length wanted = behind.same in let w : a < length wanted = least_within in omega arith)) ∙ d))
+        | inr o ↦ taken_agrees n o ∙ behind.marked n (sym (written_agrees b.config wanted a (config_bit wanted a) n o) ∙ d)
       ];
-      waiting = behind.waiting;
+      only = λ n m. elim (same_or n a) [
+        | inl e ↦ absurd (false≢true (sym (ap (is_marked (slice_set b.marks a false)) e ∙ taken_fails) ∙ m))
+        | inr o ↦ written_agrees b.config wanted a (config_bit wanted a) n o ∙ behind.only n (sym (taken_agrees n o) ∙ m)
+      ];
+      waiting =
+          let w : b.waiting ≡ length (differences b.config wanted) = behind.waiting in
+          let l : length (differences b.config wanted) ≡ suc (length (differences (slice_set b.config a (config_bit wanted a)) wanted)) = ap length first_to_last in
+          omega arith;
     };
-    fewer = fewer_marks;
-    sent = [];
-    few = omega arith;
-    before = refl;
-    writes = sym (append-nil b.writes);
+    sent = write_of wanted a ∷ [];
+    one = refl;
+    before = first_to_last;
+    writes = refl;
     config = refl;
   }
 
-  -- it has another one, and the wanted one is written
-  module _ (lacks : config_bit b.config a ≡ not (config_bit wanted a)) where
-    -- it differs there
-    differs : differs_at b.config wanted a ≡ true
-    differs = xor-not (config_bit b.config a) (config_bit wanted a) lacks
-
-    -- this is the first difference, and the others are left
-    first_to_last : differences b.config wanted ≡ write_of wanted a ∷ differences (slice_set b.config a (config_bit wanted a)) wanted
-    first_to_last = ap (map (write_of wanted)) (first_is (differs_at b.config wanted) (differs_at (slice_set b.config a (config_bit wanted a)) wanted) a
-        (written_fails b.config wanted a (let s : length b.config ≡ length wanted = behind.same in let w : a < length wanted = least_within in omega arith))
-        (written_agrees b.config wanted a (config_bit wanted a)) differs
-        (λ n l. elim (cases_Bool (differs_at b.config wanted n)) [ inl d ↦ absurd (false≢true (sym (least.least n l) ∙ behind.marked n d)) | inr f ↦ f ])
-        (length wanted) 0 (omega arith) (let w : a < length wanted = least_within in omega arith))
-
-    -- the bit is sent, and the device is behind by the others
-    pub mark_written : IsCaughtUp wanted b (with_write (record b { marks = slice_set b.marks a false }) a (config_bit wanted a))
-    mark_written = record {
-      behind = record {
-        same = length-set b.config a (config_bit wanted a) ∙ behind.same;
-        marks = same_marks ∙ behind.marks;
-        marked = λ n d. elim (same_or n a) [
-          | inl e ↦ absurd (false≢true (sym (ap (differs_at (slice_set b.config a (config_bit wanted a)) wanted) e ∙ written_fails b.config wanted a (let s : length b.config ≡ length wanted = behind.same in let w : a < length wanted = least_within in omega arith)) ∙ d))
-          | inr o ↦ taken_agrees n o ∙ behind.marked n (sym (written_agrees b.config wanted a (config_bit wanted a) n o) ∙ d)
-        ];
-        waiting =
-            let w : b.waiting ≡ length (differences b.config wanted) = behind.waiting in
-            let l : length (differences b.config wanted) ≡ suc (length (differences (slice_set b.config a (config_bit wanted a)) wanted)) = ap length first_to_last in
-            omega arith;
-      };
-      fewer = fewer_marks;
-      sent = write_of wanted a ∷ [];
-      few = omega arith;
-      before = first_to_last;
-      writes = refl;
-      config = refl;
-    }
+  -- the bit that is sent is the other one of the device's
+  pub mark_sent : (bit : Bool) → bit ≡ not (config_bit b.config a) → IsCaughtUp wanted b (with_write b a bit)
+  mark_sent bit is = subst (λ v. IsCaughtUp wanted b (with_write b a v)) (sym (is ∙ wanted_bit)) mark_written
 
 -- what was written is all that may be, where nothing is left or the rate is reached
 pub taken_first : (ws rest all : List Write) (rate : ℕ) → ws ++ rest ≡ all → length ws ≤ rate → (length rest ≡ 0) ⊎ (rate ≤ length ws) → ws ≡ take rate all
 taken_first ws [] all rate e l end = sym (take_all rate ws l) ∙ ap (take rate) (sym (append-nil ws) ∙ e)
 taken_first ws (w ∷ rest) all rate e l (inl none) = absurd (omega arith)
 taken_first ws (w ∷ rest) all rate e l (inr m) = sym (take_at ws (w ∷ rest) rate (omega arith)) ∙ ap (take rate) e
+
+-- one more of the differences is sent
+pub catching_more : (wanted : List Bool) (old now next : BacklogValue) → IsCatchingUp wanted old now → IsCaughtUp wanted now next → IsCatchingUp wanted old next
+catching_more wanted old now next come once = record {
+  behind = once.behind;
+  are =
+      ap (λ ws. ws ++ differences next.config wanted) once.writes
+      ∙ append_assoc now.writes once.sent (differences next.config wanted)
+      ∙ ap (λ ws. now.writes ++ ws) (sym once.before)
+      ∙ come.are;
+  config =
+      once.config
+      ∙ ap (λ (config : List Bool). written config once.sent) come.config
+      ∙ sym (written-append now.writes once.sent old.config)
+      ∙ ap (written old.config) (sym once.writes);
+}

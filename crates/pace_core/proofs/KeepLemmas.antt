@@ -1,5 +1,5 @@
 -- What a pacer keeps, once parameters are asked for or the clock ticks.
-use Rattle.std.proofs.Common.{◌≡◌, ℕ, ◌<◌, ◌≤◌, Bool, false, List, [], length, take, replicate, refl, sym, ap, ◌∙◌, subst, arith}
+use Rattle.std.proofs.Common.{◌≡◌, ℕ, ◌+◌, ◌<◌, ◌≤◌, Bool, false, List, [], length, take, replicate, refl, sym, ap, ◌∙◌, subst, arith}
 use Rattle.std.proofs.lemmas.List.{length-map}
 use Rattle.tl_io.specs.declared.Assign.{Assign}
 use Rattle.tl_io.specs.declared.Write.{Write}
@@ -14,10 +14,12 @@ use Rattle.lut_sim.specs.Sim.{SimValue}
 use Rattle.spec_core.specs.Differences.{differences}
 use Rattle.spec_core.specs.Events.{IsSet}
 use Rattle.spec_core.specs.Specialiser.{SpecialiserValue}
+use Rattle.spec_core.specs.Touched.{IsWithinTouched}
 use Rattle.spec_core.proofs.AssignLemmas.{length-assigned}
 use Rattle.pace_core.specs.Backlog.{BacklogValue, IsBehind, AreTurns}
 use Rattle.pace_core.specs.Keeps.{Keeps}
-use Rattle.pace_core.specs.Pace.{waited, cycled, IsTicked, steps, waits}
+use Rattle.pace_core.specs.Cost.{IsWithinAsk, IsWithinTick}
+use Rattle.pace_core.specs.Pace.{PacerValue, waited, cycled, IsTicked, steps, waits}
 use Rattle.pace_core.specs.Stalls.{HasStalls}
 use Rattle.pace_core.proofs.BacklogLemmas.{behind_nothing}
 use Rattle.pace_core.proofs.DifferenceLemmas.{no_differences}
@@ -33,7 +35,7 @@ conf_once pack params bits others one a b = one.only bits a ∙ sym (one.only ot
 
 -- a pacer is made
 pub made_keeps : (s : SpecialiserValue) (b : BacklogValue) (sim : SimValue) (rate luts depth : ℕ) (pack : PackValue) → s.pack ≡ pack → s.state.params ≡ inits_of pack.params → IsConf pack (inits_of pack.params) s.state.config
-    → ((given : List Bool) → length given ≡ length pack.params → HasOneConf pack given) → b ≡ record { config = s.state.config; marks = replicate (length s.state.config) false; waiting = 0; writes = [] }
+    → ((given : List Bool) → length given ≡ length pack.params → HasOneConf pack given) → b ≡ record { config = s.state.config; marks = replicate (length s.state.config) false; waiting = 0; writes = []; looks = 0 }
     → length pack.bits ≡ sim.template.bits → 1 ≤ rate → luts ≡ length sim.template.luts → depth ≡ sim.template.depth → Keeps s b sim rate luts depth
 made_keeps s b sim rate luts depth pack is params conf one device bits takes luts_are depth_is = record {
   right = subst (λ (p : PackValue). IsConf p s.state.params s.state.config) (sym is) (subst (λ (ps : List Bool). IsConf pack ps s.state.config) (sym params) conf);
@@ -64,13 +66,13 @@ module _ (s : SpecialiserValue) (b : BacklogValue) (sim : SimValue) (rate luts d
   config_right none = subst (IsConf s.pack s.state.params) (sym (no_differences b.config s.state.config keeps.behind.same (sym keeps.behind.waiting ∙ none))) keeps.right
 
   -- so many bits stall the circuit
-  pub keeps_stalls : HasStalls (record { pack = s.pack; params = s.state.params; config = b.config; sim = sim; rate = rate }) b.waiting
-  keeps_stalls = has_stalls (record { pack = s.pack; params = s.state.params; config = b.config; sim = sim; rate = rate }) s.state.config b.waiting keeps.takes only_wanted keeps.behind.same keeps.behind.waiting
+  pub keeps_stalls : HasStalls (record { pack = s.pack; params = s.state.params; config = b.config; sim = sim; rate = rate; looks = s.reads + b.looks }) b.waiting
+  keeps_stalls = has_stalls (record { pack = s.pack; params = s.state.params; config = b.config; sim = sim; rate = rate; looks = s.reads + b.looks }) s.state.config b.waiting keeps.takes only_wanted keeps.behind.same keeps.behind.waiting
 
   -- the clock ticks, and the device isn't behind
   pub tick_steps : (after : SimValue) (values : List Bool) → b.waiting ≡ 0 → IsTableCycle sim.template sim.shape b.config values sim.states after.outputs after.states → IsOnlyTableCycle sim.template sim.shape b.config values sim.states after.outputs after.states
       → after.template ≡ sim.template → after.shape ≡ sim.shape
-      → IsTicked values (record { pack = s.pack; params = s.state.params; config = b.config; sim = sim; rate = rate }) (record { pack = s.pack; params = s.state.params; config = b.config; sim = after; rate = rate }) (cycled after.outputs after.states)
+      → IsTicked values (record { pack = s.pack; params = s.state.params; config = b.config; sim = sim; rate = rate; looks = s.reads + b.looks }) (record { pack = s.pack; params = s.state.params; config = b.config; sim = after; rate = rate; looks = s.reads + b.looks }) (cycled after.outputs after.states)
   tick_steps after values none cycle only template shape = steps (record {
     right = config_right none;
     outputs = after.outputs;
@@ -78,20 +80,33 @@ module _ (s : SpecialiserValue) (b : BacklogValue) (sim : SimValue) (rate luts d
     cycle = cycle;
     only = only;
     shows = refl;
-    becomes = ap (λ (t : TemplateValue). record { pack = s.pack; params = s.state.params; config = b.config; sim = record { template = t; shape = after.shape; outputs = after.outputs; states = after.states }; rate = rate }) template
-        ∙ ap (λ (h : Shape). record { pack = s.pack; params = s.state.params; config = b.config; sim = record { template = sim.template; shape = h; outputs = after.outputs; states = after.states }; rate = rate }) shape;
+    becomes = ap (λ (t : TemplateValue). record { pack = s.pack; params = s.state.params; config = b.config; sim = record { template = t; shape = after.shape; outputs = after.outputs; states = after.states }; rate = rate; looks = s.reads + b.looks }) template
+        ∙ ap (λ (h : Shape). record { pack = s.pack; params = s.state.params; config = b.config; sim = record { template = sim.template; shape = h; outputs = after.outputs; states = after.states }; rate = rate; looks = s.reads + b.looks }) shape;
   })
 
   -- it ticks, and the device is behind
-  pub tick_waits : (config : List Bool) (writes : List Write) (values : List Bool) → 0 < b.waiting → writes ≡ take rate (differences b.config s.state.config) → config ≡ written b.config (take rate (differences b.config s.state.config))
-      → IsTicked values (record { pack = s.pack; params = s.state.params; config = b.config; sim = sim; rate = rate }) (record { pack = s.pack; params = s.state.params; config = config; sim = sim; rate = rate }) (waited writes)
-  tick_waits config writes values some are becomes = waits (record {
+  pub tick_waits : (config : List Bool) (writes : List Write) (looks : ℕ) (values : List Bool) → 0 < b.waiting → writes ≡ take rate (differences b.config s.state.config) → config ≡ written b.config (take rate (differences b.config s.state.config))
+      → IsTicked values (record { pack = s.pack; params = s.state.params; config = b.config; sim = sim; rate = rate; looks = s.reads + b.looks }) (record { pack = s.pack; params = s.state.params; config = config; sim = sim; rate = rate; looks = looks }) (waited writes)
+  tick_waits config writes looks values some are becomes = waits (record {
     wanted = s.state.config;
     conf = keeps.right;
     behind = (let w : b.waiting ≡ length (differences b.config s.state.config) = keeps.behind.waiting in omega arith);
     shows = ap waited are;
-    becomes = ap (λ (c : List Bool). record { pack = s.pack; params = s.state.params; config = c; sim = sim; rate = rate }) becomes;
+    becomes = ap (λ (c : List Bool). record { pack = s.pack; params = s.state.params; config = c; sim = sim; rate = rate; looks = looks }) becomes;
   })
+
+  -- a tick looks at what it writes
+  pub tick_within : (writes : List Write) (start end : ℕ) → writes ≡ take rate (differences b.config s.state.config) → end ≡ start + length writes
+      → IsWithinTick (record { pack = s.pack; params = s.state.params; config = b.config; sim = sim; rate = rate; looks = s.reads + b.looks }) start end
+  tick_within writes start end are cost = record {
+    wanted = s.state.config;
+    conf = keeps.right;
+    addresses = (let e : length writes ≡ length (take rate (differences b.config s.state.config)) = ap length are in omega (arith, cost));
+  }
+
+  -- at a cycle it looks at none
+  pub cycle_within : (start : ℕ) → IsWithinTick (record { pack = s.pack; params = s.state.params; config = b.config; sim = sim; rate = rate; looks = s.reads + b.looks }) start start
+  cycle_within start = record { wanted = s.state.config; conf = keeps.right; addresses = omega arith }
 
   -- Parameters get values.
   module _ (new : SpecialiserValue) (assigns : List Assign) (pack : new.pack ≡ s.pack) (set : IsSet s.pack assigns s.state new.writes new.state)
@@ -111,6 +126,19 @@ module _ (s : SpecialiserValue) (b : BacklogValue) (sim : SimValue) (rate luts d
     -- both have as many bits
     same_lengths : length set.from ≡ length set.to
     same_lengths = conf_length s.pack s.state.params set.from set.before ∙ sym (conf_length s.pack new.state.params set.to set.after)
+
+    -- what an ask looks at
+    pub ask_within : (after : PacerValue) (start middle end : ℕ) → after.params ≡ new.state.params → IsWithinTouched s.pack.graph s.state.params new.state.params start middle → end ≡ middle + length new.writes
+        → IsWithinAsk (record { pack = s.pack; params = s.state.params; config = b.config; sim = sim; rate = rate; looks = s.reads + b.looks }) after start end
+    ask_within after start middle end params nodes cost = record {
+      middle = middle;
+      nodes = subst (λ (ps : List Bool). IsWithinTouched s.pack.graph s.state.params ps start middle) (sym params) nodes;
+      from = set.from;
+      before = set.before;
+      to = set.to;
+      after = subst (λ (ps : List Bool). IsConf s.pack ps set.to) (sym params) set.after;
+      addresses = (let e : length new.writes ≡ length (differences set.from set.to) = ap (λ (ws : List Write). length ws) set.are in omega (arith, cost));
+    }
 
     -- the device is behind the first of them
     behind_from : IsBehind b set.from

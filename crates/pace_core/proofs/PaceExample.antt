@@ -56,7 +56,7 @@ shape = record { regular = 1; params = 1; latches = 0 }
 
 -- the machine under a value of p, with these bits on its device, behind a cycle of this output
 abbrev machine : Bool → List Bool → Bool → PacerValue
-machine p config output = record { pack = pack; params = p ∷ []; config = config; sim = record { template = template; shape = shape; outputs = output ∷ []; states = [] }; rate = 1 }
+machine p config output = record { pack = pack; params = p ∷ []; config = config; sim = record { template = template; shape = shape; outputs = output ∷ []; states = [] }; rate = 1; looks = 0 }
 
 -- p gets a value
 abbrev p_gets : Bool → List Assign

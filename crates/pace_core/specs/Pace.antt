@@ -18,6 +18,8 @@ pub record PacerValue : Type 0 where
   pub sim : SimValue
   -- how many bits the port takes at a tick
   pub rate : ℕ
+  -- how many pairs of the pack were read and addresses looked at since it was made
+  pub looks : ℕ
 
 -- what an event shows: how many bits differ from those that are asked for, the bits that a tick wrote, or a cycle's outputs and the states after it
 pub data Shown : Type 0 where
@@ -31,12 +33,12 @@ shown_line (asked count) = ask_line count
 shown_line (waited writes) = wait_line writes
 shown_line (cycled outputs states) = cycle_line outputs states
 
--- An ask: the values change, and nothing is written.
+-- An ask: the values change, and nothing is written. (What an event looks at is said apart, by its cost.)
 pub record IsAsked (assigns : List Assign) (old new : PacerValue) (shown : Shown) : Type 0 where
   pub wanted : List Bool
   pub conf : IsConf old.pack (assigned old.params assigns) wanted
   pub shows : shown ≡ asked (length (differences old.config wanted))
-  pub becomes : new ≡ record old { params = assigned old.params assigns }
+  pub becomes : new ≡ record old { params = assigned old.params assigns; looks = new.looks }
 
 -- A tick at which the device has the configuration of the values: a cycle of the tables under it, and the only one.
 pub record IsStep (values : List Bool) (old new : PacerValue) (shown : Shown) : Type 0 where
@@ -54,7 +56,7 @@ pub record IsWait (old new : PacerValue) (shown : Shown) : Type 0 where
   pub conf : IsConf old.pack old.params wanted
   pub behind : 0 < length (differences old.config wanted)
   pub shows : shown ≡ waited (take old.rate (differences old.config wanted))
-  pub becomes : new ≡ record old { config = written old.config (take old.rate (differences old.config wanted)) }
+  pub becomes : new ≡ record old { config = written old.config (take old.rate (differences old.config wanted)); looks = new.looks }
 
 pub data IsTicked (values : List Bool) (old new : PacerValue) (shown : Shown) : Type 0 where
   steps : IsStep values old new shown → IsTicked values old new shown

@@ -1,21 +1,24 @@
-//! A device's configuration, and the addresses at which it is behind the configuration that is asked for.
-ghost use Rattle.std.specs.Prelude.{◌≡◌, ◌<◌, ◌≤◌, Bool, not, List, [], length, take, replicate, slice_set, false, IfOk};
+//! The device's configuration, and the addresses at which it differs from the requested configuration.
+ghost use Rattle.std.specs.Prelude.{◌≡◌, ◌+◌, ◌<◌, ◌≤◌, Bool, not, List, [], ◌∷◌, ◌++◌, length, take, replicate, slice_set, false, IfOk};
 ghost use Rattle.tl_io.specs.Writes.{written};
 ghost use Rattle.ppc_pack.specs.declared.pack.TheConstants.{MOST_PACK_BITS};
+ghost use Rattle.lut_sim.specs.Cycle.{IsTableCycle, IsOnlyTableCycle};
 ghost use Rattle.spec_core.specs.Differences.{config_bit, differences};
-ghost use Rattle.pace_core.specs.Backlog.{IsBehind, IsTurn, AreTurns, with_write, IsCaughtUp};
+ghost use Rattle.pace_core.specs.Backlog.{IsBehind, IsLate, IsTurn, AreTurns, IsCaughtUp};
 
-use dirty_idx::Tiers;
+use aig_core::Steps;
+use late_device::LateDevice;
+use lut_sim::Sim;
 use std::alloc::{AllocError, Global};
 use std::marker::Model;
+use std::sync::ledger::Ledger;
 use tl_io::Write;
 
-/// What a device has, marks at the addresses at which it may be behind, how many of them it is behind at, and the writes of the
-/// last tick that waited, with room for one of each address.
+/// A device with a mark at each address at which it is behind, the number of these marks, and the writes of the last tick that
+/// waited. There is room for one write per address.
 #[derive(Drop)]
 pub(crate) struct Backlog {
-    config: Vec<bool>,
-    marks: Tiers,
+    device: LateDevice,
     waiting: u32,
     writes: Vec<Write>,
 }
@@ -26,35 +29,33 @@ impl Model for Backlog {
 
     ghost Value = { BacklogValue };
 
-    ghost view = { λ b. record { config = b.config.items; marks = b.marks; waiting = b.waiting; writes = b.writes.items } };
+    ghost view = { λ b. record { config = b.device.config; marks = b.device.marks; waiting = b.waiting; writes = b.writes.items; looks = b.device.looks } };
 
-    ghost invariant = { λ b. HasRoom b.config.items (vec_capacity b.writes) };
+    ghost invariant = { λ b. HasRoom b.device.config (vec_capacity b.writes) };
 }
 
 impl Backlog {
-    /// A device with this configuration, which is the one that is asked for. `Err` comes only for want of memory, and no other
-    /// call takes any.
+    /// Creates a device that has this configuration, so that it isn't behind.
+    ///
+    /// Returns `Err` only if memory runs out. No other call allocates.
     pub(crate) fn make(alloc: Global, config: &[bool]) -> Result<Backlog, AllocError>
         requires { length config.now ≤ MOST_PACK_BITS }
-        ensures { IfOk result (λ b. b ≡ record { config = config.now; marks = replicate (length config.now) false; waiting = 0; writes = [] }) }
+        ensures { IfOk result (λ b. b ≡ record { config = config.now; marks = replicate (length config.now) false; waiting = 0; writes = []; looks = 0 }) }
     {
-        let marks = Tiers::make(alloc, config.len() as u32)?;
+        let device = LateDevice::make(alloc, config)?;
         let writes = Vec::with_capacity(alloc, config.len())?;
-        let config = Vec::from_slice(alloc, config)?;
         Ok(Backlog {
-            config,
-            marks,
+            device,
             waiting: 0,
             writes,
         })
     }
 
-    /// What the device has.
-    pub(crate) fn config(&self) -> &[bool]
-        ensures value { result.now ≡ self.now.config }
-        ensures few { length self.now.config ≤ MOST_PACK_BITS }
+    /// The number of bits of the device.
+    pub(crate) fn bits(&self) -> u32
+        ensures { result ≡ length self.now.config }
     {
-        &self.config
+        self.device.len()
     }
 
     /// The writes of the last tick that waited.
@@ -64,77 +65,97 @@ impl Backlog {
         &self.writes
     }
 
-    /// At how many addresses the device is behind.
+    /// The number of addresses at which the device is behind.
     pub(crate) fn waiting(&self) -> u32
         ensures { result ≡ self.now.waiting }
     {
         self.waiting
     }
 
-    // The wanted bit at an address turns: the device is behind there now, or no longer.
-    fn turn(&mut self, write: Write)
+    /// Plays a clock cycle of a circuit under the device's configuration.
+    pub(crate) fn cycle(&self, sim: &mut Sim, inputs: &[bool])
+        requires config { length self.now.config ≡ sim.old.template.bits }
+        requires inputs { length inputs.now ≡ sim.old.shape.regular }
+        ensures cycle { IsTableCycle sim.old.template sim.old.shape self.now.config inputs.now sim.old.states sim.new.outputs sim.new.states }
+        ensures only { IsOnlyTableCycle sim.old.template sim.old.shape self.now.config inputs.now sim.old.states sim.new.outputs sim.new.states }
+        ensures template { sim.new.template ≡ sim.old.template }
+        ensures shape { sim.new.shape ≡ sim.old.shape }
+    {
+        self.device.cycle(sim, inputs);
+    }
+
+    // Changes the wanted bit at an address: the device is behind there now, or no longer. It is one look.
+    fn turn<L: Ledger>(&mut self, write: Write, steps: &mut Steps<L>)
         requires { IsTurn self.old write }
         ensures behind { (from : List Bool) → IsBehind self.old from → write.address < length from → config_bit from write.address ≡ not write.bit → IsBehind self.new (slice_set from write.address write.bit) }
         ensures config { self.new.config ≡ self.old.config }
         ensures writes { self.new.writes ≡ self.old.writes }
+        ensures looks { self.new.looks ≡ self.old.looks + 1 }
+        ensures cost { steps.new ≡ steps.old + 1 }
     {
-        if self.config[write.address as usize] == write.bit {
+        let address = write.address;
+        if self.device.is_behind(address, steps) {
+            self.device.unmark(address);
             self.waiting -= 1;
         } else {
-            self.marks.mark(write.address);
+            self.device.mark(address);
             self.waiting += 1;
         }
     }
 
-    /// Another configuration is asked for, which has these bits where it isn't the one that was asked for before.
-    pub(crate) fn ask(&mut self, changed: &[Write])
+    /// Requests another configuration, given by the bits that differ from the one requested before. It looks once at each of their
+    /// addresses.
+    pub(crate) fn ask<L: Ledger>(&mut self, changed: &[Write], steps: &mut Steps<L>)
         requires { AreTurns self.old changed.now }
         ensures behind { (from to : List Bool) → IsBehind self.old from → changed.now ≡ differences from to → length from ≡ length to → IsBehind self.new to }
         ensures config { self.new.config ≡ self.old.config }
         ensures writes { self.new.writes ≡ self.old.writes }
+        ensures looks { self.new.looks ≡ self.old.looks + length changed.now }
+        ensures cost { steps.new ≡ steps.old + length changed.now }
     {
         for write in changed {
-            self.turn(*write);
+            self.turn(*write, steps);
         }
     }
 
-    // Writes the bit at an address at which the device has another one.
-    fn write(&mut self, address: u32, bit: bool)
-        requires address { address < length self.old.config }
-        requires some { 0 < self.old.waiting }
-        requires room { length self.old.writes < length self.old.config }
-        ensures { self.new ≡ with_write self.old address bit }
+    // Appends a write, for which there is room.
+    fn note(&mut self, write: Write)
+        requires { length self.old.writes < length self.old.config }
+        ensures { self.new ≡ record self.old { writes = self.old.writes ++ write ∷ [] } }
     {
-        self.config[address as usize] = bit;
-        self.waiting -= 1;
-        let _ = self.writes.push(Write { address, bit });
+        let _ = self.writes.push(write);
     }
 
-    // Takes the least marked address, and writes its wanted bit where the device has another one.
-    fn catch_up_once(&mut self, wanted: &[bool])
-        requires behind { IsBehind self.old wanted.now }
+    // Sends the wanted bit to the least address at which the device is behind. It is one look.
+    fn catch_up_once<L: Ledger>(&mut self, steps: &mut Steps<L>)
+        requires late { IsLate self.old }
         requires some { 0 < self.old.waiting }
         requires room { length self.old.writes < length self.old.config }
-        ensures { IsCaughtUp wanted.now self.old self.new }
+        ensures caught { (wanted : List Bool) → IsBehind self.old wanted → IsCaughtUp wanted self.old self.new }
+        ensures count { length self.new.writes ≡ length self.old.writes + 1 }
+        ensures fewer { self.new.waiting < self.old.waiting }
+        ensures looks { self.new.looks ≡ self.old.looks + 1 }
+        ensures cost { steps.new ≡ steps.old + 1 }
     {
-        if let Some(address) = self.marks.take_first() {
-            let bit = wanted[address as usize];
-            if self.config[address as usize] != bit {
-                self.write(address, bit);
-            }
+        if let Some(write) = self.device.send(steps) {
+            self.waiting -= 1;
+            self.note(write);
         }
     }
 
-    /// Writes the first bits at which the device is behind, so many of them, or all where they are fewer.
-    pub(crate) fn catch_up(&mut self, wanted: &[bool], rate: u32)
-        requires { IsBehind self.old wanted.now }
-        ensures writes { self.new.writes ≡ take rate (differences self.old.config wanted.now) }
-        ensures config { self.new.config ≡ written self.old.config (take rate (differences self.old.config wanted.now)) }
-        ensures behind { IsBehind self.new wanted.now }
+    /// Writes the first `rate` bits at which the device is behind, or all if there are fewer. It looks once at each of their
+    /// addresses.
+    pub(crate) fn catch_up<L: Ledger>(&mut self, rate: u32, steps: &mut Steps<L>)
+        requires { IsLate self.old }
+        ensures writes { (wanted : List Bool) → IsBehind self.old wanted → self.new.writes ≡ take rate (differences self.old.config wanted) }
+        ensures config { (wanted : List Bool) → IsBehind self.old wanted → self.new.config ≡ written self.old.config (take rate (differences self.old.config wanted)) }
+        ensures behind { (wanted : List Bool) → IsBehind self.old wanted → IsBehind self.new wanted }
+        ensures looks { self.new.looks ≡ self.old.looks + length self.new.writes }
+        ensures cost { steps.new ≡ steps.old + length self.new.writes }
     {
         self.writes.clear();
         while self.waiting > 0 && (self.writes.len() as u64) < rate as u64 {
-            self.catch_up_once(wanted);
+            self.catch_up_once(steps);
         }
     }
 }

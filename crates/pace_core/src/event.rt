@@ -4,8 +4,8 @@ use tl_io::Assign;
 /// An event of a script at a limited rate.
 #[derive(Debug, Drop)]
 pub enum PaceEvent {
-    /// Some parameters get values, each parameter once; nothing is written yet.
+    /// Requests values for some parameters, each parameter at most once. Nothing is written yet.
     Ask(Vec<Assign>),
-    /// The clock ticks, with these values of the regular inputs in their order.
+    /// The clock ticks with these values of the regular inputs, in their order.
     Tick(Vec<bool>),
 }

@@ -16,7 +16,7 @@ use crate::event::PaceEvent;
 use run_text::{Event, Forms, Names, ScriptErr, read_script};
 use std::alloc::{AllocError, Global};
 
-// The event of a line; `None` for a form that has no word.
+// The event of a line, and `None` for a form that has no word.
 fn pace_event(event: Event) -> Option<PaceEvent>
     ensures { option_map (λ (e : PaceEvent). pace_value e) result ≡ pace_of (event_value event) }
 {
@@ -29,10 +29,10 @@ fn pace_event(event: Event) -> Option<PaceEvent>
     }
 }
 
-/// The asks and the ticks among the events of a script, in their order: each set is an ask and each cycle a tick. All events of a
-/// script by the forms of `ask` and `tick` are.
+/// The asks and ticks of a script's events, in their order: each set becomes an ask and each cycle a tick. A script with the words
+/// `ask` and `tick` has no other events.
 ///
-/// `Err` comes only for want of memory.
+/// Returns `Err` only if memory runs out.
 pub fn pace_events(alloc: Global, read: Vec<Event>) -> Result<Vec<PaceEvent>, AllocError>
     ensures { IfOk result (λ events. pace_values events.items ≡ asks_and_ticks (event_values read.items)) }
 {
@@ -45,15 +45,15 @@ pub fn pace_events(alloc: Global, read: Vec<Event>) -> Result<Vec<PaceEvent>, Al
     Ok(events)
 }
 
-/// The events of a script at a limited rate, a line for each: `ask` and words `NAME=BIT`, or `tick` and a string of a `0` or `1` for
-/// each regular input, or `-`. Each event fits what may be named. The names of the parameters differ.
+/// Reads a script at a limited rate. Each line is an event: `ask` with words `NAME=BIT`, or `tick` with a string of one `0` or
+/// `1` for each regular input, or `-`. Each event fits the names that are given. The names of the parameters differ.
 ///
-/// It takes time and memory linear in the text and in the names of the parameters, on average over the hashes.
+/// Time and memory are linear in the text and in the names of the parameters, on average over the hashes.
 ///
 /// # Errors
-/// The text's first refusal, as [`read_script`] has it: T1 and T2 of its physical lines, else L7, S1, S2, S3 or S4 of the first
-/// logical line that has one; `Memory` where there is none. A text is one script at most, or has one refusal at most, and never
-/// both.
+/// The text's first refusal, as [`read_script`] reports it: T1 and T2 of its physical lines, and otherwise L7, S1, S2, S3 or S4 of
+/// the first logical line that has one. `Memory` if memory runs out. A text is at most one script, or has at most one refusal, and
+/// never both.
 pub fn read_pace(alloc: Global, text: &[u8], names: &Names) -> Result<Vec<PaceEvent>, ScriptErr>
     requires forms { names.now.forms ≡ Forms.Pace }
     requires short { length text.now ≤ MOST_BYTES }

@@ -1,33 +1,31 @@
-use Rattle.std.proofs.Common.{◌++◌, Bool, List, length, sym, ap, ◌∙◌, arith, length-append, append_assoc}
-use Rattle.tl_io.specs.Writes.{written}
+use Rattle.std.proofs.Common.{length, ap, arith, length-append}
 use Rattle.spec_core.specs.Differences.{differences}
 use Rattle.pace_core.specs.Backlog.{BacklogValue}
-use Rattle.pace_core.proofs.DifferenceLemmas.{differences_few, written-append}
+use Rattle.pace_core.proofs.BacklogLemmas.{catching_more}
+use Rattle.pace_core.proofs.DifferenceLemmas.{differences_few}
 use Rattle.pace_core.proofs.backlog.Backlog.catch_up.Goals as goal
 
 pub catch_up_once-requires-clause-room : goal.catch_up_once-requires-clause-room
-catch_up_once-requires-clause-room c =
-    let all = ap length c.loop-self.invariant.are in
-    let parts = length-append c.loop-self.self.writes (differences c.loop-self.self.config c.args.wanted.now) in
-    let few = differences_few c.args.self.now.config c.args.wanted.now in
+catch_up_once-requires-clause-room g c =
+    let wanted = c.requires.wanted in
+    let come = c.loop-self.invariant.come wanted c.requires.behind in
+    let all = ap length come.are in
+    let parts = length-append c.loop-self.self.writes (differences c.loop-self.self.config wanted) in
+    let few = differences_few c.args.self.now.config wanted in
     let waits = ap (λ (b : BacklogValue). b.waiting) c.self-in-loop-self.view_is in
-    omega (arith, all, parts, few, waits, c.loop-self.invariant.behind.same, c.loop-self.invariant.behind.waiting, c.loop-self-test.true)
+    omega (arith, all, parts, few, waits, come.behind.same, come.behind.waiting, c.loop-self-test.true)
 
 pub loop-self-preserved : goal.loop-self-preserved
-loop-self-preserved c =
+loop-self-preserved g c =
     let once = c.catch_up_once.ensures in
+    let wanted = c.requires.wanted in
     let count = ap (λ (b : BacklogValue). length b.writes) c.self-in-loop-self.view_is in
     record {
-      behind = once.behind;
-      are =
-          ap (λ ws. ws ++ differences c.catch_up_once.new.self.config c.args.wanted.now) once.writes
-          ∙ append_assoc c.loop-self.self.writes once.sent (differences c.catch_up_once.new.self.config c.args.wanted.now)
-          ∙ ap (λ ws. c.loop-self.self.writes ++ ws) (sym once.before)
-          ∙ c.loop-self.invariant.are;
-      config =
-          once.config
-          ∙ ap (λ (config : List Bool). written config once.sent) c.loop-self.invariant.config
-          ∙ sym (written-append c.loop-self.self.writes once.sent c.args.self.now.config)
-          ∙ ap (written c.args.self.now.config) (sym once.writes);
-      few = (let l = ap length once.writes in omega (arith, l, length-append c.loop-self.self.writes once.sent, once.few, count, c.self-in-loop-self.inside.writes.ok.0, c.if-len-rate.true, c.len.ensures));
+      late = record { wanted = wanted; behind = (once.caught wanted (c.loop-self.invariant.come wanted c.requires.behind).behind).behind };
+      come = λ others is.
+          let come = c.loop-self.invariant.come others is in
+          catching_more others c.args.self.now c.loop-self.self c.catch_up_once.new.self come (once.caught others come.behind);
+      few = omega (arith, once.count, count, c.self-in-loop-self.inside.writes.ok.0, c.if-len-rate.true, c.len.ensures);
+      looks = omega (arith, once.count, once.looks, c.loop-self.invariant.looks);
+      cost = omega (arith, once.count, once.cost, c.loop-self.invariant.cost);
     }

@@ -1,37 +1,48 @@
-use Rattle.std.proofs.Common.{◌≡◌, Bool, false, not, List, sym, ap, ◌∙◌, subst, arith}
-use Rattle.std.proofs.lemmas.List.{get_or_read}
-use Rattle.spec_core.specs.Differences.{config_bit}
-use Rattle.pace_core.specs.Backlog.{BacklogValue, IsBehind, with_write, IsCaughtUp}
-use Rattle.pace_core.proofs.BacklogLemmas.{bits_apart, bits_meet, empty_waits, least_within, mark_skipped, mark_written}
+use Rattle.std.proofs.Common.{◌≡◌, ◌<◌, ◌-◌, ◌++◌, [], ◌∷◌, length, sym, ap, subst, arith}
+use Rattle.std.proofs.lemmas.List.{length-set}
+use Rattle.late_device.specs.Late.{LateValue}
+use Rattle.pace_core.specs.Backlog.{BacklogValue, IsBehind, IsCaughtUp}
+use Rattle.pace_core.proofs.BacklogLemmas.{empty_waits, mark_sent}
 use Rattle.pace_core.proofs.backlog.Backlog.catch_up_once.Goals as goal
 
-pub returns-then-index-bit : goal.returns-then-index-bit
-returns-then-index-bit c =
-    let b : BacklogValue = record { config = c.self.inside.config.items; marks = c.self.inside.marks; waiting = c.self.inside.waiting; writes = c.self.inside.writes.items } in
-    let behind : IsBehind b c.args.wanted.now = subst (λ (v : BacklogValue). IsBehind v c.args.wanted.now) (sym c.self.view_is) c.requires.behind in
-    let within = least_within b c.args.wanted.now behind c.in-Some.address c.in-Some.ensures.least in
-    let lacks : config_bit b.config c.in-Some.address ≡ not (config_bit c.args.wanted.now c.in-Some.address) =
-    sym (get_or_read b.config c.in-Some.address c.index.result.now (omega (arith, within, behind.same)) c.index.ensures false) ∙ bits_apart c.index.result.now (config_bit c.args.wanted.now c.in-Some.address) c.if-index-bit.true in
-    subst (λ (new : BacklogValue). IsCaughtUp c.args.wanted.now c.args.self.now new) (sym c.write.ensures)
-    (subst (λ (old : BacklogValue). IsCaughtUp c.args.wanted.now old (with_write (record b { marks = c.take_first.new.self }) c.in-Some.address (config_bit c.args.wanted.now c.in-Some.address))) c.self.view_is
-    (subst (λ (marks : List Bool). IsCaughtUp c.args.wanted.now b (with_write (record b { marks = marks }) c.in-Some.address (config_bit c.args.wanted.now c.in-Some.address))) (sym c.in-Some.ensures.rest)
-    (mark_written b c.args.wanted.now behind c.in-Some.address c.in-Some.ensures.least lacks)))
+pub note-requires : goal.note-requires
+note-requires g c =
+    let write = c.in-Some.write in
+    let long = length-set c.self.inside.device.config write.address write.bit in
+    let writes = ap (λ (v : BacklogValue). length v.writes) c.self.view_is in
+    let config = ap (λ (v : BacklogValue). length v.config) c.self.view_is in
+    subst (λ (d : LateValue). length c.self.inside.writes.items < length d.config) (sym c.in-Some.ensures.device) (omega (arith, long, writes, config, c.requires.room))
 
-pub returns-else-index-bit : goal.returns-else-index-bit
-returns-else-index-bit c =
-    let b : BacklogValue = record { config = c.self.inside.config.items; marks = c.self.inside.marks; waiting = c.self.inside.waiting; writes = c.self.inside.writes.items } in
-    let behind : IsBehind b c.args.wanted.now = subst (λ (v : BacklogValue). IsBehind v c.args.wanted.now) (sym c.self.view_is) c.requires.behind in
-    let within = least_within b c.args.wanted.now behind c.in-Some.address c.in-Some.ensures.least in
-    let has : config_bit b.config c.in-Some.address ≡ config_bit c.args.wanted.now c.in-Some.address =
-    sym (get_or_read b.config c.in-Some.address c.index.result.now (omega (arith, within, behind.same)) c.index.ensures false) ∙ bits_meet c.index.result.now (config_bit c.args.wanted.now c.in-Some.address) c.if-index-bit.false in
-    subst (λ (old : BacklogValue). IsCaughtUp c.args.wanted.now old (record b { marks = c.take_first.new.self })) c.self.view_is
-    (subst (λ (marks : List Bool). IsCaughtUp c.args.wanted.now b (record b { marks = marks })) (sym c.in-Some.ensures.rest)
-    (mark_skipped b c.args.wanted.now behind c.in-Some.address c.in-Some.ensures.least has))
+pub returns-in-Some-clause-caught : goal.returns-in-Some-clause-caught
+returns-in-Some-clause-caught g c = λ wanted is.
+    let b : BacklogValue = record { config = c.self.inside.device.config; marks = c.self.inside.device.marks; waiting = c.self.inside.waiting; writes = c.self.inside.writes.items; looks = c.self.inside.device.looks } in
+    let behind : IsBehind b wanted = subst (λ (v : BacklogValue). IsBehind v wanted) (sym c.self.view_is) is in
+    let write = c.in-Some.write in
+    subst (λ (new : BacklogValue). IsCaughtUp wanted c.args.self.now new) (sym c.note.ensures)
+    (subst (λ (old : BacklogValue). IsCaughtUp wanted old (record { config = c.send.new.self.config; marks = c.send.new.self.marks; waiting = b.waiting - 1; writes = b.writes ++ write ∷ []; looks = c.send.new.self.looks })) c.self.view_is
+    (subst (λ (d : LateValue). IsCaughtUp wanted b (record { config = d.config; marks = d.marks; waiting = b.waiting - 1; writes = b.writes ++ write ∷ []; looks = d.looks })) (sym c.in-Some.ensures.device)
+    (mark_sent b wanted behind write.address c.in-Some.ensures.least write.bit c.in-Some.ensures.bit)))
 
-pub returns-in_default : goal.returns-in_default
-returns-in_default c =
-    let b : BacklogValue = record { config = c.self.inside.config.items; marks = c.self.inside.marks; waiting = c.self.inside.waiting; writes = c.self.inside.writes.items } in
-    let behind : IsBehind b c.args.wanted.now = subst (λ (v : BacklogValue). IsBehind v c.args.wanted.now) (sym c.self.view_is) c.requires.behind in
-    let none : b.waiting ≡ 0 = empty_waits b c.args.wanted.now behind c.in_default.ensures.least in
+pub returns-in_default-clause-caught : goal.returns-in_default-clause-caught
+returns-in_default-clause-caught g c = λ wanted is.
+    let b : BacklogValue = record { config = c.self.inside.device.config; marks = c.self.inside.device.marks; waiting = c.self.inside.waiting; writes = c.self.inside.writes.items; looks = c.self.inside.device.looks } in
+    let behind : IsBehind b c.requires.late.wanted = subst (λ (v : BacklogValue). IsBehind v c.requires.late.wanted) (sym c.self.view_is) c.requires.late.behind in
+    let none : b.waiting ≡ 0 = empty_waits b c.requires.late.wanted behind c.in_default.ensures.least in
+    let seen : b.waiting ≡ c.args.self.now.waiting = ap (λ (v : BacklogValue). v.waiting) c.self.view_is in
+    absurd (omega (arith, c.requires.some))
+
+pub returns-in_default-clause-count : goal.returns-in_default-clause-count
+returns-in_default-clause-count g c =
+    let b : BacklogValue = record { config = c.self.inside.device.config; marks = c.self.inside.device.marks; waiting = c.self.inside.waiting; writes = c.self.inside.writes.items; looks = c.self.inside.device.looks } in
+    let behind : IsBehind b c.requires.late.wanted = subst (λ (v : BacklogValue). IsBehind v c.requires.late.wanted) (sym c.self.view_is) c.requires.late.behind in
+    let none : b.waiting ≡ 0 = empty_waits b c.requires.late.wanted behind c.in_default.ensures.least in
+    let seen : b.waiting ≡ c.args.self.now.waiting = ap (λ (v : BacklogValue). v.waiting) c.self.view_is in
+    absurd (omega (arith, c.requires.some))
+
+pub returns-in_default-clause-fewer : goal.returns-in_default-clause-fewer
+returns-in_default-clause-fewer g c =
+    let b : BacklogValue = record { config = c.self.inside.device.config; marks = c.self.inside.device.marks; waiting = c.self.inside.waiting; writes = c.self.inside.writes.items; looks = c.self.inside.device.looks } in
+    let behind : IsBehind b c.requires.late.wanted = subst (λ (v : BacklogValue). IsBehind v c.requires.late.wanted) (sym c.self.view_is) c.requires.late.behind in
+    let none : b.waiting ≡ 0 = empty_waits b c.requires.late.wanted behind c.in_default.ensures.least in
     let seen : b.waiting ≡ c.args.self.now.waiting = ap (λ (v : BacklogValue). v.waiting) c.self.view_is in
     absurd (omega (arith, c.requires.some))

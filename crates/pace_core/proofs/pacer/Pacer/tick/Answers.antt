@@ -1,36 +1,48 @@
-use Rattle.std.proofs.Common.{◌<◌, Bool, List, take, sym, ap, ◌∙◌, subst, arith}
-use Rattle.tl_io.specs.Writes.{written}
-use Rattle.spec_core.specs.Differences.{differences}
-use Rattle.lut_sim.specs.Cycle.{IsTableCycle, IsOnlyTableCycle}
+use Rattle.std.proofs.Common.{◌<◌, ◌+◌, sym, ap, ◌∙◌, subst, arith}
+use Rattle.pace_core.specs.Cost.{IsWithinTick}
 use Rattle.pace_core.specs.Pace.{PacerValue, IsTicked, waited, cycled}
-use Rattle.pace_core.proofs.KeepLemmas.{tick_steps, tick_waits}
+use Rattle.pace_core.proofs.KeepLemmas.{tick_steps, tick_waits, tick_within, cycle_within}
 use Rattle.pace_core.proofs.pacer.Pacer.tick.Goals as goal
 
-pub returns-then-waiting-eq0 : goal.returns-then-waiting-eq0
-returns-then-waiting-eq0 g c =
+pub catch_up-requires : goal.catch_up-requires
+catch_up-requires g c = record { wanted = c.self.inside.specialiser.state.config; behind = c.self.invariant.behind }
+
+pub returns-then-waiting-eq0-clause-ticked : goal.returns-then-waiting-eq0-clause-ticked
+returns-then-waiting-eq0-clause-ticked g c =
     let s = c.self.inside.specialiser in
     let b = c.self.inside.backlog in
     let sim = c.self.inside.sim in
-    let after = c.cycle.new.self in
-    let cycle = subst (λ (config : List Bool). IsTableCycle sim.template sim.shape config c.args.values.now sim.states after.outputs after.states) c.config.ensures.value c.cycle.ensures.cycle in
-    let only = subst (λ (config : List Bool). IsOnlyTableCycle sim.template sim.shape config c.args.values.now sim.states after.outputs after.states) c.config.ensures.value c.cycle.ensures.only in
-    let ticked = tick_steps s b sim c.self.inside.rate c.self.inside.luts c.self.inside.depth c.self.invariant after c.args.values.now (sym c.waiting.ensures ∙ c.if-waiting-eq0.true) cycle only c.cycle.ensures.template c.cycle.ensures.shape in (
+    let after = c.cycle.new.sim in
+    let ticked = tick_steps s b sim c.self.inside.rate c.self.inside.luts c.self.inside.depth c.self.invariant after c.args.values.now (sym c.waiting.ensures ∙ c.if-waiting-eq0.true) c.cycle.ensures.cycle c.cycle.ensures.only c.cycle.ensures.template c.cycle.ensures.shape in (
       cycled c.outputs.result.now c.states.result.now,
-      rw (c.outputs.ensures.value, c.states.ensures.value) (subst (λ (old : PacerValue). IsTicked c.args.values.now old (record { pack = s.pack; params = s.state.params; config = b.config; sim = after; rate = c.self.inside.rate }) (cycled after.outputs after.states)) c.self.view_is ticked),
+      rw (c.outputs.ensures.value, c.states.ensures.value) (subst (λ (old : PacerValue). IsTicked c.args.values.now old (record { pack = s.pack; params = s.state.params; config = b.config; sim = after; rate = c.self.inside.rate; looks = s.reads + b.looks }) (cycled after.outputs after.states)) c.self.view_is ticked),
       c.put_cycle.ensures,
     )
 
-pub returns-else-waiting-eq0 : goal.returns-else-waiting-eq0
-returns-else-waiting-eq0 g c =
+pub returns-then-waiting-eq0-clause-cost : goal.returns-then-waiting-eq0-clause-cost
+returns-then-waiting-eq0-clause-cost g c = subst (λ (old : PacerValue). IsWithinTick old c.args.steps.now c.args.steps.now) c.self.view_is
+    (cycle_within c.self.inside.specialiser c.self.inside.backlog c.self.inside.sim c.self.inside.rate c.self.inside.luts c.self.inside.depth c.self.invariant c.args.steps.now)
+
+pub returns-else-waiting-eq0-clause-ticked : goal.returns-else-waiting-eq0-clause-ticked
+returns-else-waiting-eq0-clause-ticked g c =
     let s = c.self.inside.specialiser in
     let b = c.self.inside.backlog in
-    let wanted = c.image.ensures.value in
     let rate = c.self.inside.rate in
     let some : 0 < b.waiting = omega (arith, c.waiting.ensures, c.if-waiting-eq0.false) in
-    let writes = c.writes.ensures ∙ c.catch_up.ensures.writes ∙ ap (λ (config : List Bool). take rate (differences b.config config)) wanted in
-    let config = c.catch_up.ensures.config ∙ ap (λ (to : List Bool). written b.config (take rate (differences b.config to))) wanted in (
+    let writes = c.writes.ensures ∙ c.catch_up.ensures.writes s.state.config c.self.invariant.behind in
+    let config = c.catch_up.ensures.config s.state.config c.self.invariant.behind in (
       waited c.writes.result.now,
-      subst (λ (old : PacerValue). IsTicked c.args.values.now old (record { pack = s.pack; params = s.state.params; config = c.catch_up.new.self.config; sim = c.self.inside.sim; rate = rate }) (waited c.writes.result.now)) c.self.view_is
-          (tick_waits s b c.self.inside.sim rate c.self.inside.luts c.self.inside.depth c.self.invariant c.catch_up.new.self.config c.writes.result.now c.args.values.now some writes config),
+      subst (λ (old : PacerValue). IsTicked c.args.values.now old (record { pack = s.pack; params = s.state.params; config = c.catch_up.new.self.config; sim = c.self.inside.sim; rate = rate; looks = s.reads + c.catch_up.new.self.looks }) (waited c.writes.result.now)) c.self.view_is
+          (tick_waits s b c.self.inside.sim rate c.self.inside.luts c.self.inside.depth c.self.invariant c.catch_up.new.self.config c.writes.result.now (s.reads + c.catch_up.new.self.looks) c.args.values.now some writes config),
       c.put_wait.ensures,
     )
+
+pub returns-else-waiting-eq0-clause-cost : goal.returns-else-waiting-eq0-clause-cost
+returns-else-waiting-eq0-clause-cost g c = subst (λ (old : PacerValue). IsWithinTick old c.args.steps.now c.catch_up.new.steps) c.self.view_is
+    (tick_within c.self.inside.specialiser c.self.inside.backlog c.self.inside.sim c.self.inside.rate c.self.inside.luts c.self.inside.depth c.self.invariant
+    c.catch_up.new.self.writes c.args.steps.now c.catch_up.new.steps (c.catch_up.ensures.writes c.self.inside.specialiser.state.config c.self.invariant.behind) c.catch_up.ensures.cost)
+
+pub returns-else-waiting-eq0-clause-counted : goal.returns-else-waiting-eq0-clause-counted
+returns-else-waiting-eq0-clause-counted g c =
+    let was = ap (λ (p : PacerValue). p.looks) c.self.view_is in
+    omega (arith, was, c.catch_up.ensures.looks, c.catch_up.ensures.cost)

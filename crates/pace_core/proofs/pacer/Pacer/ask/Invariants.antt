@@ -1,4 +1,0 @@
-use Rattle.pace_core.proofs.pacer.Pacer.ask.Given as goal
-
-abbrev pub ghosts-change_with : goal.ghosts-change_with
-ghosts-change_with a = record { name = a.blank.name; parts = a.blank.parts }
