@@ -1,5 +1,5 @@
 -- A job that is done shows its source circuit, mapped with the least depth.
-use Rattle.std.proofs.Common.{◌≡◌, ℕ, ◌≤◌, ◌∷◌, map, ap, ◌∙◌, subst}
+use Rattle.std.proofs.Common.{◌≡◌, ℕ, ◌≤◌, ◌∷◌, map, refl, ap, ◌∙◌, subst}
 use Rattle.std.specs.List.{concat}
 use Rattle.tl_io.specs.Content.{extended}
 use Rattle.tl_io.specs.Shelf.{Files}
@@ -13,11 +13,11 @@ use Rattle.cmd_stations.specs.Mapped.{template_header}
 use Rattle.cmd_stations.proofs.GraphLemmas.{same_graph}
 use Rattle.cmd_stations.proofs.InitLemmas.{init_count, init_params}
 use Rattle.cmd_pace.specs.Ends.{IsAllPaced, HasPace}
-use Rattle.cmd_pace.specs.Headline.{IsFirst, ShowAll, HasPaceHeadline}
+use Rattle.cmd_pace.specs.Headline.{stage_of, IsFirst, ShowAll, HasPaceHeadline}
 use Rattle.cmd_pace.specs.Job.{PaceJob, IsPaceStart}
 use Rattle.cmd_pace.specs.Words.{PaceWords}
 use Rattle.cmd_pace.proofs.FitLemmas.{script_fits}
-use Rattle.cmd_pace.proofs.ShownLemmas.{IsKept, stage_of, all_shown}
+use Rattle.cmd_pace.proofs.ShownLemmas.{IsKept, all_shown}
 use Rattle.cmd_pace.proofs.SteadyLemmas.{start_steady, stalls_anywhere}
 
 -- a machine at the start
@@ -62,5 +62,11 @@ pace_headline files words old new takes done =
           (script_fits job.source job.template.bits is.script.text done.is_job.read job.events is.script.is done.is_job.events));
       pacer = done.pacer;
       start = start;
+      first_is = refl;
+      shown = end.shown;
+      last = end.end;
+      played = end.are;
+      lines_are = refl;
+      end_is = refl;
       stalls = stalls_anywhere done.pacer.pack words.rate done.pacer takes start.one_config kept.steady;
     }

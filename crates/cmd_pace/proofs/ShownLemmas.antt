@@ -6,7 +6,7 @@ use Rattle.tl_io.specs.Assigns.{assigned}
 use Rattle.tl_io.specs.Writes.{written}
 use Rattle.tl_io.specs.declared.Assign.{Assign}
 use Rattle.cover_pick.specs.Template.{TemplateValue}
-use Rattle.lut_sim.specs.Cycle.{IsOnlyTableCycle}
+use Rattle.lut_sim.specs.Cycle.{IsTableCycle, IsOnlyTableCycle}
 use Rattle.lut_sim.specs.declared.shape.Shape.{Shape}
 use Rattle.ppc_pack.specs.Pack.{PackValue, IsConf}
 use Rattle.bit_fun.specs.Configuration.{IsConfiguration}
@@ -21,13 +21,9 @@ use Rattle.cmd_stations.specs.SourceCircuit.{width_of, shape_of}
 use Rattle.cmd_stations.specs.SourceCycle.{IsSourceCycle}
 use Rattle.cmd_stations.specs.Tunable.{IsTunable}
 use Rattle.cmd_stations.proofs.InitLemmas.{cycle_count, param_count}
-use Rattle.cmd_pace.specs.Headline.{Stage, ShowsAsk, ShowsStep, ShowsWait, ShowsTick, Shows, ShowAll, none, more}
+use Rattle.cmd_pace.specs.Headline.{Stage, stage_of, ShowsAsk, ShowsStep, ShowsWait, ShowsTick, Shows, ShowAll, none, more}
 use Rattle.cmd_pace.specs.Headline as headline
 use Rattle.cmd_pace.proofs.SteadyLemmas.{IsSteady, paced_steady}
-
--- what a machine shows
-abbrev pub stage_of : PacerValue → Stage
-stage_of p = record { params = p.params; config = p.config; states = p.sim.states }
 
 module _ (source : Source) (template : TemplateValue) (rate : ℕ) (pack : PackValue) (tunable : IsTunable source template pack) where
   -- a machine of the pack and the tables
@@ -49,11 +45,13 @@ module _ (source : Source) (template : TemplateValue) (rate : ℕ) (pack : PackV
     becomes = ap stage_of is.becomes;
   }
 
-  -- the tables that a step plays
+  -- what holds of its tables holds of these
+  of_tables : (Holds : TemplateValue → Shape → Type 0) (p : PacerValue) → IsKept p → Holds p.sim.template p.sim.shape → Holds template (shape_of source)
+  of_tables Holds p kept holds = subst (λ (t : TemplateValue). Holds t (shape_of source)) kept.template_is (subst (λ (f : Shape). Holds p.sim.template f) kept.shape_is holds)
+
+  -- no other values than those that a step plays fit the tables
   step_plays : (values : List Bool) (old new : PacerValue) (one : Shown) → IsKept old → (s : IsStep values old new one) → IsOnlyTableCycle template (shape_of source) old.config values old.sim.states s.outputs s.states
-  step_plays values old new one kept s =
-      subst (λ (t : TemplateValue). IsOnlyTableCycle t (shape_of source) old.config values old.sim.states s.outputs s.states) kept.template_is
-      (subst (λ (f : Shape). IsOnlyTableCycle old.sim.template f old.config values old.sim.states s.outputs s.states) kept.shape_is s.only)
+  step_plays values old new one kept s = of_tables (λ (t : TemplateValue) (f : Shape). IsOnlyTableCycle t f old.config values old.sim.states s.outputs s.states) old kept s.only
 
   -- are the source circuit
   step_cycle : (values : List Bool) (old new : PacerValue) (one : Shown) → length values ≡ width_of source → IsKept old → (s : IsStep values old new one) → IsSourceCycle source old.params values old.sim.states s.outputs s.states
@@ -66,6 +64,7 @@ module _ (source : Source) (template : TemplateValue) (rate : ℕ) (pack : PackV
       subst (λ (p : PacerValue). ShowsStep source tunable.graph template rate values (stage_of old) (shown_line one) (stage_of p)) (sym s.becomes) (record {
         is = config_is old old.params old.config kept kept.steady.params s.right;
         outputs = s.outputs;
+        is_play = of_tables (λ (t : TemplateValue) (f : Shape). IsTableCycle t f old.config values old.sim.states s.outputs s.states) old kept s.cycle;
         plays = step_plays values old new one kept s;
         cycle = step_cycle values old new one fits kept s;
         line_is = ap shown_line s.shows;

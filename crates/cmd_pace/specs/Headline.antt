@@ -1,5 +1,5 @@
 -- The headline of `pace`, in the field's words: whatever asks and ticks come, a tick writes at most as many bits as the port takes, and the circuit steps only where the device has the configuration that is specialised from scratch for the values that were asked for last; so each step is a cycle of the source circuit under these values.
-use Rattle.std.specs.Prelude.{◌≡◌, ℕ, ◌≤◌, ◌<◌, Bool, List, [], ◌∷◌, length, take}
+use Rattle.std.specs.Prelude.{◌≡◌, ℕ, ◌≤◌, ◌<◌, Bool, List, [], ◌∷◌, length, map, take}
 use Rattle.std.specs.List.{concat}
 use Rattle.tl_io.specs.Assigns.{assigned}
 use Rattle.tl_io.specs.Content.{extended}
@@ -8,14 +8,14 @@ use Rattle.tl_io.specs.Writes.{written}
 use Rattle.aig_core.specs.Aig.{Aig}
 use Rattle.cover_pick.specs.Template.{TemplateValue}
 use Rattle.netlist.specs.Sound.{IsSound}
-use Rattle.lut_sim.specs.Cycle.{IsOnlyTableCycle}
+use Rattle.lut_sim.specs.Cycle.{IsTableCycle, IsOnlyTableCycle}
 use Rattle.bit_fun.specs.Configuration.{IsConfiguration}
 use Rattle.param_list.specs.Parameters.{param_inits}
 use Rattle.ppc_pack.specs.Pack.{IsConf}
 use Rattle.run_text.specs.Lines.{cycle_line, ask_line, wait_line}
 use Rattle.spec_core.specs.Differences.{differences}
 use Rattle.pace_core.specs.EventValue.{PaceValue, Ask, Tick}
-use Rattle.pace_core.specs.Pace.{PacerValue, Shown, ArePaced}
+use Rattle.pace_core.specs.Pace.{PacerValue, Shown, shown_line, ArePaced}
 use Rattle.pace_core.specs.Stalls.{HasStalls}
 use Rattle.cmd_base.specs.Outside.{Outside}
 use Rattle.cmd_stations.specs.declared.source.Source.{Source}
@@ -31,6 +31,10 @@ pub record Stage : Type 0 where
   pub config : List Bool
   pub states : List Bool
 
+-- what a machine shows of it
+abbrev pub stage_of : PacerValue → Stage
+stage_of p = record { params = p.params; config = p.config; states = p.sim.states }
+
 module _ (source : Source) (g : Aig) (template : TemplateValue) (rate : ℕ) where
   -- An ask: its line tells at how many addresses the device's configuration differs from the one specialised from scratch for the new values; nothing is written, and no state changes.
   pub record ShowsAsk (asked : List Bool) (old : Stage) (line : List ℕ) (new : Stage) : Type 0 where
@@ -39,10 +43,11 @@ module _ (source : Source) (g : Aig) (template : TemplateValue) (rate : ℕ) whe
     pub line_is : line ≡ ask_line (length (differences old.config wanted))
     pub becomes : new ≡ record old { params = asked }
 
-  -- A tick that steps: the device has the configuration specialised from scratch for the values that were asked for last, and the outputs and the states are those of the source circuit's cycle under them.
+  -- A tick that steps: the device has the configuration specialised from scratch for the values that were asked for last; the tables under it are played, and no other values fit them; the outputs and the states are those of the source circuit's cycle under the values that were asked for.
   pub record ShowsStep (values : List Bool) (old : Stage) (line : List ℕ) (new : Stage) : Type 0 where
     pub is : IsConfiguration g template.luts old.params old.config
     pub outputs : List Bool
+    pub is_play : IsTableCycle template (shape_of source) old.config values old.states outputs new.states
     pub plays : IsOnlyTableCycle template (shape_of source) old.config values old.states outputs new.states
     pub cycle : IsSourceCycle source old.params values old.states outputs new.states
     pub line_is : line ≡ cycle_line outputs new.states
@@ -81,7 +86,7 @@ module _ (source : Source) (g : Aig) (template : TemplateValue) (rate : ℕ) whe
 abbrev pub StallsAnywhere : PacerValue → Type 0
 StallsAnywhere pacer = (events : List PaceValue) (shown : List Shown) (mid : PacerValue) → ArePaced pacer events shown mid → (wanted : List Bool) → IsConf mid.pack mid.params wanted → HasStalls mid (length (differences mid.config wanted))
 
--- A job that is done shows its source circuit, by the chosen template of this netlist, list, K and rule, which is mapped with the least depth.
+-- A job that is done shows its source circuit, by the chosen template of this netlist, list, K and rule, which is mapped with the least depth. The lines are those of a machine at the start of this job that played its events; of this machine it is said how long it waits.
 pub record HasPaceHeadline (files : Files) (words : PaceWords) (old new : Outside) : Type 0 where
   pub job : PaceJob
   pub is_job : IsPaceJob files words job
@@ -95,4 +100,10 @@ pub record HasPaceHeadline (files : Files) (words : PaceWords) (old new : Outsid
   pub shows : ShowAll job.source is_job.is.mapped.mapped.graph job.template words.rate first job.events lines end
   pub pacer : PacerValue
   pub start : IsPaceStart job words.rate pacer
+  pub first_is : first ≡ stage_of pacer
+  pub shown : List Shown
+  pub last : PacerValue
+  pub played : ArePaced pacer job.events shown last
+  pub lines_are : lines ≡ map shown_line shown
+  pub end_is : end ≡ stage_of last
   pub stalls : StallsAnywhere pacer

@@ -14,7 +14,7 @@ use cmd_base::Outcome;
 use std::alloc::Global;
 use tl_io::{Shelf, Sink};
 
-/// Runs the command: maps a source circuit, and plays a script of asks and ticks on it.
+/// Runs the command: maps a source circuit and plays a script of asks and ticks on it.
 pub fn pace_job<S: Shelf, O: Sink>(
     alloc: Global,
     words: &PaceWords,

@@ -1,7 +1,7 @@
-//! The command `pace`: a source circuit is mapped, and a script of asks and ticks is played on it, where the configuration port takes so
-//! many bits a tick.
+//! The command `pace`: it maps a source circuit and plays a script of asks and ticks on it, with a configuration port that takes a
+//! fixed number of bits per tick.
 //!
-//! - `words.rt` has its words, `prepare.rt` how its job is made ready, `play.rt` how it is played, and `job.rt` is the command.
+//! - `words.rt`: its arguments. `prepare.rt`: preparing a job. `play.rt`: playing it. `job.rt`: the command.
 #![tactic(auto)]
 
 mod job;

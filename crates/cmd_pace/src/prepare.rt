@@ -1,4 +1,4 @@
-//! The job of `pace`, made ready to be played.
+//! Prepares a job of `pace`.
 ghost use Rattle.std.specs.Prelude.{◌≡◌, ◌≤◌, IfOk, IfErr, OnOk};
 ghost use Rattle.tl_text.specs.declared.logical_lines.TheConstants.{MOST_BYTES};
 ghost use Rattle.run_text.specs.EventValue.{event_values};
@@ -16,14 +16,14 @@ use pace_core::{PaceEvent, Pacer, pace_events};
 use std::alloc::{AllocError, Global};
 use tl_io::Shelf;
 
-/// A job that is ready to be played: all its memory is taken.
+/// A prepared job. All its memory is allocated.
 #[derive(Drop)]
 pub struct Ready {
     pub pacer: Pacer,
     pub events: Vec<PaceEvent>,
 }
 
-// The machine of a mapped source circuit at the start.
+// The initial machine of a mapped source circuit.
 fn start_pacer(alloc: Global, mapped: MappedSource, rate: u32) -> Result<Pacer, AllocError>
     requires read { IsReadSource mapped.source }
     requires tables { AreMade mapped.source mapped.tables }
@@ -57,10 +57,10 @@ fn make_ready(alloc: Global, scripted: Scripted, rate: u32) -> Result<Ready, All
     Ok(Ready { pacer, events })
 }
 
-/// Reads and maps the files of a job in the order of work, and takes all the memory that its events need.
+/// Reads and maps the files of a job in the order of work, and allocates all the memory that its events need.
 ///
 /// # Errors
-/// The outcome of the command: the first refusal, a read fault, or want of memory.
+/// The outcome of the command: the first refusal, a read fault, or out of memory.
 pub fn prepare<S: Shelf>(alloc: Global, words: &PaceWords, shelf: &mut S) -> Result<Ready, Outcome>
     requires { IsInRange words.now }
     ensures ready { IfOk result (λ r. CanPace (pace_values r.events.items) r.pacer) }

@@ -1,4 +1,4 @@
-//! The words of `pace`.
+//! The arguments of `pace`.
 ghost use Rattle.std.specs.Prelude.{◌≡◌, ◌≤◌, map, string_bytes, IfSome, Some};
 ghost use Rattle.std.specs.Option.{option_map};
 ghost use Rattle.cmd_stations.specs.Words.{source_seen};
@@ -11,7 +11,7 @@ use cover_pick::Rule;
 use run_text::Forms;
 use tl_text::decimal;
 
-/// The source circuit, the word that names the script, and how many bits the configuration port takes a tick.
+/// The source circuit, the script's file name, and the number of bits that the configuration port takes per tick.
 #[derive(Clone, Copy)]
 pub struct PaceWords<'a> {
     pub source: SourceWords<'a>,
@@ -19,7 +19,7 @@ pub struct PaceWords<'a> {
     pub rate: u32,
 }
 
-// How many bits a tick a word says, one at least and fewer than 2^32.
+// The rate that an argument gives: from 1 to 2^32 - 1.
 fn rate(word: &str) -> Option<u32>
     ensures value { result ≡ rate_of word.now }
     ensures range { IfSome result (λ rate. 1 ≤ rate) }
@@ -31,7 +31,7 @@ fn rate(word: &str) -> Option<u32>
     Some(number as u32)
 }
 
-// The words of `pace` from their parts.
+// The arguments of `pace` from their parts.
 fn whole<'a>(
     source: Option<SourceWords<'a>>,
     script: &'a str,
@@ -51,7 +51,8 @@ fn whole<'a>(
     }
 }
 
-/// The words `pace K NETLIST PARAMS SCRIPT RATE`, where cuts are chosen by a rule; `None` exactly where they aren't of this form.
+/// Reads the arguments `pace K NETLIST PARAMS SCRIPT RATE`, for a rule by which cuts are chosen. Returns `None` exactly if they
+/// don't have this form.
 pub fn read_pace_words(rule: Rule, words: &[String]) -> Option<PaceWords<'_>>
     ensures value { option_map (λ w. pace_seen w) result ≡ pace_of rule (map string_bytes words.now) }
     ensures range { IfSome result IsInRange }
@@ -77,7 +78,7 @@ pub(crate) fn scripted<'a>(words: &PaceWords<'a>) -> ScriptedWords<'a>
     }
 }
 
-/// The word that names a file.
+/// The argument that names a file.
 pub fn pace_name<'a>(words: &PaceWords<'a>, file: File) -> &'a str
     ensures { result.now ≡ scripted_word (scripted_of (pace_seen words.now)) file }
 {

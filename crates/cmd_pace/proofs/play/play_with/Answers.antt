@@ -7,7 +7,7 @@ use Rattle.pace_core.specs.declared.event.PaceEvent.{PaceEvent}
 use Rattle.pace_core.specs.EventValue.{pace_value, pace_values}
 use Rattle.cmd_stations.proofs.EventLemmas.{split_by, more_by}
 use Rattle.cmd_pace.proofs.PlayLemmas.{paced_form, fits_form, HaveCome, come_none, come_more, come_all, events_cut}
-use Rattle.cmd_pace.proofs.play.play_events.Goals as goal
+use Rattle.cmd_pace.proofs.play.play_with.Goals as goal
 
 pub loop-event-init : goal.loop-event-init
 loop-event-init g c = record {
@@ -20,7 +20,7 @@ pub step-requires : goal.step-requires
 step-requires g c =
     let event = c.event-item.result in
     let member = member_at c.args.events.now c.loop-event.event-index event c.loop-event-test.true c.event-item.is in
-    fits_form (pace_value event) c.args.pacer.now c.loop-event.pacer c.loop-event.invariant.form (c.requires (pace_value event) (In-map pace_value c.args.events.now event member))
+    fits_form (pace_value event) c.args.pacer.now c.loop-event.pacer c.loop-event.invariant.form (c.requires.can_pace (pace_value event) (In-map pace_value c.args.events.now event member))
 
 pub loop-event-preserved : goal.loop-event-preserved
 loop-event-preserved g c =
@@ -30,7 +30,7 @@ loop-event-preserved g c =
     let first = (g.O.Sink.seen c.args.out.now).bytes in
     let before = (g.O.Sink.seen c.loop-event.out).bytes in
     let after = (g.O.Sink.seen c.step.new.out).bytes in
-    let step = c.in_ok-step.ensures in
+    let step = c.in_ok-step.ensures.paced in
     let form = paced_form (pace_value item) c.loop-event.pacer c.step.new.self step.0 step.1 in
     let later : (g.O.Sink.seen c.args.out.now).faults ≤ (g.O.Sink.seen c.loop-event.out).faults = c.loop-event.invariant.later in
     let last : (g.O.Sink.seen c.loop-event.out).faults ≤ (g.O.Sink.seen c.step.new.out).faults = step.2.cause.later in
@@ -47,7 +47,7 @@ returns-in_err-step-clause-ends g c =
     let events = c.args.events.now in
     let i = c.loop-event.event-index in
     let item = c.event-item.result in
-    let step = c.in_err-step.ensures in
+    let step = c.in_err-step.ensures.paced in
     let put = step.2.grown in
     rw (p.1) (events_cut c.args.pacer.now c.loop-event.pacer c.step.new.self (pace_values events) (pace_values (take i events)) (pace_value item) step.0 (g.O.Sink.seen c.args.out.now).bytes (g.O.Sink.seen c.loop-event.out).bytes
     (g.O.Sink.seen c.step.new.out).bytes put.0 (split_by pace_value events i item c.loop-event-test.true c.event-item.is) c.loop-event.invariant.come step.1 put.1 put.2)

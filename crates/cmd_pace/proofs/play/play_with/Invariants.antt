@@ -1,0 +1,11 @@
+use Rattle.std.proofs.Common.{◌≤◌, take}
+use Rattle.pace_core.specs.EventValue.{pace_values}
+use Rattle.cmd_pace.proofs.PlayLemmas.{HasSameForm, HaveCome}
+use Rattle.cmd_pace.proofs.play.play_with.Given as goal
+
+abbrev pub invariant-loop-event : goal.invariant-loop-event
+invariant-loop-event g l = record {
+  form : HasSameForm l.initial.pacer l.pacer;
+  come : HaveCome l.initial.pacer (pace_values (take l.event-index l.events)) (g.O.Sink.seen l.initial.out).bytes l.pacer (g.O.Sink.seen l.out).bytes;
+  later : (g.O.Sink.seen l.initial.out).faults ≤ (g.O.Sink.seen l.out).faults;
+}
