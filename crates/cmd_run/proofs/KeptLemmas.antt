@@ -5,7 +5,7 @@ use Rattle.run_text.specs.EventValue.{EventValue, Set, Cycle, Upset, Scrub, Imag
 use Rattle.run_text.specs.Fits.{Fits}
 use Rattle.cover_pick.specs.Template.{TemplateValue}
 use Rattle.ppc_pack.specs.Pack.{PackValue, IsConf, HasOneConf}
-use Rattle.lut_sim.specs.Cycle.{IsTableCycle, IsOnlyTableCycle}
+use Rattle.lut_sim.specs.Cycle.{IsOnlyTableCycle}
 use Rattle.lut_sim.specs.declared.shape.Shape.{Shape}
 use Rattle.lut_sim.specs.Sim.{SimValue}
 use Rattle.spec_core.specs.Specialiser.{SpecialiserValue}
@@ -50,34 +50,24 @@ module _ (source : Source) (template : TemplateValue) (pack : PackValue) (tunabl
   conf_out : (new : Stage) → new.machine.host.pack ≡ pack → IsRight new.machine.host → IsConf pack new.machine.host.state.params new.machine.host.state.config
   conf_out new same right = subst (λ (p : PackValue). IsConf p new.machine.host.state.params new.machine.host.state.config) same right
 
-  -- a cycle plays the tables under this configuration
-  pub is_play : (values : List Bool) (old new : Stage) → IsKept old → IsStep (Cycle values) old new
-      → IsTableCycle template (shape_of source) old.machine.host.state.config values old.machine.sim.states new.machine.sim.outputs new.machine.sim.states
-  is_play values old new kept step =
+  -- what a cycle is to the machine's tables under this configuration, it is to these
+  pub of_tables : (IsPlayed : TemplateValue → Shape → List Bool → List Bool → List Bool → List Bool → List Bool → Type 0) (values : List Bool) (old new : Stage) → IsKept old
+      → IsPlayed old.machine.sim.template old.machine.sim.shape old.machine.host.state.config values old.machine.sim.states new.machine.sim.outputs new.machine.sim.states
+      → IsPlayed template (shape_of source) old.machine.host.state.config values old.machine.sim.states new.machine.sim.outputs new.machine.sim.states
+  of_tables IsPlayed values old new kept played =
       let config = old.machine.host.state.config in
       let states = old.machine.sim.states in
       let outputs = new.machine.sim.outputs in
       let next = new.machine.sim.states in
-      subst (λ (t : TemplateValue). IsTableCycle t (shape_of source) config values states outputs next) kept.template_is
-      (subst (λ (s : Shape). IsTableCycle old.machine.sim.template s config values states outputs next) kept.shape_is step.played.clock)
+      subst (λ (t : TemplateValue). IsPlayed t (shape_of source) config values states outputs next) kept.template_is
+      (subst (λ (s : Shape). IsPlayed old.machine.sim.template s config values states outputs next) kept.shape_is played)
 
-  -- and no other values fit them
-  pub plays_tables : (values : List Bool) (old new : Stage) → IsKept old → IsStep (Cycle values) old new
-      → IsOnlyTableCycle template (shape_of source) old.machine.host.state.config values old.machine.sim.states new.machine.sim.outputs new.machine.sim.states
-  plays_tables values old new kept step =
-      let config = old.machine.host.state.config in
-      let states = old.machine.sim.states in
-      let outputs = new.machine.sim.outputs in
-      let next = new.machine.sim.states in
-      subst (λ (t : TemplateValue). IsOnlyTableCycle t (shape_of source) config values states outputs next) kept.template_is
-      (subst (λ (s : Shape). IsOnlyTableCycle old.machine.sim.template s config values states outputs next) kept.shape_is step.played.one)
-
-  -- and is the source circuit's
+  -- and a cycle of theirs is the source circuit's
   pub cycle_is : (values : List Bool) (old new : Stage) → FitsShape (shape_of source) (Cycle values) → IsKept old → IsStep (Cycle values) old new
       → IsSourceCycle source old.machine.host.state.params values old.machine.sim.states new.machine.sim.outputs new.machine.sim.states
   cycle_is values old new fits kept step =
       tunable.tables.cycles old.machine.host.state.params old.machine.host.state.config values old.machine.sim.states new.machine.sim.outputs new.machine.sim.states
-      (kept.params ∙ param_count source template pack tunable) kept.right fits kept.states (plays_tables values old new kept step)
+      (kept.params ∙ param_count source template pack tunable) kept.right fits kept.states (of_tables IsOnlyTableCycle values old new kept step.played.one)
 
   -- what does not depend on the event
   with_rest : (event : EventValue) (old new : Stage) → IsKept old → IsStep event old new → length new.machine.host.state.params ≡ length old.machine.host.state.params → length new.machine.sim.states ≡ length old.machine.sim.states

@@ -10,6 +10,7 @@ use Rattle.run_text.specs.Lines.{set_line, scrub_line, image_line}
 use Rattle.cover_pick.specs.Template.{TemplateValue}
 use Rattle.ppc_pack.specs.Pack.{PackValue, IsConf, HasOneConf}
 use Rattle.bit_fun.specs.Configuration.{IsConfiguration}
+use Rattle.lut_sim.specs.Cycle.{IsTableCycle, IsOnlyTableCycle}
 use Rattle.lut_sim.specs.Sim.{SimValue}
 use Rattle.port_bank.specs.Bank.{BankSeen}
 use Rattle.port_bank.specs.Send.{Sends, start, accepted, replaced, with_port, Plays}
@@ -23,7 +24,7 @@ use Rattle.cmd_stations.specs.SourceCircuit.{shape_of}
 use Rattle.cmd_stations.specs.Tunable.{IsTunable}
 use Rattle.cmd_run.specs.Run.Headline.{IsNoUpset, Shown, Shows, ShowsSet, ShowsCycle, ShowsScrub, ShowsImage, ShowAll, none, more}
 use Rattle.cmd_stations.specs.Machine.{Stage, IsStep, AreSteps, none as no_step, more as one_more}
-use Rattle.cmd_run.proofs.KeptLemmas.{IsKept, same_config, is_play, plays_tables, cycle_is, step_keeps}
+use Rattle.cmd_run.proofs.KeptLemmas.{IsKept, same_config, of_tables, cycle_is, step_keeps}
 
 -- where nothing passes a test, nothing is left
 filter_none : {A : Type 0} (test : A → Bool) (xs : List A) → ((x : A) → test x ≡ false) → filter test xs ≡ []
@@ -96,8 +97,8 @@ module _ (source : Source) (template : TemplateValue) (pack : PackValue) (tunabl
     outputs = new.machine.sim.outputs;
     config = old.machine.host.state.config;
     is = tunable.configurations.is old.machine.host.state.params old.machine.host.state.config kept.params kept.right;
-    is_play = is_play source template pack tunable values old new kept step;
-    plays = plays_tables source template pack tunable values old new kept step;
+    is_play = of_tables source template pack tunable IsTableCycle values old new kept step.played.clock;
+    plays = of_tables source template pack tunable IsOnlyTableCycle values old new kept step.played.one;
     cycle = cycle_is source template pack tunable values old new fits kept step;
     line_is = refl;
     params = ap (λ (h : SpecialiserValue). h.state.params) step.played.host.is;
