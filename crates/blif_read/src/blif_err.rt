@@ -3,20 +3,20 @@ use std::alloc::{AllocError, AllocFailed};
 use tl_fault::{Details, Name, Refusal};
 use tl_text::TextErr;
 
-/// Why a text denotes no library. Each number is that of a logical line, but for the first two that of a physical one;
-/// lines are counted from 1.
+/// Why a text denotes no library. Each number is that of a logical line; for the first two variants, of a physical line.
+/// Lines are counted from 1.
 #[derive(Debug, Drop, thiserror::Error)]
 pub enum BlifErr {
-    /// T1: a byte that no line may have.
+    /// T1: a byte that no line may contain.
     #[error("bad byte in line {0}")]
     BadByte(u32),
     /// T2: a token ends in `\`.
     #[error("trailing backslash in line {0}")]
     TrailingSlash(u32),
-    /// B1: the line is no command and in no row's place.
+    /// B1: the line is neither a command nor a row.
     #[error("no command in line {0}")]
     NotCommand(u32),
-    /// B2: the first token begins with `.` and is no command of the profile.
+    /// B2: the first token begins with `.` and isn't a supported command.
     #[error("unsupported command in line {0}")]
     Unsupported(u32),
     /// B3: no model is open.
@@ -25,31 +25,31 @@ pub enum BlifErr {
     /// B4: a command has too few or too many tokens.
     #[error("wrong number of tokens in line {0}")]
     Arity(u32),
-    /// B5: a row isn't of its form.
+    /// B5: a row is malformed.
     #[error("bad row in line {0}")]
     BadRow(u32),
-    /// B6: a row's output character isn't that of the cover's first row.
+    /// B6: a row's output character differs from that of the cover's first row.
     #[error("mixed rows in line {0}")]
     MixedRows(u32),
-    /// B7: the init or the type of a latch is none.
+    /// B7: the init or the type of a latch is invalid.
     #[error("bad latch in line {0}")]
     BadLatch(u32),
     /// B8: the type of a latch is `fe`, `ah`, `al` or `as`.
     #[error("kind of latch in line {0}")]
     LatchKind(u32),
-    /// B9: a model of this name began earlier.
+    /// B9: an earlier model has this name.
     #[error("model repeated in line {0}")]
     DuplicateModel(u32, Name),
-    /// B10: this name stands twice in the model's `.inputs`, `.outputs` or `.clock` lines.
+    /// B10: this name occurs twice in the model's `.inputs`, `.outputs` or `.clock` lines.
     #[error("port repeated in line {0}")]
     DuplicatePort(u32, Name),
-    /// B11: a connection has no `=`, an empty side, or a formal that stood earlier in the line.
+    /// B11: a connection has no `=`, an empty side, or a formal that occurs earlier in the line.
     #[error("bad connection in line {0}")]
     BadConnection(u32),
-    /// B12: the text has no `.model`.
+    /// B12: the text contains no `.model`.
     #[error("no model")]
     NoModel,
-    /// There is no memory.
+    /// Out of memory.
     #[error("out of memory")]
     Memory,
 }
@@ -80,7 +80,7 @@ impl BlifErr {
     ghost use Rattle.std.specs.Prelude.{◌≡◌};
     ghost use Rattle.blif_read.specs.Refusals.{refusal_of};
 
-    /// What the refusal tells; none for want of memory.
+    /// The refusal that is reported; `None` if memory ran out.
     pub fn refusal(self) -> Option<Refusal>
         ensures { result ≡ refusal_of self }
     {

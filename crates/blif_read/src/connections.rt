@@ -69,7 +69,7 @@ fn pairs(alloc: Global, number: u32, words: &[Name]) -> Result<Vec<Pair>, BlifEr
     Ok(pairs)
 }
 
-/// The subcircuit that the words behind `.subckt` are.
+/// The subcircuit given by the words after `.subckt`.
 pub(crate) fn subckt_line(
     alloc: Global,
     number: u32,

@@ -1,6 +1,6 @@
 //! The first tokens of logical lines.
 
-/// What the first token of a logical line says.
+/// The kind of a logical line, by its first token.
 #[derive(Clone, Copy, Debug, PartialEq, Eq)]
 pub enum Keyword {
     /// `.model`
@@ -21,6 +21,6 @@ pub enum Keyword {
     End,
     /// Another token that begins with `.`.
     Unknown,
-    /// A token that doesn't begin with `.`, as those of rows.
+    /// A token that doesn't begin with `.`, as in a row.
     Plain,
 }

@@ -98,7 +98,7 @@ fn made(mut words: Vec<Name>) -> Latch
     }
 }
 
-/// The latch that the words behind `.latch` are.
+/// The latch given by the words after `.latch`.
 pub(crate) fn latch_line(number: u32, words: Vec<Name>) -> Result<Latch, BlifErr>
     ensures { MatchResult result (λ latch. (latch_fault number words.items ≡ None) × (latch ≡ latch_of words.items)) (OrMemory refusal_of (λ e. latch_fault number words.items ≡ Some e)) }
 {

@@ -1,4 +1,4 @@
-//! A cover whose rows may follow.
+//! A cover whose rows are being read.
 ghost use Rattle.std.specs.Prelude.{◌≡◌, [], length, None, Some, MatchResult, MatchOption, IfOk};
 ghost use Rattle.std.specs.Option.{option_map};
 ghost use Rattle.blif_read.specs.Context.{row_of};
@@ -14,7 +14,7 @@ use std::alloc::{AllocError, Global};
 use std::marker::Model;
 use tl_text::Name;
 
-/// A cover whose rows may follow.
+/// A cover whose rows are being read.
 #[derive(Drop)]
 pub(crate) struct OpenCover {
     pub(crate) line: u32,
@@ -29,7 +29,7 @@ impl Model for OpenCover {
     ghost view = { λ c. record { line = c.line; cover = c.cover } };
 }
 
-/// The cover of a `.names` line without rows; none without names.
+/// The cover of a `.names` line, still without rows. `None` if the line has no names.
 pub(crate) fn open_cover(alloc: Global, line: u32, mut names: Vec<Name>) -> Option<OpenCover>
     ensures { MatchOption result
         (names.items ≡ [])
@@ -111,7 +111,7 @@ fn read_row(
     Ok(OpenCover { line, cover })
 }
 
-/// The cover, if rows of one may follow, with the row that a line's words are.
+/// The cover that is being read, if any, with one more row, given by a line's words.
 pub(crate) fn read_cover_row(
     alloc: Global,
     number: u32,

@@ -20,7 +20,7 @@ use std::alloc::{AllocError, Global};
 use std::marker::Model;
 use tl_text::Name;
 
-/// A model whose lines are being read: its cover, if rows of it may follow, isn't among its commands yet.
+/// A model whose lines are being read. A cover whose rows may follow isn't among its commands yet.
 #[derive(Drop)]
 pub(crate) struct OpenModel {
     name: Name,
@@ -188,7 +188,7 @@ fn with_subckt(
     Ok(with_body(model, number, Body::Subckt(subckt))?)
 }
 
-/// The model with a line that begins and ends none.
+/// The model with one more line, which doesn't begin or end a model.
 pub(crate) fn model_after(
     alloc: Global,
     model: OpenModel,
@@ -212,7 +212,7 @@ pub(crate) fn model_after(
     }
 }
 
-/// A model of which only the `.model` line is read.
+/// A model after its `.model` line.
 pub(crate) fn begun(alloc: Global, name: Name, line: u32) -> OpenModel
     ensures { result ≡ fresh (name ∷ []) line }
 {
@@ -227,7 +227,7 @@ pub(crate) fn begun(alloc: Global, name: Name, line: u32) -> OpenModel
     }
 }
 
-/// The model of which all lines are read.
+/// The finished model.
 pub(crate) fn closed(model: OpenModel) -> Result<BlifModel, AllocError>
     ensures { IfOk result (λ m. m ≡ flushed model) }
 {

@@ -10,7 +10,7 @@ use std::alloc::Global;
 use std::marker::Model;
 use tl_text::{Name, NameIndex};
 
-/// Names of ports in order, each once and found by its hash.
+/// Port names in order, without repeats. Each is found by its hash.
 #[derive(Drop)]
 pub(crate) struct PortList {
     names: Vec<Name>,
@@ -66,7 +66,7 @@ impl PortList {
         self.names
     }
 
-    /// The names with those of a line behind them.
+    /// The names, followed by those of a line.
     pub(crate) fn with(
         self,
         alloc: Global,

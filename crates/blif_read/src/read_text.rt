@@ -41,12 +41,12 @@ fn read_once(alloc: Global, text: &[u8]) -> Result<Library, BlifErr>
     }
 }
 
-/// The library that a text denotes: its models, the first one the main model. It takes time linear in the text, on average
-/// over the hashes of the names.
+/// The library that a text denotes. Its first model is the main model. The time is linear in the text, on average over the
+/// hashes of the names.
 ///
 /// # Errors
-/// The first refusal of the text, by the table of `specs/ReadFault.antt`: T1 and T2 of its physical lines, else B1 to B11 of
-/// the first logical line that has one, else B12; `Memory` where there is none.
+/// The first refusal of the text, by the table in `specs/ReadFault.antt`: T1 or T2 of a physical line, else B1 to B11 of the
+/// first logical line that has one, else B12. `Memory` if memory ran out.
 pub fn read(alloc: Global, text: &[u8]) -> Result<Library, BlifErr>
     requires { length text.now ≤ MOST_BYTES }
 

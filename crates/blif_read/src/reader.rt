@@ -19,7 +19,7 @@ use std::alloc::{AllocError, Global};
 use std::marker::Model;
 use tl_text::{Line, Name, NameIndex};
 
-/// What is read so far: the names of the models, the models that ended, and the one whose lines are being read.
+/// What was read so far: the names of the models, the finished models, and the one whose lines are being read.
 #[derive(Drop)]
 struct Reader {
     names: NameIndex,
@@ -196,7 +196,7 @@ fn run(
     finish(alloc, reader)
 }
 
-/// The library of a text's logical lines, of which each is let go of once it is read.
+/// The library of a text's logical lines. Each line is freed once it is read.
 pub(crate) fn read_lines(alloc: Global, text: &[u8], lines: Vec<Line>) -> Result<Library, BlifErr>
     requires { AreLinesIn text.now lines.items }
     ensures { MatchResult result

@@ -1,4 +1,4 @@
-//! The rows of covers as they are written.
+//! The rows of covers in a text.
 ghost use Rattle.std.specs.Prelude.{◌≡◌, ℕ, ◌∷◌, [], length, IfOk};
 ghost use Rattle.std.specs.Option.{option_map};
 ghost use Rattle.tl_text.specs.Decimal.{bit_of};
@@ -9,7 +9,7 @@ use std::alloc::{AllocError, Global};
 use std::marker::Model;
 use tl_text::Name;
 
-/// A row as it is read: its cells and its output character.
+/// A row of a text: its cells and its output character.
 #[derive(Drop)]
 pub(crate) struct RowLine {
     pub(crate) cells: Vec<Cell>,
@@ -100,7 +100,7 @@ fn one_word(alloc: Global, inputs: usize, output: &[u8]) -> Option<RowLine>
     }
 }
 
-/// The row of a cover of so many inputs that words are, if they have its form.
+/// The row given by words, for a cover with this many inputs. `None` if the row is malformed.
 pub(crate) fn row_line(
     alloc: Global,
     inputs: usize,

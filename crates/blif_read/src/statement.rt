@@ -10,7 +10,7 @@ use std::alloc::{AllocError, Global};
 use std::marker::Model;
 use tl_text::{Line, Name, Token};
 
-/// A logical line: its number, what its first word says, and its other words; without a keyword all its words.
+/// A logical line: its number, its kind, and its words. A keyword isn't among the words.
 #[derive(Drop)]
 pub(crate) struct Statement {
     pub(crate) number: u32,
@@ -100,7 +100,7 @@ fn statement_with(number: u32, mut words: Vec<Name>) -> Statement
     }
 }
 
-/// The statement that a line is.
+/// The statement of a line.
 pub(crate) fn line_statement(
     alloc: Global,
     text: &[u8],

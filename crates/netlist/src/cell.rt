@@ -1,6 +1,6 @@
-//! One place of a row of a cover.
+//! A cell of a cover's row.
 
-/// What a row asks of one input: `0`, `1`, or `-` for anything.
+/// The value that a row requires of one input: `0`, `1`, or `-` for either.
 #[derive(Clone, Copy, Debug, PartialEq, Eq)]
 pub enum Cell {
     /// `0`: the input is 0.

@@ -3,10 +3,10 @@ use crate::cover::Cover;
 use crate::latch::Latch;
 use crate::subckt::Subckt;
 
-/// What a command makes.
+/// The content of a command.
 #[derive(Drop)]
 pub enum Body {
-    /// `.names` with its rows.
+    /// `.names` and its rows.
     Cover(Cover),
     /// `.latch`.
     Latch(Latch),
@@ -17,7 +17,7 @@ pub enum Body {
 /// A command of a model.
 #[derive(Drop)]
 pub struct Command {
-    /// The number of its logical line, counted from 1.
+    /// Its logical line, counted from 1.
     pub line: u32,
     pub body: Body,
 }

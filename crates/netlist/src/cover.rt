@@ -3,16 +3,16 @@ use crate::row::Row;
 use std::marker::Model;
 use tl_text::Name;
 
-/// The single-output function of a `.names` command, by the rows of its on-set or of its off-set.
+/// The single-output function of a `.names` command, given by the rows of its on-set or its off-set.
 #[derive(Drop)]
 pub struct Cover {
-    /// The nets that it reads, in the order of the command.
+    /// The nets that it reads, in the command's order.
     pub inputs: Vec<Name>,
     /// The net that it drives.
     pub output: Name,
-    /// The rows' common output character: true for `1`, and where there are no rows.
+    /// The rows' common output character: true for `1`, and if there are no rows.
     pub value: bool,
-    /// The rows in the order of the text, each with one cell an input.
+    /// The rows in the text's order. Each has one cell per input.
     pub rows: Vec<Row>,
 }
 

@@ -8,14 +8,14 @@ use crate::library::Library;
 use std::marker::Model;
 use tl_text::Name;
 
-/// A net, named by its driver.
+/// A net, identified by its driver.
 #[derive(Clone, Copy, Debug, PartialEq, Eq)]
 pub enum Net {
-    /// A regular input, by its place in [`Flat::inputs`].
+    /// A regular input, by its index in [`Flat::inputs`].
     Input(u32),
-    /// A latch, by its place in [`Flat::latches`].
+    /// A latch, by its index in [`Flat::latches`].
     Latch(u32),
-    /// A cover, by its place in [`Flat::covers`].
+    /// A cover, by its index in [`Flat::covers`].
     Cover(u32),
 }
 
@@ -29,10 +29,10 @@ pub struct OutPort {
 /// A cover of an instance.
 #[derive(Drop)]
 pub struct FlatCover {
-    /// The place of its model in the library, and its place among the model's commands, both counted from 0.
+    /// The index of its model in the library, and its index among the model's commands.
     pub model: u32,
     pub command: u32,
-    /// The nets of its inputs in order.
+    /// The nets of its inputs, in order.
     pub inputs: Vec<Net>,
 }
 
@@ -45,7 +45,7 @@ impl Model for FlatCover {
 }
 
 impl FlatCover {
-    /// The cover behind it, in the library that it was made of.
+    /// Its cover in the library that was flattened.
     pub fn cover<'a>(&self, library: &'a Library) -> &'a Cover
         requires { IsSome (cover_behind library.now self.now) }
         ensures { cover_behind library.now self.now ≡ Some result.now }
@@ -62,35 +62,35 @@ impl FlatCover {
 /// A latch of an instance.
 #[derive(Clone, Copy, Debug, PartialEq, Eq)]
 pub struct FlatLatch {
-    /// The net of its next state.
+    /// The net of the next state.
     pub input: Net,
-    /// Its state at the start.
+    /// The initial state.
     pub init: bool,
-    /// Has it a control?
+    /// Whether it has a control.
     pub clocked: bool,
 }
 
-/// A circuit without hierarchy: its nets are numbered by their drivers.
+/// A circuit without hierarchy. Its nets are numbered by their drivers.
 #[derive(Drop)]
 pub struct Flat {
     /// The name of the main model.
     pub model: Name,
-    /// The main model's `.inputs` that are no clock nets, in order.
+    /// The main model's `.inputs` that aren't clock nets, in order.
     pub inputs: Vec<Name>,
-    /// The clock nets: the names of the main model's `.clock`, and the net of the latch controls where it is another one.
+    /// The clock nets: the names of the main model's `.clock`, and the net of the latch controls if it isn't one of them.
     pub clocks: Vec<Name>,
     /// The net of the latch controls.
     pub control: Option<Name>,
-    /// The main model's outputs in order.
+    /// The main model's outputs, in order.
     pub outputs: Vec<OutPort>,
-    /// The covers and the latches of all instances, each in flat order: an instance's own in line order, then those of the
-    /// instances that it places, in line order.
+    /// The covers and the latches of all instances, in flat order: first those of an instance itself in line order, then those
+    /// of the instances that it contains, in line order.
     pub covers: Vec<FlatCover>,
     pub latches: Vec<FlatLatch>,
-    /// The covers that a root reaches, each behind those that it reads: the depth-first postorder, left to right, from the
-    /// outputs and then the latch inputs.
+    /// The covers that the outputs and the latch inputs reach, each after the covers that it reads: the depth-first postorder,
+    /// left to right, from the outputs and then the latch inputs.
     pub order: Vec<u32>,
-    /// The greatest number of leading underscores of a name of the main model's ports.
+    /// The greatest number of leading underscores in a port name of the main model.
     pub under: u32,
 }
 

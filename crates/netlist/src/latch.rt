@@ -6,10 +6,10 @@ use tl_text::Name;
 pub struct Latch {
     /// The net whose value is the next state.
     pub input: Name,
-    /// The net that has the state.
+    /// The net that holds the state.
     pub output: Name,
-    /// The clock net; `None` without a control and for `NIL`.
+    /// The clock net. `None` if there is no control or it is `NIL`.
     pub control: Option<Name>,
-    /// The state at the start: true exactly for the init `1`.
+    /// The initial state: true exactly for the init `1`.
     pub init: bool,
 }

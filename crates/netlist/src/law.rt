@@ -8,10 +8,10 @@ ghost use Rattle.netlist.specs.Sound.{IsSound};
 use crate::flat::Flat;
 use crate::library::Library;
 
-/// The law of a sound library: for all values of its inputs and latches there are values of all names that fit them, and
-/// those of the names that a net drives are the only ones; and it has one flat circuit at most.
+/// The law of a sound library. For all values of its inputs and latches, values of all names exist that fit them, and the
+/// values of driven names are unique. The library has at most one flat circuit.
 ///
-/// There is nothing to do: the call is its contract.
+/// The call does nothing: its contract is the law.
 #[tactic(auto, using(crate::proofs::LawLemmas::sound_law, crate::proofs::OneFlatLemmas::one_flat))]
 pub fn cycle_law(library: &Library)
     ensures law { IsSound library.now → HasOneCycle library.now }
@@ -20,10 +20,10 @@ pub fn cycle_law(library: &Library)
     let _models = &library.models;
 }
 
-/// The law of a flat circuit whose fields are those of its library's hierarchical names: evaluating its covers in its order
-/// gives the values of the maps that fit, and of a sound library its cycles and runs are the flat circuit's, and no others.
+/// The law of a flat circuit whose fields are those of its library's hierarchical names. Evaluating its covers in its order
+/// gives the values that fit. If the library is sound, its cycles and runs are exactly those of the flat circuit.
 ///
-/// There is nothing to do: the call is its contract.
+/// The call does nothing: its contract is the law.
 #[tactic(auto, using(crate::proofs::EvaluateLemmas::flat_evaluates, crate::proofs::EvaluateLemmas::flat_cycles))]
 pub fn flat_law(library: &Library, flat: &Flat)
     ensures values { IsFlat library.now flat.now → HasValues library.now flat.now }

@@ -1,24 +1,25 @@
-//! What a netlist is, and what it means.
+//! Netlists: their types and their meaning.
 //!
-//! A [`Library`] is a list of models, as a netlist in the Berkeley Logic Interchange Format (BLIF, manual of July 1992) has
-//! them: ports, and *commands*, which are covers, latches and subcircuits. A cover is a single-output function by rows of
-//! cells (`specs/CoverValue.antt` has its value).
+//! A [`Library`] is a list of models, as in a netlist in the Berkeley Logic Interchange Format (BLIF, manual of July 1992). A
+//! model has ports and *commands*, which are covers, latches and subcircuits. A cover is a single-output function, given by
+//! rows of cells (`specs/CoverValue.antt` defines its value).
 //!
-//! An *instance* is a model in its place: a path of `.subckt` ordinals from the main model. A *net* is a connected formal
-//! and its actual and all names that are joined so; it is named by its *driver*, a main input, a latch or a cover. The
-//! *cycle relation* (`specs/Cycle.antt`) says which values of all names of all instances fit values of the inputs and the
-//! latches; nothing is flattened or evaluated in it. In a *sound* library (`specs/Sound.antt`) no cover's value depends on
-//! itself through covers; such values exist, and those of the names that a net drives are the only ones: [`cycle_law`].
+//! An *instance* is an occurrence of a model, identified by a path of `.subckt` ordinals from the main model. A *net* is a set
+//! of connected names: a formal and its actual belong to one net. It is identified by its *driver*, which is a main input, a
+//! latch or a cover. The *cycle relation* (`specs/Cycle.antt`) says which values of all names of all instances fit given
+//! values of the inputs and the latches. It doesn't flatten or evaluate anything. In a *sound* library (`specs/Sound.antt`) no
+//! cover's value depends on itself through covers. Then such values exist, and the values of driven names are unique:
+//! [`cycle_law`].
 //!
-//! A [`Flat`] circuit is a library's circuit without its hierarchy: its nets are numbered by their drivers. What its fields
-//! are is said over the library's hierarchical names (`specs/Flat.antt`), so that a sound library has one at most, and
-//! evaluating its covers in its order gives the values of the cycle relation (`specs/FlatCycle.antt`): [`flat_law`].
+//! A [`Flat`] circuit is a library's circuit without hierarchy. Its nets are numbered by their drivers. Its fields are defined
+//! by the library's hierarchical names (`specs/Flat.antt`), so a sound library has at most one. Evaluating its covers in its
+//! order gives the values of the cycle relation (`specs/FlatCycle.antt`): [`flat_law`].
 //!
-//! Who reads a library from a text, and who flattens one, stand in crates of their own above this one.
+//! `blif_read` reads a library from a text, and `blif_flat` flattens one.
 //!
-//! - `library.rt`, `command.rt`, `cover.rt`, `row.rt`, `cell.rt`, `latch.rt` and `subckt.rt` are the types of a library.
-//! - `flat.rt` has those of a flat circuit.
-//! - `law.rt` has the laws.
+//! - `library.rt`, `command.rt`, `cover.rt`, `row.rt`, `cell.rt`, `latch.rt` and `subckt.rt` define the types of a library.
+//! - `flat.rt` defines the types of a flat circuit.
+//! - `law.rt` states the laws.
 #![tactic(auto)]
 
 mod cell;

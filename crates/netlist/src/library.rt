@@ -7,15 +7,15 @@ use tl_text::Name;
 #[derive(Drop)]
 pub struct BlifModel {
     pub name: Name,
-    /// The number of the logical line of its `.model`, counted from 1.
+    /// The logical line of its `.model`, counted from 1.
     pub line: u32,
-    /// The names of its `.inputs` lines in order, each once.
+    /// The names of its `.inputs` lines, in order and without repeats.
     pub inputs: Vec<Name>,
-    /// The names of its `.outputs` lines in order, each once.
+    /// The names of its `.outputs` lines, likewise.
     pub outputs: Vec<Name>,
-    /// The names of its `.clock` lines in order, each once.
+    /// The names of its `.clock` lines, likewise.
     pub clocks: Vec<Name>,
-    /// Its commands in the order of their lines.
+    /// Its commands, in line order.
     pub commands: Vec<Command>,
 }
 
@@ -27,7 +27,7 @@ impl Model for BlifModel {
     ghost view = { λ m. record { name = m.name; line = m.line; inputs = m.inputs.items; outputs = m.outputs.items; clocks = m.clocks.items; commands = m.commands.items } };
 }
 
-/// The models of a text. The first one is the main model.
+/// The models of a netlist. The first one is the main model.
 #[derive(Drop)]
 pub struct Library {
     pub models: Vec<BlifModel>,

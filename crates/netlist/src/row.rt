@@ -2,10 +2,10 @@
 use crate::cell::Cell;
 use std::marker::Model;
 
-/// A row of a cover: the product of the inputs that its cells ask for.
+/// A row of a cover: the product of the input values that its cells require.
 #[derive(Drop)]
 pub struct Row {
-    /// One cell for each input of the cover, in the inputs' order.
+    /// One cell per input of the cover, in the inputs' order.
     pub cells: Vec<Cell>,
 }
 

@@ -5,18 +5,18 @@ use tl_text::Name;
 /// A connection of a subcircuit.
 #[derive(Drop)]
 pub struct Pair {
-    /// The net of the placed model.
+    /// The name in the placed model.
     pub formal: Name,
-    /// The net of the model that places it.
+    /// The name in the model that contains the subcircuit.
     pub actual: Name,
 }
 
-/// A subcircuit: a model placed in another.
+/// A subcircuit: an instance of a model within another model.
 #[derive(Drop)]
 pub struct Subckt {
     /// The name of the placed model.
     pub model: Name,
-    /// Its connections in the order of the line; no formal stands twice.
+    /// Its connections, in the line's order. No formal is repeated.
     pub pairs: Vec<Pair>,
 }
 
