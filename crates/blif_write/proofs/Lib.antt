@@ -10,6 +10,8 @@ mod DenoteLemmas
 mod PlainLemmas
 mod PlainCycleLemmas
 mod PlainSoundLemmas
+mod PostedLemmas
+mod PlainFlatLemmas
 -- The netlists of tables.
 mod RowValueLemmas
 pub mod OwnNameLemmas

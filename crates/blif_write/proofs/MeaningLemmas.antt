@@ -29,6 +29,7 @@ use Rattle.blif_write.proofs.DenoteLemmas.{denotes_plain}
 use Rattle.blif_write.proofs.InputLemmas.{bits_in_order, inputs_again}
 use Rattle.netlist.proofs.LawLemmas.{sound_law}
 use Rattle.blif_write.proofs.PlainCycleLemmas.{IsPlainCycle, plain_cycle, plain_inits, plain_has_cycle, plain_has_run}
+use Rattle.blif_write.proofs.PlainFlatLemmas.{plain_flat}
 use Rattle.blif_write.proofs.PlainSoundLemmas.{IsOrderly, plain_sound}
 use Rattle.list_laws.proofs.Ranges.{of_range, in_range}
 use Rattle.blif_write.proofs.OwnNameLemmas.{own_number}
@@ -158,6 +159,7 @@ module _ (flat : FlatValue) (params : List Param) (t : TemplateValue) (ports : H
   pub specialised_means : (config : List Bool) → Means flat params t (specialised_netlist flat params t config) [] (λ x. config)
   specialised_means config = record {
     sound = plain_sound (specialised_netlist flat params t config) (specialised_orderly config);
+    is_flat = plain_flat (specialised_netlist flat params t config) (specialised_orderly config);
     inputs = inputs_again flat params t [] (map (fixed_table g config) t.luts) ports are.roots.next (λ name i. elim i [ ]);
     cycles = λ x s outputs next c.
         let p : IsPlainCycle (specialised_netlist flat params t config) x s outputs next = plain_cycle (specialised_netlist flat params t config) x s outputs next c in
@@ -171,6 +173,7 @@ module _ (flat : FlatValue) (params : List Param) (t : TemplateValue) (ports : H
   pub template_means : Means flat params t (template_netlist flat params t) (all_bit_names g t.bits) (input_bits g t.bits)
   template_means = record {
     sound = plain_sound (template_netlist flat params t) template_orderly;
+    is_flat = plain_flat (template_netlist flat params t) template_orderly;
     inputs = λ again h.
         inputs_again flat params t (map (bit_names g) t.luts) (map (tunable_table g) t.luts) ports are.roots.next (tunable_covers g t.luts t.bits are.playable.bases are.playable.sum are.few_bits).bits_own again h
         ∙ ap (λ (bits : List (List ℕ)). g.regular ++ (free_control flat.control ++ bits)) (bits_in_order g 0 t.luts are.playable.bases ∙ ap (λ (count : ℕ). map (bit_name g) (range_with_len 0 count)) (sym are.playable.sum));

@@ -58,7 +58,7 @@ once_rest [] ys h = h
 once_rest (x ∷ xs) ys h = once_rest xs ys h.1
 
 -- the command of a cover or a latch
-cover_body : (n : PlainNetlist) (path : Path) (i : ℕ) (c : CoverValue) → CoverAt (library_of n) path i c → slice_get (bodies_of n) i ≡ Some (Cover c)
+pub cover_body : (n : PlainNetlist) (path : Path) (i : ℕ) (c : CoverValue) → CoverAt (library_of n) path i c → slice_get (bodies_of n) i ≡ Some (Cover c)
 cover_body n path i c at =
     let top : (path ≡ []) × (at.model ≡ model_of n) = only_top n path at.model at.at in
     sym (body_is n i) ∙ ap (λ (m : ModelValue). body_at m i) (sym top.1) ∙ at.is
@@ -81,7 +81,7 @@ or_false : (b : Bool) → (b || false) ≡ true → b ≡ true
 or_false true h = refl
 or_false false h = h
 
-mapped : (bodies : List Body) (i : ℕ) (name : List ℕ) → slice_get (map body_output bodies) i ≡ Some name → (body : Body) × (slice_get bodies i ≡ Some body) × (body_output body ≡ name)
+pub mapped : (bodies : List Body) (i : ℕ) (name : List ℕ) → slice_get (map body_output bodies) i ≡ Some name → (body : Body) × (slice_get bodies i ≡ Some body) × (body_output body ≡ name)
 mapped [] i name e = absurd (none-some name e)
 mapped (body ∷ bodies) zero name e = (body, refl, same_Some (body_output body) name e)
 mapped (body ∷ bodies) (suc i) name e = mapped bodies i name e
@@ -106,7 +106,7 @@ no_subckt_cover [] i s e = none-some (Subckt s) e
 no_subckt_cover (c ∷ cs) zero s e = let t : false ≡ true = ap is_subckt_body (same_Some (Cover c) (Subckt s) e) in let wrong : ⊥ = cc in wrong
 no_subckt_cover (c ∷ cs) (suc i) s e = no_subckt_cover cs i s e
 
-no_subckt_body : (ls : List LatchValue) (cs : List CoverValue) (i : ℕ) (s : SubcktValue) → slice_get (map (λ (l : LatchValue). Latch (read_latch l)) ls ++ map (λ (c : CoverValue). Cover c) cs) i ≡ Some (Subckt s) → ⊥
+pub no_subckt_body : (ls : List LatchValue) (cs : List CoverValue) (i : ℕ) (s : SubcktValue) → slice_get (map (λ (l : LatchValue). Latch (read_latch l)) ls ++ map (λ (c : CoverValue). Cover c) cs) i ≡ Some (Subckt s) → ⊥
 no_subckt_body [] cs i s e = no_subckt_cover cs i s e
 no_subckt_body (l ∷ ls) cs zero s e = let t : false ≡ true = ap is_subckt_body (same_Some (Latch (read_latch l)) (Subckt s) e) in let wrong : ⊥ = cc in wrong
 no_subckt_body (l ∷ ls) cs (suc i) s e = no_subckt_body ls cs i s e
@@ -166,7 +166,7 @@ net_command d (input_net name) = d
 net_command d (latch_net path i) = i
 net_command d (cover_net path i) = i
 
-cover_drives : (n : PlainNetlist) (path : Path) (name : List ℕ) (q : Path) (i : ℕ) → Drives (library_of n) path name (cover_net q i) → (d : CoverValue) × CoverAt (library_of n) q i d × (name ≡ d.output)
+pub cover_drives : (n : PlainNetlist) (path : Path) (name : List ℕ) (q : Path) (i : ℕ) → Drives (library_of n) path name (cover_net q i) → (d : CoverValue) × CoverAt (library_of n) q i d × (name ≡ d.output)
 cover_drives n path name q i (main_input p m e) = absurd (let t : is_cover_net (cover_net q i) ≡ is_cover_net (input_net name) = ap is_cover_net e in let wrong : ⊥ = cc in wrong)
 cover_drives n path name q i (latch_output j l at o e) = absurd (let t : is_cover_net (cover_net q i) ≡ is_cover_net (latch_net path j) = ap is_cover_net e in let wrong : ⊥ = cc in wrong)
 cover_drives n path name q i (cover_output j c at o e) =

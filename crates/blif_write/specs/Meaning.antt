@@ -54,10 +54,11 @@ abbrev pub free_control : Option (List ℕ) → List (List ℕ)
 free_control None = []
 free_control (Some name) = if bytes_eq name (codes "NIL") then name ∷ [] else []
 
--- The library of a written netlist is sound. Its inputs are the regular ones, this control, and configuration bits of these names. It has a cycle from any states under any values, and a run under any. In each of its cycles the outputs
+-- The library of a written netlist is sound. It has a flat circuit, whose inputs are the regular ones, this control, and configuration bits of these names. It has a cycle from any states under any values, and a run under any. In each of its cycles the outputs
 -- and next states are those of the tables, under a configuration that may depend on the values x of the inputs, by their names; and its latches start as the source's.
 pub record Means (flat : FlatValue) (params : List Param) (t : TemplateValue) (n : PlainNetlist) (bits : List (List ℕ)) (config : (List ℕ → Bool) → List Bool) : Type 0 where
   pub sound : IsSound (library_of n)
+  pub is_flat : (again : FlatValue) × IsFlat (library_of n) again
   pub inputs : (again : FlatValue) → IsFlat (library_of n) again → again.inputs ≡ regular_names flat params ++ (free_control flat.control ++ bits)
   pub cycles : (x : List ℕ → Bool) (s outputs next : List Bool) → IsCycle (library_of n) x s outputs next
       → IsTableCycle t (naming_of flat params).shape (config x) (map x (regular_names flat params)) s outputs next
