@@ -10,8 +10,9 @@ from __future__ import annotations
 from string import Template
 from typing import Iterable
 
+from tlutflow.cfglut import CfglutRandom
 from tlutflow.circuit import Circuit
-from tlutflow.flip_flops import Chain
+from tlutflow.flip_flops import Chain, Random
 from tlutflow.hdl import Device
 from tlutflow.output import Output, Played
 from tlutflow.script import Event
@@ -126,7 +127,8 @@ endmodule
 )
 
 WRITE_SIGNALS = Template(
-    """    reg cfg_we = 0, cfg_bit = 0;
+    """    reg cfg_we = 0;
+    reg [$high_data:0] cfg_$data = 0;
     reg [$high:0] cfg_addr = 0;
     wire cfg_busy;"""
 )
@@ -136,9 +138,9 @@ WRITE = Template(
     """    // A write is read and sent to the port, which may take some periods.
     task send;
         begin
-            taken = $$fscanf(file, " %d %d", address, value);
+            taken = $$fscanf(file, " %d %b", address, value);
             cfg_addr = address[$high:0];
-            cfg_bit = value[0];
+            cfg_$data = value[$high_data:0];
             cfg_we = 1;
             turn;
             cfg_we = 0;
@@ -192,8 +194,8 @@ def places(nets: Iterable[str]) -> dict[str, int]:
 
 def config_words(device: Device) -> list[str]:
     """The short names of the configuration ports, in their order."""
-    if hasattr(device, "width"):
-        return ["clk", "we", "bit", "addr", *(["busy"] if device.model else [])]
+    if isinstance(device, (Random, CfglutRandom)):
+        return ["clk", "we", device.data, "addr", *(["busy"] if device.model else [])]
     return ["clk", "we", "in", *([] if device.model else ["commit"]), "out"]
 
 
@@ -207,11 +209,12 @@ def connections(circuit: Circuit, names: Names, device: Device) -> list[str]:
 
 def port_texts(device: Device) -> dict[str, str]:
     """What the bench has for the circuit's port."""
-    if hasattr(device, "width"):
-        signals = WRITE_SIGNALS.substitute(high=device.width - 1)
+    if isinstance(device, (Random, CfglutRandom)):
+        words = {"high": device.width - 1, "high_data": device.word - 1, "data": device.data}
+        signals = WRITE_SIGNALS.substitute(words)
         if not device.model:
             signals = signals.replace("wire cfg_busy;", "wire cfg_busy = 1'b0;")
-        return {"signals": signals, "send": WRITE.substitute(high=device.width - 1), "operation": "write"}
+        return {"signals": signals, "send": WRITE.substitute(words), "operation": "write"}
     regions = len(device.regions) if isinstance(device, Chain) else 1
     return {"signals": LOAD_SIGNALS.substitute(high=regions - 1), "send": LOAD.substitute(regions=regions), "operation": "load"}
 

@@ -148,6 +148,9 @@ class Cfglut:
 class CfglutRandom(Cfglut):
     """A write turns one ring."""
 
+    # How many bits a write has, and the short word of the port that has them.
+    word, data = 1, "bit"
+
     def __init__(self, circuit: Circuit, names: Names, store: Store):
         super().__init__(circuit, names, store)
         self.ring_width = max(0, (len(self.rings) - 1).bit_length())

@@ -1,7 +1,8 @@
 """The generic target: configuration bits in flip-flops, which any device has, behind one of two ports.
 
 `chain` shifts all bits in, one a period and region, into a register that the circuit doesn't see, and shows them at once. `random` writes the
-bit of an address at each period; the cells stand in rows and columns, and each has its row and its column as its decoder.
+bit of an address at each period; the cells stand in rows and columns, and each has its row and its column as its decoder. It also writes
+words of several bits, whose flip-flops have one enable.
 """
 
 from __future__ import annotations
@@ -109,15 +110,23 @@ class Chain(FlipFlops):
 class Random(FlipFlops):
     """Cells with addresses, in rows and columns."""
 
+    # How many bits a write has, and the short word of the port that has them.
+    word, data = 1, "bit"
+
     def declarations(self) -> list[str]:
         """The lines of the port."""
-        config = self.names.config
-        return [*(f"input {config[it]}" for it in ("clk", "we", "bit")), f"input {vector(self.width, True)}{config['addr']}"]
+        config, data = self.names.config, f"input {vector(self.word)}{self.names.config[self.data]}"
+        return [*(f"input {config[it]}" for it in ("clk", "we")), data, f"input {vector(self.width, True)}{config['addr']}"]
+
+    @property
+    def addresses(self) -> int:
+        """How many addresses there are."""
+        return -(-self.store.size // self.word)
 
     @property
     def width(self) -> int:
         """How many digits an address has."""
-        return max(1, (self.store.size - 1).bit_length())
+        return max(1, (self.addresses - 1).bit_length())
 
     def comment(self) -> str:
         """What the port does, in lines of a comment."""
@@ -150,9 +159,45 @@ class Random(FlipFlops):
     def operations(self, before: list[int], after: list[int], writes: list[tuple[int, int]], text: str) -> list[Operation]:
         """What is sent for some writes: each cell once."""
         check_writes(self.store, writes, before, text.startswith("upset"), text)
-        cells = sorted({self.store.places[address][0] for address, _ in writes if address in self.store.places})
-        return [Operation("write", [str(cell), str(after[self.store.cells[cell]])]) for cell in cells]
+        cells = {self.store.places[address][0] for address, _ in writes if address in self.store.places}
+        return [self.write(number, after) for number in sorted({cell // self.word for cell in cells})]
 
     def whole(self, configuration: list[int]) -> list[Operation]:
         """What is sent for a whole configuration."""
-        return [Operation("write", [str(cell), str(configuration[address])]) for cell, address in enumerate(self.store.cells)]
+        return [self.write(number, configuration) for number in range(self.addresses)]
+
+    def write(self, number: int, configuration: list[int]) -> Operation:
+        """The write of an address, whose digits begin with the highest cell."""
+        cells = self.store.cells[number * self.word : (number + 1) * self.word]
+        return Operation("write", [str(number), "".join(str(configuration[address]) for address in reversed(cells))])
+
+
+class Words(Random):
+    """Cells in words, each of which is written at once. The flip-flops of a word have one enable, and no gate of their own."""
+
+    data = "data"
+
+    def __init__(self, circuit: Circuit, names: Names, store: Store, word: int):
+        super().__init__(circuit, names, store)
+        self.word = word
+
+    def comment(self) -> str:
+        """What the port does, in lines of a comment."""
+        config = self.names.config
+        return f"""// At a rising edge of {config['clk']} with {config['we']} the word with the number {config['addr']} becomes {config['data']}.
+// There are {self.addresses} of them, with {self.store.size} bits; `flow stream` prints what to send."""
+
+    def lines(self) -> list[str]:
+        """The words and their decoder."""
+        config, size = self.names.config, self.store.size
+        if not size:
+            return []
+        lines = [f"    reg {vector(size, True)}{config['bits']} = {binary(self.store.values(self.store.start))};"]
+        for number in range(self.addresses):
+            first, high = number * self.word, min(size, (number + 1) * self.word) - 1
+            lines += [
+                f"    always @(posedge {config['clk']})",
+                f"        if ({config['we']} && {config['addr']} == {self.width}'d{number})",
+                f"            {config['bits']}[{high}:{first}] <= {config['data']}[{high - first}:0];",
+            ]
+        return lines

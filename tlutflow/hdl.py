@@ -5,29 +5,48 @@ A target says how LUTs with changing bits are implemented, and a port how they a
 
 from __future__ import annotations
 
+from dataclasses import dataclass
 from typing import Union
 
 from tlutflow.cfglut import CfglutChain, CfglutRandom
 from tlutflow.circuit import Circuit
 from tlutflow.faults import Fault
-from tlutflow.flip_flops import Chain, Random
+from tlutflow.flip_flops import Chain, Random, Words
 from tlutflow.store import store_of
 from tlutflow.verilog_names import Names
 
 TARGETS = ("generic", "xilinx")
 PORTS = ("chain", "random")
+# A test bench keeps a word in an integer.
+MOST_WORD = 32
 Device = Union[Chain, Random, CfglutChain, CfglutRandom]
 
 
-def device_of(circuit: Circuit, names: Names, target: str, port: str, bits: str, regions: int) -> Device:
+@dataclass(frozen=True)
+class Way:
+    """How a configuration is kept and changed: the words that `flow hdl` and `flow stream` take."""
+
+    target: str = "generic"
+    port: str = "chain"
+    bits: str = "changing"
+    regions: int = 1
+    word: int = 1
+
+
+def device_of(circuit: Circuit, names: Names, way: Way) -> Device:
     """The LUTs and the configuration port of a circuit."""
+    target, port, bits, regions, word = way.target, way.port, way.bits, way.regions, way.word
+    if not 1 <= word <= MOST_WORD or word > 1 and (target, port) != ("generic", "random"):
+        raise Fault(f"--word {word}: with --port random the generic target has words of 1 to {MOST_WORD} bits, and all other ports have none")
     if regions < 1 or regions > 1 and (target, port) != ("generic", "chain"):
         raise Fault(f"--regions {regions}: the generic target has one chain or more, one for each region, and all other ports have one region")
     if target == "xilinx":
         store = store_of(circuit.pack, "changing" if bits == "distinct" else bits)
         return CfglutChain(circuit, names, store) if port == "chain" else CfglutRandom(circuit, names, store)
     store = store_of(circuit.pack, bits)
-    return Chain(circuit, names, store, regions) if port == "chain" else Random(circuit, names, store)
+    if port == "chain":
+        return Chain(circuit, names, store, regions)
+    return Words(circuit, names, store, word) if word > 1 else Random(circuit, names, store)
 
 
 def usual_port(target: str) -> str:

@@ -25,7 +25,7 @@ KEYWORDS = set(
 
 # The configuration's ports, and the registers and wires behind them.
 CONFIG = (
-    *("clk", "we", "in", "out", "commit", "addr", "bit", "busy", "chain", "bits", "row", "column"),
+    *("clk", "we", "in", "out", "commit", "addr", "bit", "data", "busy", "chain", "bits", "row", "column"),
     *("kept_addr", "kept_bit", "turning", "hit", "last", "entry", "end", "ends", "token", "between"),
 )
 # Those that other names begin with.

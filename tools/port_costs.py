@@ -28,13 +28,16 @@ DESIGNS = {
     "vote8": ("tlutflow/tests/designs/vote8.v", {}),
     "fir8": ("examples/fir8/fir8.v", {}),
 }
+# The rows: the title, the target, and the further words of `flow hdl`.
 WAYS = [
-    ("chain", "generic", "chain", "changing"),
-    ("chain, distinct", "generic", "chain", "distinct"),
-    ("random", "generic", "random", "changing"),
-    ("random, distinct", "generic", "random", "distinct"),
-    ("Xilinx, random", "xilinx", "random", "changing"),
-    ("Xilinx, chain", "xilinx", "chain", "changing"),
+    ("chain", "generic", ["--port", "chain"]),
+    ("chain, distinct", "generic", ["--port", "chain", "--bits", "distinct"]),
+    ("random", "generic", ["--port", "random"]),
+    ("random, distinct", "generic", ["--port", "random", "--bits", "distinct"]),
+    ("random, words", "generic", ["--port", "random", "--word", "8"]),
+    ("random, words, distinct", "generic", ["--port", "random", "--word", "8", "--bits", "distinct"]),
+    ("Xilinx, random", "xilinx", ["--port", "random"]),
+    ("Xilinx, chain", "xilinx", ["--port", "chain"]),
 ]
 COMMANDS = {"generic": "synth_ice40 -top {top} -flatten", "xilinx": "synth_xilinx -top {top} -flatten -noiopad -noclkbuf -nodsp"}
 FLIP_FLOPS = re.compile(r"SB_DFF\w*|FD[RSCP]E")
@@ -114,9 +117,9 @@ def prepare(name, sizes, folder):
         circuit = read_circuit(*files)
         changing = store_of(circuit.pack, "changing")
         tunable = len({circuit.table_at[address] for address in changing.places})
-        for title, target, port, bits in WAYS:
-            top = f"{name}_{size}_{target}_{port}_{bits}"
-            text = run([f"{TOP}/flow", "hdl", *files, "--target", target, "--port", port, "--bits", bits, "--module", top], folder)
+        for number, (title, target, words) in enumerate(WAYS):
+            top = f"{name}_{size}_{number}"
+            text = run([f"{TOP}/flow", "hdl", *files, "--target", target, *words, "--module", top], folder)
             with open(f"{folder}/{top}.v", "w", encoding="utf-8") as out:
                 out.write(text)
             about = f"{len(circuit.tables)} LUTs, {tunable} of them rewritable, {changing.size} bits"
@@ -126,8 +129,8 @@ def prepare(name, sizes, folder):
 
 def main():
     parser = argparse.ArgumentParser(description=__doc__, formatter_class=argparse.RawDescriptionHelpFormatter)
-    parser.add_argument("designs", nargs="*", default=list(DESIGNS), metavar="DESIGN", help=", ".join(DESIGNS))
-    parser.add_argument("--k", type=int, nargs="+", default=[4, 6], choices=range(2, 7))
+    parser.add_argument("designs", nargs="*", default=list(DESIGNS), metavar="DESIGN", help=f"what is measured, of {', '.join(DESIGNS)}; all without")
+    parser.add_argument("--k", type=int, nargs="+", default=[4, 6], choices=range(2, 7), help="the inputs of a LUT (default: 4 and 6)")
     ports = ["registers", *(way[0] for way in WAYS)]
     parser.add_argument("--port", nargs="+", default=ports, choices=ports, help="the rows; all without")
     parser.add_argument("--jobs", type=int, default=1, help="how many run at a time")

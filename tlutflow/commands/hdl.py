@@ -10,7 +10,7 @@ from tlutflow import tools
 from tlutflow.bench import bench_text, events_text
 from tlutflow.circuit import Circuit, read_circuit
 from tlutflow.faults import Fault
-from tlutflow.hdl import PORTS, TARGETS, Device, device_of, module_text, usual_port
+from tlutflow.hdl import PORTS, TARGETS, Device, Way, device_of, module_text, usual_port
 from tlutflow.output import Output, parse_output
 from tlutflow.script import read_script
 from tlutflow.store import KINDS
@@ -29,7 +29,7 @@ and the ports
 
   chain      all bits are shifted in and then shown at once by cfg_commit (default of generic); on xilinx there is no cfg_commit, and
              the circuit can't be used while bits are shifted
-  random     one bit at a time, by its number (default of xilinx, where a write takes 32 or 64 periods)
+  random     one bit at a time, by its number (default of xilinx, where a write takes 32 or 64 periods); with --word one word at a time
 
 `flow stream` prints what to send for new values of the parameters.
 
@@ -49,6 +49,12 @@ def add_device_words(parser: argparse.ArgumentParser) -> None:
     kinds = "which bits can be written: those that read a parameter (changing, the default), the same with one flip-flop for all bits of one function (distinct), or all"
     parser.add_argument("--bits", choices=KINDS, default="changing", help=kinds)
     parser.add_argument("--regions", metavar="N", type=int, default=1, help="with --port chain: one chain for each region of addresses, as `tlut run` has them for N ports")
+    parser.add_argument("--word", metavar="N", type=int, default=1, help="with --port random of generic: write words of N bits, which needs fewer LUTs (default: 1)")
+
+
+def way_of(given: argparse.Namespace) -> Way:
+    """What these words choose."""
+    return Way(given.target, given.port or usual_port(given.target), given.bits, given.regions, given.word)
 
 
 def add_words(parser: argparse.ArgumentParser) -> None:
@@ -73,7 +79,7 @@ def make_folder(path: str) -> None:
 def device_and_names(given: argparse.Namespace, circuit: Circuit) -> tuple[Device, Names]:
     """What the arguments choose for a circuit."""
     names = names_of(circuit, module_name(given.module, circuit.name))
-    return device_of(circuit, names, given.target, given.port or usual_port(given.target), given.bits, given.regions), names
+    return device_of(circuit, names, way_of(given)), names
 
 
 def write_files(given: argparse.Namespace, circuit: Circuit, folder: str) -> tuple[str, Output]:

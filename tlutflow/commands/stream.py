@@ -7,9 +7,9 @@ import argparse
 from tlutflow.bench import operations_of
 from tlutflow.buses import assigned
 from tlutflow.circuit import Circuit, bare_circuit, read_circuit
-from tlutflow.commands.hdl import add_device_words
+from tlutflow.commands.hdl import add_device_words, way_of
 from tlutflow.faults import Fault
-from tlutflow.hdl import Device, device_of, usual_port
+from tlutflow.hdl import Device, device_of
 from tlutflow.output import parse_output
 from tlutflow.pack import read_pack
 from tlutflow.tables import Operation
@@ -23,7 +23,8 @@ With NAME=VALUE arguments: for these values of the parameters, the others as in 
 which is what `tlut bits` or `tlut run` printed for the same pack.
 
   chain      one line of digits for a change, the first digit first; with --regions the digits of each chain, - where it stays
-  random     one line for a change: NUMBER=BIT for each write, the bits that change; with --all for each bit that can change
+  random     one line for a change: NUMBER=BIT for each write, the bits that change; with --all for each bit that can change. With --word
+             the digits of a word, its highest bit first
 
 --target xilinx also needs --template, for the sizes of the LUTs."""
 EXAMPLE = """examples:
@@ -62,7 +63,7 @@ def run(given: argparse.Namespace) -> int:
     if given.target == "xilinx" and not given.template:
         raise Fault("--target xilinx needs --template")
     circuit = read_circuit(given.template, given.pack) if given.template else bare_circuit(read_pack(given.pack), given.pack)
-    device = device_of(circuit, names_of(circuit, "m"), given.target, given.port or usual_port(given.target), given.bits, given.regions)
+    device = device_of(circuit, names_of(circuit, "m"), way_of(given))
     if given.values:
         print(of_values(given, circuit, device))
         return 0

@@ -3,7 +3,7 @@
 import unittest
 
 from tlutflow.circuit import circuit_of
-from tlutflow.hdl import PORTS, TARGETS, device_of, module_text
+from tlutflow.hdl import PORTS, TARGETS, Way, device_of, module_text
 from tlutflow.netlist import parse_library
 from tlutflow.pack import parse_pack
 from tlutflow.tests.helpers import DATA, EXAMPLES, MUX_PACK, MUX_TEMPLATE, InFolder, example, flow, mapped, mux, needs, yosys_share
@@ -32,7 +32,7 @@ WAYS = [(target, port) for target in TARGETS for port in PORTS]
 
 
 def device(circuit, names, target="generic", port="chain", bits="changing"):
-    return device_of(circuit, names, target, port, bits, 1)
+    return device_of(circuit, names, Way(target, port, bits))
 
 
 class Texts(unittest.TestCase):
@@ -88,11 +88,12 @@ class Simulations(InFolder):
                 self.assertEqual(ran.stdout, f"{text.count(chr(10))} lines of the simulation, all as the run's\n", f"{name} {target} {port} {ran.stderr}")
 
     @needs(ICARUS, ICARUS_PLAYER)
-    def test_shared_cells_and_regions(self):
+    def test_shared_cells_regions_and_words(self):
         # Up to the first upset, which hits a bit that shares its cell.
         text = example("coder/expected.txt").split("upset")[0]
         script = self.put("s.scr", example("coder/keys.scr").split("upset")[0])
-        for words in (("--bits", "distinct"), ("--bits", "distinct", "--port", "random"), ("--regions", "3"), ("--regions", "64")):
+        by_word = [("--port", "random", "--word", size, *more) for size in ("3", "8", "32") for more in ((), ("--bits", "distinct"))]
+        for words in (("--bits", "distinct"), ("--bits", "distinct", "--port", "random"), ("--regions", "3"), ("--regions", "64"), *by_word):
             ran = flow("hdl", f"{DATA}/coder_t.blif", f"{DATA}/coder.ppc", *words, "--script", script, "--simulate", given=text)
             self.assertEqual(ran.stdout, f"{text.count(chr(10))} lines of the simulation, all as the run's\n", f"{words} {ran.stderr}")
 
@@ -136,12 +137,13 @@ class Simulations(InFolder):
         """The bench uses the ports alone, so it plays what Yosys makes of the circuit."""
         text, share = example("coder/expected.txt"), yosys_share()
         cells = {"generic": ("synth_ice40", f"{share}/ice40/cells_sim.v"), "xilinx": ("synth_xilinx -noiopad -noclkbuf", f"{share}/xilinx/cells_sim.v")}
-        for target, port in WAYS:
-            path, made = self.put("m.v", flow("hdl", f"{DATA}/coder_t.blif", f"{DATA}/coder.ppc", "--target", target, "--port", port).stdout), f"{self.folder}/made.v"
+        for target, port, *word in (*WAYS, ("generic", "random", "--word", "8")):
+            words, made = ("--target", target, "--port", port, *word), f"{self.folder}/made.v"
+            path = self.put("m.v", flow("hdl", f"{DATA}/coder_t.blif", f"{DATA}/coder.ppc", *words).stdout)
             command, library = cells[target]
             ran = run([find(YOSYS) or "", "-q", "-p", f"read_verilog {path}; {command} -top coder_mapped -flatten; write_verilog -noattr {made}"])
             self.assertEqual((ran.returncode, ran.stderr), (0, ""))
-            ran = self.simulate("coder", "keys", text, "--target", target, "--port", port, "--netlist", made, "--netlist", library)
+            ran = self.simulate("coder", "keys", text, *words, "--netlist", made, "--netlist", library)
             cycles = sum(line.startswith("cycle") for line in text.splitlines())
             self.assertEqual(ran.stdout, f"{cycles} cycles of the netlist, all outputs as the run's\n", f"{target} {port} {ran.stderr}")
 
@@ -156,8 +158,8 @@ class Simulations(InFolder):
     @needs(VERILATOR)
     def test_verilator_has_nothing_to_say(self):
         for name in ("fir", "coder"):
-            for target, port in WAYS:
-                flow("hdl", f"{DATA}/{name}_t.blif", f"{DATA}/{name}.ppc", "--target", target, "--port", port, "--out", self.folder)
+            for target, port, *word in (*WAYS, ("generic", "random", "--word", "8")):
+                flow("hdl", f"{DATA}/{name}_t.blif", f"{DATA}/{name}.ppc", "--target", target, "--port", port, *word, "--out", self.folder)
                 files = [f"{self.folder}/{name}_mapped{end}.v" for end in ("", "_bench")]
                 ran = run([find(VERILATOR) or "", "--lint-only", "-Wall", "-DINSIDE", "--timing", "--top-module", f"{name}_mapped_bench", *files])
                 self.assertEqual((ran.returncode, ran.stderr), (0, ""))
@@ -169,6 +171,8 @@ class Simulations(InFolder):
         self.assert_fault(flow("hdl", *files, "--target", "other"), "invalid choice", 2)
         self.assert_fault(flow("hdl", *files, "--netlist", "x.v"), "--netlist needs --simulate")
         self.assert_fault(flow("hdl", *files, "--regions", "2", "--port", "random"), "all other ports have one region")
+        for words in (("--word", "8"), ("--port", "random", "--word", "33"), ("--port", "random", "--word", "8", "--target", "xilinx")):
+            self.assert_fault(flow("hdl", *files, *words), "the generic target has words of 1 to 32 bits, and all other ports have none")
         for name in ("foo bar", "1x", "wire", "../x", ""):
             self.assert_fault(flow("hdl", *files, "--module", name, "--out", self.folder), "a module's name has letters, digits and _")
         script = ("--script", f"{EXAMPLES}/fir/ten.scr", "--simulate")

@@ -32,13 +32,18 @@ endmodule
 class Streams(InFolder):
     def test_values_and_lines_give_the_same(self):
         lines = "bits 484\nset 14 145=0 147=1 149=1 151=0 199=0 201=0 213=0 215=1 382=1 419=1 423=1 427=1 430=1 431=1\n"
-        for words in ((), ("--port", "random"), ("--bits", "distinct"), ("--bits", "distinct", "--port", "random"), ("--regions", "2")):
+        for words in ((), ("--port", "random"), ("--bits", "distinct"), ("--bits", "distinct", "--port", "random"), ("--regions", "2"), ("--port", "random", "--word", "8")):
             by_values = flow("stream", FIR, "c1[2]=1", *words)
             self.assertEqual((by_values.returncode, by_values.stdout), (0, flow("stream", FIR, *words, given=lines).stdout), by_values.stderr)
         changes = flow("stream", FIR, "c1[2]=1", "--port", "random").stdout.split()
         self.assertEqual(len(changes), 14)
         everything = flow("stream", FIR, "c1[2]=1", "--port", "random", "--all").stdout.split()
         self.assertEqual((len(everything), set(changes) <= set(everything)), (126, True))
+        bits = dict(map(int, word.split("=")) for word in everything)
+        for size in (8, 32):
+            found = flow("stream", FIR, "c1[2]=1", "--port", "random", "--all", "--word", str(size)).stdout.split()
+            digits = [digit for word in found for digit in reversed(word.split("=")[1])]
+            self.assertEqual(([word.split("=")[0] for word in found], digits), ([str(it) for it in range(-(-126 // size))], [str(bits[it]) for it in range(126)]))
 
     def test_a_chain_has_the_bits_that_change(self):
         pack = read_pack(FIR)

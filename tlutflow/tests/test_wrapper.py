@@ -7,6 +7,7 @@ import os
 import re
 import shutil
 import subprocess
+import sys
 import time
 import unittest
 
@@ -156,6 +157,8 @@ class Wrapper(InFolder):
 
 class FirstCall(unittest.TestCase):
     def test_it_is_never_silent_for_long(self):
+        sys.path.insert(0, f"{TOP}/tools")
+        self.addCleanup(sys.path.remove, f"{TOP}/tools")
         spec = importlib.util.spec_from_file_location("build_program", f"{TOP}/tools/build_program.py")
         module = importlib.util.module_from_spec(spec)
         spec.loader.exec_module(module)
