@@ -16,7 +16,9 @@ import tempfile
 import threading
 import time
 
-TOP = os.path.dirname(os.path.dirname(os.path.abspath(__file__)))
+import shared
+from shared import TOP
+
 PROGRAMS = ["tlut", "tlut_compact"]
 # What a check reads of a crate, and what its program is run on.
 PARTS = ["src", "specs", "proofs", "stdin", "stdout", "args", "status", "data"]
@@ -119,15 +121,18 @@ def place(room, name, begun):
 
 
 def main():
+    parser = shared.words(__doc__)
+    parser.add_argument("log", metavar="LOG", help="the file for what the check prints")
+    path = parser.parse_args().log
     if not shutil.which("rt"):
         print("tlut: the program is not built yet, and rt, which builds it, is not on the PATH", file=sys.stderr)
         return 1
     begun = time.time()
-    with open(sys.argv[1], "w", encoding="utf-8") as log, tempfile.TemporaryDirectory(prefix="tlut-") as room:
+    with open(path, "w", encoding="utf-8") as log, tempfile.TemporaryDirectory(prefix="tlut-") as room:
         with Voice(copy_crates(room)) as voice:
             is_proved = prove(room, voice, log)
         if not is_proved:
-            print(f"tlut: the program was not proved; see {sys.argv[1]}", file=sys.stderr)
+            print(f"tlut: the program was not proved; see {path}", file=sys.stderr)
             return 1
         for name in PROGRAMS:
             place(room, name, begun)

@@ -12,14 +12,20 @@ import subprocess
 import sys
 import tempfile
 
-TOP = os.path.dirname(os.path.dirname(os.path.abspath(__file__)))
-PROGRAM = os.path.abspath(sys.argv[1]) if len(sys.argv) > 1 else f"{TOP}/crates/tlut/out/tlut"
+import shared
+from shared import TOP
 
 
-def tlut(*words):
-    """The status of a call, and what it printed."""
-    ran = subprocess.run([PROGRAM, *words], capture_output=True, text=True, check=False)
-    return ran.returncode, ran.stdout.strip()
+class Program:
+    """The program that is tried."""
+
+    def __init__(self, path):
+        self.path = path
+
+    def call(self, *words):
+        """The status of a call, and what it printed."""
+        ran = subprocess.run([self.path, *words], capture_output=True, text=True, check=False)
+        return ran.returncode, ran.stdout.strip()
 
 
 def without_a_path(lines):
@@ -40,41 +46,40 @@ def with_more_depth(lines):
     return [f"depth {int(lines[0].split()[1]) + 1}"] + lines[1:]
 
 
-def is_refused(words, lines, name):
+def is_refused(program, words, lines, name):
     """Whether a certificate of these lines is refused."""
     with open(name, "w", encoding="utf-8") as file:
         file.write("\n".join(lines) + "\n")
-    return tlut("audit", *words, name)[0] == 3
+    return program.call("audit", *words, name)[0] == 3
 
 
-def outcomes(words, name):
+def outcomes(program, words, name):
     """Whether each thing that is asked of one netlist, list and K holds, with its name."""
-    status, printed = tlut("prove", *words, name)
+    status, printed = program.call("prove", *words, name)
     yield "prove", status == 0 and printed.startswith("depth ")
     if status != 0:
         return
     depth = printed.split()[1]
-    yield "audit", tlut("audit", *words, name) == (0, f"depth at least {depth}")
+    yield "audit", program.call("audit", *words, name) == (0, f"depth at least {depth}")
     with open(name, encoding="utf-8") as file:
         lines = file.read().splitlines()
-    yield "depth raised", is_refused(words, with_more_depth(lines), name)
+    yield "depth raised", is_refused(program, words, with_more_depth(lines), name)
     if len(lines) > 1:
-        yield "path dropped", is_refused(words, without_a_path(lines), name)
-        yield "node changed", is_refused(words, with_another_node(lines), name)
+        yield "path dropped", is_refused(program, words, without_a_path(lines), name)
+        yield "node changed", is_refused(program, words, with_another_node(lines), name)
 
 
 def main():
-    passed = failed = 0
+    program, passed, failed = Program(shared.one_program(__doc__)), 0, 0
     with tempfile.TemporaryDirectory() as folder:
         for netlist in sorted(glob.glob(f"{TOP}/examples/*/*.blif")):
             for params in sorted(glob.glob(f"{os.path.dirname(netlist)}/*.par")):
                 for k in "23456":
-                    for what, holds in outcomes((k, netlist, params), f"{folder}/cert"):
+                    for what, holds in outcomes(program, (k, netlist, params), f"{folder}/cert"):
                         passed, failed = passed + holds, failed + (not holds)
                         if not holds:
                             print(f"{os.path.relpath(netlist, TOP)} {os.path.basename(params)} K {k}: {what}")
-    print(f"{passed} passed, {failed} failed")
-    return failed > 0
+    return shared.summary(passed, failed)
 
 
 if __name__ == "__main__":

@@ -23,6 +23,7 @@ sys.path.insert(0, TOP)
 sys.path.insert(0, f"{TOP}/tools")
 
 import designs
+import shared
 from tlutflow import tools
 from tlutflow.faults import Fault
 from tlutflow.pack import read_pack
@@ -136,9 +137,15 @@ def by_bits(pack, turned, room):
 
 
 def main():
-    given = sys.argv[1:]
+    parser = shared.words(__doc__)
+    parser.add_argument("netlist", metavar="NETLIST", nargs="?", help="a netlist (default: the filter)")
+    parser.add_argument("params", metavar="PARAMS", nargs="?", help="its parameter list")
+    parser.add_argument("k", metavar="K", nargs="?", choices="23456", help="the inputs of a LUT")
+    given = parser.parse_args()
+    if given.netlist and not given.k:
+        parser.error("NETLIST needs PARAMS and K")
     with tempfile.TemporaryDirectory() as room:
-        netlist, params, k = given if len(given) == 3 else (*designs.write(room)["filter"], "6")
+        netlist, params, k = (given.netlist, given.params, given.k) if given.netlist else (*designs.write(room)["filter"], "6")
         ran = tools.run([f"{TOP}/tlut", "map", k, os.path.abspath(netlist), os.path.abspath(params), f"{room}/template.blif", f"{room}/bits.ppc"])
         if ran.returncode:
             raise Fault(ran.stderr.strip())

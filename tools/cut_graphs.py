@@ -6,7 +6,7 @@
 The first is an array multiplier, the second a Benes network whose switches are parameters. The first line has the numbers of sources
 and of AND nodes; then come a 0 or 1 for each source (1: a parameter) and two literals for each AND node.
 """
-import sys
+import shared
 
 
 class Graph:
@@ -80,9 +80,12 @@ def benes(size):
 
 def main():
     kinds = {"multiplier": multiplier, "benes": benes}
-    if len(sys.argv) != 3 or sys.argv[1] not in kinds:
-        sys.exit(__doc__)
-    kinds[sys.argv[1]](int(sys.argv[2])).write()
+    parser = shared.words(__doc__)
+    parser.add_argument("kind", metavar="KIND", choices=kinds, help=", ".join(kinds))
+    parser.add_argument("size", metavar="SIZE", type=int, help="the bits of a factor, or the lines of the network")
+    given = parser.parse_args()
+    kinds[given.kind](given.size).write()
 
 
-main()
+if __name__ == "__main__":
+    main()

@@ -22,10 +22,10 @@ import tempfile
 TOP = os.path.dirname(os.path.dirname(os.path.abspath(__file__)))
 sys.path.insert(0, TOP)
 
+import shared
 from tlutflow import tools
 
 EXAMPLES = f"{TOP}/crates/tlut_examples/data"
-PROGRAM = f"{TOP}/crates/bench_mapping/out/bench_mapping"
 STAGES = ["read", "flatten", "graph", "cuts", "labels", "certificate", "cover", "functions", "cycles", "changes"]
 EVENTS = 1000
 RUNS = 80
@@ -248,16 +248,21 @@ def compare(programs):
 
 
 def main():
-    words = sys.argv[1:]
-    if len(words) == 2 and words[0] == "write":
-        os.makedirs(words[1], exist_ok=True)
-        write(words[1])
-    elif len(words) in (1, 2, 3) and words[0] == "time":
-        show(os.path.abspath(words[1]) if len(words) > 1 else PROGRAM, int(words[2]) if len(words) > 2 else 4)
-    elif len(words) > 1 and words[0] == "cuts":
-        compare([os.path.abspath(it) for it in words[1:]])
+    parser = shared.words(__doc__)
+    kinds = parser.add_subparsers(dest="word", metavar="write|time|cuts", required=True, help="what is done")
+    kinds.add_parser("write").add_argument("room", metavar="ROOM", help="the folder of the netlists")
+    timed = kinds.add_parser("time")
+    timed.add_argument("program", metavar="PROGRAM", nargs="?", type=os.path.abspath, default=shared.MEASURED, help="a built bench_mapping")
+    timed.add_argument("k", metavar="K", nargs="?", type=int, choices=range(2, 7), default=4, help="the inputs of a LUT (default: 4)")
+    kinds.add_parser("cuts").add_argument("programs", metavar="PROGRAM", nargs="+", type=os.path.abspath, help="a built bench_mapping")
+    given = parser.parse_args()
+    if given.word == "write":
+        os.makedirs(given.room, exist_ok=True)
+        write(given.room)
+    elif given.word == "time":
+        show(given.program, given.k)
     else:
-        sys.exit(__doc__)
+        compare(given.programs)
 
 
 if __name__ == "__main__":

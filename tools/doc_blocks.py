@@ -19,7 +19,9 @@ import subprocess
 import sys
 import tempfile
 
-TOP = os.path.dirname(os.path.dirname(os.path.abspath(__file__)))
+import shared
+from shared import TOP
+
 # What some lines call for.
 ABC = ("yosys-abc", "berkeley-abc", "abc")
 TOOLS = [
@@ -114,6 +116,7 @@ def look_at(name, page):
 
 
 def main():
+    shared.words(__doc__).parse_args()
     pages = ["README.md", *sorted(f"docs/{name}" for name in os.listdir(f"{TOP}/docs") if name.endswith(".md"))]
     commands = blocks = failed = 0
     subprocess.run([f"{TOP}/tlut"], stdout=subprocess.DEVNULL, stderr=subprocess.DEVNULL)

@@ -22,7 +22,9 @@ import os
 import re
 import sys
 
-TOP = os.path.dirname(os.path.dirname(os.path.abspath(__file__)))
+import shared
+from shared import TOP
+
 PAGES = ["README.md", "CONTRIBUTING.md", *sorted(f"docs/{name}" for name in os.listdir(f"{TOP}/docs") if name.endswith(".md"))]
 # Crates whose functions no other crate of the product calls.
 TESTS = {"test_player", "test_rows", "test_texts", "test_graphs", "bench_mapping", "tlut", "tlut_compact", "tlut_examples", "tlut_main"}
@@ -452,18 +454,20 @@ def self_test(texts, tree):
 
 
 def main():
-    words = sys.argv[1:]
-    if words not in ([], ["--update"], ["--self-test"]):
-        sys.exit(__doc__)
+    parser = shared.words(__doc__)
+    one = parser.add_mutually_exclusive_group()
+    one.add_argument("--update", action="store_true", help="write the counts into docs/testing.md first")
+    one.add_argument("--self-test", action="store_true", help="look for planted facts too")
+    given = parser.parse_args()
     tree = Tree()
-    if words == ["--update"]:
+    if given.update:
         update(tree)
     texts = {page: read(page) for page in PAGES}
     checks = Checks(texts, tree)
     for line in checks.all():
         print(line)
     print(f"{checks.facts} facts, {len(checks.wrong)} wrong")
-    if words == ["--self-test"] and not checks.wrong:
+    if given.self_test and not checks.wrong:
         return 1 if self_test(texts, tree) else 0
     return 1 if checks.wrong else 0
 

@@ -10,13 +10,11 @@ the complete call and from what failed, as docs/formats.md describes it. The las
 if M isn't 0.
 """
 import os
-import shutil
 import subprocess
 import sys
 import tempfile
 
-TOP = os.path.dirname(os.path.dirname(os.path.abspath(__file__)))
-PROGRAMS = [os.path.abspath(word) for word in sys.argv[1:]] or [f"{TOP}/crates/{name}/out/{name}" for name in ("tlut", "tlut_compact")]
+import shared
 
 # Fails the call whose number stands in FAILING, counted from 1, tells in TOLD whether it read, wrote or synced and which file, and how many
 # calls there were. With HALF a write takes half first, and then each call on its file fails.
@@ -207,15 +205,6 @@ def is_right(left, whole, outputs, spares):
     return has_ports(left, whole, spares)
 
 
-def compile_shim(folder):
-    """Compiles the library that is loaded before the program, and returns its path."""
-    source, shim = f"{folder}/shim.c", f"{folder}/shim.so"
-    with open(source, "w", encoding="utf-8") as file:
-        file.write(SHIM)
-    subprocess.run(["cc", "-O1", "-shared", "-fPIC", "-o", shim, source, "-ldl"], check=True)
-    return shim
-
-
 def try_call(program, shim, words, outputs, spares):
     """Fails each call of one command in turn. Returns how many runs left what they have to, and how many did not."""
     passed = failed = 0
@@ -233,18 +222,18 @@ def try_call(program, shim, words, outputs, spares):
 
 
 def main():
-    if not shutil.which("cc"):
+    programs = shared.some_programs(__doc__, shared.PROGRAMS)
+    if not shared.has_compiler():
         print("left out, since cc isn't there")
         return 0
     passed = failed = 0
     with tempfile.TemporaryDirectory() as folder:
-        shim = compile_shim(folder)
-        for program in PROGRAMS:
+        shim = shared.preloaded(SHIM, folder)
+        for program in programs:
             for call in CALLS:
                 more = try_call(program, shim, *call)
                 passed, failed = passed + more[0], failed + more[1]
-    print(f"{passed} passed, {failed} failed")
-    return 1 if failed else 0
+    return shared.summary(passed, failed)
 
 
 if __name__ == "__main__":

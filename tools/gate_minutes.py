@@ -15,6 +15,8 @@ import subprocess
 import sys
 import time
 
+import shared
+
 KINDS = ("proof", "tests", "edits")
 TICKS = os.sysconf("SC_CLK_TCK")
 
@@ -95,9 +97,11 @@ def show(totals, other, wall):
 
 def main():
     signal.signal(signal.SIGINT, signal.default_int_handler)
-    words = sys.argv[1:]
-    if words[:1] == ["--pid"]:
-        root = int(words[1])
+    parser = shared.words(__doc__)
+    parser.add_argument("--pid", metavar="N", type=int, help="the process of a run that has begun")
+    given, words = parser.parse_known_args()
+    if given.pid is not None:
+        root = given.pid
         show(*watch(root, lambda: os.path.exists(f"/proc/{root}")))
         return 0
     with subprocess.Popen(["rt", "ci", *words]) as run:
@@ -106,4 +110,5 @@ def main():
         return run.wait()
 
 
-sys.exit(main())
+if __name__ == "__main__":
+    sys.exit(main())

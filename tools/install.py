@@ -10,7 +10,9 @@ import os
 import shutil
 import sys
 
-TOP = os.path.dirname(os.path.dirname(os.path.abspath(__file__)))
+import shared
+from shared import TOP
+
 # What is copied, and where it goes below PREFIX/lib/tlut.
 FILES = [
     ("tlut", "tlut"),
@@ -78,7 +80,11 @@ def install(prefix, version):
 
 
 def main():
-    prefix, version = os.path.abspath(sys.argv[1]), sys.argv[2]
+    parser = shared.words(__doc__)
+    parser.add_argument("prefix", metavar="PREFIX", type=os.path.abspath, help="where it is installed")
+    parser.add_argument("version", metavar="VERSION", help="what `tlut --version` says there")
+    given = parser.parse_args()
+    prefix, version = given.prefix, given.version
     try:
         install(prefix, version)
     except OSError as error:

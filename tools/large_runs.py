@@ -6,15 +6,13 @@
 Outside the gate. Call `./tlut` once before, to build the program. Each line has the time of a run and the header that the program
 printed, which isn't compared. The last line is `N passed, M failed`, and the exit status is 1 if M isn't 0.
 """
-import os
 import random
 import subprocess
 import sys
 import tempfile
 import time
 
-TOP = os.path.dirname(os.path.dirname(os.path.abspath(__file__)))
-PROGRAM = os.path.abspath(sys.argv[1]) if len(sys.argv) > 1 else f"{TOP}/crates/tlut/out/tlut"
+import shared
 
 PARAMS = [f"p{i}" for i in range(8)]
 INPUTS = [f"x{i}" for i in range(56)]
@@ -80,13 +78,13 @@ def job(count, cycles):
     return netlist.text(), "".join(f"{name} {bit}\n" for name, bit in params.items()), script, lines
 
 
-def run(count, k):
+def run(program, count, k):
     *texts, wanted = job(count, 20)
     with tempfile.TemporaryDirectory() as room:
         for file, text in zip(("n.blif", "p.par", "s.scr"), texts):
             with open(f"{room}/{file}", "w", encoding="ascii") as it:
                 it.write(text)
-        words = [PROGRAM, "run", str(k), "n.blif", "p.par", "s.scr", "0", "0"]
+        words = [program, "run", str(k), "n.blif", "p.par", "s.scr", "0", "0"]
         begin = time.monotonic()
         ran = subprocess.run(words, cwd=room, capture_output=True, text=True, check=False)
         took = time.monotonic() - begin
@@ -97,9 +95,9 @@ def run(count, k):
 
 
 def main():
-    results = [run(count, k) for count, k in ((1000, 2), (1000, 4), (1000, 6), (20000, 2), (20000, 4), (80000, 4))]
-    print(f"{sum(results)} passed, {len(results) - sum(results)} failed")
-    return 0 if all(results) else 1
+    program = shared.one_program(__doc__)
+    results = [run(program, count, k) for count, k in ((1000, 2), (1000, 4), (1000, 6), (20000, 2), (20000, 4), (80000, 4))]
+    return shared.summary(sum(results), len(results) - sum(results))
 
 
 if __name__ == "__main__":

@@ -7,14 +7,12 @@ Outside the gate. Call `./tlut` once before, to build the program. Each line has
 a call, and whether the status, the outputs and the fault line are as expected. The last line is `N passed, M failed`, and the exit status
 is 1 if M isn't 0.
 """
-import os
 import sys
 import tempfile
 
 import measured
+import shared
 
-TOP = os.path.dirname(os.path.dirname(os.path.abspath(__file__)))
-PROGRAM = os.path.abspath(sys.argv[1]) if len(sys.argv) == 2 else f"{TOP}/crates/tlut/out/tlut"
 STACK = 256 * 1024
 
 WIRE = ".model m\n.inputs a\n.outputs a\n.end\n"
@@ -133,9 +131,9 @@ def rows():
     yield "names of a million bytes", f".model {long}\n.inputs {long}\n.outputs {long}\n.end\n", "", "cycle 1\n", done(NOTHING + "cycle 1 -\n")
 
 
-def call(folder, words):
+def call(program, folder, words):
     """What a call leaves, its time and its memory in MB."""
-    took = measured.run(folder, [PROGRAM, *words], STACK)
+    took = measured.run(folder, [program, *words], STACK)
     return (took.status, open(f"{folder}/out").read(), open(f"{folder}/err").read()), took.clock, took.megabytes
 
 
@@ -151,18 +149,17 @@ def calls():
 
 
 def main():
-    passed = failed = 0
+    program, passed, failed = shared.one_program(__doc__), 0, 0
     for title, words, files, wanted in calls():
         with tempfile.TemporaryDirectory() as folder:
             for name, content in files.items():
                 with open(f"{folder}/{name}", "wb") as file:
                     file.write(content)
-            left, seconds, megabytes = call(folder, words)
+            left, seconds, megabytes = call(program, folder, words)
         outcome = left == wanted
         print(f"{title}: {seconds:.1f} s, {megabytes} MB{'' if outcome else f', NO: {left[0]} {left[1][:80]!r} {left[2][:80]!r}'}", flush=True)
         passed, failed = passed + outcome, failed + (not outcome)
-    print(f"{passed} passed, {failed} failed")
-    return 1 if failed else 0
+    return shared.summary(passed, failed)
 
 
 if __name__ == "__main__":

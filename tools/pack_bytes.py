@@ -12,9 +12,10 @@ import subprocess
 import sys
 import tempfile
 from concurrent.futures import ThreadPoolExecutor
+from functools import partial
 
-TOP = os.path.dirname(os.path.dirname(os.path.abspath(__file__)))
-PROGRAM = os.path.abspath(sys.argv[1]) if len(sys.argv) > 1 else f"{TOP}/crates/tlut/out/tlut"
+import shared
+
 MOST = 2**25
 
 # The names and values of the parameters, the pairs of the nodes, the literals of the bits.
@@ -167,12 +168,12 @@ def spoilt(data):
     return sorted(found)
 
 
-def answer(data):
+def answer(program, data):
     """What the program gives."""
     with tempfile.TemporaryDirectory() as folder:
         with open(f"{folder}/old.ppc", "wb") as file:
             file.write(data)
-        ran = subprocess.run([PROGRAM, "repack", "old.ppc", "new.ppc"], cwd=folder, capture_output=True, timeout=60, check=False)
+        ran = subprocess.run([program, "repack", "old.ppc", "new.ppc"], cwd=folder, capture_output=True, timeout=60, check=False)
         new = None
         if os.path.exists(f"{folder}/new.ppc"):
             with open(f"{folder}/new.ppc", "rb") as file:
@@ -181,16 +182,16 @@ def answer(data):
 
 
 def main():
+    program = shared.one_program(__doc__)
     whole = [encode(pack, version) for pack in PACKS for version in (1, 2)] + [encode(LONG_NAME, 2)]
     files = [data for file in whole for data in spoilt(file)]
     failed = 0
     with ThreadPoolExecutor(2) as pool:
-        for data, got in zip(files, pool.map(answer, files)):
+        for data, got in zip(files, pool.map(partial(answer, program), files)):
             if got != wanted(data):
                 failed += 1
                 print(f"{data.hex()}: {got}, wanted {wanted(data)}")
-    print(f"{len(files) - failed} passed, {failed} failed")
-    return 1 if failed else 0
+    return shared.summary(len(files) - failed, failed)
 
 
 if __name__ == "__main__":

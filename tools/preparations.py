@@ -87,9 +87,9 @@ def cell(result: Result) -> str:
 
 def main() -> int:
     parser = argparse.ArgumentParser(description=__doc__, formatter_class=argparse.RawDescriptionHelpFormatter)
-    parser.add_argument("-j", dest="jobs", type=int, default=0)
-    parser.add_argument("--k", type=int, choices=range(2, 7), action="append")
-    parser.add_argument("--design", action="append", default=[])
+    parser.add_argument("-j", dest="jobs", type=int, default=0, help="how many preparations run at a time")
+    parser.add_argument("--k", type=int, choices=range(2, 7), action="append", help="the inputs of a LUT (repeat it; default: 4 and 6)")
+    parser.add_argument("--design", metavar="WORD", action="append", default=[], help="the designs with this word in their titles (repeat it)")
     given = parser.parse_args()
     print("| Design | K | `--quick` | least depth | by | fewest LUTs | by | ABC, least depth | by |\n|---|---|---|---|---|---|---|---|---|", flush=True)
     ratios: dict[int, list[tuple[float, float]]] = {}

@@ -20,9 +20,9 @@ TOP = os.path.dirname(os.path.dirname(os.path.abspath(__file__)))
 sys.path.insert(0, TOP)
 
 import measured
+import shared
 from tlutflow import tools
 
-PROGRAM = f"{TOP}/crates/tlut/out/tlut"
 ABC = tools.find(tools.ABC)
 INPUTS = 64
 RUNS = 5
@@ -47,7 +47,7 @@ def netlist(stem, count, outputs):
 
 
 def main():
-    programs = [os.path.abspath(it) for it in sys.argv[1:]] or [PROGRAM]
+    programs = shared.some_programs(__doc__, [shared.PROGRAM])
     commands = [(it, [it, "graph", "n.blif", "none.par", "n.aag"]) for it in programs]
     if ABC:
         commands.append(("ABC", [ABC, "-q", "read_blif n.blif; strash; write_aiger n.aig"]))

@@ -13,8 +13,7 @@ import subprocess
 import sys
 import tempfile
 
-TOP = os.path.dirname(os.path.dirname(os.path.abspath(__file__)))
-PROGRAM = os.path.abspath(sys.argv[1]) if len(sys.argv) > 1 else f"{TOP}/crates/tlut/out/tlut"
+import shared
 
 # Refuses the allocation whose number stands in REFUSED, counted from 1, and tells at the end how many there were.
 SHIM = r"""
@@ -85,7 +84,7 @@ CALLS = [
 ]
 
 
-def call(shim, words, refused):
+def call(program, shim, words, refused):
     """What a call leaves: status, outputs and files; and how many allocations it made."""
     with tempfile.TemporaryDirectory() as folder:
         for name, content in FILES.items():
@@ -93,7 +92,7 @@ def call(shim, words, refused):
                 file.write(content)
         counted = f"{folder}.counted"
         environment = {**os.environ, "LD_PRELOAD": shim, "REFUSED": str(refused), "COUNTED": counted}
-        done = subprocess.run([PROGRAM, *words.split()], cwd=folder, env=environment, capture_output=True, timeout=60)
+        done = subprocess.run([program, *words.split()], cwd=folder, env=environment, capture_output=True, timeout=60)
         files = {name: open(f"{folder}/{name}", "rb").read() for name in os.listdir(folder)}
         count = int(open(counted).read()) if os.path.exists(counted) else 0
         if os.path.exists(counted):
@@ -102,17 +101,17 @@ def call(shim, words, refused):
 
 
 def main():
-    passed = failed = 0
+    program, passed, failed = shared.one_program(__doc__), 0, 0
+    if not shared.has_compiler():
+        print("left out, since cc isn't there")
+        return 0
     with tempfile.TemporaryDirectory() as folder:
-        source, shim = f"{folder}/shim.c", f"{folder}/shim.so"
-        with open(source, "w") as file:
-            file.write(SHIM)
-        subprocess.run(["cc", "-O1", "-shared", "-fPIC", "-o", shim, source, "-ldl"], check=True)
+        shim = shared.preloaded(SHIM, folder)
         for words in CALLS:
-            whole, count = call(shim, words, 0)
+            whole, count = call(program, shim, words, 0)
             refusals = 0
             for refused in range(1, count + 1):
-                left, _ = call(shim, words, refused)
+                left, _ = call(program, shim, words, refused)
                 # A call that can't get its words ends without a line; each other tells that there is no memory.
                 is_silent = left[0] == 8 and left[1] == b"" and left[2] in (b"", b"tlut: out of memory\n") and left[3] == FILES
                 refusals += left[0] == 8
@@ -122,8 +121,7 @@ def main():
                     failed += 1
                     print(f"{words}: allocation {refused}: {left[:3]}")
             print(f"{words}: {count} allocations, {refusals} of which end it")
-    print(f"{passed} passed, {failed} failed")
-    return 1 if failed else 0
+    return shared.summary(passed, failed)
 
 
 if __name__ == "__main__":

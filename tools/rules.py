@@ -17,6 +17,7 @@ sys.path.insert(0, TOP)
 sys.path.insert(0, f"{TOP}/tools")
 
 import designs
+import shared
 from tlutflow import tools
 from tlutflow.abc_form import abc_text
 from tlutflow.mappings import sizes_by_abc, sizes_by_tlut
@@ -39,6 +40,9 @@ def row(title, netlist, parameters, abc, room):
 
 
 def main():
+    parser = shared.words(__doc__)
+    parser.add_argument("--inputs", action="store_true", help="take the parameters as ordinary inputs")
+    given = parser.parse_args()
     abc = tools.need(tools.ABC, "a comparison with ABC")
     with tempfile.TemporaryDirectory() as room:
         designs.write(room)
@@ -48,7 +52,7 @@ def main():
         print("| Design | K | `tlut`: LUTs | depth | bits | `tlut-compact`: LUTs | depth | bits | ABC's `if`: LUTs | depth | bits |")
         print("|" + "---|" * 11)
         for title, netlist, parameters in listed:
-            row(title, netlist, f"{room}/none.par" if "--inputs" in sys.argv else parameters, abc, room)
+            row(title, netlist, f"{room}/none.par" if given.inputs else parameters, abc, room)
 
 
 if __name__ == "__main__":

@@ -15,8 +15,7 @@ import sys
 import tempfile
 import threading
 
-TOP = os.path.dirname(os.path.dirname(os.path.abspath(__file__)))
-PROGRAMS = [os.path.abspath(word) for word in sys.argv[1:]] or [f"{TOP}/crates/{name}/out/{name}" for name in ("tlut", "tlut_compact")]
+import shared
 
 MUX = ".model mux\n.inputs a b p\n.outputs y\n.names p a b y\n11- 1\n0-1 1\n.end\n"
 SPEC = ".model mux\n.inputs a b\n.outputs y\n.names a b _n13\n01 1\n11 1\n.names _n13 y\n1 1\n.end\n"
@@ -53,7 +52,7 @@ NOBODY = 65534
 class Ran:
     """A call in a new folder with the multiplexer's files: its status, outputs and the files behind it."""
 
-    program = PROGRAMS[0]
+    program = shared.PROGRAM
 
     def __init__(self, words, prepare=None, stdout=subprocess.PIPE, small_stack=False, as_nobody=False, closed=(), onto=None):
         """`closed` has the descriptors of streams that are closed, and `onto` the file that standard output is."""
@@ -209,15 +208,14 @@ def shared_calls():
 
 def main():
     passed = failed = 0
-    for program in PROGRAMS:
+    for program in shared.some_programs(__doc__, shared.PROGRAMS):
         Ran.program = program
         for calls in (single_calls, stream_calls, shared_calls):
             for title, outcome in calls():
                 if not outcome:
                     print(f"{os.path.basename(program)}: {title}: NO")
                 passed, failed = passed + outcome, failed + (not outcome)
-    print(f"{passed} passed, {failed} failed")
-    return 1 if failed else 0
+    return shared.summary(passed, failed)
 
 
 if __name__ == "__main__":

@@ -6,12 +6,12 @@
 Outside the gate. Build the program before, with `rt run` in crates/bench_mapping. Its netlists are the designs of tools/designs.py and the
 examples, with LUTs of 2 and of 4 inputs. The last line is `N passed, M failed`, and the exit status is 1 if M isn't 0.
 """
-import os
 import subprocess
 import sys
 import tempfile
 
-from designs import PROGRAM, write
+import shared
+from designs import write
 
 EVENTS = 100
 
@@ -217,7 +217,7 @@ def expected(files, k):
 
 
 def main():
-    program = os.path.abspath(sys.argv[1]) if len(sys.argv) > 1 else PROGRAM
+    program = shared.one_program(__doc__, shared.MEASURED)
     passed = failed = 0
     with tempfile.TemporaryDirectory() as room:
         for name, files in write(room).items():
@@ -229,10 +229,9 @@ def main():
                 print(f"{name}, K {k}: {'passed' if same else 'FAILED'}", flush=True)
                 if not same:
                     print(f"status {ran.returncode}\nprinted\n{ran.stdout}wanted\n{wanted}")
-    print(f"{passed} passed, {failed} failed")
-    sys.exit(1 if failed else 0)
+    return shared.summary(passed, failed)
 
 
 if __name__ == "__main__":
     sys.setrecursionlimit(100_000)
-    main()
+    sys.exit(main())

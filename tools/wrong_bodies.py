@@ -16,7 +16,9 @@ import subprocess
 import sys
 import tempfile
 
-TOP = os.path.dirname(os.path.dirname(os.path.abspath(__file__)))
+import shared
+from shared import TOP
+
 TIER = "wrong-bodies"
 
 
@@ -52,7 +54,9 @@ def run(room, names):
 
 def main():
     every = crates_with_wrong_bodies()
-    names = sys.argv[1:] or every
+    parser = shared.words(__doc__)
+    parser.add_argument("names", metavar="NAME", nargs="*", help="a crate (default: all that have wrong bodies)")
+    names = parser.parse_args().names or every
     unknown = [name for name in names if name not in every]
     if unknown:
         print(f"{unknown[0]} has no wrong bodies of this tier", file=sys.stderr)

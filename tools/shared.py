@@ -1,0 +1,52 @@
+"""What the tools share: their words, the programs that they try, a library that is loaded before a program, and their last line."""
+
+import argparse
+import os
+import shutil
+import subprocess
+
+TOP = os.path.dirname(os.path.dirname(os.path.abspath(__file__)))
+PROGRAM = f"{TOP}/crates/tlut/out/tlut"
+PROGRAMS = [PROGRAM, f"{TOP}/crates/tlut_compact/out/tlut_compact"]
+MEASURED = f"{TOP}/crates/bench_mapping/out/bench_mapping"
+
+
+def words(text):
+    """The parser of a tool, whose help is its text."""
+    return argparse.ArgumentParser(description=text, formatter_class=argparse.RawDescriptionHelpFormatter)
+
+
+def one_program(text, program=PROGRAM):
+    """The program that a tool was given as its only word, or this one."""
+    parser = words(text)
+    shown = os.path.relpath(program, TOP)
+    parser.add_argument("program", metavar="PROGRAM", nargs="?", type=os.path.abspath, default=program, help=f"the program that is tried (default: {shown})")
+    return parser.parse_args().program
+
+
+def some_programs(text, programs):
+    """The programs that a tool was given as its only words, or these."""
+    parser = words(text)
+    shown = ", ".join(os.path.relpath(it, TOP) for it in programs)
+    parser.add_argument("programs", metavar="PROGRAM", nargs="*", type=os.path.abspath, help=f"a program that is tried (default: {shown})")
+    return parser.parse_args().programs or programs
+
+
+def has_compiler():
+    """Whether there is a C compiler."""
+    return shutil.which("cc") is not None
+
+
+def preloaded(text, folder):
+    """Compiles a library, from its text in C, that is loaded before a program by LD_PRELOAD. Returns its path."""
+    source, library = f"{folder}/preloaded.c", f"{folder}/preloaded.so"
+    with open(source, "w", encoding="utf-8") as file:
+        file.write(text)
+    subprocess.run(["cc", "-O1", "-shared", "-fPIC", "-o", library, source, "-ldl"], check=True)
+    return library
+
+
+def summary(passed, failed):
+    """Prints the last line of a tool that tries something, and returns the exit status."""
+    print(f"{passed} passed, {failed} failed")
+    return 1 if failed else 0
