@@ -1,6 +1,8 @@
 """The interface for other programs, and the completion in a shell."""
 
+import importlib.util
 import os
+import shutil
 import subprocess
 import sys
 import unittest
@@ -38,6 +40,23 @@ class Interface(InFolder):
         ran = subprocess.run(words, capture_output=True, text=True, cwd=TOP, check=False)
         self.assertEqual((ran.returncode, ran.stdout.split()[0]), (0, "raw"), ran.stderr)
         self.assertTrue(os.path.exists(f"{TOP}/{tlutflow.__name__}/py.typed"))
+
+
+    @unittest.skipUnless(all(importlib.util.find_spec(it) for it in ("pip", "setuptools", "wheel")), "pip, setuptools and wheel aren't there")
+    def test_as_a_package(self):
+        """The package that pip makes without a network has what the commands need, the style and the script of the report page too."""
+        for name in ("tlutflow", "pyproject.toml", "README.md"):
+            copy = shutil.copytree if os.path.isdir(f"{TOP}/{name}") else shutil.copy
+            copy(f"{TOP}/{name}", f"{self.folder}/{name}")
+        made = f"{self.folder}/made"
+        words = ["-q", "--no-index", "--no-build-isolation", "--no-deps", "--disable-pip-version-check", "--target", made, "."]
+        ran = subprocess.run([sys.executable, "-m", "pip", "install", *words], capture_output=True, text=True, cwd=self.folder, check=False)
+        self.assertEqual(ran.returncode, 0, ran.stderr)
+        for words in ([f"{made}/bin/tlut-flow"], [sys.executable, "-m", "tlutflow"]):
+            environment = {**os.environ, "PYTHONPATH": made}
+            ran = subprocess.run([*words, "report", f"{DATA}/fir_t.blif", f"{DATA}/fir.ppc"], capture_output=True, text=True, cwd=made, env=environment, check=False)
+            self.assertIn("64 LUTs at depth 5", ran.stdout, ran.stderr)
+        self.assertEqual({"report.css", "report.js"}, set(os.listdir(f"{made}/tlutflow/page")))
 
 
 class Completion(unittest.TestCase):
