@@ -36,8 +36,8 @@ EXAMPLE = """examples:
 
 
 def add_words(parser: argparse.ArgumentParser) -> None:
-    parser.add_argument("source", metavar="SOURCE")
-    parser.add_argument("written", metavar="WRITTEN", nargs="?")
+    parser.add_argument("source", metavar="SOURCE", help="the netlist that it was mapped from")
+    parser.add_argument("written", metavar="WRITTEN", nargs="?", help="a netlist that was written, or a template with --pack")
     which = parser.add_mutually_exclusive_group()
     which.add_argument("--params", metavar="PARAMS", help="the list that spec was given")
     which.add_argument("--pack", metavar="PACK", help="the pack that map wrote")

@@ -29,8 +29,8 @@ EXAMPLE = """example:
 
 
 def add_words(parser: argparse.ArgumentParser) -> None:
-    parser.add_argument("netlist", metavar="NETLIST")
-    parser.add_argument("params", metavar="PARAMS")
+    parser.add_argument("netlist", metavar="NETLIST", help="the netlist, in BLIF or AIGER")
+    parser.add_argument("params", metavar="PARAMS", help="its parameter list")
     parser.add_argument("--k", metavar="K", type=int, choices=range(2, 7), action="append", help="2 to 6 (repeat it); each one without")
     parser.add_argument("--tlut", metavar="PATH", help="the program (default: that of the variable TLUT, or the one next to this one)")
 

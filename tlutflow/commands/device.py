@@ -28,7 +28,7 @@ EXAMPLE = """example:
 
 
 def add_words(parser: argparse.ArgumentParser) -> None:
-    parser.add_argument("netlist", metavar="NETLIST")
+    parser.add_argument("netlist", metavar="NETLIST", help="what `tlut spec` wrote")
     parser.add_argument("--target", choices=list(WIDEST), required=True, help="the device's family")
     parser.add_argument("--out", metavar="FOLDER", default=".", help="where the files go (default: the current directory)")
     usual = "; ".join(f"{key}: {' '.join(words)}" for key, words in PART.items())

@@ -26,8 +26,8 @@ MANY = 300
 
 
 def add_words(parser: argparse.ArgumentParser) -> None:
-    parser.add_argument("template", metavar="TEMPLATE")
-    parser.add_argument("pack", metavar="PACK")
+    parser.add_argument("template", metavar="TEMPLATE", help="the template that `tlut map` wrote")
+    parser.add_argument("pack", metavar="PACK", help="its pack")
     parser.add_argument("--out", metavar="FILE", help="the file: .svg, .png, .pdf, or .dot for Graphviz's language")
     parser.add_argument("--all", action="store_true", help=f"draw more than {MANY} LUTs too")
     parser.add_argument("--cone", metavar="NET", action="append", default=[], help="draw only what this output, register, bus or LUT is made of (repeat it)")

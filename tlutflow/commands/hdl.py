@@ -58,8 +58,8 @@ def way_of(given: argparse.Namespace) -> Way:
 
 
 def add_words(parser: argparse.ArgumentParser) -> None:
-    parser.add_argument("template", metavar="TEMPLATE")
-    parser.add_argument("pack", metavar="PACK")
+    parser.add_argument("template", metavar="TEMPLATE", help="the template that `tlut map` wrote")
+    parser.add_argument("pack", metavar="PACK", help="its pack")
     add_device_words(parser)
     parser.add_argument("--module", metavar="NAME", help="the module's name; without it that of the circuit and _mapped")
     parser.add_argument("--out", metavar="FOLDER", help="a folder for the module, its testbench and its events")

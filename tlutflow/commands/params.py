@@ -19,8 +19,8 @@ EXAMPLE = """example:
 
 
 def add_words(parser: argparse.ArgumentParser) -> None:
-    parser.add_argument("netlist", metavar="NETLIST")
-    parser.add_argument("values", metavar="PORT=VALUE", nargs="*")
+    parser.add_argument("netlist", metavar="NETLIST", help="the netlist, in BLIF or AIGER")
+    parser.add_argument("values", metavar="PORT=VALUE", nargs="*", help="a bus that is a parameter, with its value")
 
 
 def run(given: argparse.Namespace) -> int:

@@ -33,8 +33,8 @@ EXAMPLE = """examples:
 
 
 def add_words(parser: argparse.ArgumentParser) -> None:
-    parser.add_argument("netlist", metavar="NETLIST")
-    parser.add_argument("params", metavar="PARAMS")
+    parser.add_argument("netlist", metavar="NETLIST", help="the netlist, in BLIF or AIGER")
+    parser.add_argument("params", metavar="PARAMS", help="its parameter list")
     parser.add_argument("--out", metavar="FILE", help="where the best netlist goes (default: NETLIST's name with _prepared.blif, in the current directory)")
     add_shared_words(parser, 4)
     parser.add_argument("--list", action="store_true", help="print the preparations and their commands instead, and try nothing")

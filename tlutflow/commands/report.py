@@ -25,8 +25,8 @@ EXAMPLE = """examples:
 
 
 def add_words(parser: argparse.ArgumentParser) -> None:
-    parser.add_argument("template", metavar="TEMPLATE")
-    parser.add_argument("pack", metavar="PACK")
+    parser.add_argument("template", metavar="TEMPLATE", help="the template that `tlut map` wrote")
+    parser.add_argument("pack", metavar="PACK", help="its pack")
     parser.add_argument("--bits", action="store_true", help="the functions of the bits")
     parser.add_argument("--table", metavar="NET", action="append", default=[], help="with --bits: only this LUT (repeat it)")
     parser.add_argument("--json", action="store_true", help="all of it in JSON, for other programs")

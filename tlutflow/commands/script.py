@@ -72,8 +72,8 @@ def assigning_line(word: str, words: list[str], parameters: dict[str, Bus]) -> s
 
 
 def add_words(parser: argparse.ArgumentParser) -> None:
-    parser.add_argument("netlist", metavar="NETLIST")
-    parser.add_argument("params", metavar="PARAMS")
+    parser.add_argument("netlist", metavar="NETLIST", help="the netlist, in BLIF or AIGER")
+    parser.add_argument("params", metavar="PARAMS", help="its parameter list")
 
 
 def run(given: argparse.Namespace) -> int:

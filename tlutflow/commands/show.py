@@ -23,8 +23,8 @@ EXAMPLE = """example:
 
 
 def add_words(parser: argparse.ArgumentParser) -> None:
-    parser.add_argument("netlist", metavar="NETLIST")
-    parser.add_argument("params", metavar="PARAMS")
+    parser.add_argument("netlist", metavar="NETLIST", help="the netlist, in BLIF or AIGER")
+    parser.add_argument("params", metavar="PARAMS", help="its parameter list")
     parser.add_argument("script", metavar="SCRIPT", nargs="?", help="the script: with it an output that ends early is a fault")
     parser.add_argument("--signed", metavar="BUS", action="append", default=[], help="show this bus as a two's complement (repeat it)")
     parser.add_argument("--hex", action="store_true", help="show numbers in hexadecimal digits")

@@ -33,8 +33,8 @@ EXAMPLE = """examples:
 
 
 def add_words(parser: argparse.ArgumentParser) -> None:
-    parser.add_argument("pack", metavar="PACK")
-    parser.add_argument("values", metavar="NAME=VALUE", nargs="*")
+    parser.add_argument("pack", metavar="PACK", help="the pack that `tlut map` wrote")
+    parser.add_argument("values", metavar="NAME=VALUE", nargs="*", help="new values of parameters; the others are as in the pack")
     add_device_words(parser)
     parser.add_argument("--template", metavar="TEMPLATE", help="the template that `tlut map` wrote with the pack")
     parser.add_argument("--all", action="store_true", help="with NAME=VALUE: all bits that can change, not only those that do")

@@ -45,7 +45,7 @@ WORD = re.compile(r"[^\s;\"#]+")
 
 
 def add_words(parser: argparse.ArgumentParser) -> None:
-    parser.add_argument("files", metavar="FILE.v", nargs="+")
+    parser.add_argument("files", metavar="FILE.v", nargs="+", help="the design's files")
     parser.add_argument("--top", metavar="TOP", required=True, help="the module to take")
     parser.add_argument("--param", metavar="PORT=VALUE", action="append", default=[], help="an input port that is a parameter (repeat it)")
     add_source_words(parser)

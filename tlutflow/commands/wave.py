@@ -24,9 +24,9 @@ EXAMPLE = """example:
 
 
 def add_words(parser: argparse.ArgumentParser) -> None:
-    parser.add_argument("netlist", metavar="NETLIST")
-    parser.add_argument("params", metavar="PARAMS")
-    parser.add_argument("script", metavar="SCRIPT")
+    parser.add_argument("netlist", metavar="NETLIST", help="the netlist, in BLIF or AIGER")
+    parser.add_argument("params", metavar="PARAMS", help="its parameter list")
+    parser.add_argument("script", metavar="SCRIPT", help="the script of the run")
 
 
 def run(given: argparse.Namespace) -> int:

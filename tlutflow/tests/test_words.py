@@ -3,9 +3,12 @@
 import ast
 import glob
 import os
+import subprocess
+import sys
 import unittest
 
-from tlutflow.main import COMMANDS
+from tlutflow.commands.complete import subcommands_of
+from tlutflow.main import COMMANDS, parser
 from tlutflow.tests.helpers import TOP, InFolder, flow
 
 
@@ -20,6 +23,20 @@ class Words(InFolder):
             self.assertIn(module.DESCRIPTION.split("\n", 1)[0], ran.stdout)
             self.assertIn("example", ran.stdout)
 
+    def test_each_argument_has_help(self):
+        for name, own in subcommands_of(parser()).items():
+            self.assertEqual([action.dest for action in own._actions if not action.help], [], name)
+
+    def test_help_of_the_tools(self):
+        """Each tool that is called by itself prints what it is for."""
+        paths = set(glob.glob(f"{TOP}/tools/*.py")) - {f"{TOP}/tools/{name}.py" for name in ("shared", "measured", "trial_designs")}
+        self.assertGreater(len(paths), 20)
+        for path in sorted(paths):
+            with open(path, encoding="utf-8") as file:
+                about = (ast.get_docstring(ast.parse(file.read())) or "").splitlines()[0]
+            ran = subprocess.run([sys.executable, path, "--help"], capture_output=True, text=True, check=False)
+            self.assertEqual((ran.returncode, ran.stderr, about in ran.stdout), (0, "", True), path)
+
     def test_wrong_words(self):
         self.assert_fault(flow(), "SUBCOMMAND", 2)
         self.assert_fault(flow("other"), "invalid choice", 2)
@@ -27,8 +44,6 @@ class Words(InFolder):
 
     def test_through_a_link_from_elsewhere(self):
         os.symlink(f"{TOP}/flow", f"{self.folder}/tlut-flow")
-        import subprocess
-
         ran = subprocess.run([f"{self.folder}/tlut-flow", "params", "no.blif"], capture_output=True, text=True, cwd=self.folder, check=False)
         self.assertEqual((ran.returncode, ran.stderr), (1, "tlut-flow params: no.blif: No such file or directory\n"))
 
