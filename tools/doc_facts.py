@@ -27,7 +27,7 @@ from shared import TOP
 
 PAGES = ["README.md", "CONTRIBUTING.md", *sorted(f"docs/{name}" for name in os.listdir(f"{TOP}/docs") if name.endswith(".md"))]
 # Crates whose functions no other crate of the product calls.
-TESTS = {"test_player", "test_rows", "test_texts", "test_graphs", "bench_mapping", "tlut", "tlut_compact", "tlut_examples", "tlut_main"}
+TESTS = {"test_player", "test_rows", "test_texts", "bench_mapping", "tlut", "tlut_compact", "tlut_examples", "tlut_main"}
 NUMBERS = "one two three four five six seven eight nine ten eleven twelve thirteen fourteen fifteen sixteen".split()
 # Pages whose names in backticks are those of the code. On the others they are mostly words of formats and of other tools.
 CODE_PAGES = {"docs/theorems.md", "docs/definitions.md", "docs/architecture.md", "docs/DECISIONS.md", "docs/testing.md", "docs/rows.md"}
@@ -359,7 +359,7 @@ def counts(tree):
     """Where a page states a count: the page, a pattern, and what each of its groups must be."""
     lines = [tree.sum(place) for place in range(3)]
     players = tree.sum(0, {"test_player", "test_rows"})
-    tests = tree.sum(0, {"test_player", "test_rows", "test_texts", "test_graphs"})
+    tests = tree.sum(0, {"test_player", "test_rows", "test_texts"})
     commands = len(tree.commands)
     families = sum(1 for name in tree.crates if name.startswith("cmd_") and name not in ("cmd_base", "cmd_stations"))
     refused = len(re.search(r"CALLS = \[\n(.*?)^\]", read("tools/refused_memory.py"), re.MULTILINE | re.DOTALL)[1].splitlines())

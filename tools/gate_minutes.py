@@ -1,24 +1,34 @@
 #!/usr/bin/env python3
-"""Measures the CPU-minutes of the merge gate by crate and kind.
+"""Measures the CPU-minutes of the merge gate by crate and kind, and those of a crate's proof by function.
 
-    python3 tools/gate_minutes.py              runs `rt ci` and measures it
-    python3 tools/gate_minutes.py --anew       the same from nothing; any further arguments of `rt ci` too
-    python3 tools/gate_minutes.py --pid N      measures a run that has begun: N is the number of its process
+    python3 tools/gate_minutes.py                        runs `rt ci` and measures it
+    python3 tools/gate_minutes.py --anew                 the same from nothing; any further arguments of `rt ci` too
+    python3 tools/gate_minutes.py --pid N                measures a run that has begun: N is the number of its process
+    python3 tools/gate_minutes.py --functions CRATE ..   proves these crates from nothing, one function after another, and prints the
+                                                         CPU-seconds of the twenty dearest functions. The crates below must be built
 
 It looks at the prover's processes below the run twice a second, and adds up what each had used when it was last seen: the proofs of a
 crate, those of its tests, its must-fail edits (with the check that they begin from), and what links and runs. So up to half a second of
 each process is missed. At the end, and after a SIGINT, it prints a table; the exit status is that of `rt ci`.
+
+The prover prints a line as each function is checked. What it used between two lines counts for the function of the second one, so a
+file of lemmas counts for the first function that cites it, and the start, which reads the crates below, for none. Of a small crate it
+prints no such lines, and all counts for none.
 """
 import os
+import re
 import signal
 import subprocess
 import sys
+import tempfile
 import time
 
 import shared
 
+TOP = os.path.dirname(os.path.dirname(os.path.abspath(__file__)))
 KINDS = ("proof", "tests", "edits")
 TICKS = os.sysconf("SC_CLK_TCK")
+DEAREST = 20
 
 
 def processes():
@@ -95,6 +105,56 @@ def show(totals, other, wall):
     print(f"other work: {other / 60:.1f} processor minutes; the run took {wall / 60:.0f} minutes")
 
 
+def crates_below():
+    """The crates that crates.txt names below each of this repository's, by its name."""
+    with open(f"{TOP}/crates.txt", encoding="utf-8") as file:
+        lines = [line.split(":") for line in file if ":" in line and not line.startswith("#")]
+    return {name.split()[0]: names.split() for name, names in lines}
+
+
+def all_below(crates, name):
+    found = []
+    for below in crates.get(name, []):
+        found += [it for it in [*all_below(crates, below), below] if it not in found]
+    return found
+
+
+def check_words(kit, crates, name, kept):
+    """The prover's call that checks a crate, one function after another, over the built crates below it."""
+    root = "main" if os.path.isfile(f"{TOP}/crates/{name}/src/main.rt") else "lib"
+    words = [f"{kit}/bin/rattle", "check", "--crate-name", name, f"src/{root}.rt", "--extern", f"std={kit}/rlibs/std.rlib"]
+    for below in all_below(crates, name):
+        folder = f"{TOP}/crates/{below}/out/rlib" if below in crates else f"{kit}/rlibs"
+        words += ["--extern", f"{below}={folder}/{below}.rlib", "-L", f"dependency={folder}"]
+    words += ["-L", f"dependency={kit}/rlibs", "--antt-project", f"{kit}/rattle/logic/antt-project.json"]
+    return [*words, "--logic-built", f"{kit}/logic_built", "--incremental", kept, "--jobs", "1"]
+
+
+def seconds_of(pid):
+    """The processor seconds of a process and of those that it started and that have ended."""
+    with open(f"/proc/{pid}/stat", encoding="utf-8", errors="replace") as file:
+        return sum(map(int, file.read().rpartition(")")[2].split()[11:15])) / TICKS
+
+
+def functions(name):
+    """Proves a crate, and prints its dearest functions."""
+    kit = os.path.dirname(subprocess.run(["rt", "doc"], capture_output=True, text=True, check=True).stdout.strip())
+    took, last, printed = {}, 0.0, ""
+    with tempfile.TemporaryDirectory() as kept:
+        words = check_words(kit, crates_below(), name, kept)
+        with subprocess.Popen(words, cwd=f"{TOP}/crates/{name}", stdout=subprocess.PIPE, stderr=subprocess.STDOUT, text=True) as run:
+            for line in run.stdout:
+                now, printed = seconds_of(run.pid), line.strip()
+                found = re.match(r"checked (\S+), \d+ of \d+", line)
+                took[found[1] if found else ""] = took.get(found[1] if found else "", 0) + now - last
+                last = now
+    rest = took.pop("", 0)
+    print(f"{name}: {last:.0f} processor seconds, of which {rest:.0f} for its start and its verdict: {printed}")
+    for function in sorted(took, key=took.get, reverse=True)[:DEAREST]:
+        print(f"{took[function]:8.1f} {function}")
+    return printed.startswith("logic=proved")
+
+
 def main():
     signal.signal(signal.SIGINT, signal.default_int_handler)
     parser = shared.words(__doc__)
@@ -104,6 +164,8 @@ def main():
         root = given.pid
         show(*watch(root, lambda: os.path.exists(f"/proc/{root}")))
         return 0
+    if words[:1] == ["--functions"]:
+        return 0 if all([functions(name) for name in words[1:]]) else 1
     with subprocess.Popen(["rt", "ci", *words]) as run:
         figures = watch(run.pid, lambda: run.poll() is None)
         show(*figures)

@@ -1,3 +1,1 @@
-mod NameLemmas
 mod ShapeLemmas
-mod SingleBitLemmas

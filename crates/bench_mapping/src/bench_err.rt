@@ -1,7 +1,6 @@
 //! Why there are no figures.
 use std::alloc::{AllocError, AllocFailed};
 use std::io;
-use tl_io::Failed;
 
 /// Why there are no figures.
 #[derive(Drop)]
@@ -32,12 +31,6 @@ impl<T: Drop> From<AllocFailed<T>> for BenchErr {
 
 impl From<io::Error> for BenchErr {
     fn from(_: io::Error) -> BenchErr {
-        BenchErr::Outside
-    }
-}
-
-impl From<Failed> for BenchErr {
-    fn from(_: Failed) -> BenchErr {
         BenchErr::Outside
     }
 }

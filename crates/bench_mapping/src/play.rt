@@ -5,13 +5,14 @@ ghost use Rattle.lut_sim.specs.Playable.{IsPlayable};
 use crate::bench_err::BenchErr;
 use crate::meter::Meter;
 use crate::random::Random;
-use crate::turn::turn_with;
+use aig_core::Steps;
 use cover_pick::Template;
 use lut_sim::{Shape, Sim};
 use ppc_pack::Pack;
 use spec_core::Specialiser;
 use std::marker::Brand;
-use std::sync::ledger::Blank;
+use std::sync::ledger::{Blank, Ledger};
+use tl_io::Assign;
 
 // Gives bits values that look random.
 fn draw(random: &mut Random, bits: &mut [bool])
@@ -65,6 +66,21 @@ pub fn play_cycles(
     let counts = format!(in meter.rt.alloc(); "{cycles}, {total} outputs were 1")?;
     meter.show("cycles", counts.as_str(), took)?;
     Ok(())
+}
+
+// Turns a parameter.
+fn turn_with<L: Ledger>(specialiser: &mut Specialiser, param: u16, blank: Blank)
+    requires name { blank.name ≡ L.name }
+    requires parts { blank.parts ≡ L.parts }
+    requires some { 0 < L.parts }
+    requires param { param < length specialiser.old.state.params }
+    ensures { length specialiser.new.state.params ≡ length specialiser.old.state.params }
+{
+    let mut steps = Steps::<L>::start(blank);
+    let bit = !specialiser.values()[param as usize];
+    specialiser.change(&[Assign { param, bit }], &mut steps);
+    // The length of the values is a fact of a specialiser that is read.
+    let _values = specialiser.values();
 }
 
 // Turns parameters that look random, and answers how many writes that made.

@@ -16,7 +16,6 @@ ghost use Rattle.cover_pick.specs.Mapping.{IsMapping};
 ghost use Rattle.cover_pick.specs.Work.{IsLight};
 
 use crate::bench_err::BenchErr;
-use crate::cuts::total_cuts;
 use crate::meter::Meter;
 use crate::sources::param_count;
 use aig_build::build;
@@ -97,6 +96,15 @@ pub fn build_graph(
     let counts = format!(in meter.rt.alloc(); "{sources} sources, {nodes} AND nodes")?;
     meter.show("graph", counts.as_str(), took)?;
     Ok((graph, roots))
+}
+
+// How many cuts all nodes of a graph have.
+fn total_cuts(graph: &Graph, cuts: &CutTable) -> u64 {
+    let mut total = 0u64;
+    for n in 0..graph.len() {
+        total = total.saturating_add(u64::from(cuts.count(n)));
+    }
+    total
 }
 
 /// The minimal cuts of a graph's nodes.

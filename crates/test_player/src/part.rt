@@ -29,91 +29,72 @@ impl Kind {
 }
 
 /// A part of a text.
-#[derive(Drop)]
+#[derive(Clone, Copy)]
 enum Part<'a> {
     Text(&'a str),
     Byte(u8),
     Number(&'a str),
-    /// Its parts stand once for each value of a counter within two bounds.
-    Repeat {
-        counter: &'a str,
-        range: &'a str,
-        parts: Vec<Part<'a>>,
-    },
-}
-
-// A repetition that isn't read to its end.
-#[derive(Drop)]
-struct Open<'a> {
-    counter: &'a str,
-    range: &'a str,
-    parts: Vec<Part<'a>>,
+    /// What stands before its end comes once for each value of a counter within two bounds.
+    Repeat(&'a str, &'a str),
+    /// The end of the repetition that was begun last.
+    End,
 }
 
 const UNREAD: Stop = Stop::Unread(0, "a text that can't be read");
 
-// The parts of a text that were read.
+// The parts of a text that were read, and how many of its repetitions have no end yet.
 #[derive(Drop)]
 struct Reading<'a> {
-    alloc: Global,
     kind: Kind,
     parts: Vec<Part<'a>>,
-    open: Vec<Open<'a>>,
+    open: usize,
+}
+
+// The byte that a letter behind a backslash stands for.
+fn escaped(letter: u8) -> Result<u8, Stop> {
+    match letter {
+        b'n' => Ok(b'\n'),
+        b'r' => Ok(b'\r'),
+        b't' => Ok(b'\t'),
+        b'\\' | b'[' | b']' | b'{' | b'}' => Ok(letter),
+        _ => Err(UNREAD),
+    }
 }
 
 impl<'a> Reading<'a> {
+    fn new(alloc: Global, kind: Kind) -> Reading<'a> {
+        let parts = Vec::new(alloc);
+        let open = 0;
+        Reading { kind, parts, open }
+    }
+
     fn add(&mut self, part: Part<'a>) -> Result<(), Stop> {
-        match self.open.last_mut() {
-            Some(open) => open.parts.push(part)?,
-            None => self.parts.push(part)?,
-        }
+        self.parts.push(part)?;
         Ok(())
     }
 
     // Begins a repetition.
     fn open(&mut self, counter: &'a str, range: &'a str) -> Result<(), Stop> {
-        let parts = Vec::new(self.alloc);
-        self.open.push(Open {
-            counter,
-            range,
-            parts,
-        })?;
-        Ok(())
+        self.open = self.open.saturating_add(1);
+        self.add(Part::Repeat(counter, range))
     }
 
     // Ends the repetition that was begun last.
     fn end(&mut self) -> Result<(), Stop> {
-        let Open {
-            counter,
-            range,
-            parts,
-        } = self.open.pop().ok_or(UNREAD)?;
-        self.add(Part::Repeat {
-            counter,
-            range,
-            parts,
-        })
+        self.open = self.open.checked_sub(1).ok_or(UNREAD)?;
+        self.add(Part::End)
     }
 
     // Reads the escape behind a backslash, and answers what stands behind it.
     fn escape(&mut self, rest: &'a str) -> Result<&'a str, Stop> {
         let (letter, behind) = rest.split_at_checked(1).ok_or(UNREAD)?;
-        let (byte, behind) = match letter {
-            "n" => (b'\n', behind),
-            "r" => (b'\r', behind),
-            "t" => (b'\t', behind),
-            "\\" => (b'\\', behind),
-            "[" => (b'[', behind),
-            "]" => (b']', behind),
-            "{" => (b'{', behind),
-            "}" => (b'}', behind),
-            "x" => {
-                let (digits, behind) = behind.split_at_checked(2).ok_or(UNREAD)?;
-                (hex_byte(digits.as_bytes())?, behind)
-            }
-            _ => return Err(UNREAD),
-        };
-        self.add(Part::Byte(byte))?;
+        let letter = first_byte(letter)?;
+        if letter != b'x' {
+            self.add(Part::Byte(escaped(letter)?))?;
+            return Ok(behind);
+        }
+        let (digits, behind) = behind.split_at_checked(2).ok_or(UNREAD)?;
+        self.add(Part::Byte(hex_byte(digits.as_bytes())?))?;
         Ok(behind)
     }
 
@@ -125,16 +106,19 @@ impl<'a> Reading<'a> {
         Ok(behind)
     }
 
+    // Reads the number behind a brace, and answers what stands behind it.
+    fn number(&mut self, rest: &'a str) -> Result<&'a str, Stop> {
+        let (number, behind) = rest.split_once('}').ok_or(UNREAD)?;
+        self.add(Part::Number(number))?;
+        Ok(behind)
+    }
+
     // Reads what a special letter begins, and answers what stands behind it.
-    fn special(&mut self, letter: &str, rest: &'a str) -> Result<&'a str, Stop> {
+    fn special(&mut self, letter: u8, rest: &'a str) -> Result<&'a str, Stop> {
         match letter {
-            "{" => {
-                let (number, behind) = rest.split_once('}').ok_or(UNREAD)?;
-                self.add(Part::Number(number))?;
-                Ok(behind)
-            }
-            "[" => self.begin_in_line(rest),
-            "]" => {
+            b'{' => self.number(rest),
+            b'[' => self.begin_in_line(rest),
+            b']' => {
                 self.end()?;
                 Ok(rest)
             }
@@ -152,7 +136,8 @@ impl<'a> Reading<'a> {
             let (text, behind) = rest.split_at_checked(at).ok_or(UNREAD)?;
             let (letter, behind) = behind.split_at_checked(1).ok_or(UNREAD)?;
             self.add(Part::Text(text))?;
-            if letter == "\\" && behind.is_empty() {
+            let letter = first_byte(letter)?;
+            if letter == b'\\' && behind.is_empty() {
                 return Ok(false);
             }
             rest = self.special(letter, behind)?;
@@ -161,21 +146,36 @@ impl<'a> Reading<'a> {
         Ok(true)
     }
 
-    // Reads a line of a text, which may begin or end a repetition of lines.
+    // Reads the line that begins a repetition of lines or ends one, and answers whether it is such a line.
+    fn is_repetition(&mut self, line: &'a str) -> Result<bool, Stop> {
+        if let Some(head) = line.strip_prefix("for ") {
+            let (counter, range) = head.split_once(' ').ok_or(UNREAD)?;
+            self.open(counter, range)?;
+            return Ok(true);
+        }
+        if line == "end" {
+            self.end()?;
+            return Ok(true);
+        }
+        Ok(false)
+    }
+
+    // Reads a line of a text.
     fn text_line(&mut self, line: &'a str) -> Result<(), Stop> {
-        if matches!(self.kind, Kind::Made) {
-            if let Some(head) = line.strip_prefix("for ") {
-                let (counter, range) = head.split_once(' ').ok_or(UNREAD)?;
-                return self.open(counter, range);
-            }
-            if line == "end" {
-                return self.end();
-            }
+        if matches!(self.kind, Kind::Made) && self.is_repetition(line)? {
+            return Ok(());
         }
         if self.line(line)? {
             self.add(Part::Byte(b'\n'))?;
         }
         Ok(())
+    }
+}
+
+fn first_byte(text: &str) -> Result<u8, Stop> {
+    match text.as_bytes() {
+        [byte, ..] => Ok(*byte),
+        [] => Err(UNREAD),
     }
 }
 
@@ -200,46 +200,86 @@ fn hex_byte(digits: &[u8]) -> Result<u8, Stop> {
     }
 }
 
-// Puts a number in decimal.
-fn put_number(alloc: Global, bytes: &mut Vec<u8>, number: i64) -> Result<(), Stop> {
-    let text = format!(in alloc; "{number}")?;
-    bytes.extend_from_slice(text.as_bytes())?;
-    Ok(())
+// A repetition that is being put: the place of its first part, and the last value of its counter.
+#[derive(Clone, Copy)]
+struct Turn {
+    first: usize,
+    last: i64,
 }
 
-// Puts a part, with the values of the counters around it.
-fn put_part<'a>(
-    part: &Part<'a>,
+// The bytes of the parts that were put, and the counters and the repetitions around the next one.
+#[derive(Drop)]
+struct Putting<'a> {
     alloc: Global,
-    bytes: &mut Vec<u8>,
-    counters: &mut Vec<Counter<'a>>,
-) -> Result<(), Stop> {
-    match part {
-        Part::Text(text) => bytes.extend_from_slice(text.as_bytes())?,
-        Part::Byte(byte) => bytes.push(*byte)?,
-        Part::Number(expression) => {
-            let number = value(alloc, expression, counters.as_slice())?;
-            put_number(alloc, bytes, number)?;
+    bytes: Vec<u8>,
+    counters: Vec<Counter<'a>>,
+    turns: Vec<Turn>,
+}
+
+// The place behind the end of the repetition whose first part stands at a place.
+fn behind(parts: &[Part], first: usize) -> usize {
+    let mut open = 1usize;
+    for place in first..parts.len() {
+        match parts[place] {
+            Part::Repeat(..) => open = open.wrapping_add(1),
+            Part::End => open = open.wrapping_sub(1),
+            _ => {}
         }
-        Part::Repeat {
-            counter,
-            range,
-            parts,
-        } => {
-            let (first, last) = bounds(alloc, range, counters.as_slice())?;
-            for value in first..last.saturating_add(1) {
-                counters.push(Counter {
-                    name: counter,
-                    value,
-                })?;
-                for part in parts {
-                    put_part(part, alloc, bytes, counters)?;
-                }
-                counters.pop();
-            }
+        if open == 0 {
+            return place.wrapping_add(1);
         }
     }
-    Ok(())
+    parts.len()
+}
+
+impl<'a> Putting<'a> {
+    // Puts a number in decimal.
+    fn number(&mut self, expression: &str) -> Result<(), Stop> {
+        let number = value(self.alloc, expression, self.counters.as_slice())?;
+        let text = format!(in self.alloc; "{number}")?;
+        self.bytes.extend_from_slice(text.as_bytes())?;
+        Ok(())
+    }
+
+    // Begins a repetition, and answers whether its counter has a value.
+    fn begin(&mut self, name: &'a str, range: &str, first: usize) -> Result<bool, Stop> {
+        let (value, last) = bounds(self.alloc, range, self.counters.as_slice())?;
+        if last < value {
+            return Ok(false);
+        }
+        self.counters.push(Counter { name, value })?;
+        self.turns.push(Turn { first, last })?;
+        Ok(true)
+    }
+
+    // Ends a turn of the repetition that was begun last, and answers where the next one begins, if there is one.
+    fn end(&mut self) -> Option<usize> {
+        let turn = *self.turns.last()?;
+        let counter = self.counters.last_mut()?;
+        if counter.value < turn.last {
+            counter.value = counter.value.wrapping_add(1);
+            return Some(turn.first);
+        }
+        self.counters.pop();
+        self.turns.pop();
+        None
+    }
+
+    // Puts a part, and answers the place of the one to be put next.
+    fn put(&mut self, parts: &[Part<'a>], part: &Part<'a>, next: usize) -> Result<usize, Stop> {
+        match part {
+            Part::Text(text) => self.bytes.extend_from_slice(text.as_bytes())?,
+            Part::Byte(byte) => self.bytes.push(*byte)?,
+            Part::Number(expression) => self.number(expression)?,
+            Part::Repeat(name, range) => {
+                if !self.begin(name, range, next)? {
+                    return Ok(behind(parts, next));
+                }
+            }
+            Part::End => return Ok(self.end().unwrap_or(next)),
+        }
+        Ok(next)
+    }
 }
 
 // The bytes of hexadecimal lines, whose blanks don't count.
@@ -265,12 +305,20 @@ fn bytes_of<'a>(
     parts: &[Part<'a>],
     counters: &[Counter<'a>],
 ) -> Result<Vec<u8>, Stop> {
-    let mut bytes = Vec::new(alloc);
-    let mut held = Vec::from_slice(alloc, counters)?;
-    for part in parts {
-        put_part(part, alloc, &mut bytes, &mut held)?;
+    let mut putting = Putting {
+        alloc,
+        bytes: Vec::new(alloc),
+        counters: Vec::from_slice(alloc, counters)?,
+        turns: Vec::new(alloc),
+    };
+    let mut place = 0usize;
+    for _ in 0..u64::MAX {
+        let Some(part) = parts.get(place) else {
+            break;
+        };
+        place = putting.put(parts, part, place.wrapping_add(1))?;
     }
-    Ok(bytes)
+    Ok(putting.bytes)
 }
 
 /// The bytes of a text's lines.
@@ -283,16 +331,11 @@ pub fn text_of<'a>(
     if matches!(kind, Kind::Hex) {
         return hex_bytes(alloc, lines);
     }
-    let mut reading = Reading {
-        alloc,
-        kind,
-        parts: Vec::new(alloc),
-        open: Vec::new(alloc),
-    };
+    let mut reading = Reading::new(alloc, kind);
     for line in lines {
         reading.text_line(line)?;
     }
-    if !reading.open.is_empty() {
+    if reading.open != 0 {
         return Err(UNREAD);
     }
     bytes_of(alloc, reading.parts.as_slice(), counters)
@@ -305,12 +348,7 @@ pub fn line_of<'a>(
     line: &'a str,
     counters: &[Counter<'a>],
 ) -> Result<Vec<u8>, Stop> {
-    let mut reading = Reading {
-        alloc,
-        kind,
-        parts: Vec::new(alloc),
-        open: Vec::new(alloc),
-    };
+    let mut reading = Reading::new(alloc, kind);
     reading.line(line)?;
     bytes_of(alloc, reading.parts.as_slice(), counters)
 }

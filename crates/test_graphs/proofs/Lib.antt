@@ -1,2 +1,0 @@
-mod PackLemmas
-mod RowLemmas
