@@ -86,4 +86,4 @@ class Compare(InFolder):
     def test_faults(self):
         self.assert_fault(flow("compare", f"{self.folder}/no", f"{self.folder}/no.par", "--tlut", self.fake()), "no such file")
         netlist, params = self.put("n.blif", MUX), self.put("n.par", "")
-        self.assert_fault(flow("compare", netlist, params, "--tlut", f"{self.folder}/none"), "--tlut or the variable TLUT names tlut")
+        self.assert_fault(flow("compare", netlist, params, "--tlut", f"{self.folder}/none"), "name tlut by --tlut or the environment variable TLUT")
