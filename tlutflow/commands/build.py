@@ -37,7 +37,7 @@ def add_words(parser: argparse.ArgumentParser) -> None:
     parser.add_argument("--script", metavar="SCRIPT", help="a script to run, as tlut run plays it")
     parser.add_argument("--target", choices=("generic", "xilinx"), default="generic", help="how flow hdl implements LUTs (default: generic)")
     add_source_words(parser)
-    parser.add_argument("--again", action="store_true", help="make everything again")
+    parser.add_argument("--again", action="store_true", help="create everything again")
     add_shared_words(parser, 4)
 
 

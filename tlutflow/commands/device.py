@@ -32,8 +32,8 @@ def add_words(parser: argparse.ArgumentParser) -> None:
     parser.add_argument("--target", choices=list(WIDEST), required=True, help="the device's family")
     parser.add_argument("--out", metavar="FOLDER", default=".", help="where the files go (default: the current directory)")
     usual = "; ".join(f"{key}: {' '.join(words)}" for key, words in PART.items())
-    parser.add_argument("--part", metavar="WORDS", help=f"what nextpnr is told of the part (default: {usual})")
-    parser.add_argument("--recipe", action="store_true", help="show what Yosys would be given, and make nothing")
+    parser.add_argument("--part", metavar="WORDS", help=f"arguments of nextpnr that select the part (default: {usual})")
+    parser.add_argument("--recipe", action="store_true", help="print the script for Yosys, and create nothing")
     parser.add_argument("--no-place", action="store_true", help="don't run nextpnr")
 
 

@@ -44,7 +44,7 @@ def add_words(parser: argparse.ArgumentParser) -> None:
 def add_shared_words(parser: argparse.ArgumentParser, k: Optional[int]) -> None:
     """The words that `prepare`, `verilog` and `build` share."""
     parser.add_argument("--k", metavar="K", type=int, choices=range(2, 7), default=k, help=f"inputs of a LUT, 2 to 6{f' (default: {k})' if k else ''}")
-    parser.add_argument("--for", dest="aim", choices=list(AIMS), default="depth", help="what is looked for: changes counts the bits that a drawn change of a parameter rewrites, the median (default: depth, then the fewest LUTs)")
+    parser.add_argument("--for", dest="aim", choices=list(AIMS), default="depth", help="what is looked for: changes counts the bits that a random change of a parameter rewrites, the median (default: depth, then the fewest LUTs)")
     parser.add_argument("--seconds", type=float, default=60, help="processor time that ABC may take for a preparation, and for a comparison (default: 60)")
     parser.add_argument("--try", dest="further", metavar="NAME=COMMANDS", action="append", default=[], help="a further preparation, commands of ABC (repeat it)")
     parser.add_argument("--only", metavar="NAME", action="append", default=[], help="try this preparation alone (repeat it)")

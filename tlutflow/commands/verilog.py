@@ -27,19 +27,19 @@ from tlutflow.recipe import PREPARATION, READERS, Sources, Step, look, recipe, s
 from tlutflow.text import count, write_text
 
 HELP = "a netlist and its parameter list from a design in Verilog"
-DESCRIPTION = f"""Makes FOLDER/TOP.blif, FOLDER/TOP.par and FOLDER/TOP.ports.json from a design in Verilog (files .sv are read as SystemVerilog), by Yosys.
+DESCRIPTION = f"""Creates FOLDER/TOP.blif, FOLDER/TOP.par and FOLDER/TOP.ports.json from a design in Verilog (files .sv are read as SystemVerilog), by Yosys.
 The last file has what a netlist can't hold: the order of each port's digits, signs, and the names of the registers. The other
-subcommands read it where it is beside their files.
+subcommands read it if it is next to their files.
 
 Parameters are input ports that change seldom. A port is one where --param gives it its value at the start, or where it has the
 attribute {ATTRIBUTE} with that value: (* {ATTRIBUTE} = 5 *) input [2:0] c0. A value of the command line comes before an attribute's.
 
 The netlist is the one that measures best of many preparations of the logic (see flow prepare --help), which needs ABC and tlut and
-takes seconds to minutes. With --quick, or with --abc SCRIPT, Yosys makes one preparation and nothing is measured."""
+takes seconds to minutes. With --quick, or with --abc SCRIPT, one preparation is used and nothing is measured."""
 EXAMPLE = """examples:
   flow verilog fir.v --top fir --param c0=5 --param c1=3 --param c2=6
   flow verilog top.v part.v --top top --set WIDTH=8 -D FAST -I include
-  flow verilog fir.v --top fir --recipe          # what Yosys would be given, with reasons"""
+  flow verilog fir.v --top fir --recipe          # the script for Yosys, with reasons"""
 
 WORD = re.compile(r"[^\s;\"#]+")
 
@@ -51,7 +51,7 @@ def add_words(parser: argparse.ArgumentParser) -> None:
     add_source_words(parser)
     parser.add_argument("--out", metavar="FOLDER", default=".", help="where the files go (default: the current directory)")
     add_shared_words(parser, 4)
-    parser.add_argument("--recipe", action="store_true", help="show what Yosys would be given, and make nothing")
+    parser.add_argument("--recipe", action="store_true", help="print the script for Yosys, and create nothing")
 
 
 def add_source_words(parser: argparse.ArgumentParser) -> None:
