@@ -174,6 +174,6 @@ class Simulations(InFolder):
         for words in (("--word", "8"), ("--port", "random", "--word", "33"), ("--port", "random", "--word", "8", "--target", "xilinx")):
             self.assert_fault(flow("hdl", *files, *words), "the generic target has words of 1 to 32 bits, and all other ports have none")
         for name in ("foo bar", "1x", "wire", "../x", ""):
-            self.assert_fault(flow("hdl", *files, "--module", name, "--out", self.folder), "a module's name has letters, digits and _")
+            self.assert_fault(flow("hdl", *files, "--module", name, "--out", self.folder), "a module name has letters, digits and _")
         script = ("--script", f"{EXAMPLES}/fir/ten.scr", "--simulate")
         self.assert_fault(flow("hdl", *files, *script, given="", PATH=self.folder), "Icarus Verilog (iverilog) isn't on the PATH")

@@ -64,7 +64,7 @@ class Ports(unittest.TestCase):
             (".model m\n.inputs a\n.outputs y\n.latch a y 2\n.end", "y keeps a value without a clock"),
             (".model m\n.inputs a c\n.outputs y\n.names c d\n0 1\n.latch a y re d 0\n.end", "the clock d is no input"),
             (".model m\n.inputs a c d\n.outputs y z\n.latch a y re c 0\n.latch a z re d 0\n.end", "there are 2 clocks, c, d"),
-            (".model m\n.inputs a c\n.outputs y c\n.latch a y re c 0\n.end", "is read as data too"),
+            (".model m\n.inputs a c\n.outputs y c\n.latch a y re c 0\n.end", "is also read as data"),
         ):
             self.assertIn(part, obstacle(parse_library(text, "n")))
         self.assertIsNone(obstacle(parse_library(example("fir/fir.blif"), "n")))
