@@ -156,7 +156,7 @@ class Netlists(InFolder):
             ("module other; endmodule", "top"),
             ("module top (input d, e, output reg q); always @* if (e) q = d; endmodule", "q (top.v:1) keeps a value without a clock"),
             ("module top (input c, d, output reg q); always @(negedge c) q <= d; endmodule", "q (top.v:1) is clocked at the falling edge of c"),
-            (MADE_CLOCK, "q (top.v:3) has the clock half, which is no input"),
+            (MADE_CLOCK, "q (top.v:3) has the clock half, which isn't an input"),
             ("module top (input a, b, d, output reg q, r); always @(posedge a) q <= d; always @(posedge b) r <= d; endmodule", "there are 2 clocks"),
         ):
             self.put("top.v", text)
