@@ -134,22 +134,26 @@ module _ (n : PlainNetlist) (h : IsOrderly n) (test : List ℕ → Bool) (tells 
   -- each name that is read as data has a number
   body_number : (k : ℕ) (name : List ℕ) (body : Body) → slice_get (bodies_of n) k ≡ Some body → body_output body ≡ name → (net : FlatNet) × IsNetOf (library_of n) places [] name net
   body_number k name (Cover c) e o =
-      let behind : (j : ℕ) × (k ≡ length n.latches + j) × (slice_get n.covers j ≡ Some c) = cover_behind n.latches n.covers k c e in
-      (number.Cover behind.0, record {
-        net = cover_net [] k;
-        drives = cover_output k c (record { model = model_of n; at = refl; is = body_is n k ∙ e }) (sym o) refl;
-        numbered = a_cover (top_at (length n.latches + behind.0)) behind.0 (ap (cover_net []) behind.1)
-            (place_at (length n.latches) (length n.covers) behind.0 (slice_get_within n.covers behind.0 c behind.2)) refl;
-      })
+      let behind : (j : ℕ) × (k ≡ length n.latches + j) × (slice_get n.covers j ≡ Some c) = cover_behind n.latches n.covers k c e in (
+        number.Cover behind.0,
+        record {
+          net = cover_net [] k;
+          drives = cover_output k c (record { model = model_of n; at = refl; is = body_is n k ∙ e }) (sym o) refl;
+          numbered = a_cover (top_at (length n.latches + behind.0)) behind.0 (ap (cover_net []) behind.1)
+              (place_at (length n.latches) (length n.covers) behind.0 (slice_get_within n.covers behind.0 c behind.2)) refl;
+        },
+      )
   body_number k name (Latch l) e o =
       let is : LatchAt (library_of n) [] k l = record { model = model_of n; at = refl; is = body_is n k ∙ e } in
       let there : (m : LatchValue) × (slice_get n.latches k ≡ Some m) × (l ≡ read_latch m) = (latch_there n [] k l is).1 in
-      let here : k ≡ 0 + k = omega arith in
-      (number.Latch k, record {
-        net = latch_net [] k;
-        drives = latch_output k l is (sym o) refl;
-        numbered = a_latch (top_at (0 + k)) k (ap (latch_net []) here) (place_at 0 (length n.latches) k (slice_get_within n.latches k there.0 there.1)) refl;
-      })
+      let here : k ≡ 0 + k = omega arith in (
+        number.Latch k,
+        record {
+          net = latch_net [] k;
+          drives = latch_output k l is (sym o) refl;
+          numbered = a_latch (top_at (0 + k)) k (ap (latch_net []) here) (place_at 0 (length n.latches) k (slice_get_within n.latches k there.0 there.1)) refl;
+        },
+      )
   body_number k name (Subckt s) e o = absurd (no_subckt_body n.latches n.covers k s e)
 
   input_number : (name : List ℕ) → In (all_inputs n) name → (IsControlName n name → ⊥) → (net : FlatNet) × IsNetOf (library_of n) places [] name net
@@ -183,10 +187,12 @@ module _ (n : PlainNetlist) (h : IsOrderly n) (test : List ℕ → Bool) (tells 
       let reads : (nets : List FlatNet) × AreNetsOf (library_of n) places [] c.inputs nets = nets_of c.inputs (h.cover_inputs c (In-get n.covers i c first)) in
       let rest : (fs : List FlatCoverValue) × (length fs ≡ length cs) × ((k : ℕ) (f : FlatCoverValue) → slice_get fs k ≡ Some f → IsFlatCover (library_of n) places (top_at (length n.latches + (suc i + k))) f) =
       covers_from (suc i) cs (λ k d e. let next : suc i + k ≡ i + suc k = omega arith in ap (slice_get n.covers) next ∙ there (suc k) d e) in
-      let one : FlatCoverValue = record { model = 0; command = length n.latches + i; inputs = reads.0 } in
-      (one ∷ rest.0, ap suc rest.1,
-      each_from (λ (m : ℕ) (f : FlatCoverValue). IsFlatCover (library_of n) places (top_at (length n.latches + m)) f) i one rest.0
-      (record { cover = c; is = cover_at n i c first; model = refl; command = refl; inputs = reads.1 }) rest.2)
+      let one : FlatCoverValue = record { model = 0; command = length n.latches + i; inputs = reads.0 } in (
+        one ∷ rest.0,
+        ap suc rest.1,
+        each_from (λ (m : ℕ) (f : FlatCoverValue). IsFlatCover (library_of n) places (top_at (length n.latches + m)) f) i one rest.0
+            (record { cover = c; is = cover_at n i c first; model = refl; command = refl; inputs = reads.1 }) rest.2,
+      )
 
   latches_from : (i : ℕ) (ls : List LatchValue) → ((k : ℕ) (l : LatchValue) → slice_get ls k ≡ Some l → slice_get n.latches (i + k) ≡ Some l)
       → (fs : List FlatLatch) × (length fs ≡ length ls) × ((k : ℕ) (f : FlatLatch) → slice_get fs k ≡ Some f → IsFlatLatch (library_of n) places (top_at (i + k)) f)
@@ -198,10 +204,12 @@ module _ (n : PlainNetlist) (h : IsOrderly n) (test : List ℕ → Bool) (tells 
       let read : (net : FlatNet) × IsNetOf (library_of n) places [] l.input net = net_of l.input good.0 good.1 in
       let rest : (fs : List FlatLatch) × (length fs ≡ length ls) × ((k : ℕ) (f : FlatLatch) → slice_get fs k ≡ Some f → IsFlatLatch (library_of n) places (top_at (suc i + k)) f) =
       latches_from (suc i) ls (λ k m e. let next : suc i + k ≡ i + suc k = omega arith in ap (slice_get n.latches) next ∙ there (suc k) m e) in
-      let one : FlatLatch = record { input = read.0; init = l.init; clocked = is_some (read_control l.control) } in
-      (one ∷ rest.0, ap suc rest.1,
-      each_from (λ (m : ℕ) (f : FlatLatch). IsFlatLatch (library_of n) places (top_at m) f) i one rest.0
-      (record { latch = read_latch l; is = latch_at_top n i l first; input = read.1; init = refl; clocked = refl }) rest.2)
+      let one : FlatLatch = record { input = read.0; init = l.init; clocked = is_some (read_control l.control) } in (
+        one ∷ rest.0,
+        ap suc rest.1,
+        each_from (λ (m : ℕ) (f : FlatLatch). IsFlatLatch (library_of n) places (top_at m) f) i one rest.0
+            (record { latch = read_latch l; is = latch_at_top n i l first; input = read.1; init = refl; clocked = refl }) rest.2,
+      )
 
   -- the cover of a number
   numbered_cover : (net : Net) (f : FlatNet) → IsNumbered places net f → (j : ℕ) → f ≡ number.Cover j → (p : Place) × (net ≡ cover_net p.path p.command) × (slice_get places.covers j ≡ Some p)
@@ -259,42 +267,44 @@ module _ (n : PlainNetlist) (h : IsOrderly n) (test : List ℕ → Bool) (tells 
       latches_from 0 n.latches (λ k l e. let here : 0 + k ≡ k = omega arith in ap (slice_get n.latches) here ∙ e) in
       let next : ℕ → List ℕ = λ k. cover_numbers (inputs_at (slice_get cs.0 k)) in
       let roots : List ℕ = cover_numbers (map (λ (o : OutPort). o.net) (ports_of n.outputs outs.0)) ++ cover_numbers (map (λ (l : FlatLatch). l.input) ls.0) in
-      let order : (result : List ℕ) × PostsAll next [] roots result = all_posted next rank_at (λ k j i. reads_fall cs.0 cs.2 k j (slice_get cs.0 k) refl i) roots in
-      (record {
-        model = n.name;
-        inputs = places.inputs;
-        clocks = with_control_net [] control;
-        control = control;
-        outputs = ports_of n.outputs outs.0;
-        covers = cs.0;
-        latches = ls.0;
-        order = reverse order.0;
-        under = most_underscores (all_inputs n ++ ([] ++ n.outputs));
-      }, record {
-        main = model_of n;
-        is_main = refl;
-        model = refl;
-        test = test;
-        tells = tells;
-        inputs = refl;
-        control = is_control;
-        clocks = refl;
-        at = places;
-        places = refl;
-        covers_order = places_are_covers n;
-        latches_order = (places_are_latches n).order;
-        cover_count = cs.1 ∙ sym (place_count (length n.latches) (length n.covers));
-        covers = λ k p c at e.
-            let there : (k < length n.covers) × (p ≡ top_at (length n.latches + k)) = place_is (length n.latches) (length n.covers) k p at in
-            let here : 0 + k ≡ k = omega arith in
-            subst (λ (q : Place). IsFlatCover (library_of n) places q c) (ap (λ (m : ℕ). top_at (length n.latches + m)) here ∙ sym there.1) (cs.2 k c e);
-        latch_count = ls.1 ∙ sym (place_count 0 (length n.latches));
-        latches = λ k p l at e. subst (λ (q : Place). IsFlatLatch (library_of n) places q l) (sym (place_is 0 (length n.latches) k p at).1) (ls.2 k l e);
-        output_names = port_names n.outputs outs.0 outs.1;
-        outputs = subst (AreNetsOf (library_of n) places [] n.outputs) (sym (port_nets n.outputs outs.0 outs.1)) outs.1;
-        order = subst (PostsAll next [] roots) (sym (reverse-reverse order.0)) order.1;
-        under = refl;
-      })
+      let order : (result : List ℕ) × PostsAll next [] roots result = all_posted next rank_at (λ k j i. reads_fall cs.0 cs.2 k j (slice_get cs.0 k) refl i) roots in (
+        record {
+          model = n.name;
+          inputs = places.inputs;
+          clocks = with_control_net [] control;
+          control = control;
+          outputs = ports_of n.outputs outs.0;
+          covers = cs.0;
+          latches = ls.0;
+          order = reverse order.0;
+          under = most_underscores (all_inputs n ++ ([] ++ n.outputs));
+        },
+        record {
+          main = model_of n;
+          is_main = refl;
+          model = refl;
+          test = test;
+          tells = tells;
+          inputs = refl;
+          control = is_control;
+          clocks = refl;
+          at = places;
+          places = refl;
+          covers_order = places_are_covers n;
+          latches_order = (places_are_latches n).order;
+          cover_count = cs.1 ∙ sym (place_count (length n.latches) (length n.covers));
+          covers = λ k p c at e.
+              let there : (k < length n.covers) × (p ≡ top_at (length n.latches + k)) = place_is (length n.latches) (length n.covers) k p at in
+              let here : 0 + k ≡ k = omega arith in
+              subst (λ (q : Place). IsFlatCover (library_of n) places q c) (ap (λ (m : ℕ). top_at (length n.latches + m)) here ∙ sym there.1) (cs.2 k c e);
+          latch_count = ls.1 ∙ sym (place_count 0 (length n.latches));
+          latches = λ k p l at e. subst (λ (q : Place). IsFlatLatch (library_of n) places q l) (sym (place_is 0 (length n.latches) k p at).1) (ls.2 k l e);
+          output_names = port_names n.outputs outs.0 outs.1;
+          outputs = subst (AreNetsOf (library_of n) places [] n.outputs) (sym (port_nets n.outputs outs.0 outs.1)) outs.1;
+          order = subst (PostsAll next [] roots) (sym (reverse-reverse order.0)) order.1;
+          under = refl;
+        },
+      )
 
 -- a latch with a control, where there is one
 record HasControl (ls : List LatchValue) (name : List ℕ) : Type 0 where
@@ -334,8 +344,8 @@ flat_by n h (inr free) =
           let c : IsControlName n other = clock_there n other is in
           none-some other (sym (free c.latch c.in') ∙ c.is);
     }) None (no_latch (λ path i l at.
-        let there : (m : LatchValue) × (slice_get n.latches i ≡ Some m) × (l ≡ read_latch m) = (latch_there n path i l at).1 in
-        ap (λ (k : LatchValue). k.control) there.2 ∙ free there.0 (In-get n.latches i there.0 there.1)) refl)
+    let there : (m : LatchValue) × (slice_get n.latches i ≡ Some m) × (l ≡ read_latch m) = (latch_there n path i l at).1 in
+    ap (λ (k : LatchValue). k.control) there.2 ∙ free there.0 (In-get n.latches i there.0 there.1)) refl)
 
 pub plain_flat : (n : PlainNetlist) → IsOrderly n → (again : FlatValue) × IsFlat (library_of n) again
 plain_flat n h = flat_by n h (find_control n.latches)

@@ -84,7 +84,8 @@ pub fn read_valid<S: Shelf>(
 /// Writes the file of a certificate.
 ///
 /// # Errors
-/// `Failed` only if the count of write faults rose. The file then has a prefix of its bytes, or is unchanged.
+/// `Failed` only if the count of write faults rose. The file then is unchanged or empty, or has a prefix of its bytes that is
+/// not all of them.
 pub fn write_cert<S: Shelf>(cert: &Certificate, name: &str, shelf: &mut S) -> Result<(), Failed>
     ensures cause { HasCause (S.seen shelf.old).write_faults (S.seen shelf.new).write_faults result }
     ensures written { WritesFile (record { name = name.now; bytes = cert_text cert.now }) (S.seen shelf.old).files (S.seen shelf.new).files result }

@@ -79,7 +79,8 @@ pub fn make_export(alloc: Global, built: BuiltSource) -> Result<Export, AllocErr
 /// Writes the file of a graph.
 ///
 /// # Errors
-/// `Failed` only if the count of write faults rose. The file then has a prefix of its bytes, or is unchanged.
+/// `Failed` only if the count of write faults rose. The file then is unchanged or empty, or has a prefix of its bytes that is
+/// not all of them.
 pub fn write_export<S: Shelf>(export: &Export, name: &str, shelf: &mut S) -> Result<(), Failed>
     requires { IsExport export.now }
     ensures cause { HasCause (S.seen shelf.old).write_faults (S.seen shelf.new).write_faults result }

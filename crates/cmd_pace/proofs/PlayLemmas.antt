@@ -1,5 +1,5 @@
 -- The playing of events: what stands behind some of them, and how it ends at the next one.
-use Rattle.std.proofs.Common.{◌≡◌, ◌⊎◌, ℕ, ◌≤◌, List, [], ◌∷◌, ◌++◌, length, map, take, Option, refl, sym, ap, ◌∙◌, subst, inl, inr, append_assoc}
+use Rattle.std.proofs.Common.{◌≡◌, ◌⊎◌, ℕ, ◌<◌, List, [], ◌∷◌, ◌++◌, length, map, take, Option, refl, sym, ap, ◌∙◌, subst, inl, inr, append_assoc}
 use Rattle.std.specs.List.{concat}
 use Rattle.std.proofs.lemmas.List.{map-append}
 use Rattle.tl_io.specs.Causes.{Rose}
@@ -68,7 +68,7 @@ come_all old new events before after come = record { shown = come.shown; end = n
 
 -- the events end at one whose line was cut
 pub events_cut : (old mid new : PacerValue) (all events : List PaceValue) (event : PaceValue) (one : Shown) (first before after : Option (List ℕ)) (part : ℕ) → IsSplit all events event → HaveCome old events first mid before
-    → IsPaced event mid new one → part ≤ length (shown_line one) → after ≡ extended before (take part (shown_line one)) → AreCut old all first after
+    → IsPaced event mid new one → part < length (shown_line one) → after ≡ extended before (take part (shown_line one)) → AreCut old all first after
 events_cut old mid new all events event one first before after part split come paced within put = record {
   first = events;
   event = event;

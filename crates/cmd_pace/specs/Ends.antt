@@ -1,5 +1,5 @@
 -- How a job of `pace` ends: what stands in the output.
-use Rattle.std.specs.Prelude.{◌≡◌, ◌≤◌, ◌⊎◌, ℕ, List, ◌∷◌, ◌++◌, length, map, take}
+use Rattle.std.specs.Prelude.{◌≡◌, ◌<◌, ◌⊎◌, ℕ, List, ◌∷◌, ◌++◌, length, map, take}
 use Rattle.std.specs.List.{concat}
 use Rattle.tl_io.specs.Causes.{Rose}
 use Rattle.tl_io.specs.Content.{extended}
@@ -23,7 +23,7 @@ module _ (p : PacerValue) (events : List PaceValue) (old new : Outside) where
   -- a fault of writing in the header: a prefix of it stands
   pub record IsCutInHeader : Type 0 where
     pub part : ℕ
-    pub within : part ≤ length (pacer_header p)
+    pub within : part < length (pacer_header p)
     pub bytes : new.bytes ≡ extended old.bytes (take part (pacer_header p))
     pub cause : Rose old.put_faults new.put_faults
 
@@ -39,7 +39,7 @@ module _ (p : PacerValue) (events : List PaceValue) (old new : Outside) where
     pub next : PacerValue
     pub paced : IsPaced event mid next one
     pub part : ℕ
-    pub within : part ≤ length (shown_line one)
+    pub within : part < length (shown_line one)
     pub bytes : new.bytes ≡ extended old.bytes (concat (pacer_header p ∷ map shown_line shown) ++ take part (shown_line one))
     pub cause : Rose old.put_faults new.put_faults
 

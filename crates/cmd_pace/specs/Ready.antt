@@ -1,5 +1,5 @@
 -- A job of `pace` that is ready to be played, and the playing of its events.
-use Rattle.std.specs.Prelude.{◌≡◌, ◌≤◌, ◌⊎◌, ℕ, List, ◌++◌, length, map, take, Option, Result, MatchResult}
+use Rattle.std.specs.Prelude.{◌≡◌, ◌<◌, ◌⊎◌, ℕ, List, ◌++◌, length, map, take, Option, Result, MatchResult}
 use Rattle.std.specs.List.{concat}
 use Rattle.list_laws.specs.Members.{In}
 use Rattle.tl_io.specs.Content.{extended}
@@ -50,13 +50,13 @@ module _ (old : PacerValue) (events : List PaceValue) (before after : Option (Li
     pub next : PacerValue
     pub paced : IsPaced event mid next one
     pub part : ℕ
-    pub within : part ≤ length (shown_line one)
+    pub within : part < length (shown_line one)
     pub bytes : after ≡ extended before (concat (map shown_line shown) ++ take part (shown_line one))
 
   -- a fault of writing in the header
   pub record IsCutFirst : Type 0 where
     pub part : ℕ
-    pub within : part ≤ length (pacer_header old)
+    pub within : part < length (pacer_header old)
     pub bytes : after ≡ extended before (take part (pacer_header old))
 
 -- how events end, and how a job does behind its header

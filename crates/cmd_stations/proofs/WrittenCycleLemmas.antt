@@ -77,6 +77,7 @@ module _ (source : Source) (read : IsReadSource source) (tables : Tables) (made 
     runs_as denotes = record {
       denotes = denotes;
       sound = means.sound;
+      is_flat = means.is_flat;
       inputs = λ again h. means.inputs again h ∙ ap (λ (names : List (List ℕ)). regular_names flat params ++ names) (append-nil (free_control flat.control));
       has_run = means.has_run;
       runs = λ xs outputs states run.
@@ -102,6 +103,7 @@ module _ (source : Source) (read : IsReadSource source) (tables : Tables) (made 
       record {
         denotes = template_denotes flat params template (has_ports source read) made.written;
         sound = means.sound;
+        is_flat = means.is_flat;
         inputs = means.inputs;
         has_cycle = means.has_cycle;
         has_run = means.has_run;

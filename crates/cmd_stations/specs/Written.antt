@@ -33,19 +33,21 @@ pub record IsSourceRun (source : Source) (params : List Bool) (values outputs st
 abbrev pub regular_values : Source → (List ℕ → Bool) → List Bool
 regular_values source x = map x (regular_names source.netlist.flat source.params.list)
 
--- Read again, a netlist's text is one sound library, whose inputs are the regular ones, and a main input `NIL` that was a latch's control. It has a run under any values, and each of its runs, whatever the inputs have by their names, is the source circuit's under these values of the parameters: its outputs and its latches' states, cycle by cycle.
+-- Read again, a netlist's text is one sound library. It has a flat circuit, whose inputs are the regular ones, and a main input `NIL` that was a latch's control. It has a run under any values, and each of its runs, whatever the inputs have by their names, is the source circuit's under these values of the parameters: its outputs and its latches' states, cycle by cycle.
 pub record RunsAs (source : Source) (params : List Bool) (netlist : PlainNetlist) : Type 0 where
   pub denotes : Denotes (netlist_text netlist) (library_of netlist)
   pub sound : IsSound (library_of netlist)
+  pub is_flat : (again : FlatValue) × IsFlat (library_of netlist) again
   pub inputs : (again : FlatValue) → IsFlat (library_of netlist) again → again.inputs ≡ regular_names source.netlist.flat source.params.list ++ free_control source.netlist.flat.control
   pub has_run : (xs : List (List ℕ → Bool)) → HasARun (library_of netlist) xs
   pub runs : (xs : List (List ℕ → Bool)) (outputs states : List (List Bool)) → IsRun (library_of netlist) xs outputs states
       → IsSourceRun source params (map (regular_values source) xs) outputs states
 
--- Read again, a template's text is one sound library, whose inputs are the regular ones, a main input `NIL` that was a latch's control, and the configuration bits by address. It has a cycle from any states under any values, and a run under any. Where these have the configuration of values of the parameters, each of its cycles is the source circuit's under these, and so for all values; its latches start as the source circuit's.
+-- Read again, a template's text is one sound library. It has a flat circuit, whose inputs are the regular ones, a main input `NIL` that was a latch's control, and the configuration bits by address. It has a cycle from any states under any values, and a run under any. Where these have the configuration of values of the parameters, each of its cycles is the source circuit's under these, and so for all values; its latches start as the source circuit's.
 pub record IsTuned (source : Source) (template : TemplateValue) (pack : PackValue) (netlist : PlainNetlist) : Type 0 where
   pub denotes : Denotes (netlist_text netlist) (library_of netlist)
   pub sound : IsSound (library_of netlist)
+  pub is_flat : (again : FlatValue) × IsFlat (library_of netlist) again
   pub inputs : (again : FlatValue) → IsFlat (library_of netlist) again
       → again.inputs ≡ regular_names source.netlist.flat source.params.list ++ (free_control source.netlist.flat.control ++ all_bit_names (naming_of source.netlist.flat source.params.list) template.bits)
   pub has_cycle : (x : List ℕ → Bool) (states : List Bool) → length states ≡ length source.netlist.flat.latches → HasACycle (library_of netlist) x states

@@ -49,7 +49,8 @@ fn put_template<O: Sink>(draft: &Draft, out: &mut O) -> Result<(), Failed>
 /// whatever the call returns.
 ///
 /// # Errors
-/// `Failed` only if the count of write faults rose. The file then has a prefix of its bytes, or is unchanged.
+/// `Failed` only if the count of write faults rose. The file then is unchanged or empty, or has a prefix of its bytes that is
+/// not all of them.
 pub fn write_specialised<S: Shelf>(
     draft: &Draft,
     config: &[bool],
@@ -73,7 +74,8 @@ pub fn write_specialised<S: Shelf>(
 /// whatever the call returns.
 ///
 /// # Errors
-/// `Failed` only if the count of write faults rose. The file then has a prefix of its bytes, or is unchanged.
+/// `Failed` only if the count of write faults rose. The file then is unchanged or empty, or has a prefix of its bytes that is
+/// not all of them.
 pub fn write_template<S: Shelf>(draft: &Draft, name: &str, shelf: &mut S) -> Result<(), Failed>
     requires { IsDraft draft.now }
     ensures cause { HasCause (S.seen shelf.old).write_faults (S.seen shelf.new).write_faults result }

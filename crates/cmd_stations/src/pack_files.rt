@@ -11,7 +11,8 @@ use tl_io::{Failed, FileSink, Shelf};
 /// Writes the file of a pack, in version 2.
 ///
 /// # Errors
-/// `Failed` only if the count of write faults rose. The file then has a prefix of its bytes, or is unchanged.
+/// `Failed` only if the count of write faults rose. The file then is unchanged or empty, or has a prefix of its bytes that is
+/// not all of them.
 pub fn write_pack<S: Shelf>(pack: &Pack, name: &str, shelf: &mut S) -> Result<(), Failed>
     ensures cause { HasCause (S.seen shelf.old).write_faults (S.seen shelf.new).write_faults result }
     ensures written { WritesFile (record { name = name.now; bytes = present_bytes pack.now }) (S.seen shelf.old).files (S.seen shelf.new).files result }

@@ -1,5 +1,5 @@
 -- How a step ends: its event is played; then its writes are sent; then its line is put.
-use Rattle.std.specs.Prelude.{◌≡◌, ℕ, ◌≤◌, Bool, List, length, take, Option, Result, Ok, Err}
+use Rattle.std.specs.Prelude.{◌≡◌, ℕ, ◌<◌, ◌≤◌, Bool, List, length, take, Option, Result, Ok, Err}
 use Rattle.tl_io.specs.Causes.{Rose}
 use Rattle.tl_io.specs.Content.{extended}
 use Rattle.tl_io.specs.Sink.{SinkSeen}
@@ -23,7 +23,7 @@ IsSent event host old new (Err PortFault) = HasLost event host old new
 -- the whole line was put, or a prefix of it, or none of its bytes
 abbrev pub HasLine : List ℕ → Option (List ℕ) → Option (List ℕ) → Result Unit StepErr → Type 0
 HasLine line old new (Ok done) = new ≡ extended old line
-HasLine line old new (Err WriteFault) = (n : ℕ) × (n ≤ length line) × (new ≡ extended old (take n line))
+HasLine line old new (Err WriteFault) = (n : ℕ) × (n < length line) × (new ≡ extended old (take n line))
 HasLine line old new (Err PortFault) = new ≡ old
 
 -- A fault of writing comes only where the sink's count rose, and no call of the sink is made behind a fault of a port.

@@ -1,5 +1,5 @@
 -- A job of `bits` that is ready to be played, and the playing of its events.
-use Rattle.std.specs.Prelude.{◌≡◌, ◌≤◌, ℕ, List, ◌++◌, length, take, Option, Result, MatchResult}
+use Rattle.std.specs.Prelude.{◌≡◌, ◌<◌, ℕ, List, ◌++◌, length, take, Option, Result, MatchResult}
 use Rattle.std.specs.List.{concat}
 use Rattle.list_laws.specs.Members.{In}
 use Rattle.tl_io.specs.Content.{extended}
@@ -54,7 +54,7 @@ module _ (old : SpecialiserValue) (events : List EventValue) (before after : Opt
     pub end : SpecialiserValue
     pub step : IsHostStep event mid end
     pub part : ℕ
-    pub within : part ≤ length (host_line event end)
+    pub within : part < length (host_line event end)
     pub bytes : after ≡ extended before (concat lines ++ take part (host_line event end))
 
 -- how events end, and how a script does, seen from outside

@@ -1,5 +1,5 @@
 -- The walk of `bits`.
-use Rattle.std.specs.Prelude.{◌≡◌, ◌≤◌, ◌⊎◌, ℕ, List, ◌∷◌, ◌++◌, length, take}
+use Rattle.std.specs.Prelude.{◌≡◌, ◌<◌, ◌⊎◌, ℕ, List, ◌∷◌, ◌++◌, length, take}
 use Rattle.std.specs.List.{concat}
 use Rattle.tl_io.specs.Causes.{Rose}
 use Rattle.tl_io.specs.Content.{extended}
@@ -34,7 +34,7 @@ module _ (h : SpecialiserValue) (events : List EventValue) (old new : Outside) w
   -- a fault of writing in the header: a prefix of it stands
   pub record IsCutInHeader : Type 0 where
     pub part : ℕ
-    pub within : part ≤ length (pack_header h.pack)
+    pub within : part < length (pack_header h.pack)
     pub bytes : new.bytes ≡ extended old.bytes (take part (pack_header h.pack))
     pub cause : Rose old.put_faults new.put_faults
     pub files : new.files ≡ old.files
@@ -51,7 +51,7 @@ module _ (h : SpecialiserValue) (events : List EventValue) (old new : Outside) w
     pub end : SpecialiserValue
     pub step : IsHostStep event mid end
     pub part : ℕ
-    pub within : part ≤ length (host_line event end)
+    pub within : part < length (host_line event end)
     pub bytes : new.bytes ≡ extended old.bytes (concat (pack_header h.pack ∷ lines) ++ take part (host_line event end))
     pub cause : Rose old.put_faults new.put_faults
     pub files : new.files ≡ old.files

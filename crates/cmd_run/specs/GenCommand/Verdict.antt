@@ -1,5 +1,5 @@
 -- The walk of `gen`: that of `run` over the generated texts.
-use Rattle.std.specs.Prelude.{◌≡◌, ◌≤◌, ℕ, List, [], ◌∷◌, length, take, codes, decimal}
+use Rattle.std.specs.Prelude.{◌≡◌, ◌<◌, ℕ, List, [], ◌∷◌, length, take, codes, decimal}
 use Rattle.std.specs.List.{concat}
 use Rattle.tl_io.specs.Causes.{Rose}
 use Rattle.tl_io.specs.Content.{extended}
@@ -52,7 +52,7 @@ module _ (old new : Outside) (text : List ℕ) where
   -- a fault of writing: a prefix of it stands
   pub record IsPartTold : Type 0 where
     pub part : ℕ
-    pub within : part ≤ length text
+    pub within : part < length text
     pub bytes : new.bytes ≡ extended old.bytes (take part text)
     pub cause : Rose old.put_faults new.put_faults
     pub files : new.files ≡ old.files

@@ -1,5 +1,5 @@
 -- How a job of `run` ends: what is in the output and in the ports.
-use Rattle.std.specs.Prelude.{◌≡◌, ◌≤◌, ◌⊎◌, ℕ, ◌+◌, List, ◌∷◌, ◌++◌, length, take, Result, Ok, Err}
+use Rattle.std.specs.Prelude.{◌≡◌, ◌<◌, ◌⊎◌, ℕ, ◌+◌, List, ◌∷◌, ◌++◌, length, take, Result, Ok, Err}
 use Rattle.std.specs.List.{concat}
 use Rattle.tl_io.specs.Causes.{Rose}
 use Rattle.tl_io.specs.Content.{extended}
@@ -36,7 +36,7 @@ module _ (counts : PortCounts) (m : MachineValue) (events : List EventValue) (ol
   -- a fault of writing in the header: a prefix of it stands, and nothing was sent
   pub record IsCutInHeader : Type 0 where
     pub part : ℕ
-    pub within : part ≤ length (machine_header m)
+    pub within : part < length (machine_header m)
     pub bytes : new.bytes ≡ extended old.bytes (take part (machine_header m))
     pub cause : Rose old.put_faults new.put_faults
     pub ports : new.ports ≡ old.ports
@@ -52,7 +52,7 @@ module _ (counts : PortCounts) (m : MachineValue) (events : List EventValue) (ol
     pub stage : Stage
     pub step : IsStep event mid stage
     pub part : ℕ
-    pub within : part ≤ length (event_line event stage.machine)
+    pub within : part < length (event_line event stage.machine)
     pub bytes : new.bytes ≡ extended old.bytes (concat (machine_header m ∷ lines) ++ take part (event_line event stage.machine))
     pub cause : Rose old.put_faults new.put_faults
     pub ports : new.ports ≡ all_ports stage.bank

@@ -1,5 +1,5 @@
 -- A job that is ready to be played, and the playing of its events.
-use Rattle.std.specs.Prelude.{◌≡◌, ◌≤◌, ◌⊎◌, ℕ, List, ◌++◌, length, take, Option, Result, Ok, Err}
+use Rattle.std.specs.Prelude.{◌≡◌, ◌<◌, ◌⊎◌, ℕ, List, ◌++◌, length, take, Option, Result, Ok, Err}
 use Rattle.std.specs.List.{concat}
 use Rattle.list_laws.specs.Members.{In}
 use Rattle.tl_io.specs.Content.{extended}
@@ -63,7 +63,7 @@ module _ (old : Stage) (events : List EventValue) (before after : Option (List �
     pub stage : Stage
     pub step : IsStep event mid stage
     pub part : ℕ
-    pub within : part ≤ length (event_line event stage.machine)
+    pub within : part < length (event_line event stage.machine)
     pub bytes : after ≡ extended before (concat lines ++ take part (event_line event stage.machine))
     pub bank : new ≡ stage.bank
 
@@ -100,7 +100,7 @@ module _ (m : MachineValue) (events : List EventValue) (old : BankSeen) (before 
   -- a fault of writing in the header
   pub record IsCutFirst : Type 0 where
     pub part : ℕ
-    pub within : part ≤ length (machine_header m)
+    pub within : part < length (machine_header m)
     pub bytes : after ≡ extended before (take part (machine_header m))
     pub bank : new ≡ old
 
