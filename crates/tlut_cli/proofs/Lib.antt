@@ -1,3 +1,4 @@
 mod CommandLemmas
 mod ReplayLemmas
 mod CallLemmas
+mod ReplayExample
