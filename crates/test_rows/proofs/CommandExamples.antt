@@ -96,7 +96,7 @@ module _ (old : Outside) where
       cut = template;
       after = pack ∷ [];
       split = refl;
-      files = inr (1, omega arith, refl);
+      files = inr (inr (1, omega arith, refl));
       cause = rose;
       bytes = refl;
       put_faults = refl;
