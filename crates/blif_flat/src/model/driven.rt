@@ -1,53 +1,49 @@
 //! The names that are driven in a model.
-ghost use Rattle.std.specs.Prelude.{◌≡◌, false, [], ◌∷◌, ◌++◌, OnOk, OnErr};
-ghost use Rattle.blif_flat.specs.{has_name};
+ghost use Rattle.std.specs.Prelude.{◌≡◌, not, IfOk, OnOk};
+ghost use Rattle.blif_flat.specs.{has_name, with_name};
 
 use crate::model::ports::Ports;
 use std::alloc::{AllocError, Global};
 use std::marker::Model;
 use tl_text::NameIndex;
 
-/// The names that are driven in a model: its inputs, which its ports find, then those that its commands drive.
+/// The names that are driven in a model: its inputs, and then those that its commands drive.
 #[derive(Drop)]
-pub(crate) struct Driven<'a> {
-    ports: &'a Ports,
-    others: NameIndex,
+pub(crate) struct Driven {
+    names: NameIndex,
 }
 
-impl<'a> Model for Driven<'a> {
-    ghost use Rattle.std.specs.Prelude.{ℕ, List, ◌++◌};
+impl Model for Driven {
+    ghost use Rattle.std.specs.Prelude.{ℕ, List};
 
     ghost Value = { List (List ℕ) };
 
-    ghost view = { λ d. d.ports.now.inputs ++ d.others };
+    ghost view = { λ d. d.names };
 }
 
-impl<'a> Driven<'a> {
-    /// The inputs of the model of these ports. It takes no memory.
-    pub(crate) fn inputs(alloc: Global, ports: &'a Ports) -> Driven<'a>
-        ensures { result ≡ ports.now.inputs }
+impl Driven {
+    /// The inputs of the model with these ports. `Err` only if memory runs out. The time is linear in their bytes, on average
+    /// over the hashes.
+    pub(crate) fn inputs(alloc: Global, ports: &Ports) -> Result<Driven, AllocError>
+        ensures { IfOk result (λ driven. driven ≡ ports.now.inputs) }
     {
-        Driven {
-            ports,
-            others: NameIndex::new(alloc),
-        }
+        let names = ports.copy_inputs(alloc)?;
+        Ok(Driven { names })
     }
 
-    /// Is the name among them?
+    /// Whether the name is among them.
     pub(crate) fn has(&self, name: &[u8]) -> bool
         ensures { result ≡ has_name self.now name.now }
     {
-        let ports = self.ports;
-        ports.is_input(name) || self.others.has(name)
+        self.names.has(name)
     }
 
-    /// Adds a name that isn't among them at the end, and copies its bytes. `Err` comes only for want of memory, and adds
-    /// nothing.
-    pub(crate) fn add(&mut self, alloc: Global, name: &[u8]) -> Result<(), AllocError>
-        requires { has_name self.old name.now ≡ false }
-        ensures ok { OnOk result (self.new ≡ self.old ++ name.now ∷ []) }
-        ensures err { OnErr result (self.new ≡ self.old) }
+    /// Appends a name unless it is among them, and returns whether it is new. `Err` only if memory runs out.
+    pub(crate) fn add(&mut self, alloc: Global, name: &[u8]) -> Result<bool, AllocError>
+        ensures added { IfOk result (λ added. added ≡ not (has_name self.old name.now)) }
+        ensures ok { OnOk result (self.new ≡ with_name self.old name.now) }
     {
-        self.others.add(alloc, name)
+        let added = self.names.add_new(alloc, name)?;
+        Ok(added)
     }
 }

@@ -1,4 +1,4 @@
-//! The names that are driven twice, and those that are read and aren't driven.
+//! Names that are driven twice, and names that are read but not driven.
 ghost use Rattle.std.specs.Prelude.{◌≡◌, ℕ, List, [], ◌∷◌, ◌++◌, map, None, slice_get, MatchOption, MatchResult};
 ghost use Rattle.blif_flat.specs.{ModelValue, Memory, model_named, has_name, ports_value, model_names, output_actuals, input_actuals, driven_pairs, read_pairs, control_names, drives, reads, all_drives, twice_in, twice_fault, undriven_in, undriven_fault, model_fault, models_fault, Tells, Adds, ArePortsOf, AreOf, fault_of, models_at};
 ghost use Rattle.netlist.specs.LibraryValue.{LibraryValue};
@@ -30,13 +30,12 @@ fn copy_of(alloc: Global, name: &Name) -> Result<Name, FlatErr>
 fn drive(site: &Site, driven: &mut Driven, name: &Name) -> Result<(), FlatErr>
     ensures { Adds result (twice_in site.now.model.now site.now.line driven.old (name.now ∷ [])) driven.old driven.new (name.now ∷ []) }
 {
-    if driven.has(name.bytes()) {
-        let model = copy_of(site.alloc, site.model)?;
-        let name = copy_of(site.alloc, name)?;
-        return Err(FlatErr::DoublyDriven(model, site.line, name));
+    if driven.add(site.alloc, name.bytes())? {
+        return Ok(());
     }
-    driven.add(site.alloc, name.bytes())?;
-    Ok(())
+    let model = copy_of(site.alloc, site.model)?;
+    let name = copy_of(site.alloc, name)?;
+    Err(FlatErr::DoublyDriven(model, site.line, name))
 }
 
 // Tells a name that isn't driven.
@@ -232,7 +231,7 @@ fn check_model(
     requires { own.now ≡ ports_value model.now }
     ensures { (library : LibraryValue) → AreOf library index.now.names ports.now → Tells result (model_fault library model.now) }
 {
-    let mut driven = Driven::inputs(alloc, own);
+    let mut driven = Driven::inputs(alloc, own)?;
     drive_commands(alloc, index, ports, model, &mut driven)?;
     check_commands(alloc, index, ports, model, &driven)?;
     let site = Site {
@@ -261,10 +260,10 @@ fn check_number(
     }
 }
 
-/// Tells the first fault of the drivers of the models of these numbers, in this order: in each model the first name that a
-/// line drives and that is driven already, then the first that a line reads and that isn't driven, then the first output
-/// that isn't. The index and the ports are those of the library. `Err(Memory)` comes for want of memory. It takes time
-/// linear in the models of the order, on average over the hashes.
+/// Reports the first fault in the drivers of the models with these numbers, in this order. In each model these are the first
+/// name that a line drives although it is already driven, then the first name that a line reads although it isn't driven, then
+/// the first output that isn't driven. The index and the ports belong to the library. `Err(Memory)` if memory runs out. The
+/// time is linear in the models of the order, on average over the hashes.
 pub(crate) fn check_drivers(
     alloc: Global,
     library: &Library,

@@ -1,4 +1,4 @@
-//! The formals of connections, the ports of the models and the models themselves, each found by its hash.
+//! Formals of connections, ports of models, and models. Each is found by its hash.
 ghost use Rattle.std.specs.Prelude.{◌≡◌, [], IfOk, map, ℕ, ◌<◌, ◌^◌, List, length, IfSome};
 ghost use Rattle.blif_flat.specs.{formals, has_name, with_names, In, place_of, ModelValue, IsWellFormedModel, is_input as input_of, is_output as output_of, ports_value, AreOnce, model_names, Finds};
 
@@ -20,14 +20,14 @@ pub(crate) fn formal_index(alloc: Global, pairs: &[Pair]) -> Result<NameIndex, A
 /// The ports of a model.
 #[derive(Drop)]
 pub(crate) struct Ports {
-    /// The names of its `.inputs`, then those of its `.clock` that aren't among them.
+    /// The names of its `.inputs`, and then those of its `.clock` that aren't among them.
     inputs: NameIndex,
     /// The names of its `.outputs`.
     outputs: NameIndex,
 }
 
 impl Ports {
-    /// The ports of a model. It takes time linear in their bytes, on average over the hashes.
+    /// The ports of a model. The time is linear in their bytes, on average over the hashes.
     pub(crate) fn make(alloc: Global, model: &BlifModel) -> Result<Ports, AllocError>
         requires { IsWellFormedModel model.now }
         ensures { IfOk result (λ ports. ports ≡ ports_value model.now) }
@@ -38,7 +38,15 @@ impl Ports {
         Ok(Ports { inputs, outputs })
     }
 
-    /// Is the name an input?
+    /// A copy of the inputs. `Err` only if memory runs out. The time is linear in their bytes, on average over the hashes.
+    pub(crate) fn copy_inputs(&self, alloc: Global) -> Result<NameIndex, AllocError>
+        ensures { IfOk result (λ inputs. inputs ≡ self.now.inputs) }
+    {
+        let inputs = self.inputs.copy(alloc)?;
+        Ok(inputs)
+    }
+
+    /// Whether the name is an input.
     pub(crate) fn is_input(&self, name: &[u8]) -> bool
         ensures among { result ≡ has_name self.now.inputs name.now }
         ensures model { (m : ModelValue) → self.now ≡ ports_value m → result ≡ input_of m name.now }
@@ -46,21 +54,21 @@ impl Ports {
         self.inputs.has(name)
     }
 
-    /// The place of a name among the inputs, counted from 0; `None` where it isn't one.
+    /// The place of a name among the inputs, counted from 0. `None` if it isn't an input.
     pub(crate) fn input_place(&self, name: &[u8]) -> Option<usize>
         ensures { result ≡ place_of self.now.inputs name.now }
     {
         self.inputs.place(name)
     }
 
-    /// Is the name among the outputs? It may be an input too.
+    /// Whether the name is in the `.outputs`. It may be an input too.
     pub(crate) fn has_output(&self, name: &[u8]) -> bool
         ensures { result ≡ has_name self.now.outputs name.now }
     {
         self.outputs.has(name)
     }
 
-    /// Is the name an output that is no input?
+    /// Whether the name is an output and not an input.
     pub(crate) fn is_output(&self, name: &[u8]) -> bool
         ensures { (m : ModelValue) → self.now ≡ ports_value m → result ≡ output_of m name.now }
     {
@@ -68,7 +76,7 @@ impl Ports {
     }
 }
 
-/// The ports of each model in order.
+/// The ports of each model, in order.
 pub(crate) fn all_ports(alloc: Global, models: &[BlifModel]) -> Result<Vec<Ports>, AllocError>
     requires { (m : ModelValue) → In models.now m → IsWellFormedModel m }
     ensures { IfOk result (λ ports. ports.items ≡ map ports_value models.now) }
@@ -81,7 +89,7 @@ pub(crate) fn all_ports(alloc: Global, models: &[BlifModel]) -> Result<Vec<Ports
     Ok(all)
 }
 
-/// The names of the models in order.
+/// The names of the models, in order.
 #[derive(Drop)]
 pub(crate) struct ModelIndex {
     names: NameIndex,
@@ -89,7 +97,7 @@ pub(crate) struct ModelIndex {
 }
 
 impl ModelIndex {
-    /// The names of these models. It takes time linear in their bytes, on average over the hashes.
+    /// The names of these models. The time is linear in their bytes, on average over the hashes.
     pub(crate) fn make(alloc: Global, models: &[BlifModel]) -> Result<ModelIndex, AllocError>
         requires once { AreOnce (model_names models.now) }
         requires few { length models.now < 2 ^ 32 }
@@ -102,7 +110,7 @@ impl ModelIndex {
         Ok(ModelIndex { names })
     }
 
-    /// The number of the model of this name, counted from 0.
+    /// The number of the model with this name, counted from 0.
     pub(crate) fn find(&self, name: &[u8]) -> Option<u32>
         ensures place { result ≡ place_of self.now.names name.now }
         ensures model { (models : List ModelValue) → self.now.names ≡ model_names models → Finds models name.now result }
@@ -114,7 +122,7 @@ impl ModelIndex {
     }
 }
 
-/// The models of a library, with what finds a name among them and the ports of each.
+/// The models of a library, the index of their names, and the ports of each.
 #[derive(Drop)]
 pub(crate) struct Models<'a> {
     pub list: &'a [BlifModel],
