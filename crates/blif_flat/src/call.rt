@@ -31,25 +31,25 @@ fn main_ports(ports: &[Ports]) -> &Ports
 
 /// The flat circuit of a library, whose first model is the main one.
 ///
-/// The library is well formed, as every one that a reader answers: it has a model, no two models have the same name, no port
-/// stands twice in a list, each row of a cover has a cell for each input, and no connection's formal stands twice in its line.
-/// It has fewer than 2^32 models, and the names of the main model's ports have fewer than 2^32 bytes each.
+/// The library must be well formed, as every library that a reader returns. It has a model, and no two models have the same
+/// name. No port is repeated in a list, each row of a cover has a cell per input, and no formal is repeated in a `.subckt`
+/// line. It has fewer than 2^32 models, and each port name of the main model has fewer than 2^32 bytes.
 ///
-/// `Ok` comes exactly where the library is sound and not too heavy, that is where no fault stands, unless there is no memory.
-/// A library has one fault at most.
+/// Unless memory runs out, the result is `Ok` exactly when the library is sound and not too heavy, that is, when it has no
+/// fault. A library has at most one fault.
 ///
-/// In every sound library the law of the cycle relation holds: for all values of inputs and latches there are values of all
-/// names that fit them, and those of the names that a net drives are the only ones. The flat circuit's fields are those of the library's hierarchical names,
-/// and a sound library has one such circuit at most; evaluating its covers in its order gives these values, and
-/// so the outputs and the next states of each cycle, and of each run from the latches' inits. Its lists are short, and its
-/// nets and its order are in range (`netlist/specs/Bounds.antt`).
+/// The law of the cycle relation holds in every sound library: for all values of inputs and latches, values of all names exist
+/// that fit them, and the values of driven names are unique. The flat circuit's fields are those of the library's hierarchical
+/// names, and a sound library has at most one such circuit. Evaluating its covers in its order gives these values, and so the
+/// outputs and the next states of each cycle, and of each run from the latches' inits. The lengths of its lists are bounded,
+/// and its nets and its order are in range (`netlist/specs/Bounds.antt`).
 ///
-/// It takes time linear in the library's bytes and in the bytes of the names of all instances, on average over the hashes,
-/// and keeps each of its stacks in memory.
+/// The time is linear in the library's bytes and in the bytes of the names of all instances, on average over the hashes. All
+/// stacks are kept in memory.
 ///
 /// # Errors
-/// The first of the walk's F1 to F4, L2, the drivers' F5 and F6, the clocks' F8, F7 and F9, and F10; `Memory` where there is
-/// none. The order and the details are those of `specs/Faults.antt`.
+/// The first of F1 to F4 in the walk, L2, F5 and F6 of the drivers, F8, F7 and F9 of the clocks, and F10. `Memory` if memory
+/// runs out. `specs/Faults.antt` defines the order and the details.
 #[tactic(auto, using(crate::proofs::Faults::FaultOnceLemmas::one_fault, crate::proofs::Faults::FaultOnceLemmas::no_fault))]
 pub fn flatten(alloc: Global, library: &Library) -> Result<Flat, FlatErr>
     requires formed { IsWellFormed library.now }

@@ -3,45 +3,44 @@
 use std::alloc::{AllocError, AllocFailed};
 use tl_fault::{Details, Name, Names, Refusal};
 
-/// Why a library has no flat circuit. A model with a line and a name are the model's name, the number of the logical line
-/// in it, counted from 1, and the name that is told. A net is written as the ordinals of its instance, each followed by
-/// `/`, and the name at its driver.
+/// Why a library has no flat circuit. Most variants hold the name of a model, a logical line in it (counted from 1), and the
+/// name that is reported. A net is written as the ordinals of its instance, each followed by `/`, and the name at its driver.
 #[derive(Debug, Drop, thiserror::Error)]
 pub enum FlatErr {
-    /// F1: the line places no model of the library; the model's name is told.
+    /// F1: the library has no model of the name in this `.subckt` line. The name is reported.
     #[error("unknown model in line {1}")]
     UnknownModel(Name, u32, Name),
-    /// F2: a model places itself, by the models of this chain; the repeated one stands first and last.
+    /// F2: a model contains itself, through the models of this chain. The repeated model is the first and the last.
     #[error("recursive model")]
     RecursiveModel(Names),
-    /// F3: this formal is neither an input nor an output of the placed model.
+    /// F3: this formal is neither an input nor an output of its model.
     #[error("unknown formal in line {1}")]
     UnknownFormal(Name, u32, Name),
-    /// F4: this input of the placed model isn't connected.
+    /// F4: this input of the subcircuit's model isn't connected.
     #[error("unconnected input in line {1}")]
     Unconnected(Name, u32, Name),
     /// L2: the weight of the main model exceeds 2^22.
     #[error("too large")]
     TooLarge,
-    /// F5: the line drives this name, which is driven already.
+    /// F5: the line drives this name, which is already driven.
     #[error("doubly driven in line {1}")]
     DoublyDriven(Name, u32, Name),
     /// F6: the line reads this name, which isn't driven.
     #[error("undriven in line {1}")]
     Undriven(Name, u32, Name),
-    /// F7: the control nets of two latches differ; the earlier one first.
+    /// F7: the control nets of two latches differ. The earlier one is first.
     #[error("second clock")]
     SecondClock(Name, Name),
-    /// F8: the control net of a latch is no input of the main model.
+    /// F8: the control net of a latch isn't an input of the main model.
     #[error("clock is no input")]
     ClockNotInput(Name),
-    /// F9: this clock net is the input of a cover or a latch, or a top output.
+    /// F9: this clock net is an input of a cover or a latch, or an output of the main model.
     #[error("clock as data")]
     ClockAsData(Name),
-    /// F10: the nets of a loop of covers, each one reading the next, the last reading the first.
+    /// F10: the nets of a loop of covers. Each reads the next, and the last reads the first.
     #[error("loop")]
     Loop(Names),
-    /// There is no memory.
+    /// Out of memory.
     #[error("out of memory")]
     Memory,
 }
@@ -72,7 +71,7 @@ impl FlatErr {
     ghost use Rattle.std.specs.Prelude.{◌≡◌};
     ghost use Rattle.blif_flat.specs.Refusals.{refusal_of};
 
-    /// What the refusal tells; none for want of memory.
+    /// The refusal that is reported; `None` if memory ran out.
     pub fn refusal(self) -> Option<Refusal>
         ensures { result ≡ refusal_of self }
     {

@@ -1,4 +1,4 @@
-//! The circuit of a library: its instances, their covers and latches, and the nets of all their names.
+//! Creates the circuit of a library: its instances, their covers and latches, and the nets of all their names.
 ghost use Rattle.std.specs.Prelude.{◌≡◌, map, IfOk};
 ghost use Rattle.blif_flat.specs.{IsWellFormed, ports_value, model_names, IsDriven, IsLight, IsCircuit};
 
@@ -9,7 +9,7 @@ use crate::model::ports::{ModelIndex, Ports};
 use netlist::Library;
 use std::alloc::{AllocError, Global};
 
-/// The instances of a library in flat order, their covers and their latches, and the nets of all their names.
+/// The instances of a library in flat order, their covers and latches, and the nets of all their names.
 #[derive(Drop)]
 pub(crate) struct Circuit {
     pub instances: Vec<Instance>,
@@ -18,8 +18,8 @@ pub(crate) struct Circuit {
     pub nets: Nets,
 }
 
-/// The circuit of a library. The index and the ports are those of the library. `Err` comes only for want of memory. It takes
-/// time linear in the bytes of the names of all instances, on average over the hashes.
+/// The circuit of a library. The index and the ports belong to the library. `Err` only if memory runs out. The time is linear in
+/// the bytes of the names of all instances, on average over the hashes.
 pub(crate) fn connect(
     alloc: Global,
     library: &Library,

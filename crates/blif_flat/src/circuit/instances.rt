@@ -1,4 +1,4 @@
-//! The instances of a library in flat order, their covers and latches, and what stands at these.
+//! The instances of a library in flat order, their covers and latches, and the commands of these.
 ghost use Rattle.std.specs.Prelude.{◌≡◌, ℕ, ◌+◌, ◌<◌, ◌^◌, List, [], ◌∷◌, ◌++◌, length, reverse, Some, slice_get, IfOk, OnOk, ◌≤◌, None, MatchOption};
 ghost use Rattle.std.specs.Option.{option_map};
 ghost use Rattle.blif_flat.specs.{ModelValue, subckts_of, with_subckt, model_names, place_of, AreInstances, IsLight, number_or_zero, with_entry, entries_from, paths_of, places_at, kind_test, AreGatesAt, with_commands, with_model, most_weight, body_at, Place, latch_at, IsGateAt, numbered_body, place_body, gate_body as body_of};
@@ -12,9 +12,9 @@ use std::alloc::{AllocError, Global};
 pub(crate) struct Instance {
     /// The number of its model in the library, counted from 0.
     pub model: u32,
-    /// The place of the instance that it stands in, among the earlier instances; `None` for the first one.
+    /// The row of the instance that contains it, which is an earlier one. `None` for the first instance.
     pub parent: Option<u32>,
-    /// The ordinal of its line among the `.subckt` lines of the model that it stands in, counted from 0.
+    /// The ordinal of its line among the `.subckt` lines of the containing model, counted from 0.
     pub ordinal: u32,
 }
 
@@ -114,9 +114,9 @@ fn push_entries(
     Ok(())
 }
 
-/// The instances of a library in flat order: an instance, then the instances of its `.subckt` lines in line order. They
-/// are at most 2^22. `Err` comes only for want of memory. It takes time linear in the commands of the instances' models,
-/// on average over the hashes.
+/// The instances of a library in flat order: an instance, then the instances of its `.subckt` lines in line order. There are at
+/// most 2^22. `Err` only if memory runs out. The time is linear in the commands of the instances' models, on average over the
+/// hashes.
 pub(crate) fn instances(
     alloc: Global,
     library: &Library,
@@ -146,16 +146,16 @@ pub(crate) fn instances(
 pub(crate) struct Gate {
     /// The row of its instance.
     pub row: u32,
-    /// Its place among the commands of its model.
+    /// Its index among the commands of its model.
     pub command: u32,
 }
 
-/// Which commands are taken.
+/// A choice of commands.
 #[derive(Clone, Copy, Drop)]
 pub(crate) enum GateKind {
     Cover,
     Latch,
-    /// Covers and latches alike.
+    /// Covers and latches.
     Either,
 }
 
@@ -206,8 +206,8 @@ fn add_model(
     }
 }
 
-/// The gates of a kind in flat order: those of each instance in line order. The instances are those of the library. They are at
-/// most 2^22. `Err` comes only for want of memory. It takes time linear in the commands of the instances' models.
+/// The gates of a kind in flat order: those of each instance in line order. The instances are those of the library. There are at
+/// most 2^22 gates. `Err` only if memory runs out. The time is linear in the commands of the instances' models.
 pub(crate) fn gates(
     alloc: Global,
     library: &Library,
@@ -226,7 +226,7 @@ pub(crate) fn gates(
     Ok(gates)
 }
 
-/// The gate of a number.
+/// The gate with this number.
 pub(crate) fn gate_at(gates: &[Gate], k: u32) -> Gate
     requires { k < length gates.now }
     ensures { slice_get gates.now k ≡ Some result }
@@ -252,7 +252,7 @@ fn model_body(library: &Library, model: u32, command: u32) -> Option<&Body>
     }
 }
 
-/// The body of a gate's command. Where the instances are those of the library, it is the body of the gate's place.
+/// The body of a gate's command. If the instances are those of the library, it is the body of the gate's place.
 pub(crate) fn gate_body<'a>(
     library: &'a Library,
     instances: &[Instance],
@@ -268,7 +268,7 @@ pub(crate) fn gate_body<'a>(
     }
 }
 
-/// The latch of a gate, and `None` where it is another command. The instances are those of the library.
+/// The latch of a gate. `None` if its command isn't a latch. The instances are those of the library.
 pub(crate) fn gate_latch<'a>(
     library: &'a Library,
     instances: &[Instance],

@@ -1,4 +1,5 @@
-//! The nets of all instances: first their own covers and latches, then outputs from the inside out, then inputs from the outside in.
+//! Fills the table of nets: first the instances' covers and latches, then outputs from the inside out, then inputs from the
+//! outside in.
 ghost use Rattle.std.specs.Prelude.{◌≡◌, ◌++◌, List, [], map, slice_get, IfOk, OnOk, ◌<◌, ◌≤◌, length, None, MatchOption, ◌^◌, ◌∷◌};
 ghost use Rattle.std.specs.Option.{option_map, option_and_then};
 ghost use Rattle.netlist.specs.SubcktValue.{SubcktValue};
@@ -13,7 +14,7 @@ use std::alloc::{AllocError, Global};
 use std::marker::Model;
 use tl_text::Name;
 
-/// The `.subckt` lines of each model in line order.
+/// The `.subckt` lines of each model, in line order.
 #[derive(Drop)]
 pub(crate) struct SubcktLines<'a> {
     models: Vec<Vec<&'a Subckt>>,
@@ -54,7 +55,7 @@ fn lines_of<'a>(alloc: Global, commands: &'a [Command]) -> Result<Vec<&'a Subckt
 }
 
 impl<'a> SubcktLines<'a> {
-    /// The lines of these models. It takes time linear in their commands.
+    /// The lines of these models. The time is linear in their commands.
     pub(crate) fn make(
         alloc: Global,
         models: &'a [BlifModel],
@@ -69,7 +70,7 @@ impl<'a> SubcktLines<'a> {
         Ok(SubcktLines { models: all })
     }
 
-    /// The line of an ordinal of the model of a number, in constant time; `None` where there is none.
+    /// The `.subckt` line with this ordinal in the model with this number, in constant time. `None` if it doesn't exist.
     pub(crate) fn line(&self, model: u32, ordinal: u32) -> Option<&'a Subckt>
         ensures { option_map (λ s. s.now) result ≡ option_and_then (λ (lines : List SubcktValue). slice_get lines ordinal) (slice_get self.now model) }
     {
@@ -166,8 +167,8 @@ fn link_in<'a>(
     }
 }
 
-/// Copies the nets of the outputs of all instances out, those of the last row first. It takes time linear in the bytes of
-/// their connections, on average over the hashes.
+/// Copies the nets of all instances' outputs to their actuals, beginning with the last row. The time is linear in the bytes of
+/// the connections, on average over the hashes.
 pub(crate) fn links_out<'a>(
     lines: &SubcktLines<'a>,
     ports: &'a [Ports],
@@ -186,8 +187,8 @@ pub(crate) fn links_out<'a>(
     }
 }
 
-/// Copies the nets of the inputs of all instances in, those of the first row first. It takes time linear in the bytes of
-/// their connections, on average over the hashes.
+/// Copies the nets of the actuals to all instances' inputs, beginning with the first row. The time is linear in the bytes of the
+/// connections, on average over the hashes.
 pub(crate) fn links_in<'a>(
     lines: &SubcktLines<'a>,
     ports: &'a [Ports],
@@ -226,7 +227,7 @@ fn set_latch(library: &Library, instances: &[Instance], nets: &mut Nets, gate: &
     }
 }
 
-/// Puts the covers in at their outputs, by their places. It takes time linear in the bytes of their names, on average over
+/// Sets the nets of the covers' outputs to the covers' numbers. The time is linear in the bytes of their names, on average over
 /// the hashes.
 pub(crate) fn set_covers(
     library: &Library,
@@ -244,8 +245,8 @@ pub(crate) fn set_covers(
     }
 }
 
-/// Puts the latches in at their outputs, by their places. It takes time linear in the bytes of their names, on average over
-/// the hashes.
+/// Sets the nets of the latches' outputs to the latches' numbers. The time is linear in the bytes of their names, on average
+/// over the hashes.
 pub(crate) fn set_latches(
     library: &Library,
     instances: &[Instance],
@@ -286,8 +287,8 @@ fn set_names(ports: &Ports, nets: &mut Nets, names: &[Name])
     }
 }
 
-/// Puts the inputs of the main model in, by their places: the names of its `.inputs`, then those of its `.clock` that aren't
-/// among them. It takes time linear in their bytes, on average over the hashes.
+/// Sets the nets of the main model's inputs to their numbers: the names of its `.inputs`, then those of its `.clock` that aren't
+/// among them. The time is linear in their bytes, on average over the hashes.
 pub(crate) fn set_inputs(main: &BlifModel, ports: &Ports, nets: &mut Nets)
     requires nets { IsNets nets.old }
     requires few { length ports.now.inputs < 2 ^ 32 }
@@ -298,9 +299,9 @@ pub(crate) fn set_inputs(main: &BlifModel, ports: &Ports, nets: &mut Nets)
     set_names(ports, nets, &main.clocks);
 }
 
-/// The nets of all instances. The ports, the instances, the covers and the latches are those of the library, and the empty nets
-/// have slots for them. `Err` comes only for want of memory. It takes time linear in the library's commands and in the bytes
-/// of the names of all instances, on average over the hashes.
+/// The nets of all instances. The ports, the instances, the covers and the latches belong to the library, and the empty table has
+/// slots for their names. `Err` only if memory runs out. The time is linear in the library's commands and in the bytes of the
+/// names of all instances, on average over the hashes.
 pub(crate) fn fill_nets(
     alloc: Global,
     library: &Library,

@@ -1,4 +1,4 @@
-//! The nets of the names of all instances, by the numbers of their drivers, and slots for them.
+//! The table of the nets of all instances' names. A net is the number of its driver.
 ghost use Rattle.std.specs.Prelude.{◌≡◌, ◌<◌, length, Some, ◌≤◌, [], map, replicate, None, IfOk};
 ghost use Rattle.blif_flat.specs.{slot_number, table_of, with_slot, with_found, copied, pair_out, pairs_out, pair_in, pairs_in, IsNets, ModelValue, is_input, is_output, ports_value, with_names as with_all_names, body_names, commands_names, AreInstances, IsLight, paths_of, AreEmptyNets, distinct_names, name_count, starts_from, slot_count, most_weight};
 
@@ -9,21 +9,21 @@ use std::alloc::{AllocError, Global};
 use std::marker::Model;
 use tl_text::NameIndex;
 
-/// The slots of an instance: its model's number, and its first slot.
+/// The slots of an instance: the number of its model, and its first slot.
 #[derive(Clone, Copy, Debug, PartialEq, Eq)]
 pub(crate) struct Start {
     pub model: u32,
     pub first: usize,
 }
 
-/// The nets of the names of all instances. Contracts see a table of them (`specs/Bodies/NetTable.antt`).
+/// The nets of the names of all instances. Contracts see a table (`specs/Bodies/NetTable.antt`).
 #[derive(Drop)]
 pub(crate) struct Nets {
     /// The names of each model.
     names: Vec<NameIndex>,
     /// The slots of each instance.
     starts: Vec<Start>,
-    /// Each instance has a slot for each name of its model.
+    /// A slot for each name of each instance.
     slots: Vec<Option<Net>>,
 }
 
@@ -53,7 +53,7 @@ fn slot_of(nets: &Nets, i: u32, name: &[u8]) -> Option<usize>
 }
 
 impl Nets {
-    /// The nets in these slots, of these names of the models, with these starts of the instances.
+    /// A table with these names of the models, these starts of the instances, and these slots.
     pub(crate) fn new(names: Vec<NameIndex>, starts: Vec<Start>, slots: Vec<Option<Net>>) -> Nets
         ensures { result ≡ record { names = names.items; starts = starts.items; slots = slots.items } }
     {
@@ -64,8 +64,8 @@ impl Nets {
         }
     }
 
-    /// The net of a name of an instance, by its place; `None` where nothing drives it, or where the instance or the name
-    /// isn't there. It takes time linear in the name's bytes, on average over the hashes.
+    /// The net of a name of an instance. `None` if nothing drives it, or if the instance or the name doesn't exist. The time is
+    /// linear in the name's bytes, on average over the hashes.
     pub(crate) fn net(&self, i: u32, name: &[u8]) -> Option<Net>
         requires { IsNets self.now }
         ensures { result ≡ table_of self.now i name.now }
@@ -87,7 +87,7 @@ impl Nets {
         self.slots[k] = Some(net);
     }
 
-    /// Puts a net in for a name of an instance, where it has a slot. It takes the time of `net`.
+    /// Sets the net of a name of an instance, if it has a slot. It takes the time of `net`.
     pub(crate) fn set(&mut self, i: u32, name: &[u8], net: Net)
         requires { IsNets self.old }
         ensures found { self.new ≡ with_found self.old (slot_number self.old i name.now) net }
@@ -123,8 +123,8 @@ fn pair_out(nets: &mut Nets, ports: &Ports, inner: u32, outer: u32, pair: &Pair)
     }
 }
 
-/// Copies the nets of the outputs of a subcircuit to their actuals. It takes time linear in the bytes of the pairs, on average
-/// over the hashes.
+/// Copies the nets of a subcircuit's outputs to their actuals. The time is linear in the bytes of the pairs, on average over the
+/// hashes.
 pub(crate) fn pairs_out(nets: &mut Nets, ports: &Ports, inner: u32, outer: u32, pairs: &[Pair])
     requires { IsNets nets.old }
     ensures out { (child : ModelValue) → ports.now ≡ ports_value child → nets.new ≡ pairs_out (is_output child) inner outer nets.old pairs.now }
@@ -146,8 +146,8 @@ fn pair_in(nets: &mut Nets, ports: &Ports, inner: u32, outer: u32, pair: &Pair)
     }
 }
 
-/// Copies the nets of the actuals to the inputs of a subcircuit. It takes time linear in the bytes of the pairs, on average
-/// over the hashes.
+/// Copies the nets of the actuals to a subcircuit's inputs. The time is linear in the bytes of the pairs, on average over the
+/// hashes.
 pub(crate) fn pairs_in(nets: &mut Nets, ports: &Ports, inner: u32, outer: u32, pairs: &[Pair])
     requires { IsNets nets.old }
     ensures inside { (child : ModelValue) → ports.now ≡ ports_value child → nets.new ≡ pairs_in (is_input child) inner outer nets.old pairs.now }
@@ -278,8 +278,8 @@ fn empty_slots(alloc: Global, count: usize) -> Result<Vec<Option<Net>>, AllocErr
     Ok(slots)
 }
 
-/// Slots for the names of all instances, without nets. The instances are those of the library. `Err` comes only for want of
-/// memory. It takes time linear in the bytes of the library's names and in the instances, on average over the hashes.
+/// Empty slots for the names of all instances. The instances are those of the library. `Err` only if memory runs out. The time
+/// is linear in the bytes of the library's names and in the instances, on average over the hashes.
 pub(crate) fn make_nets(
     alloc: Global,
     library: &Library,

@@ -1,4 +1,5 @@
-//! The clock nets of a circuit, and those that are data: the input of a cover or a latch, or an output of the main model.
+//! The clock nets of a circuit, and those that are used as data: as an input of a cover or a latch, or as an output of the main
+//! model.
 ghost use Rattle.std.specs.Prelude.{◌≡◌, [], slice_get, Some, None, IfOk, IfErr, MatchOption};
 ghost use Rattle.blif_flat.specs.{OrMemory, ModelValue, refusal_of, model_at, inputs_of, IsDriven, Place, AreInstances, paths_of, places_at, is_gate, data_of, ClockData, IsGateAt, AreGatesAt, IsNets, AreAllNets, AreClockMarks, Tells, marked_name, clock_named, name_fault, names_fault, IsConnected, IsFault, IsLight, IsCircuit, AreClockNets};
 
@@ -109,13 +110,12 @@ fn check_gate(
     }
 }
 
-/// Tells the first clock net that is the input of a cover or a latch, in flat order, or then an output of the main model.
-/// The wiring and the gates (covers and latches in flat order) are those of the library, and the marks tell the clock nets
-/// among the inputs of its main model. It takes time linear in the gates and in the bytes of their
-/// names, on average over the hashes.
+/// Reports the first clock net that is an input of a cover or a latch, in flat order, or else an output of the main model. The
+/// wiring and the gates (covers and latches in flat order) belong to the library. The marks show which inputs of its main model
+/// are clock nets. The time is linear in the gates and in the bytes of their names, on average over the hashes.
 ///
 /// # Errors
-/// `ClockAsData` with the clock net; `Memory` where there is none.
+/// `ClockAsData` with the clock net. `Memory` if memory runs out.
 pub(crate) fn check_data(
     alloc: Global,
     library: &Library,
@@ -139,18 +139,18 @@ pub(crate) fn check_data(
     check_names(alloc, wiring.nets, wiring.inputs, marks, 0, &main.outputs)
 }
 
-/// The input that is the net of the latch controls, and for each input of the main model whether it is a clock net.
+/// The number of the input that is the net of the latch controls, and for each input of the main model whether it is a clock net.
 #[derive(Drop)]
 pub(crate) struct ClockNets {
     pub control: Option<u32>,
     pub marks: Vec<bool>,
 }
 
-/// The clock nets. The circuit is that of the library, whose main model and its inputs are given. It takes time linear in
-/// the bytes of the gates' names, on average over the hashes.
+/// The clock nets. The circuit, the main model and its inputs belong to the library. The time is linear in the bytes of the
+/// gates' names, on average over the hashes.
 ///
 /// # Errors
-/// The first of F8 and F7 in the latches, then of F9; `Memory` where there is none.
+/// The first of F8 and F7 in the latches, then the first F9. `Memory` if memory runs out.
 pub(crate) fn check_clocks(
     alloc: Global,
     library: &Library,

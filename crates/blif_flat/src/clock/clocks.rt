@@ -8,7 +8,7 @@ use netlist::BlifModel;
 use std::alloc::{AllocError, Global};
 use tl_text::{Name, NameIndex};
 
-/// Copies of names in order. `Err` comes only for want of memory.
+/// Copies of names, in order. `Err` only if memory runs out.
 pub(crate) fn copies(alloc: Global, names: &[Name]) -> Result<Vec<Name>, AllocError>
     ensures { IfOk result (λ all. all.items ≡ names.now) }
 {
@@ -48,8 +48,8 @@ fn add_clocks(
     Ok(())
 }
 
-/// Copies of the inputs of a model, whose ports are given: the names of its `.inputs`, then those of its `.clock` that
-/// aren't among them. `Err` comes only for want of memory. It takes time linear in their bytes, on average over the hashes.
+/// Copies of the inputs of a model with these ports: the names of its `.inputs`, then those of its `.clock` that aren't among
+/// them. `Err` only if memory runs out. The time is linear in their bytes, on average over the hashes.
 pub(crate) fn all_inputs(
     alloc: Global,
     model: &BlifModel,
@@ -92,8 +92,8 @@ fn marks_of(
     Ok(marks)
 }
 
-/// For each input of a model, is it a name of its `.clock`, or the input of this number? The inputs are those of the model.
-/// `Err` comes only for want of memory. It takes time linear in their bytes, on average over the hashes.
+/// For each input of a model, whether it is a name of its `.clock` or the input of this number. The inputs are those of the
+/// model. `Err` only if memory runs out. The time is linear in their bytes, on average over the hashes.
 pub(crate) fn clock_marks(
     alloc: Global,
     model: &BlifModel,

@@ -1,4 +1,4 @@
-//! The controls of the latches: their net is one input of the main model.
+//! The controls of the latches. Their net must be one input of the main model.
 ghost use Rattle.std.specs.Prelude.{◌≡◌, ◌<◌, ℕ, true, false, [], length, slice_get, Some, None, IfOk, IfErr};
 ghost use Rattle.blif_flat.specs.{OrMemory, ModelValue, LatchValue, refusal_of, Path, model_at, inputs_of, IsDriven, IsRead, LatchAt, latch_net, Place, is_cover, is_latch, AreInstances, paths_of, places_at, IsWritten, Clocks, IsGateAt, AreGatesAt, AreAllNets, IsControlled, input_at, IsKeptInput, IsSecond, IsMetInput, IsRefused, ControlNext, ControlFault};
 
@@ -140,12 +140,12 @@ fn check_control(
     }
 }
 
-/// The number of the input that is the net of all latch controls, and `None` where no latch has a control. The wiring
-/// is that of the library. It takes time linear in the latches and in the bytes of their controls, on average over the hashes.
+/// The number of the input that is the net of all latch controls. `None` if no latch has a control. The wiring belongs to the
+/// library. The time is linear in the latches and in the bytes of their controls, on average over the hashes.
 ///
 /// # Errors
-/// Latch by latch in flat order, `ClockNotInput` where the net of a control is no input of the main model, and then
-/// `SecondClock` where it is another one than that of the latches before; `Memory` where there is none.
+/// For the first latch in flat order that has one of these faults: `ClockNotInput` if the net of its control isn't an input of
+/// the main model, and `SecondClock` if it differs from that of the earlier latches. `Memory` if memory runs out.
 pub(crate) fn check_controls(
     alloc: Global,
     library: &Library,

@@ -1,10 +1,10 @@
-//! What the searches for faults of clocks look at.
+//! The input of the searches for clock faults.
 use crate::circuit::instances::{Gate, Instance};
 use crate::circuit::nets::Nets;
 use tl_text::Name;
 
-/// The instances of a library in flat order, the nets of all their names, their covers and their latches, and the inputs of
-/// the main model.
+/// The instances of a library in flat order, the nets of all their names, their covers and latches, and the inputs of the main
+/// model.
 #[derive(Drop)]
 pub(crate) struct Wiring<'a> {
     pub instances: &'a [Instance],

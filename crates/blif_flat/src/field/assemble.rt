@@ -1,4 +1,4 @@
-//! The flat circuit of a library, from its circuit and its clock nets.
+//! Creates the flat circuit of a library from its circuit and its clock nets.
 ghost use Rattle.std.specs.Prelude.{◌≡◌, ◌<◌, ◌^◌, ℕ, List, ◌++◌, Some, None, IfOk, IfErr, length, slice_get};
 ghost use Rattle.blif_flat.specs.{In, OrMemory, ModelValue, refusal_of, input_name, IsDriven, IsFlat, IsLight, LoopWalk, IsLoop, inputs_of, IsCircuit, AreClockNets};
 
@@ -28,11 +28,11 @@ fn name_of(alloc: Global, inputs: &[Name], number: Option<u32>) -> Result<Option
     }
 }
 
-/// The flat circuit. The circuit and the clock nets are those of the library, whose main model and its inputs are given. It
-/// takes time linear in the bytes of the gates' names, on average over the hashes.
+/// The flat circuit. The circuit, the main model, its inputs and the clock nets belong to the library. The time is linear in the
+/// bytes of the gates' names, on average over the hashes.
 ///
 /// # Errors
-/// F10; `Memory` where there is none.
+/// F10. `Memory` if memory runs out.
 pub(crate) fn assemble(
     alloc: Global,
     library: &Library,

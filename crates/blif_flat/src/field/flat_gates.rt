@@ -1,4 +1,4 @@
-//! The covers and the latches of a flat circuit, with their nets by the numbers of the regular inputs.
+//! The covers and the latches of a flat circuit. Inputs in their nets are numbered among the regular inputs.
 ghost use Rattle.std.specs.Prelude.{◌≡◌, ◌<◌, ◌^◌, length, slice_get, IfOk, []};
 ghost use Rattle.std.specs.Option.{option_map};
 ghost use Rattle.blif_flat.specs.{number_or_zero, IsNets, regular_numbers as numbers_of, renumbered as renumbered_of, regular_net, regular_nets, Body as BodyValue, IsDriven, is_cover, is_latch, AreInstances, paths_of, places_at, AreGatesAt, AreAllNets, IsRegular, regular_places, AreFlatCovers, AreFlatLatches, row_model, cover_inputs as inputs_of, flat_cover as cover_of, made_latch as latch_of, absent_latch as no_latch_value, flat_latch as latch_of_gate};
@@ -9,7 +9,7 @@ use netlist::{Body, FlatCover, FlatLatch, Latch, Library, Net};
 use std::alloc::{AllocError, Global};
 use tl_text::Name;
 
-/// For each mark, how many marks before it are off. `Err` comes only for want of memory. It takes linear time.
+/// For each mark, the number of earlier marks that are off. `Err` only if memory runs out. The time is linear.
 pub(crate) fn regular_numbers(alloc: Global, marks: &[bool]) -> Result<Vec<u32>, AllocError>
     requires few { length marks.now < 2 ^ 32 }
     ensures { IfOk result (λ numbers. numbers.items ≡ numbers_of 0 marks.now) }
@@ -46,8 +46,8 @@ fn renumbered(numbers: &[u32], net: Net) -> Net
     }
 }
 
-/// The net of a name of an instance by the regular inputs' numbers; `Input(0)` where nothing drives the name. It takes time
-/// linear in the name's bytes, on average over the hashes.
+/// The net of a name of an instance, with inputs numbered among the regular ones. `Input(0)` if nothing drives the name. The
+/// time is linear in the name's bytes, on average over the hashes.
 pub(crate) fn net_at(nets: &Nets, numbers: &[u32], i: u32, name: &[u8]) -> Net
     requires { IsNets nets.now }
     ensures { result ≡ regular_net numbers.now nets.now i name.now }
@@ -58,7 +58,7 @@ pub(crate) fn net_at(nets: &Nets, numbers: &[u32], i: u32, name: &[u8]) -> Net
     }
 }
 
-/// The nets of several names of an instance in the same way. `Err` comes only for want of memory.
+/// The nets of several names of an instance, likewise. `Err` only if memory runs out.
 pub(crate) fn net_list(
     alloc: Global,
     nets: &Nets,
@@ -120,8 +120,8 @@ fn flat_cover(
     })
 }
 
-/// The flat covers. The instances, the nets and the covers are those of the library. `Err` comes only for want of memory. It
-/// takes time linear in the bytes of the covers' inputs, on average over the hashes.
+/// The flat covers. The instances, the nets and the covers belong to the library. `Err` only if memory runs out. The time is
+/// linear in the bytes of the covers' inputs, on average over the hashes.
 pub(crate) fn flat_covers(
     alloc: Global,
     library: &Library,
@@ -187,7 +187,7 @@ fn flat_latch(
     }
 }
 
-/// The flat latches, in the same way.
+/// The flat latches, likewise.
 pub(crate) fn flat_latches(
     alloc: Global,
     library: &Library,

@@ -110,7 +110,7 @@ fn unmarked(alloc: Global, names: &[Name], marks: &[bool]) -> Result<Vec<Name>, 
     Ok(kept)
 }
 
-/// The names of a model's `.inputs` whose marks are off, in order. There is a mark for each input.
+/// The names of a model's `.inputs` whose marks are off, in order. Each input has a mark.
 pub(crate) fn regular_inputs(
     alloc: Global,
     model: &BlifModel,
@@ -129,7 +129,7 @@ fn is_one_of(names: &[Name], name: &Name) -> bool
     names.iter().any(|other| name.bytes() == other.bytes())
 }
 
-/// The names of a model's `.clock`, and the control's where it is another one.
+/// The names of a model's `.clock`, and the name of the control if it isn't one of them.
 pub(crate) fn clock_names(
     alloc: Global,
     model: &BlifModel,
@@ -177,7 +177,7 @@ fn most_of(names: &[Name], least: u32) -> u32
     most
 }
 
-/// The greatest number of leading underscores of a name of a model's ports.
+/// The greatest number of leading underscores in a port name of a model.
 pub(crate) fn most_underscores(model: &BlifModel) -> u32
     requires short { (name : List ℕ) → In (model.now.inputs ++ (model.now.clocks ++ model.now.outputs)) name → length name < 2 ^ 32 }
     ensures { result ≡ most_underscores (model.now.inputs ++ (model.now.clocks ++ model.now.outputs)) }

@@ -11,12 +11,12 @@ use netlist::{FlatCover, FlatLatch, Library, Net, OutPort};
 use std::alloc::{AllocError, Global};
 use tl_fault::{Name, Names};
 
-/// What a walk finds.
+/// The result of a walk.
 #[derive(Drop)]
 pub(crate) enum Found {
-    /// The covers of a loop, each one reading the next, the last reading the first.
+    /// The covers of a loop. Each reads the next, and the last reads the first.
     Loop(Vec<u32>),
-    /// The covers that the roots reach, each behind those that it reads.
+    /// The covers that the roots reach, each after the covers that it reads.
     Order(Vec<u32>),
 }
 
@@ -93,10 +93,10 @@ fn find_loop(
     }
 }
 
-/// Walks the covers depth first, left to right, from the roots and then from all covers in order. The first cover that
-/// is met again on the path closes the loop that is answered; where there is none, the roots' order is.
+/// Walks the covers depth first, left to right, from the roots and then from all covers in order. If a cover on the path is met
+/// again, the result is the first such loop, else the order of the covers that the roots reach.
 ///
-/// The time is linear in the covers' inputs, and the stack stands in memory. Errs only for want of memory.
+/// The time is linear in the covers' inputs. The stack is kept in memory. `Err` only if memory runs out.
 pub(crate) fn walk_covers(
     alloc: Global,
     covers: &[FlatCover],
@@ -180,12 +180,11 @@ fn written_covers(
     Ok(texts)
 }
 
-/// The covers that the roots reach, the outputs first and then the latch inputs, in depth-first postorder, left to right.
-/// The instances and the gates of the covers are those of the library, and so are the flat covers, latches and outputs. It takes
-/// time linear in the covers' inputs.
+/// The covers that the roots reach, in depth-first postorder, left to right. The roots are the outputs and then the latch
+/// inputs. All arguments belong to the library. The time is linear in the covers' inputs.
 ///
 /// # Errors
-/// `Loop` with the nets of the first loop of covers; `Memory` where there is none.
+/// `Loop` with the nets of the first loop of covers. `Memory` if memory runs out.
 pub(crate) fn cover_order(
     alloc: Global,
     library: &Library,

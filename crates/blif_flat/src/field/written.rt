@@ -1,5 +1,5 @@
-//! The names of nets as they are written: each ordinal of the instance and `/`, from the outside in, and then the name at
-//! the driver.
+//! How the names of nets are written: the ordinals of the instance from the outside in, each followed by `/`, and then the name
+//! at the driver.
 ghost use Rattle.std.specs.Prelude.{◌≡◌, ◌<◌, ◌∷◌, ◌++◌, [], length, decimal, Some, slice_get, IfOk, OnOk};
 ghost use Rattle.std.specs.Option.{option_and_then};
 ghost use Rattle.blif_flat.specs.{Path, body_at, cover_in, is_cover, CoverAt, cover_net, path_text, IsWritten, paths_of, AreInstances, places_at, AreGatesAt, IsWrittenAt, AreUnder, output_or, output_at as output_at_of};
@@ -73,8 +73,8 @@ fn written_under(
     Name::make(alloc, text.as_slice())
 }
 
-/// The net of a name at its driver, as it is written: each ordinal of the instance of this row in decimal and `/`, from
-/// the outside in, and then the name. `Err` comes only for want of memory. It takes time linear in the bytes of the text.
+/// The written name of a net: the decimal ordinals of the instance of this row from the outside in, each followed by `/`, and
+/// then the name at the driver. `Err` only if memory runs out. The time is linear in the bytes of the result.
 pub(crate) fn write_net(
     alloc: Global,
     instances: &[Instance],
@@ -130,8 +130,8 @@ fn write_cover(
     Ok(text)
 }
 
-/// The net of the cover of this number, as it is written. The gates are those of the covers. `Err` comes only for want of
-/// memory. It takes time linear in the bytes of the text.
+/// The written name of the net that the cover of this number drives. The gates are those of the covers. `Err` only if memory
+/// runs out. The time is linear in the bytes of the result.
 pub(crate) fn written_cover(
     alloc: Global,
     library: &Library,

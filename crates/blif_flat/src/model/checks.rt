@@ -1,4 +1,4 @@
-//! The refusals of models: the walk, the weight, the drivers.
+//! Checks the models: the walk, the weight, the drivers.
 ghost use Rattle.std.specs.Prelude.{◌≡◌, ◌<◌, ◌^◌, length, map, IfOk, IfErr};
 ghost use Rattle.blif_flat.specs.{OrMemory, IsWellFormed, refusal_of, ports_value, model_names, IsChecked, IsFault};
 
@@ -10,13 +10,13 @@ use crate::model::weight::check_weight;
 use netlist::Library;
 use std::alloc::Global;
 
-/// Walks the models from the main one, weighs the main model, and looks at the drivers of the walked models. The index and
-/// the ports are those of the library. It takes time linear in the bytes of all models and in those of the walked ones with
-/// the ports that they place, on average over the hashes.
+/// Walks the models from the main one, computes the weight of the main model, and checks the drivers of the walked models. The
+/// index and the ports belong to the library. The time is linear in the bytes of all models, and of the ports of the
+/// subcircuits of walked models, on average over the hashes.
 ///
 /// # Errors
-/// The first of F1 to F4 in the walk, then L2, then the first of F5 and F6 in the order in which the walk begins the models;
-/// `Memory` where there is none.
+/// The first of F1 to F4 in the walk, then L2, then the first of F5 and F6 in the order in which the walk begins the models.
+/// `Memory` if memory runs out.
 pub(crate) fn check_models(
     alloc: Global,
     library: &Library,

@@ -1,4 +1,4 @@
-//! The first fault of a `.subckt` line, F1 to F4.
+//! The first fault of a `.subckt` line: F1 to F4.
 ghost use Rattle.std.specs.Prelude.{◌≡◌, ◌∷◌, ◌++◌, [], IfOk, OnOk, IfErr, None, ◌<◌, length, map, slice_get, Some};
 ghost use Rattle.std.specs.Option.{option_map};
 ghost use Rattle.depth_first.specs.Walk.{from_node};
@@ -93,8 +93,8 @@ fn check_inputs(
     Ok(())
 }
 
-/// F3 and F4 of a line of a model that places a child. It takes time linear in the bytes of the line and of the child's
-/// inputs, on average over the hashes.
+/// F3 and F4 of a `.subckt` line with a child model. The time is linear in the bytes of the line and of the child's inputs, on
+/// average over the hashes.
 pub(crate) fn check_ports(
     alloc: Global,
     model: &BlifModel,
@@ -177,8 +177,8 @@ fn check_child(
     check_ports(alloc, model, line, subckt, child, child_ports)
 }
 
-/// The number of the model that a line places, or the line's first fault of F1 to F4, where the models of the walk's path
-/// are being walked.
+/// The number of the model that a line refers to, or the line's first fault of F1 to F4. The models on the walk's path are being
+/// walked.
 pub(crate) fn check_line(
     alloc: Global,
     models: &Models<'_>,

@@ -1,4 +1,4 @@
-//! The models: names, ports, and the refusals of what a model has or places.
+//! The models: their names, their ports, and their faults.
 pub mod checks;
 pub mod driven;
 pub mod drivers;

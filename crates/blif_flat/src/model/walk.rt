@@ -1,4 +1,4 @@
-//! The walk of the models, as a graph in which each `.subckt` line leads to the model that it places.
+//! The walk of the models, as a graph in which each `.subckt` line leads to its model.
 ghost use Rattle.std.specs.Prelude.{◌≡◌, [], map, IfOk, MatchResult, IsSome, ◌<◌, List, length, reverse, slice_get, Some, None, OnOk, IfErr};
 ghost use Rattle.depth_first.specs.declared.edge.Edge.TheVariants.{Stop as stop_at};
 ghost use Rattle.blif_flat.specs.{AreOnce, refusal_of, ports_value, model_names, line_edge, body_edge, commands_edges, edge_rows, In, OrMemory, IsWellFormed, ModelValue, IsTold, names_at, lines_fault, path_fault, models_at, AreChildrenFirst, SubcktLine, with_line, subckt_lines, walked, refused, WalksMain};
@@ -89,7 +89,7 @@ pub(crate) struct ModelGraph {
 }
 
 impl ModelGraph {
-    /// The graph of these models; the walk has not begun. It takes time linear in the bytes of the models' lines, on average
+    /// The graph of these models. The walk has not begun. The time is linear in the bytes of the models' lines, on average
     /// over the hashes.
     pub(crate) fn make(
         alloc: Global,
@@ -213,14 +213,14 @@ fn walk_slice(alloc: Global, models: &Models<'_>) -> Result<Walk, FlatErr>
     }
 }
 
-/// The walk from the main model, through each model that is reached: the numbers of the models in the order in which their
-/// walks begin, and in that in which they end, each behind those that it places. The index and the ports are those of the
-/// library. It takes time linear in the bytes of all models, on average over the hashes, and no stack of calls: the chain of
-/// models that are being walked stands in memory.
+/// The walk from the main model through each model that is reached. It has the numbers of the models in the order in which their
+/// walks begin, and in the order in which they end, each after the models that it contains. The index and the ports belong to
+/// the library. The time is linear in the bytes of all models, on average over the hashes. It doesn't recurse: the chain of
+/// models that are being walked is kept in memory.
 ///
 /// # Errors
-/// The first of F1 to F4 in the walk: `UnknownModel`, `RecursiveModel`, `UnknownFormal`, `Unconnected`; `Memory` where
-/// there is none.
+/// The first of F1 to F4 in the walk: `UnknownModel`, `RecursiveModel`, `UnknownFormal`, `Unconnected`. `Memory` if memory runs
+/// out.
 pub(crate) fn walk_models(
     alloc: Global,
     library: &Library,

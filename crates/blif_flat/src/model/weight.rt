@@ -1,4 +1,4 @@
-//! The weights of models, each kept up to 2^22 + 1.
+//! The weights of models, each capped at 2^22 + 1.
 ghost use Rattle.std.specs.Prelude.{◌≡◌, ℕ, ◌+◌, ◌<◌, ◌≤◌, length, Some, slice_get, set, IfOk, MatchResult};
 ghost use Rattle.blif_flat.specs.{In, OrMemory, ModelValue, most_weight, body_weight, commands_weight, own_weight, TooLarge, refusal_of, model_names, HasWeight, capped, body_kept, commands_kept, model_kept, AreChildrenFirst, IsKeptWeight};
 
@@ -102,10 +102,10 @@ fn keep_weight(library: &Library, index: &ModelIndex, weights: &mut Vec<u32>, nu
     weights[number as usize] = kept;
 }
 
-/// What is kept of the weights of the models of an order: by their numbers, each weight up to 2^22 + 1, so that those above
-/// 2^22 are told. The index is that of the library. In the order, which has models' numbers, each model stands behind those
-/// that it places. `Err` comes only for want of memory. It takes time linear in the models of the order and in the number of
-/// all models, on average over the hashes.
+/// The capped weights of the models of an order, by their numbers. A weight is capped at 2^22 + 1, so that the result shows which
+/// ones exceed 2^22. The index belongs to the library. The order consists of model numbers; each model comes after the models
+/// that it contains. `Err` only if memory runs out. The time is linear in the models of the order and in the number of all
+/// models, on average over the hashes.
 pub(crate) fn weigh(
     alloc: Global,
     library: &Library,
@@ -133,8 +133,8 @@ fn check_kept(kept: u32) -> Result<(), FlatErr>
     Ok(())
 }
 
-/// Tells a main model that is heavier than 2^22. In the order, which has models' numbers, the main model's among them, each
-/// model stands behind those that it places. `Err` is `TooLarge` or `Memory`. It takes the time of `weigh`.
+/// Reports a main model that is heavier than 2^22. The order consists of model numbers and contains the main model; each model
+/// comes after the models that it contains. `Err` is `TooLarge` or `Memory`. It takes the time of `weigh`.
 pub(crate) fn check_weight(
     alloc: Global,
     library: &Library,
