@@ -14,7 +14,7 @@ use Rattle.blif_flat.proofs.Hierarchy.InstanceRowLemmas.{paths_of-length}
 use Rattle.netlist.proofs.OrderLemmas.{flat_all}
 use Rattle.blif_flat.proofs.Hierarchy.OrderLemmas.{order_first, order_places}
 use Rattle.netlist.proofs.PlaceLemmas.{place_of, one_latch}
-use Rattle.tl_text.proofs.NameSetLemmas.{place_none, has_with_names}
+use Rattle.tl_text.proofs.NameSetLemmas.{has_with_names}
 
 -- inputs by their numbers
 module _ (inputs : List (List ℕ)) (first : Option ℕ) (j : ℕ) where
@@ -264,10 +264,6 @@ same_tests f g h i x = h x i
 -- names that were added one by one are those that were given
 has_added : (given all names : List (List ℕ)) → given ≡ names → all ≡ with_names [] given → (x : List ℕ) → has_name all x ≡ has_name names x
 has_added given all names b e x = ap (λ ns. has_name ns x) (e ∙ ap (with_names []) b) ∙ has_with_names [] names x
-
--- a name that isn't among names and more has no place among the more
-pub none_behind : (names more : List (List ℕ)) (x : List ℕ) → has_name (names ++ more) x ≡ false → index_place more x ≡ None
-none_behind names more x h = place_none more x (or_parts (has_name names x) (has_name more x) (sym (list_any-append (bytes_eq x) names more) ∙ h)).1
 
 -- the first place of a name in joined lists is in the first one exactly where the name is
 both_more : (p n : ℕ) → ltb (1 + p) (suc n) ≡ ltb p n
