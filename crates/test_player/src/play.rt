@@ -75,6 +75,28 @@ fn numbered(alloc: Global, number: u32, port: &HandedIn) -> Result<MemPort, Allo
     Ok(made)
 }
 
+// Adds a port behind others.
+fn add_port(
+    alloc: Global,
+    ports: &mut Vec<Box<dyn ConfigPort>>,
+    number: u32,
+    port: &HandedIn,
+) -> Result<(), AllocError> {
+    let made = numbered(alloc, number, port)?;
+    let boxed = Box::new(alloc, made)?;
+    ports.push(boxed)?;
+    Ok(())
+}
+
+// The ports that a job is handed.
+fn ports_of(alloc: Global, job: &Job) -> Result<Vec<Box<dyn ConfigPort>>, AllocError> {
+    let mut ports = Vec::new(alloc);
+    for (number, port) in (0..u32::MAX).zip(&job.ports) {
+        add_port(alloc, &mut ports, number, port)?;
+    }
+    Ok(ports)
+}
+
 // Tells a port.
 fn put_port<P: ConfigPort>(text: &mut String, port: &P) -> Result<(), AllocError> {
     if let Some(first) = port.logged(0) {
@@ -128,6 +150,46 @@ pub fn untouched(alloc: Global, ports: usize) -> Result<String, AllocError> {
     Ok(text)
 }
 
+// What a job has outside.
+#[derive(Drop)]
+struct World {
+    shelf: MemShelf,
+    out: MemSink,
+    err: MemSink,
+    ports: Vec<Box<dyn ConfigPort>>,
+}
+
+// An output with room for more than what it must have.
+fn sink_of(alloc: Global, wanted: &[u8], fails: &[u64]) -> Result<MemSink, AllocError> {
+    MemSink::make(alloc, wanted.len().saturating_add(ROOM), fails)
+}
+
+fn world_of(alloc: Global, files: &[File], job: &Job, fails: &Fails) -> Result<World, AllocError> {
+    let shelf = shelf_of(alloc, files, job, fails.shelf)?;
+    let out = sink_of(alloc, job.wanted.out.as_slice(), fails.out)?;
+    let err = sink_of(alloc, job.wanted.err.as_slice(), fails.err)?;
+    let ports = ports_of(alloc, job)?;
+    Ok(World {
+        shelf,
+        out,
+        err,
+        ports,
+    })
+}
+
+// What is left outside behind a job.
+fn left(alloc: Global, files: &[File], status: u8, world: World) -> Result<Ran, AllocError> {
+    let ports = told(alloc, &world.ports)?;
+    let files = files_of(alloc, &world.shelf, files)?;
+    Ok(Ran {
+        status,
+        out: world.out,
+        err: world.err,
+        ports,
+        files,
+    })
+}
+
 /// Runs a job's words on files.
 pub fn run<P: Program>(
     alloc: Global,
@@ -137,22 +199,14 @@ pub fn run<P: Program>(
     words: &[String],
     fails: &Fails,
 ) -> Result<Ran, Stop> {
-    let mut shelf = shelf_of(alloc, files, job, fails.shelf)?;
-    let wanted = &job.wanted;
-    let mut out = MemSink::make(alloc, wanted.out.len().saturating_add(ROOM), fails.out)?;
-    let mut err = MemSink::make(alloc, wanted.err.len().saturating_add(ROOM), fails.err)?;
-    let mut ports: Vec<Box<dyn ConfigPort>> = Vec::new(alloc);
-    for (number, port) in (0..u32::MAX).zip(&job.ports) {
-        ports.push(Box::new(alloc, numbered(alloc, number, port)?)?)?;
-    }
-    let status = program.run(alloc, words, &mut shelf, &mut out, &mut err, &mut ports);
-    let ports = told(alloc, &ports)?;
-    let files = files_of(alloc, &shelf, files)?;
-    Ok(Ran {
-        status,
-        out,
-        err,
-        ports,
-        files,
-    })
+    let mut world = world_of(alloc, files, job, fails)?;
+    let status = program.run(
+        alloc,
+        words,
+        &mut world.shelf,
+        &mut world.out,
+        &mut world.err,
+        &mut world.ports,
+    );
+    Ok(left(alloc, files, status, world)?)
 }

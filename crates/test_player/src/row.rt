@@ -31,6 +31,10 @@ fn number(word: &str) -> Result<u32, Stop> {
     u32::try_from(number).ok().ok_or(UNREAD)
 }
 
+fn status(word: &str) -> Result<u8, Stop> {
+    u8::try_from(number(word)?).ok().ok_or(UNREAD)
+}
+
 fn numbers(alloc: Global, words: &str) -> Result<Vec<u64>, Stop> {
     let mut numbers = Vec::new(alloc);
     for word in words.split(' ') {
@@ -156,31 +160,76 @@ impl<P: Program> Scene<'_, P> {
         Ok(())
     }
 
+    fn add_file(&mut self, rest: &str, heading: &Heading) -> Result<(), Stop> {
+        self.prepare()?;
+        let file = self.file(rest, heading)?;
+        put_file(&mut self.files, file)
+    }
+
+    fn set_calls(&mut self, word: &str, calls: Calls) {
+        match word {
+            "shelf" => self.job.shelf = calls,
+            "out" => self.job.out = calls,
+            _ => self.job.err = calls,
+        }
+    }
+
+    // Which calls of an object fail. Answers whether the word is an object's.
+    fn fails(&mut self, word: &str, words: &str) -> Result<bool, Stop> {
+        if word != "shelf" && word != "out" && word != "err" {
+            return Ok(false);
+        }
+        self.prepare()?;
+        let calls = calls(self.alloc, words)?;
+        self.set_calls(word, calls);
+        Ok(true)
+    }
+
     // What a job has outside. Answers whether the heading tells it.
     fn outside(&mut self, word: &str, rest: &str, heading: &Heading) -> Result<bool, Stop> {
-        match (word, rest.strip_prefix("fails ")) {
-            ("shelf", Some(words)) => {
-                self.prepare()?;
-                self.job.shelf = calls(self.alloc, words)?;
-            }
-            ("out", Some(words)) => {
-                self.prepare()?;
-                self.job.out = calls(self.alloc, words)?;
-            }
-            ("err", Some(words)) => {
-                self.prepare()?;
-                self.job.err = calls(self.alloc, words)?;
-            }
-            ("file", None) => {
-                self.prepare()?;
-                let file = self.file(rest, heading)?;
-                put_file(&mut self.files, file)?;
-            }
-            ("ports", None) => self.ports(rest)?,
-            ("port", None) => self.port(rest)?,
+        if let Some(words) = rest.strip_prefix("fails ") {
+            return self.fails(word, words);
+        }
+        match word {
+            "file" => self.add_file(rest, heading)?,
+            "ports" => self.ports(rest)?,
+            "port" => self.port(rest)?,
             _ => return Ok(false),
         }
         Ok(true)
+    }
+
+    // Further words of which the same must come.
+    fn also(&mut self, rest: &str) -> Result<(), Stop> {
+        let line = rest.strip_prefix("$ tlut").ok_or(UNREAD)?;
+        let words = words_of(self.alloc, line)?;
+        self.job.words.push(words)?;
+        Ok(())
+    }
+
+    // The fault line, in the heading or below it.
+    fn err(&mut self, rest: &str, heading: &Heading) -> Result<(), Stop> {
+        let is_below = rest.is_empty() || rest == "made";
+        let bytes = if is_below {
+            self.bytes(rest, heading)?
+        } else {
+            text_of(self.alloc, Kind::Plain, &[rest], &[])?
+        };
+        self.job.wanted.err = bytes;
+        Ok(())
+    }
+
+    fn left(&mut self, rest: &str, heading: &Heading) -> Result<(), Stop> {
+        let file = self.file(rest, heading)?;
+        self.job.wanted.files.push(file)?;
+        Ok(())
+    }
+
+    // A line of the ports.
+    fn log(&mut self, rest: &str) -> Result<(), Stop> {
+        self.job.wanted.ports.extend_from_slice(rest.as_bytes())?;
+        self.job.wanted.ports.push(b'\n')?;
+        Ok(())
     }
 
     // What a job must leave.
@@ -189,29 +238,20 @@ impl<P: Program> Scene<'_, P> {
             return Err(UNREAD);
         }
         match word {
-            "also" => {
-                let line = rest.strip_prefix("$ tlut").ok_or(UNREAD)?;
-                self.job.words.push(words_of(self.alloc, line)?)?;
+            "also" => self.also(rest),
+            "out" => {
+                self.job.wanted.out = self.bytes(rest, heading)?;
+                Ok(())
             }
-            "out" => self.job.wanted.out = self.bytes(rest, heading)?,
-            "err" if rest.is_empty() || rest == "made" => {
-                self.job.wanted.err = self.bytes(rest, heading)?;
-            }
-            "err" => self.job.wanted.err = text_of(self.alloc, Kind::Plain, &[rest], &[])?,
+            "err" => self.err(rest, heading),
             "status" => {
-                self.job.wanted.status = u8::try_from(number(rest)?).ok().ok_or(UNREAD)?;
+                self.job.wanted.status = status(rest)?;
+                Ok(())
             }
-            "left" => {
-                let file = self.file(rest, heading)?;
-                self.job.wanted.files.push(file)?;
-            }
-            "log" => {
-                self.job.wanted.ports.extend_from_slice(rest.as_bytes())?;
-                self.job.wanted.ports.push(b'\n')?;
-            }
-            _ => return Err(UNREAD),
+            "left" => self.left(rest, heading),
+            "log" => self.log(rest),
+            _ => Err(UNREAD),
         }
-        Ok(())
     }
 
     // Takes a heading in.
