@@ -1,15 +1,14 @@
--- What the walk, the marks and the searches find is the plan, the LUTs and the work by their own words.
-use Rattle.std.proofs.Common.{◌≡◌, ℕ, ◌-◌, ◌*◌, ◌/◌, ◌%◌, ◌<◌, ◌≤◌, Bool, true, false, cond, ltb, List, [], ◌∷◌, length, Option, Some, None, refl, sym, ap, ◌∙◌, subst, inl, inr, arith}
+-- What the marks and the searches find is the tables and the work by their own words.
+use Rattle.std.proofs.Common.{◌≡◌, ℕ, ◌-◌, ◌*◌, ◌/◌, ◌%◌, ◌<◌, ◌≤◌, cond, List, [], ◌∷◌, Option, Some, None, refl, sym, ap, ◌∙◌, subst, inl, inr, arith}
 use Rattle.std.specs.List.{slice_get}
 use Rattle.std.proofs.lemmas.List.Sums.{sum_by-cons}
-use Rattle.std.proofs.lemmas.Option.{same_Some, none-some}
-use Rattle.std.proofs.lemmas.Bool.{cases_lt, cases_eq, ltb-true, ltb-false, eq-eqb}
+use Rattle.std.proofs.lemmas.Option.{same_Some}
+use Rattle.std.proofs.lemmas.Bool.{cases_lt, cases_eq, eq-eqb}
 use Rattle.aig_core.specs.Aig.{Aig, first_and, node_count, IsAnd, AreNormal}
 use Rattle.aig_core.specs.declared.lit.Kind.TheVariants.{Regular, Parameter}
 use Rattle.aig_core.specs.declared.lit.Lit.{Lit}
 use Rattle.aig_core.specs.Roots.{RootsValue, roots_of, AreRoots}
 use Rattle.list_laws.specs.Members.{In}
-use Rattle.list_laws.proofs.Choice.{choose}
 use Rattle.depth_label.specs.Label.{IsCutTable}
 use Rattle.cover_pick.specs.declared.limits.TheConstants.{MOST_WORK}
 use Rattle.tl_fault.specs.OrMemory.{OrMemory}
@@ -19,10 +18,8 @@ use Rattle.cover_pick.specs.declared.lut.PickErr.TheVariants.{Work, Memory}
 use Rattle.cover_pick.specs.declared.lut.Lut.{Lut}
 use Rattle.cover_pick.specs.Target.{target}
 use Rattle.cover_pick.specs.declared.rule.Rule.{Rule}
-use Rattle.cover_pick.specs.Ruled.{choice_of}
-use Rattle.cover_pick.specs.Required.{need, chosen}
-use Rattle.cover_pick.specs.Schedule.{AtMost, IsPlan}
-use Rattle.cover_pick.specs.Planned.{cut_at, depths_of, IsPlanned}
+use Rattle.cover_pick.specs.Plan.{IsPlan}
+use Rattle.cover_pick.specs.Planned.{cut_at, and_depths, depths_of, IsPlanned}
 use Rattle.cover_pick.specs.Tables.{IsNeeded, root, leaf, IsLeaves, constant, parameter, source, node}
 use Rattle.cover_pick.specs.Marks.{IsMarked, root as marked_root, leaf as marked_leaf, leaves_of, source_leaves, Made, IsMade, tables_of, AreMade}
 use Rattle.cover_pick.specs.Cone.{cone_of, table_work, work_of}
@@ -31,70 +28,10 @@ use Rattle.cover_pick.specs.Template.{TablesWithin, AreChosen, IsTemplate, AreTi
 use Rattle.aig_core.proofs.NodeLemmas.{source_below}
 use Rattle.cover_pick.proofs.TableLemmas.{tables_needed}
 use Rattle.cover_pick.proofs.TemplateLemmas.{leaves_and, cut_in, in_cut, to_tables, tables_within, tables_exact, leaves_inside}
-use Rattle.cover_pick.proofs.MappingLemmas.{leaves_zero, leaves_source, kind_there, regular_leaves, cover_at}
-use Rattle.cover_pick.proofs.OnceLemmas.{depths_once}
+use Rattle.cover_pick.proofs.MappingLemmas.{leaves_zero, leaves_source, kind_there, regular_leaves}
+use Rattle.cover_pick.proofs.ByLemmas.{depth_from, node_of}
+use Rattle.cover_pick.proofs.RoundsOnceLemmas.{plan_depths_once}
 use Rattle.cover_pick.proofs.WorkLemmas.{cone_is}
-use Rattle.cover_pick.proofs.WalkLemmas.{need_in}
-
--- the required depths of AND nodes alone
-abbrev pub and_depths : Aig → List (Option ℕ) → ℕ → Option ℕ
-and_depths g reqs n = cond (ltb n (first_and g)) None (need reqs n)
-
-and_depth : (g : Aig) (reqs : List (Option ℕ)) (n : ℕ) → first_and g ≤ n → and_depths g reqs n ≡ need reqs n
-and_depth g reqs n a = choose (λ o. o ≡ need reqs n) (ltb n (first_and g)) None (need reqs n) (λ t. absurd (let b : n < first_and g = ltb-true n (first_and g) t in omega arith)) (λ t. refl)
-
-depth_from : (g : Aig) (reqs : List (Option ℕ)) (n r : ℕ) → and_depths g reqs n ≡ Some r → (first_and g ≤ n) × (need reqs n ≡ Some r)
-depth_from g reqs n r e0 =
-    choose (λ o. o ≡ Some r → (first_and g ≤ n) × (need reqs n ≡ Some r)) (ltb n (first_and g)) None (need reqs n)
-    (λ t e. absurd (none-some r e)) (λ t e. (ltb-false n (first_and g) t, e)) e0
-
-none_of : (choice : ℕ → ℕ → List ℕ) (n : ℕ) (b : Bool) (o : Option ℕ) → cond b None o ≡ None → cond b None (chosen choice n o) ≡ None
-none_of choice n true o e = refl
-none_of choice n false None e = refl
-none_of choice n false (Some r) e = absurd (none-some r (sym e))
-
-module _ (rule : Rule) (g : Aig) (rows : List (List (List ℕ))) (label : ℕ → ℕ) (roots : List ℕ) (cuts : List (Option (List ℕ))) (p : IsPlanned rule g rows label roots cuts) where
-  reqs : List (Option ℕ)
-  reqs = depths_of rule g rows label roots
-
-  node_of : (n r : ℕ) → and_depths g (depths_of rule g rows label roots) n ≡ Some r → IsAnd g n
-  node_of n r e =
-      let d = depth_from g (depths_of rule g rows label roots) n r e in
-      let a : n < length (depths_of rule g rows label roots) = need_in (depths_of rule g rows label roots) n r d.1 in
-      let s : length (depths_of rule g rows label roots) ≡ node_count g = p.size in (d.0, omega arith)
-
-  cut_is : (n r : ℕ) → first_and g ≤ n → need (depths_of rule g rows label roots) n ≡ Some r → cut_at cuts n ≡ Some (choice_of rule g rows label roots n r)
-  cut_is n r a e = p.chosen n ∙ cover_at g (choice_of rule g rows label roots) (depths_of rule g rows label roots) n (Some r) a e
-
-  -- The walk's depths and cuts are the plan.
-  pub plan_is : IsPlan rule g rows label roots (and_depths g (depths_of rule g rows label roots)) (cut_at cuts)
-  plan_is = record {
-    schedule = record {
-      nodes = node_of;
-      low = λ n r e. p.schedule.low n r (node_of n r e) (depth_from g (depths_of rule g rows label roots) n r e).1;
-      root = λ l i and. subst (λ o. AtMost o (target g label roots)) (sym (and_depth g (depths_of rule g rows label roots) (l / 2) and.0)) (p.schedule.root l i and);
-      leaf = λ n r m c e at i and.
-          let d = depth_from g (depths_of rule g rows label roots) n r e in
-          let same : choice_of rule g rows label roots n r ≡ c = same_Some (choice_of rule g rows label roots n r) c (sym (cut_is n r d.0 d.1) ∙ at) in
-          subst (λ o. AtMost o (r - 1)) (sym (and_depth g (depths_of rule g rows label roots) m and.0)) (p.schedule.leaf n r m (node_of n r e) d.1 (subst (λ x. In x m) (sym same) i));
-      whence = λ n r e. elim (p.schedule.whence n r (depth_from g (depths_of rule g rows label roots) n r e).1) [
-        | inl f ↦ inl f
-        | inr f ↦ inr (record {
-          reader = f.reader;
-          depth = f.depth;
-          cut = choice_of rule g rows label roots f.reader f.depth;
-          needed = and_depth g (depths_of rule g rows label roots) f.reader f.and.0 ∙ f.needed;
-          chosen = cut_is f.reader f.depth f.and.0 f.needed;
-          leaf = f.leaf;
-          is = f.is;
-        })
-      ];
-    };
-    chosen = λ n r e.
-        let d = depth_from g (depths_of rule g rows label roots) n r e in
-        record { cut = choice_of rule g rows label roots n r; is = cut_is n r d.0 d.1; best = p.best n r (node_of n r e) d.1 };
-    none = λ n e. p.chosen n ∙ none_of (choice_of rule g rows label roots) n (ltb n (first_and g)) (need (depths_of rule g rows label roots) n) e;
-  }
 
 -- marks are of the needed literals
 pub marked_is : (roots : List ℕ) (cuts : List (Option (List ℕ))) (l : ℕ) → IsMarked roots cuts l → IsNeeded roots (cut_at cuts) l
@@ -144,9 +81,9 @@ module _ (rule : Rule) (g : Aig) (rows : List (List (List ℕ))) (label : ℕ �
   -- The tables that are made are the chosen ones.
   pub chosen_is : AreChosen rule g rows label roots made.luts made.bits
   chosen_is = record {
-    reqs = and_depths g (depths_of rule g rows label roots);
+    reqs = and_depths g (depths_of rule g rows label roots a.flows);
     cover = cut_at a.cuts;
-    plan = plan_is rule g rows label roots a.cuts a.plan;
+    plan = a.chosen;
     tables = record {
       needed = λ u i. marked_is roots a.cuts u.lit.0 (a.tables.only u i).0;
       leaves = λ u i. leaves_are g a.cuts u.lit.0 u.leaves (a.tables.below u i) (a.tables.only u i).1;
@@ -161,10 +98,10 @@ module _ (rule : Rule) (g : Aig) (rows : List (List (List ℕ))) (label : ℕ �
   pub timely_is : AreTimely rule g rows label roots made.luts
   timely_is = record {
     each = λ reqs cover plan u r i e.
-        let same : reqs (u.lit.0 / 2) ≡ and_depths g (depths_of rule g rows label roots) (u.lit.0 / 2) =
-        depths_once rule g rows label roots t reqs (and_depths g (depths_of rule g rows label roots)) cover (cut_at a.cuts) plan (plan_is rule g rows label roots a.cuts a.plan) (u.lit.0 / 2) in
-        let d = depth_from g (depths_of rule g rows label roots) (u.lit.0 / 2) r (sym same ∙ e) in
-        let and : IsAnd g (u.lit.0 / 2) = plan.schedule.nodes (u.lit.0 / 2) r e in
+        let same : reqs (u.lit.0 / 2) ≡ and_depths g (depths_of rule g rows label roots a.flows) (u.lit.0 / 2) =
+        plan_depths_once rule g rows label roots t reqs (and_depths g (depths_of rule g rows label roots a.flows)) cover (cut_at a.cuts) plan a.chosen (u.lit.0 / 2) in
+        let d = depth_from g (depths_of rule g rows label roots a.flows) (u.lit.0 / 2) r (sym same ∙ e) in
+        let and : IsAnd g (u.lit.0 / 2) = node_of rule g rows label roots a.flows (cut_at a.cuts) a.plan (u.lit.0 / 2) r (sym same ∙ e) in
         to_tables g t.k roots a.cuts made (a.plan.least t.k t.are).is a.tables (a.plan.timely (u.lit.0 / 2) r and d.1) u.lit.0 refl and (a.tables.only u i).0;
   }
 
@@ -188,11 +125,11 @@ light_is rule g rows label roots made normal a l = record {
 }
 
 -- where the work of the tables that would be made is too much
-pub too_much : (rule : Rule) (g : Aig) (rows : List (List (List ℕ))) (label : ℕ → ℕ) (roots : List ℕ) (cuts : List (Option (List ℕ))) → AreNormal (first_and g) g.pairs → IsCutTable g rows → IsPlanned rule g rows label roots cuts → AreRoots g roots
-    → MOST_WORK < (tables_of g roots cuts).work → IsTooMuch rule g rows label roots
-too_much rule g rows label roots cuts normal t plan lits l =
-    let are : AreMade g cuts (IsMarked roots cuts) (2 * node_count g) (tables_of g roots cuts) = tables_needed g roots cuts (leaves_inside rule g rows label roots cuts t plan) lits in
-    let made : IsMade rule g rows label roots (tables_of g roots cuts) = record { cuts = cuts; plan = plan; tables = are } in
+pub too_much : (rule : Rule) (g : Aig) (rows : List (List (List ℕ))) (label : ℕ → ℕ) (roots flows : List ℕ) (cuts : List (Option (List ℕ))) → AreNormal (first_and g) g.pairs → IsCutTable g rows → IsPlanned rule g rows label roots flows (cut_at cuts)
+    → IsPlan rule g rows label roots (and_depths g (depths_of rule g rows label roots flows)) (cut_at cuts) → AreRoots g roots → MOST_WORK < (tables_of g roots cuts).work → IsTooMuch rule g rows label roots
+too_much rule g rows label roots flows cuts normal t plan is lits l =
+    let are : AreMade g cuts (IsMarked roots cuts) (2 * node_count g) (tables_of g roots cuts) = tables_needed g roots cuts (leaves_inside rule g rows label roots flows cuts t plan) lits in
+    let made : IsMade rule g rows label roots (tables_of g roots cuts) = record { flows = flows; cuts = cuts; plan = plan; chosen = is; tables = are } in
     record {
       luts = (tables_of g roots cuts).luts;
       bits = (tables_of g roots cuts).bits;
@@ -202,10 +139,11 @@ too_much rule g rows label roots cuts normal t plan lits l =
       past = l;
     }
 
-pub too_much_told : (rule : Rule) (g : Aig) (rows : List (List (List ℕ))) (label : ℕ → ℕ) (roots : List ℕ) (cuts : List (Option (List ℕ))) → AreNormal (first_and g) g.pairs → IsCutTable g rows → IsPlanned rule g rows label roots cuts → AreRoots g roots
+pub too_much_told : (rule : Rule) (g : Aig) (rows : List (List (List ℕ))) (label : ℕ → ℕ) (roots flows : List ℕ) (cuts : List (Option (List ℕ))) → AreNormal (first_and g) g.pairs → IsCutTable g rows → IsPlanned rule g rows label roots flows (cut_at cuts)
+    → IsPlan rule g rows label roots (and_depths g (depths_of rule g rows label roots flows)) (cut_at cuts) → AreRoots g roots
     → (e : PickErr) → OrMemory refusal_of (λ _. MOST_WORK < (tables_of g roots cuts).work) e → OrMemory refusal_of (λ _. IsTooMuch rule g rows label roots) e
-too_much_told rule g rows label roots cuts normal t plan lits Work l = too_much rule g rows label roots cuts normal t plan lits l
-too_much_told rule g rows label roots cuts normal t plan lits Memory l = tt
+too_much_told rule g rows label roots flows cuts normal t plan is lits Work l = too_much rule g rows label roots flows cuts normal t plan is lits l
+too_much_told rule g rows label roots flows cuts normal t plan is lits Memory l = tt
 
 -- The whole template.
 pub template_is : (rule : Rule) (g : Aig) (rows : List (List (List ℕ))) (label : ℕ → ℕ) (roots : RootsValue) (made : Made) (outputs next : List Lit) (depth : ℕ) → IsCutTable g rows → AreRoots g (roots_of roots) → IsMade rule g rows label (roots_of roots) made

@@ -13,10 +13,10 @@ use Rattle.cover_pick.specs.Flow.{times_read, fan_out}
 use Rattle.cover_pick.specs.Counts.{count_at, count_one, count_pair, AreCounted}
 
 -- one more reader
-abbrev one_if : ℕ → ℕ → ℕ
+abbrev pub one_if : ℕ → ℕ → ℕ
 one_if n m = cond (eqb n m) 1 0
 
-one_more : (counts : List ℕ) (n m : ℕ) → n < length counts → count_at (count_one counts n) m ≡ count_at counts m + one_if n m
+pub one_more : (counts : List ℕ) (n m : ℕ) → n < length counts → count_at (count_one counts n) m ≡ count_at counts m + one_if n m
 one_more counts n m l =
     elim (cases_eq m n) [
       | inl e ↦ subst (λ i. count_at (count_one counts n) i ≡ count_at counts i + one_if n i) (sym e)

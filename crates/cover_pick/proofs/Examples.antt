@@ -13,9 +13,10 @@ use Rattle.depth_label.proofs.Examples.{mux_labels}
 use Rattle.cover_pick.specs.declared.lut.Lut.{Lut}
 use Rattle.cover_pick.specs.Choice.{Precedes, before, IsChosen}
 use Rattle.cover_pick.specs.declared.rule.Rule.TheVariants.{FewestLeaves}
-use Rattle.cover_pick.specs.Flow.{fan_out, flows_below, flow_of}
+use Rattle.cover_pick.specs.Flow.{fan_out, flow_at, flows_below}
 use Rattle.cover_pick.specs.Sharing.{IsNeededAbove, shared, free as free_leaf, new, IsCost}
-use Rattle.cover_pick.specs.Schedule.{AtMost, HasRuled, IsPlan}
+use Rattle.cover_pick.specs.Schedule.{AtMost, HasRuled}
+use Rattle.cover_pick.specs.Plan.{no_flow, IsPlan}
 use Rattle.cover_pick.specs.Tables.{IsNeeded, root, leaf, IsLeaves, constant, parameter, source, node, HasTable, AreTables}
 use Rattle.cover_pick.specs.Work.{IsCone, IsWork}
 use Rattle.cover_pick.proofs.WorkLemmas.{cone_is}
@@ -61,8 +62,8 @@ mux_plan = record {
   };
   chosen = λ n r e.
       let d = depth_at n r e in
-      subst (λ i. HasRuled FewestLeaves (flow_of mux mux_rows) (IsNeededAbove (13 ∷ []) mux_cover i) (label_of mux_labels) r (row_at mux_rows i) (mux_cover i)) (sym d.0)
-      (subst (λ q. HasRuled FewestLeaves (flow_of mux mux_rows) (IsNeededAbove (13 ∷ []) mux_cover 6) (label_of mux_labels) q (row_at mux_rows 6) (mux_cover 6)) d.1 (record { cut = 1 ∷ 2 ∷ []; is = refl; best = mux_chosen }));
+      subst (λ i. HasRuled FewestLeaves no_flow (IsNeededAbove (13 ∷ []) mux_cover i) (label_of mux_labels) r (row_at mux_rows i) (mux_cover i)) (sym d.0)
+      (subst (λ q. HasRuled FewestLeaves no_flow (IsNeededAbove (13 ∷ []) mux_cover 6) (label_of mux_labels) q (row_at mux_rows 6) (mux_cover 6)) d.1 (record { cut = 1 ∷ 2 ∷ []; is = refl; best = mux_chosen }));
   none = λ n e. ap (λ b. cond b (Some (1 ∷ 2 ∷ [])) None) (none_then (eqb n 6) 1 e);
 }
 
@@ -118,8 +119,8 @@ pub mux_flows : flows_below mux mux_rows (fan_out mux) 7 ≡ 0 ∷ 0 ∷ 0 ∷ 0
 mux_flows = refl
 
 -- A cut of an input and node 5 costs its four bits, and the flow of node 5 unless that is needed already.
-pub shared_cost : IsCost (flow_of mux mux_rows) (λ m. m ≡ 5) (1 ∷ 5 ∷ []) 4
+pub shared_cost : IsCost (flow_at (flows_below mux mux_rows (fan_out mux) 7)) (λ m. m ≡ 5) (1 ∷ 5 ∷ []) 4
 shared_cost = record { leaves = 0; are = (0, 0, free_leaf refl refl, (0, 0, shared refl refl, refl, refl), refl); is = refl }
 
-pub new_cost : IsCost (flow_of mux mux_rows) (λ m. ⊥) (1 ∷ 5 ∷ []) 262
+pub new_cost : IsCost (flow_at (flows_below mux mux_rows (fan_out mux) 7)) (λ m. ⊥) (1 ∷ 5 ∷ []) 262
 new_cost = record { leaves = 258; are = (0, 258, free_leaf refl refl, (258, 0, new (λ x. x) refl, refl, refl), refl); is = refl }

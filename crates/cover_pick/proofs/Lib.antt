@@ -6,19 +6,26 @@ mod CheapestLemmas
 mod SharingLemmas
 mod FlowLemmas
 mod CountLemmas
+mod UsesLemmas
 mod StateLemmas
 mod WalkLemmas
 mod NeededLemmas
 mod RuleLemmas
 mod PlaceLemmas
 mod PlanLemmas
+mod ByLemmas
+mod RoundLemmas
+mod ThreeLemmas
 pub mod BitsLemmas
 mod TableLemmas
 pub mod WorkLemmas
 mod SearchLemmas
 mod TemplateLemmas
 mod MappingLemmas
+mod PlanOnceLemmas
+mod RoundsOnceLemmas
 mod OnceLemmas
 mod ChosenLemmas
 mod ThereLemmas
 mod Examples
+mod RoundExamples

@@ -130,20 +130,20 @@ module _ (rule : Rule) (g : Aig) (rows : List (List (List ℕ))) (label : ℕ �
   }
 
   -- whence a chosen cut: the node is a root's, or a leaf of another
-  reader_needed : (n r : ℕ) → FromChoice g (choice_of rule g rows label roots) (need (depths_of rule g rows label roots)) n r → (l : ℕ) × (l / 2 ≡ n) × IsMarked roots a.cuts l
+  reader_needed : (n r : ℕ) → FromChoice g (choice_of rule g rows label roots a.flows) (need (depths_of rule g rows label roots a.flows)) n r → (l : ℕ) × (l / 2 ≡ n) × IsMarked roots a.cuts l
   reader_needed n r f =
-      let c : List ℕ = choice_of rule g rows label roots f.reader f.depth in
-      let at : cut_at a.cuts f.reader ≡ Some c = a.plan.chosen f.reader ∙ cover_at g (choice_of rule g rows label roots) (depths_of rule g rows label roots) f.reader (Some f.depth) f.and.0 f.needed in
+      let c : List ℕ = choice_of rule g rows label roots a.flows f.reader f.depth in
+      let at : cut_at a.cuts f.reader ≡ Some c = a.plan.chosen f.reader ∙ cover_at g (choice_of rule g rows label roots a.flows) (depths_of rule g rows label roots a.flows) f.reader (Some f.depth) f.and.0 f.needed in
       (2 * n, omega arith, leaf c n (cut_in a.cuts f.reader c at) f.leaf refl)
 
-  cut_needed_of : (n : ℕ) (c : List ℕ) (o : Option ℕ) → first_and g ≤ n → cut_at a.cuts n ≡ Some c → need (depths_of rule g rows label roots) n ≡ o → (l : ℕ) × (l / 2 ≡ n) × IsMarked roots a.cuts l
-  cut_needed_of n c None b e q = absurd (none-some c (sym (a.plan.chosen n ∙ cover_at g (choice_of rule g rows label roots) (depths_of rule g rows label roots) n None b q) ∙ e))
+  cut_needed_of : (n : ℕ) (c : List ℕ) (o : Option ℕ) → first_and g ≤ n → cut_at a.cuts n ≡ Some c → need (depths_of rule g rows label roots a.flows) n ≡ o → (l : ℕ) × (l / 2 ≡ n) × IsMarked roots a.cuts l
+  cut_needed_of n c None b e q = absurd (none-some c (sym (a.plan.chosen n ∙ cover_at g (choice_of rule g rows label roots a.flows) (depths_of rule g rows label roots a.flows) n None b q) ∙ e))
   cut_needed_of n c (Some r) b e q = elim (a.plan.schedule.whence n r q) [ inl f ↦ (f.root, f.node, root f.is_root) | inr f ↦ reader_needed n r f ]
 
   node_has : (n : ℕ) (c : List ℕ) → cut_at a.cuts n ≡ Some c → HasNode made.luts n c
   node_has n c e =
       let and : IsAnd g n = (plan.is.cuts n c e).0 in
-      let q = cut_needed_of n c (need (depths_of rule g rows label roots) n) and.0 e refl in
+      let q = cut_needed_of n c (need (depths_of rule g rows label roots a.flows) n) and.0 e refl in
       let and_l : IsAnd g (q.0 / 2) = subst (λ i. IsAnd g i) (sym q.1) and in
       let h : HasTable made.luts q.0 c = a.tables.all q.0 c (let b : q.0 / 2 < node_count g = and_l.1 in omega arith) q.2 (leaves_and g a.cuts q.0 and_l ∙ subst (λ i. cut_at a.cuts i ≡ Some c) (sym q.1) e) in
       record { table = h.by; in' = h.in'; node = ap (λ i. i / 2) h.lit_is ∙ q.1; leaves = h.leaves_are }

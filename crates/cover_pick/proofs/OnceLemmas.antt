@@ -1,146 +1,21 @@
--- A graph has one plan and one chosen template for its table, labels and roots, and LUTs have one work.
-use Rattle.std.proofs.Common.{◌≡◌, ℕ, zero, suc, ◌+◌, ◌*◌, ◌/◌, ◌-◌, ◌^◌, ◌<◌, ◌≤◌, List, [], ◌∷◌, length, Option, Some, None, refl, sym, ap, ◌∙◌, subst, inl, inr, ◌⊎◌, arith, Result, Ok, Err, IfOk}
-use Rattle.std.proofs.lemmas.Option.{same_Some, none-some}
-use Rattle.std.proofs.lemmas.Bool.{false≢true}
-use Rattle.aig_core.specs.Aig.{Aig, node_count, IsAnd}
+-- A graph has one chosen template for its table, labels and roots, and tables have one work.
+use Rattle.std.proofs.Common.{◌≡◌, ℕ, ◌+◌, ◌*◌, ◌/◌, ◌^◌, ◌<◌, ◌≤◌, List, [], ◌∷◌, length, Option, refl, sym, ap, ◌∙◌, subst, inl, inr, ◌⊎◌, arith, Result, Ok, Err, IfOk}
+use Rattle.aig_core.specs.Aig.{Aig}
 use Rattle.aig_core.specs.declared.lit.Lit.{Lit}
 use Rattle.aig_core.specs.Roots.{RootsValue, roots_of}
 use Rattle.list_laws.specs.Members.{In}
-use Rattle.cut_enum.specs.Table.{row_at}
-use Rattle.cut_sets.proofs.OrderLemmas.{lex_trans, lex-same, before_trans, before-same}
 use Rattle.depth_label.specs.Label.{IsCutTable}
 use Rattle.cover_pick.specs.declared.rule.Rule.{Rule}
-use Rattle.cover_pick.specs.declared.rule.Rule.TheVariants.{FewestLeaves, LeastCost}
 use Rattle.cover_pick.specs.declared.limits.TheConstants.{MOST_WORK}
 use Rattle.cover_pick.specs.declared.lut.Lut.{Lut}
 use Rattle.cover_pick.specs.declared.lut.PickErr.{PickErr}
 use Rattle.cover_pick.specs.declared.lut.PickErr.TheVariants.{Work, Memory}
 use Rattle.cover_pick.specs.Mapping.{AscendByLit, HaveBases, bits_of}
-use Rattle.cover_pick.specs.Target.{target}
-use Rattle.cover_pick.specs.Choice.{Precedes, fewer, lower, before, IsChosen}
-use Rattle.cover_pick.specs.Schedule.{AtMost, IsRuled, HasRuled, IsPlan}
-use Rattle.cover_pick.specs.Flow.{flow_of}
-use Rattle.cover_pick.specs.Sharing.{IsNeededAbove, IsCheaper, less, earlier}
 use Rattle.cover_pick.specs.Tables.{IsNeeded, root, leaf, IsLeaves, constant, parameter, source, node, HasTable}
 use Rattle.cover_pick.specs.Work.{IsCone, IsWork, IsLight}
 use Rattle.cover_pick.specs.Template.{TemplateValue, TablesWithin, AreChosen, IsTemplate, IsTooMuch}
-use Rattle.cover_pick.proofs.SharingLemmas.{above_same, cost_moved}
+use Rattle.cover_pick.proofs.RoundsOnceLemmas.{plan_cuts_once}
 use Rattle.cover_pick.proofs.MemberLemmas.{distinct_descending, length_same}
-
--- two cuts of which each is chosen before the other are the same
-precedes_same : (label : ℕ → ℕ) (c d : List ℕ) → Precedes label c d → Precedes label d c → c ≡ d
-precedes_same label c d (fewer l) (fewer m) = absurd (omega arith)
-precedes_same label c d (fewer l) (lower e m) = absurd (omega arith)
-precedes_same label c d (fewer l) (before e m o) = absurd (omega arith)
-precedes_same label c d (lower e l) (fewer m) = absurd (omega arith)
-precedes_same label c d (lower e l) (lower f m) = absurd (omega arith)
-precedes_same label c d (lower e l) (before f m o) = absurd (omega arith)
-precedes_same label c d (before e l o) (fewer m) = absurd (omega arith)
-precedes_same label c d (before e l o) (lower f m) = absurd (omega arith)
-precedes_same label c d (before e l (inl q)) (before f m p) = q
-precedes_same label c d (before e l (inr q)) (before f m (inl p)) = sym p
-precedes_same label c d (before e l (inr q)) (before f m (inr p)) = absurd (false≢true (sym (lex-same c) ∙ lex_trans c d c q p))
-
--- one cut is chosen
-pub cut_once : (label : ℕ → ℕ) (r : ℕ) (cs : List (List ℕ)) (c d : List ℕ) → IsChosen label r cs c → IsChosen label r cs d → c ≡ d
-cut_once label r cs c d a b = precedes_same label c d (a.first d b.one b.low) (b.first c a.one a.low)
-
-cheaper_same : (c d : List ℕ) (v w : ℕ) → IsCheaper c d v w → IsCheaper d c w v → c ≡ d
-cheaper_same c d v w (less l) (less m) = absurd (omega arith)
-cheaper_same c d v w (less l) (earlier e o) = absurd (omega arith)
-cheaper_same c d v w (earlier e o) (less m) = absurd (omega arith)
-cheaper_same c d v w (earlier e (inl q)) (earlier f p) = q
-cheaper_same c d v w (earlier e (inr q)) (earlier f (inl p)) = sym p
-cheaper_same c d v w (earlier e (inr q)) (earlier f (inr p)) = absurd (false≢true (sym (before-same c) ∙ before_trans c d c q p))
-
--- one cut is chosen by a rule, where the same is needed
-ruled_once : (rule : Rule) (flow : ℕ → ℕ) (needed other : ℕ → Type 0) (label : ℕ → ℕ) (r : ℕ) (cs : List (List ℕ)) (c d : List ℕ) → ((m : ℕ) → needed m → other m) → ((m : ℕ) → other m → needed m)
-    → IsRuled rule flow needed label r cs c → IsRuled rule flow other label r cs d → c ≡ d
-ruled_once FewestLeaves flow needed other label r cs c d to from a b = cut_once label r cs c d a b
-ruled_once LeastCost flow needed other label r cs c d to from a b =
-    cheaper_same c d a.cost b.cost (a.first d b.cost b.one b.low (cost_moved flow other needed from to d b.cost b.is)) (b.first c a.cost a.one a.low (cost_moved flow needed other to from c a.cost a.is))
-
-ruled_one : (rule : Rule) (flow : ℕ → ℕ) (needed : ℕ → Type 0) (label : ℕ → ℕ) (r : ℕ) (cs : List (List ℕ)) (c : List ℕ) → IsRuled rule flow needed label r cs c → In cs c
-ruled_one FewestLeaves flow needed label r cs c a = a.one
-ruled_one LeastCost flow needed label r cs c a = a.one
-
--- two plans agree at a node
-record PlansAgree (reqs other : ℕ → Option ℕ) (cover more : ℕ → Option (List ℕ)) (n : ℕ) : Type 0 where
-  depth : reqs n ≡ other n
-  cut : cover n ≡ more n
-
-module _ (rule : Rule) (g : Aig) (rows : List (List (List ℕ))) (label : ℕ → ℕ) (roots : List ℕ) (t : IsCutTable g rows) where
-  -- a chosen cut's leaves are below its node
-  leaf_below : (reqs : ℕ → Option ℕ) (cover : ℕ → Option (List ℕ)) → IsPlan rule g rows label roots reqs cover → (n r m : ℕ) (c : List ℕ) → reqs n ≡ Some r → cover n ≡ Some c → In c m → m < n
-  leaf_below reqs cover p n r m c e at i =
-      let h : HasRuled rule (flow_of g rows) (IsNeededAbove roots cover n) label r (row_at rows n) (cover n) = p.chosen n r e in
-      let and : IsAnd g n = p.schedule.nodes n r e in
-      let same : h.cut ≡ c = same_Some h.cut c (sym h.is ∙ at) in
-      (((t.are.each n and.1 and).only h.cut (ruled_one rule (flow_of g rows) (IsNeededAbove roots cover n) label r (row_at rows n) h.cut h.best)).cut.below m (subst (λ x. In x m) (sym same) i)).0
-
-  -- where two plans agree above a node, the one has no greater depth there
-  depth_most : (reqs other : ℕ → Option ℕ) (cover more : ℕ → Option (List ℕ)) → IsPlan rule g rows label roots reqs cover → IsPlan rule g rows label roots other more
-      → (n r : ℕ) → ((m : ℕ) → n < m → PlansAgree reqs other cover more m) → reqs n ≡ Some r → AtMost (other n) r
-  depth_most reqs other cover more p q n r above e =
-      let and : IsAnd g n = p.schedule.nodes n r e in
-      elim (p.schedule.whence n r e) [
-        | inl f ↦ (let a : AtMost (other n) (target g label roots) = subst (λ m. AtMost (other m) (target g label roots)) f.node (q.schedule.root f.root f.is_root (subst (λ m. IsAnd g m) (sym f.node) and)) in subst (λ d. AtMost (other n) d) (sym f.is) a)
-        | inr f ↦ (
-            let same = above f.reader (leaf_below reqs cover p f.reader f.depth n f.cut f.needed f.chosen f.leaf) in
-            let a : AtMost (other n) (f.depth - 1) = q.schedule.leaf f.reader f.depth n f.cut (sym same.depth ∙ f.needed) (sym same.cut ∙ f.chosen) f.leaf and in
-            subst (λ d. AtMost (other n) d) (sym f.is) a)
-      ]
-
-  module _ (reqs other : ℕ → Option ℕ) (cover more : ℕ → Option (List ℕ)) (p : IsPlan rule g rows label roots reqs cover) (q : IsPlan rule g rows label roots other more) where
-    same_depth : (n : ℕ) (o x : Option ℕ) → reqs n ≡ o → other n ≡ x → ((r : ℕ) → reqs n ≡ Some r → AtMost (other n) r) → ((r : ℕ) → other n ≡ Some r → AtMost (reqs n) r) → o ≡ x
-    same_depth n None None e f a b = refl
-    same_depth n None (Some s) e f a b = let m = b s f in absurd (none-some m.by (sym e ∙ m.is))
-    same_depth n (Some r) None e f a b = let m = a r e in absurd (none-some m.by (sym f ∙ m.is))
-    same_depth n (Some r) (Some s) e f a b =
-        let m = a r e in
-        let k = b s f in
-        let x : s ≡ m.by = same_Some s m.by (sym f ∙ m.is) in
-        let y : r ≡ k.by = same_Some r k.by (sym e ∙ k.is) in
-        let v : m.by ≤ r = m.le in
-        let w : k.by ≤ s = k.le in
-        ap (λ i. Some i) (let z : r ≡ s = omega arith in z)
-
-    same_cut : (n : ℕ) → ((m : ℕ) → n < m → PlansAgree reqs other cover more m) → (o : Option ℕ) → reqs n ≡ o → other n ≡ o → cover n ≡ more n
-    same_cut n above None e f = p.none n e ∙ sym (q.none n f)
-    same_cut n above (Some r) e f =
-        let a = p.chosen n r e in
-        let b = q.chosen n r f in
-        let to : (m : ℕ) → IsNeededAbove roots cover n m → IsNeededAbove roots more n m = (λ m x. above_same roots cover more n m (λ i l. (above i l).cut) x) in
-        let from : (m : ℕ) → IsNeededAbove roots more n m → IsNeededAbove roots cover n m = (λ m x. above_same roots more cover n m (λ i l. sym (above i l).cut) x) in
-        a.is ∙ (ap (λ c. Some c) (ruled_once rule (flow_of g rows) (IsNeededAbove roots cover n) (IsNeededAbove roots more n) label r (row_at rows n) a.cut b.cut to from a.best b.best) ∙ sym b.is)
-
-    agree_at : (n : ℕ) → ((m : ℕ) → n < m → PlansAgree reqs other cover more m) → PlansAgree reqs other cover more n
-    agree_at n above =
-        let d : reqs n ≡ other n = same_depth n (reqs n) (other n) refl refl (λ r e. depth_most reqs other cover more p q n r above e)
-        (λ r e. depth_most other reqs more cover q p n r (λ m k. let a = above m k in record { depth = sym a.depth; cut = sym a.cut }) e) in
-        record { depth = d; cut = same_cut n above (reqs n) refl (sym d) }
-
-    -- past the last node nothing is needed
-    past_none : (some : ℕ → Option ℕ) (cuts : ℕ → Option (List ℕ)) → IsPlan rule g rows label roots some cuts → (n : ℕ) → node_count g ≤ n → (o : Option ℕ) → some n ≡ o → some n ≡ None
-    past_none some cuts plan n l None e = e
-    past_none some cuts plan n l (Some r) e = absurd (let a : n < node_count g = (plan.schedule.nodes n r e).1 in omega arith)
-
-    agree_past : (n : ℕ) → node_count g ≤ n → PlansAgree reqs other cover more n
-    agree_past n l =
-        let a : reqs n ≡ None = past_none reqs cover p n l (reqs n) refl in
-        let b : other n ≡ None = past_none other more q n l (other n) refl in
-        record { depth = a ∙ sym b; cut = p.none n a ∙ sym (q.none n b) }
-
-    agree_above : (f n : ℕ) → node_count g ≤ n + f → PlansAgree reqs other cover more n
-    agree_above zero n l = agree_past n (omega arith)
-    agree_above (suc f) n l = agree_at n (λ m k. agree_above f m (omega arith))
-
-    -- A graph has one plan.
-    pub depths_once : (n : ℕ) → reqs n ≡ other n
-    depths_once n = (agree_above (node_count g) n (omega arith)).depth
-
-    pub cuts_once : (n : ℕ) → cover n ≡ more n
-    cuts_once n = (agree_above (node_count g) n (omega arith)).cut
 
 lut_same : (x y : Lut) → x.lit.0 ≡ y.lit.0 → x.leaves ≡ y.leaves → x.base ≡ y.base → x ≡ y
 lut_same x y l c b =
@@ -194,7 +69,7 @@ leaves_same g cover more l c same (node at) = node (sym (same (l / 2)) ∙ at)
 module _ (rule : Rule) (g : Aig) (rows : List (List (List ℕ))) (label : ℕ → ℕ) (roots : List ℕ) (t : IsCutTable g rows) where
   chosen_matches : (xs ys : List Lut) (a b : ℕ) → AreChosen rule g rows label roots xs a → AreChosen rule g rows label roots ys b → Matches xs ys
   chosen_matches xs ys a b x y u i =
-      let same : (n : ℕ) → x.cover n ≡ y.cover n = cuts_once rule g rows label roots t x.reqs y.reqs x.cover y.cover x.plan y.plan in
+      let same : (n : ℕ) → x.cover n ≡ y.cover n = plan_cuts_once rule g rows label roots t x.reqs y.reqs x.cover y.cover x.plan y.plan in
       y.tables.all u.lit.0 u.leaves (needed_same roots x.cover y.cover u.lit.0 same (x.tables.needed u i)) (leaves_same g x.cover y.cover u.lit.0 u.leaves same (x.tables.leaves u i))
 
   -- The chosen tables are the only ones.

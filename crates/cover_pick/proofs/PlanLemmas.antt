@@ -13,14 +13,14 @@ use Rattle.list_laws.proofs.Choice.{choose}
 use Rattle.aig_core.specs.Roots.{lits_of, AreRoots}
 use Rattle.cover_pick.specs.Target.{target}
 use Rattle.cover_pick.specs.declared.rule.Rule.{Rule}
-use Rattle.cover_pick.specs.Flow.{flow_of}
+use Rattle.cover_pick.specs.Flow.{flow_at}
 use Rattle.cover_pick.specs.Sharing.{IsNeededAbove}
 use Rattle.cover_pick.specs.Schedule.{IsRuled}
 use Rattle.cover_pick.specs.Ruled.{or_empty, found_of, choice_of}
 use Rattle.cover_pick.specs.Places.{cut_of, cuts_of, found_for, AreBestPlaces}
 use Rattle.cover_pick.proofs.PlaceLemmas.{cut_is}
 use Rattle.cover_pick.specs.Required.{cover_of, chosen, need}
-use Rattle.cover_pick.specs.Planned.{Chooses, cut_at, plan_of, depths_of, IsLeastCover, IsPlanned}
+use Rattle.cover_pick.specs.Planned.{Chooses, cut_at, plan_of, depths_of, IsLeastCover, AreFlows, IsPlanned}
 use Rattle.cover_pick.proofs.RuleLemmas.{found_at, choice_keeps, walked, choice_ruled}
 use Rattle.cover_pick.proofs.WalkLemmas.{schedule_is, template_within, template_cover, target_least, depth_le_required}
 
@@ -61,71 +61,73 @@ cover_past g choice reqs n e l =
     (λ _. subst (λ o. chosen choice n o ≡ None) (sym (get_or_past reqs n None (omega arith))) refl)
 
 -- the facts of a plan, of which the table's number k and the labels are given
-module _ (rule : Rule) (g : Aig) (rows : List (List (List ℕ))) (label : ℕ → ℕ) (roots : List ℕ) (inside : (l : ℕ) → In roots l → l / 2 < node_count g) (labels : AreLabels g (row_at rows) label) where
-  pub depths_size : (k : ℕ) → AreRows g k (node_count g) rows → length (depths_of rule g rows label roots) ≡ node_count g
-  depths_size k are = (walked rule g rows label roots inside labels k are).size
+module _ (rule : Rule) (g : Aig) (rows : List (List (List ℕ))) (label : ℕ → ℕ) (roots flows : List ℕ) (inside : (l : ℕ) → In roots l → l / 2 < node_count g) (labels : AreLabels g (row_at rows) label) where
+  pub depths_size : (k : ℕ) → AreRows g k (node_count g) rows → length (depths_of rule g rows label roots flows) ≡ node_count g
+  depths_size k are = (walked rule g rows label roots flows inside labels k are).size
 
   -- the choice of a needed node, by the rule's own words
-  chosen_best : (cuts : List (Option (List ℕ))) → ((n : ℕ) → cut_at cuts n ≡ plan_of rule g rows label roots n) → (k : ℕ) → AreRows g k (node_count g) rows → (n r : ℕ) → IsAnd g n → need (depths_of rule g rows label roots) n ≡ Some r
-      → IsRuled rule (flow_of g rows) (IsNeededAbove roots (cut_at cuts) n) label r (row_at rows n) (choice_of rule g rows label roots n r)
-  chosen_best cuts same k are n r and e = choice_ruled rule g rows label roots inside labels k are (cut_at cuts) same n r and ((walked rule g rows label roots inside labels k are).low n r and e)
+  chosen_best : AreFlows g flows → (cover : ℕ → Option (List ℕ)) → ((n : ℕ) → cover n ≡ plan_of rule g rows label roots flows n) → (k : ℕ) → AreRows g k (node_count g) rows → (n r : ℕ) → IsAnd g n → need (depths_of rule g rows label roots flows) n ≡ Some r
+      → IsRuled rule (flow_at flows) (IsNeededAbove roots cover n) label r (row_at rows n) (choice_of rule g rows label roots flows n r)
+  chosen_best fit cover same k are n r and e = choice_ruled rule g rows label roots flows inside labels k are fit cover same n r and ((walked rule g rows label roots flows inside labels k are).low n r and e)
 
   -- the cut that is found for a node's required depth is its choice
-  best_chosen : (k : ℕ) → AreRows g k (node_count g) rows → (n : ℕ) (o : Option ℕ) → IsAnd g n → need (depths_of rule g rows label roots) n ≡ o → found_for (found_of rule g rows label roots n) o ≡ chosen (choice_of rule g rows label roots) n o
+  best_chosen : (k : ℕ) → AreRows g k (node_count g) rows → (n : ℕ) (o : Option ℕ) → IsAnd g n → need (depths_of rule g rows label roots flows) n ≡ o → found_for (found_of rule g rows label roots flows n) o ≡ chosen (choice_of rule g rows label roots flows) n o
   best_chosen k are n None and e = refl
   best_chosen k are n (Some r) and e =
-      let f = found_at rule g rows label roots labels n r and ((walked rule g rows label roots inside labels k are).low n r and e) in
+      let f = found_at rule g rows label roots flows labels n r and ((walked rule g rows label roots flows inside labels k are).low n r and e) in
       f.is ∙ ap (λ o. Some (or_empty o)) (sym f.is)
 
   -- The cuts at the best places are the plan.
-  pub places_plan : (k : ℕ) → AreRows g k (node_count g) rows → (places : List (Option ℕ)) → AreBestPlaces g rows (found_of rule g rows label roots) (depths_of rule g rows label roots) (first_and g) places
-      → (n : ℕ) → n < node_count g → cut_at (cuts_of rows places) n ≡ plan_of rule g rows label roots n
+  pub places_plan : (k : ℕ) → AreRows g k (node_count g) rows → (places : List (Option ℕ)) → AreBestPlaces g rows (found_of rule g rows label roots flows) (depths_of rule g rows label roots flows) (first_and g) places
+      → (n : ℕ) → n < node_count g → cut_at (cuts_of rows places) n ≡ plan_of rule g rows label roots flows n
   places_plan k are places best n l =
-      let depths : List (Option ℕ) = depths_of rule g rows label roots in
-      let choice : ℕ → ℕ → List ℕ = choice_of rule g rows label roots in
+      let depths : List (Option ℕ) = depths_of rule g rows label roots flows in
+      let choice : ℕ → ℕ → List ℕ = choice_of rule g rows label roots flows in
       cut_is rows places n ∙ elim (cases_lt n (first_and g)) [
         | inl s ↦ ap (λ p. cut_of (row_at rows n) p) (best.below n s) ∙ sym (cover_source g choice depths n s)
         | inr a ↦ best.best n a l ∙ (best_chosen k are n (need depths n) (a, l) refl ∙ sym (cover_node g choice depths n a))
       ]
 
-  plan_least : AreNormal (first_and g) g.pairs → (cuts : List (Option (List ℕ))) → ((n : ℕ) → cut_at cuts n ≡ plan_of rule g rows label roots n) → (k : ℕ) → AreRows g k (node_count g) rows → IsLeastCover g k roots (cut_at cuts) (target g label roots)
-  plan_least normal cuts e k are =
-      let choice : ℕ → ℕ → List ℕ = choice_of rule g rows label roots in
-      let chooses : Chooses g (row_at rows) label choice = choice_keeps rule g rows label roots labels in
+  plan_least : AreNormal (first_and g) g.pairs → (cover : ℕ → Option (List ℕ)) → ((n : ℕ) → cover n ≡ plan_of rule g rows label roots flows n) → (k : ℕ) → AreRows g k (node_count g) rows → IsLeastCover g k roots cover (target g label roots)
+  plan_least normal cover e k are =
+      let choice : ℕ → ℕ → List ℕ = choice_of rule g rows label roots flows in
+      let chooses : Chooses g (row_at rows) label choice = choice_keeps rule g rows label roots flows labels in
       let minimal : (n : ℕ) → IsAnd g n → AreMinimal g k n (row_at rows n) = (λ n and. are.each n and.1 and) in
-      let is_cover : IsCover g k roots (cut_at cuts) = IsCover-same g k roots (plan_of rule g rows label roots) (cut_at cuts) e (template_cover g k roots (row_at rows) label choice inside minimal chooses) in
-      let is_within : RootsWithin g (cut_at cuts) roots (target g label roots) = RootsWithin-same g roots (target g label roots) (plan_of rule g rows label roots) (cut_at cuts) e (template_within g k roots (row_at rows) label choice inside minimal chooses) in
+      let is_cover : IsCover g k roots cover = IsCover-same g k roots (plan_of rule g rows label roots flows) cover e (template_cover g k roots (row_at rows) label choice inside minimal chooses) in
+      let is_within : RootsWithin g cover roots (target g label roots) = RootsWithin-same g roots (target g label roots) (plan_of rule g rows label roots flows) cover e (template_within g k roots (row_at rows) label choice inside minimal chooses) in
       record {
         is = is_cover;
         within = is_within;
-        least = record { cover = cut_at cuts; is = is_cover; within = is_within; least = λ other d is w. target_least g k roots (row_at rows) label choice inside minimal chooses normal labels other d is w };
+        least = record { cover = cover; is = is_cover; within = is_within; least = λ other d is w. target_least g k roots (row_at rows) label choice inside minimal chooses normal labels other d is w };
       }
 
-  plan_timely : (cuts : List (Option (List ℕ))) → ((n : ℕ) → cut_at cuts n ≡ plan_of rule g rows label roots n) → (k : ℕ) → AreRows g k (node_count g) rows
-      → (n r : ℕ) → IsAnd g n → need (depths_of rule g rows label roots) n ≡ Some r → HasDepth g (cut_at cuts) n r
-  plan_timely cuts e k are n r and at =
-      let choice : ℕ → ℕ → List ℕ = choice_of rule g rows label roots in
-      let chooses : Chooses g (row_at rows) label choice = choice_keeps rule g rows label roots labels in
+  plan_timely : (cover : ℕ → Option (List ℕ)) → ((n : ℕ) → cover n ≡ plan_of rule g rows label roots flows n) → (k : ℕ) → AreRows g k (node_count g) rows
+      → (n r : ℕ) → IsAnd g n → need (depths_of rule g rows label roots flows) n ≡ Some r → HasDepth g cover n r
+  plan_timely cover e k are n r and at =
+      let choice : ℕ → ℕ → List ℕ = choice_of rule g rows label roots flows in
+      let chooses : Chooses g (row_at rows) label choice = choice_keeps rule g rows label roots flows labels in
       let minimal : (n : ℕ) → IsAnd g n → AreMinimal g k n (row_at rows n) = (λ n and. are.each n and.1 and) in
-      HasDepth-same g (plan_of rule g rows label roots) (cut_at cuts) e
-      (depth_le_required g k roots (row_at rows) label choice inside minimal chooses (target g label roots) (depths_of rule g rows label roots) (walked rule g rows label roots inside labels k are) n r and at)
+      HasDepth-same g (plan_of rule g rows label roots flows) cover e
+      (depth_le_required g k roots (row_at rows) label choice inside minimal chooses (target g label roots) (depths_of rule g rows label roots flows) (walked rule g rows label roots flows inside labels k are) n r and at)
+
+  -- what is planned is known of each cover that is the plan
+  pub plan_all : AreFlows g flows → AreNormal (first_and g) g.pairs → IsCutTable g rows → (cover : ℕ → Option (List ℕ)) → ((n : ℕ) → cover n ≡ plan_of rule g rows label roots flows n) → IsPlanned rule g rows label roots flows cover
+  plan_all fit normal t cover same = record {
+    chosen = same;
+    schedule = schedule_is g t.k roots (row_at rows) label (choice_of rule g rows label roots flows) inside (λ n and. t.are.each n and.1 and) (choice_keeps rule g rows label roots flows labels) (target g label roots) (depths_of rule g rows label roots flows)
+        (walked rule g rows label roots flows inside labels t.k t.are);
+    best = chosen_best fit cover same t.k t.are;
+    size = depths_size t.k t.are;
+    timely = plan_timely cover same t.k t.are;
+    least = plan_least normal cover same;
+  }
 
   -- all nodes' cuts are the plan, where those of the graph are
-  pub plan_all : AreNormal (first_and g) g.pairs → (cuts : List (Option (List ℕ))) → IsCutTable g rows → length cuts ≡ node_count g
-      → ((n : ℕ) → n < node_count g → cut_at cuts n ≡ plan_of rule g rows label roots n) → IsPlanned rule g rows label roots cuts
-  plan_all normal cuts t e below =
-      let same : (n : ℕ) → cut_at cuts n ≡ plan_of rule g rows label roots n = (λ n. elim (cases_lt n (node_count g)) [
-        | inl l ↦ below n l
-        | inr l ↦ get_or_past cuts n None (omega arith) ∙ sym (cover_past g (choice_of rule g rows label roots) (depths_of rule g rows label roots) n (depths_size t.k t.are) l)
-      ]) in
-      record {
-        chosen = same;
-        schedule = schedule_is g t.k roots (row_at rows) label (choice_of rule g rows label roots) inside (λ n and. t.are.each n and.1 and) (choice_keeps rule g rows label roots labels) (target g label roots) (depths_of rule g rows label roots) (walked rule g rows label roots inside labels t.k t.are);
-        best = chosen_best cuts same t.k t.are;
-        size = depths_size t.k t.are;
-        timely = plan_timely cuts same t.k t.are;
-        least = plan_least normal cuts same;
-      }
+  pub cuts_all : IsCutTable g rows → (cuts : List (Option (List ℕ))) → length cuts ≡ node_count g → ((n : ℕ) → n < node_count g → cut_at cuts n ≡ plan_of rule g rows label roots flows n) → (n : ℕ) → cut_at cuts n ≡ plan_of rule g rows label roots flows n
+  cuts_all t cuts e below n = elim (cases_lt n (node_count g)) [
+    | inl l ↦ below n l
+    | inr l ↦ get_or_past cuts n None (omega arith) ∙ sym (cover_past g (choice_of rule g rows label roots flows) (depths_of rule g rows label roots flows) n (depths_size t.k t.are) l)
+  ]
 
 -- the roots' nodes
 pub roots_inside : (g : Aig) (roots : List ℕ) → AreRoots g roots → (l : ℕ) → In roots l → l / 2 < node_count g

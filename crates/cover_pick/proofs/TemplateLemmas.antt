@@ -80,8 +80,8 @@ tables_exact rule g rows label roots made t a d w =
     p.least.least (cut_at a.cuts) d p.is (record { complemented = w.complemented; nodes = λ l i and. from_tables g t.k roots a.cuts made p.is a.tables (w.nodes l i and) (l / 2) refl and })
 
 -- a chosen cut's leaves are nodes
-pub leaves_inside : (rule : Rule) (g : Aig) (rows : List (List (List ℕ))) (label : ℕ → ℕ) (roots : List ℕ) (cuts : List (Option (List ℕ))) → IsCutTable g rows → IsPlanned rule g rows label roots cuts → (c : List ℕ) (m : ℕ) → In cuts (Some c) → In c m → m < node_count g
-leaves_inside rule g rows label roots cuts t plan c m i j =
+pub leaves_inside : (rule : Rule) (g : Aig) (rows : List (List (List ℕ))) (label : ℕ → ℕ) (roots flows : List ℕ) (cuts : List (Option (List ℕ))) → IsCutTable g rows → IsPlanned rule g rows label roots flows (cut_at cuts) → (c : List ℕ) (m : ℕ) → In cuts (Some c) → In c m → m < node_count g
+leaves_inside rule g rows label roots flows cuts t plan c m i j =
     let p = plan.least t.k t.are in
     let r = in_cut cuts c i in
     let both = p.is.cuts r.0 c r.1 in

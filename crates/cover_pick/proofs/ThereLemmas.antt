@@ -8,12 +8,14 @@ use Rattle.cover_pick.specs.declared.rule.Rule.{Rule}
 use Rattle.cover_pick.specs.Mapping.{IsMapping, IsLeast}
 use Rattle.cover_pick.specs.Marks.{Made, IsMade, tables_of}
 use Rattle.cover_pick.specs.Planned.{cut_at, plan_of, IsPlanned}
+use Rattle.cover_pick.specs.Rounded.{flows_for}
 use Rattle.cover_pick.specs.Target.{target}
 use Rattle.cover_pick.specs.Template.{TemplateValue, IsTemplate}
 use Rattle.cover_pick.proofs.ChosenLemmas.{template_is}
 use Rattle.cover_pick.proofs.MappingLemmas.{mapping_is, least_is}
 use Rattle.cover_pick.proofs.OnceLemmas.{template_once}
-use Rattle.cover_pick.proofs.PlanLemmas.{plan_all, roots_inside}
+use Rattle.cover_pick.proofs.PlanLemmas.{plan_all, cuts_all, roots_inside}
+use Rattle.cover_pick.proofs.RoundLemmas.{rule_plan, rule_fit}
 use Rattle.cover_pick.proofs.TableLemmas.{tables_needed}
 use Rattle.cover_pick.proofs.TemplateLemmas.{leaves_inside}
 
@@ -32,19 +34,32 @@ cuts_at plan from (suc count) zero l = let here : from ≡ from + 0 = omega arit
 cuts_at plan from (suc count) (suc n) l = let next : from + 1 + n ≡ from + suc n = omega arith in cuts_at plan (from + 1) count n (omega arith) ∙ ap plan next
 
 module _ (rule : Rule) (g : Aig) (rows : List (List (List ℕ))) (label : ℕ → ℕ) (roots : RootsValue) (normal : AreNormal (first_and g) g.pairs) (table : IsCutTable g rows) (labels : AreLabels g (row_at rows) label) (lits : AreRoots g (roots_of roots)) where
-  abbrev cuts : List (Option (List ℕ))
-  cuts = cuts_from (plan_of rule g rows label (roots_of roots)) 0 (node_count g)
+  abbrev flows : List ℕ
+  flows = flows_for rule g rows label (roots_of roots)
 
-  planned : IsPlanned rule g rows label (roots_of roots) cuts
+  abbrev plan : ℕ → Option (List ℕ)
+  plan = plan_of rule g rows label (roots_of roots) (flows_for rule g rows label (roots_of roots))
+
+  abbrev cuts : List (Option (List ℕ))
+  cuts = cuts_from (plan_of rule g rows label (roots_of roots) (flows_for rule g rows label (roots_of roots))) 0 (node_count g)
+
+  planned : IsPlanned rule g rows label (roots_of roots) (flows_for rule g rows label (roots_of roots)) (cut_at cuts)
   planned =
-      plan_all rule g rows label (roots_of roots) (roots_inside g (roots_of roots) lits) labels normal cuts table (cuts_long (plan_of rule g rows label (roots_of roots)) 0 (node_count g))
-      (λ n l. let here : 0 + n ≡ n = omega arith in cuts_at (plan_of rule g rows label (roots_of roots)) 0 (node_count g) n l ∙ ap (plan_of rule g rows label (roots_of roots)) here)
+      plan_all rule g rows label (roots_of roots) flows (roots_inside g (roots_of roots) lits) labels (rule_fit rule g rows label (roots_of roots)) normal table (cut_at cuts)
+      (cuts_all rule g rows label (roots_of roots) flows (roots_inside g (roots_of roots) lits) labels table cuts (cuts_long plan 0 (node_count g))
+      (λ n l. let here : 0 + n ≡ n = omega arith in cuts_at plan 0 (node_count g) n l ∙ ap plan here))
 
   abbrev made : Made
   made = tables_of g (roots_of roots) cuts
 
   is_made : IsMade rule g rows label (roots_of roots) made
-  is_made = record { cuts = cuts; plan = planned; tables = tables_needed g (roots_of roots) cuts (leaves_inside rule g rows label (roots_of roots) cuts table planned) lits }
+  is_made = record {
+    flows = flows;
+    cuts = cuts;
+    plan = planned;
+    chosen = rule_plan rule g rows label (roots_of roots) (roots_inside g (roots_of roots) lits) labels normal table (cut_at cuts) planned;
+    tables = tables_needed g (roots_of roots) cuts (leaves_inside rule g rows label (roots_of roots) flows cuts table planned) lits;
+  }
 
   abbrev there : TemplateValue
   there = record { luts = made.luts; outputs = roots.outputs; next = roots.next; bits = made.bits; depth = target g label (roots_of roots) }

@@ -1,6 +1,6 @@
--- The flow of a node: what its LUT and all LUTs below it cost, each shared evenly among the AND nodes that read it.
+-- The flow of a node: what its table and all tables below it cost, each shared evenly among as many readers as are counted of it.
 use Rattle.std.specs.Prelude.{ℕ, zero, suc, ◌+◌, ◌/◌, ◌^◌, min, max, if◌then◌else◌, ◌==◌, nat_lt, List, [], ◌∷◌, ◌++◌, length, sum_by, slice_index_or}
-use Rattle.aig_core.specs.Aig.{Aig, first_and, node_count}
+use Rattle.aig_core.specs.Aig.{Aig, first_and}
 use Rattle.aig_core.specs.declared.lit.Pair.{Pair}
 use Rattle.cut_enum.specs.Table.{row_at}
 use Rattle.cover_pick.specs.declared.limits.TheConstants.{MOST_FLOW, TABLE_PRICE}
@@ -26,15 +26,11 @@ abbrev pub least_flow : List ℕ → List (List ℕ) → ℕ
 least_flow flows [] = MOST_FLOW
 least_flow flows (c ∷ cs) = min (cut_flow flows c) (least_flow flows cs)
 
--- the flow of a node over those of the nodes below it: 0 of the constant and a source, else the least over its cuts, shared among its fan-outs
+-- the flow of a node over those of the nodes below it: 0 of the constant and a source, else the least over its cuts in these rows, shared among its readers, one at least
 abbrev pub node_flow : Aig → List (List (List ℕ)) → (ℕ → ℕ) → List ℕ → ℕ → ℕ
-node_flow g rows fans flows n = if nat_lt n (first_and g) then 0 else least_flow flows (row_at rows n) / max 1 (fans n)
+node_flow g rows counts flows n = if nat_lt n (first_and g) then 0 else least_flow flows (row_at rows n) / max 1 (counts n)
 
--- the flows of the first n nodes, for these numbers of fan-outs
+-- the flows of the first n nodes, for these counts of readers
 abbrev pub flows_below : Aig → List (List (List ℕ)) → (ℕ → ℕ) → ℕ → List ℕ
-flows_below g rows fans zero = []
-flows_below g rows fans (suc n) = flows_below g rows fans n ++ node_flow g rows fans (flows_below g rows fans n) n ∷ []
-
--- the flow of a node of a graph
-abbrev pub flow_of : Aig → List (List (List ℕ)) → ℕ → ℕ
-flow_of g rows n = flow_at (flows_below g rows (fan_out g) (node_count g)) n
+flows_below g rows counts zero = []
+flows_below g rows counts (suc n) = flows_below g rows counts n ++ node_flow g rows counts (flows_below g rows counts n) n ∷ []

@@ -5,6 +5,10 @@ pub mod Choice
 pub mod Flow
 pub mod Sharing
 pub mod Schedule
+pub mod Allowed
+pub mod Uses
+pub mod Rounds
+pub mod Plan
 pub mod Tables
 pub mod Work
 pub mod Template
@@ -19,4 +23,5 @@ pub mod Planned
 pub mod Places
 pub mod Cone
 pub mod Search
+pub mod Rounded
 pub mod Marks

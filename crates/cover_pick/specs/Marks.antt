@@ -9,7 +9,8 @@ pub use Rattle.list_laws.specs.Digits.{bit_in as mark_at}
 use Rattle.cover_pick.specs.declared.rule.Rule.{Rule}
 use Rattle.cover_pick.specs.declared.lut.Lut.{Lut}
 use Rattle.cover_pick.specs.Mapping.{AscendByLit, HaveBases, bits_of}
-use Rattle.cover_pick.specs.Planned.{cut_at, IsPlanned}
+use Rattle.cover_pick.specs.Plan.{IsPlan}
+use Rattle.cover_pick.specs.Planned.{cut_at, and_depths, depths_of, IsPlanned}
 use Rattle.cover_pick.specs.Tables.{HasTable}
 use Rattle.cover_pick.specs.Cone.{table_work, work_of}
 
@@ -84,8 +85,10 @@ pub record AreMade (g : Aig) (cuts : List (Option (List ℕ))) (needed : ℕ →
   pub sum : made.bits ≡ bits_of made.luts
   pub work : made.work ≡ work_of g made.luts
 
--- the tables of the marked literals over the cuts that the walk finds
+-- the tables of the marked literals over the cuts that the walk finds by some flows, which are the plan of the rule
 pub record IsMade (rule : Rule) (g : Aig) (rows : List (List (List ℕ))) (label : ℕ → ℕ) (roots : List ℕ) (made : Made) : Type 0 where
+  pub flows : List ℕ
   pub cuts : List (Option (List ℕ))
-  pub plan : IsPlanned rule g rows label roots cuts
+  pub plan : IsPlanned rule g rows label roots flows (cut_at cuts)
+  pub chosen : IsPlan rule g rows label roots (and_depths g (depths_of rule g rows label roots flows)) (cut_at cuts)
   pub tables : AreMade g cuts (IsMarked roots cuts) (2 * node_count g) made

@@ -1,14 +1,15 @@
 -- The required depths and the chosen cuts as the walk finds them.
-use Rattle.std.specs.Prelude.{◌≡◌, ℕ, ◌-◌, ◌/◌, ◌≤◌, List, length, Option, Some, None, slice_index_or, ◌⊎◌}
-use Rattle.aig_core.specs.Aig.{Aig, node_count, IsAnd}
+use Rattle.std.specs.Prelude.{◌≡◌, ℕ, ◌-◌, ◌/◌, ◌<◌, ◌≤◌, if◌then◌else◌, nat_lt, List, length, Option, Some, None, slice_index_or, ◌⊎◌}
+use Rattle.aig_core.specs.Aig.{Aig, first_and, node_count, IsAnd}
 use Rattle.list_laws.specs.Members.{In}
 use Rattle.cut_sets.specs.Covers.{IsCover, HasDepth, RootsWithin, IsLeastDepth}
 use Rattle.cut_enum.specs.Table.{AreRows, row_at}
 use Rattle.depth_label.specs.Label.{height}
 use Rattle.cover_pick.specs.Target.{target}
 use Rattle.cover_pick.specs.declared.rule.Rule.{Rule}
-use Rattle.cover_pick.specs.Flow.{flow_of}
+use Rattle.cover_pick.specs.Flow.{flow_at}
 use Rattle.cover_pick.specs.Sharing.{IsNeededAbove}
+use Rattle.cover_pick.specs.Cheapest.{AreCapped}
 use Rattle.cover_pick.specs.Ruled.{choice_of}
 use Rattle.cover_pick.specs.Required.{need, required, cover_of}
 use Rattle.cover_pick.specs.Schedule.{AtMost, FromRoot, IsRuled}
@@ -38,13 +39,17 @@ pub record IsWalked (g : Aig) (label : ℕ → ℕ) (choice : ℕ → ℕ → Li
 abbrev pub cut_at : List (Option (List ℕ)) → ℕ → Option (List ℕ)
 cut_at cuts n = slice_index_or cuts n None
 
--- the required depths of the rule's choices
-abbrev pub depths_of : Rule → Aig → List (List (List ℕ)) → (ℕ → ℕ) → List ℕ → List (Option ℕ)
-depths_of rule g rows label roots = required g (choice_of rule g rows label roots) roots (target g label roots)
+-- the required depths of the rule's choices by some flows
+abbrev pub depths_of : Rule → Aig → List (List (List ℕ)) → (ℕ → ℕ) → List ℕ → List ℕ → List (Option ℕ)
+depths_of rule g rows label roots flows = required g (choice_of rule g rows label roots flows) roots (target g label roots)
+
+-- the required depths of AND nodes alone
+abbrev pub and_depths : Aig → List (Option ℕ) → ℕ → Option ℕ
+and_depths g reqs n = if nat_lt n (first_and g) then None else need reqs n
 
 -- the chosen cuts of the needed AND nodes
-abbrev pub plan_of : Rule → Aig → List (List (List ℕ)) → (ℕ → ℕ) → List ℕ → ℕ → Option (List ℕ)
-plan_of rule g rows label roots = cover_of g (choice_of rule g rows label roots) (depths_of rule g rows label roots)
+abbrev pub plan_of : Rule → Aig → List (List (List ℕ)) → (ℕ → ℕ) → List ℕ → List ℕ → ℕ → Option (List ℕ)
+plan_of rule g rows label roots flows = cover_of g (choice_of rule g rows label roots flows) (depths_of rule g rows label roots flows)
 
 -- a cover whose depth is at most t, where that of no cover is below t
 pub record IsLeastCover (g : Aig) (k : ℕ) (roots : List ℕ) (cover : ℕ → Option (List ℕ)) (t : ℕ) : Type 0 where
@@ -52,11 +57,17 @@ pub record IsLeastCover (g : Aig) (k : ℕ) (roots : List ℕ) (cover : ℕ → 
   pub within : RootsWithin g cover roots t
   pub least : IsLeastDepth g k roots t
 
--- what is chosen, and what the choice is good for
-pub record IsPlanned (rule : Rule) (g : Aig) (rows : List (List (List ℕ))) (label : ℕ → ℕ) (roots : List ℕ) (cuts : List (Option (List ℕ))) : Type 0 where
-  pub chosen : (n : ℕ) → cut_at cuts n ≡ plan_of rule g rows label roots n
-  pub schedule : IsWalked g label (choice_of rule g rows label roots) roots (target g label roots) (need (depths_of rule g rows label roots))
-  pub best : (n r : ℕ) → IsAnd g n → need (depths_of rule g rows label roots) n ≡ Some r → IsRuled rule (flow_of g rows) (IsNeededAbove roots (cut_at cuts) n) label r (row_at rows n) (choice_of rule g rows label roots n r)
-  pub timely : (n r : ℕ) → IsAnd g n → need (depths_of rule g rows label roots) n ≡ Some r → HasDepth g (cut_at cuts) n r
-  pub size : length (depths_of rule g rows label roots) ≡ node_count g
-  pub least : (k : ℕ) → AreRows g k (node_count g) rows → IsLeastCover g k roots (cut_at cuts) (target g label roots)
+-- flows of a graph: only its AND nodes have any, and none is above the most
+pub record AreFlows (g : Aig) (flows : List ℕ) : Type 0 where
+  pub capped : AreCapped flows
+  pub sources : (m : ℕ) → m < first_and g → flow_at flows m ≡ 0
+  pub past : (m : ℕ) → node_count g ≤ m → flow_at flows m ≡ 0
+
+-- what is chosen by some flows, and what the choice is good for
+pub record IsPlanned (rule : Rule) (g : Aig) (rows : List (List (List ℕ))) (label : ℕ → ℕ) (roots flows : List ℕ) (cover : ℕ → Option (List ℕ)) : Type 0 where
+  pub chosen : (n : ℕ) → cover n ≡ plan_of rule g rows label roots flows n
+  pub schedule : IsWalked g label (choice_of rule g rows label roots flows) roots (target g label roots) (need (depths_of rule g rows label roots flows))
+  pub best : (n r : ℕ) → IsAnd g n → need (depths_of rule g rows label roots flows) n ≡ Some r → IsRuled rule (flow_at flows) (IsNeededAbove roots cover n) label r (row_at rows n) (choice_of rule g rows label roots flows n r)
+  pub timely : (n r : ℕ) → IsAnd g n → need (depths_of rule g rows label roots flows) n ≡ Some r → HasDepth g cover n r
+  pub size : length (depths_of rule g rows label roots flows) ≡ node_count g
+  pub least : (k : ℕ) → AreRows g k (node_count g) rows → IsLeastCover g k roots cover (target g label roots)

@@ -7,7 +7,6 @@ use Rattle.cover_pick.specs.Target.{target}
 use Rattle.cover_pick.specs.declared.rule.Rule.{Rule}
 use Rattle.cover_pick.specs.declared.rule.Rule.TheVariants.{FewestLeaves, LeastCost}
 use Rattle.cover_pick.specs.Choice.{IsChosen}
-use Rattle.cover_pick.specs.Flow.{flow_of}
 use Rattle.cover_pick.specs.Sharing.{IsNeededAbove, IsCheapest}
 
 -- a required depth that is there, and at most d
@@ -51,8 +50,8 @@ pub record HasRuled (rule : Rule) (flow : ℕ → ℕ) (needed : ℕ → Type 0)
   pub is : o ≡ Some cut
   pub best : IsRuled rule flow needed label r row cut
 
--- The required depths and the chosen cuts of the needed AND nodes, for the target of the roots.
-pub record IsPlan (rule : Rule) (g : Aig) (rows : List (List (List ℕ))) (label : ℕ → ℕ) (roots : List ℕ) (reqs : ℕ → Option ℕ) (cover : ℕ → Option (List ℕ)) : Type 0 where
+-- A plan by flows: the required depths and the chosen cuts of the needed AND nodes, for the target of the roots, where a rule takes each cut by these flows.
+pub record IsPlanBy (rule : Rule) (g : Aig) (rows : List (List (List ℕ))) (label : ℕ → ℕ) (roots : List ℕ) (flow : ℕ → ℕ) (reqs : ℕ → Option ℕ) (cover : ℕ → Option (List ℕ)) : Type 0 where
   pub schedule : IsSchedule g label roots (target g label roots) cover reqs
-  pub chosen : (n r : ℕ) → reqs n ≡ Some r → HasRuled rule (flow_of g rows) (IsNeededAbove roots cover n) label r (row_at rows n) (cover n)
+  pub chosen : (n r : ℕ) → reqs n ≡ Some r → HasRuled rule flow (IsNeededAbove roots cover n) label r (row_at rows n) (cover n)
   pub none : (n : ℕ) → reqs n ≡ None → cover n ≡ None

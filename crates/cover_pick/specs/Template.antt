@@ -8,7 +8,7 @@ use Rattle.list_laws.specs.Members.{In}
 use Rattle.cover_pick.specs.declared.rule.Rule.{Rule}
 use Rattle.cover_pick.specs.declared.limits.TheConstants.{MOST_WORK}
 use Rattle.cover_pick.specs.declared.lut.Lut.{Lut}
-use Rattle.cover_pick.specs.Schedule.{IsPlan}
+use Rattle.cover_pick.specs.Plan.{IsPlan}
 use Rattle.cover_pick.specs.Tables.{HasTable, AreTables}
 use Rattle.cover_pick.specs.Work.{IsWork}
 

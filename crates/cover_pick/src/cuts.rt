@@ -4,10 +4,12 @@ ghost use Rattle.aig_core.specs.Aig.{first_and, node_count, AreNormal};
 ghost use Rattle.aig_core.specs.Roots.{lits_of, AreRoots};
 ghost use Rattle.depth_label.specs.Label.{label_of, IsCutTable, AreLabelled};
 ghost use Rattle.cover_pick.specs.Places.{place_at as the_place_at};
-ghost use Rattle.cover_pick.specs.Planned.{IsPlanned};
+ghost use Rattle.cover_pick.specs.Planned.{cut_at, AreFlows, IsPlanned};
 
+use crate::limits::TABLE_PRICE;
 use crate::required::chosen_places;
 use crate::rule::Rule;
+use crate::tables::table_bits;
 use aig_core::{Graph, Lit};
 use cut_enum::{Cut, CutTable};
 use depth_label::Labels;
@@ -40,9 +42,10 @@ fn place_at(places: &[Option<u32>], n: u32) -> Option<u32>
 }
 
 impl<'a> ChosenCuts<'a> {
-    ghost use Rattle.std.specs.Prelude.{◌≡◌};
+    ghost use Rattle.std.specs.Prelude.{◌≡◌, ◌≤◌, ◌^◌};
     ghost use Rattle.depth_label.specs.Fold.{or_empty};
     ghost use Rattle.cover_pick.specs.Planned.{cut_at};
+    ghost use Rattle.cover_pick.specs.Uses.{price as the_price};
 
     /// The chosen cut of a node, or `None` if it isn't a needed AND node.
     pub fn cut(&self, n: u32) -> Option<Cut>
@@ -54,7 +57,18 @@ impl<'a> ChosenCuts<'a> {
         }
     }
 
-    /// The leaves of a node's chosen cut, without a copy. Empty for a node without one.
+    /// What the table of a node's chosen cut costs: nothing of any other node.
+    pub fn price(&self, n: u32) -> u64
+        ensures value { result ≡ the_price (cut_at self.now n) }
+        ensures small { result ≤ 2 ^ 9 }
+    {
+        match place_at(&self.places, n) {
+            None => 0,
+            Some(place) => TABLE_PRICE + table_bits(self.table.leaf_count(n, place)) as u64,
+        }
+    }
+
+    /// The leaves of a node's chosen cut, without a copy; none of any other node.
     pub fn leaves(&self, n: u32) -> &[u32]
         ensures { result.now ≡ or_empty (cut_at self.now n) }
     {
@@ -65,22 +79,24 @@ impl<'a> ChosenCuts<'a> {
     }
 }
 
-/// The chosen cuts of the needed AND nodes. They are a cover of the graph with the least depth.
-pub fn chosen_cuts<'a>(
+// The cuts that are chosen by some flows for the needed AND nodes: a cover of the graph, of the least depth.
+pub fn cuts_by<'a>(
     alloc: Global,
     rule: Rule,
     graph: &Graph,
     table: &'a CutTable,
     labels: &Labels,
     roots: &[Lit],
+    flows: &[u64],
 ) -> Result<ChosenCuts<'a>, AllocError>
     requires table { IsCutTable graph.now table.now }
     requires labels { AreLabelled graph.now table.now labels.now }
     requires roots { AreRoots graph.now (lits_of roots.now) }
-    ensures plan { IfOk result (λ cuts. IsPlanned rule graph.now table.now (label_of labels.now) (lits_of roots.now) cuts) }
+    requires flows { AreFlows graph.now flows.now }
+    ensures plan { IfOk result (λ cuts. IsPlanned rule graph.now table.now (label_of labels.now) (lits_of roots.now) flows.now (cut_at cuts)) }
     ensures len { IfOk result (λ cuts. length cuts ≡ node_count graph.now) }
     ensures normal { IfOk result (λ _. AreNormal (first_and graph.now) graph.now.pairs) }
 {
-    let places = chosen_places(alloc, rule, graph, table, labels, roots)?;
+    let places = chosen_places(alloc, rule, graph, table, labels, roots, flows)?;
     Ok(ChosenCuts { table, places })
 }

@@ -1,22 +1,25 @@
-//! The area flows of the nodes, for the rule of the least cost.
-ghost use Rattle.std.specs.Prelude.{◌≡◌, ℕ, ◌+◌, ◌*◌, ◌/◌, ◌<◌, ◌≤◌, ◌^◌, [], length, IfOk};
+//! The flows of the nodes over some counts of their readers, for the rule of the least cost.
+ghost use Rattle.std.specs.Prelude.{◌≡◌, ℕ, ◌<◌, ◌≤◌, ◌+◌, ◌*◌, ◌/◌, ◌^◌, [], length, slice_index_or, IfOk};
 ghost use Rattle.aig_core.specs.Aig.{first_and, node_count};
 ghost use Rattle.cut_enum.specs.Table.{row_at};
+ghost use Rattle.depth_label.specs.Label.{label_of};
 ghost use Rattle.cover_pick.specs.declared.limits.TheConstants.{MOST_FLOW};
-ghost use Rattle.cover_pick.specs.Flow.{least_flow as the_least_flow, node_flow as the_node_flow, flows_below};
+ghost use Rattle.cover_pick.specs.Flow.{cut_flow as the_cut_flow, least_flow as the_least_flow, node_flow as the_node_flow};
+ghost use Rattle.cover_pick.specs.Allowed.{allowed, allowed_row, allowed_flow as the_allowed_flow, flows_by as the_flows_by};
 ghost use Rattle.cover_pick.specs.Cheapest.{AreCapped};
 ghost use Rattle.cover_pick.specs.Counts.{AreCounted, count_at, count_one as one_counted, count_pair as pair_counted};
-ghost use Rattle.cover_pick.specs.Ruled.{flows_for as the_flows_for};
+ghost use Rattle.cover_pick.specs.Planned.{AreFlows};
 
 use crate::cost::cut_cost;
 use crate::limits::{MOST_FLOW, TABLE_PRICE};
-use crate::rule::Rule;
+use crate::scope::Scope;
 use aig_core::{Graph, Pair};
 use cut_enum::CutTable;
+use depth_label::Labels;
 use std::alloc::{AllocError, Global};
 
 // Adds one to the fan-out of a node.
-fn count_one(counts: &mut [u32], m: u32)
+pub fn count_one(counts: &mut [u32], m: u32)
     requires inside { m < length counts.old }
     requires room { count_at counts.old m + 1 < 2 ^ 32 }
     ensures { counts.new ≡ one_counted counts.old m }
@@ -46,7 +49,7 @@ fn count_pairs(graph: &Graph, counts: &mut [u32])
 }
 
 // The fan-out of each node: the number of AND nodes that read it.
-fn fan_outs(alloc: Global, graph: &Graph) -> Result<Vec<u32>, AllocError>
+pub fn fan_outs(alloc: Global, graph: &Graph) -> Result<Vec<u32>, AllocError>
     ensures { IfOk result (λ counts. AreCounted graph.now (node_count graph.now) counts.items) }
 {
     let mut counts = vec![in alloc; 0; graph.len() as usize]?;
@@ -54,63 +57,94 @@ fn fan_outs(alloc: Global, graph: &Graph) -> Result<Vec<u32>, AllocError>
     Ok(counts)
 }
 
-// The fan-out of a node.
-fn fan_out(counts: &[u32], n: u32) -> u32
+// The count of a node.
+fn count_of(counts: &[u32], n: u32) -> u32
     ensures { result ≡ count_at counts.now n }
 {
     counts.get(n as usize).copied().unwrap_or(0)
 }
 
-// The least flow over the cuts of a node.
-fn least_flow(table: &CutTable, flows: &[u64], n: u32) -> u64
+// What a cut's table and all below it cost.
+fn cut_flow(table: &CutTable, flows: &[u64], n: u32, i: u32) -> u64
+    requires inside { i < length (row_at table.now n) }
+    requires capped { AreCapped flows.now }
+    ensures { result ≡ the_cut_flow flows.now (slice_index_or (row_at table.now n) i []) }
+{
+    TABLE_PRICE + cut_cost(table, flows, &[], n, i)
+}
+
+// The same of an allowed cut, and the most of any other.
+fn allowed_flow(
+    table: &CutTable,
+    labels: &Labels,
+    scope: Scope,
+    flows: &[u64],
+    n: u32,
+    i: u32,
+) -> u64
+    requires inside { i < length (row_at table.now n) }
+    requires capped { AreCapped flows.now }
+    ensures { result ≡ the_allowed_flow scope (label_of labels.now) n flows.now (slice_index_or (row_at table.now n) i []) }
+{
+    match scope {
+        Scope::AnyHeight => cut_flow(table, flows, n, i),
+        Scope::LeastHeight => {
+            if labels.height(table, n, i) > labels.label(n) {
+                return MOST_FLOW;
+            }
+            cut_flow(table, flows, n, i)
+        }
+    }
+}
+
+// The least flow through an allowed cut of a node.
+fn least_flow(table: &CutTable, labels: &Labels, scope: Scope, flows: &[u64], n: u32) -> u64
     requires { AreCapped flows.now }
-    ensures { result ≡ the_least_flow flows.now (row_at table.now n) }
+    ensures { result ≡ the_least_flow flows.now (allowed_row scope (label_of labels.now) n (row_at table.now n)) }
 {
     let mut least = MOST_FLOW;
     for i in 0..table.count(n) {
-        least = least.min(TABLE_PRICE + cut_cost(table, flows, &[], n, i));
+        least = least.min(allowed_flow(table, labels, scope, flows, n, i));
     }
     least
 }
 
-// The flow of a node, given those of the nodes below it.
-fn node_flow(graph: &Graph, table: &CutTable, fan_out: u32, flows: &[u64], n: u32) -> u64
+// The flow of a node over those of the nodes below it.
+fn node_flow(
+    graph: &Graph,
+    table: &CutTable,
+    labels: &Labels,
+    scope: Scope,
+    count: u32,
+    flows: &[u64],
+    n: u32,
+) -> u64
     requires { AreCapped flows.now }
-    ensures value { result ≡ the_node_flow graph.now table.now (λ _. fan_out) flows.now n }
+    ensures value { result ≡ the_node_flow graph.now (allowed scope (label_of labels.now) table.now) (λ _. count) flows.now n }
     ensures capped { result ≤ MOST_FLOW }
 {
     if n <= graph.sources() {
         return 0;
     }
-    least_flow(table, flows, n) / fan_out.max(1) as u64
+    least_flow(table, labels, scope, flows, n) / count.max(1) as u64
 }
 
-// The flow of each node.
-fn node_flows(alloc: Global, graph: &Graph, table: &CutTable) -> Result<Vec<u64>, AllocError>
-    ensures value { IfOk result (λ flows. flows.items ≡ the_flows_for Rule.LeastCost graph.now table.now) }
-    ensures capped { IfOk result (λ flows. AreCapped flows.items) }
+// The flow of each node over the allowed cuts, for some counts.
+pub fn flows_by(
+    alloc: Global,
+    graph: &Graph,
+    table: &CutTable,
+    labels: &Labels,
+    scope: Scope,
+    counts: &[u32],
+) -> Result<Vec<u64>, AllocError>
+    ensures value { IfOk result (λ flows. flows.items ≡ the_flows_by graph.now table.now (label_of labels.now) scope (count_at counts.now)) }
+    ensures fit { IfOk result (λ flows. AreFlows graph.now flows.items) }
 {
-    let fan_outs = fan_outs(alloc, graph)?;
     let mut flows = Vec::new(alloc);
     for n in 0..graph.len() {
-        let flow = node_flow(graph, table, fan_out(&fan_outs, n), &flows, n);
+        let flow = node_flow(graph, table, labels, scope, count_of(counts, n), &flows, n);
         flows.push(flow)?;
     }
     Ok(flows)
-}
-
-// The flow of each node, if the rule needs it.
-pub fn flows_for(
-    alloc: Global,
-    rule: Rule,
-    graph: &Graph,
-    table: &CutTable,
-) -> Result<Vec<u64>, AllocError>
-    ensures value { IfOk result (λ flows. flows.items ≡ the_flows_for rule graph.now table.now) }
-    ensures capped { IfOk result (λ flows. AreCapped flows.items) }
-{
-    match rule {
-        Rule::FewestLeaves => Ok(Vec::new(alloc)),
-        Rule::LeastCost => node_flows(alloc, graph, table),
-    }
 }

@@ -11,7 +11,6 @@ ghost use Rattle.cover_pick.specs.Planned.{depths_of};
 ghost use Rattle.cover_pick.specs.Places.{cut_of, found_for, AreBestPlaces};
 
 use crate::choice::choose;
-use crate::flow::flows_for;
 use crate::rule::Rule;
 use crate::target::target;
 use aig_core::{Graph, Lit};
@@ -119,7 +118,7 @@ fn require_roots(graph: &Graph, roots: &[Lit], t: u32, reqs: &mut [Option<u32>])
     }
 }
 
-// The places of the chosen cuts of the needed AND nodes, among the cuts of each.
+// The places of the cuts that are chosen by some flows for the needed AND nodes, among the cuts of each.
 pub fn chosen_places(
     alloc: Global,
     rule: Rule,
@@ -127,18 +126,19 @@ pub fn chosen_places(
     table: &CutTable,
     labels: &Labels,
     roots: &[Lit],
+    flows: &[u64],
 ) -> Result<Vec<Option<u32>>, AllocError>
     requires table { IsCutTable graph.now table.now }
     requires labels { AreLabelled graph.now table.now labels.now }
     requires roots { AreRoots graph.now (lits_of roots.now) }
-    ensures places { IfOk result (λ places. AreBestPlaces graph.now table.now (found_of rule graph.now table.now (label_of labels.now) (lits_of roots.now)) (depths_of rule graph.now table.now (label_of labels.now) (lits_of roots.now)) (first_and graph.now) places.items) }
+    requires capped { AreCapped flows.now }
+    ensures places { IfOk result (λ places. AreBestPlaces graph.now table.now (found_of rule graph.now table.now (label_of labels.now) (lits_of roots.now) flows.now) (depths_of rule graph.now table.now (label_of labels.now) (lits_of roots.now) flows.now) (first_and graph.now) places.items) }
     ensures normal { IfOk result (λ _. AreNormal (first_and graph.now) graph.now.pairs) }
 {
-    let flows = flows_for(alloc, rule, graph, table)?;
     let t = target(graph, labels, roots);
     let mut depths = vec![in alloc; None; graph.len() as usize]?;
     let mut places = vec![in alloc; None; graph.len() as usize]?;
     require_roots(graph, roots, t, &mut depths);
-    walk(rule, graph, table, labels, &flows, &mut depths, &mut places);
+    walk(rule, graph, table, labels, flows, &mut depths, &mut places);
     Ok(places)
 }

@@ -1,11 +1,29 @@
-use Rattle.std.proofs.Common.{◌≤◌, arith}
+use Rattle.std.proofs.Common.{ℕ, List, ◌≤◌, arith}
 use Rattle.cut_enum.specs.Table.{row_at}
+use Rattle.depth_label.specs.Label.{label_of}
 use Rattle.cover_pick.specs.declared.limits.TheConstants.{MOST_FLOW}
 use Rattle.cover_pick.specs.Flow.{least_flow}
-use Rattle.cover_pick.proofs.FlowLemmas.{least_capped}
+use Rattle.cover_pick.specs.Allowed.{allowed_row}
+use Rattle.cover_pick.proofs.FlowLemmas.{least_capped, allowed_next, allowed_end}
 use Rattle.cover_pick.proofs.flow.least_flow.Goals as goal
 
 pub loop-i-init : goal.loop-i-init
 loop-i-init c =
-    let a : least_flow c.args.flows.now (row_at c.args.table.now c.args.n) ≤ MOST_FLOW = least_capped c.args.flows.now (row_at c.args.table.now c.args.n) in
+    let row : List (List ℕ) = allowed_row c.args.scope (label_of c.args.labels.now) c.args.n (row_at c.args.table.now c.args.n) in
+    let a : least_flow c.args.flows.now (allowed_row c.args.scope (label_of c.args.labels.now) c.args.n (row_at c.args.table.now c.args.n)) ≤ MOST_FLOW =
+    least_capped c.args.flows.now row in
     record { rest = omega arith; capped = omega arith }
+
+pub loop-i-preserved : goal.loop-i-preserved
+loop-i-preserved c =
+    let row : List (List ℕ) = row_at c.args.table.now c.args.n in
+    record {
+      rest = allowed_next c.args.scope (label_of c.args.labels.now) c.args.n c.args.flows.now row c.loop-i.i c.loop-i.least
+          (least_flow c.args.flows.now (allowed_row c.args.scope (label_of c.args.labels.now) c.args.n row)) c.allowed_flow.result c.min-least.result (omega arith) c.loop-i.invariant.rest c.allowed_flow.ensures (omega arith);
+      capped = omega arith;
+    }
+
+pub returns : goal.returns
+returns c =
+    let row : List (List ℕ) = row_at c.args.table.now c.args.n in
+    allowed_end c.args.scope (label_of c.args.labels.now) c.args.n c.args.flows.now row c.loop-i.i c.loop-i.least (least_flow c.args.flows.now (allowed_row c.args.scope (label_of c.args.labels.now) c.args.n row)) (omega arith) c.loop-i.invariant.capped c.loop-i.invariant.rest

@@ -1,11 +1,13 @@
 use Rattle.std.proofs.Common.{◌≡◌, ◌≤◌, min, drop}
 use Rattle.cut_enum.specs.Table.{row_at}
+use Rattle.depth_label.specs.Label.{label_of}
 use Rattle.cover_pick.specs.declared.limits.TheConstants.{MOST_FLOW}
 use Rattle.cover_pick.specs.Flow.{least_flow}
+use Rattle.cover_pick.specs.Allowed.{allowed_row}
 use Rattle.cover_pick.proofs.flow.least_flow.Given as goal
 
 abbrev pub invariant-loop-i : goal.invariant-loop-i
 invariant-loop-i l = record {
-  rest : min l.least (least_flow l.flows (drop l.i (row_at l.table l.n))) ≡ least_flow l.flows (row_at l.table l.n);
+  rest : min l.least (least_flow l.flows (allowed_row l.scope (label_of l.labels) l.n (drop l.i (row_at l.table l.n)))) ≡ least_flow l.flows (allowed_row l.scope (label_of l.labels) l.n (row_at l.table l.n));
   capped : l.least ≤ MOST_FLOW;
 }

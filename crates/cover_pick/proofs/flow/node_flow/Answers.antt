@@ -1,13 +1,32 @@
-use Rattle.std.proofs.Common.{◌≤◌, ◌/◌, arith}
+use Rattle.std.proofs.Common.{◌≡◌, ◌≤◌, ◌/◌, ◌∙◌, ℕ, List, max, ltb, sym, ap, arith}
 use Rattle.std.proofs.Math.Nat.{div-le_self}
+use Rattle.std.proofs.lemmas.Bool.{ltb-true}
+use Rattle.aig_core.specs.Aig.{first_and}
+use Rattle.list_laws.proofs.Choice.{choose}
 use Rattle.cut_enum.specs.Table.{row_at}
+use Rattle.depth_label.specs.Label.{label_of}
 use Rattle.cover_pick.specs.declared.limits.TheConstants.{MOST_FLOW}
 use Rattle.cover_pick.specs.Flow.{least_flow}
-use Rattle.cover_pick.proofs.FlowLemmas.{least_capped}
+use Rattle.cover_pick.specs.Allowed.{allowed, allowed_row}
+use Rattle.cover_pick.proofs.FlowLemmas.{least_capped, allowed_at}
 use Rattle.cover_pick.proofs.flow.node_flow.Goals as goal
+
+pub returns-clause-value : goal.returns-clause-value
+returns-clause-value c =
+    let label : ℕ → ℕ = label_of c.args.labels.now in
+    let flows : List ℕ = c.args.flows.now in
+    let rows : List (List (List ℕ)) = allowed c.args.scope label c.args.table.now in
+    let n : ℕ = c.args.n in
+    let row : least_flow flows (allowed_row c.args.scope label n (row_at c.args.table.now n)) ≡ least_flow flows (row_at rows n) = ap (λ cs. least_flow flows cs) (sym (allowed_at c.args.scope label c.args.table.now n)) in
+    let least : c.least_flow.result ≡ least_flow flows (row_at rows n) = c.least_flow.ensures ∙ row in
+    let count : c.max.result ≡ max 1 c.args.count = omega arith in
+    choose (λ v. c.least_flow.result / c.max.result ≡ v) (ltb n (first_and c.args.graph.now)) 0 (least_flow flows (row_at rows n) / max 1 c.args.count)
+    (λ t. absurd (let l = ltb-true n (first_and c.args.graph.now) t in omega arith))
+    (λ _. ap (λ v. v / c.max.result) least ∙ ap (λ v. least_flow flows (row_at rows n) / v) count)
 
 pub returns-clause-capped : goal.returns-clause-capped
 returns-clause-capped c =
-    let a : least_flow c.args.flows.now (row_at c.args.table.now c.args.n) ≤ MOST_FLOW = least_capped c.args.flows.now (row_at c.args.table.now c.args.n) in
+    let row : List (List ℕ) = allowed_row c.args.scope (label_of c.args.labels.now) c.args.n (row_at c.args.table.now c.args.n) in
+    let a : least_flow c.args.flows.now (allowed_row c.args.scope (label_of c.args.labels.now) c.args.n (row_at c.args.table.now c.args.n)) ≤ MOST_FLOW = least_capped c.args.flows.now row in
     let b : c.least_flow.result / c.max.result ≤ c.least_flow.result = div-le_self c.least_flow.result c.max.result in
     omega (arith, c.least_flow.ensures)

@@ -24,6 +24,6 @@ returns-clause-places c =
     c.deref_mut-2.ensures.value
     ∙ (take_at c.require_roots.new.reqs (drop (length c.require_roots.new.reqs) c.in_ok-depths.depths.items) c.in_ok-depths.depths.len whole
     ∙ (c.require_roots.ensures ∙ (ap (λ s. require_roots (first_and g) c.target-t.result s roots) none ∙ ap (λ t. require_roots (first_and g) t (replicate (node_count g) None) roots) c.target-t.ensures))) in
-    subst (λ s. AreBestPlaces g rows (found_of c.args.rule g rows label roots) (depths_of c.args.rule g rows label roots) (first_and g) s)
+    subst (λ s. AreBestPlaces g rows (found_of c.args.rule g rows label roots c.args.flows.now) (depths_of c.args.rule g rows label roots c.args.flows.now) (first_and g) s)
     (sym (take_at c.walk.new.places (drop (length c.walk.new.places) c.in_ok-places.places.items) c.in_ok-places.places.len long))
-    (places_chosen c.args.rule g rows label roots c.deref.result.now c.deref_mut-2.result.now c.walk.new.reqs c.walk.new.places (c.deref.ensures.value ∙ c.in_ok-flows.ensures.value) start c.walk.ensures.reqs c.walk.ensures.places)
+    (places_chosen c.args.rule g rows label roots c.args.flows.now c.deref_mut-2.result.now c.walk.new.reqs c.walk.new.places start c.walk.ensures.reqs c.walk.ensures.places)

@@ -1,0 +1,182 @@
+-- The rounds that are made are rounds by their own words, and the flows that are found are those of the first plan of the least cost.
+use Rattle.std.proofs.Common.{◌≡◌, ℕ, ◌/◌, ◌<◌, ◌≤◌, cond, ltb, Bool, true, false, List, [], ◌∷◌, ◌++◌, Option, refl, sym, ap, ◌∙◌, subst, inl, inr, arith}
+use Rattle.std.proofs.lemmas.Bool.{ltb-true, ltb-false}
+use Rattle.aig_core.specs.Aig.{Aig, first_and, node_count, AreNormal}
+use Rattle.list_laws.specs.Members.{In}
+use Rattle.list_laws.proofs.Members.{In-append}
+use Rattle.list_laws.proofs.Choice.{choose, choose_one}
+use Rattle.cut_enum.specs.Table.{row_at}
+use Rattle.depth_label.specs.Label.{AreLabels, IsCutTable}
+use Rattle.cover_pick.specs.declared.rule.Rule.{Rule}
+use Rattle.cover_pick.specs.declared.rule.Rule.TheVariants.{FewestLeaves, LeastCost}
+use Rattle.cover_pick.specs.declared.scope.Scope.{Scope}
+use Rattle.cover_pick.specs.declared.scope.Scope.TheVariants.{AnyHeight, LeastHeight}
+use Rattle.cover_pick.specs.Flow.{flow_at, fan_out}
+use Rattle.cover_pick.specs.Allowed.{allowed, flows_by}
+use Rattle.cover_pick.specs.Schedule.{IsPlanBy}
+use Rattle.cover_pick.specs.Uses.{uses, cost_of}
+use Rattle.cover_pick.specs.Counts.{AreCounted, count_at, AreLeaves, AreUsed}
+use Rattle.cover_pick.specs.Rounds.{PlanValue, AreRounds, NoneBelow, IsFirst}
+use Rattle.cover_pick.specs.Plan.{IsPlan}
+use Rattle.cover_pick.specs.Planned.{and_depths, depths_of, plan_of, AreFlows, cut_at, IsPlanned}
+use Rattle.cover_pick.specs.Rounded.{plan_by, next_flows, cost_by, cheaper_flows, three_rounds, least_flows, flows_for}
+use Rattle.cover_pick.proofs.FlowLemmas.{flows_same, flows_fit, no_flows_fit}
+use Rattle.cover_pick.proofs.CountLemmas.{counted_all}
+use Rattle.cover_pick.proofs.UsesLemmas.{uses_same, cost_same}
+use Rattle.cover_pick.proofs.PlanLemmas.{plan_all}
+use Rattle.cover_pick.proofs.ByLemmas.{plan_is}
+
+-- the first of the least cost, in a list alone and among more
+module _ (g : Aig) where
+  first_alone : (p : PlanValue) → IsFirst g p (p ∷ [])
+  first_alone p = inl (refl, λ r i. absurd i)
+
+  first_low : (p : PlanValue) (ps : List PlanValue) → IsFirst g p ps → NoneBelow g (cost_of g p.cover) ps
+  first_low p [] f r i = absurd f
+  first_low p (q ∷ qs) (inl f) r (inl e) = let x : cost_of g p.cover ≡ cost_of g q.cover = ap (λ (u : PlanValue). cost_of g u.cover) f.0 in let y : cost_of g r.cover ≡ cost_of g q.cover = ap (λ (u : PlanValue). cost_of g u.cover) e in omega arith
+  first_low p (q ∷ qs) (inl f) r (inr i) = f.1 r i
+  first_low p (q ∷ qs) (inr f) r (inl e) = let x : cost_of g p.cover < cost_of g q.cover = f.0 in let y : cost_of g r.cover ≡ cost_of g q.cover = ap (λ (u : PlanValue). cost_of g u.cover) e in omega arith
+  first_low p (q ∷ qs) (inr f) r (inr i) = first_low p qs f.1 r i
+
+  first_left : (p : PlanValue) (ps qs : List PlanValue) → IsFirst g p ps → NoneBelow g (cost_of g p.cover) qs → IsFirst g p (ps ++ qs)
+  first_left p [] qs f none = absurd f
+  first_left p (q ∷ ps) qs (inl f) none = inl (f.0, λ r i. elim (In-append ps qs r i) [ inl a ↦ f.1 r a | inr b ↦ none r b ])
+  first_left p (q ∷ ps) qs (inr f) none = inr (f.0, first_left p ps qs f.1 none)
+
+  first_right : (p : PlanValue) (ps qs : List PlanValue) → ((r : PlanValue) → In ps r → cost_of g p.cover < cost_of g r.cover) → IsFirst g p qs → IsFirst g p (ps ++ qs)
+  first_right p [] qs less f = f
+  first_right p (q ∷ ps) qs less f = inr (less q (inl refl), first_right p ps qs (λ r i. less r (inr i)) f)
+
+-- what holds of both pairs holds of the one that is chosen
+both_if : (P : List ℕ → List (Option (List ℕ)) → Type 0) (b : Bool) (fs gs : List ℕ) (c d : List (Option (List ℕ))) → P fs c → P gs d → P (cond b fs gs) (cond b c d)
+both_if P true fs gs c d p q = p
+both_if P false fs gs c d p q = q
+
+module _ (g : Aig) (rows : List (List (List ℕ))) (label : ℕ → ℕ) (roots : List ℕ) where
+  first_cheaper : (a b : List ℕ) (xs ys : List PlanValue) → IsFirst g (plan_by g rows label roots a) xs → IsFirst g (plan_by g rows label roots b) ys → IsFirst g (plan_by g rows label roots (cheaper_flows g rows label roots a b)) (xs ++ ys)
+  first_cheaper a b xs ys fa fb =
+      choose (λ fs. IsFirst g (plan_by g rows label roots fs) (xs ++ ys)) (ltb (cost_by g rows label roots b) (cost_by g rows label roots a)) b a
+      (λ t. first_right g (plan_by g rows label roots b) xs ys
+      (λ r i. let l : cost_by g rows label roots b < cost_by g rows label roots a = ltb-true (cost_by g rows label roots b) (cost_by g rows label roots a) t in
+      let m : cost_by g rows label roots a ≤ cost_of g r.cover = first_low g (plan_by g rows label roots a) xs fa r i in
+      let n : cost_by g rows label roots b < cost_of g r.cover = omega arith in n) fb)
+      (λ t. first_left g (plan_by g rows label roots a) xs ys fa
+      (λ r i. let l : cost_by g rows label roots a ≤ cost_by g rows label roots b = ltb-false (cost_by g rows label roots b) (cost_by g rows label roots a) t in
+      let m : cost_by g rows label roots b ≤ cost_of g r.cover = first_low g (plan_by g rows label roots b) ys fb r i in
+      let n : cost_by g rows label roots a ≤ cost_of g r.cover = omega arith in n))
+
+  -- the plans of the first three rounds
+  abbrev three : Scope → List ℕ → List PlanValue
+  three scope flows =
+      plan_by g rows label roots flows ∷ plan_by g rows label roots (next_flows g rows label roots scope flows) ∷ plan_by g rows label roots (next_flows g rows label roots scope (next_flows g rows label roots scope flows)) ∷ []
+
+  first_three : (scope : Scope) (flows : List ℕ) → IsFirst g (plan_by g rows label roots (three_rounds g rows label roots scope flows)) (three scope flows)
+  first_three scope flows =
+      let a : PlanValue = plan_by g rows label roots flows in
+      let b : PlanValue = plan_by g rows label roots (next_flows g rows label roots scope flows) in
+      let c : PlanValue = plan_by g rows label roots (next_flows g rows label roots scope (next_flows g rows label roots scope flows)) in
+      first_cheaper (cheaper_flows g rows label roots flows (next_flows g rows label roots scope flows)) (next_flows g rows label roots scope (next_flows g rows label roots scope flows)) (a ∷ b ∷ []) (c ∷ [])
+      (first_cheaper flows (next_flows g rows label roots scope flows) (a ∷ []) (b ∷ []) (first_alone g a) (first_alone g b)) (first_alone g c)
+
+  module _ (inside : (l : ℕ) → In roots l → l / 2 < node_count g) (labels : AreLabels g (row_at rows) label) (normal : AreNormal (first_and g) g.pairs) (t : IsCutTable g rows) where
+    planned_by : (flows : List ℕ) → AreFlows g flows → IsPlanBy LeastCost g rows label roots (flow_at flows) (plan_by g rows label roots flows).reqs (plan_by g rows label roots flows).cover
+    planned_by flows fit = plan_is LeastCost g rows label roots flows (plan_of LeastCost g rows label roots flows) (plan_all LeastCost g rows label roots flows inside labels fit normal t (plan_of LeastCost g rows label roots flows) (λ n. refl))
+
+    three_are : (scope : Scope) → AreRounds g rows label roots scope (fan_out g) (three scope (flows_by g rows label scope (fan_out g)))
+    three_are scope =
+        let first : List ℕ = flows_by g rows label scope (fan_out g) in
+        let second : List ℕ = next_flows g rows label roots scope first in (
+          planned_by first (flows_fit g (allowed scope label rows) (fan_out g)),
+          (
+            planned_by second (flows_fit g (allowed scope label rows) (uses g (plan_of LeastCost g rows label roots first))),
+            (planned_by (next_flows g rows label roots scope second) (flows_fit g (allowed scope label rows) (uses g (plan_of LeastCost g rows label roots second))), tt),
+          ),
+        )
+
+    least_is : (cover : ℕ → Option (List ℕ)) → IsPlanned LeastCost g rows label roots (least_flows g rows label roots) cover → IsPlan LeastCost g rows label roots (and_depths g (depths_of LeastCost g rows label roots (least_flows g rows label roots))) cover
+    least_is cover p =
+        let any : List ℕ = flows_by g rows label AnyHeight (fan_out g) in
+        let low : List ℕ = flows_by g rows label LeastHeight (fan_out g) in
+        record {
+          any = three AnyHeight any;
+          any_three = refl;
+          any_rounds = three_are AnyHeight;
+          low = three LeastHeight low;
+          low_three = refl;
+          low_rounds = three_are LeastHeight;
+          plan = plan_by g rows label roots (least_flows g rows label roots);
+          first = first_cheaper (three_rounds g rows label roots AnyHeight any) (three_rounds g rows label roots LeastHeight low) (three AnyHeight any) (three LeastHeight low) (first_three AnyHeight any) (first_three LeastHeight low);
+          depths = λ n. refl;
+          cuts = p.chosen;
+        }
+
+  cheaper_fit : (a b : List ℕ) → AreFlows g a → AreFlows g b → AreFlows g (cheaper_flows g rows label roots a b)
+  cheaper_fit a b x y = choose_one (λ fs. AreFlows g fs) (ltb (cost_by g rows label roots b) (cost_by g rows label roots a)) b a y x
+
+  three_fit : (scope : Scope) (counts : ℕ → ℕ) → AreFlows g (three_rounds g rows label roots scope (flows_by g rows label scope counts))
+  three_fit scope counts =
+      let first : List ℕ = flows_by g rows label scope counts in
+      let second : List ℕ = next_flows g rows label roots scope first in
+      cheaper_fit (cheaper_flows g rows label roots first second) (next_flows g rows label roots scope second)
+      (cheaper_fit first second (flows_fit g (allowed scope label rows) counts) (flows_fit g (allowed scope label rows) (uses g (plan_of LeastCost g rows label roots first))))
+      (flows_fit g (allowed scope label rows) (uses g (plan_of LeastCost g rows label roots second)))
+
+  -- where a round uses what the one before it does, the rounds from it on are the same
+  cheaper_self : (flows : List ℕ) → cheaper_flows g rows label roots flows flows ≡ flows
+  cheaper_self flows = choose_one (λ fs. fs ≡ flows) (ltb (cost_by g rows label roots flows) (cost_by g rows label roots flows)) flows flows refl refl
+
+  pub three_stop : (scope : Scope) (flows : List ℕ) → next_flows g rows label roots scope flows ≡ flows → three_rounds g rows label roots scope flows ≡ flows
+  three_stop scope flows e =
+      ap (λ fs. cheaper_flows g rows label roots (cheaper_flows g rows label roots flows fs) (next_flows g rows label roots scope fs)) e
+      ∙ (ap (λ fs. cheaper_flows g rows label roots fs (next_flows g rows label roots scope flows)) (cheaper_self flows)
+      ∙ (ap (λ fs. cheaper_flows g rows label roots flows fs) e ∙ cheaper_self flows))
+
+  cheaper_again : (a b : List ℕ) → cheaper_flows g rows label roots (cheaper_flows g rows label roots a b) b ≡ cheaper_flows g rows label roots a b
+  cheaper_again a b =
+      choose (λ fs. cheaper_flows g rows label roots fs b ≡ fs) (ltb (cost_by g rows label roots b) (cost_by g rows label roots a)) b a (λ _. cheaper_self b) (λ e. ap (λ t. cond t b a) e)
+
+  pub three_stop_late : (scope : Scope) (flows : List ℕ) → next_flows g rows label roots scope (next_flows g rows label roots scope flows) ≡ next_flows g rows label roots scope flows
+      → three_rounds g rows label roots scope flows ≡ cheaper_flows g rows label roots flows (next_flows g rows label roots scope flows)
+  three_stop_late scope flows e =
+      ap (λ fs. cheaper_flows g rows label roots (cheaper_flows g rows label roots flows (next_flows g rows label roots scope flows)) fs) e ∙ cheaper_again flows (next_flows g rows label roots scope flows)
+
+  -- the flows over counted fan-outs, and over the counted uses of a cover
+  pub fan_flows : (scope : Scope) (counts : List ℕ) → AreCounted g (node_count g) counts → flows_by g rows label scope (count_at counts) ≡ flows_by g rows label scope (fan_out g)
+  fan_flows scope counts a = flows_same g (allowed scope label rows) (count_at counts) (fan_out g) (node_count g) (λ n l. counted_all g counts a n l)
+
+  pub used_flows : (scope : Scope) (flows counts : List ℕ) (cover : ℕ → Option (List ℕ)) → IsPlanned LeastCost g rows label roots flows cover → AreUsed g cover (node_count g) counts
+      → flows_by g rows label scope (count_at counts) ≡ next_flows g rows label roots scope flows
+  used_flows scope flows counts cover p u =
+      flows_same g (allowed scope label rows) (count_at counts) (uses g (plan_of LeastCost g rows label roots flows)) (node_count g) (λ n l. u.each n l ∙ uses_same cover (plan_of LeastCost g rows label roots flows) n (node_count g) p.chosen)
+
+  -- the cheaper of two covers is that of the cheaper flows
+  pub cheaper_planned : (a b : List ℕ) (first second best : List (Option (List ℕ))) → IsPlanned LeastCost g rows label roots a (cut_at first) → IsPlanned LeastCost g rows label roots b (cut_at second)
+      → best ≡ cond (ltb (cost_of g (cut_at second)) (cost_of g (cut_at first))) second first → IsPlanned LeastCost g rows label roots (cheaper_flows g rows label roots a b) (cut_at best)
+  cheaper_planned a b first second best p q e =
+      let x : cost_of g (cut_at first) ≡ cost_by g rows label roots a = cost_same (cut_at first) (plan_of LeastCost g rows label roots a) (node_count g) p.chosen in
+      let y : cost_of g (cut_at second) ≡ cost_by g rows label roots b = cost_same (cut_at second) (plan_of LeastCost g rows label roots b) (node_count g) q.chosen in
+      let same : ltb (cost_of g (cut_at second)) (cost_of g (cut_at first)) ≡ ltb (cost_by g rows label roots b) (cost_by g rows label roots a) = ap (λ v. ltb v (cost_of g (cut_at first))) y ∙ ap (λ v. ltb (cost_by g rows label roots b) v) x in
+      let is : best ≡ cond (ltb (cost_by g rows label roots b) (cost_by g rows label roots a)) second first = e ∙ ap (λ t. cond t second first) same in
+      subst (λ c. IsPlanned LeastCost g rows label roots (cheaper_flows g rows label roots a b) (cut_at c)) (sym is)
+      (both_if (λ fs c. IsPlanned LeastCost g rows label roots fs (cut_at c)) (ltb (cost_by g rows label roots b) (cost_by g rows label roots a)) b a second first q p)
+
+-- the leaves of a planned cover
+pub leaves_there : (rule : Rule) (g : Aig) (rows : List (List (List ℕ))) (label : ℕ → ℕ) (roots flows : List ℕ) (cover : ℕ → Option (List ℕ)) → IsCutTable g rows → IsPlanned rule g rows label roots flows cover → AreLeaves g cover
+leaves_there rule g rows label roots flows cover t p =
+    let is = (p.least t.k t.are).is in
+    record {
+      inside = λ n m c e i. let both = is.cuts n c e in let a : n < node_count g = both.0.1 in let b : m < n = (both.1.below m i).0 in omega arith;
+      ascending = λ n c e. (is.cuts n c e).1.ascending;
+    }
+
+-- The plan of a rule is by its flows.
+pub rule_plan : (rule : Rule) (g : Aig) (rows : List (List (List ℕ))) (label : ℕ → ℕ) (roots : List ℕ) → ((l : ℕ) → In roots l → l / 2 < node_count g) → AreLabels g (row_at rows) label → AreNormal (first_and g) g.pairs → IsCutTable g rows → (cover : ℕ → Option (List ℕ))
+    → IsPlanned rule g rows label roots (flows_for rule g rows label roots) cover → IsPlan rule g rows label roots (and_depths g (depths_of rule g rows label roots (flows_for rule g rows label roots))) cover
+rule_plan FewestLeaves g rows label roots inside labels normal t cover p = plan_is FewestLeaves g rows label roots [] cover p
+rule_plan LeastCost g rows label roots inside labels normal t cover p = least_is g rows label roots inside labels normal t cover p
+
+pub rule_fit : (rule : Rule) (g : Aig) (rows : List (List (List ℕ))) (label : ℕ → ℕ) (roots : List ℕ) → AreFlows g (flows_for rule g rows label roots)
+rule_fit FewestLeaves g rows label roots = no_flows_fit g
+rule_fit LeastCost g rows label roots =
+    cheaper_fit g rows label roots (three_rounds g rows label roots AnyHeight (flows_by g rows label AnyHeight (fan_out g))) (three_rounds g rows label roots LeastHeight (flows_by g rows label LeastHeight (fan_out g)))
+    (three_fit g rows label roots AnyHeight (fan_out g)) (three_fit g rows label roots LeastHeight (fan_out g))

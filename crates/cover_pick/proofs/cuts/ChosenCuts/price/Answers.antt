@@ -1,0 +1,18 @@
+use Rattle.std.proofs.Common.{◌≡◌, ◌∙◌, ◌+◌, ◌^◌, ℕ, List, [], length, None, Some, get_or, sym, ap}
+use Rattle.cut_enum.specs.Table.{row_at}
+use Rattle.cover_pick.specs.declared.limits.TheConstants.{TABLE_PRICE}
+use Rattle.cover_pick.specs.Uses.{price}
+use Rattle.cover_pick.proofs.PlaceLemmas.{cut_at_place}
+use Rattle.cover_pick.proofs.cuts.ChosenCuts.price.Goals as goal
+
+pub returns-in-None-clause-value : goal.returns-in-None-clause-value
+returns-in-None-clause-value c =
+    sym (ap price (cut_at_place c.self.inside.table.now c.self.inside.places.items c.deref.result.now c.args.self.now c.args.n c.place_at.result None c.self.view_is c.deref.ensures.value c.place_at.ensures c.in-None.is))
+
+pub returns-in-Some-clause-value : goal.returns-in-Some-clause-value
+returns-in-Some-clause-value c =
+    let rows = c.self.inside.table.now in
+    let cut : List ℕ = get_or (row_at rows c.args.n) c.in-Some.place [] in
+    let bits : c.table_bits.result ≡ 2 ^ length (get_or (row_at rows c.args.n) c.in-Some.place []) = c.table_bits.ensures.value ∙ ap (λ k. 2 ^ k) c.leaf_count.ensures.count in
+    ap (λ b. TABLE_PRICE + b) bits
+    ∙ sym (ap price (cut_at_place rows c.self.inside.places.items c.deref.result.now c.args.self.now c.args.n c.place_at.result (Some c.in-Some.place) c.self.view_is c.deref.ensures.value c.place_at.ensures c.in-Some.is))

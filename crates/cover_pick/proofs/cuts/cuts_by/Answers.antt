@@ -1,0 +1,24 @@
+use Rattle.std.proofs.Common.{◌∙◌}
+use Rattle.aig_core.specs.Roots.{lits_of}
+use Rattle.depth_label.specs.Label.{label_of}
+use Rattle.cover_pick.specs.Places.{cuts_of}
+use Rattle.cover_pick.specs.Planned.{cut_at}
+use Rattle.cover_pick.proofs.PlaceLemmas.{cuts_length}
+use Rattle.cover_pick.proofs.PlanLemmas.{plan_all, cuts_all, places_plan, roots_inside}
+use Rattle.cover_pick.proofs.cuts.cuts_by.Goals as goal
+
+pub returns-clause-len : goal.returns-clause-len
+returns-clause-len c = cuts_length c.args.table.now 0 c.in_ok-places.places.items ∙ c.in_ok-places.ensures.places.count
+
+pub returns-clause-plan : goal.returns-clause-plan
+returns-clause-plan c =
+    let g = c.args.graph.now in
+    let rows = c.args.table.now in
+    let label = label_of c.args.labels.now in
+    let roots = lits_of c.args.roots.now in
+    let flows = c.args.flows.now in
+    let places = c.in_ok-places.places.items in
+    let inside = roots_inside g roots c.requires.roots in
+    plan_all c.args.rule g rows label roots flows inside c.requires.labels.labels c.requires.flows c.in_ok-places.ensures.normal c.requires.table (cut_at (cuts_of rows places))
+    (cuts_all c.args.rule g rows label roots flows inside c.requires.labels.labels c.requires.table (cuts_of rows places) (cuts_length rows 0 places ∙ c.in_ok-places.ensures.places.count)
+    (places_plan c.args.rule g rows label roots flows inside c.requires.labels.labels c.requires.table.k c.requires.table.are places c.in_ok-places.ensures.places))

@@ -1,0 +1,9 @@
+use Rattle.std.proofs.Common.{◌≡◌}
+use Rattle.depth_label.specs.Label.{label_of}
+use Rattle.cover_pick.specs.Flow.{flows_below}
+use Rattle.cover_pick.specs.Allowed.{allowed}
+use Rattle.cover_pick.specs.Counts.{count_at}
+use Rattle.cover_pick.proofs.flow.flows_by.Given as goal
+
+abbrev pub invariant-loop-n : goal.invariant-loop-n
+invariant-loop-n l = l.flows.items ≡ flows_below l.graph (allowed l.scope (label_of l.labels) l.table) (count_at l.counts) l.n

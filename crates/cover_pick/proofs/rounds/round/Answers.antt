@@ -1,0 +1,13 @@
+use Rattle.std.proofs.Common.{◌∙◌, List, ℕ, sym, subst}
+use Rattle.aig_core.specs.Roots.{lits_of}
+use Rattle.depth_label.specs.Label.{label_of}
+use Rattle.cover_pick.specs.declared.rule.Rule.TheVariants.{LeastCost}
+use Rattle.cover_pick.specs.Planned.{cut_at, AreFlows, IsPlanned}
+use Rattle.cover_pick.proofs.rounds.round.Goals as goal
+
+pub cuts_by-requires-clause-flows : goal.cuts_by-requires-clause-flows
+cuts_by-requires-clause-flows c = subst (λ (s : List ℕ). AreFlows c.args.graph.now s) (sym c.deref.ensures.value) c.in_ok-flows.ensures.fit
+
+pub returns-clause-plan : goal.returns-clause-plan
+returns-clause-plan c =
+    subst (λ (s : List ℕ). IsPlanned LeastCost c.args.graph.now c.args.table.now (label_of c.args.labels.now) (lits_of c.args.roots.now) s (cut_at c.in_ok-cuts.cuts)) (c.deref.ensures.value ∙ c.in_ok-flows.ensures.value) c.in_ok-cuts.ensures.plan

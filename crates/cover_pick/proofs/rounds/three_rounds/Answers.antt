@@ -1,0 +1,58 @@
+use Rattle.std.proofs.Common.{◌∙◌, ℕ, List, sym}
+use Rattle.aig_core.specs.Roots.{lits_of}
+use Rattle.depth_label.specs.Label.{label_of}
+use Rattle.cover_pick.specs.declared.rule.Rule.TheVariants.{LeastCost}
+use Rattle.cover_pick.specs.Flow.{fan_out}
+use Rattle.cover_pick.specs.Allowed.{flows_by}
+use Rattle.cover_pick.specs.Counts.{count_at}
+use Rattle.cover_pick.specs.Rounded.{next_flows, cheaper_flows}
+use Rattle.cover_pick.specs.Planned.{cut_at}
+use Rattle.cover_pick.proofs.RoundLemmas.{leaves_there}
+use Rattle.cover_pick.proofs.ThreeLemmas.{first_plan, later_plan, stop_first, stop_second, best_plan}
+use Rattle.cover_pick.proofs.rounds.three_rounds.Goals as goal
+
+pub uses-requires : goal.uses-requires
+uses-requires c =
+    let label : ℕ → ℕ = label_of c.args.labels.now in
+    leaves_there LeastCost c.args.graph.now c.args.table.now label (lits_of c.args.roots.now) (flows_by c.args.graph.now c.args.table.now label c.args.scope (count_at c.args.fan_outs.now)) (cut_at c.in_ok-first.first) c.requires.table c.in_ok-first.ensures.plan
+
+pub uses-requires-2 : goal.uses-requires-2
+uses-requires-2 c =
+    let label : ℕ → ℕ = label_of c.args.labels.now in
+    leaves_there LeastCost c.args.graph.now c.args.table.now label (lits_of c.args.roots.now) (flows_by c.args.graph.now c.args.table.now label c.args.scope (count_at c.deref-2.result.now)) (cut_at c.in_ok-second.second) c.requires.table c.in_ok-second.ensures.plan
+
+pub returns-then-are_same-clause-plan : goal.returns-then-are_same-clause-plan
+returns-then-are_same-clause-plan c =
+    let g = c.args.graph.now in
+    let rows = c.args.table.now in
+    let label : ℕ → ℕ = label_of c.args.labels.now in
+    let roots : List ℕ = lits_of c.args.roots.now in
+    let first = first_plan g rows label roots c.args.scope c.args.fan_outs.now c.in_ok-first.first c.requires.fan_outs c.in_ok-first.ensures.plan in
+    stop_first g rows label roots c.args.scope c.args.fan_outs.now c.in_ok-used.used.items c.in_ok-first.first c.requires.fan_outs first c.in_ok-used.ensures (sym c.deref.ensures.value ∙ c.are_same.ensures c.if-are_same.true)
+
+pub returns-then-are_same-2-clause-plan : goal.returns-then-are_same-2-clause-plan
+returns-then-are_same-2-clause-plan c =
+    let g = c.args.graph.now in
+    let rows = c.args.table.now in
+    let label : ℕ → ℕ = label_of c.args.labels.now in
+    let roots : List ℕ = lits_of c.args.roots.now in
+    let start : List ℕ = flows_by g rows label c.args.scope (fan_out g) in
+    let first = first_plan g rows label roots c.args.scope c.args.fan_outs.now c.in_ok-first.first c.requires.fan_outs c.in_ok-first.ensures.plan in
+    let second = later_plan g rows label roots c.args.scope start c.in_ok-used.used.items c.deref-2.result.now c.in_ok-first.first c.in_ok-second.second first c.in_ok-used.ensures c.deref-2.ensures.value c.in_ok-second.ensures.plan in
+    let best = best_plan g rows label roots c.args.scope start (next_flows g rows label roots c.args.scope start) c.in_ok-first.first c.in_ok-second.second c.cheaper-best.result first second c.cheaper-best.ensures.value in
+    stop_second g rows label roots c.args.scope c.in_ok-used.used.items c.in_ok-used_next.used_next.items c.in_ok-first.first c.in_ok-second.second c.cheaper-best.result first c.in_ok-used.ensures second c.in_ok-used_next.ensures
+    (sym c.deref-3.ensures.value ∙ (c.are_same-2.ensures c.if-are_same-2.true ∙ c.deref-4.ensures.value)) best
+
+pub returns-clause-plan : goal.returns-clause-plan
+returns-clause-plan c =
+    let g = c.args.graph.now in
+    let rows = c.args.table.now in
+    let label : ℕ → ℕ = label_of c.args.labels.now in
+    let roots : List ℕ = lits_of c.args.roots.now in
+    let start : List ℕ = flows_by g rows label c.args.scope (fan_out g) in
+    let after : List ℕ = next_flows g rows label roots c.args.scope start in
+    let first = first_plan g rows label roots c.args.scope c.args.fan_outs.now c.in_ok-first.first c.requires.fan_outs c.in_ok-first.ensures.plan in
+    let second = later_plan g rows label roots c.args.scope start c.in_ok-used.used.items c.deref-2.result.now c.in_ok-first.first c.in_ok-second.second first c.in_ok-used.ensures c.deref-2.ensures.value c.in_ok-second.ensures.plan in
+    let third = later_plan g rows label roots c.args.scope after c.in_ok-used_next.used_next.items c.deref-5.result.now c.in_ok-second.second c.in_ok-third.third second c.in_ok-used_next.ensures c.deref-5.ensures.value c.in_ok-third.ensures.plan in
+    let best = best_plan g rows label roots c.args.scope start after c.in_ok-first.first c.in_ok-second.second c.cheaper-best.result first second c.cheaper-best.ensures.value in
+    best_plan g rows label roots c.args.scope (cheaper_flows g rows label roots start after) (next_flows g rows label roots c.args.scope after) c.cheaper-best.result c.in_ok-third.third c.cheaper.result best third c.cheaper.ensures.value

@@ -1,0 +1,10 @@
+use Rattle.std.proofs.Common.{◌≡◌, ◌+◌, arith}
+use Rattle.cover_pick.specs.Planned.{cut_at}
+use Rattle.cover_pick.specs.Uses.{price, cost_below}
+use Rattle.cover_pick.proofs.UsesLemmas.{cost_next}
+use Rattle.cover_pick.proofs.uses.cost_of.Goals as goal
+
+pub loop-n-preserved : goal.loop-n-preserved
+loop-n-preserved c =
+    let next : cost_below (cut_at c.args.cuts.now) (c.loop-n.n + 1) ≡ cost_below (cut_at c.args.cuts.now) c.loop-n.n + price (cut_at c.args.cuts.now c.loop-n.n) = cost_next (cut_at c.args.cuts.now) c.loop-n.n in
+    record { cost = omega (arith, c.price-cost.ensures.value); small = omega (arith, c.price-cost.ensures.small) }

@@ -1,0 +1,6 @@
+use Rattle.cover_pick.specs.Planned.{cut_at}
+use Rattle.cover_pick.specs.Counts.{AreUsed}
+use Rattle.cover_pick.proofs.uses.count_cuts.Given as goal
+
+abbrev pub invariant-loop-n : goal.invariant-loop-n
+invariant-loop-n l = AreUsed l.graph (cut_at l.cuts) l.n l.counts
