@@ -57,7 +57,7 @@ impl<'a> ChosenCuts<'a> {
         }
     }
 
-    /// What the table of a node's chosen cut costs: nothing of any other node.
+    /// The cost of the LUT of a node's chosen cut, 256 plus its bits. 0 for a node without one.
     pub fn price(&self, n: u32) -> u64
         ensures value { result ≡ the_price (cut_at self.now n) }
         ensures small { result ≤ 2 ^ 9 }
@@ -68,7 +68,7 @@ impl<'a> ChosenCuts<'a> {
         }
     }
 
-    /// The leaves of a node's chosen cut, without a copy; none of any other node.
+    /// The leaves of a node's chosen cut, without a copy. Empty for a node without one.
     pub fn leaves(&self, n: u32) -> &[u32]
         ensures { result.now ≡ or_empty (cut_at self.now n) }
     {
@@ -79,7 +79,7 @@ impl<'a> ChosenCuts<'a> {
     }
 }
 
-// The cuts that are chosen by some flows for the needed AND nodes: a cover of the graph, of the least depth.
+// The cuts that are chosen by some flows for the needed AND nodes. They are a cover of the graph with the least depth.
 pub fn cuts_by<'a>(
     alloc: Global,
     rule: Rule,

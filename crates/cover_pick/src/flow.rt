@@ -64,7 +64,7 @@ fn count_of(counts: &[u32], n: u32) -> u32
     counts.get(n as usize).copied().unwrap_or(0)
 }
 
-// What a cut's table and all below it cost.
+// What the LUT of a cut and all LUTs below it cost.
 fn cut_flow(table: &CutTable, flows: &[u64], n: u32, i: u32) -> u64
     requires inside { i < length (row_at table.now n) }
     requires capped { AreCapped flows.now }

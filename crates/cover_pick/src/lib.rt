@@ -23,27 +23,28 @@
 //! # The steps, one file each
 //!
 //! 1. `target`: the target of the roots.
-//! 2. `rule`, `choice`: the rules by which a cut is chosen for a required depth, and the choice. Each rule is one definition:
-//!    that of the fewest leaves `IsChosen` of `specs/Choice.antt`, that of the least cost `IsCheapest` of `specs/Sharing.antt`
-//!    over the flows of `specs/Flow.antt`. All that the theorem asks of a rule is `Chooses` of `specs/Planned.antt`.
-//! 3. `scope`, `flow`, `cost`: the flows over some counts, in one walk up, and the cheapest cut of a node.
-//! 4. `required`: the required depths and the choices, each once, in one walk from the last AND node down.
+//! 2. `rule`, `choice`: the rules, and the choice of a cut for a required depth. Each rule is one definition: `IsChosen` of
+//!    `specs/Choice.antt` for the fewest leaves, and `IsCheapest` of `specs/Sharing.antt` for the least cost, over the flows
+//!    of `specs/Flow.antt`. `Chooses` of `specs/Planned.antt` is all that the theorem needs of a rule.
+//! 3. `scope`, `flow`, `cost`: the flows over some counts, in one pass up, and the cheapest cut of a node.
+//! 4. `required`: the required depths and the choices, each once, in one pass down from the last AND node.
 //! 5. `cuts`: the chosen cuts, each by its place in the table of cuts.
-//! 6. `uses`, `rounds`: how often a cover uses each node and what it costs, and the covers of the least cost: each round's flows
-//!    are over the uses in the cover of the round before it.
-//! 7. `needed`, `tables`: the needed literals and their tables, in ascending order.
-//! 8. `cone`: the AND nodes of a table's cone, each visited once.
+//! 6. `uses`, `rounds`: how often a cover uses each node, what the cover costs, and the cover of the least cost. The flows of a
+//!    round are over the uses in the cover of the round before it.
+//! 7. `needed`, `tables`: the needed literals and their LUTs, in ascending order.
+//! 8. `cone`: the AND nodes in the cone of a LUT, each visited once.
 //!
 //! # What is proved
 //!
-//! `pick_by` says what its tables are in three ways: they are the rule's (`specs/Template.antt`, `IsTemplate`), they map the
-//! graph (`specs/Mapping.antt`, `IsMapping`), and no cover of the graph is less deep (`IsLeast` there). The rule is said by
-//! relations alone, apart from the walk that finds the answer: required depths and chosen cuts by `IsPlan` (`specs/Plan.antt`),
-//! which is `IsPlanBy` some flows (`specs/Schedule.antt`) and for the least cost says by which (`specs/Rounds.antt`), the tables
-//! by `AreTables`, the work by the cones as sets of nodes (`specs/Work.antt`). The least depth holds of each plan by flows. A graph,
-//! its cuts, labels and roots have one plan, one template and one work, so too much work is always answered.
+//! The contract of `pick_by` says three things about its LUTs: the rule chooses them (`specs/Template.antt`, `IsTemplate`),
+//! they map the graph (`specs/Mapping.antt`, `IsMapping`), and no cover of the graph is less deep (`IsLeast`, same file). The
+//! rule is defined by relations alone, independently of the pass that finds the answer: required depths and chosen cuts by
+//! `IsPlan` (`specs/Plan.antt`), the LUTs by `AreTables`, and the work by the cones as sets of nodes (`specs/Work.antt`).
+//! `IsPlan` is `IsPlanBy` some flows (`specs/Schedule.antt`), and `specs/Rounds.antt` says which flows these are for the least
+//! cost. The least depth holds of every plan by flows. A graph with its cuts, labels and roots has exactly one plan, one
+//! template and one work. So too much work is always reported.
 //!
-//! `proofs/Examples.antt` has the plan, the table and the work of a small graph, and `proofs/RoundExamples.antt` two rounds.
+//! `proofs/Examples.antt` has the plan, the LUT and the work of a small graph, and `proofs/RoundExamples.antt` has two rounds.
 #![tactic(auto)]
 
 mod choice;

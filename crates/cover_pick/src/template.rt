@@ -111,16 +111,16 @@ fn template_of(
 /// height of at most the required depth, so a node off the critical path takes a cheaper LUT (Cong and Ding 1994, with the
 /// area recovery by required depths of later mappers). Of these cuts
 ///
-/// - `FewestLeaves` takes one of the fewest leaves, then of the least height, then the lexicographically least;
-/// - `LeastCost` takes one of the least cost, then of the fewest leaves, then the lexicographically least. A cut of m leaves
-///   costs 2^m, and the flows of those of its leaves that no root and no chosen cut of a node above needs. The *flow* of an
-///   AND node is the least over its cuts of 256 + 2^m and the flows of the leaves, 2^40 at most, divided by a count of its
-///   readers, by 1 if none is counted, and rounded down (the area flow of Manohararajah, Brown and Vranesic, 2006).
+/// - `FewestLeaves` takes one with the fewest leaves, then the least height, then the lexicographically least;
+/// - `LeastCost` takes one with the least cost, then the fewest leaves, then the lexicographically least. A cut of m leaves
+///   costs 2^m plus the flows of its leaves, without those that a root or the chosen cut of a node above needs. The *flow* of
+///   an AND node is the least over its cuts of 256 + 2^m plus the flows of the leaves, at most 2^40, divided by a count of its
+///   readers (by 1 if it is 0) and rounded down (the area flow of Manohararajah, Brown and Vranesic, 2006).
 ///
-/// `LeastCost` does this in six rounds. Three take flows over all cuts, then three over the cuts of the least height alone,
-/// whose height is at most their node's label. The first of each three counts the AND nodes that read a node, and each later
-/// one the chosen cuts of the cover before it that have the node as a leaf. Of the six covers the first one of the least cost
-/// is taken: the sum over the chosen cuts of 256 + 2^m.
+/// `LeastCost` works in six rounds, each of which gives a cover. The first three take flows over all cuts, the other three
+/// only over the cuts of the least height, at most their node's label. The first round of each three counts the fan-outs of a
+/// node, and each later one the chosen cuts in the cover before it that have the node as a leaf. A cover costs 256 + 2^m for
+/// each chosen cut of m leaves, and the first of the six covers with the least cost is taken.
 ///
 /// Each root and each leaf of a chosen cut has a LUT, except positive regular sources, which are wires.
 ///
@@ -131,10 +131,10 @@ fn template_of(
 ///
 /// # Complexity
 ///
-/// By `FewestLeaves` the minimal cuts of a needed node are read once, up to the first that has more leaves than the chosen
-/// one; by `LeastCost` in each of at most six rounds those of each AND node once, and those of a needed node once more. A round
-/// with the counts of the one before it is not made. Each AND node of a table's cone is read once for the table: so the time is
-/// bounded by the table of cuts and the work, of which no more than the limit and one cone is counted.
+/// `FewestLeaves` reads the minimal cuts of a needed node once, up to the first with more leaves than the chosen one. In each
+/// of at most six rounds `LeastCost` reads those of each AND node once, and those of a needed node once more. A round with the
+/// same counts as the one before it is left out. Each AND node in the cone of a LUT is read once for that LUT. So the table of
+/// cuts and the work bound the time; at most the limit and one more cone of the work is counted.
 pub fn pick_by(
     alloc: Global,
     rule: Rule,

@@ -42,7 +42,7 @@ pub fn uses(alloc: Global, graph: &Graph, cuts: &ChosenCuts) -> Result<Vec<u32>,
     Ok(counts)
 }
 
-// What the tables of the chosen cuts cost.
+// What the LUTs of the chosen cuts cost together.
 pub fn cost_of(graph: &Graph, cuts: &ChosenCuts) -> u64
     ensures { result ≡ the_cost_of graph.now (cut_at cuts.now) }
 {
