@@ -32,7 +32,7 @@ from tlutflow.mappings import Sizes, sizes_by_abc, sizes_by_tlut
 from tlutflow.netlist import read_library
 from tlutflow.parameters import read_parameters
 from tlutflow.plots import RATES, plot, ticks_of
-from tlutflow.trials import AS_READ, Task, prepare
+from tlutflow.trials import Task, prepare
 from tlutflow.text import read_text, write_text
 
 PAGE = f"{TOP}/docs/case-studies.md"
@@ -263,8 +263,9 @@ def preparation_table(found: list[Study], room: str, jobs: int) -> str:
     for study in found:
         for k in KS:
             tried = prepare(Task(study.netlist, study.parameters, k, jobs=jobs, beside=True), f"{room}/{study.name}_{k}")
-            compact = [it for it in tried.results if it.rule == "compact"]
-            first, best, abc = next(it for it in compact if it.name == AS_READ), compact[0], tried.best_by_abc()
+            # In the order of the list, so that of several that are as good the same one is named each time.
+            compact = [it for trial in tried.trials for it in trial.results if it.rule == "compact"]
+            first, best, abc = compact[0], min(compact, key=lambda it: it.key("depth")), tried.best_by_abc()
             assert abc
             row = [study.name, str(k), f"{first.tables:,}", str(first.depth), f"{best.tables:,}", str(best.depth), best.name]
             rows.append([*row, f"{abc[2].tables:,}", str(abc[2].depth), f"{abc[0]}, `{abc[1]}`"])

@@ -70,7 +70,12 @@
     world.setAttribute("class", view.scale < 0.45 ? "far" : "");
   }
   function fit() {
-    const [left, top, right, bottom] = bounds, box = stage.getBoundingClientRect();
+    const [left, top, right, bottom] = bounds;
+    // A picture that is much wider than high, such as a path, needs no high stage.
+    stage.style.height = "";
+    const most = stage.offsetHeight, needed = (bottom - top + 40) * Math.min(stage.clientWidth / (right - left + 40), 1.6);
+    stage.style.height = `${Math.max(180, Math.min(most, needed))}px`;
+    const box = stage.getBoundingClientRect();
     const scale = Math.min(box.width / (right - left + 40), box.height / (bottom - top + 40), 1.6);
     view = { scale, x: (box.width - (left + right) * scale) / 2, y: (box.height - (top + bottom) * scale) / 2 };
     place();
