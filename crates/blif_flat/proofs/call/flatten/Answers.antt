@@ -1,8 +1,18 @@
+use Rattle.std.proofs.Common.{List, sym, ap, ◌∙◌, slice_get, option_map}
+use Rattle.std.proofs.lemmas.Option.{same_Some, slice_get-map}
 use Rattle.tl_fault.proofs.PassedOn.{passed_on}
 use Rattle.blif_flat.proofs.Faults.FaultOnceLemmas.{loop_refused, all_sound, none_stands}
 use Rattle.blif_flat.proofs.Fields.AssembleLemmas.{flat_bounds}
 use Rattle.netlist.proofs.EvaluateLemmas.{flat_evaluates, flat_cycles}
+use Rattle.netlist.specs.LibraryValue.{LibraryValue}
+use Rattle.blif_flat.specs.Bodies.NameSets.{ports_value}
+use Rattle.blif_flat.specs.declared.model.ports.Ports.{Ports}
 use Rattle.blif_flat.proofs.call.flatten.Goals as goal
+
+pub all_inputs-requires : goal.all_inputs-requires
+all_inputs-requires c =
+    same_Some _ _ (sym c.main_ports.ensures ∙ ap (λ (ps : List Ports). slice_get ps 0) (c.deref-3.ensures.value ∙ c.in_ok-ports.ensures) ∙ slice_get-map ports_value c.as_slice-models.result.now 0
+    ∙ ap (option_map ports_value) (ap (λ ms. slice_get ms 0) (c.as_slice-models.ensures.value ∙ ap (λ (l : LibraryValue). l.models) c.library.view_is) ∙ c.main_model-main.ensures))
 
 pub assemble-requires-clause-short : goal.assemble-requires-clause-short
 assemble-requires-clause-short c = c.requires.short c.main_model-main.result.now c.main_model-main.ensures
