@@ -75,28 +75,6 @@ fn numbered(alloc: Global, number: u32, port: &HandedIn) -> Result<MemPort, Allo
     Ok(made)
 }
 
-// Adds a port behind others.
-fn add_port(
-    alloc: Global,
-    ports: &mut Vec<Box<dyn ConfigPort>>,
-    number: u32,
-    port: &HandedIn,
-) -> Result<(), AllocError> {
-    let made = numbered(alloc, number, port)?;
-    let boxed = Box::new(alloc, made)?;
-    ports.push(boxed)?;
-    Ok(())
-}
-
-// The ports that a job is handed.
-fn ports_of(alloc: Global, job: &Job) -> Result<Vec<Box<dyn ConfigPort>>, AllocError> {
-    let mut ports = Vec::new(alloc);
-    for (number, port) in (0..u32::MAX).zip(&job.ports) {
-        add_port(alloc, &mut ports, number, port)?;
-    }
-    Ok(ports)
-}
-
 // Tells a port.
 fn put_port<P: ConfigPort>(text: &mut String, port: &P) -> Result<(), AllocError> {
     if let Some(first) = port.logged(0) {
@@ -150,13 +128,12 @@ pub fn untouched(alloc: Global, ports: usize) -> Result<String, AllocError> {
     Ok(text)
 }
 
-// What a job has outside.
+// The files and the outputs of a job.
 #[derive(Drop)]
 struct World {
     shelf: MemShelf,
     out: MemSink,
     err: MemSink,
-    ports: Vec<Box<dyn ConfigPort>>,
 }
 
 // An output with room for more than what it must have.
@@ -168,18 +145,17 @@ fn world_of(alloc: Global, files: &[File], job: &Job, fails: &Fails) -> Result<W
     let shelf = shelf_of(alloc, files, job, fails.shelf)?;
     let out = sink_of(alloc, job.wanted.out.as_slice(), fails.out)?;
     let err = sink_of(alloc, job.wanted.err.as_slice(), fails.err)?;
-    let ports = ports_of(alloc, job)?;
-    Ok(World {
-        shelf,
-        out,
-        err,
-        ports,
-    })
+    Ok(World { shelf, out, err })
 }
 
 // What is left outside behind a job.
-fn left(alloc: Global, files: &[File], status: u8, world: World) -> Result<Ran, AllocError> {
-    let ports = told(alloc, &world.ports)?;
+fn left(
+    alloc: Global,
+    files: &[File],
+    status: u8,
+    world: World,
+    ports: String,
+) -> Result<Ran, AllocError> {
     let files = files_of(alloc, &world.shelf, files)?;
     Ok(Ran {
         status,
@@ -199,6 +175,11 @@ pub fn run<P: Program>(
     words: &[String],
     fails: &Fails,
 ) -> Result<Ran, Stop> {
+    let mut ports: Vec<Box<dyn ConfigPort>> = Vec::new(alloc);
+    for (number, port) in (0..u32::MAX).zip(&job.ports) {
+        let made = numbered(alloc, number, port)?;
+        ports.push(Box::new(alloc, made)?)?;
+    }
     let mut world = world_of(alloc, files, job, fails)?;
     let status = program.run(
         alloc,
@@ -206,7 +187,8 @@ pub fn run<P: Program>(
         &mut world.shelf,
         &mut world.out,
         &mut world.err,
-        &mut world.ports,
+        &mut ports,
     );
-    Ok(left(alloc, files, status, world)?)
+    let ports = told(alloc, &ports)?;
+    Ok(left(alloc, files, status, world, ports)?)
 }
