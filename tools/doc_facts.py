@@ -436,7 +436,7 @@ PLANTS = [
     ("docs/testing.md", "worked rows | ", "worked rows | 1", "a stale count of rows"),
     ("docs/testing.md", "wrong bodies in the gate | ", "wrong bodies in the gate | 2", "a stale count of wrong bodies"),
     ("docs/testing.md", "| `cut_enum` | 1,", "| `cut_enum` | 2,", "a stale count of lines"),
-    ("docs/DECISIONS.md", "`add_union`", "`add_unions`", "a function of seven arguments that isn't named"),
+    ("docs/DECISIONS.md", "`add_marked`", "`add_marks`", "a function of seven arguments that isn't named"),
 ]
 
 
