@@ -8,8 +8,8 @@
 It checks that
 - each relative link leads to a file, and to a heading if it names one;
 - each name in backticks that looks like a path is a path of the tree, and each that looks like an item of the code is in the code;
-- each clause that docs/theorems.md gives for a call is a clause of the crates that its section names;
-- each public call of the libraries has an entry in docs/theorems.md;
+- each clause that docs/theorems.md or docs/calls.md gives for a call is a clause of the crates that its section names;
+- each public call of the libraries has an entry in one of these two, by its type and name;
 - each function with more than six arguments is named in docs/DECISIONS.md;
 - the commands are the same in the code, in README, in docs/formats.md and in tools/help.txt;
 - the counts of crates, lines, commands, wrong bodies, rows and tests are those of the tree.
@@ -30,7 +30,9 @@ PAGES = ["README.md", "CONTRIBUTING.md", *sorted(f"docs/{name}" for name in os.l
 TESTS = {"test_player", "test_rows", "test_texts", "bench_mapping", "tlut", "tlut_compact", "tlut_examples", "tlut_main"}
 NUMBERS = "one two three four five six seven eight nine ten eleven twelve thirteen fourteen fifteen sixteen".split()
 # Pages whose names in backticks are those of the code. On the others they are mostly words of formats and of other tools.
-CODE_PAGES = {"docs/theorems.md", "docs/definitions.md", "docs/architecture.md", "docs/DECISIONS.md", "docs/testing.md", "docs/rows.md"}
+CODE_PAGES = {"docs/theorems.md", "docs/calls.md", "docs/definitions.md", "docs/architecture.md", "docs/DECISIONS.md", "docs/testing.md", "docs/rows.md"}
+# Pages that say what each call promises.
+PROMISES = ("docs/theorems.md", "docs/calls.md")
 COMMANDS = {"run", "spec", "map", "bits", "gen", "repack", "prove", "audit", "graph", "pace"}
 
 
@@ -202,6 +204,17 @@ def anchors_of(text):
     return names
 
 
+def entries_of(text):
+    """The calls that a page names in backticks. In a cell of a table a name that follows `Type::name` may be of the same type."""
+    for cell in re.split(r"[|\n]", text):
+        owner = None
+        for name in re.findall(r"`(\w+(?:::\w+)?)`", cell):
+            owner = name.split("::")[0] if "::" in name else owner
+            yield name
+            if owner and "::" not in name:
+                yield f"{owner}::{name}"
+
+
 class Checks:
     """The facts that were looked at, and those that are wrong."""
 
@@ -265,9 +278,9 @@ class Checks:
             return False
         return "::" in name or "_" in name or re.search(r"[a-z][A-Z]", name) is not None
 
-    def clauses(self):
-        """Each clause that a row of theorems.md gives: of a call that the row names, or else of the section's crates."""
-        page, section = "docs/theorems.md", []
+    def clauses(self, page):
+        """Each clause that a row of a page gives: of a call that the row names, or else of the section's crates."""
+        section = []
         for number, line in self.prose(page):
             if line.startswith("#"):
                 section = [name for name in re.findall(r"`(\w+)", line) if name in self.tree.crates]
@@ -290,11 +303,9 @@ class Checks:
         return set().union(*(it.keys() for it in contracts), *(names for it in contracts for names in it.values()))
 
     def calls(self):
-        named = set()
-        for name in re.findall(r"`([^`\n]+)`", self.texts["docs/theorems.md"]):
-            named |= {name, name.split("::")[-1]}
+        named = {name for page in PROMISES for name in entries_of(self.texts[page])}
         for crate, name in self.tree.public_calls():
-            self.ask(name.split("::")[-1] in named, "docs/theorems.md", 1, f"no entry for `{name}` of {crate}")
+            self.ask(name in named, "docs/calls.md", 1, f"no entry for `{name}` of {crate}")
 
     def arguments(self):
         page = "docs/DECISIONS.md"
@@ -347,7 +358,8 @@ class Checks:
         for page in self.texts:
             self.links(page)
             self.names(page)
-        self.clauses()
+        for page in PROMISES:
+            self.clauses(page)
         self.calls()
         self.arguments()
         self.commands()
@@ -429,8 +441,10 @@ PLANTS = [
     ("docs/architecture.md", "`cmd_base/specs/Walk.antt`", "`cmd_base/specs/Walks.antt`", "a file that isn't there"),
     ("docs/architecture.md", "`details_words`", "`detail_words`", "a name that isn't in the code"),
     ("docs/architecture.md", "are in six crates", "are in five crates", "a stale count of crates"),
-    ("docs/theorems.md", "`contains`: whatever blocks", "`holds_one`: whatever blocks", "a clause that isn't there"),
-    ("docs/theorems.md", "`CutTable::count`", "`CutTable::size`", "a call that isn't there"),
+    ("docs/theorems.md", "`HasSourceTables`", "`HasSourceLuts`", "a definition that isn't in the code"),
+    ("docs/calls.md", "`contains`: whatever blocks", "`holds_one`: whatever blocks", "a clause that isn't there"),
+    ("docs/calls.md", "`CutTable::count`", "`CutTable::size`", "a call that isn't there"),
+    ("docs/calls.md", "`DiskShelf::make`, `FilePort::make`", "`DiskShelf::make`", "a call without an entry, of a name that others have"),
     ("docs/definitions.md", "the ten commands", "the eight commands", "a stale count of commands"),
     ("docs/testing.md", "| test functions | ", "| test functions | 9", "a stale count of tests"),
     ("docs/testing.md", "worked rows | ", "worked rows | 1", "a stale count of rows"),

@@ -1,5 +1,5 @@
 #!/usr/bin/env python3
-"""Measures what the configuration ports of `flow hdl` cost on a device, and prints the table of docs/verilog.md.
+"""Measures what the configuration ports of `flow hdl` cost on a device, and prints the table of docs/device.md.
 
     python3 tools/port_costs.py [DESIGN ..] [--k K ..] [--port PORT ..]
 
