@@ -77,7 +77,7 @@ $send
         end
     endtask
 
-    // The writes of a line are read, so many of them, and shown as the circuit has them.
+    // As many writes as the line has are read, and are shown as the circuit has them.
     task writes;
         begin
             while (count > 0) begin

@@ -35,7 +35,7 @@ AS_READ = "as read"
 # Runs a command with a limit in seconds, and how it ends where the limit is reached: by SIGXCPU or by SIGKILL.
 LIMITED = ["sh", "-c", 'ulimit -t "$1" || exit 1; shift; exec "$@"', "sh"]
 STOPPED = (-24, -9)
-# Rounds of a preparation that goes on as long as the depth falls, and changes that are drawn for the median.
+# Rounds of a preparation that continues as long as the depth falls, and changes that are drawn for the median.
 MOST_ROUNDS, CHANGES = 12, 500
 
 
@@ -130,7 +130,7 @@ Report = Callable[[int, int, Trial, Optional[Result]], None]
 
 
 def silent(done: int, many: int, trial: Trial, best: Optional[Result]) -> None:
-    """Tells nothing of how far it is."""
+    """Reports no progress."""
     del done, many, trial, best
 
 

@@ -1,7 +1,7 @@
 """A run as a waveform: a value change dump (VCD), which GTKWave and simulators open.
 
 Each event but `image` has a slot of ten units. In that of a cycle the inputs, the parameters, the states before the clock's edge and the
-outputs are shown together; the edge is at the end of the slot. In the others the outputs aren't known, since the run doesn't tell them.
+outputs are shown together; the edge is at the end of the slot. In the others the outputs aren't known, since the run doesn't print them.
 """
 
 from __future__ import annotations

@@ -22,12 +22,12 @@ from shared import TOP
 PROGRAMS = ["tlut", "tlut_compact"]
 # What a check reads of a crate, and what its program is run on.
 PARTS = ["src", "specs", "proofs", "stdin", "stdout", "args", "status", "data"]
-# After so many seconds without a line one says that the work goes on.
+# After this many seconds without a line, one says that the work continues.
 SILENCE = 25
 
 
 class Voice:
-    """Tells on standard error how far the work is: each crate that is proved, and that it goes on where that takes long."""
+    """Reports progress on stderr: each crate that is proved, and that the work continues if that takes long."""
 
     def __init__(self, count, silence=SILENCE):
         self.count, self.silence, self.done = count, silence, 0
@@ -55,7 +55,7 @@ class Voice:
         self.say(f"{name} ({self.done} of {self.count})")
 
     def beat(self):
-        """Says that the work goes on, whenever there was silence, until it has ended."""
+        """Says that the work continues, whenever there was silence, until it has ended."""
         while not self.ended.wait(self.silence / 10):
             if time.monotonic() - self.told >= self.silence:
                 minutes, seconds = divmod(int(time.monotonic() - self.begun), 60)
@@ -70,7 +70,7 @@ def read_lines():
 
 
 def below(uses, names):
-    """Returns the crates that some crates stand on, with these."""
+    """Returns these crates and those that they depend on."""
     found, left = set(), list(names)
     while left:
         it = left.pop()
@@ -98,7 +98,7 @@ def copy_crates(room):
 
 
 def prove(room, voice, log):
-    """Runs the gate in the room, tells of each crate that is proved, and returns whether all was."""
+    """Runs the gate in the room, reports each crate that is proved, and returns whether all were."""
     with subprocess.Popen(
         ["rt", "ci"], cwd=room, stdin=subprocess.DEVNULL, stdout=subprocess.PIPE, stderr=subprocess.STDOUT, text=True
     ) as gate:
@@ -111,7 +111,7 @@ def prove(room, voice, log):
 
 
 def place(room, name, begun):
-    """Puts a program that was made in its place, all at once, as old as the copy of the sources, so that a later edit tells."""
+    """Moves a built program to its path in one step, with the time of the copy of the sources, so that a later edit is newer."""
     folder = f"{TOP}/crates/{name}/out"
     os.makedirs(folder, exist_ok=True)
     new = f"{folder}/{name}.{os.getpid()}"

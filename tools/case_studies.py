@@ -131,7 +131,7 @@ def table(rows: list[list[str]]) -> str:
 
 
 def cells(found: list[Sizes]) -> list[str]:
-    """The numbers of sizes, one behind another."""
+    """The numbers of sizes, one after another."""
     return [f"{int(cell):,}" if cell.isdigit() else cell for it in found for cell in it.cells()]
 
 
@@ -213,7 +213,7 @@ def seconds(words: list[str], folder: str) -> float:
 
 
 def walk(nets: list[str], buses: list[Bus], many: int) -> list[dict[str, int]]:
-    """Drawn changes of a bus's value, one behind another: what each one sets."""
+    """Drawn changes of a bus's value, one after another: what each one sets."""
     random, steps, values = Random(2), [], {net: 0 for net in nets}
     for _ in range(many):
         bus = buses[random.below(len(buses))]
@@ -284,7 +284,7 @@ def differences(tables: list[str], names: list[str], folder: str) -> Iterator[st
 
 
 def words() -> argparse.Namespace:
-    """The words of the command line."""
+    """The command-line arguments."""
     parser = argparse.ArgumentParser(description=__doc__, formatter_class=argparse.RawDescriptionHelpFormatter)
     parser.add_argument("--check", action="store_true", help="write nothing, take no times, and compare the rest with what is there")
     parser.add_argument("--preparations", action="store_true", help="print the table of preparations alone, which takes minutes")

@@ -7,7 +7,7 @@ Outside the gate. Call `./tlut` once before, to build the program; it needs a C 
 tools/designs.py at K 6, whose pack is the largest of that file's.
 
 Each change flips one parameter, drawn with a fixed seed. The loop evaluates every node that the parameter reaches, in order, and
-compares every bit that it reaches, without testing what has changed: what a compiler makes of the pack alone. `tlut bits` reads each
+compares every bit that it reaches, without testing what has changed: what a compiler generates from the pack alone. `tlut bits` reads each
 change as a line, follows what changes, and prints each write. Both times are CPU time per change, the least of some runs, without the
 start of the program, and both must find the same number of writes.
 """

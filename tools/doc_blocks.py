@@ -58,7 +58,7 @@ def texts_in(folder):
 
 
 def stands_in(block, lines):
-    """Whether the lines of a block stand one behind another in these lines."""
+    """Whether the lines of a block are consecutive lines of these."""
     return any(lines[i : i + len(block)] == block for i in range(len(lines) - len(block) + 1))
 
 

@@ -175,7 +175,7 @@ def wide_functions(tree):
 
 
 def arguments_after(text, at):
-    """How many arguments a list has that begins there, behind its parenthesis."""
+    """How many arguments a list has that begins there, after its parenthesis."""
     depth, count, is_empty = 0, 0, True
     for place in range(at, len(text)):
         letter = text[place]

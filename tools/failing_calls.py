@@ -16,7 +16,7 @@ import tempfile
 
 import shared
 
-# Fails the call whose number stands in FAILING, counted from 1, tells in TOLD whether it read, wrote or synced and which file, and how many
+# Fails the call whose number is in FAILING, counted from 1, writes to TOLD whether it read, wrote or synced and which file, and how many
 # calls there were. With HALF a write takes half first, and then each call on its file fails.
 SHIM = r"""
 #define _GNU_SOURCE
@@ -178,7 +178,7 @@ def image(files, names):
 
 
 def has_ports(left, whole, spares):
-    """Whether a run went on behind a port that failed, or ended where no spare was left."""
+    """Whether a run continued after a port that failed, or ended when no spare was left."""
     ports = sorted(name for name in {**left.files, **whole.files} if name.startswith("port"))
     if not whole.files.get(left.name, left.files.get(left.name, b"")).startswith(left.files.get(left.name, b"")):
         return False

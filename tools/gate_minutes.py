@@ -32,7 +32,7 @@ DEAREST = 20
 
 
 def processes():
-    """The parent, the processor seconds and the words of each process, by its number and when it began."""
+    """The parent, the CPU seconds and the arguments of each process, by its number and when it began."""
     found = {}
     for name in os.listdir("/proc"):
         if not name.isdigit():

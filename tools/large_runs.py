@@ -49,7 +49,7 @@ class Netlist:
         return "\n".join([*lines, ".end", ""])
 
     def line(self, params, inputs, states):
-        """The line of a cycle under these values, and the latches' states behind it."""
+        """The line of a cycle under these values, and the latches' states after it."""
         values = {**params, **inputs, **states}
         for a, b, y, row in self.covers:
             values[y] = ROWS[row](values[a], values[b])

@@ -20,7 +20,7 @@ NOTHING = "luts 0 bits 0 depth 0\n"
 
 
 def names(letter, count, first=0):
-    """Names of a letter and a number, each behind a blank."""
+    """Names of a letter and a number, each after a blank."""
     return "".join(f" {letter}{i}" for i in range(first, first + count))
 
 
@@ -138,7 +138,7 @@ def call(program, folder, words):
 
 
 def calls():
-    """The title, the words, the files and what is wanted of each call."""
+    """The title, the arguments, the files and the expected result of each call."""
     for title, netlist, params, script, wanted in rows():
         yield title, ["run", "2", "n", "p", "s", "0", "0"], {"n": netlist.encode(), "p": params.encode(), "s": script.encode()}, wanted
     # Each node of this pack has the two before it as its fan-ins, the first ones the two parameters.

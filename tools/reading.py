@@ -7,7 +7,7 @@ Outside the gate. Call `./tlut` once before, to build the program. Several progr
 
 Both netlists have covers of two inputs, each drawn from the 200 names before it. One has 1,100,000 of them with short names, of which its
 output reaches about a tenth. The other has 100,000 with names of about 120 bytes, and all are reached. `tlut graph` reads and flattens all
-of a netlist and writes the outputs' graph; ABC reads it, and `strash` makes its graph. Each line has the CPU time, the least of some
+of a netlist and writes the outputs' graph; ABC reads it, and `strash` creates its graph. Each line has the CPU time, the least of some
 runs, and the greatest resident memory.
 """
 

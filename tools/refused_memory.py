@@ -15,7 +15,7 @@ import tempfile
 
 import shared
 
-# Refuses the allocation whose number stands in REFUSED, counted from 1, and tells at the end how many there were.
+# Refuses the allocation whose number is in REFUSED, counted from 1, and reports at the end how many there were.
 SHIM = r"""
 #define _GNU_SOURCE
 #include <dlfcn.h>
@@ -112,7 +112,7 @@ def main():
             refusals = 0
             for refused in range(1, count + 1):
                 left, _ = call(program, shim, words, refused)
-                # A call that can't get its words ends without a line; each other tells that there is no memory.
+                # A call that can't get its arguments ends without a line; each other one reports that it is out of memory.
                 is_silent = left[0] == 8 and left[1] == b"" and left[2] in (b"", b"tlut: out of memory\n") and left[3] == FILES
                 refusals += left[0] == 8
                 if left == whole or is_silent:

@@ -1,4 +1,4 @@
-"""What the tools share: their words, the programs that they try, a library that is loaded before a program, and their last line."""
+"""What the tools share: their arguments, the programs that they try, a library that is loaded before a program, and their last line."""
 
 import argparse
 import os
@@ -25,7 +25,7 @@ def one_program(text, program=PROGRAM):
 
 
 def some_programs(text, programs):
-    """The programs that a tool was given as its only words, or these."""
+    """The programs that a tool was given as its only arguments, or these."""
     parser = words(text)
     shown = ", ".join(os.path.relpath(it, TOP) for it in programs)
     parser.add_argument("programs", metavar="PROGRAM", nargs="*", type=os.path.abspath, help=f"a program that is tried (default: {shown})")

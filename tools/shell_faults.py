@@ -32,7 +32,7 @@ FILES = {
     "mux.cert": CERT.encode(),
     "mux.ppc": PACK,
 }
-# A call of each command: its words, what it prints, and the files that it writes.
+# A call of each command: its arguments, what it prints, and the files that it writes.
 COMMANDS = [
     (RUN, HEADER + "set 2 1=1 2=0\n", {}),
     (["spec", "2", "mux.blif", "mux.par", "new.blif"], HEADER, {"new.blif": SPEC.encode()}),
@@ -50,7 +50,7 @@ NOBODY = 65534
 
 
 class Ran:
-    """A call in a new folder with the multiplexer's files: its status, outputs and the files behind it."""
+    """A call in a new folder with the multiplexer's files: its status, its outputs and the files after it."""
 
     program = shared.PROGRAM
 
@@ -95,7 +95,7 @@ class Ran:
         return (self.status, self.out, self.err) == (status, out, err)
 
     def has(self, written):
-        """Whether the files are those that stood before, with these that were written."""
+        """Whether the files are those that were there before, with these that were written."""
         return {name: content for name, content in self.files.items() if name in written} == written
 
     def is_as_before(self):
@@ -111,7 +111,7 @@ def unread_pipe():
 
 
 def folder_at(name):
-    """Puts a folder in the place of a file."""
+    """Replaces a file by a folder."""
 
     def put(folder):
         if os.path.exists(f"{folder}/{name}"):
@@ -122,7 +122,7 @@ def folder_at(name):
 
 
 def fifo(folder):
-    """Puts a FIFO in the place of the netlist, into which its text is written."""
+    """Replaces the netlist by a FIFO into which its text is written."""
     path = f"{folder}/mux.blif"
     os.remove(path)
     os.mkfifo(path)

@@ -113,7 +113,7 @@ def minimal_cuts(netlist, k):
 
 
 def labels_of(cuts):
-    """The least depth at which each node can stand."""
+    """The least depth that each node can have."""
     labels = []
     for kept in cuts:
         labels.append(min((max((labels[leaf] + 1 for leaf in cut), default=0) for cut in kept), default=0))

@@ -23,7 +23,7 @@ TIER = "wrong-bodies"
 
 
 def copy_into(room, names):
-    """Copies what a check reads, with the wrong bodies of these crates in the place of the gate's edits."""
+    """Copies what a check reads, with the wrong bodies of these crates instead of the gate's edits."""
     for file in ("HANDLES", "crates.txt"):
         shutil.copy(f"{TOP}/{file}", room)
     for name in os.listdir(f"{TOP}/crates"):

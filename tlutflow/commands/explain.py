@@ -16,7 +16,7 @@ the remedy. All other lines of stdin are printed unchanged."""
 EXAMPLE = """example:
   tlut run 4 n.blif n.par n.scr 0 0 2>&1 | flow explain"""
 
-# Of the faults that tell nets and no line: the commands in which the net is looked for, and where it stands in them.
+# Of the faults that report nets and no line: the commands in which the net is looked for, and its place in them.
 PLACES = {"F7": (".latch",), "F8": (".latch",), "F9": (".names", ".outputs"), "F10": (".names",)}
 LONGEST = 100
 
