@@ -7,7 +7,7 @@
 
 It runs after a first call of ./tlut has built the program, and needs Yosys, ABC and Graphviz. All but the times is the same in each
 run. The netlist of `fir8` is made by Yosys, and the sizes of ABC are ABC's, so other versions of the two may have other numbers; a
-drawing is compared only where Graphviz has the version that made the one which is there.
+drawing is compared only if Graphviz has the version that created the stored one.
 """
 
 from __future__ import annotations

@@ -29,7 +29,7 @@ and the ports
 
   chain      all bits are shifted in and then shown at once by cfg_commit (default of generic); on xilinx there is no cfg_commit, and
              the circuit can't be used while bits are shifted
-  random     one bit at a time, by its number (default of xilinx, where a write takes 32 or 64 periods); with --word one word at a time
+  random     one bit at a time, by its number (default of xilinx; a write there takes 32 or 64 periods); with --word one word at a time
 
 `flow stream` prints what to send for new values of the parameters.
 

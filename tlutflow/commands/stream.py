@@ -22,7 +22,7 @@ DESCRIPTION = """Prints what the configuration port of the circuit that `flow hd
 With NAME=VALUE arguments: for these values of the parameters, the others as in the pack. Without: for each line of stdin that writes bits,
 which is what `tlut bits` or `tlut run` printed for the same pack.
 
-  chain      one line of digits for a change, the first digit first; with --regions the digits of each chain, - where it stays
+  chain      one line of digits for a change, the first digit first; with --regions the digits of each chain, - if it stays
   random     one line for a change: NUMBER=BIT for each write, the bits that change; with --all for each bit that can change. With --word
              the digits of a word, its highest bit first
 

@@ -31,8 +31,8 @@ DESCRIPTION = f"""Creates FOLDER/TOP.blif, FOLDER/TOP.par and FOLDER/TOP.ports.j
 The last file has what a netlist can't hold: the order of each port's digits, signs, and the names of the registers. The other
 subcommands read it if it is next to their files.
 
-Parameters are input ports that change seldom. A port is one where --param gives it its value at the start, or where it has the
-attribute {ATTRIBUTE} with that value: (* {ATTRIBUTE} = 5 *) input [2:0] c0. A value of the command line comes before an attribute's.
+Parameters are input ports that change seldom. A port is a parameter if --param gives its initial value, or if it has the
+attribute {ATTRIBUTE} with that value: (* {ATTRIBUTE} = 5 *) input [2:0] c0. A value on the command line overrides an attribute's.
 
 The netlist is the one that measures best of many preparations of the logic (see flow prepare --help), which needs ABC and tlut and
 takes seconds to minutes. With --quick, or with --abc SCRIPT, one preparation is used and nothing is measured."""

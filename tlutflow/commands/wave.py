@@ -16,8 +16,8 @@ DESCRIPTION = """Reads what `tlut run` or `tlut pace` printed for SCRIPT on stdi
 the registers' states and the outputs by their buses, a clock, and how many configuration bits a change wrote. If the output ends
 before the script, the dump ends there too, and the status is 1.
 
-Each event except image has ten units of time. The outputs of a cycle are shown over the states before its edge, which is where its ten
-units end. During a set, a scrub, an upset, an ask or a tick that waits the outputs are x, since a run doesn't print them.
+Each event except image has ten units of time. The outputs of a cycle are shown over the states before its edge, which is at the end
+of its ten units. During a set, a scrub, an upset, an ask or a tick that waits the outputs are x, since a run doesn't print them.
 From an ask on the parameters have the values that were asked for."""
 EXAMPLE = """example:
   tlut run 4 fir.blif fir.par fir.scr 0 0 | flow wave fir.blif fir.par fir.scr > fir.vcd"""
