@@ -8,6 +8,7 @@
 It checks that
 - each relative link leads to a file, and to a heading if it names one;
 - each name in backticks that looks like a path is a path of the tree, and each that looks like an item of the code is in the code;
+- each `NAME` of `FILE` is a name in that file;
 - each clause that docs/theorems.md or docs/calls.md gives for a call is a clause of the crates that its section names;
 - each public call of the libraries has an entry in one of these two, by its type and name;
 - each function with more than six arguments is named in docs/DECISIONS.md;
@@ -17,6 +18,7 @@ It checks that
 The last line is `N facts, M wrong`, and the exit status is 1 if M isn't 0.
 """
 
+import functools
 import glob
 import os
 import re
@@ -123,6 +125,16 @@ class Tree:
                 with open(path, encoding="utf-8") as file:
                     for name in calls_of(file.read(), public):
                         yield crate, name
+
+
+@functools.lru_cache(maxsize=None)
+def words_of(path):
+    """The words of a file of the crates, without those of the names that it takes from other files."""
+    words = set()
+    for found in glob.glob(f"{TOP}/crates/{path}") or glob.glob(f"{TOP}/crates/*/{path}"):
+        with open(found, encoding="utf-8") as file:
+            words |= {word for line in file if not line.startswith("use ") for word in re.findall(r"\w+", line)}
+    return words
 
 
 def contracts_of(text):
@@ -258,6 +270,13 @@ class Checks:
                     is_there = name in self.tree.members if is_member else set(re.findall(r"\w+", name)) <= self.tree.words
                     self.ask(is_there, page, number, f"no `{name}` in the code")
 
+    def places(self, page):
+        """Each name that the page says to be of a file."""
+        for number, line in self.prose(page):
+            for names, path in re.findall(r"((?:`\w+`(?:, | and ))*`\w+`) of `([\w/]+\.(?:antt|rt))`", line):
+                for name in re.findall(r"`(\w+)`", names):
+                    self.ask(name in words_of(path), page, number, f"no `{name}` in {path}")
+
     def is_path(self, name):
         """Whether a name in backticks is meant as a path of the repository."""
         if name.startswith("..") or "/out/" in name or re.search(r"[ =<>|(){}$'\"]", name) or re.search(r"\b(NAME|SUBJECT)\b", name) or "//" in name:
@@ -358,6 +377,7 @@ class Checks:
         for page in self.texts:
             self.links(page)
             self.names(page)
+            self.places(page)
         for page in PROMISES:
             self.clauses(page)
         self.calls()
@@ -442,6 +462,7 @@ PLANTS = [
     ("docs/architecture.md", "`details_words`", "`detail_words`", "a name that isn't in the code"),
     ("docs/architecture.md", "are in six crates", "are in five crates", "a stale count of crates"),
     ("docs/theorems.md", "`HasSourceTables`", "`HasSourceLuts`", "a definition that isn't in the code"),
+    ("docs/theorems.md", "`HasAudit` of `cmd_cert/specs/Audit.antt`", "`HasAudit` of `cmd_cert/specs/Prove.antt`", "a definition of another file"),
     ("docs/calls.md", "`contains`: whatever blocks", "`holds_one`: whatever blocks", "a clause that isn't there"),
     ("docs/calls.md", "`CutTable::count`", "`CutTable::size`", "a call that isn't there"),
     ("docs/calls.md", "`DiskShelf::make`, `FilePort::make`", "`DiskShelf::make`", "a call without an entry, of a name that others have"),
