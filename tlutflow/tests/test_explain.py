@@ -13,7 +13,7 @@ class Explanations(InFolder):
 
     def test_each_code_of_the_pages_has_one(self):
         codes = set()
-        for page in ("formats", "netlists", "aiger"):
+        for page in ("formats", "netlists", "aiger", "certificates"):
             with open(f"{TOP}/docs/{page}.md", encoding="utf-8") as file:
                 codes |= set(re.findall(r"\b([ATBFPSKCL]\d+) [A-Z][A-Za-z]+\b", file.read()))
         self.assertGreater(len(codes), 50)
