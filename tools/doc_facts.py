@@ -128,6 +128,12 @@ class Tree:
 
 
 @functools.lru_cache(maxsize=None)
+def is_there(pattern):
+    """Whether some path is of this pattern."""
+    return bool(glob.glob(pattern, recursive=True))
+
+
+@functools.lru_cache(maxsize=None)
 def words_of(path):
     """The words of a file of the crates, without those of the names that it takes from other files."""
     words = set()
@@ -288,7 +294,7 @@ class Checks:
     def has_path(self, name, crates):
         """Whether the tree has the path: from the top, from crates/, in a crate that the line names, or in any crate."""
         places = ["", "crates/", *(f"crates/{crate}/" for crate in crates), "crates/*/", "crates/*/**/"]
-        return any(glob.glob(f"{TOP}/{place}{name.rstrip('/')}", recursive=True) for place in places)
+        return any(is_there(f"{TOP}/{place}{name.rstrip('/')}") for place in places)
 
     @staticmethod
     def is_item(name):
