@@ -89,6 +89,8 @@ class Tree:
         self.contracts = {name: contracts_of(text) for name, text in self.code.items()}
         usage = re.search(r"usage: (.*?)`", read("docs/formats.md"))[1]
         self.commands = usage.split(", ")
+        self.wide = list(wide_functions(self))
+        self.calls = list(self.public_calls())
 
     @staticmethod
     def sizes_of(name):
@@ -211,6 +213,7 @@ def arguments_after(text, at):
     return count
 
 
+@functools.lru_cache(maxsize=None)
 def anchors_of(text):
     """The names by which links reach the headings of a page."""
     names = set()
@@ -329,14 +332,14 @@ class Checks:
 
     def calls(self):
         named = {name for page in PROMISES for name in entries_of(self.texts[page])}
-        for crate, name in self.tree.public_calls():
+        for crate, name in self.tree.calls:
             self.ask(name in named, "docs/calls.md", 1, f"no entry for `{name}` of {crate}")
 
     def arguments(self):
         page = "docs/DECISIONS.md"
         lines = [(number, line) for number, line in self.prose(page) if "at most six arguments" in line]
         number, line = lines[0] if lines else (1, "")
-        for crate, name in wide_functions(self.tree):
+        for crate, name in self.tree.wide:
             self.ask(f"`{name}`" in line and f"`{crate}`" in line, page, number, f"`{name}` of `{crate}` has more than six arguments")
 
     def commands(self):
