@@ -1,10 +1,11 @@
-//! Output that is buffered, and the proof that none of it is left when a call is done.
+//! What a call waits for before it is done: its files are on their device, and nothing is left in the output's buffer.
 ghost use Rattle.std.specs.Prelude.{◌≡◌, ◌⊎◌, [], IfOk};
 ghost use Rattle.std.specs.Io.Buffered.{writer_buffer};
 
 use std::alloc::{AllocError, Global};
 use std::io::{BufWriter, Write};
-use tl_io::Sink;
+use std::rt::Files;
+use tl_io::{DiskShelf, Sink};
 use tlut_cli::{Outcome, Status, report};
 
 // The size of the output buffer, in bytes.
@@ -28,6 +29,23 @@ pub fn let_go<W: Write + Drop, E: Sink>(
     ensures kept { (result ≡ status) ⊎ ((status ≡ Status.Done) × (result ≡ Status.WriteFault)) }
 {
     if held.flush().is_ok() || status != Status::Done {
+        return status;
+    }
+    report(err, b"", &Outcome::WriteFault);
+    Status::WriteFault
+}
+
+/// Waits until the device has the files that a call wrote. If the device refuses them, a call that was done ends with a write
+/// fault instead. So if a call is done, its files have had no fault.
+pub fn settle<R: Files + Drop, E: Sink>(
+    shelf: &mut DiskShelf<R>,
+    status: Status,
+    err: &mut E,
+) -> Status
+    ensures whole { result ≡ Status.Done → shelf.new ≡ shelf.old }
+    ensures kept { (result ≡ status) ⊎ ((status ≡ Status.Done) × (result ≡ Status.WriteFault)) }
+{
+    if status != Status::Done || shelf.settle().is_ok() {
         return status;
     }
     report(err, b"", &Outcome::WriteFault);

@@ -2,18 +2,18 @@
 //!
 //! - `streams.rt` checks the standard streams before any file is opened: whether they are closed, and whether stdout is a
 //!   file that the command writes.
-//! - `held.rt` buffers the output and flushes it.
+//! - `held.rt` buffers the output and flushes it, and waits until the device has the files.
 #![tactic(auto)]
 
 mod held;
 mod streams;
 
-use crate::held::{hold, let_go};
+use crate::held::{hold, let_go, settle};
 use crate::streams::{fill_closed, is_output_open, writes_its_output};
 use std::env;
 use std::io::{ErrorKind, IsTerminal};
 use std::process::ExitCode;
-use std::rt::{Env, Files};
+use std::rt::Env;
 use tl_io::{ConfigPort, DiskShelf, FilePort, Sink, StdSink};
 use tlut_cli::{Outcome, Rule, Status, report, tlut_by};
 
@@ -57,19 +57,6 @@ fn is_portless(words: &[String]) -> bool {
 fn fail<E: Sink>(err: &mut E, outcome: &Outcome) -> Status {
     report(err, b"", outcome);
     outcome.status()
-}
-
-// Waits until the device has the files that a call wrote. If it refuses them, a call that was done ends with a write fault
-// instead.
-fn settle<R: Files + Drop, E: Sink>(
-    shelf: &mut DiskShelf<R>,
-    status: Status,
-    err: &mut E,
-) -> Status {
-    if status != Status::Done || shelf.settle().is_ok() {
-        return status;
-    }
-    fail(err, &Outcome::WriteFault)
 }
 
 // Runs the command given by the arguments, over the system's files and streams.
