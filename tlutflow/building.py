@@ -34,7 +34,6 @@ from tlutflow.text import logical_lines, read_text, write_text
 RUN = "import sys; from tlutflow.main import main; sys.exit(main(sys.argv[1:]))"
 # A static picture of more LUTs is of no use; the page has one that can be moved.
 DRAWN = 300
-VERSIONS = (("Yosys", tools.YOSYS, ["-V"]), ("ABC", tools.ABC, ["-q", "version"]), ("Graphviz", tools.DOT, ["-V"]), ("Icarus Verilog", tools.ICARUS, ["-V"]))
 
 
 @dataclass
@@ -55,23 +54,6 @@ class Built:
     files: list[list[str]] = field(default_factory=list)
 
 
-def versions(program: str) -> dict[str, str]:
-    """The version line of each program. Programs that aren't installed are left out."""
-    found = {"tlut": first_line([program, "--version"]), "Python": sys.version.split()[0]}
-    for title, names, words in VERSIONS:
-        path = tools.find(names)
-        if path:
-            found[title] = first_line([path, *words])
-    return found
-
-
-def first_line(words: list[str]) -> str:
-    """The first line that a program prints."""
-    ran = tools.run(words)
-    lines = [line.strip() for line in (ran.stdout + ran.stderr).splitlines() if line.strip()]
-    return lines[0] if lines else "unknown"
-
-
 class Build:
     """A build: its arguments, its folder, and the names of its files."""
 
@@ -83,7 +65,7 @@ class Build:
         self.steps = Steps(self.folder, given.prog, given.again)
         self.program = tools.tlut(given.tlut)
         self.binary = program_file(self.program)
-        self.built = Built(self.name, given.k, aim=given.aim, versions=versions(self.program))
+        self.built = Built(self.name, given.k, aim=given.aim, versions=tools.versions(self.program))
 
     def path(self, end: str) -> str:
         """A file of the folder."""
@@ -142,11 +124,17 @@ class Build:
         words += ["--top", given.top, *(word for it in given.param for word in ("--param", it))] if self.is_verilog else []
         options = {"--set": given.set, "-D": given.define, "-I": given.include, "--reader": [given.reader] if given.reader != "verilog" else []}
         words += [word for option, values in options.items() for value in values for word in (option, value)]
-        words += ["--quick"] if given.quick else ["--abc", given.abc] if given.abc else ["--k", str(given.k), "--for", given.aim]
+        words += ["--quick"] if given.quick else ["--abc", given.abc] if given.abc else self.choice_shown()
         where = ["--out", given.out] if self.is_verilog else ["--out", self.path(".blif")]
         if not self.is_verilog and (given.quick or given.abc):
             return shlex.join(["cp", given.files[0], self.path(".blif")])
         return shlex.join(["flow", "verilog" if self.is_verilog else "prepare", *words, *where])
+
+    def choice_shown(self) -> list[str]:
+        """The arguments that choose among preparations."""
+        given = self.given
+        words = ["--k", str(given.k), "--for", given.aim, *(["--rounds", str(given.rounds)] if given.rounds > 1 else [])]
+        return words + [word for option, values in (("--try", given.further), ("--only", given.only)) for value in values for word in (option, value)]
 
     def from_verilog(self) -> dict[str, Any]:
         """The netlist of a design in Verilog."""
@@ -155,7 +143,7 @@ class Build:
             copy(f"{room}/netlist.blif", self.path(".blif"))
             write_text(self.path(".par"), parameter_list(made.parameters))
             write_text(self.path(END), made.ports_text)
-            return told_of(made.found, made.summary)
+            return {**told_of(made.found, made.summary), "told": made.told}
 
     def from_netlist(self) -> dict[str, Any]:
         """A netlist that was given, prepared unless that was refused."""

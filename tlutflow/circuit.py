@@ -136,6 +136,17 @@ def read_circuit(template: str, pack: str) -> Circuit:
     return renamed(circuit, ports.register_names(len(circuit.latches), circuit.nets))
 
 
+def is_template(library: Library) -> bool:
+    """Whether a netlist is a template: its further `.inputs` lines have the configuration bits, counted, and each LUT ends with its own."""
+    _, *rooms = library.main.input_lines or [[]]
+    bits = [name for room in rooms for name in room]
+    prefix = bits[0][:-1] if bits else ""
+    counted = bits == [f"{prefix}{place}" for place in range(len(bits))]
+    leaves = [max(0, len(cover.inputs) - len(room)) for room, cover in zip(rooms, library.main.covers)]
+    ends = [len(room) == 1 << many and cover.inputs[many:] == room for many, room, cover in zip(leaves, rooms, library.main.covers)]
+    return counted and len(ends) == len(rooms) > 0 and all(ends)
+
+
 def bare_circuit(pack: Pack, file: str) -> Circuit:
     """What is known of a circuit from its pack alone: the bits and the parameters."""
     return Circuit("pack", [], None, {}, [], [], pack, find_ports([file], None))
@@ -163,6 +174,8 @@ def circuit_of(library: Library, pack: Pack, file: str, ports: Ports = Ports()) 
         if cover.inputs[len(leaves) :] != room or tables[-1].size != len(room):
             raise Fault(f"{library.file}: not a template written by map: the LUT {cover.output} doesn't have its bits as inputs")
         first += len(room)
+    if not first and pack.bits:
+        raise Fault(f"{library.file}: not a template written by map: it has no configuration bits")
     if first != len(pack.bits):
         raise Fault(f"{library.file} has {first} configuration bits and {file} has {len(pack.bits)}: they come from different calls of map")
     wires = {cover.output: cover.inputs[0] for cover in main.covers[len(tables) :]}

@@ -239,10 +239,12 @@ def page(built: Built, circuit: Circuit) -> str:
     body = "".join(f'<section id="{key}"><h2>{title}</h2>{parts[key]}</section>' for key, title in SECTIONS if parts[key])
     title = f"{escape(built.name)}, K {built.k}"
     lead = f"{escape(built.preparation['summary'])}. Mapped by {RULE_NAMES[built.rule]}{prepared_words(built)}."
+    told = "".join(f"<li>{escape(line)}</li>" for line in built.preparation.get("told", []))
+    told = f'<ul class="told">{told}</ul>' if told else ""
     data = json.dumps(view, separators=(",", ":")).replace("<", "\\u003c")
     return (
         f'<!DOCTYPE html>\n<html lang="en">\n<head>\n<meta charset="utf-8">\n<meta name="viewport" content="width=device-width, initial-scale=1">\n<title>{title}</title>\n'
-        f"<style>\n{page_text('report.css')}</style>\n</head>\n<body>\n<main>\n<h1>{title}</h1>\n<p class='soft'>{lead}</p>\n{cards(built, found)}\n<nav>{links}</nav>\n{body}\n</main>\n"
+        f"<style>\n{page_text('report.css')}</style>\n</head>\n<body>\n<main>\n<h1>{title}</h1>\n<p class='soft'>{lead}</p>\n{told}{cards(built, found)}\n<nav>{links}</nav>\n{body}\n</main>\n"
         f"<script>\nconst CIRCUIT = {data};\n{page_text('report.js')}</script>\n</body>\n</html>\n"
     )
 

@@ -5,6 +5,7 @@ from __future__ import annotations
 import os
 import shutil
 import subprocess
+import sys
 from typing import Optional
 
 from tlutflow.faults import Fault
@@ -31,6 +32,8 @@ TITLES = {
     NEXTPNR_ECP5: "nextpnr (nextpnr-ecp5)",
     ICEPACK: "IceStorm (icepack)",
 }
+# What a report says of each program: its title, its names, and the arguments by which it prints its version.
+VERSIONS = (("Yosys", YOSYS, ["-V"]), ("ABC", ABC, ["-q", "version"]), ("Graphviz", DOT, ["-V"]), ("Icarus Verilog", ICARUS, ["-V"]))
 # Where the wrapper has the program, in the repository and where it is installed.
 BUILT = ("crates/tlut/out/tlut", "program/tlut")
 
@@ -79,3 +82,20 @@ def tlut(given: Optional[str]) -> str:
     if path == f"{TOP}/tlut" and not any(os.path.exists(f"{TOP}/{built}") for built in BUILT):
         raise Fault(f"{path} isn't built yet: its first call builds it, which takes a while, and reports its progress")
     return os.path.abspath(found)
+
+
+def versions(program: str) -> dict[str, str]:
+    """The version line of each program. Programs that aren't installed are left out."""
+    found = {"tlut": first_line([program, "--version"]), "Python": sys.version.split()[0]}
+    for title, names, words in VERSIONS:
+        path = find(names)
+        if path:
+            found[title] = first_line([path, *words])
+    return found
+
+
+def first_line(words: list[str]) -> str:
+    """The first line that a program prints. The program without its wrapper has no version, and prints its usage."""
+    ran = run(words)
+    lines = [line.strip() for line in (ran.stdout + ran.stderr).splitlines() if line.strip()]
+    return lines[0] if lines and not lines[0].startswith("tlut: usage:") else "unknown"

@@ -1,11 +1,13 @@
 #!/usr/bin/env python3
 """Measures what the choice of a preparation gains: the table of docs/verilog.md.
 
-    python3 tools/preparations.py [-j N] [--k K ..] [--design WORD ..]
+    python3 tools/preparations.py [-j N] [--k K ..] [--design WORD ..] [--alone]
 
 For each design and K it prints the LUTs and the depth that `tlut --compact` has by the one preparation of `flow verilog --quick`, by the
 preparation of the least depth and by that of the fewest LUTs, and the least depth that ABC's `if` or `if -a` has on the same preparations
-with the parameters as inputs. The last lines are geometric means against `--quick`. It needs Yosys and ABC, and a built tlut.
+with the parameters as inputs. Each kept netlist is compared with its source by `flow check`, and with --alone each preparation is also
+run alone, and the best of these is to be that of the list. The last lines are geometric means against `--quick`. It needs Yosys and ABC,
+and a built tlut.
 """
 
 from __future__ import annotations
@@ -15,6 +17,7 @@ import math
 import os
 import sys
 import tempfile
+from concurrent.futures import ThreadPoolExecutor
 from dataclasses import replace
 
 TOP = os.path.dirname(os.path.dirname(os.path.abspath(__file__)))
@@ -57,7 +60,7 @@ def synthesised(file: str, top: str, ports: list[str], room: str) -> dict[str, s
     return files
 
 
-def measured(source: tuple[str, str, list[str]], ks: list[int], jobs: int) -> dict[int, Found]:
+def measured(source: tuple[str, str, list[str]], ks: list[int], jobs: int, alone: bool) -> dict[int, Found]:
     """All preparations of a design at each K: they are made once, and mapped at each."""
     with tempfile.TemporaryDirectory(prefix="flow-") as room:
         files = synthesised(*source, room)
@@ -65,10 +68,31 @@ def measured(source: tuple[str, str, list[str]], ks: list[int], jobs: int) -> di
         found = {ks[0]: prepare(task, f"{room}/trials")}
         for k in ks[1:]:
             shop = Workshop(replace(task, k=k), f"{room}/trials{k}")
-            trials = [mapped_again(shop, trial) for trial in found[ks[0]].trials if trial.results]
+            with ThreadPoolExecutor(jobs or os.cpu_count() or 1) as pool:
+                trials = list(pool.map(lambda trial: mapped_again(shop, trial), [it for it in found[ks[0]].trials if it.results]))
             results = [it for trial in trials for it in trial.results]
             found[k] = Found(trials, min(results, key=lambda it: it.key("depth")), "depth")
+        for k, it in found.items():
+            check_kept(files["gates.blif"], it)
+            if alone:
+                check_alone(replace(task, k=k, beside=False), it, f"{room}/alone{k}")
         return found
+
+
+def check_kept(source: str, found: Found) -> None:
+    """Stops if a netlist that would be kept for depth or for few LUTs isn't its source."""
+    for file in dict.fromkeys(min(found.results, key=lambda it: it.key(aim)).file for aim in ("depth", "tables")):
+        ran = tools.run([f"{TOP}/flow", "check", source, file])
+        if ran.returncode:
+            sys.exit(f"{file}: {ran.stderr}")
+
+
+def check_alone(task: Task, found: Found, room: str) -> None:
+    """Stops if a preparation that is run alone has less depth, or fewer LUTs at the same depth, than the best of the list."""
+    for it in task.preparations:
+        best = prepare(replace(task, preparations=[it]), f"{room}/{it.name}").best
+        if best.key("depth") < found.best.key("depth"):
+            sys.exit(f"{it.name} alone: depth {best.depth}, {best.tables} LUTs; of the list {found.best.depth}, {found.best.tables}")
 
 
 def mapped_again(shop: Workshop, trial: Trial) -> Trial:
@@ -90,6 +114,7 @@ def main() -> int:
     parser.add_argument("-j", dest="jobs", type=int, default=0, help="how many preparations run at a time")
     parser.add_argument("--k", type=int, choices=range(2, 7), action="append", help="the inputs of a LUT (repeat it; default: 4 and 6)")
     parser.add_argument("--design", metavar="WORD", action="append", default=[], help="the designs with this word in their titles (repeat it)")
+    parser.add_argument("--alone", action="store_true", help="run each preparation alone too, and compare")
     given = parser.parse_args()
     print("| Design | K | `--quick` | least depth | by | fewest LUTs | by | ABC, least depth | by |\n|---|---|---|---|---|---|---|---|---|", flush=True)
     ratios: dict[int, list[tuple[float, float]]] = {}
@@ -97,7 +122,7 @@ def main() -> int:
         for title, source in sources(room).items():
             if given.design and not any(word in title for word in given.design):
                 continue
-            for k, found in measured(source, given.k or [4, 6], given.jobs).items():
+            for k, found in measured(source, given.k or [4, 6], given.jobs, given.alone).items():
                 compact = [it for it in found.results if it.rule == "compact"]
                 quick = next(it for it in compact if it.name == QUICK)
                 deep, small = (min(compact, key=lambda it: it.key(aim)) for aim in ("depth", "tables"))

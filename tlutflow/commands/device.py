@@ -8,6 +8,7 @@ import re
 import shlex
 
 from tlutflow import tools
+from tlutflow.circuit import is_template
 from tlutflow.commands.hdl import make_folder
 from tlutflow.device import PART, PLACERS, WIDEST, device_recipe
 from tlutflow.faults import Fault
@@ -40,6 +41,8 @@ def add_words(parser: argparse.ArgumentParser) -> None:
 def check(path: str, target: str) -> str:
     """Refuses what the device has no cells for, and returns the circuit's name."""
     library = read_library(path)
+    if is_template(library):
+        raise Fault(f"{path} is a template, whose configuration bits are inputs: `tlut spec` writes the netlist for a device, and `flow hdl` the template as Verilog")
     if library.main.subckts:
         raise Fault(f"{path}: it instantiates models; `tlut spec` writes a netlist without instances")
     widest = max(library.main.covers, key=lambda cover: len(cover.inputs), default=None)

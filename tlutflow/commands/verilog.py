@@ -97,14 +97,16 @@ def yosys(steps: list[Step], folder: str) -> None:
         raise Fault(f"Yosys: {told[-1] if told else f'it ended with status {ran.returncode}'}")
 
 
-def synthesise(given: argparse.Namespace, folder: str) -> tuple[Library, Design, Ports]:
-    """Runs Yosys, which leaves its files in a folder, and returns the netlist, the design before its registers were changed, and its ports."""
+def synthesise(given: argparse.Namespace, folder: str) -> tuple[Library, Design, Ports, list[str]]:
+    """Runs Yosys, which leaves its files in a folder, and returns the netlist, the design, its ports, and lines on what the netlist has
+    otherwise than the design. These are also printed."""
     sources, paths = sources_of(given), [f"{folder}/{name}" for name in ("design.json", "netlist.blif", "registers.json", "ports.json")]
     yosys(look(sources, paths[0]), folder)
     design = read_design(paths[0], sources.top)
     refuse_ports(design, sources.top)
     refuse_high_impedance(design)
-    tell(given, undriven(design))
+    told = undriven(design)
+    tell(given, told)
     gates = None if is_quick(given) else f"{folder}/gates.blif"
     yosys(recipe(sources, preparation_of(given), paths[1], paths[2], paths[3], gates), folder)
     before, after, library = read_design(paths[2], sources.top), read_design(paths[3], sources.top), read_library(paths[1])
@@ -112,10 +114,11 @@ def synthesise(given: argparse.Namespace, folder: str) -> tuple[Library, Design,
     reason = obstacle(library)
     if reason:
         raise Fault(f"{given.top}: {reason}")
+    told += late_resets(before)
     tell(given, late_resets(before))
     registers = register_names(before, after, [latch.state for latch in library.main.latches])
     buses = [*(net.bus for name, net in after.nets.items() if name in after.ports), *register_buses(before, registers)]
-    return library, after, Ports({bus.name: bus for bus in buses}, registers)
+    return library, after, Ports({bus.name: bus for bus in buses}, registers), told
 
 
 def is_quick(given: argparse.Namespace) -> bool:
@@ -134,26 +137,27 @@ def choose(given: argparse.Namespace, folder: str, beside: bool = False) -> Foun
 
 @dataclass(frozen=True)
 class Made:
-    """A netlist that was made: as Yosys left it, its parameters, the text of its ports, its summary, and what was found for its
-    preparation."""
+    """A netlist that was made: as Yosys left it, its parameters, the text of its ports, its summary, what was found for its preparation,
+    and lines on what it has otherwise than the design."""
 
     parameters: dict[str, int]
     ports: Ports
     ports_text: str
     summary: str
     found: Optional[Found]
+    told: list[str]
 
 
 def make(given: argparse.Namespace, folder: str, beside: bool = False) -> Made:
     """Creates the netlist in a folder, as netlist.blif."""
-    library, design, ports = synthesise(given, folder)
+    library, design, ports, told = synthesise(given, folder)
     parameters, found = parameters_of(ports_of(design), given.param, library.clock_nets()), None
     if not is_quick(given):
         write_text(f"{folder}/list.par", parameter_list(parameters))
         found = choose(given, folder, beside)
         if found.best.name != "yosys":
             ports = replace(ports, registers=names_of_gates(folder, sources_of(given).top))
-    return Made(parameters, ports, ports_text(design, ports, sources_of(given).top), summary(library, parameters, ports), found)
+    return Made(parameters, ports, ports_text(design, ports, sources_of(given).top), summary(library, parameters, ports), found, told)
 
 
 def names_of_gates(folder: str, top: str) -> list[str]:

@@ -115,11 +115,24 @@ class Builds(InFolder):
         self.assertIn("equal under all values of 9 parameters (ABC dsec)", ran.stdout)
         self.assertIn("depth at least 5", ran.stdout)
         self.look_at(f"{self.folder}/out/index.html")
+        with open(f"{self.folder}/out/index.html", encoding="utf-8") as file:
+            self.assertIn("--k 4 --for depth --only map --out", file.read())
         again = flow(*words)
         self.assertEqual((again.stdout, again.stderr.count(": as before")), (ran.stdout, again.stderr.count("\n")))
         more = flow(*words[:-4], "--out", f"{self.folder}/out", "--script", self.put("fir.scr", example("fir/ten.scr")))
         self.assertIn("netlist: as before", more.stderr)
         self.assertRegex(more.stderr, r"flow build: run: [0-9.]+ s")
+
+    @needs(YOSYS)
+    @NEEDS_TLUT
+    def test_the_page_says_what_the_netlist_has_otherwise(self):
+        """A second call, which reads no Verilog again, says it too."""
+        self.put("top.v", "module top (input clk, r, d, output reg q); always @(posedge clk or posedge r) if (r) q <= 0; else q <= d; endmodule\n")
+        for told in (1, 0):
+            ran = flow("build", "top.v", "--top", "top", "--quick", "--out", "made", folder=self.folder)
+            self.assertEqual((ran.returncode, ran.stderr.count("has an asynchronous reset")), (0, told), ran.stderr)
+            with open(f"{self.folder}/made/index.html", encoding="utf-8") as file:
+                self.assertIn("<li>q (top.v:1) has an asynchronous reset; ", file.read())
 
     def look_at(self, path):
         with open(path, encoding="utf-8") as file:

@@ -2,8 +2,10 @@
 
 import unittest
 
+from tlutflow.circuit import is_template
 from tlutflow.device import WIDEST
-from tlutflow.tests.helpers import InFolder, flow, needs
+from tlutflow.netlist import parse_library
+from tlutflow.tests.helpers import MUX_PACK, MUX_TEMPLATE, InFolder, flow, needs
 from tlutflow.tools import NEXTPNR_ICE40, YOSYS, find
 
 # Two registers, of which one starts at 1, as `tlut spec` writes them.
@@ -63,6 +65,20 @@ class Devices(InFolder):
         self.assert_fault(flow("device", wide, "--target", "ice40"), "y has 5 inputs, and a LUT of ice40 4: map it with K 4")
         self.assert_fault(flow("device", f"{self.folder}/no.blif", "--target", "ecp5"), "No such file")
         self.assert_fault(flow("device", path), "--target", 2)
+
+    def test_a_template_isnt_for_a_device(self):
+        """Its configuration bits are inputs, so its LUTs would be too wide, or plain gates of the device."""
+        for target in WIDEST:
+            self.assert_fault(flow("device", self.put("t.blif", MUX_TEMPLATE), "--target", target), "t.blif is a template")
+        ran = flow("draw", self.put("spec.blif", SPEC.format(first=1)), self.put("p.ppc", MUX_PACK))
+        self.assert_fault(ran, "not a template written by map: it has no configuration bits")
+
+    def test_inputs_on_two_lines_are_no_template(self):
+        """Each cover ends with the names of a line, but they aren't counted, or aren't as many as a LUT has bits."""
+        for names in ("b c", "_c1 _c2", "_c0", "_c0 _c1 _c2"):
+            last = names.split()[-1]
+            text = f".model two\n.inputs a\n.inputs {names}\n.outputs y\n.names a {names} y\n{'1' * (len(names.split()) + 1)} 1\n.names {last} z\n1 1\n.end\n"
+            self.assertFalse(is_template(parse_library(text, "two.blif")), names)
 
 
 if __name__ == "__main__":
