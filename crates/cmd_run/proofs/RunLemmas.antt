@@ -1,19 +1,22 @@
 -- A job of `run` that was made ready is begun, and ends as its playing does.
-use Rattle.std.proofs.Common.{◌≡◌, List, sym, subst, Result}
+use Rattle.std.proofs.Common.{◌≡◌, ◌≤◌, List, Result, Ok, Err, refl, sym, subst, inl}
+use Rattle.tl_text.specs.declared.logical_lines.TheConstants.{MOST_BYTES}
+use Rattle.tl_io.specs.Causes.{Rose}
 use Rattle.tl_io.specs.Port.{PortSeen}
 use Rattle.tl_io.specs.Shelf.{Files, ShelfSeen}
 use Rattle.tl_io.specs.Sink.{SinkSeen}
 use Rattle.run_text.specs.EventValue.{event_values}
 use Rattle.run_core.specs.declared.step_err.StepErr.{StepErr}
+use Rattle.run_core.specs.declared.step_err.StepErr.TheVariants.{WriteFault, PortFault}
 use Rattle.cmd_base.specs.Outside.{outside}
-use Rattle.cmd_base.specs.Ends.{IsBegun}
+use Rattle.cmd_base.specs.Ends.{Told, IsBegun, Ends}
 use Rattle.cmd_base.proofs.EndLemmas.{only_read}
 use Rattle.cmd_stations.proofs.OnceLemmas.{least_mapped}
 use Rattle.cmd_run.specs.declared.run.prepare.Ready.{Ready}
 use Rattle.cmd_run.specs.Run.Words.{RunWords}
-use Rattle.cmd_run.specs.Run.Ends.{IsPlayEnd, HasRun}
+use Rattle.cmd_run.specs.Run.Ends.{IsPlayEnd, HasRun, HaveFailed}
 use Rattle.cmd_run.specs.Run.Verdict.{run_walk}
-use Rattle.cmd_run.specs.Run.Ready.{IsReadyFor}
+use Rattle.cmd_run.specs.Run.Ready.{IsReadyFor, IsServed, played_outcome}
 
 module _ (files : Files) (words : RunWords) (ready : Ready) (is : IsReadyFor files words ready) where
   pub ready_begun : IsBegun (run_walk words) files
@@ -33,3 +36,25 @@ module _ (files : Files) (words : RunWords) (ready : Ready) (is : IsReadyFor fil
         subst (λ w. IsPlayEnd words.ports ready.machine (event_values ready.events.items) (outside old before ports) w result) (sym (only_read old new after others same faults)) (ends old) in
         subst (λ es. IsPlayEnd words.ports ready.machine es (outside old before ports) (outside new after others) result) (sym is.events) here;
   }
+
+-- so ends the job
+module _ (words : RunWords) (ready : Ready) (old new : ShelfSeen) (before after : SinkSeen) (ports others : List PortSeen) where
+  pub run_ends : new.given ≤ MOST_BYTES → Told old.files (λ files. IsReadyFor files words ready) → new.files ≡ old.files → new.write_faults ≡ old.write_faults → (result : Result Unit StepErr)
+      → ((shelf : ShelfSeen) → IsPlayEnd words.ports ready.machine (event_values ready.events.items) (outside shelf before ports) (outside shelf after others) result) → (result ≡ Err WriteFault → Rose before.faults after.faults)
+      → IsServed words.ports ports others result → (result ≡ Err PortFault → HaveFailed words.ports ports others) → Ends (run_walk words) old new (outside old before ports) (outside new after others) (played_outcome result)
+  run_ends given is same faults (Ok done) ends cause served failed = (
+    record { given = given; begun = λ files told. ready_begun files words ready (is files told) },
+    λ files told. ready_run files words ready (is files told) old new before after ports others (Ok done) same faults ends,
+    served,
+  )
+  run_ends given is same faults (Err WriteFault) ends cause served failed = (
+    record { given = given; begun = λ files told. ready_begun files words ready (is files told) },
+    λ files told. ready_run files words ready (is files told) old new before after ports others (Err WriteFault) same faults ends,
+    served,
+    inl (cause refl),
+  )
+  run_ends given is same faults (Err PortFault) ends cause served failed = (
+    record { given = given; begun = λ files told. ready_begun files words ready (is files told) },
+    λ files told. ready_run files words ready (is files told) old new before after ports others (Err PortFault) same faults ends,
+    failed refl,
+  )

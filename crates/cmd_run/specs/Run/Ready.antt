@@ -15,6 +15,8 @@ use Rattle.run_core.specs.Events.{MachineValue, IsPlayed}
 use Rattle.run_core.specs.EventLines.{event_line}
 use Rattle.run_core.specs.Fits.{FitsPack, FitsShape}
 use Rattle.run_core.specs.Sends.{LosesRegion, HasLost}
+use Rattle.cmd_base.specs.declared.outcome.Outcome.{Outcome}
+use Rattle.cmd_base.specs.declared.outcome.Outcome.TheVariants as outcome
 use Rattle.cover_pick.specs.Template.{TemplateValue}
 use Rattle.cmd_stations.specs.declared.source.Source.{Source}
 use Rattle.cmd_run.specs.declared.run.prepare.Ready.{Ready}
@@ -137,3 +139,9 @@ abbrev pub IsServed : PortCounts → List PortSeen → List PortSeen → Result 
 IsServed counts old new (Ok done) = HaveServed counts old new
 IsServed counts old new (Err WriteFault) = HaveServed counts old new
 IsServed counts old new (Err PortFault) = Unit {0}
+
+-- the outcome of a job that was played
+abbrev pub played_outcome : Result Unit StepErr → Outcome
+played_outcome (Ok done) = outcome.Done
+played_outcome (Err WriteFault) = outcome.WriteFault
+played_outcome (Err PortFault) = outcome.PortFault

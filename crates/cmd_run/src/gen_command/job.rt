@@ -5,17 +5,21 @@ ghost use Rattle.tl_io.specs.Causes.{Rose};
 ghost use Rattle.tl_io.specs.Sink.{IsPut};
 ghost use Rattle.tl_io.specs.Port.{PortSeen};
 ghost use Rattle.tl_io.specs.Shelf.{ShelfSeen};
+ghost use Rattle.run_text.specs.EventValue.{event_values};
 ghost use Rattle.cmd_base.specs.Outside.{outside};
 ghost use Rattle.cmd_base.specs.Ends.{Ends};
 ghost use Rattle.cmd_base.specs.WalkLaws.{HasLaws};
 ghost use Rattle.cmd_stations.specs.Machine.{machine_header};
+ghost use Rattle.cmd_run.specs.Run.Ready.{CanPlay, IsReadyFor};
 ghost use Rattle.cmd_run.specs.GenCommand.Words.{HasDigits};
+ghost use Rattle.cmd_run.specs.GenCommand.Case.{case_words, case_files};
 ghost use Rattle.cmd_run.specs.GenCommand.Verdict.{gen_walk};
 
 use crate::gen_command::lines::{first_line, last_line};
 use crate::gen_command::play::play_case;
 use crate::gen_command::prepare::prepare_case;
 use crate::gen_command::words::GenWords;
+use crate::run::prepare::Ready;
 use cmd_base::Outcome;
 use run_core::{Machine, StepErr};
 use std::alloc::Global;
@@ -36,20 +40,14 @@ fn put_lines<O: Sink>(
     Ok(())
 }
 
-/// Runs the command: maps a generated multiplier, plays its hundred rounds, and prints their totals.
-///
-/// All memory is allocated before the first byte of `out`. [`Outcome::Memory`] only if memory runs out: the totals of a
-/// generated case always fit their types.
-pub fn gen_job<O: Sink>(alloc: Global, words: &GenWords, out: &mut O) -> Outcome
-    requires { HasDigits words.now }
-    ensures ends { (old : ShelfSeen) (ports : List PortSeen) → Ends (gen_walk words.now) old old (outside old (O.seen out.old) ports) (outside old (O.seen out.new) ports) result }
-    ensures laws { HasLaws (gen_walk words.now) }
+// Plays a case that is ready, and prints its lines.
+fn play_out<O: Sink>(alloc: Global, words: &GenWords, ready: &mut Ready, out: &mut O) -> Outcome
+    requires digits { HasDigits words.now }
+    requires can_play { CanPlay (event_values ready.old.events.items) ready.old.machine }
+    requires prepared { IsReadyFor (case_files words.now) (case_words words.now.rule) ready.old }
+    ensures { (old : ShelfSeen) (ports : List PortSeen) → Ends (gen_walk words.now) old old (outside old (O.seen out.old) ports) (outside old (O.seen out.new) ports) result }
 {
-    let mut ready = match prepare_case(alloc, words) {
-        Ok(ready) => ready,
-        Err(outcome) => return outcome,
-    };
-    let totals = play_case(&mut ready);
+    let totals = play_case(ready);
     let first = match first_line(alloc, words) {
         Ok(line) => line,
         Err(_) => return Outcome::Memory,
@@ -61,5 +59,24 @@ pub fn gen_job<O: Sink>(alloc: Global, words: &GenWords, out: &mut O) -> Outcome
     match put_lines(&mut ready.machine, first.as_str(), last.as_str(), out) {
         Ok(()) => Outcome::Done,
         Err(_) => Outcome::WriteFault,
+    }
+}
+
+/// Runs the command: maps a generated multiplier, plays its hundred rounds, and prints their totals.
+///
+/// All memory is allocated before the first byte of `out`. [`Outcome::Memory`] only if memory runs out: the totals of a
+/// generated case always fit their types.
+pub fn gen_job<O: Sink>(alloc: Global, words: &GenWords, out: &mut O) -> Outcome
+    requires { HasDigits words.now }
+    ensures ends { (old : ShelfSeen) (ports : List PortSeen) → Ends (gen_walk words.now) old old (outside old (O.seen out.old) ports) (outside old (O.seen out.new) ports) result }
+    ensures laws { HasLaws (gen_walk words.now) }
+{
+    match prepare_case(alloc, words) {
+        Ok(mut ready) => {
+            let outcome = play_out(alloc, words, &mut ready, out);
+            drop(ready);
+            outcome
+        }
+        Err(outcome) => outcome,
     }
 }

@@ -20,10 +20,11 @@ ghost use Rattle.cmd_run.specs.GenCommand.Texts.{shelf_of, HaveSource, HaveCase}
 ghost use Rattle.cmd_run.specs.GenCommand.Verdict.{gen_reading};
 
 use crate::gen_command::words::GenWords;
-use crate::run::prepare::{Ready, start_machine};
+use crate::run::prepare::{Ready, make_ready};
 use cmd_base::{File, Outcome};
 use cmd_stations::{
-    MappedSource, Source, list_events, list_params, map_source, mapped_names, read_netlist,
+    MappedSource, Scripted, Source, list_events, list_params, map_source, mapped_names,
+    read_netlist,
 };
 use cover_pick::Rule;
 use gen_case::multiplier;
@@ -122,8 +123,8 @@ fn ready_case(
         Ok(events) => events,
         Err(outcome) => return Err(outcome),
     };
-    match start_machine(alloc, mapped) {
-        Ok(machine) => Ok(Ready { machine, events }),
+    match make_ready(alloc, Scripted { mapped, events }) {
+        Ok(ready) => Ok(ready),
         Err(_) => Err(Outcome::Memory),
     }
 }

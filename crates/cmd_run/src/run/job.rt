@@ -6,6 +6,7 @@ ghost use Rattle.cmd_base.specs.Ends.{Ends};
 ghost use Rattle.cmd_base.specs.WalkLaws.{HasLaws};
 ghost use Rattle.cmd_run.specs.Run.Words.{run_seen, IsInRange};
 ghost use Rattle.cmd_run.specs.Run.Verdict.{run_walk};
+ghost use Rattle.cmd_run.specs.Run.Ready.{played_outcome};
 
 use crate::run::play::play;
 use crate::run::prepare::prepare;
@@ -14,6 +15,17 @@ use cmd_base::Outcome;
 use run_core::StepErr;
 use std::alloc::Global;
 use tl_io::{ConfigPort, Shelf, Sink};
+
+// The outcome of a job that was played.
+fn outcome_of(played: Result<(), StepErr>) -> Outcome
+    ensures { result ≡ played_outcome played }
+{
+    match played {
+        Ok(()) => Outcome::Done,
+        Err(StepErr::WriteFault) => Outcome::WriteFault,
+        Err(StepErr::PortFault) => Outcome::PortFault,
+    }
+}
 
 /// Runs the command: maps a source circuit, and plays a script on it.
 pub fn run_job<S: Shelf, O: Sink, P: ConfigPort>(
@@ -28,13 +40,12 @@ pub fn run_job<S: Shelf, O: Sink, P: ConfigPort>(
     ensures files { (S.seen shelf.new).files ≡ (S.seen shelf.old).files }
     ensures laws { HasLaws (run_walk (run_seen words.now)) }
 {
-    let mut ready = match prepare(alloc, words, shelf) {
-        Ok(ready) => ready,
-        Err(outcome) => return outcome,
-    };
-    match play(alloc, &mut ready, words.ports, out, ports) {
-        Ok(()) => Outcome::Done,
-        Err(StepErr::WriteFault) => Outcome::WriteFault,
-        Err(StepErr::PortFault) => Outcome::PortFault,
+    match prepare(alloc, words, shelf) {
+        Ok(mut ready) => {
+            let played = play(alloc, &mut ready, words.ports, out, ports);
+            drop(ready);
+            outcome_of(played)
+        }
+        Err(outcome) => outcome,
     }
 }

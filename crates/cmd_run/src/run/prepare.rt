@@ -12,7 +12,7 @@ ghost use Rattle.cmd_run.specs.Run.Ready.{CanPlay, StartsOn, IsReadyFor};
 
 use crate::run::words::{RunWords, scripted};
 use cmd_base::Outcome;
-use cmd_stations::{MappedSource, Scripted, latch_inits, read_scripted};
+use cmd_stations::{MappedSource, Scripted, Source, Tables, latch_inits, read_scripted};
 use run_core::Machine;
 use run_text::Event;
 use std::alloc::{AllocError, Global};
@@ -25,16 +25,30 @@ pub struct Ready {
     pub events: Vec<Event>,
 }
 
-/// The machine of a mapped source circuit, in its initial state.
-pub fn start_machine(alloc: Global, mapped: MappedSource) -> Result<Machine, AllocError>
-    requires read { IsReadSource mapped.source }
-    requires tables { AreMade mapped.source mapped.tables }
-    ensures { IfOk result (StartsOn mapped.source mapped.tables.template) }
+// The machine of a source circuit's LUTs, in its initial state.
+fn start_machine(alloc: Global, source: &Source, tables: Tables) -> Result<Machine, AllocError>
+    requires read { IsReadSource source.now }
+    requires tables { AreMade source.now tables }
+    ensures { IfOk result (StartsOn source.now tables.template) }
 {
-    let states = latch_inits(alloc, &mapped.source)?;
-    let MappedSource { tables, .. } = mapped;
+    let states = latch_inits(alloc, source)?;
     let machine = Machine::make(alloc, tables.template, tables.pack, tables.shape, &states)?;
     Ok(machine)
+}
+
+/// The job of a mapped source circuit and its script.
+///
+/// `Err` only if memory runs out.
+pub fn make_ready(alloc: Global, scripted: Scripted) -> Result<Ready, AllocError>
+    requires read { IsReadSource scripted.mapped.source }
+    requires tables { AreMade scripted.mapped.source scripted.mapped.tables }
+    ensures start { IfOk result (λ r. StartsOn scripted.mapped.source scripted.mapped.tables.template r.machine) }
+    ensures events { IfOk result (λ r. r.events.items ≡ scripted.events.items) }
+{
+    let Scripted { mapped, events } = scripted;
+    let MappedSource { source, tables } = mapped;
+    let machine = start_machine(alloc, &source, tables)?;
+    Ok(Ready { machine, events })
 }
 
 /// Reads and maps the files of a job in the order of work, and allocates all the memory that its events need.
@@ -56,9 +70,8 @@ pub fn prepare<S: Shelf>(alloc: Global, words: &RunWords, shelf: &mut S) -> Resu
         Ok(read) => read,
         Err(outcome) => return Err(outcome),
     };
-    let Scripted { mapped, events } = read;
-    match start_machine(alloc, mapped) {
-        Ok(machine) => Ok(Ready { machine, events }),
+    match make_ready(alloc, read) {
+        Ok(ready) => Ok(ready),
         Err(_) => Err(Outcome::Memory),
     }
 }

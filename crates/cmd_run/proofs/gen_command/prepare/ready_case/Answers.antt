@@ -1,4 +1,3 @@
-use Rattle.run_text.specs.EventValue.{event_values}
 use Rattle.cmd_stations.specs.declared.scripted.Scripted.{Scripted}
 use Rattle.cmd_stations.specs.Source.{HasMapped}
 use Rattle.cmd_stations.specs.Aims.{ToTables}
@@ -8,8 +7,7 @@ use Rattle.cmd_run.specs.GenCommand.Case.{case_words}
 use Rattle.cmd_run.specs.GenCommand.Texts.{shelf_of}
 use Rattle.cmd_run.proofs.CaseLemmas.{told_of}
 use Rattle.cmd_stations.proofs.ScriptedLemmas.{source_to_scripted, script_to_scripted, comes_scripted}
-use Rattle.cmd_run.proofs.ReadyLemmas.{ready_for}
-use Rattle.cmd_run.proofs.StartLemmas.{can_play}
+use Rattle.cmd_run.proofs.ReadyLemmas.{ready_for, can_play_ready}
 use Rattle.cmd_run.proofs.gen_command.prepare.ready_case.Goals as goal
 
 pub returns-in-Err-clause-err : goal.returns-in-Err-clause-err
@@ -23,16 +21,15 @@ returns-in-Err-case_events-clause-err c files have =
     (told_of files (λ others. HasMapped others (case_words c.args.rule).source mapped.source mapped.tables.template × IsSourceSettled ToTables others (case_words c.args.rule).source) (past.has, past.settled))
     (c.in-Err-case_events.ensures.err files have.has_script)
 
-pub returns-in-Ok-start_machine-clause-ready : goal.returns-in-Ok-start_machine-clause-ready
-returns-in-Ok-start_machine-clause-ready c =
-    let mapped = c.in-Ok.mapped in
-    let events = event_values c.in-Ok-case_events.events.items in
-    can_play (record { source = mapped.source; template = mapped.tables.template; events = events }) c.in-Ok-start_machine.machine (c.in-Ok-start_machine.ensures.start events)
-    c.in-Ok.ensures.tables.least.mapping.sum c.in-Ok-case_events.ensures.fit
-
-pub returns-in-Ok-start_machine-clause-prepared : goal.returns-in-Ok-start_machine-clause-prepared
-returns-in-Ok-start_machine-clause-prepared c files have =
+pub returns-in-Ok-make_ready-clause-ready : goal.returns-in-Ok-make_ready-clause-ready
+returns-in-Ok-make_ready-clause-ready c =
     let s : Scripted = record { mapped = c.in-Ok.mapped; events = c.in-Ok-case_events.events } in
-    ready_for files (case_words c.args.rule) s c.in-Ok-start_machine.machine
+    let made = c.in-Ok-make_ready in
+    can_play_ready s made.ready made.ensures.start made.ensures.events c.in-Ok.ensures.tables.least.mapping.sum c.in-Ok-case_events.ensures.fit
+
+pub returns-in-Ok-make_ready-clause-prepared : goal.returns-in-Ok-make_ready-clause-prepared
+returns-in-Ok-make_ready-clause-prepared c files have =
+    let s : Scripted = record { mapped = c.in-Ok.mapped; events = c.in-Ok-case_events.events } in
+    let made = c.in-Ok-make_ready in
+    ready_for s made.ready made.ensures.start made.ensures.events files (case_words c.args.rule)
     (comes_scripted files (scripted_of (case_words c.args.rule)) s (c.in-Ok.ensures.comes files have.source) (c.in-Ok-case_events.ensures.script files have.has_script) (c.in-Ok-case_events.ensures.settled files have.has_script))
-    c.in-Ok-start_machine.ensures
