@@ -65,7 +65,7 @@ class Voice:
 def read_lines():
     """Returns the line of crates.txt of each crate, and the crates of this repository that it uses."""
     with open(f"{TOP}/crates.txt", encoding="utf-8") as file:
-        lines = {line.split(":")[0]: line for line in file if ":" in line and not line.startswith("#")}
+        lines = {line.split(":")[0].split()[0]: line for line in file if ":" in line and not line.startswith("#")}
     return lines, {name: [it for it in line.split(":")[1].split() if it in lines] for name, line in lines.items()}
 
 

@@ -69,7 +69,7 @@ class Tree:
 
     def __init__(self):
         lines = [line for line in read("crates.txt").splitlines() if line.strip() and not line.startswith("#")]
-        self.crates = [line.split(":")[0] for line in lines]
+        self.crates = [line.split(":")[0].split()[0] for line in lines]
         self.sizes = {name: self.sizes_of(name) for name in self.crates}
         self.code = {name: self.text_of(name) for name in self.crates}
         whole = "\n".join(self.code.values())
@@ -148,7 +148,7 @@ def words_of(path):
 def contracts_of(text):
     """The names of the clauses of each function that a crate declares."""
     found = {}
-    for head in re.finditer(r"^ *(?:pub )?fn (\w+)((?:.|\n)*?)^ *(?:\{|\}|pub fn |fn |///)", text, re.MULTILINE):
+    for head in re.finditer(r"^ *(?:pub )?(?:extern \"C\" )?fn (\w+)((?:.|\n)*?)^ *(?:\{|\}|pub fn |fn |///)", text, re.MULTILINE):
         found.setdefault(head[1], set()).update(re.findall(r"\bensures (\w+)", head[2]))
     return found
 

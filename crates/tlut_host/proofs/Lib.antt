@@ -1,0 +1,4 @@
+pub mod CopyLemmas
+pub mod HeldValues
+pub mod SettingLemmas
+pub mod Values

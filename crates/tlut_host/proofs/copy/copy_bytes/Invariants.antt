@@ -1,0 +1,6 @@
+use Rattle.std.proofs.Common.{◌≡◌, length, take}
+use Rattle.tlut_host.specs.Copied.{copied_plain}
+use Rattle.tlut_host.proofs.copy.copy_bytes.Given as goal
+
+abbrev pub invariant-loop-place : goal.invariant-loop-place
+invariant-loop-place l = (l.to ≡ copied_plain (take l.place l.from) l.initial.to) × (length l.to ≡ length l.initial.to)

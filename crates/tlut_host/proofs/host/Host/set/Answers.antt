@@ -1,0 +1,11 @@
+use Rattle.std.proofs.Common.{ℕ, List, length, sym, ap, ◌∙◌, subst}
+use Rattle.tl_io.specs.Assigns.{AreAssigned}
+use Rattle.tl_io.specs.declared.Assign.{Assign}
+use Rattle.tlut_host.proofs.SettingLemmas.{settings_fit}
+use Rattle.tlut_host.proofs.host.Host.set.Goals as goal
+
+pub change_with-requires-clause-assigns : goal.change_with-requires-clause-assigns
+change_with-requires-clause-assigns c =
+    let params = length c.values-params.result.now in let done = c.if-status-eq-DONE.true in
+    subst (λ (n : ℕ). AreAssigned n c.deref.result.now) (ap length c.values-params.ensures.value)
+    (subst (λ (xs : List Assign). AreAssigned params xs) (sym (c.deref.ensures.value ∙ c.gather-status.ensures.are done)) (settings_fit params c.args.settings.now (sym c.gather-status.ensures.status ∙ done)))

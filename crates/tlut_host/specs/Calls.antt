@@ -1,0 +1,57 @@
+-- Calls of C at a handle: the host before and after.
+use Rattle.std.specs.Prelude.{◌≡◌, ◌≢◌, ℕ, ◌<◌, ◌≤◌, Bool, List, length, map, Option, Some, None, slice_get}
+use Rattle.ppc_pack.specs.Pack.{IsConf}
+use Rattle.spec_core.specs.Specialiser.{SpecialiserValue}
+use Rattle.spec_core.specs.Events.{IsUpset, IsScrub}
+use Rattle.tl_text.specs.NameIndex.{place_of}
+use Rattle.tlut_host.specs.Copied.{copied, copied_plain}
+use Rattle.tlut_host.specs.Settings.{IsChange, settings_status, assign_of}
+use Rattle.tlut_host.specs.declared.setting.Setting.{Setting}
+use Rattle.tlut_host.specs.declared.setting.BitWrite.{BitWrite}
+use Rattle.tlut_host.specs.declared.setting.TheConstants.{DONE, CLOSED, RANGE}
+
+-- an open handle stays open, and this is said of its hosts; a call at a closed one answers that it is closed
+abbrev pub IsCall : Option SpecialiserValue → Option SpecialiserValue → ℕ → (SpecialiserValue → SpecialiserValue → Type 0) → Type 0
+IsCall None None status P = status ≡ CLOSED
+IsCall None (Some new) status P = ⊥
+IsCall (Some old) None status P = ⊥
+IsCall (Some old) (Some new) status P = P old new
+
+-- the writes of the last event, copied, and their number
+pub record AreHanded (new : SpecialiserValue) (before after : List BitWrite) (count : ℕ) : Type 0 where
+  pub writes : after ≡ copied new.writes before
+  pub number : count ≡ length new.writes
+
+-- settings are taken, or the first one that breaks a rule is told, and then nothing changes
+pub record IsSetCall (settings : List Setting) (old new : SpecialiserValue) (status : ℕ) : Type 0 where
+  pub answer : status ≡ settings_status (length old.state.params) 0 settings
+  pub done : status ≡ DONE → IsChange (map assign_of settings) old new
+  pub refused : status ≢ DONE → new ≡ old
+
+-- a bit is flipped, or there is none at the address, and then nothing changes
+pub record IsUpsetCall (address : ℕ) (old new : SpecialiserValue) (status : ℕ) : Type 0 where
+  pub pack : new.pack ≡ old.pack
+  pub done : address < length old.state.config → (status ≡ DONE) × IsUpset address old.state new.writes new.state
+  pub range : length old.state.config ≤ address → (status ≡ RANGE) × (new ≡ old)
+
+-- upset bits are set right
+pub record IsScrubCall (old new : SpecialiserValue) (status : ℕ) : Type 0 where
+  pub done : status ≡ DONE
+  pub pack : new.pack ≡ old.pack
+  pub scrub : IsScrub old.pack old.state new.writes new.state
+  pub right : IsConf old.pack new.state.params new.state.config
+
+-- the value of a parameter, or there is none of this number, and then nothing is told
+pub record IsValueCall (number : ℕ) (values : List Bool) (before after : Bool) (status : ℕ) : Type 0 where
+  pub told : number < length values → (status ≡ DONE) × (slice_get values number ≡ Some after)
+  pub range : length values ≤ number → (status ≡ RANGE) × (after ≡ before)
+
+-- the name of a parameter, copied, and its length, or there is none of this number, and then nothing is told
+pub record IsNameCall (names : List (List ℕ)) (number : ℕ) (before after : List ℕ) (count told : ℕ) (status : ℕ) : Type 0 where
+  pub done : (name : List ℕ) → slice_get names number ≡ Some name → (status ≡ DONE) × (after ≡ copied_plain name before) × (told ≡ length name)
+  pub range : length names ≤ number → (status ≡ RANGE) × (after ≡ before) × (told ≡ count)
+
+-- the number of the parameter of a name, or there is none of this name, and then nothing is told
+pub record IsNumberCall (names : List (List ℕ)) (name : List ℕ) (before after : ℕ) (status : ℕ) : Type 0 where
+  pub told : (place : ℕ) → place_of names name ≡ Some place → (status ≡ DONE) × (after ≡ place)
+  pub range : place_of names name ≡ None → (status ≡ RANGE) × (after ≡ before)

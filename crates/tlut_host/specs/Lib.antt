@@ -1,0 +1,6 @@
+pub mod Calls
+pub mod Copied
+pub mod Kept
+pub mod Opened
+pub mod Owned
+pub mod Settings

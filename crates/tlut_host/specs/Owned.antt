@@ -1,0 +1,17 @@
+-- What a pointer that C keeps owns: the box behind it, if there is one.
+use Rattle.std.specs.Prelude.{Option, Some, None}
+use base.Fml.{Fml, ftrue}
+use denote.RawPtr.{Ptr}
+use Rattle.std_heap.specs.declared.Global.{Global}
+use Rattle.std_heap.specs.contracts.GlobalAllocator.TheImpl.{ghosts}
+use Rattle.std_alloc.specs.Box.Ownership.{box_owns}
+use Rattle.tlut_host.specs.declared.host.Host.{Host}
+use Rattle.tlut_host.specs.contracts.host.Host.{the_row}
+
+-- the handle to the heap, which has no bytes
+abbrev pub heap : Global
+heap = record { memory = record { seal = tt } }
+
+abbrev pub held_by : Ptr → Option Host → Fml
+held_by p (Some x) = box_owns (ghosts.dealloc_token heap) the_row p x
+held_by p None = ftrue

@@ -1,0 +1,53 @@
+//! A pointer that C keeps.
+ghost use Rattle.std.specs.Prelude.{◌≡◌, Option, Some, None, is_some, true};
+ghost use Rattle.tlut_host.specs.declared.host.Host.{Host};
+
+use crate::host::Host;
+use crate::loose::Loose;
+use std::alloc::Global;
+use std::marker::Model;
+
+/// A pointer to a host, or to nothing.
+#[repr(C)]
+#[derive(Drop)]
+pub struct Held {
+    at: *mut u8,
+    ghost value: { Option Host },
+}
+
+impl Model for Held {
+    ghost use Rattle.tlut_host.specs.Owned.{held_by};
+
+    ghost also_owns = { λ h. held_by h.at h.value };
+}
+
+impl Held {
+    // A pointer to nothing.
+    pub(crate) fn empty() -> Held
+        ensures { result.value ≡ None }
+    {
+        Held {
+            at: std::ptr::null_mut(),
+        }
+    }
+
+    // The pointer to a host.
+    pub(crate) fn of(loose: Loose<Host, Global>) -> Held
+        ensures { result.value ≡ Some loose.value }
+    {
+        let Loose { at, alloc: _ } = loose;
+        Held { at: at as *mut u8 }
+    }
+
+    // The host again.
+    pub(crate) fn into_loose(self, alloc: Global) -> Loose<Host, Global>
+        requires { is_some self.value ≡ true }
+        ensures { self.value ≡ Some result.value }
+    {
+        let Held { at } = self;
+        Loose {
+            at: at as *mut Host,
+            alloc,
+        }
+    }
+}

@@ -1,0 +1,79 @@
+//! Opening a pack.
+ghost use Rattle.std.specs.Prelude.{◌≡◌, ◌≢◌, IfOk, IfErr};
+ghost use Rattle.tlut_host.specs.Opened.{IsOpened, IsOpenFault, told, told_of, status_of};
+
+use crate::host::Host;
+use crate::setting::{LIMIT, MEMORY, REFUSED, Refusal};
+use ppc_file::{PackErr, decode};
+use std::alloc::Global;
+use tl_text::MOST_PACK_BYTES;
+
+// Why bytes aren't opened.
+#[derive(Clone, Copy)]
+pub(crate) enum OpenErr {
+    Limit,
+    Memory,
+    Refused(PackErr),
+}
+
+// The rule and the offset that C is told.
+fn refusal_told(error: PackErr) -> Refusal
+    ensures { result ≡ told error }
+{
+    let (rule, offset) = match error {
+        PackErr::Magic(at) => (1, at),
+        PackErr::Version(at) => (2, at),
+        PackErr::Truncated(at) => (3, at),
+        PackErr::BadName(at) => (4, at),
+        PackErr::BadNode(at) => (5, at),
+        PackErr::BadBit(at) => (6, at),
+        PackErr::Trailing(at) => (7, at),
+        PackErr::BadNumber(at) => (8, at),
+        PackErr::Memory => (0, 0),
+    };
+    Refusal { rule, offset }
+}
+
+impl OpenErr {
+    pub(crate) fn status(self) -> u32
+        ensures { result ≡ status_of self }
+    {
+        match self {
+            OpenErr::Limit => LIMIT,
+            OpenErr::Memory => MEMORY,
+            OpenErr::Refused(_) => REFUSED,
+        }
+    }
+
+    pub(crate) fn refusal(self) -> Refusal
+        ensures { result ≡ told_of self }
+    {
+        match self {
+            OpenErr::Limit => Refusal { rule: 0, offset: 0 },
+            OpenErr::Memory => Refusal { rule: 0, offset: 0 },
+            OpenErr::Refused(error) => refusal_told(error),
+        }
+    }
+}
+
+// A host of the pack in these bytes, in a box.
+pub(crate) fn open(alloc: Global, bytes: &[u8]) -> Result<Box<Host>, OpenErr>
+    ensures ok { IfOk result (λ b. IsOpened bytes.now b.value) }
+    ensures fault { IfErr result (IsOpenFault bytes.now) }
+{
+    if bytes.len() > MOST_PACK_BYTES {
+        return Err(OpenErr::Limit);
+    }
+    let pack = match decode(alloc, bytes) {
+        Ok(pack) => pack,
+        Err(PackErr::Memory) => return Err(OpenErr::Memory),
+        Err(error) => return Err(OpenErr::Refused(error)),
+    };
+    let Ok(host) = Host::make(alloc, pack) else {
+        return Err(OpenErr::Memory);
+    };
+    match Box::new(alloc, host) {
+        Ok(host) => Ok(host),
+        Err(_) => Err(OpenErr::Memory),
+    }
+}

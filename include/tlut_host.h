@@ -1,0 +1,120 @@
+/*
+ * tlut_host: the run-time specialiser of TLUT Flow, for host programs.
+ *
+ * A pack (from `tlut map` or `tlut run`) has the configuration bits of a mapped circuit as functions of its parameters. A
+ * host opens a pack, gives new values to parameters, and gets the configuration bits to rewrite: exactly those that differ,
+ * in ascending order of their addresses. Each function here is proved: docs/host.md says what, and what a caller owes.
+ *
+ *     tlut_host host = TLUT_HOST_CLOSED;
+ *     tlut_refusal refusal;
+ *     if (tlut_open(bytes, length, &host, &refusal) != TLUT_DONE) { ... }
+ *     tlut_setting settings[] = {{0, true}, {3, false}};        // ascending parameters, each at most once
+ *     tlut_write writes[64] = {{0, false}};
+ *     size_t count;
+ *     if (tlut_set(&host, settings, 2) == TLUT_DONE && tlut_writes(&host, writes, 64, &count) == TLUT_DONE)
+ *         for (size_t i = 0; i < count && i < 64; i++) { ... writes[i].address, writes[i].bit ... }
+ *     tlut_close(&host);
+ *
+ * Memory. Only tlut_open allocates, by malloc, and only tlut_close frees. No pointer may be null, not even to an array of
+ * no elements. An array that a function writes has to be initialised. No array may overlap another one, or the handle.
+ *
+ * Threads. A handle belongs to one call at a time, and stays on its thread. Handles share nothing.
+ *
+ * Statuses. Each function answers TLUT_DONE or why not; then it changes nothing, and writes through no pointer (but
+ * tlut_open's refusal).
+ */
+#ifndef TLUT_HOST_H
+#define TLUT_HOST_H
+
+#include <stdbool.h>
+#include <stddef.h>
+#include <stdint.h>
+
+#ifdef __cplusplus
+extern "C" {
+#endif
+
+typedef uint32_t tlut_status;
+
+#define TLUT_DONE ((tlut_status)0)
+#define TLUT_REFUSED ((tlut_status)1) /* the bytes aren't a pack */
+#define TLUT_LIMIT ((tlut_status)2)   /* more bytes than a pack can have, 2^29 */
+#define TLUT_MEMORY ((tlut_status)3)  /* memory ran out */
+#define TLUT_CLOSED ((tlut_status)4)  /* the handle isn't open */
+#define TLUT_OPEN ((tlut_status)5)    /* the handle is open already */
+#define TLUT_RANGE ((tlut_status)6)   /* no parameter has this number, or no bit this address */
+#define TLUT_ORDER ((tlut_status)7)   /* a parameter stands after one of the same or a higher number */
+
+/* A handle. Its members are the library's. Copy it only to move it: the copy that is left behind must not be used. */
+typedef struct tlut_host {
+    void *state;
+    bool is_open;
+} tlut_host;
+
+/* A handle before tlut_open. */
+#define TLUT_HOST_CLOSED {NULL, false}
+
+/* Why bytes aren't a pack: rule 1 to 8 for K1 to K8 (docs/formats.md), and the offset of the refused field in bytes. */
+typedef struct tlut_refusal {
+    uint32_t rule;
+    uint32_t offset;
+} tlut_refusal;
+
+/* A new value of the parameter of this number, from 0. */
+typedef struct tlut_setting {
+    uint16_t parameter;
+    bool bit;
+} tlut_setting;
+
+/* A write of the configuration bit at this address, from 0. */
+typedef struct tlut_write {
+    uint32_t address;
+    bool bit;
+} tlut_write;
+
+/* Opens the pack in these bytes, at its initial values: TLUT_DONE, TLUT_REFUSED, TLUT_LIMIT, TLUT_MEMORY or TLUT_OPEN.
+ * Time and memory are linear in the bytes. The bytes aren't used after the call. */
+tlut_status tlut_open(const uint8_t *pack, size_t length, tlut_host *host, tlut_refusal *refusal);
+
+/* Frees what the handle holds: TLUT_DONE or TLUT_CLOSED. The handle is closed then. */
+tlut_status tlut_close(tlut_host *host);
+
+/* The numbers of parameters, at most 65,535, and of configuration bits: TLUT_DONE or TLUT_CLOSED. */
+tlut_status tlut_counts(tlut_host *host, size_t *parameters, size_t *bits);
+
+/* The name of a parameter, without a zero at its end: TLUT_DONE, TLUT_CLOSED or TLUT_RANGE. Copies as many bytes as the
+ * array has room for, and tells how many there are. */
+tlut_status tlut_name(tlut_host *host, size_t parameter, uint8_t *name, size_t length, size_t *count);
+
+/* The number of the parameter of this name: TLUT_DONE, TLUT_CLOSED, or TLUT_RANGE if there is none. */
+tlut_status tlut_number(tlut_host *host, const uint8_t *name, size_t length, size_t *number);
+
+/* Gives new values to parameters in ascending order, each at most once: TLUT_DONE, TLUT_CLOSED, TLUT_RANGE or TLUT_ORDER.
+ * Time is that of the nodes whose inputs change, and of the bits whose functions change. */
+tlut_status tlut_set(tlut_host *host, const tlut_setting *settings, size_t length);
+
+/* Flips the bit at an address, as a fault in the device does: TLUT_DONE, TLUT_CLOSED or TLUT_RANGE. */
+tlut_status tlut_upset(tlut_host *host, uint32_t address);
+
+/* Sets every upset bit right: TLUT_DONE or TLUT_CLOSED. Time is linear in the bits. */
+tlut_status tlut_scrub(tlut_host *host);
+
+/* The writes of the last tlut_set, tlut_upset or tlut_scrub, in ascending order; none before the first. Copies as many as
+ * the array has room for, and tells how many there are. */
+tlut_status tlut_writes(tlut_host *host, tlut_write *writes, size_t length, size_t *count);
+
+/* The configuration of the device, upset bits as they are. Copies as many bits as the array has room for, and tells how
+ * many there are. */
+tlut_status tlut_image(tlut_host *host, bool *bits, size_t length, size_t *count);
+
+/* The value of a parameter: TLUT_DONE, TLUT_CLOSED or TLUT_RANGE. */
+tlut_status tlut_value(tlut_host *host, uint16_t parameter, bool *bit);
+
+/* The values of the parameters, in the same way as tlut_image. */
+tlut_status tlut_values(tlut_host *host, bool *bits, size_t length, size_t *count);
+
+#ifdef __cplusplus
+}
+#endif
+
+#endif
