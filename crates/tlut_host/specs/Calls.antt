@@ -17,6 +17,13 @@ IsCall None (Some new) status P = ⊥
 IsCall (Some old) None status P = ⊥
 IsCall (Some old) (Some new) status P = P old new
 
+-- the same of a call that tells something through pointers: at a closed handle what is there stays
+abbrev pub IsTellingCall : Option SpecialiserValue → Option SpecialiserValue → ℕ → Type 0 → (SpecialiserValue → SpecialiserValue → Type 0) → Type 0
+IsTellingCall None None status Stays P = (status ≡ CLOSED) × Stays
+IsTellingCall None (Some new) status Stays P = ⊥
+IsTellingCall (Some old) None status Stays P = ⊥
+IsTellingCall (Some old) (Some new) status Stays P = P old new
+
 -- the writes of the last event, copied, and their number
 pub record AreHanded (new : SpecialiserValue) (before after : List BitWrite) (count : ℕ) : Type 0 where
   pub writes : after ≡ copied new.writes before

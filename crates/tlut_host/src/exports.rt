@@ -3,7 +3,7 @@ ghost use Rattle.std.specs.Prelude.{◌≡◌, ◌≢◌, true, Option, Some, No
 ghost use Rattle.tlut_host.specs.Copied.{copied_plain};
 ghost use Rattle.tlut_host.specs.Kept.{param_names};
 ghost use Rattle.tlut_host.specs.Opened.{IsOpened, IsTold, HoldsOne};
-ghost use Rattle.tlut_host.specs.Calls.{IsCall, IsSetCall, IsUpsetCall, IsScrubCall, IsValueCall, IsNameCall, IsNumberCall, AreHanded};
+ghost use Rattle.tlut_host.specs.Calls.{IsCall, IsTellingCall, IsSetCall, IsUpsetCall, IsScrubCall, IsValueCall, IsNameCall, IsNumberCall, AreHanded};
 
 use crate::copy::{copy_bits, copy_writes, value_at};
 use crate::handle::{Handle, take};
@@ -23,6 +23,9 @@ pub extern "C" fn tlut_open(
     ensures done { result ≡ 0 → HoldsOne handle.new.held.value (IsOpened pack.now) }
     ensures kept { result ≢ 0 → handle.new.held.value ≡ handle.old.held.value }
     ensures open { is_some handle.old.held.value ≡ true → result ≡ 5 }
+    ensures only_open { result ≡ 5 → is_some handle.old.held.value ≡ true }
+    ensures quiet { result ≡ 0 → refusal.new ≡ refusal.old }
+    ensures quiet_open { result ≡ 5 → refusal.new ≡ refusal.old }
     ensures told { result ≢ 0 → result ≢ 5 → IsTold pack.now result refusal.new }
 {
     if handle.is_open {
@@ -99,7 +102,7 @@ pub extern "C" fn tlut_writes(
     writes: &mut [BitWrite],
     count: &mut usize,
 ) -> u32
-    ensures { IsCall handle.old.held.value handle.new.held.value result (λ old new. (result ≡ 0) × (new ≡ old) × AreHanded old writes.old writes.new count.new) }
+    ensures { IsTellingCall handle.old.held.value handle.new.held.value result ((writes.new ≡ writes.old) × (count.new ≡ count.old)) (λ old new. (result ≡ 0) × (new ≡ old) × AreHanded old writes.old writes.new count.new) }
 {
     let Some(host) = take(alloc, handle) else {
         return CLOSED;
@@ -117,7 +120,7 @@ pub extern "C" fn tlut_image(
     bits: &mut [bool],
     count: &mut usize,
 ) -> u32
-    ensures { IsCall handle.old.held.value handle.new.held.value result (λ old new. (result ≡ 0) × (new ≡ old) × (bits.new ≡ copied_plain old.state.config bits.old) × (count.new ≡ length old.state.config)) }
+    ensures { IsTellingCall handle.old.held.value handle.new.held.value result ((bits.new ≡ bits.old) × (count.new ≡ count.old)) (λ old new. (result ≡ 0) × (new ≡ old) × (bits.new ≡ copied_plain old.state.config bits.old) × (count.new ≡ length old.state.config)) }
 {
     let Some(host) = take(alloc, handle) else {
         return CLOSED;
@@ -135,7 +138,7 @@ pub extern "C" fn tlut_values(
     bits: &mut [bool],
     count: &mut usize,
 ) -> u32
-    ensures { IsCall handle.old.held.value handle.new.held.value result (λ old new. (result ≡ 0) × (new ≡ old) × (bits.new ≡ copied_plain old.state.params bits.old) × (count.new ≡ length old.state.params)) }
+    ensures { IsTellingCall handle.old.held.value handle.new.held.value result ((bits.new ≡ bits.old) × (count.new ≡ count.old)) (λ old new. (result ≡ 0) × (new ≡ old) × (bits.new ≡ copied_plain old.state.params bits.old) × (count.new ≡ length old.state.params)) }
 {
     let Some(host) = take(alloc, handle) else {
         return CLOSED;
@@ -153,7 +156,7 @@ pub extern "C" fn tlut_counts(
     parameters: &mut usize,
     bits: &mut usize,
 ) -> u32
-    ensures { IsCall handle.old.held.value handle.new.held.value result (λ old new. (result ≡ 0) × (new ≡ old) × (parameters.new ≡ length old.state.params) × (bits.new ≡ length old.state.config)) }
+    ensures { IsTellingCall handle.old.held.value handle.new.held.value result ((parameters.new ≡ parameters.old) × (bits.new ≡ bits.old)) (λ old new. (result ≡ 0) × (new ≡ old) × (parameters.new ≡ length old.state.params) × (bits.new ≡ length old.state.config)) }
 {
     let Some(host) = take(alloc, handle) else {
         return CLOSED;
@@ -172,7 +175,7 @@ pub extern "C" fn tlut_value(
     parameter: u16,
     bit: &mut bool,
 ) -> u32
-    ensures { IsCall handle.old.held.value handle.new.held.value result (λ old new. (new ≡ old) × IsValueCall parameter old.state.params bit.old bit.new result) }
+    ensures { IsTellingCall handle.old.held.value handle.new.held.value result (bit.new ≡ bit.old) (λ old new. (new ≡ old) × IsValueCall parameter old.state.params bit.old bit.new result) }
 {
     let Some(host) = take(alloc, handle) else {
         return CLOSED;
@@ -191,7 +194,7 @@ pub extern "C" fn tlut_name(
     name: &mut [u8],
     count: &mut usize,
 ) -> u32
-    ensures { IsCall handle.old.held.value handle.new.held.value result (λ old new. (new ≡ old) × IsNameCall (param_names old.pack.params) parameter name.old name.new count.old count.new result) }
+    ensures { IsTellingCall handle.old.held.value handle.new.held.value result ((name.new ≡ name.old) × (count.new ≡ count.old)) (λ old new. (new ≡ old) × IsNameCall (param_names old.pack.params) parameter name.old name.new count.old count.new result) }
 {
     let Some(host) = take(alloc, handle) else {
         return CLOSED;
@@ -209,7 +212,7 @@ pub extern "C" fn tlut_number(
     name: &[u8],
     number: &mut usize,
 ) -> u32
-    ensures { IsCall handle.old.held.value handle.new.held.value result (λ old new. (new ≡ old) × IsNumberCall (param_names old.pack.params) name.now number.old number.new result) }
+    ensures { IsTellingCall handle.old.held.value handle.new.held.value result (number.new ≡ number.old) (λ old new. (new ≡ old) × IsNumberCall (param_names old.pack.params) name.now number.old number.new result) }
 {
     let Some(host) = take(alloc, handle) else {
         return CLOSED;

@@ -1,5 +1,5 @@
 //! Opening a pack.
-ghost use Rattle.std.specs.Prelude.{◌≡◌, ◌≢◌, IfOk, IfErr};
+ghost use Rattle.std.specs.Prelude.{◌≡◌, ◌≢◌, ◌<◌, IfOk, IfErr};
 ghost use Rattle.tlut_host.specs.Opened.{IsOpened, IsOpenFault, told, told_of, status_of};
 
 use crate::host::Host;
@@ -36,7 +36,9 @@ fn refusal_told(error: PackErr) -> Refusal
 
 impl OpenErr {
     pub(crate) fn status(self) -> u32
-        ensures { result ≡ status_of self }
+        ensures status { result ≡ status_of self }
+        ensures some { 0 < result }
+        ensures few { result < 4 }
     {
         match self {
             OpenErr::Limit => LIMIT,
