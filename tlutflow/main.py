@@ -9,10 +9,10 @@ import sys
 from types import ModuleType
 from typing import NoReturn, Optional
 
-from tlutflow.commands import build, check, compare, complete, device, draw, explain, hdl, params, prepare, report, script, show, stream, verilog, wave
+from tlutflow.commands import bits, build, check, compare, complete, device, draw, explain, hdl, params, prepare, report, script, show, stream, verilog, wave
 from tlutflow.faults import Fault
 
-COMMANDS: list[ModuleType] = [build, verilog, prepare, params, script, show, report, draw, wave, hdl, stream, device, check, compare, explain, complete]
+COMMANDS: list[ModuleType] = [build, verilog, prepare, params, script, show, report, draw, wave, hdl, stream, device, check, compare, bits, explain, complete]
 
 HEAD = """The companion of the mapper tlut: from a design in Verilog to a netlist, values of buses in and out, and views of the mapped circuit.
 Each subcommand has its own --help."""

@@ -14,11 +14,12 @@ PACED_WORDS = ("ask", "tick")
 
 @dataclass(frozen=True)
 class Event:
-    """An event of a script of `run` or of `pace`: its word, and what a set or an ask gives the parameters, or a cycle or a tick the regular
-    inputs."""
+    """An event of a script of `run`, `bits` or `pace`: its word, what a set or an ask gives the parameters, or a cycle or a tick the regular
+    inputs, and the address of an upset."""
 
     word: str
     values: dict[str, int]
+    address: int = 0
 
 
 def is_line_of(event: Event, word: str) -> bool:
@@ -55,7 +56,7 @@ def event_of(line: Line, regular: list[str]) -> Event:
         if len(digits) != len(regular):
             raise ValueError
         return Event(word, {name: int(bit) for name, bit in zip(regular, digits)})
-    return Event(word, {})
+    return Event(word, {}, int(others[0]) if word == "upset" else 0)
 
 
 def bits_text(bits: list[int]) -> str:

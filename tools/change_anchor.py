@@ -1,15 +1,17 @@
 #!/usr/bin/env python3
-"""Times changes of parameters, and a loop in C over the part of the pack that each parameter reaches.
+"""Times changes of parameters by `tlut bits`, by the library for host programs, and by a loop in C over the part of the pack that each parameter
+reaches.
 
     python3 tools/change_anchor.py [NETLIST PARAMS K]
 
-Outside the gate. Call `./tlut` once before, to build the program; it needs a C compiler (`cc`). Without arguments it takes the filter of
+Outside the gate. Call `./tlut` once before, to build the program, and build the library by `make -C include`; it needs a C compiler (`cc`). Without arguments it takes the filter of
 tools/designs.py at K 6, whose pack is the largest of that file's.
 
 Each change flips one parameter, drawn with a fixed seed. The loop evaluates every node that the parameter reaches, in order, and
 compares every bit that it reaches, without testing what has changed: what a compiler generates from the pack alone. `tlut bits` reads each
-change as a line, follows what changes, and prints each write. Both times are CPU time per change, the least of some runs, without the
-start of the program, and both must find the same number of writes.
+change as a line, follows what changes, and prints each write. The library does the same without text: a call of `tlut_set`, and one of
+`tlut_writes`. All times are CPU time per change, the least of some runs, without the start of the program, and all must find the same
+number of writes.
 """
 
 import os
@@ -65,6 +67,37 @@ int main(int argc, char **argv) {
     }
     printf("%lu %.9f\n", writes, (double)(clock() - begun) / CLOCKS_PER_SEC / changes);
     return 0;
+}
+"""
+HOST = r"""
+#include <stdio.h>
+#include <stdlib.h>
+#include <time.h>
+#include "tlut_host.h"
+int main(int argc, char **argv) {
+    FILE *in = argc == 3 ? fopen(argv[1], "rb") : NULL, *turns = argc == 3 ? fopen(argv[2], "r") : NULL;
+    if (!in || !turns || fseek(in, 0, SEEK_END)) return 1;
+    size_t length = ftell(in), parameters, bits, count;
+    uint8_t *bytes = malloc(length);
+    rewind(in);
+    tlut_host host = TLUT_HOST_CLOSED;
+    tlut_refusal refusal = {0, 0};
+    if (fread(bytes, 1, length, in) != length || tlut_open(bytes, length, &host, &refusal) || tlut_counts(&host, &parameters, &bits)) return 1;
+    tlut_write *writes = calloc(bits, sizeof *writes);
+    bool *values = calloc(parameters, sizeof *values);
+    unsigned changes, *turned;
+    if (tlut_values(&host, values, parameters, &count) || fscanf(turns, "%u", &changes) != 1) return 1;
+    turned = malloc(changes * sizeof *turned);
+    for (unsigned i = 0; i < changes; i++) if (fscanf(turns, "%u", &turned[i]) != 1) return 1;
+    unsigned long found = 0;
+    clock_t begun = clock();
+    for (unsigned i = 0; i < changes; i++) {
+        tlut_setting setting = {(uint16_t)turned[i], values[turned[i]] = !values[turned[i]]};
+        if (tlut_set(&host, &setting, 1) || tlut_writes(&host, writes, bits, &count)) return 1;
+        found += count;
+    }
+    printf("%lu %.9f\n", found, (double)(clock() - begun) / CLOCKS_PER_SEC / changes);
+    return tlut_close(&host);
 }
 """
 
@@ -136,6 +169,17 @@ def by_bits(pack, turned, room):
     return sum(int(line.split()[1]) for line in printed.splitlines()[1:]), (some - none) / len(turned)
 
 
+def by_library(turned, room):
+    """The writes and the seconds a change by the library."""
+    write_text(f"{room}/host.c", HOST)
+    write_text(f"{room}/turned.txt", " ".join(map(str, [len(turned), *turned])))
+    library = [f"-I{TOP}/include", "-o", f"{room}/host", f"{room}/host.c", f"{TOP}/include/build/libtlut_host.a"]
+    subprocess.run(["cc", "-O2", *library], check=True)
+    words = [f"{room}/host", f"{room}/bits.ppc", f"{room}/turned.txt"]
+    found = [subprocess.run(words, capture_output=True, text=True, check=True).stdout.split() for _ in range(RUNS)]
+    return int(found[0][0]), min(float(it[1]) for it in found)
+
+
 def main():
     parser = shared.words(__doc__)
     parser.add_argument("netlist", metavar="NETLIST", nargs="?", help="a netlist (default: the filter)")
@@ -153,10 +197,11 @@ def main():
         turned = drawn(len(pack.parameters))
         writes, loop, nodes = by_loop(pack, turned, room)
         ours, bits = by_bits(pack, turned, room)
-    if ours != writes:
-        raise Fault(f"the loop finds {writes} writes, and bits {ours}")
+        others, host = by_library(turned, room)
+    if not ours == others == writes:
+        raise Fault(f"the loop finds {writes} writes, bits {ours}, and the library {others}")
     print(f"{len(pack.parameters)} parameters, {len(pack.nodes)} nodes, {len(pack.bits)} bits; a parameter reaches {nodes:.0f} nodes on average")
-    print(f"{writes / len(turned):.1f} writes a change: the loop {1e6 * loop:.2f} us, tlut bits {1e6 * bits:.2f} us, ratio {bits / loop:.2f}")
+    print(f"{writes / len(turned):.1f} writes a change: the loop {1e6 * loop:.2f} us, tlut bits {1e6 * bits:.2f} us, ratio {bits / loop:.2f}, the library {1e6 * host:.2f} us, ratio {host / loop:.2f}")
 
 
 if __name__ == "__main__":

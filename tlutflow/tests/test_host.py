@@ -6,8 +6,11 @@ import tempfile
 import unittest
 
 from tlutflow.faults import Fault
-from tlutflow.host import LIBRARY, Host
+from tlutflow.host import Host
+from tlutflow.host_calls import LIBRARY
+from tlutflow.host_player import played
 from tlutflow.pack import Pack, read_pack
+from tlutflow.script import parse_script
 from tlutflow.tests.helpers import DATA
 
 PACKS = ("fir", "coder", "matcher")
@@ -54,6 +57,16 @@ class HostTest(unittest.TestCase):
             with self.assertRaisesRegex(Fault, "no such parameter or address"):
                 host.upset(len(right))
             self.assertEqual(host.image, right)
+
+    def test_scripts(self) -> None:
+        """A script's lines are those of `tlut bits`."""
+        script = "set c1[0]=1 c0[2]=0\nupset 3\nimage\nscrub\nset c1[0]=0\n"
+        with Host(f"{DATA}/fir.ppc") as host:
+            right = [int(bit) for bit in host.image]
+            lines = list(played(host, parse_script(script, "script", [])))
+        self.assertEqual(lines[0], f"bits {len(right)}")
+        self.assertEqual([line.split()[0] for line in lines[1:]], ["set", "upset", "image", "scrub", "set"])
+        self.assertEqual(lines[4], f"scrub 1 3={1 - int(lines[2][-1])}")
 
     def test_buses(self) -> None:
         """A bus takes a number."""

@@ -1,6 +1,6 @@
 """Retunes the filter of examples/fir: gives its three coefficients new values, and prints the configuration bits to rewrite.
 
-    PYTHONPATH=. python3 include/examples/filter.py PACK [C0 C1 C2]..
+    PYTHONPATH=. python3 examples/host/filter.py PACK [C0 C1 C2]..
 
 PACK is made by `./tlut map 4 examples/fir/fir.blif examples/fir/fir.par TEMPLATE PACK`. It prints what filter.c prints.
 """

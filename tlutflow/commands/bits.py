@@ -1,0 +1,37 @@
+"""`flow bits`: a script played by `tlut bits` and by the library for host programs, and their lines compared."""
+
+from __future__ import annotations
+
+import argparse
+
+from tlutflow import tools
+from tlutflow.faults import Fault
+from tlutflow.host import Host
+from tlutflow.host_player import played
+from tlutflow.script import read_script
+from tlutflow.text import physical_lines
+
+HELP = "a script on a pack, played by tlut and by the library for host programs"
+DESCRIPTION = """Plays a script on a pack by `tlut bits` and by the library for host programs (docs/host.md), and prints the lines of `tlut bits`.
+Fails at the first line in which the library differs. The library has to be built: make -C include."""
+EXAMPLE = """example:
+  flow bits fir.ppc fir.scr"""
+
+
+def add_words(parser: argparse.ArgumentParser) -> None:
+    parser.add_argument("pack", metavar="PACK", help="the pack")
+    parser.add_argument("script", metavar="SCRIPT", help="the script, without cycles")
+    parser.add_argument("--tlut", metavar="PROGRAM", help="the mapper (default: the one beside the companion)")
+
+
+def run(given: argparse.Namespace) -> int:
+    ran = tools.run([tools.tlut(given.tlut), "bits", given.pack, given.script])
+    if ran.returncode:
+        raise Fault(ran.stderr.strip())
+    lines = physical_lines(ran.stdout[:-1])
+    with Host(given.pack) as host:
+        for number, (line, other) in enumerate(zip(lines, played(host, read_script(given.script, []))), 1):
+            print(line)
+            if line != other:
+                raise Fault(f"line {number} by the library: {other}")
+    return 0

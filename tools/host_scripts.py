@@ -1,0 +1,86 @@
+#!/usr/bin/env python3
+"""Plays random scripts on random packs by `tlut bits` and by the library for host programs, and compares each line.
+
+    python3 tools/host_scripts.py [COUNT]
+
+Outside the gate. Call `./tlut` once before, to build the program, and build the library by `make -C include`. A pack has up to 12
+parameters, 60 AND nodes and 80 bits, in one of the two versions of the format; a script has up to 20 events, with upsets, scrubs and images.
+The last line is `N passed, M failed`, and the exit status is 1 if M isn't 0.
+"""
+
+import os
+import random
+import subprocess
+import sys
+import tempfile
+from concurrent.futures import ThreadPoolExecutor
+
+import shared
+
+sys.path.insert(0, shared.TOP)
+
+from pack_bytes import encode
+from tlutflow.host import Host
+from tlutflow.host_player import played
+from tlutflow.script import parse_script
+
+COUNT = 5_000
+SEED = 20_000
+
+
+def pack_of(chosen):
+    """A random pack: names and values of parameters, pairs of nodes, literals of bits."""
+    parameters = [(b"p%d" % place, chosen.randint(0, 1)) for place in range(chosen.randint(0, 12))]
+    first, pairs = 1 + len(parameters), []
+    for index in range(first, first + chosen.randint(0, 60)):
+        pair = tuple(sorted(chosen.randrange(2, 2 * index) for _ in range(2))) if index > 2 else (0, 0)
+        if pair[0] // 2 == pair[1] // 2 or pair in pairs:
+            break
+        pairs.append(pair)
+    return parameters, pairs, [chosen.randrange(2 * (first + len(pairs))) for _ in range(chosen.randint(0, 80))]
+
+
+def event_of(parameters, bits, chosen):
+    """A random line of a script."""
+    word = chosen.choice(("set", "set", "set", "set", "upset", "scrub", "image"))
+    if word == "set" and parameters:
+        names = chosen.sample([name.decode() for name, _ in parameters], chosen.randint(1, len(parameters)))
+        return " ".join(["set", *(f"{name}={chosen.randint(0, 1)}" for name in names)])
+    if word == "upset" and bits:
+        return f"upset {chosen.randrange(len(bits))}"
+    return "image" if word == "image" else "scrub"
+
+
+def is_same(seed, room):
+    """Whether the library prints what `tlut bits` prints, on the pack and the script of this number."""
+    chosen = random.Random(seed)
+    pack = pack_of(chosen)
+    text = "".join(event_of(pack[0], pack[2], chosen) + "\n" for _ in range(chosen.randint(0, 20)))
+    path = f"{room}/{seed}.ppc"
+    with open(path, "wb") as file:
+        file.write(encode(pack, chosen.choice((1, 2))))
+    with open(f"{room}/{seed}.scr", "w", encoding="ascii") as file:
+        file.write(text)
+    ran = subprocess.run([shared.PROGRAM, "bits", path, f"{room}/{seed}.scr"], capture_output=True, text=True, check=False)
+    events = parse_script(text, "script", [])
+    with Host(path) as host:
+        lines = "".join(f"{line}\n" for line in played(host, events))
+    is_well = ran.returncode == 0 and ran.stdout == lines
+    os.remove(path)
+    if not is_well:
+        print(f"seed {seed}: {text!r}\n{ran.stdout}{ran.stderr}but by the library\n{lines}")
+    return is_well
+
+
+def main():
+    parser = shared.words(__doc__)
+    parser.add_argument("count", metavar="COUNT", nargs="?", type=int, default=COUNT, help=f"how many packs (default: {COUNT})")
+    count = parser.parse_args().count
+    with tempfile.TemporaryDirectory() as room, ThreadPoolExecutor(2) as pool:
+        passed = sum(pool.map(lambda seed: is_same(seed, room), range(SEED, SEED + count)))
+    print(f"{passed} passed, {count - passed} failed")
+    return passed != count
+
+
+if __name__ == "__main__":
+    sys.exit(main())
