@@ -15,9 +15,10 @@ use std::sync::ledger::Ledger;
 use tl_io::Write;
 
 /// A device with a mark at each address at which it is behind, the number of these marks, and the writes of the last tick that
-/// waited. There is room for one write per address.
+/// waited. There is room for one write per address. A [`Pacer`](crate::Pacer) plays a circuit over it; a host without a circuit takes
+/// it alone.
 #[derive(Drop)]
-pub(crate) struct Backlog {
+pub struct Backlog {
     device: LateDevice,
     waiting: u32,
     writes: Vec<Write>,
@@ -38,7 +39,7 @@ impl Backlog {
     /// Creates a device that has this configuration, so that it isn't behind.
     ///
     /// Returns `Err` only if memory runs out. No other call allocates.
-    pub(crate) fn make(alloc: Global, config: &[bool]) -> Result<Backlog, AllocError>
+    pub fn make(alloc: Global, config: &[bool]) -> Result<Backlog, AllocError>
         requires { length config.now ≤ MOST_PACK_BITS }
         ensures { IfOk result (λ b. b ≡ record { config = config.now; marks = replicate (length config.now) false; waiting = 0; writes = []; looks = 0 }) }
     {
@@ -59,14 +60,14 @@ impl Backlog {
     }
 
     /// The writes of the last tick that waited.
-    pub(crate) fn writes(&self) -> &[Write]
+    pub fn writes(&self) -> &[Write]
         ensures { result.now ≡ self.now.writes }
     {
         &self.writes
     }
 
     /// The number of addresses at which the device is behind.
-    pub(crate) fn waiting(&self) -> u32
+    pub fn waiting(&self) -> u32
         ensures { result ≡ self.now.waiting }
     {
         self.waiting
@@ -105,7 +106,7 @@ impl Backlog {
 
     /// Requests another configuration, given by the bits that differ from the one requested before. It looks once at each of their
     /// addresses.
-    pub(crate) fn ask<L: Ledger>(&mut self, changed: &[Write], steps: &mut Steps<L>)
+    pub fn ask<L: Ledger>(&mut self, changed: &[Write], steps: &mut Steps<L>)
         requires { AreTurns self.old changed.now }
         ensures behind { (from to : List Bool) → IsBehind self.old from → changed.now ≡ differences from to → length from ≡ length to → IsBehind self.new to }
         ensures config { self.new.config ≡ self.old.config }
@@ -145,7 +146,7 @@ impl Backlog {
 
     /// Writes the first `rate` bits at which the device is behind, or all if there are fewer. It looks once at each of their
     /// addresses.
-    pub(crate) fn catch_up<L: Ledger>(&mut self, rate: u32, steps: &mut Steps<L>)
+    pub fn catch_up<L: Ledger>(&mut self, rate: u32, steps: &mut Steps<L>)
         requires { IsLate self.old }
         ensures writes { (wanted : List Bool) → IsBehind self.old wanted → self.new.writes ≡ take rate (differences self.old.config wanted) }
         ensures config { (wanted : List Bool) → IsBehind self.old wanted → self.new.config ≡ written self.old.config (take rate (differences self.old.config wanted)) }

@@ -22,6 +22,7 @@ mod event;
 mod pacer;
 mod text;
 
+pub use backlog::Backlog;
 pub use event::PaceEvent;
 pub use pacer::Pacer;
 pub use text::{pace_events, read_pace};
