@@ -113,6 +113,47 @@ tlut_status tlut_value(tlut_host *host, uint16_t parameter, bool *bit);
 /* The values of the parameters, in the same way as tlut_image. */
 tlut_status tlut_values(tlut_host *host, bool *bits, size_t length, size_t *count);
 
+/* A limited rate.
+ *
+ * A device whose configuration port takes a fixed number of bits per clock tick is played by a handle of another type. An ask
+ * requests new values, and writes nothing. At each tick the host learns whether the device has the configuration of the values
+ * that were requested last, so that the circuit may be clocked. If it hasn't, the tick writes the first bits that differ, at most
+ * as many as the rate, and the circuit waits.
+ *
+ *     tlut_paced device = TLUT_HOST_CLOSED;
+ *     if (tlut_paced_open(bytes, length, 64, &device, &refusal) != TLUT_DONE) { ... }
+ *     size_t waiting = 0;
+ *     tlut_ask(&device, settings, 2, &waiting);
+ *     for (bool is_right = false; tlut_tick(&device, &is_right) == TLUT_DONE && !is_right;)
+ *         if (tlut_sent(&device, writes, 64, &count) == TLUT_DONE) { ... send the writes ... }
+ */
+
+/* A handle at a limited rate. Its members are the library's. */
+typedef struct tlut_paced {
+    void *state;
+    bool is_open;
+} tlut_paced;
+
+/* Opens the pack in these bytes, at its initial values, with their configuration on the device: as tlut_open, or TLUT_RANGE if
+ * the rate is 0. The rate is the number of bits that a tick writes at most. */
+tlut_status tlut_paced_open(const uint8_t *pack, size_t length, uint32_t rate, tlut_paced *device, tlut_refusal *refusal);
+
+/* Frees what the handle holds: TLUT_DONE or TLUT_CLOSED. The handle is closed then. */
+tlut_status tlut_paced_close(tlut_paced *device);
+
+/* Requests new values, in the form of tlut_set, and tells how many bits of the device differ from their configuration: TLUT_DONE,
+ * TLUT_CLOSED, TLUT_RANGE or TLUT_ORDER. Nothing is written. Time is that of the nodes whose inputs change, and of the bits whose
+ * functions change. */
+tlut_status tlut_ask(tlut_paced *device, const tlut_setting *settings, size_t length, size_t *waiting);
+
+/* Lets the clock tick: TLUT_DONE or TLUT_CLOSED. Tells whether the device had the configuration of the requested values before
+ * the tick, so that the circuit may be clocked. If it hadn't, the first bits that differ are written, in ascending order of their
+ * addresses. Time is that of the bits that are written. */
+tlut_status tlut_tick(tlut_paced *device, bool *is_right);
+
+/* The writes of the last tick, in the same way as tlut_writes; none before the first. */
+tlut_status tlut_sent(tlut_paced *device, tlut_write *writes, size_t length, size_t *count);
+
 #ifdef __cplusplus
 }
 #endif

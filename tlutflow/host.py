@@ -7,6 +7,11 @@
         print(host.writes)                              # [(address, bit), ..]: the configuration bits to rewrite
         host.scrub()
 
+    with PacedHost("fir.ppc", rate=8) as device:        # at a limited rate: 8 bits per clock tick
+        print(device.ask(c1=7))                         # how many bits of the device differ
+        while not device.tick():                        # until the circuit may be clocked again
+            print(device.writes)
+
 The library works with numbers; buses are found here from the names that it reports. What can't be done raises `Fault`.
 """
 
@@ -92,3 +97,47 @@ class Host:
         count = ctypes.c_size_t(0)
         self._calls.done(name, bits, ctypes.c_size_t(length), ctypes.byref(count))
         return list(bits[: count.value])
+
+
+class PacedHost:
+    """A pack whose device takes a limited number of bits per clock tick."""
+
+    def __init__(self, path: str, rate: int, library: str = LIBRARY):
+        """Opens a pack file at the initial values of its parameters, with their configuration on the device."""
+        with Host(path, library) as host:
+            self.bits, self.parameters, self.buses = host.bits, host.parameters, host.buses
+        self._calls = Calls(library)
+        check(RANGE if not 0 < rate < 2**32 else 0)
+        self._calls.open("tlut_paced_open", path, read_bytes(path), ctypes.c_uint32(rate))
+        self._writes = Writes(self.bits)
+
+    def ask(self, *words: str, **values: object) -> int:
+        """Requests new values of parameters, in the form of `Host.set`, and returns how many bits of the device differ."""
+        return self.ask_parameters(assigned([*words, *(f"{name}={value}" for name, value in values.items())], self.buses, "pack's parameters"))
+
+    def ask_parameters(self, bits: dict[str, int]) -> int:
+        """Requests new values of single parameters by their names, and returns how many bits of the device differ."""
+        waiting = ctypes.c_size_t(0)
+        self._calls.done("tlut_ask", *settings_of(self.parameters, bits), ctypes.byref(waiting))
+        return waiting.value
+
+    def tick(self) -> bool:
+        """Lets the clock tick: whether the device had the configuration of the requested values. If it hadn't, bits are written."""
+        is_right = ctypes.c_bool(False)
+        self._calls.done("tlut_tick", ctypes.byref(is_right))
+        return is_right.value
+
+    @property
+    def writes(self) -> list[tuple[int, bool]]:
+        """The writes of the last tick, in ascending order of the addresses; none before the first."""
+        return self._writes.read(self._calls, "tlut_sent")
+
+    def close(self) -> None:
+        """Frees the host. A second call does nothing."""
+        self._calls.status("tlut_paced_close")
+
+    def __enter__(self) -> PacedHost:
+        return self
+
+    def __exit__(self, kind: Optional[type[BaseException]], error: Optional[BaseException], trace: Optional[TracebackType]) -> None:
+        self.close()

@@ -22,7 +22,7 @@ REASONS = {
 
 
 class Handle(ctypes.Structure):
-    """tlut_host."""
+    """tlut_host and tlut_paced."""
 
     _fields_ = [("state", ctypes.c_void_p), ("is_open", ctypes.c_bool)]
 

@@ -5,7 +5,8 @@
 
 Outside the gate. Call `./tlut` once before, to build the program, and build the library by `make -C include`. A pack has up to 12
 parameters, 60 AND nodes and 80 bits, in one of the two versions of the format; a script has up to 20 events, with upsets, scrubs and images.
-The last line is `N passed, M failed`, and the exit status is 1 if M isn't 0.
+Each pack is also played at a limited rate: what the ticks write after each ask is compared with the differences between the
+configurations, which `tlut bits` prints. The last line is `N passed, M failed`, and the exit status is 1 if M isn't 0.
 """
 
 import os
@@ -20,7 +21,7 @@ import shared
 sys.path.insert(0, shared.TOP)
 
 from pack_bytes import encode
-from tlutflow.host import Host
+from tlutflow.host import Host, PacedHost
 from tlutflow.host_player import played
 from tlutflow.script import parse_script
 
@@ -51,6 +52,27 @@ def event_of(parameters, bits, chosen):
     return "image" if word == "image" else "scrub"
 
 
+def paced(path, rate, events):
+    """The configurations at which asks arrive, by ticks; each tick writes at most `rate` bits."""
+    with PacedHost(path, rate) as device, Host(path) as host:
+        config = host.image
+        for event in (it for it in events if it.word == "set"):
+            waiting = device.ask_parameters(event.values)
+            host.set_parameters(event.values)
+            left = [(place, bit) for place, (bit, other) in enumerate(zip(host.image, config)) if bit != other]
+            if waiting != len(left):
+                return False
+            while left and not device.tick():
+                if device.writes != left[:rate]:
+                    return False
+                for address, bit in device.writes:
+                    config[address] = bit
+                left = left[rate:]
+            if config != host.image or not device.tick() or device.writes:
+                return False
+    return True
+
+
 def is_same(seed, room):
     """Whether the library prints what `tlut bits` prints, on the pack and the script of this number."""
     chosen = random.Random(seed)
@@ -65,7 +87,7 @@ def is_same(seed, room):
     events = parse_script(text, "script", [])
     with Host(path) as host:
         lines = "".join(f"{line}\n" for line in played(host, events))
-    is_well = ran.returncode == 0 and ran.stdout == lines
+    is_well = ran.returncode == 0 and ran.stdout == lines and paced(path, chosen.choice((1, 2, 3, 7, 100)), events)
     os.remove(path)
     if not is_well:
         print(f"seed {seed}: {text!r}\n{ran.stdout}{ran.stderr}but by the library\n{lines}")

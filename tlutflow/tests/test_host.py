@@ -6,7 +6,7 @@ import tempfile
 import unittest
 
 from tlutflow.faults import Fault
-from tlutflow.host import Host
+from tlutflow.host import Host, PacedHost
 from tlutflow.host_calls import LIBRARY
 from tlutflow.host_player import played
 from tlutflow.pack import Pack, read_pack
@@ -57,6 +57,27 @@ class HostTest(unittest.TestCase):
             with self.assertRaisesRegex(Fault, "no such parameter or address"):
                 host.upset(len(right))
             self.assertEqual(host.image, right)
+
+    def test_limited_rate(self) -> None:
+        """The ticks after an ask write the bits that differ, seven at a time."""
+        pack, chosen = read_pack(f"{DATA}/fir.ppc"), random.Random(7)
+        values = dict(pack.parameters)
+        with PacedHost(f"{DATA}/fir.ppc", rate=7) as device:
+            self.assertEqual(device.writes, [])
+            for _ in range(50):
+                given = {it: chosen.randint(0, 1) for it in chosen.sample(list(values), 5)}
+                before = pack.configuration(values)
+                values.update(given)
+                left = differences(before, pack.configuration(values))
+                self.assertEqual(device.ask(*(f"{it}={bit}" for it, bit in given.items())), len(left))
+                while not device.tick():
+                    self.assertEqual(device.writes, left[:7])
+                    left = left[7:]
+                self.assertEqual((left, device.writes), ([], []))
+        with self.assertRaisesRegex(Fault, "the host is closed"):
+            device.tick()
+        with self.assertRaisesRegex(Fault, "no such parameter or address"):
+            PacedHost(f"{DATA}/fir.ppc", rate=0)
 
     def test_scripts(self) -> None:
         """A script's lines are those of `tlut bits`."""

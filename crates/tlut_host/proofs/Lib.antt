@@ -1,4 +1,5 @@
 pub mod CopyLemmas
 pub mod HeldValues
+pub mod PacedLemmas
 pub mod SettingLemmas
 pub mod Values

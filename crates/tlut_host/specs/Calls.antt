@@ -11,14 +11,14 @@ use Rattle.tlut_host.specs.declared.setting.BitWrite.{BitWrite}
 use Rattle.tlut_host.specs.declared.setting.TheConstants.{DONE, CLOSED, RANGE}
 
 -- an open handle stays open, and this is said of its hosts; a call at a closed one answers that it is closed
-abbrev pub IsCall : Option SpecialiserValue → Option SpecialiserValue → ℕ → (SpecialiserValue → SpecialiserValue → Type 0) → Type 0
+abbrev pub IsCall : {A : Type 0} → Option A → Option A → ℕ → (A → A → Type 0) → Type 0
 IsCall None None status P = status ≡ CLOSED
 IsCall None (Some new) status P = ⊥
 IsCall (Some old) None status P = ⊥
 IsCall (Some old) (Some new) status P = P old new
 
 -- the same of a call that tells something through pointers: at a closed handle what is there stays
-abbrev pub IsTellingCall : Option SpecialiserValue → Option SpecialiserValue → ℕ → Type 0 → (SpecialiserValue → SpecialiserValue → Type 0) → Type 0
+abbrev pub IsTellingCall : {A : Type 0} → Option A → Option A → ℕ → Type 0 → (A → A → Type 0) → Type 0
 IsTellingCall None None status Stays P = (status ≡ CLOSED) × Stays
 IsTellingCall None (Some new) status Stays P = ⊥
 IsTellingCall (Some old) None status Stays P = ⊥

@@ -3,4 +3,6 @@ pub mod Copied
 pub mod Kept
 pub mod Opened
 pub mod Owned
+pub mod Paced
+pub mod PacedCalls
 pub mod Settings

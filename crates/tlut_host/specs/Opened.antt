@@ -54,6 +54,6 @@ pub record IsTold (bytes : List ℕ) (status : ℕ) (refusal : Refusal) : Type 0
   pub refusal_is : refusal ≡ told_of error
 
 -- the handle is to a host of which this is said
-abbrev pub HoldsOne : Option SpecialiserValue → (SpecialiserValue → Type 0) → Type 0
+abbrev pub HoldsOne : {A : Type 0} → Option A → (A → Type 0) → Type 0
 HoldsOne None P = ⊥
 HoldsOne (Some h) P = P h

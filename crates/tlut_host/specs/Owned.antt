@@ -7,6 +7,8 @@ use Rattle.std_heap.specs.contracts.GlobalAllocator.TheImpl.{ghosts}
 use Rattle.std_alloc.specs.Box.Ownership.{box_owns}
 use Rattle.tlut_host.specs.declared.host.Host.{Host}
 use Rattle.tlut_host.specs.contracts.host.Host.{the_row}
+use Rattle.tlut_host.specs.declared.paced.PacedHost.{PacedHost}
+use Rattle.tlut_host.specs.contracts.paced.PacedHost.{the_row as the_paced_row}
 
 -- the handle to the heap, which has no bytes
 abbrev pub heap : Global
@@ -15,3 +17,8 @@ heap = record { memory = record { seal = tt } }
 abbrev pub held_by : Ptr → Option Host → Fml
 held_by p (Some x) = box_owns (ghosts.dealloc_token heap) the_row p x
 held_by p None = ftrue
+
+-- the same of a host at a limited rate
+abbrev pub held_by_paced : Ptr → Option PacedHost → Fml
+held_by_paced p (Some x) = box_owns (ghosts.dealloc_token heap) the_paced_row p x
+held_by_paced p None = ftrue

@@ -18,15 +18,21 @@
 
 mod copy;
 mod exports;
+mod exports_paced;
 mod gather;
 mod handle;
+mod handle_paced;
 mod held;
+mod held_paced;
 mod host;
 mod loose;
 mod names;
 mod opened;
+mod paced;
 mod setting;
 
 pub use handle::Handle;
+pub use handle_paced::PacedHandle;
 pub use held::Held;
+pub use held_paced::HeldPaced;
 pub use setting::{BitWrite, Refusal, Setting};

@@ -1,10 +1,14 @@
 //! Opening a pack.
-ghost use Rattle.std.specs.Prelude.{◌≡◌, ◌≢◌, ◌<◌, IfOk, IfErr};
+ghost use Rattle.std.specs.Prelude.{◌≡◌, ◌≢◌, ◌<◌, ◌≤◌, IfOk, IfErr};
+ghost use Rattle.ppc_file.specs.PackFile.{IsPackFile};
 ghost use Rattle.tlut_host.specs.Opened.{IsOpened, IsOpenFault, told, told_of, status_of};
+ghost use Rattle.tlut_host.specs.Paced.{IsPacedOpened};
 
 use crate::host::Host;
+use crate::paced::PacedHost;
 use crate::setting::{LIMIT, MEMORY, REFUSED, Refusal};
 use ppc_file::{PackErr, decode};
+use ppc_pack::Pack;
 use std::alloc::Global;
 use tl_text::MOST_PACK_BYTES;
 
@@ -58,20 +62,44 @@ impl OpenErr {
     }
 }
 
-// A host of the pack in these bytes, in a box.
-pub(crate) fn open(alloc: Global, bytes: &[u8]) -> Result<Box<Host>, OpenErr>
-    ensures ok { IfOk result (λ b. IsOpened bytes.now b.value) }
+// The pack in these bytes.
+fn read_pack(alloc: Global, bytes: &[u8]) -> Result<Pack, OpenErr>
+    ensures ok { IfOk result (λ pack. IsPackFile bytes.now pack) }
     ensures fault { IfErr result (IsOpenFault bytes.now) }
 {
     if bytes.len() > MOST_PACK_BYTES {
         return Err(OpenErr::Limit);
     }
-    let pack = match decode(alloc, bytes) {
-        Ok(pack) => pack,
-        Err(PackErr::Memory) => return Err(OpenErr::Memory),
-        Err(error) => return Err(OpenErr::Refused(error)),
-    };
+    match decode(alloc, bytes) {
+        Ok(pack) => Ok(pack),
+        Err(PackErr::Memory) => Err(OpenErr::Memory),
+        Err(error) => Err(OpenErr::Refused(error)),
+    }
+}
+
+// A host of the pack in these bytes, in a box.
+pub(crate) fn open(alloc: Global, bytes: &[u8]) -> Result<Box<Host>, OpenErr>
+    ensures ok { IfOk result (λ b. IsOpened bytes.now b.value) }
+    ensures fault { IfErr result (IsOpenFault bytes.now) }
+{
+    let pack = read_pack(alloc, bytes)?;
     let Ok(host) = Host::make(alloc, pack) else {
+        return Err(OpenErr::Memory);
+    };
+    match Box::new(alloc, host) {
+        Ok(host) => Ok(host),
+        Err(_) => Err(OpenErr::Memory),
+    }
+}
+
+// A host at a limited rate of the pack in these bytes, in a box.
+pub(crate) fn open_paced(alloc: Global, bytes: &[u8], rate: u32) -> Result<Box<PacedHost>, OpenErr>
+    requires { 1 ≤ rate }
+    ensures ok { IfOk result (λ b. IsPacedOpened bytes.now rate b.value) }
+    ensures fault { IfErr result (IsOpenFault bytes.now) }
+{
+    let pack = read_pack(alloc, bytes)?;
+    let Ok(host) = PacedHost::make(alloc, pack, rate) else {
         return Err(OpenErr::Memory);
     };
     match Box::new(alloc, host) {

@@ -1,0 +1,114 @@
+//! What C calls at a limited rate.
+ghost use Rattle.std.specs.Prelude.{◌≡◌, ◌≢◌, true, false, Option, Some, None, is_some, if◌then◌else◌};
+ghost use Rattle.tlut_host.specs.Opened.{IsTold, HoldsOne};
+ghost use Rattle.tlut_host.specs.Calls.{IsTellingCall};
+ghost use Rattle.tlut_host.specs.Paced.{IsPacedOpened};
+ghost use Rattle.tlut_host.specs.PacedCalls.{IsAskCall, IsTickCall, AreSent};
+
+use crate::copy::copy_writes;
+use crate::handle_paced::{PacedHandle, take_paced};
+use crate::opened::open_paced;
+use crate::setting::{BitWrite, CLOSED, DONE, OPEN, RANGE, Refusal, Setting};
+use std::alloc::Global;
+
+/// Opens a pack at the initial values of its parameters, for a device that takes `rate` bits per tick, and allocates all the
+/// memory that later calls need. `RANGE` if the rate is 0.
+#[unsafe(no_mangle)]
+pub extern "C" fn tlut_paced_open(
+    alloc: Global,
+    pack: &[u8],
+    rate: u32,
+    handle: &mut PacedHandle,
+    refusal: &mut Refusal,
+) -> u32
+    ensures done { result ≡ 0 → HoldsOne handle.new.held.value (IsPacedOpened pack.now rate) }
+    ensures kept { result ≢ 0 → handle.new.held.value ≡ handle.old.held.value }
+    ensures open { is_some handle.old.held.value ≡ true → result ≡ 5 }
+    ensures only_open { result ≡ 5 → is_some handle.old.held.value ≡ true }
+    ensures quiet { result ≡ 0 → refusal.new ≡ refusal.old }
+    ensures quiet_open { result ≡ 5 → refusal.new ≡ refusal.old }
+    ensures range { result ≡ 6 → rate ≡ 0 }
+    ensures quiet_range { result ≡ 6 → refusal.new ≡ refusal.old }
+    ensures zero { is_some handle.old.held.value ≡ false → rate ≡ 0 → result ≡ 6 }
+    ensures told { result ≢ 0 → result ≢ 5 → result ≢ 6 → IsTold pack.now result refusal.new }
+{
+    if handle.is_open {
+        return OPEN;
+    }
+    if rate == 0 {
+        return RANGE;
+    }
+    match open_paced(alloc, pack, rate) {
+        Ok(host) => {
+            *handle = PacedHandle::of(host);
+            DONE
+        }
+        Err(error) => {
+            *refusal = error.refusal();
+            error.status()
+        }
+    }
+}
+
+/// Frees what a handle at a limited rate is to. `DONE`, or `CLOSED` if it isn't open.
+#[unsafe(no_mangle)]
+pub extern "C" fn tlut_paced_close(alloc: Global, handle: &mut PacedHandle) -> u32
+    ensures closed { handle.new.held.value ≡ None }
+    ensures status { result ≡ (if is_some handle.old.held.value then 0 else 4) }
+{
+    match take_paced(alloc, handle) {
+        None => CLOSED,
+        Some(_) => DONE,
+    }
+}
+
+/// Requests new values of parameters in ascending order, each at most once, and tells how many bits of the device differ from
+/// their configuration. Nothing is written.
+#[unsafe(no_mangle)]
+pub extern "C" fn tlut_ask(
+    alloc: Global,
+    handle: &mut PacedHandle,
+    settings: &[Setting],
+    waiting: &mut usize,
+) -> u32
+    ensures { IsTellingCall handle.old.held.value handle.new.held.value result (waiting.new ≡ waiting.old) (λ old new. IsAskCall settings.now old new waiting.old waiting.new result) }
+{
+    let Some(mut host) = take_paced(alloc, handle) else {
+        return CLOSED;
+    };
+    let status = host.ask(settings, waiting);
+    *handle = PacedHandle::of(host);
+    status
+}
+
+/// Lets the clock tick: tells whether the device has the configuration of the requested values, so that the circuit may be
+/// clocked, and otherwise writes the first bits that differ, at most as many as the rate.
+#[unsafe(no_mangle)]
+pub extern "C" fn tlut_tick(alloc: Global, handle: &mut PacedHandle, is_right: &mut bool) -> u32
+    ensures { IsTellingCall handle.old.held.value handle.new.held.value result (is_right.new ≡ is_right.old) (λ old new. IsTickCall old new is_right.new result) }
+{
+    let Some(mut host) = take_paced(alloc, handle) else {
+        return CLOSED;
+    };
+    *is_right = host.tick();
+    *handle = PacedHandle::of(host);
+    DONE
+}
+
+/// Copies the writes of the last tick as far as there is room, and tells how many there are.
+#[unsafe(no_mangle)]
+pub extern "C" fn tlut_sent(
+    alloc: Global,
+    handle: &mut PacedHandle,
+    writes: &mut [BitWrite],
+    count: &mut usize,
+) -> u32
+    ensures { IsTellingCall handle.old.held.value handle.new.held.value result ((writes.new ≡ writes.old) × (count.new ≡ count.old)) (λ old new. AreSent old new writes.old writes.new count.new result) }
+{
+    let Some(host) = take_paced(alloc, handle) else {
+        return CLOSED;
+    };
+    *count = copy_writes(host.writes(), writes);
+    *handle = PacedHandle::of(host);
+    DONE
+}
