@@ -80,7 +80,7 @@ def with_functions(template: Library, pack: Pack, file: str) -> str:
     bits = [name for line in template.main.input_lines[1:] for name in line]
     if len(bits) != len(pack.bits):
         raise Fault(f"{template.file} has {len(bits)} configuration bits and {file} has {len(pack.bits)}: they come from different calls of map")
-    main = template.main
-    kept = Model(main.name, [name for name in main.inputs if name not in set(bits)], main.outputs, main.clocks, main.covers, main.latches)
+    main, held = template.main, set(bits)
+    kept = Model(main.name, [name for name in main.inputs if name not in held], main.outputs, main.clocks, main.covers, main.latches)
     covers = bit_covers(pack, bits, free_prefix(template))
     return abc_text(Library(template.file, [kept]), {}, covers, pack.parameters)

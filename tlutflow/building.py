@@ -77,9 +77,11 @@ class Build:
         self.sizes()
         self.map()
         self.built.commands += self.specialised()
-        parts = [self.certificate, self.hardware, self.picture, self.changes, self.comparisons]
+        parts = [self.certificate, self.hardware, self.picture, self.changes, self.prepared, self.compared_mapping, self.compared_values]
         with ThreadPoolExecutor(self.given.jobs or os.cpu_count() or 1) as pool:
-            told = [it.result() for it in [pool.submit(part) for part in parts]]
+            # The comparisons, which take longest, begin first.
+            begun = {part: pool.submit(part) for part in reversed(parts)}
+            told = [begun[part].result() for part in parts]
         for checks, commands in told:
             self.built.checks += checks
             self.built.commands += commands
@@ -313,17 +315,24 @@ class Build:
             self.built.changes = self.steps.make("changes", [nets], [self.path(".ppc"), self.binary], [], work)
         return [], []
 
-    def comparisons(self) -> tuple[list[list[str]], list[str]]:
-        """The written netlists against the prepared one, by ABC."""
-        source, pack, params = self.path(".blif"), self.path(".ppc"), self.path(".par")
-        calls = {
-            "the mapped netlist with its pack is the prepared netlist, for all values of the parameters": ["check", source, self.path("_t.blif"), "--pack", pack],
-            "the netlist for the initial values is the prepared netlist with these values": ["check", source, self.path("_spec.blif"), "--params", params],
-        }
-        checks = [self.prepared_check()]
-        for (what, words), name in zip(calls.items(), ("check of the mapping", "check of the specialised netlist")):
-            checks.append(self.steps.make(name, [words, self.built.versions.get("ABC", "")], words[1:3] + words[4:], [], lambda: self.compared(what, words)))
-        return checks, [shlex.join(["flow", *words]) for words in calls.values()]
+    def compared_mapping(self) -> tuple[list[list[str]], list[str]]:
+        """The mapped netlist against the prepared one, by ABC."""
+        words = ["check", self.path(".blif"), self.path("_t.blif"), "--pack", self.path(".ppc")]
+        return self.comparison("check of the mapping", "the mapped netlist with its pack is the prepared netlist, for all values of the parameters", words)
+
+    def compared_values(self) -> tuple[list[list[str]], list[str]]:
+        """The netlist for the initial values against the prepared one, by ABC."""
+        words = ["check", self.path(".blif"), self.path("_spec.blif"), "--params", self.path(".par")]
+        return self.comparison("check of the specialised netlist", "the netlist for the initial values is the prepared netlist with these values", words)
+
+    def comparison(self, name: str, what: str, words: list[str]) -> tuple[list[list[str]], list[str]]:
+        """A comparison by ABC, as a step."""
+        check = self.steps.make(name, [words, self.built.versions.get("ABC", "")], words[1:3] + words[4:], [], lambda: self.compared(what, words))
+        return [check], [shlex.join(["flow", *words])]
+
+    def prepared(self) -> tuple[list[list[str]], list[str]]:
+        """What showed that the prepared netlist is the source, without a call."""
+        return [self.prepared_check()], []
 
     def prepared_check(self) -> list[str]:
         """What showed that the prepared netlist is the source."""

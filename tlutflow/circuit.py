@@ -169,7 +169,8 @@ def circuit_of(library: Library, pack: Pack, file: str, ports: Ports = Ports()) 
     tables = []
     first = 0
     for room, cover in zip(rooms, main.covers):
-        leaves = [name for name in cover.inputs if name not in set(room)]
+        held = set(room)
+        leaves = [name for name in cover.inputs if name not in held]
         tables.append(Table(cover.output, leaves, first))
         if cover.inputs[len(leaves) :] != room or tables[-1].size != len(room):
             raise Fault(f"{library.file}: not a template written by map: the LUT {cover.output} doesn't have its bits as inputs")

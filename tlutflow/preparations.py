@@ -23,6 +23,9 @@ GATE xnor2 3 Y=(A*B)+(!A*!B); PIN * UNKNOWN 1 999 2 0 2 0
 GATE mux 3 Y=(S*A)+(!S*B); PIN * UNKNOWN 1 999 2 0 2 0
 """
 
+# How often a preparation that goes on as long as the depth falls is repeated at most.
+MOST_ROUNDS = 12
+
 
 @dataclass(frozen=True)
 class Preparation:
@@ -32,6 +35,11 @@ class Preparation:
     commands: str
     repeated: str = ""
     last: str = ""
+
+    @property
+    def cost(self) -> int:
+        """About how long it takes beside others: how often it looks for choices or balances sums of products."""
+        return sum((self.commands + self.repeated * MOST_ROUNDS).count(word) for word in ("dch", "if -g"))
 
     @property
     def shown(self) -> str:

@@ -19,7 +19,7 @@ from tlutflow.flat import read_flat
 from tlutflow.mappings import Sizes, sizes_by_abc, sizes_by_tlut
 from tlutflow.netlist import Model
 from tlutflow.parameters import read_parameters
-from tlutflow.preparations import GENLIB, PREPARATIONS, Preparation
+from tlutflow.preparations import GENLIB, MOST_ROUNDS, PREPARATIONS, Preparation
 from tlutflow.text import read_text, write_text
 
 # What is looked for first, then next where that is the same, by the names of a result's fields.
@@ -35,8 +35,8 @@ AS_READ = "as read"
 # Runs a command with a limit in seconds, and how it ends where the limit is reached: by SIGXCPU or by SIGKILL.
 LIMITED = ["sh", "-c", 'ulimit -t "$1" || exit 1; shift; exec "$@"', "sh"]
 STOPPED = (-24, -9)
-# Rounds of a preparation that continues as long as the depth falls, and changes that are drawn for the median.
-MOST_ROUNDS, CHANGES = 12, 500
+# Changes that are drawn for the median.
+CHANGES = 500
 
 
 @dataclass(frozen=True)
@@ -293,7 +293,7 @@ def ready(path: str) -> Callable[[str], str]:
 
 
 def run_round(shop: Workshop, starts: list[tuple[str, Logic]], before: list[Trial], is_first: bool, report: Report) -> list[Trial]:
-    """Tries each preparation from each start, several at a time."""
+    """Tries each preparation from each start, several at a time. Those that take long begin first, so that none is left alone at the end."""
     jobs: list[tuple[str, Callable[[str], str]]] = []
     if is_first:
         jobs += [(name, ready(path)) for name, path in shop.task.ready.items()]
@@ -301,7 +301,8 @@ def run_round(shop: Workshop, starts: list[tuple[str, Logic]], before: list[Tria
     trials: list[Trial] = []
     pool = ThreadPoolExecutor(shop.task.jobs or os.cpu_count() or 1)
     try:
-        waiting: set[Future[Trial]] = {pool.submit(shop.attempt, *job) for job in jobs}
+        costs = {start + it.name: it.cost for start, _ in starts for it in shop.task.preparations}
+        waiting: set[Future[Trial]] = {pool.submit(shop.attempt, *job) for job in sorted(jobs, key=lambda job: -costs.get(job[0], 0))}
         while waiting:
             ended, waiting = wait(waiting, return_when=FIRST_COMPLETED)
             for it in ended:
