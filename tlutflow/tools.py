@@ -2,6 +2,7 @@
 
 from __future__ import annotations
 
+import math
 import os
 import shutil
 import subprocess
@@ -34,6 +35,9 @@ TITLES = {
 }
 # What a report says of each program: its title, its names, and the arguments by which it prints its version.
 VERSIONS = (("Yosys", YOSYS, ["-V"]), ("ABC", ABC, ["-q", "version"]), ("Graphviz", DOT, ["-V"]), ("Icarus Verilog", ICARUS, ["-V"]))
+# Runs a command with a limit in seconds, and how it ends where the limit is reached: by SIGXCPU or by SIGKILL.
+LIMITED = ["sh", "-c", 'ulimit -t "$1" || exit 1; shift; exec "$@"', "sh"]
+STOPPED = (-24, -9)
 # Where the wrapper has the program, in the repository and where it is installed.
 BUILT = ("crates/tlut/out/tlut", "program/tlut")
 
@@ -71,6 +75,16 @@ def run(
         raise Fault(f"{os.path.basename(words[0])} was stopped after {seconds:g} seconds") from None
     except OSError as error:
         raise Fault(f"{words[0]}: {error.strerror or error}") from None
+
+
+def run_abc(abc: str, commands: str, folder: str, seconds: float) -> subprocess.CompletedProcess[str]:
+    """Runs ABC. Its processor time is limited, so that other work on the machine doesn't change what is found; by the clock it may take
+    many times as long."""
+    limit = max(1, math.ceil(seconds))
+    ran = run([*LIMITED, str(limit), abc, "-q", commands], folder, 60 + 20 * seconds)
+    if ran.returncode in STOPPED:
+        raise Fault(f"ABC was stopped after {limit} seconds of processor time")
+    return ran
 
 
 def tlut(given: Optional[str]) -> str:

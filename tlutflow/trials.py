@@ -2,7 +2,6 @@
 
 from __future__ import annotations
 
-import math
 import os
 import shutil
 import time
@@ -32,9 +31,6 @@ AIMS = {
 RULES = {"tlut": (), "compact": ("--compact",)}
 RULE_NAMES = {"tlut": "tlut", "compact": "tlut --compact"}
 AS_READ = "as read"
-# Runs a command with a limit in seconds, and how it ends where the limit is reached: by SIGXCPU or by SIGKILL.
-LIMITED = ["sh", "-c", 'ulimit -t "$1" || exit 1; shift; exec "$@"', "sh"]
-STOPPED = (-24, -9)
 # Changes that are drawn for the median.
 CHANGES = 500
 
@@ -152,12 +148,8 @@ class Workshop:
         return path
 
     def call(self, commands: str, room: str) -> str:
-        """Runs ABC, and returns what it says. Its processor time is limited, so that other work on the machine doesn't change what is
-        found; by the clock it may take many times as long."""
-        limit = max(1, math.ceil(self.task.seconds))
-        ran = tools.run([*LIMITED, str(limit), self.abc, "-q", commands], room, 60 + 20 * self.task.seconds)
-        if ran.returncode in STOPPED:
-            raise Fault(f"ABC was stopped after {limit} seconds of processor time")
+        """Runs ABC with the limit of a preparation, and returns what it says."""
+        ran = tools.run_abc(self.abc, commands, room, self.task.seconds)
         if ran.returncode:
             raise Fault(f"ABC ended with status {ran.returncode}")
         return ran.stdout + ran.stderr

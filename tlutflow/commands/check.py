@@ -42,7 +42,7 @@ def add_words(parser: argparse.ArgumentParser) -> None:
     which.add_argument("--params", metavar="PARAMS", help="the list that spec was given")
     which.add_argument("--pack", metavar="PACK", help="the pack that map wrote")
     parser.add_argument("--script", metavar="SCRIPT", help="the script of the run whose output is on stdin")
-    parser.add_argument("--seconds", type=float, default=600, help="how long ABC may take (default: 600)")
+    parser.add_argument("--seconds", type=float, default=600, help="processor time that ABC may take (default: 600)")
 
 
 def fixed_inputs(source: Library, there: list[str], values: dict[str, int]) -> dict[str, int]:
@@ -124,7 +124,7 @@ def run(given: argparse.Namespace) -> int:
     with tempfile.TemporaryDirectory(prefix="flow-") as folder:
         write_text(f"{folder}/source.blif", left)
         write_text(f"{folder}/written.blif", right)
-        ran = tools.run([abc, "-q", f"{method} source.blif written.blif"], folder, given.seconds)
+        ran = tools.run_abc(abc, f"{method} source.blif written.blif", folder, given.seconds)
     told = [line.strip() for line in (ran.stdout + ran.stderr).splitlines() if line.strip()]
     outcome = verdict("\n".join(told))
     if outcome == "equal":

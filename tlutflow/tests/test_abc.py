@@ -2,12 +2,13 @@
 
 import os
 import stat
+import time
 import unittest
 
 from tlutflow.abc_form import abc_text, with_functions
 from tlutflow.mappings import Sizes, sizes_of
 from tlutflow.netlist import parse_library
-from tlutflow.pack import parse_pack
+from tlutflow.pack import Pack, parse_pack
 from tlutflow.tests.helpers import DATA, EXAMPLES, MUX, MUX_PACK, MUX_TEMPLATE, InFolder, flow, needs
 from tlutflow.tools import ABC
 
@@ -28,6 +29,17 @@ class Form(unittest.TestCase):
         lines = with_functions(parse_library(MUX_TEMPLATE, "t"), parse_pack(MUX_PACK, "p"), "p").splitlines()
         self.assertEqual(lines[1], ".inputs a b p")
         self.assertEqual(lines[-8:], [".names _c0", ".names p _c1", "1 1", ".names p _c2", "0 1", ".names _c3", "1", ".end"])
+
+    def test_many_bits_take_linear_time(self):
+        """One with 20,000 bits takes a part of a second; looking for each input among all bits took a minute."""
+        rooms = [[f"_c{16 * number + place}" for place in range(16)] for number in range(1250)]
+        lines = [".model m", ".inputs a b c d", *(" ".join([".inputs", *room]) for room in rooms), ".outputs y"]
+        lines += [f".names a b c d {' '.join(room)} n{number}\n" + "0" * 4 + "1" + "-" * 15 + " 1" for number, room in enumerate(rooms)]
+        library = parse_library("\n".join([*lines, ".names n0 y", "1 1", ".end"]), "t")
+        begun = time.process_time()
+        made = with_functions(library, Pack({}, [], [1] * 20000), "p")
+        self.assertLess(time.process_time() - begun, 5)
+        self.assertEqual(made.splitlines()[1], ".inputs a b c d")
 
     def test_sizes(self):
         text = ".model m\n.inputs a b c\n.outputs y z k\n.names a b t\n11 1\n.names t c a u\n111 1\n.names u y\n1 1\n.names u z\n0 1\n.names k\n1\n.end"
@@ -56,6 +68,17 @@ class Check(InFolder):
         self.assert_fault(flow("check", source, written, "--params", self.put("m.par", "p 1\n")), "differs from")
         self.assert_fault(flow("check", source, written), "p is an input of")
         self.assertEqual(flow("check", source, source).stdout, "equal (ABC cec)\n")
+
+    def test_the_limit_is_of_processor_time(self):
+        """So a comparison is decided or not whatever else runs: one that sleeps isn't stopped, and one that works is."""
+        source = self.put("n.blif", MUX)
+        for body, part in (("while :; do :; done", "ABC was stopped after 1 seconds of processor time"), ("sleep 2; echo Networks are equivalent.", "")):
+            os.chmod(self.put("yosys-abc", f"#!/bin/sh\n{body}\n"), stat.S_IRWXU)
+            ran = flow("check", source, source, "--seconds", "1", PATH=f"{self.folder}:{os.environ['PATH']}")
+            if part:
+                self.assert_fault(ran, part)
+            else:
+                self.assertEqual(ran.stdout, "equal (ABC cec)\n", ran.stderr)
 
     def test_without_abc(self):
         source = self.put("n.blif", MUX)

@@ -81,6 +81,7 @@ class Forms(unittest.TestCase):
 
     def test_words(self):
         self.assertGreaterEqual(len(PREPARATIONS), 12)
+        self.assertEqual([it.name for it in sorted(PREPARATIONS, key=lambda it: -it.cost)][:3], ["dgstay", "gstay", "dg4"])
         self.assertEqual(further(["x=dc2;"], [])[0].commands, "strash; dc2; strash")
         for word, part in (("x", "isn't NAME=COMMANDS"), ("raw=dc2", "already")):
             with self.assertRaisesRegex(Fault, part):
