@@ -298,7 +298,7 @@ class Build:
         files = [self.path("_t.blif"), self.path(".ppc")]
         tables = int(self.built.sizes[str(self.given.k)][self.built.rule][0])
         end = ".svg" if tools.find(tools.DOT) and tables <= DRAWN else ".dot"
-        words = ["draw", *files, "--out", self.path(end)]
+        words = ["draw", *files, *(["--all"] if tables > DRAWN else []), "--out", self.path(end)]
         self.steps.make("picture", [words, self.built.versions.get("Graphviz", "")], files, [self.path(end)], lambda: self.must(words))
         return [], [shlex.join(["flow", *words])]
 

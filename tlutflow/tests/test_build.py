@@ -8,6 +8,7 @@ import re
 import unittest
 from html.parser import HTMLParser
 
+from tlutflow.building import DRAWN
 from tlutflow.circuit_view import grouped, view_of, with_names
 from tlutflow.faults import Fault
 from tlutflow.netlist import parse_library
@@ -146,6 +147,18 @@ class Builds(InFolder):
         self.assertEqual(len(data["outputs"]), 6)
         self.assertNotIn("http://", text.replace("http://www.w3.org/2000/svg", ""))
         self.assertIn("x1[0]", [node["name"] for node in data["nodes"]])
+
+    @NEEDS_TLUT
+    def test_more_tables_than_are_drawn(self):
+        """A large circuit has its drawing in Graphviz's language, and its report."""
+        names = [f"y{number}" for number in range(DRAWN + 1)]
+        covers = [f".names a b x{number} {name}\n111 1\n" for number, name in enumerate(names)]
+        inputs = " ".join(["a", "b", *(f"x{number}" for number in range(len(names)))])
+        netlist = self.put("n.blif", f".model n\n.inputs {inputs}\n.outputs {' '.join(names)}\n{''.join(covers)}.end\n")
+        ran = flow("build", netlist, self.put("n.par", ""), "--quick", "--out", f"{self.folder}/out")
+        self.assertEqual(ran.returncode, 0, ran.stderr)
+        self.assertTrue(os.path.getsize(f"{self.folder}/out/n.dot"))
+        self.assertTrue(os.path.getsize(f"{self.folder}/out/index.html"))
 
     @NEEDS_TLUT
     def test_a_netlist_without_other_programs(self):
