@@ -11,7 +11,7 @@ mod streams;
 use crate::held::{hold, let_go, settle};
 use crate::streams::{fill_closed, is_output_open, writes_its_output};
 use std::env;
-use std::io::{ErrorKind, IsTerminal};
+use std::io::{ErrorKind, IsTerminal, Write};
 use std::process::ExitCode;
 use std::rt::Env;
 use tl_io::{ConfigPort, DiskShelf, FilePort, Sink, StdSink};
@@ -59,19 +59,16 @@ fn fail<E: Sink>(err: &mut E, outcome: &Outcome) -> Status {
     outcome.status()
 }
 
-// Runs the command given by the arguments, over the system's files and streams.
-fn run(rt: HostRuntime, rule: Rule, words: &[String]) -> Status {
+// What to run: the arguments, and the rule that chooses cuts.
+#[derive(Clone, Copy)]
+struct Call<'a> {
+    rule: Rule,
+    words: &'a [String],
+}
+
+// Runs a command over the system's files and ports, with its output written to this writer.
+fn run_to<W: Write + Drop, E: Sink>(rt: HostRuntime, call: Call, output: W, err: &mut E) -> Status {
     let alloc = rt.alloc();
-    let mut err = StdSink::make(rt.stderr());
-    if !is_output_open(&rt.stdout()) {
-        return fail(&mut err, &Outcome::WriteFault);
-    }
-    let Ok(_fillers) = fill_closed(&rt, &rt.stdin(), &rt.stderr()) else {
-        return fail(&mut err, &Outcome::WriteFault);
-    };
-    if writes_its_output(&rt, words, &PORTS) {
-        return fail(&mut err, &Outcome::WriteFault);
-    }
     let mut ports: Vec<Box<dyn ConfigPort>> = Vec::new(alloc);
     for name in PORTS {
         let Ok(port) = Box::new(alloc, FilePort::make(rt, name)) else {
@@ -82,24 +79,52 @@ fn run(rt: HostRuntime, rule: Rule, words: &[String]) -> Status {
         }
     }
     let mut shelf = DiskShelf::make(rt);
-    let stdout = rt.stdout();
-    if stdout.is_terminal() || !is_portless(words) {
-        let mut out = StdSink::make(stdout);
-        let status = tlut_by(
-            alloc, rule, words, &mut shelf, &mut out, &mut err, &mut ports,
-        );
-        return settle(&mut shelf, status, &mut err);
-    }
-    let Ok(mut held) = hold(alloc, stdout) else {
-        return fail(&mut err, &Outcome::Memory);
-    };
-    let mut out = StdSink::make(&mut held);
+    let mut out = StdSink::make(output);
     let status = tlut_by(
-        alloc, rule, words, &mut shelf, &mut out, &mut err, &mut ports,
+        alloc, call.rule, call.words, &mut shelf, &mut out, err, &mut ports,
     );
-    drop(out);
-    let status = settle(&mut shelf, status, &mut err);
-    let_go(&mut held, status, &mut err)
+    settle(&mut shelf, status, err)
+}
+
+// Runs a command with its output buffered.
+fn run_held<W: Write + Drop, E: Sink>(
+    rt: HostRuntime,
+    call: Call,
+    output: W,
+    err: &mut E,
+) -> Status {
+    match hold(rt.alloc(), output) {
+        Ok(mut held) => {
+            let status = run_to(rt, call, &mut held, err);
+            let_go(&mut held, status, err)
+        }
+        Err(_) => fail(err, &Outcome::Memory),
+    }
+}
+
+// Runs a command, unless stdout is a file that it writes.
+fn run_open<E: Sink>(rt: HostRuntime, call: Call, err: &mut E) -> Status {
+    if writes_its_output(&rt, call.words, &PORTS) {
+        return fail(err, &Outcome::WriteFault);
+    }
+    let stdout = rt.stdout();
+    if stdout.is_terminal() || !is_portless(call.words) {
+        run_to(rt, call, stdout, err)
+    } else {
+        run_held(rt, call, stdout, err)
+    }
+}
+
+// Runs a command, if stdout is open.
+fn run(rt: HostRuntime, call: Call) -> Status {
+    let mut err = StdSink::make(rt.stderr());
+    if !is_output_open(&rt.stdout()) {
+        return fail(&mut err, &Outcome::WriteFault);
+    }
+    match fill_closed(&rt, &rt.stdin(), &rt.stderr()) {
+        Ok(_fillers) => run_open(rt, call, &mut err),
+        Err(_) => fail(&mut err, &Outcome::WriteFault),
+    }
 }
 
 /// Runs the command given by the program's arguments, with the rule that chooses cuts. Returns the exit status of the call.
@@ -110,7 +135,13 @@ fn run(rt: HostRuntime, rule: Rule, words: &[String]) -> Status {
 /// call ends with a write fault too.
 pub fn main_by(rt: HostRuntime, rule: Rule) -> ExitCode {
     let status = match words(&rt) {
-        Ok(words) => run(rt, rule, &words),
+        Ok(words) => run(
+            rt,
+            Call {
+                rule,
+                words: &words,
+            },
+        ),
         Err(NoWords::Refused) => Status::Usage,
         Err(NoWords::Memory) => Status::Memory,
     };

@@ -63,20 +63,22 @@ fn is_same<R: Files>(rt: &R, name: &str, file: &Metadata) -> bool {
     }
 }
 
-// Returns whether a command writes this file: one of its arguments names it, or it is one of the ports.
+// Returns whether a command writes this file: one of its last arguments names it, or it is one of the ports.
 fn writes<R: Files>(rt: &R, words: &[String], ports: &[&str], file: &Metadata) -> bool {
-    match words {
-        [command, _, _, _, name] if matches!(command.as_str(), "spec" | "prove") => {
-            is_same(rt, name, file)
-        }
-        [command, _, _, _, template, pack] if command.as_str() == "map" => {
-            is_same(rt, template, file) || is_same(rt, pack, file)
-        }
-        [command, _, name] if command.as_str() == "repack" => is_same(rt, name, file),
-        [command, _, _, name] if command.as_str() == "graph" => is_same(rt, name, file),
-        _ if !is_portless(words) => ports.iter().any(|port| is_same(rt, port, file)),
-        _ => false,
+    if !is_portless(words) {
+        return ports.iter().any(|port| is_same(rt, port, file));
     }
+    let Some(command) = words.first() else {
+        return false;
+    };
+    let (count, first) = match command.as_str() {
+        "spec" | "prove" => (5, 4),
+        "map" => (6, 4),
+        "graph" => (4, 3),
+        "repack" => (3, 2),
+        _ => return false,
+    };
+    words.len() == count && words.iter().skip(first).any(|name| is_same(rt, name, file))
 }
 
 /// Returns whether stdout is a plain file that the command given by these arguments writes, or one of the ports of `run`.
