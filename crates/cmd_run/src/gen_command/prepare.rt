@@ -121,7 +121,10 @@ fn ready_case(
     };
     let events = match case_events(alloc, script_text, &mapped) {
         Ok(events) => events,
-        Err(outcome) => return Err(outcome),
+        Err(outcome) => {
+            drop(mapped);
+            return Err(outcome);
+        }
     };
     match make_ready(alloc, Scripted { mapped, events }) {
         Ok(ready) => Ok(ready),

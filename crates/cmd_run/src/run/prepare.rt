@@ -47,7 +47,9 @@ pub fn make_ready(alloc: Global, scripted: Scripted) -> Result<Ready, AllocError
 {
     let Scripted { mapped, events } = scripted;
     let MappedSource { source, tables } = mapped;
-    let machine = start_machine(alloc, &source, tables)?;
+    let started = start_machine(alloc, &source, tables);
+    drop(source);
+    let machine = started?;
     Ok(Ready { machine, events })
 }
 
