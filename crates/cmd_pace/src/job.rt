@@ -30,7 +30,9 @@ pub fn pace_job<S: Shelf, O: Sink>(
         Ok(ready) => ready,
         Err(outcome) => return outcome,
     };
-    match play(&mut ready, out) {
+    let played = play(&mut ready, out);
+    drop(ready);
+    match played {
         Ok(()) => Outcome::Done,
         Err(_) => Outcome::WriteFault,
     }

@@ -11,7 +11,7 @@ ghost use Rattle.cmd_pace.specs.Ready.{CanPace, StartsPace, IsReadyFor};
 
 use crate::words::{PaceWords, scripted};
 use cmd_base::Outcome;
-use cmd_stations::{MappedSource, Scripted, latch_inits, read_scripted};
+use cmd_stations::{MappedSource, Scripted, Source, Tables, latch_inits, read_scripted};
 use pace_core::{PaceEvent, Pacer, pace_events};
 use std::alloc::{AllocError, Global};
 use tl_io::Shelf;
@@ -23,15 +23,19 @@ pub struct Ready {
     pub events: Vec<PaceEvent>,
 }
 
-// The initial machine of a mapped source circuit.
-fn start_pacer(alloc: Global, mapped: MappedSource, rate: u32) -> Result<Pacer, AllocError>
-    requires read { IsReadSource mapped.source }
-    requires tables { AreMade mapped.source mapped.tables }
+// The initial machine of a source circuit's LUTs.
+fn start_pacer(
+    alloc: Global,
+    source: &Source,
+    tables: Tables,
+    rate: u32,
+) -> Result<Pacer, AllocError>
+    requires read { IsReadSource source.now }
+    requires tables { AreMade source.now tables }
     requires rate { 1 ≤ rate }
-    ensures { IfOk result (StartsPace mapped.source mapped.tables.template rate) }
+    ensures { IfOk result (StartsPace source.now tables.template rate) }
 {
-    let states = latch_inits(alloc, &mapped.source)?;
-    let MappedSource { tables, .. } = mapped;
+    let states = latch_inits(alloc, source)?;
     let pacer = Pacer::make(
         alloc,
         tables.template,
@@ -52,8 +56,17 @@ fn make_ready(alloc: Global, scripted: Scripted, rate: u32) -> Result<Ready, All
     ensures events { IfOk result (λ r. pace_values r.events.items ≡ asks_and_ticks (event_values scripted.events.items)) }
 {
     let Scripted { mapped, events } = scripted;
-    let events = pace_events(alloc, events)?;
-    let pacer = start_pacer(alloc, mapped, rate)?;
+    let events = match pace_events(alloc, events) {
+        Ok(events) => events,
+        Err(error) => {
+            drop(mapped);
+            return Err(error);
+        }
+    };
+    let MappedSource { source, tables } = mapped;
+    let started = start_pacer(alloc, &source, tables, rate);
+    drop(source);
+    let pacer = started?;
     Ok(Ready { pacer, events })
 }
 

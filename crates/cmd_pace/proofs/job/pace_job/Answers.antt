@@ -17,28 +17,28 @@ returns-in-Err-clause-ends g c ports =
     let out = g.O.Sink.seen c.args.out.now in
     explained_ends (pace_walk (pace_seen c.args.words.now)) old new (outside old out ports) (outside new out ports) (only_read old new out ports c.prepare.ensures.files c.prepare.ensures.write_faults) (λ none. absurd none) c.in-Err.outcome c.in-Err.ensures.err
 
-pub returns-in-Ok-play-clause-ends : goal.returns-in-Ok-play-clause-ends
-returns-in-Ok-play-clause-ends g c ports =
+pub returns-in-Ok-played-clause-ends : goal.returns-in-Ok-played-clause-ends
+returns-in-Ok-played-clause-ends g c ports =
     let words = pace_seen c.args.words.now in
     let ready = c.in-Ok.ready in
     let before : Outside = outside (g.S.Shelf.seen c.args.shelf.now) (g.O.Sink.seen c.args.out.now) ports in
-    let after : Outside = outside (g.S.Shelf.seen c.prepare.new.shelf) (g.O.Sink.seen c.play.new.out) ports in (
+    let after : Outside = outside (g.S.Shelf.seen c.prepare.new.shelf) (g.O.Sink.seen c.play-played.new.out) ports in (
       record { given = c.in-Ok.ensures.given; begun = λ files told. ready_begun files words ready (c.in-Ok.ensures.prepared files told) },
       λ files told. ready_pace files words ready (c.in-Ok.ensures.prepared files told) IsAllPaced before after c.prepare.ensures.files (refl {a = ports})
-          (all_paced ready.pacer (pace_values ready.events.items) before after c.in-Ok-play.ensures.ends),
+          (all_paced ready.pacer (pace_values ready.events.items) before after c.in-Ok-played.ensures.ends),
       refl {a = ports},
     )
 
-pub returns-clause-ends : goal.returns-clause-ends
-returns-clause-ends g c ports =
+pub returns-in-Err-played-clause-ends : goal.returns-in-Err-played-clause-ends
+returns-in-Err-played-clause-ends g c ports =
     let words = pace_seen c.args.words.now in
     let ready = c.in-Ok.ready in
     let before : Outside = outside (g.S.Shelf.seen c.args.shelf.now) (g.O.Sink.seen c.args.out.now) ports in
-    let after : Outside = outside (g.S.Shelf.seen c.prepare.new.shelf) (g.O.Sink.seen c.play.new.out) ports in
-    let rose = c.in-Err-play.ensures.cause.failed in (
+    let after : Outside = outside (g.S.Shelf.seen c.prepare.new.shelf) (g.O.Sink.seen c.play-played.new.out) ports in
+    let rose = c.in-Err-played.ensures.cause.failed in (
       record { given = c.in-Ok.ensures.given; begun = λ files told. ready_begun files words ready (c.in-Ok.ensures.prepared files told) },
       λ files told. ready_pace files words ready (c.in-Ok.ensures.prepared files told) IsPaceCut before after c.prepare.ensures.files (refl {a = ports})
-          (cut_paced ready.pacer (pace_values ready.events.items) before after c.in-Err-play.ensures.ends rose),
+          (cut_paced ready.pacer (pace_values ready.events.items) before after c.in-Err-played.ensures.ends rose),
       refl {a = ports},
       inl rose,
     )
@@ -46,8 +46,8 @@ returns-clause-ends g c ports =
 pub returns-in-Err-clause-laws : goal.returns-in-Err-clause-laws
 returns-in-Err-clause-laws g c = pace_laws (pace_seen c.args.words.now) c.requires.rate
 
-pub returns-in-Ok-play-clause-laws : goal.returns-in-Ok-play-clause-laws
-returns-in-Ok-play-clause-laws g c = pace_laws (pace_seen c.args.words.now) c.requires.rate
+pub returns-in-Ok-played-clause-laws : goal.returns-in-Ok-played-clause-laws
+returns-in-Ok-played-clause-laws g c = pace_laws (pace_seen c.args.words.now) c.requires.rate
 
-pub returns-clause-laws : goal.returns-clause-laws
-returns-clause-laws g c = pace_laws (pace_seen c.args.words.now) c.requires.rate
+pub returns-in-Err-played-clause-laws : goal.returns-in-Err-played-clause-laws
+returns-in-Err-played-clause-laws g c = pace_laws (pace_seen c.args.words.now) c.requires.rate

@@ -6,6 +6,6 @@ use Rattle.cmd_pace.proofs.prepare.start_pacer.Goals as goal
 pub returns : goal.returns
 returns c =
     let made = c.in_ok-pacer.ensures in
-    starts_pace c.args.mapped.source c.args.mapped.tables c.args.rate c.in_ok-pacer.pacer c.requires.read c.requires.tables c.make.ensures.one made.pack made.params made.config
+    starts_pace c.args.source.now c.args.tables c.args.rate c.in_ok-pacer.pacer c.requires.read c.requires.tables c.make.ensures.one made.pack made.params made.config
     (ap (λ (s : SimValue). s.template) made.sim) (ap (λ (s : SimValue). s.shape) made.sim)
     (ap (λ (s : SimValue). s.states) made.sim ∙ c.deref.ensures.value ∙ c.in_ok-states.ensures) made.rate
