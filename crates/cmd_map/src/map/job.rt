@@ -58,7 +58,9 @@ pub fn map_job<S: Shelf, O: Sink>(
         Ok(draft) => draft,
         Err(outcome) => return outcome,
     };
-    match write_out(&mut draft, words.template, words.pack, shelf, out) {
+    let written = write_out(&mut draft, words.template, words.pack, shelf, out);
+    drop(draft);
+    match written {
         Ok(()) => Outcome::Done,
         Err(_) => Outcome::WriteFault,
     }

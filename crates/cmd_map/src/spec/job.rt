@@ -79,9 +79,14 @@ pub fn spec_job<S: Shelf, O: Sink>(
     };
     let config = match listed_config(alloc, &draft) {
         Ok(config) => config,
-        Err(_) => return Outcome::Memory,
+        Err(_) => {
+            drop(draft);
+            return Outcome::Memory;
+        }
     };
-    match write_out(&mut draft, &config, words.out, shelf, out) {
+    let written = write_out(&mut draft, &config, words.out, shelf, out);
+    drop(draft);
+    match written {
         Ok(()) => Outcome::Done,
         Err(_) => Outcome::WriteFault,
     }

@@ -14,21 +14,21 @@ returns-in-Err-clause-ends g c ports =
     let same = only_read old new out ports c.read_draft.ensures.files c.read_draft.ensures.write_faults in
     explained_ends (map_walk (map_seen c.args.words.now)) old new (outside old out ports) (outside new out ports) same (λ _. c.read_draft.ensures.not_writing) c.in-Err.outcome c.in-Err.ensures.err
 
-pub returns-in-Ok-write_out-clause-ends : goal.returns-in-Ok-write_out-clause-ends
-returns-in-Ok-write_out-clause-ends g c ports =
-    map_done c.in-Ok.draft.mapped c.in-Ok.ensures.draft.made c.write_out.ensures.means (map_seen c.args.words.now) (g.S.Shelf.seen c.args.shelf.now) (g.S.Shelf.seen c.read_draft.new.shelf) (g.S.Shelf.seen c.write_out.new.shelf)
-    (λ out ps. only_read (g.S.Shelf.seen c.args.shelf.now) (g.S.Shelf.seen c.read_draft.new.shelf) out ps c.read_draft.ensures.files c.read_draft.ensures.write_faults) c.in-Ok.ensures.given c.write_out.ensures.given c.in-Ok.ensures.comes (g.O.Sink.seen c.args.out.now) (g.O.Sink.seen c.write_out.new.out) ports (c.in-Ok-write_out.ensures.ends ports)
+pub returns-in-Ok-written-clause-ends : goal.returns-in-Ok-written-clause-ends
+returns-in-Ok-written-clause-ends g c ports =
+    map_done c.in-Ok.draft.mapped c.in-Ok.ensures.draft.made c.write_out-written.ensures.means (map_seen c.args.words.now) (g.S.Shelf.seen c.args.shelf.now) (g.S.Shelf.seen c.read_draft.new.shelf) (g.S.Shelf.seen c.write_out-written.new.shelf)
+    (λ out ps. only_read (g.S.Shelf.seen c.args.shelf.now) (g.S.Shelf.seen c.read_draft.new.shelf) out ps c.read_draft.ensures.files c.read_draft.ensures.write_faults) c.in-Ok.ensures.given c.write_out-written.ensures.given c.in-Ok.ensures.comes (g.O.Sink.seen c.args.out.now) (g.O.Sink.seen c.write_out-written.new.out) ports (c.in-Ok-written.ensures.ends ports)
 
-pub returns-clause-ends : goal.returns-clause-ends
-returns-clause-ends g c ports =
-    map_cut c.in-Ok.draft.mapped c.in-Ok.ensures.draft.made c.write_out.ensures.means (map_seen c.args.words.now) (g.S.Shelf.seen c.args.shelf.now) (g.S.Shelf.seen c.read_draft.new.shelf) (g.S.Shelf.seen c.write_out.new.shelf)
-    (λ out ps. only_read (g.S.Shelf.seen c.args.shelf.now) (g.S.Shelf.seen c.read_draft.new.shelf) out ps c.read_draft.ensures.files c.read_draft.ensures.write_faults) c.in-Ok.ensures.given c.write_out.ensures.given c.in-Ok.ensures.comes (g.O.Sink.seen c.args.out.now) (g.O.Sink.seen c.write_out.new.out) ports (c.in-Err-write_out.ensures.ends ports)
+pub returns-in-Err-written-clause-ends : goal.returns-in-Err-written-clause-ends
+returns-in-Err-written-clause-ends g c ports =
+    map_cut c.in-Ok.draft.mapped c.in-Ok.ensures.draft.made c.write_out-written.ensures.means (map_seen c.args.words.now) (g.S.Shelf.seen c.args.shelf.now) (g.S.Shelf.seen c.read_draft.new.shelf) (g.S.Shelf.seen c.write_out-written.new.shelf)
+    (λ out ps. only_read (g.S.Shelf.seen c.args.shelf.now) (g.S.Shelf.seen c.read_draft.new.shelf) out ps c.read_draft.ensures.files c.read_draft.ensures.write_faults) c.in-Ok.ensures.given c.write_out-written.ensures.given c.in-Ok.ensures.comes (g.O.Sink.seen c.args.out.now) (g.O.Sink.seen c.write_out-written.new.out) ports (c.in-Err-written.ensures.ends ports)
 
 pub returns-in-Err-clause-laws : goal.returns-in-Err-clause-laws
 returns-in-Err-clause-laws g c = map_laws (map_seen c.args.words.now)
 
-pub returns-in-Ok-write_out-clause-laws : goal.returns-in-Ok-write_out-clause-laws
-returns-in-Ok-write_out-clause-laws g c = map_laws (map_seen c.args.words.now)
+pub returns-in-Ok-written-clause-laws : goal.returns-in-Ok-written-clause-laws
+returns-in-Ok-written-clause-laws g c = map_laws (map_seen c.args.words.now)
 
-pub returns-clause-laws : goal.returns-clause-laws
-returns-clause-laws g c = map_laws (map_seen c.args.words.now)
+pub returns-in-Err-written-clause-laws : goal.returns-in-Err-written-clause-laws
+returns-in-Err-written-clause-laws g c = map_laws (map_seen c.args.words.now)

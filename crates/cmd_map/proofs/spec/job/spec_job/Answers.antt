@@ -20,19 +20,19 @@ returns-in-Err-clause-ends g c ports =
 pub returns-in-Err-listed_config-clause-ends : goal.returns-in-Err-listed_config-clause-ends
 returns-in-Err-listed_config-clause-ends g c ports = (only_read (g.S.Shelf.seen c.args.shelf.now) (g.S.Shelf.seen c.read_draft.new.shelf) (g.O.Sink.seen c.args.out.now) ports c.read_draft.ensures.files c.read_draft.ensures.write_faults, λ _. c.read_draft.ensures.not_writing)
 
-pub returns-in-Ok-write_out-clause-ends : goal.returns-in-Ok-write_out-clause-ends
-returns-in-Ok-write_out-clause-ends g c ports =
+pub returns-in-Ok-written-clause-ends : goal.returns-in-Ok-written-clause-ends
+returns-in-Ok-written-clause-ends g c ports =
     let m = c.in-Ok.draft.mapped in
     let conf = subst (λ cs. IsConf m.tables.pack (param_inits m.source.params.list) cs) (sym c.deref.ensures.value) c.in-Ok-listed_config.ensures in
-    spec_done m c.in-Ok.ensures.draft.made c.deref.result.now conf c.write_out.ensures.means (spec_seen c.args.words.now) (g.S.Shelf.seen c.args.shelf.now) (g.S.Shelf.seen c.read_draft.new.shelf) (g.S.Shelf.seen c.write_out.new.shelf)
-    (λ out ps. only_read (g.S.Shelf.seen c.args.shelf.now) (g.S.Shelf.seen c.read_draft.new.shelf) out ps c.read_draft.ensures.files c.read_draft.ensures.write_faults) c.in-Ok.ensures.given c.write_out.ensures.given c.in-Ok.ensures.comes (g.O.Sink.seen c.args.out.now) (g.O.Sink.seen c.write_out.new.out) ports (c.in-Ok-write_out.ensures.ends ports)
+    spec_done m c.in-Ok.ensures.draft.made c.deref.result.now conf c.write_out-written.ensures.means (spec_seen c.args.words.now) (g.S.Shelf.seen c.args.shelf.now) (g.S.Shelf.seen c.read_draft.new.shelf) (g.S.Shelf.seen c.write_out-written.new.shelf)
+    (λ out ps. only_read (g.S.Shelf.seen c.args.shelf.now) (g.S.Shelf.seen c.read_draft.new.shelf) out ps c.read_draft.ensures.files c.read_draft.ensures.write_faults) c.in-Ok.ensures.given c.write_out-written.ensures.given c.in-Ok.ensures.comes (g.O.Sink.seen c.args.out.now) (g.O.Sink.seen c.write_out-written.new.out) ports (c.in-Ok-written.ensures.ends ports)
 
 pub returns-clause-ends : goal.returns-clause-ends
 returns-clause-ends g c ports =
     let m = c.in-Ok.draft.mapped in
     let conf = subst (λ cs. IsConf m.tables.pack (param_inits m.source.params.list) cs) (sym c.deref.ensures.value) c.in-Ok-listed_config.ensures in
-    spec_cut m c.in-Ok.ensures.draft.made c.deref.result.now conf c.write_out.ensures.means (spec_seen c.args.words.now) (g.S.Shelf.seen c.args.shelf.now) (g.S.Shelf.seen c.read_draft.new.shelf) (g.S.Shelf.seen c.write_out.new.shelf)
-    (λ out ps. only_read (g.S.Shelf.seen c.args.shelf.now) (g.S.Shelf.seen c.read_draft.new.shelf) out ps c.read_draft.ensures.files c.read_draft.ensures.write_faults) c.in-Ok.ensures.given c.write_out.ensures.given c.in-Ok.ensures.comes (g.O.Sink.seen c.args.out.now) (g.O.Sink.seen c.write_out.new.out) ports (c.in-Err-write_out.ensures.ends ports)
+    spec_cut m c.in-Ok.ensures.draft.made c.deref.result.now conf c.write_out-written.ensures.means (spec_seen c.args.words.now) (g.S.Shelf.seen c.args.shelf.now) (g.S.Shelf.seen c.read_draft.new.shelf) (g.S.Shelf.seen c.write_out-written.new.shelf)
+    (λ out ps. only_read (g.S.Shelf.seen c.args.shelf.now) (g.S.Shelf.seen c.read_draft.new.shelf) out ps c.read_draft.ensures.files c.read_draft.ensures.write_faults) c.in-Ok.ensures.given c.write_out-written.ensures.given c.in-Ok.ensures.comes (g.O.Sink.seen c.args.out.now) (g.O.Sink.seen c.write_out-written.new.out) ports (c.in-Err-written.ensures.ends ports)
 
 pub returns-in-Err-clause-laws : goal.returns-in-Err-clause-laws
 returns-in-Err-clause-laws g c = spec_laws (spec_seen c.args.words.now)
@@ -40,8 +40,8 @@ returns-in-Err-clause-laws g c = spec_laws (spec_seen c.args.words.now)
 pub returns-in-Err-listed_config-clause-laws : goal.returns-in-Err-listed_config-clause-laws
 returns-in-Err-listed_config-clause-laws g c = spec_laws (spec_seen c.args.words.now)
 
-pub returns-in-Ok-write_out-clause-laws : goal.returns-in-Ok-write_out-clause-laws
-returns-in-Ok-write_out-clause-laws g c = spec_laws (spec_seen c.args.words.now)
+pub returns-in-Ok-written-clause-laws : goal.returns-in-Ok-written-clause-laws
+returns-in-Ok-written-clause-laws g c = spec_laws (spec_seen c.args.words.now)
 
 pub returns-clause-laws : goal.returns-clause-laws
 returns-clause-laws g c = spec_laws (spec_seen c.args.words.now)
