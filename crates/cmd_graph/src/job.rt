@@ -77,7 +77,9 @@ pub fn graph_job<S: Shelf, O: Sink>(
         Ok(export) => export,
         Err(outcome) => return outcome,
     };
-    match write_out(&export, words.out, shelf, out) {
+    let written = write_out(&export, words.out, shelf, out);
+    drop(export);
+    match written {
         Ok(()) => Outcome::Done,
         Err(_) => Outcome::WriteFault,
     }
