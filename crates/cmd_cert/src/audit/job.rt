@@ -50,7 +50,10 @@ fn read_audited<S: Shelf>(
     };
     match read_valid(alloc, words, &built, shelf) {
         Ok(cert) => Ok(Audited { built, cert }),
-        Err(outcome) => Err(outcome),
+        Err(outcome) => {
+            drop(built);
+            Err(outcome)
+        }
     }
 }
 
@@ -71,7 +74,9 @@ pub fn audit_job<S: Shelf, O: Sink>(
         Ok(audited) => audited,
         Err(outcome) => return outcome,
     };
-    let line = match audited_line(alloc, audited.cert.depth) {
+    let line = audited_line(alloc, audited.cert.depth);
+    drop(audited);
+    let line = match line {
         Ok(line) => line,
         Err(_) => return Outcome::Memory,
     };

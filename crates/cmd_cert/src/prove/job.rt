@@ -45,20 +45,33 @@ fn make_proof(alloc: Global, labelled: LabelledSource, k: u8) -> Result<Proof, A
     ensures proof { IfOk result (IsProof k) }
 {
     let built = &labelled.built;
-    let cert = certify(
+    let certified = certify(
         alloc,
         &built.graph,
         &built.roots,
         &labelled.table,
         &labelled.labels,
         k,
-    )?;
-    let line = proved_line(alloc, cert.depth)?;
-    Ok(Proof {
-        labelled,
-        cert,
-        line,
-    })
+    );
+    let cert = match certified {
+        Ok(cert) => cert,
+        Err(error) => {
+            drop(labelled);
+            return Err(error);
+        }
+    };
+    match proved_line(alloc, cert.depth) {
+        Ok(line) => Ok(Proof {
+            labelled,
+            cert,
+            line,
+        }),
+        Err(error) => {
+            drop(labelled);
+            drop(cert);
+            Err(error)
+        }
+    }
 }
 
 // Reads a source circuit, and makes its certificate.
@@ -114,7 +127,9 @@ pub fn prove_job<S: Shelf, O: Sink>(
         Ok(proof) => proof,
         Err(outcome) => return outcome,
     };
-    match write_out(&proof, words.cert, shelf, out) {
+    let written = write_out(&proof, words.cert, shelf, out);
+    drop(proof);
+    match written {
         Ok(()) => Outcome::Done,
         Err(_) => Outcome::WriteFault,
     }

@@ -17,8 +17,8 @@ returns-in-Err-clause-ends g c ports =
     explained_ends (audit_walk (cert_seen c.args.words.now)) old new (outside old out ports) (outside new out ports) (only_read old new out ports c.read_audited.ensures.files c.read_audited.ensures.write_faults) (λ none. absurd none) c.in-Err.outcome
     c.in-Err.ensures.err
 
-pub returns-in-Err-audited_line-clause-ends : goal.returns-in-Err-audited_line-clause-ends
-returns-in-Err-audited_line-clause-ends g c ports =
+pub returns-in-Err-line-clause-ends : goal.returns-in-Err-line-clause-ends
+returns-in-Err-line-clause-ends g c ports =
     (only_read (g.S.Shelf.seen c.args.shelf.now) (g.S.Shelf.seen c.read_audited.new.shelf) (g.O.Sink.seen c.args.out.now) ports c.read_audited.ensures.files c.read_audited.ensures.write_faults, λ none. absurd none)
 
 pub returns-in-Ok-put_line-clause-ends : goal.returns-in-Ok-put_line-clause-ends
@@ -30,7 +30,7 @@ returns-in-Ok-put_line-clause-ends g c ports =
     let before : Outside = outside old (g.O.Sink.seen c.args.out.now) ports in
     let after : Outside = outside new (g.O.Sink.seen c.put_line.new.out) ports in (
       audit_begun words c.in-Ok.audited is.normal is.valid old new is.comes is.has is.given,
-      audited words c.in-Ok.audited is.normal is.valid old new is.comes is.has c.as_str.result.now (c.as_str.ensures.value ∙ c.in-Ok-audited_line.ensures ∙ ap (λ (a : Audited). audited_line a.cert.depth) c.audited.view_is) (λ line. AreWritten [] line before after)
+      audited words c.in-Ok.audited is.normal is.valid old new is.comes is.has c.as_str.result.now (c.as_str.ensures.value ∙ c.in-Ok-line.ensures ∙ ap (λ (a : Audited). audited_line a.cert.depth) c.audited.view_is) (λ line. AreWritten [] line before after)
           (record { files = is.files; bytes = c.in-Ok-put_line.ensures.grown; ports = refl }),
       refl,
     )
@@ -46,7 +46,7 @@ returns-clause-ends g c ports =
     let before : Outside = outside old (g.O.Sink.seen c.args.out.now) ports in
     let after : Outside = outside new (g.O.Sink.seen c.put_line.new.out) ports in (
       audit_begun words c.in-Ok.audited is.normal is.valid old new is.comes is.has is.given,
-      audited words c.in-Ok.audited is.normal is.valid old new is.comes is.has c.as_str.result.now (c.as_str.ensures.value ∙ c.in-Ok-audited_line.ensures ∙ ap (λ (a : Audited). audited_line a.cert.depth) c.audited.view_is) (λ line. IsCutInLine [] line before after)
+      audited words c.in-Ok.audited is.normal is.valid old new is.comes is.has c.as_str.result.now (c.as_str.ensures.value ∙ c.in-Ok-line.ensures ∙ ap (λ (a : Audited). audited_line a.cert.depth) c.audited.view_is) (λ line. IsCutInLine [] line before after)
           (record { part = put.0; within = put.1; files = is.files; bytes = put.2; cause = rose; ports = refl }),
       refl,
       inl rose,
@@ -55,8 +55,8 @@ returns-clause-ends g c ports =
 pub returns-in-Err-clause-laws : goal.returns-in-Err-clause-laws
 returns-in-Err-clause-laws g c = audit_laws (cert_seen c.args.words.now)
 
-pub returns-in-Err-audited_line-clause-laws : goal.returns-in-Err-audited_line-clause-laws
-returns-in-Err-audited_line-clause-laws g c = audit_laws (cert_seen c.args.words.now)
+pub returns-in-Err-line-clause-laws : goal.returns-in-Err-line-clause-laws
+returns-in-Err-line-clause-laws g c = audit_laws (cert_seen c.args.words.now)
 
 pub returns-in-Ok-put_line-clause-laws : goal.returns-in-Ok-put_line-clause-laws
 returns-in-Ok-put_line-clause-laws g c = audit_laws (cert_seen c.args.words.now)

@@ -13,21 +13,21 @@ returns-in-Err-clause-ends g c ports =
     explained_ends (prove_walk (cert_seen c.args.words.now)) old new (outside old out ports) (outside new out ports) (only_read old new out ports c.read_proof.ensures.files c.read_proof.ensures.write_faults) (λ _. c.read_proof.ensures.not_writing) c.in-Err.outcome
     c.in-Err.ensures.err
 
-pub returns-in-Ok-write_out-clause-ends : goal.returns-in-Ok-write_out-clause-ends
-returns-in-Ok-write_out-clause-ends g c ports =
-    prove_done (cert_seen c.args.words.now) c.in-Ok.proof c.in-Ok.ensures.proof (g.S.Shelf.seen c.args.shelf.now) (g.S.Shelf.seen c.read_proof.new.shelf) (g.S.Shelf.seen c.write_out.new.shelf)
-    (λ out ps. only_read (g.S.Shelf.seen c.args.shelf.now) (g.S.Shelf.seen c.read_proof.new.shelf) out ps c.read_proof.ensures.files c.read_proof.ensures.write_faults) c.in-Ok.ensures.given c.write_out.ensures.given c.in-Ok.ensures.comes (g.O.Sink.seen c.args.out.now) (g.O.Sink.seen c.write_out.new.out) ports (c.in-Ok-write_out.ensures.ends ports)
+pub returns-in-Ok-written-clause-ends : goal.returns-in-Ok-written-clause-ends
+returns-in-Ok-written-clause-ends g c ports =
+    prove_done (cert_seen c.args.words.now) c.in-Ok.proof c.in-Ok.ensures.proof (g.S.Shelf.seen c.args.shelf.now) (g.S.Shelf.seen c.read_proof.new.shelf) (g.S.Shelf.seen c.write_out-written.new.shelf)
+    (λ out ps. only_read (g.S.Shelf.seen c.args.shelf.now) (g.S.Shelf.seen c.read_proof.new.shelf) out ps c.read_proof.ensures.files c.read_proof.ensures.write_faults) c.in-Ok.ensures.given c.write_out-written.ensures.given c.in-Ok.ensures.comes (g.O.Sink.seen c.args.out.now) (g.O.Sink.seen c.write_out-written.new.out) ports (c.in-Ok-written.ensures.ends ports)
 
-pub returns-clause-ends : goal.returns-clause-ends
-returns-clause-ends g c ports =
-    prove_cut (cert_seen c.args.words.now) c.in-Ok.proof c.in-Ok.ensures.proof (g.S.Shelf.seen c.args.shelf.now) (g.S.Shelf.seen c.read_proof.new.shelf) (g.S.Shelf.seen c.write_out.new.shelf)
-    (λ out ps. only_read (g.S.Shelf.seen c.args.shelf.now) (g.S.Shelf.seen c.read_proof.new.shelf) out ps c.read_proof.ensures.files c.read_proof.ensures.write_faults) c.in-Ok.ensures.given c.write_out.ensures.given c.in-Ok.ensures.comes (g.O.Sink.seen c.args.out.now) (g.O.Sink.seen c.write_out.new.out) ports (c.in-Err-write_out.ensures.ends ports)
+pub returns-in-Err-written-clause-ends : goal.returns-in-Err-written-clause-ends
+returns-in-Err-written-clause-ends g c ports =
+    prove_cut (cert_seen c.args.words.now) c.in-Ok.proof c.in-Ok.ensures.proof (g.S.Shelf.seen c.args.shelf.now) (g.S.Shelf.seen c.read_proof.new.shelf) (g.S.Shelf.seen c.write_out-written.new.shelf)
+    (λ out ps. only_read (g.S.Shelf.seen c.args.shelf.now) (g.S.Shelf.seen c.read_proof.new.shelf) out ps c.read_proof.ensures.files c.read_proof.ensures.write_faults) c.in-Ok.ensures.given c.write_out-written.ensures.given c.in-Ok.ensures.comes (g.O.Sink.seen c.args.out.now) (g.O.Sink.seen c.write_out-written.new.out) ports (c.in-Err-written.ensures.ends ports)
 
 pub returns-in-Err-clause-laws : goal.returns-in-Err-clause-laws
 returns-in-Err-clause-laws g c = prove_laws (cert_seen c.args.words.now)
 
-pub returns-in-Ok-write_out-clause-laws : goal.returns-in-Ok-write_out-clause-laws
-returns-in-Ok-write_out-clause-laws g c = prove_laws (cert_seen c.args.words.now)
+pub returns-in-Ok-written-clause-laws : goal.returns-in-Ok-written-clause-laws
+returns-in-Ok-written-clause-laws g c = prove_laws (cert_seen c.args.words.now)
 
-pub returns-clause-laws : goal.returns-clause-laws
-returns-clause-laws g c = prove_laws (cert_seen c.args.words.now)
+pub returns-in-Err-written-clause-laws : goal.returns-in-Err-written-clause-laws
+returns-in-Err-written-clause-laws g c = prove_laws (cert_seen c.args.words.now)
