@@ -31,7 +31,10 @@ pub fn bits_job<S: Shelf, O: Sink, P: ConfigPort>(
         Err(outcome) => return outcome,
     };
     let mut bank = PortBank::make(Vec::<P>::new(alloc), 0, 0);
-    match play(&mut ready, out, &mut bank) {
+    let played = play(&mut ready, out, &mut bank);
+    drop(bank);
+    drop(ready);
+    match played {
         Ok(()) => Outcome::Done,
         Err(_) => Outcome::WriteFault,
     }

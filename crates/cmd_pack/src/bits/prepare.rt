@@ -56,14 +56,26 @@ fn make_ready(alloc: Global, pack: Pack, events: Vec<Event>) -> Result<ReadyScri
     ensures { IfOk result (IsReady pack (event_values events.items)) }
 {
     let bits = bit_count(&pack);
-    let host = Host::make(alloc, pack)?;
-    let buf = LineBuf::make(alloc)?;
-    Ok(ReadyScript {
-        host,
-        bits,
-        buf,
-        events,
-    })
+    let host = match Host::make(alloc, pack) {
+        Ok(host) => host,
+        Err(error) => {
+            drop(events);
+            return Err(error);
+        }
+    };
+    match LineBuf::make(alloc) {
+        Ok(buf) => Ok(ReadyScript {
+            host,
+            bits,
+            buf,
+            events,
+        }),
+        Err(error) => {
+            drop(host);
+            drop(events);
+            Err(error)
+        }
+    }
 }
 
 /// Reads the files of a job in the order of work, and allocates all the memory that its events need.
@@ -89,7 +101,10 @@ pub fn prepare<S: Shelf>(
     };
     let events = match read_events(alloc, words, &pack, shelf) {
         Ok(events) => events,
-        Err(outcome) => return Err(outcome),
+        Err(outcome) => {
+            drop(pack);
+            return Err(outcome);
+        }
     };
     match make_ready(alloc, pack, events) {
         Ok(ready) => Ok(ready),

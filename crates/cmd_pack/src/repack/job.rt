@@ -49,9 +49,14 @@ pub fn repack_job<S: Shelf, O: Sink>(
     };
     let mut buf = match LineBuf::make(alloc) {
         Ok(buf) => buf,
-        Err(_) => return Outcome::Memory,
+        Err(_) => {
+            drop(pack);
+            return Outcome::Memory;
+        }
     };
-    match write_all(&pack, words.new, &mut buf, shelf, out) {
+    let written = write_all(&pack, words.new, &mut buf, shelf, out);
+    drop(pack);
+    match written {
         Ok(()) => Outcome::Done,
         Err(_) => Outcome::WriteFault,
     }

@@ -15,35 +15,35 @@ returns-in-Err-clause-ends g c ports =
     let out = g.O.Sink.seen c.args.out.now in
     explained_ends (bits_walk (bits_seen c.args.words.now)) old new (outside old out ports) (outside new out ports) (only_read old new out ports c.prepare.ensures.files c.prepare.ensures.write_faults) (λ none. absurd none) c.in-Err.outcome c.in-Err.ensures.err
 
-pub returns-in-Ok-play-clause-ends : goal.returns-in-Ok-play-clause-ends
-returns-in-Ok-play-clause-ends g c ports =
+pub returns-in-Ok-played-clause-ends : goal.returns-in-Ok-played-clause-ends
+returns-in-Ok-played-clause-ends g c ports =
     let words = bits_seen c.args.words.now in
     let ready = c.in-Ok.ready in
     let old = g.S.Shelf.seen c.args.shelf.now in
     let new = g.S.Shelf.seen c.prepare.new.shelf in
-    let out = g.O.Sink.seen c.play.new.out in
+    let out = g.O.Sink.seen c.play-played.new.out in
     let before : Outside = outside old (g.O.Sink.seen c.args.out.now) ports in
     let after : Outside = outside new out ports in
     let same : after ≡ outside old out ports = only_read old new out ports c.prepare.ensures.files c.prepare.ensures.write_faults in
     let ends : AreLinesPut ready.host (event_values ready.events.items) before after =
-    subst (λ w. AreLinesPut ready.host (event_values ready.events.items) before w) (sym same) (c.in-Ok-play.ensures.ends old ports) in (
+    subst (λ w. AreLinesPut ready.host (event_values ready.events.items) before w) (sym same) (c.in-Ok-played.ensures.ends old ports) in (
       record { given = c.in-Ok.ensures.given; begun = λ fs told. ready_begun fs words ready (c.in-Ok.ensures.prepared fs told) },
       λ fs told. ready_bits fs words ready (c.in-Ok.ensures.prepared fs told) (λ h events. AreLinesPut h events before after) ends,
       refl,
     )
 
-pub returns-clause-ends : goal.returns-clause-ends
-returns-clause-ends g c ports =
+pub returns-in-Err-played-clause-ends : goal.returns-in-Err-played-clause-ends
+returns-in-Err-played-clause-ends g c ports =
     let words = bits_seen c.args.words.now in
     let ready = c.in-Ok.ready in
     let old = g.S.Shelf.seen c.args.shelf.now in
     let new = g.S.Shelf.seen c.prepare.new.shelf in
-    let out = g.O.Sink.seen c.play.new.out in
+    let out = g.O.Sink.seen c.play-played.new.out in
     let before : Outside = outside old (g.O.Sink.seen c.args.out.now) ports in
     let after : Outside = outside new out ports in
     let same : after ≡ outside old out ports = only_read old new out ports c.prepare.ensures.files c.prepare.ensures.write_faults in
     let ends : AreLinesCut ready.host (event_values ready.events.items) before after =
-    subst (λ w. AreLinesCut ready.host (event_values ready.events.items) before w) (sym same) (c.in-Err-play.ensures.ends old ports) in (
+    subst (λ w. AreLinesCut ready.host (event_values ready.events.items) before w) (sym same) (c.in-Err-played.ensures.ends old ports) in (
       record { given = c.in-Ok.ensures.given; begun = λ fs told. ready_begun fs words ready (c.in-Ok.ensures.prepared fs told) },
       λ fs told. ready_bits fs words ready (c.in-Ok.ensures.prepared fs told) (λ h events. AreLinesCut h events before after) ends,
       refl,
@@ -53,8 +53,8 @@ returns-clause-ends g c ports =
 pub returns-in-Err-clause-laws : goal.returns-in-Err-clause-laws
 returns-in-Err-clause-laws g c = bits_laws (bits_seen c.args.words.now)
 
-pub returns-in-Ok-play-clause-laws : goal.returns-in-Ok-play-clause-laws
-returns-in-Ok-play-clause-laws g c = bits_laws (bits_seen c.args.words.now)
+pub returns-in-Ok-played-clause-laws : goal.returns-in-Ok-played-clause-laws
+returns-in-Ok-played-clause-laws g c = bits_laws (bits_seen c.args.words.now)
 
-pub returns-clause-laws : goal.returns-clause-laws
-returns-clause-laws g c = bits_laws (bits_seen c.args.words.now)
+pub returns-in-Err-played-clause-laws : goal.returns-in-Err-played-clause-laws
+returns-in-Err-played-clause-laws g c = bits_laws (bits_seen c.args.words.now)

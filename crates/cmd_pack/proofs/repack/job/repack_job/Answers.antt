@@ -25,16 +25,16 @@ pub returns-in-Err-make-clause-ends : goal.returns-in-Err-make-clause-ends
 returns-in-Err-make-clause-ends g c ports =
     (only_read (g.S.Shelf.seen c.args.shelf.now) (g.S.Shelf.seen c.read_pack.new.shelf) (g.O.Sink.seen c.args.out.now) ports c.read_pack.ensures.files c.read_pack.ensures.write_faults, λ _. c.read_pack.ensures.not_writing)
 
-pub returns-in-Ok-write_all-clause-ends : goal.returns-in-Ok-write_all-clause-ends
-returns-in-Ok-write_all-clause-ends g c ports =
+pub returns-in-Ok-written-clause-ends : goal.returns-in-Ok-written-clause-ends
+returns-in-Ok-written-clause-ends g c ports =
     let words = repack_seen c.args.words.now in
     let old = g.S.Shelf.seen c.args.shelf.now in
     let mid = g.S.Shelf.seen c.read_pack.new.shelf in
-    let new = g.S.Shelf.seen c.write_all.new.shelf in
-    let after : Outside = outside new (g.O.Sink.seen c.write_all.new.out) ports in
+    let new = g.S.Shelf.seen c.write_all-written.new.shelf in
+    let after : Outside = outside new (g.O.Sink.seen c.write_all-written.new.out) ports in
     let same = λ (out : SinkSeen) (ps : List PortSeen). only_read old mid out ps c.read_pack.ensures.files c.read_pack.ensures.write_faults in (
-      begun_from words c.in-Ok.pack old mid new same c.in-Ok.ensures.pack c.in-Ok.ensures.settled c.in-Ok.ensures.given c.write_all.ensures.given,
-      repacked_from words c.in-Ok.pack old mid new same c.in-Ok.ensures.pack c.in-Ok.ensures.settled (λ before texts line. AreWritten texts line before after) (g.O.Sink.seen c.args.out.now) ports (c.in-Ok-write_all.ensures.ends ports),
+      begun_from words c.in-Ok.pack old mid new same c.in-Ok.ensures.pack c.in-Ok.ensures.settled c.in-Ok.ensures.given c.write_all-written.ensures.given,
+      repacked_from words c.in-Ok.pack old mid new same c.in-Ok.ensures.pack c.in-Ok.ensures.settled (λ before texts line. AreWritten texts line before after) (g.O.Sink.seen c.args.out.now) ports (c.in-Ok-written.ensures.ends ports),
       refl,
     )
 
@@ -43,14 +43,14 @@ returns-clause-ends g c ports =
     let words = repack_seen c.args.words.now in
     let old = g.S.Shelf.seen c.args.shelf.now in
     let mid = g.S.Shelf.seen c.read_pack.new.shelf in
-    let new = g.S.Shelf.seen c.write_all.new.shelf in
+    let new = g.S.Shelf.seen c.write_all-written.new.shelf in
     let out = g.O.Sink.seen c.args.out.now in
-    let after : Outside = outside new (g.O.Sink.seen c.write_all.new.out) ports in
+    let after : Outside = outside new (g.O.Sink.seen c.write_all-written.new.out) ports in
     let same = λ (put : SinkSeen) (ps : List PortSeen). only_read old mid put ps c.read_pack.ensures.files c.read_pack.ensures.write_faults in
     let text : FileText = record { name = words.new; bytes = present_bytes c.in-Ok.pack } in
-    let cut = subst (λ w. IsCut (text ∷ []) (pack_header c.in-Ok.pack) w after) (same out ports) (c.in-Err-write_all.ensures.ends ports) in (
-      begun_from words c.in-Ok.pack old mid new same c.in-Ok.ensures.pack c.in-Ok.ensures.settled c.in-Ok.ensures.given c.write_all.ensures.given,
-      repacked_from words c.in-Ok.pack old mid new same c.in-Ok.ensures.pack c.in-Ok.ensures.settled (λ before texts line. IsCut texts line before after) out ports (c.in-Err-write_all.ensures.ends ports),
+    let cut = subst (λ w. IsCut (text ∷ []) (pack_header c.in-Ok.pack) w after) (same out ports) (c.in-Err-written.ensures.ends ports) in (
+      begun_from words c.in-Ok.pack old mid new same c.in-Ok.ensures.pack c.in-Ok.ensures.settled c.in-Ok.ensures.given c.write_all-written.ensures.given,
+      repacked_from words c.in-Ok.pack old mid new same c.in-Ok.ensures.pack c.in-Ok.ensures.settled (λ before texts line. IsCut texts line before after) out ports (c.in-Err-written.ensures.ends ports),
       refl,
       cut_cause (repack_walk words) (text ∷ []) (pack_header c.in-Ok.pack) (outside old out ports) after tt cut,
     )
@@ -61,8 +61,8 @@ returns-in-Err-clause-laws g c = repack_laws (repack_seen c.args.words.now)
 pub returns-in-Err-make-clause-laws : goal.returns-in-Err-make-clause-laws
 returns-in-Err-make-clause-laws g c = repack_laws (repack_seen c.args.words.now)
 
-pub returns-in-Ok-write_all-clause-laws : goal.returns-in-Ok-write_all-clause-laws
-returns-in-Ok-write_all-clause-laws g c = repack_laws (repack_seen c.args.words.now)
+pub returns-in-Ok-written-clause-laws : goal.returns-in-Ok-written-clause-laws
+returns-in-Ok-written-clause-laws g c = repack_laws (repack_seen c.args.words.now)
 
 pub returns-clause-laws : goal.returns-clause-laws
 returns-clause-laws g c = repack_laws (repack_seen c.args.words.now)
