@@ -66,14 +66,27 @@ pub fn make_export(alloc: Global, built: BuiltSource) -> Result<Export, AllocErr
     ensures built { IfOk result (λ e. e.built ≡ built) }
     ensures export { IfOk result IsExport }
 {
-    let regular = regular_places(alloc, &built)?;
-    let line = counts_line(alloc, &built, &regular)?;
-    export_law(&built, &regular);
-    Ok(Export {
-        built,
-        regular,
-        line,
-    })
+    let regular = match regular_places(alloc, &built) {
+        Ok(places) => places,
+        Err(error) => {
+            drop(built);
+            return Err(error);
+        }
+    };
+    match counts_line(alloc, &built, &regular) {
+        Ok(line) => {
+            export_law(&built, &regular);
+            Ok(Export {
+                built,
+                regular,
+                line,
+            })
+        }
+        Err(error) => {
+            drop(built);
+            Err(error)
+        }
+    }
 }
 
 /// Writes the file of a graph.
