@@ -1,24 +1,19 @@
--- The bit of a node that the leaves block: there is one, no other, and the walk gives it; where each leaf's digit is its value, it is the node's value in the graph.
-use Rattle.std.proofs.Common.{◌≡◌, ℕ, zero, suc, ◌-◌, ◌/◌, ◌<◌, ◌≤◌, Bool, true, false, ◌&&◌, eqb, List, [], ◌∷◌, length, take, get_or, Some, None, refl, sym, ap, ◌∙◌, inl, inr, ◌⊎◌, arith}
-use Rattle.std.specs.List.{slice_get, position, list_any}
-use Rattle.std.proofs.lemmas.Option.{slice_get_within, slice_get-get_or, get_or_from_slice_get}
-use Rattle.std.proofs.lemmas.Bool.{eqb-true, eq-eqb, cases_Bool, both_ways, ne_eqb}
+-- The bit of a node that the leaves block: there is one, and no other; where each leaf's digit is its value, it is the node's value in the graph.
+use Rattle.std.proofs.Common.{◌≡◌, ℕ, zero, suc, ◌-◌, ◌/◌, ◌<◌, ◌≤◌, Bool, false, ◌&&◌, List, [], ◌∷◌, length, take, get_or, Some, refl, sym, ap, ◌∙◌, subst, inl, inr, arith}
+use Rattle.std.specs.List.{slice_get}
+use Rattle.std.proofs.lemmas.Option.{none-some, same_Some, slice_get_within, slice_get-get_or, get_or_from_slice_get}
 use Rattle.list_laws.specs.Members.{In}
 use Rattle.list_laws.specs.Digits.{digit}
 use Rattle.list_laws.specs.Order.{IsAscending}
-use Rattle.list_laws.proofs.FirstPlace.{position_is, position_none}
-use Rattle.list_laws.proofs.Members.{In-get_or, place_in, in_or}
+use Rattle.list_laws.proofs.Members.{In-get, place_in, in_or}
 use Rattle.aig_core.specs.declared.lit.Kind.TheVariants.{Parameter}
-use Rattle.aig_core.specs.Aig.{Aig, first_and, IsSource, IsNormal, AreNormal}
+use Rattle.aig_core.specs.declared.lit.Pair.{Pair}
+use Rattle.aig_core.specs.Aig.{Aig, first_and, IsSource, IsNode}
 use Rattle.aig_core.specs.Value.{in_phase, node_value, FitsGraph}
-use Rattle.aig_core.proofs.FitLemmas.{behind_constant}
-use Rattle.aig_core.proofs.NodeLemmas.{node_normal}
 use Rattle.cut_sets.specs.Cuts.{Blocks, member, constant as blocks_constant, parameter as blocks_parameter, fan_ins, CanBeLeaf}
 use Rattle.bit_fun.specs.Parameters.{param_count, IsParam}
 use Rattle.bit_fun.specs.BitFunction.{NodeBit, leaf, constant, parameter, node}
-use Rattle.bit_fun.specs.Walk.{cone_value}
 use Rattle.bit_fun.proofs.ParamLemmas.{HaveParams, one_kind, param_below}
-use Rattle.bit_fun.proofs.WalkLemmas.{cone_leaf, cone_source, cone_product}
 
 -- What a table's leaves keep: they ascend, and each is a regular source or an AND node.
 pub record AreLeaves (g : Aig) (leaves : List ℕ) : Type 0 where
@@ -39,46 +34,53 @@ leaf_not_parameter g leaves n are p i = elim (are.kinds n i) [
   | inr a ↦ (let l : first_and g ≤ n = a.0 in let w : n - 1 < length g.kinds = slice_get_within g.kinds (n - 1) Parameter p.is in let b : 1 ≤ n = p.above in omega arith)
 ]
 
--- a number that isn't in a list has no place in it
-pub no_place : (leaves : List ℕ) (n : ℕ) → (In leaves n → ⊥) → position (λ m. eqb m n) leaves ≡ None
-no_place leaves n out = position_none (λ m. eqb m n) leaves (none leaves out)
-  where
-    none : (ls : List ℕ) → (In ls n → ⊥) → list_any (λ m. eqb m n) ls ≡ false
-    none [] o = refl
-    none (l ∷ ls) o = elim (cases_Bool (eqb l n)) [ inl t ↦ absurd (o (inl (sym (eqb-true l n t)))) | inr f ↦ rw f (none ls (λ i. o (inr i))) ]
+-- a leaf has one place
+pub one_place : (leaves : List ℕ) (n i j : ℕ) → IsAscending leaves → slice_get leaves i ≡ Some n → slice_get leaves j ≡ Some n → i ≡ j
+one_place [] n i j a at to = absurd (none-some n at)
+one_place (x ∷ xs) n zero zero a at to = refl
+one_place (x ∷ xs) n zero (suc j) a at to = absurd (let l : x < n = a.0 n (In-get xs j n to) in let e : x ≡ n = same_Some x n at in omega arith)
+one_place (x ∷ xs) n (suc i) zero a at to = absurd (let l : x < n = a.0 n (In-get xs i n at) in let e : x ≡ n = same_Some x n to in omega arith)
+one_place (x ∷ xs) n (suc i) (suc j) a at to = ap suc (one_place xs n i j a.1 at to)
 
--- an earlier leaf is smaller
-ascend : (leaves : List ℕ) (k j d : ℕ) → IsAscending leaves → k < j → j < length leaves → get_or leaves k d < get_or leaves j d
-ascend [] k j d a l h = absurd (omega arith)
-ascend (x ∷ xs) k zero d a l h = absurd (omega arith)
-ascend (x ∷ xs) zero (suc j) d a l h = a.0 (get_or xs j d) (In-get_or xs j d (omega arith))
-ascend (x ∷ xs) (suc k) (suc j) d a l h = ascend xs k j d a.1 (omega arith) (omega arith)
+-- a node has one pair
+pub one_pair : (g : Aig) (n : ℕ) (p q : Pair) → IsNode g p n → IsNode g q n → q ≡ p
+one_pair g n p q a b = same_Some q p (sym b.is ∙ a.is)
 
--- the place of a leaf
-pub leaf_place : (leaves : List ℕ) (n j : ℕ) → IsAscending leaves → slice_get leaves j ≡ Some n → position (λ m. eqb m n) leaves ≡ Some j
-leaf_place leaves n j a at =
-    let within : j < length leaves = slice_get_within leaves j n at in
-    let here : get_or leaves j 0 ≡ n = get_or_from_slice_get leaves j n 0 at in
-    position_is (λ m. eqb m n) leaves j 0 within (eq-eqb (get_or leaves j 0) n here)
-    (λ k l. let low : get_or leaves k 0 < get_or leaves j 0 = ascend leaves k j 0 a l within in ne_eqb (get_or leaves k 0) n (λ e. omega arith))
+-- an AND node is neither the constant nor a parameter
+pub node_not_constant : (g : Aig) (n : ℕ) (p : Pair) → n ≡ 0 → IsNode g p n → ⊥
+node_not_constant g n p z is = let l : first_and g ≤ n = is.above in omega arith
 
--- the walk gives the bit of a node
-pub walk_is : (g : Aig) (params : List Bool) (leaves : List ℕ) (v : ℕ) (sources : List Bool) (n : ℕ) (bit : Bool) → AreNormal (first_and g) g.pairs → AreLeaves g leaves → HaveParams g params sources
-    → NodeBit g params leaves v n bit → (fuel : ℕ) → n < fuel → bit ≡ cone_value g leaves v sources fuel n
-walk_is g params leaves v sources n bit normal are have (leaf j at e) fuel h = e ∙ cone_leaf g leaves v sources n j fuel (leaf_place leaves n j are.ascending at) h
-walk_is g params leaves v sources n bit normal are have (constant z e) fuel h =
-    e ∙ ap (λ m. get_or (false ∷ sources) m false) (sym z) ∙ cone_source g leaves v sources n fuel (no_place leaves n (leaf_not_constant g leaves n are z)) (omega arith) h
-walk_is g params leaves v sources n bit normal are have (parameter j is at) fuel h =
-    let within : n - 1 < length g.kinds = slice_get_within g.kinds (n - 1) Parameter (is.source).is in
-    let above : 1 ≤ n = (is.source).above in
-    sym (get_or_from_slice_get params j bit false at) ∙ sym (have.each j n is) ∙ sym (behind_constant sources n above)
-    ∙ cone_source g leaves v sources n fuel (no_place leaves n (leaf_not_parameter g leaves n are is.source)) (omega arith) h
-walk_is g params leaves v sources n bit normal are have (node p x y out is bx by e) fuel h =
-    let a : IsNormal n p = node_normal g n p normal is in
-    let o : p.x.0 / 2 < p.y.0 / 2 = a.ordered in
-    let b : p.y.0 / 2 < n = a.below in
-    e ∙ cone_product g leaves v sources n p x y fuel (no_place leaves n out) is.above is.is (omega arith) b
-    (λ f l. walk_is g params leaves v sources (p.x.0 / 2) x normal are have bx f l) (λ f l. walk_is g params leaves v sources (p.y.0 / 2) y normal are have by f l) h
+pub node_not_parameter : (g : Aig) (j n : ℕ) (p : Pair) → IsParam g j n → IsNode g p n → ⊥
+node_not_parameter g j n p is at =
+    let l : first_and g ≤ n = at.above in
+    let a : 1 ≤ n = (is.source).above in
+    let w : n - 1 < length g.kinds = slice_get_within g.kinds (n - 1) Parameter (is.source).is in omega arith
+
+pub constant_not_parameter : (g : Aig) (j n : ℕ) → n ≡ 0 → IsParam g j n → ⊥
+constant_not_parameter g j n z is = let a : 1 ≤ n = (is.source).above in omega arith
+
+-- the bit of a node is the only one
+pub one_bit : (g : Aig) (params : List Bool) (leaves : List ℕ) (v n : ℕ) (a b : Bool) → AreLeaves g leaves → NodeBit g params leaves v n a → NodeBit g params leaves v n b → a ≡ b
+one_bit g params leaves v n a b are (leaf i at e) (leaf j to f) = e ∙ ap (digit v) (one_place leaves n i j are.ascending at to) ∙ sym f
+one_bit g params leaves v n a b are (leaf i at e) (constant z f) = absurd (leaf_not_constant g leaves n are z (In-get leaves i n at))
+one_bit g params leaves v n a b are (leaf i at e) (parameter j is f) = absurd (leaf_not_parameter g leaves n are is.source (In-get leaves i n at))
+one_bit g params leaves v n a b are (leaf i at e) (node q u w out is bu bw f) = absurd (out (In-get leaves i n at))
+one_bit g params leaves v n a b are (constant z e) (leaf j to f) = absurd (leaf_not_constant g leaves n are z (In-get leaves j n to))
+one_bit g params leaves v n a b are (constant z e) (constant y f) = e ∙ sym f
+one_bit g params leaves v n a b are (constant z e) (parameter j is f) = absurd (constant_not_parameter g j n z is)
+one_bit g params leaves v n a b are (constant z e) (node q u w out is bu bw f) = absurd (node_not_constant g n q z is)
+one_bit g params leaves v n a b are (parameter i is e) (leaf j to f) = absurd (leaf_not_parameter g leaves n are is.source (In-get leaves j n to))
+one_bit g params leaves v n a b are (parameter i is e) (constant z f) = absurd (constant_not_parameter g i n z is)
+one_bit g params leaves v n a b are (parameter i is e) (parameter j to f) = same_Some a b (sym e ∙ ap (slice_get params) (sym is.place ∙ to.place) ∙ f)
+one_bit g params leaves v n a b are (parameter i is e) (node q u w out at bu bw f) = absurd (node_not_parameter g i n q is at)
+one_bit g params leaves v n a b are (node p x y out at bx by e) (leaf j to f) = absurd (out (In-get leaves j n to))
+one_bit g params leaves v n a b are (node p x y out at bx by e) (constant z f) = absurd (node_not_constant g n p z at)
+one_bit g params leaves v n a b are (node p x y out at bx by e) (parameter j is f) = absurd (node_not_parameter g j n p is at)
+one_bit g params leaves v n a b are (node p x y out at bx by e) (node q u w off to bu bw f) =
+    let same : q ≡ p = one_pair g n p q at to in
+    let ex : x ≡ u = one_bit g params leaves v (p.x.0 / 2) x u are bx (subst (λ (r : Pair). NodeBit g params leaves v (r.x.0 / 2) u) same bu) in
+    let ey : y ≡ w = one_bit g params leaves v (p.y.0 / 2) y w are by (subst (λ (r : Pair). NodeBit g params leaves v (r.y.0 / 2) w) same bw) in
+    e ∙ ap (λ c. in_phase p.x.0 c && in_phase p.y.0 y) ex ∙ ap (λ c. in_phase p.x.0 u && in_phase p.y.0 c) ey ∙ ap (λ (r : Pair). in_phase r.x.0 u && in_phase r.y.0 w) (sym same) ∙ sym f
 
 -- a blocked node has a bit
 pub record HasBit (g : Aig) (params : List Bool) (leaves : List ℕ) (v n : ℕ) : Type 0 where

@@ -7,7 +7,7 @@ use Rattle.list_laws.specs.Members.{In}
 use Rattle.list_laws.specs.Digits.{number}
 use Rattle.list_laws.proofs.Choice.{choose}
 use Rattle.list_laws.proofs.Digits.{number-small, digit-number}
-use Rattle.aig_core.specs.Aig.{Aig, first_and, AreNormal}
+use Rattle.aig_core.specs.Aig.{Aig}
 use Rattle.aig_core.specs.Value.{xor, node_value, value_of, FitsGraph}
 use Rattle.cover_pick.specs.declared.lut.Lut.{Lut}
 use Rattle.cover_pick.specs.Mapping.{IsTableOf, bits_of}
@@ -82,8 +82,8 @@ table_value g k luts params sources values t fits have len i is =
     }
 
 -- the law
-pub configuration_lawful : (g : Aig) (luts : List Lut) (params config : List Bool) → AreNormal (first_and g) g.pairs → IsMapped g luts → length params ≡ param_count g.kinds → IsConfiguration g luts params config → IsLawful g luts params config
-configuration_lawful g luts params config normal m len is shape inputs states sources values has all fits = record {
+pub configuration_lawful : (g : Aig) (luts : List Lut) (params config : List Bool) → IsMapped g luts → length params ≡ param_count g.kinds → IsConfiguration g luts params config → IsLawful g luts params config
+configuration_lawful g luts params config m len is shape inputs states sources values has all fits = record {
   source = λ n r.
       let side : IsInputOrLatch shape n = either_side shape n r in
       let above : 1 ≤ n = (has.to_regular n r).above in
@@ -98,7 +98,7 @@ configuration_lawful g luts params config normal m len is shape inputs states so
       table_value g m.k luts params sources values t fits (HaveParams-shape g shape inputs params states sources has all) len i ((m.mapping).table t i) in
       let before : address (value_of values) t < t.base + 2 ^ length t.leaves = address_before (value_of values) t in
       let room : t.base + 2 ^ length t.leaves ≤ 0 + bits_of luts = base_within 0 luts t (m.mapping).bases i in
-      bits_agree g m.k m.roots m.bits luts params (address (value_of values) t) _ _ normal m.mapping at (is.each (address (value_of values) t) (omega arith));
+      bits_agree g m.k m.roots m.bits luts params (address (value_of values) t) _ _ m.mapping at (is.each (address (value_of values) t) (omega arith));
 }
   where
     address_before : (value : ℕ → Bool) (t : Lut) → address value t < t.base + 2 ^ length t.leaves

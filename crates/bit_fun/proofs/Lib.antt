@@ -16,4 +16,3 @@ pub mod PackLemmas
 mod ParamLemmas
 mod ConeFunctionLemmas
 mod SourceLitLemmas
-mod WalkLemmas

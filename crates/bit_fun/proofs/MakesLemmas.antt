@@ -1,48 +1,23 @@
 -- The function of a node is made in one way: the cases exclude each other. Making it grows the pack's nodes, and making it again adds nothing.
-use Rattle.std.proofs.Common.{◌≡◌, ℕ, ◌+◌, ◌-◌, ◌*◌, ◌/◌, ◌^◌, ◌<◌, ◌≤◌, min, max, List, [], ◌∷◌, ◌++◌, length, Some, refl, sym, ap, ◌∙◌, subst, inl, inr, arith}
-use Rattle.std.specs.List.{slice_get}
-use Rattle.std.proofs.lemmas.Option.{slice_get_within, same_Some}
+use Rattle.std.proofs.Common.{◌≡◌, ℕ, ◌+◌, ◌-◌, ◌*◌, ◌/◌, ◌^◌, ◌<◌, ◌≤◌, min, max, List, [], ◌∷◌, ◌++◌, length, refl, sym, ap, ◌∙◌, subst, inl, inr, arith}
 use Rattle.list_laws.specs.Members.{In}
 use Rattle.list_laws.specs.Digits.{bit_value, digit}
 use Rattle.list_laws.proofs.Members.{In-get}
-use Rattle.aig_core.specs.declared.lit.Kind.TheVariants.{Parameter}
 use Rattle.aig_core.specs.declared.lit.Pair.{Pair}
-use Rattle.aig_core.specs.Aig.{Aig, first_and, IsNode}
+use Rattle.aig_core.specs.Aig.{Aig}
 use Rattle.aig_core.specs.And.{Answer, product_of}
 use Rattle.aig_core.proofs.GrowthLemmas.{Extends, Extends-refl, Extends-trans, and_again, and_grows}
 use Rattle.cover_pick.specs.declared.lut.Lut.{Lut}
-use Rattle.bit_fun.specs.Parameters.{IsParam}
 use Rattle.bit_fun.specs.PackOf.{phase_literal, MakesNode, leaf, constant, parameter, node, BitsMade, MakesTable, done, more, MakesTables, none, tables}
-use Rattle.bit_fun.proofs.BitLemmas.{AreLeaves, leaf_not_constant, leaf_not_parameter, leaf_place}
+use Rattle.bit_fun.proofs.BitLemmas.{AreLeaves, leaf_not_constant, leaf_not_parameter, one_place, one_pair, node_not_constant, node_not_parameter, constant_not_parameter}
 
 -- the product of a node's fan-ins
 abbrev pub node_product : ℕ → Pair → Answer → Answer → Answer
 node_product first p x y = product_of first y.pairs (phase_literal p.x.0 x.lit) (phase_literal p.y.0 y.lit)
 
--- a node has one pair
-one_pair : (g : Aig) (n : ℕ) (p q : Pair) → IsNode g p n → IsNode g q n → q ≡ p
-one_pair g n p q a b = same_Some q p (sym b.is ∙ a.is)
-
--- a leaf has one place
-one_place : (g : Aig) (leaves : List ℕ) (n i j : ℕ) → AreLeaves g leaves → slice_get leaves i ≡ Some n → slice_get leaves j ≡ Some n → i ≡ j
-one_place g leaves n i j are a b = same_Some i j (sym (leaf_place leaves n i are.ascending a) ∙ leaf_place leaves n j are.ascending b)
-
--- an AND node is neither the constant nor a parameter
-node_not_constant : (g : Aig) (n : ℕ) (p : Pair) → n ≡ 0 → IsNode g p n → ⊥
-node_not_constant g n p z is = let l : first_and g ≤ n = is.above in omega arith
-
-node_not_parameter : (g : Aig) (j n : ℕ) (p : Pair) → IsParam g j n → IsNode g p n → ⊥
-node_not_parameter g j n p is at =
-    let l : first_and g ≤ n = at.above in
-    let a : 1 ≤ n = (is.source).above in
-    let w : n - 1 < length g.kinds = slice_get_within g.kinds (n - 1) Parameter (is.source).is in omega arith
-
-constant_not_parameter : (g : Aig) (j n : ℕ) → n ≡ 0 → IsParam g j n → ⊥
-constant_not_parameter g j n z is = let a : 1 ≤ n = (is.source).above in omega arith
-
 -- a node's function is the only one
 pub makes_once : (g : Aig) (first : ℕ) (leaves : List ℕ) (v : ℕ) (pairs : List Pair) (n : ℕ) (a b : Answer) → AreLeaves g leaves → MakesNode g first leaves v pairs n a → MakesNode g first leaves v pairs n b → a ≡ b
-makes_once g first leaves v pairs n a b are (leaf i at e) (leaf j to f) = e ∙ ap (λ k. record { pairs = pairs; lit = bit_value (digit v k) }) (one_place g leaves n i j are at to) ∙ sym f
+makes_once g first leaves v pairs n a b are (leaf i at e) (leaf j to f) = e ∙ ap (λ k. record { pairs = pairs; lit = bit_value (digit v k) }) (one_place leaves n i j are.ascending at to) ∙ sym f
 makes_once g first leaves v pairs n a b are (leaf i at e) (constant z f) = absurd (leaf_not_constant g leaves n are z (In-get leaves i n at))
 makes_once g first leaves v pairs n a b are (leaf i at e) (parameter j is f) = absurd (leaf_not_parameter g leaves n are is.source (In-get leaves i n at))
 makes_once g first leaves v pairs n a b are (leaf i at e) (node q u w out is mu mw f) = absurd (out (In-get leaves i n at))

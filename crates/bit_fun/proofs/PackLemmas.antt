@@ -86,9 +86,9 @@ pack_configuration g luts list pack params bits m count is len conf =
     }
 
 -- the configurations of the pack are those of the template, and lawful
-pub has_configurations : (g : Aig) (luts : List Lut) (list : List Param) (pack : PackValue) → AreNormal (first_and g) g.pairs → IsMapped g luts → param_count g.kinds ≡ length list → IsPackOf g luts list pack → HasConfigurations g luts pack
-has_configurations g luts list pack normal m count is = record {
+pub has_configurations : (g : Aig) (luts : List Lut) (list : List Param) (pack : PackValue) → IsMapped g luts → param_count g.kinds ≡ length list → IsPackOf g luts list pack → HasConfigurations g luts pack
+has_configurations g luts list pack m count is = record {
   is = λ params bits len conf. pack_configuration g luts list pack params bits m count is len conf;
   law = λ params bits len conf.
-      configuration_lawful g luts params bits normal m (len ∙ params_len g luts list pack is ∙ sym count) (pack_configuration g luts list pack params bits m count is len conf);
+      configuration_lawful g luts params bits m (len ∙ params_len g luts list pack is ∙ sym count) (pack_configuration g luts list pack params bits m count is len conf);
 }

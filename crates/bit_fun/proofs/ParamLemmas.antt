@@ -14,40 +14,17 @@ use Rattle.lut_sim.specs.Sources.{is_regular, last_source}
 use Rattle.lut_sim.proofs.SourceLemmas.{IsInputOrLatch, input, latch, either_side}
 use Rattle.bit_fun.specs.Parameters.{param_count, IsParam}
 use Rattle.lut_sim.specs.GraphShape.{HasShape, AreSourceValues}
-use Rattle.bit_fun.specs.Walk.{source_values}
 
 -- each parameter has its value among those of all sources
 pub record HaveParams (g : Aig) (params sources : List Bool) : Type 0 where
   pub each : (j n : ℕ) → IsParam g j n → get_or sources (n - 1) false ≡ get_or params j false
 
 pub regular_no_parameter : {P : Type 0} → Some Regular ≡ Some Parameter → P
-regular_no_parameter e = absurd (differ (same_Some Regular Parameter e))
-  where
-    differ : Regular ≡ Parameter → ⊥
-    differ e = cc
+regular_no_parameter e = absurd (let wrong : ⊥ = cc in wrong)
 
 -- the same kind of source can't be both
 pub one_kind : (g : Aig) (n : ℕ) → IsSource g Regular n → IsSource g Parameter n → ⊥
 one_kind g n r p = regular_no_parameter (sym r.is ∙ p.is)
-
--- one value a source
-pub length-source_values : (kinds : List Kind) (params : List Bool) → length (source_values kinds params) ≡ length kinds
-length-source_values [] params = refl
-length-source_values (Regular ∷ kinds) params = ap suc (length-source_values kinds params)
-length-source_values (Parameter ∷ kinds) (p ∷ params) = ap suc (length-source_values kinds params)
-length-source_values (Parameter ∷ kinds) [] = ap suc (length-source_values kinds [])
-
-source_value_at : (kinds : List Kind) (params : List Bool) (i : ℕ) → slice_get kinds i ≡ Some Parameter → get_or (source_values kinds params) i false ≡ get_or params (param_count (take i kinds)) false
-source_value_at [] params i at = absurd (none-some Parameter at)
-source_value_at (Regular ∷ kinds) params zero at = regular_no_parameter at
-source_value_at (Regular ∷ kinds) params (suc i) at = source_value_at kinds params i at
-source_value_at (Parameter ∷ kinds) (p ∷ params) zero at = refl
-source_value_at (Parameter ∷ kinds) (p ∷ params) (suc i) at = source_value_at kinds params i at
-source_value_at (Parameter ∷ kinds) [] zero at = refl
-source_value_at (Parameter ∷ kinds) [] (suc i) at = source_value_at kinds [] i at
-
-pub HaveParams-source_values : (g : Aig) (params : List Bool) → HaveParams g params (source_values g.kinds params)
-HaveParams-source_values g params = record { each = λ j n is. source_value_at g.kinds params (n - 1) (is.source).is ∙ ap (λ k. get_or params k false) is.place }
 
 -- a parameter's place is below their number
 pub place_below : (kinds : List Kind) (i : ℕ) → slice_get kinds i ≡ Some Parameter → param_count (take i kinds) < param_count kinds

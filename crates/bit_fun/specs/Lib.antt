@@ -6,5 +6,4 @@ pub mod Lawful
 pub mod PackOf
 pub mod PackLaw
 -- What only bodies are compared with.
-pub mod Walk
 pub mod ConeFunctions

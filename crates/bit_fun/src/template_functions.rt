@@ -132,14 +132,13 @@ fn empty_graph(alloc: Global, params: &Params) -> Result<Graph, AllocError>
     Graph::make(alloc, kinds, MOST_PACK_NODES)
 }
 
-// The pack of a template, over a normal graph.
+// The pack of a template.
 fn make_pack(
     alloc: Global,
     graph: &Graph,
     template: &Template,
     params: &Params,
 ) -> Result<Pack, AllocError>
-    requires normal { AreNormal (first_and graph.now) graph.now.pairs }
     requires mapped { IsMapped graph.now template.now.luts }
     requires light { IsLight graph.now template.now.luts }
     requires count { param_count graph.now.kinds ≡ length params.now.list }
@@ -190,7 +189,5 @@ pub fn functions(
     ensures bit { (given : List Bool) → length given ≡ param_count graph.now.kinds → (b : ℕ) → b < bits_of template.now.luts → HasOneBit graph.now template.now.luts given b }
     ensures configuration { (given : List Bool) → length given ≡ param_count graph.now.kinds → HasOneConfiguration graph.now template.now.luts given }
 {
-    let _nodes = graph.len();
-    let pack = make_pack(alloc, graph, template, params)?;
-    Ok(pack)
+    make_pack(alloc, graph, template, params)
 }
