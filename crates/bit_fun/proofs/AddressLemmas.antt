@@ -1,10 +1,5 @@
 -- The addresses of the LUTs stand apart, and are all.
-use Rattle.std.proofs.Common.{◌≡◌, ℕ, ◌+◌, ◌^◌, ◌<◌, ◌≤◌, List, [], ◌∷◌, length, refl, sym, ◌∙◌, subst, inl, inr, arith}
-use Rattle.list_laws.specs.Members.{In}
-use Rattle.cover_pick.specs.declared.lut.Lut.{Lut}
-use Rattle.std.proofs.lemmas.Bool.{cases_lt}
-use Rattle.std.proofs.lemmas.List.Sums.{sum_by-cons}
-use Rattle.cover_pick.specs.Mapping.{HaveBases, bits_of}
+use Rattle.bit_fun.proofs.Common.{◌≡◌, ℕ, ◌+◌, ◌^◌, ◌<◌, ◌≤◌, List, [], ◌∷◌, length, refl, sym, ◌∙◌, subst, inl, inr, arith, In, Lut, cases_lt, sum_by-cons, HaveBases, bits_of}
 
 -- a table's base is not below the sum before
 pub base_from : (off : ℕ) (ts : List Lut) (t : Lut) → HaveBases off ts → In ts t → off ≤ t.base

@@ -1,10 +1,5 @@
 -- A worked example: the multiplexer with the one LUT of its root, the literal 13, over the inputs a and b. With p = 0 the LUT has b's values, the configuration 0 0 1 1, and with p = 1 it has a's, 0 1 0 1.
-use Rattle.std.proofs.Common.{◌≡◌, ℕ, zero, suc, ◌-◌, ◌<◌, Bool, true, false, not, ◌&&◌, [], ◌∷◌, get_or, refl, inl, inr, arith}
-use Rattle.list_laws.specs.Members.{In}
-use Rattle.list_laws.specs.Digits.{digit}
-use Rattle.aig_core.specs.Value.{in_phase}
-use Rattle.aig_core.proofs.ValueExample.{multiplexer, pair}
-use Rattle.cover_pick.specs.declared.lut.Lut.{Lut}
+use Rattle.bit_fun.proofs.Common.{◌≡◌, ℕ, zero, suc, ◌-◌, ◌<◌, Bool, true, false, not, ◌&&◌, [], ◌∷◌, get_or, refl, inl, inr, arith, In, digit, in_phase, multiplexer, pair, Lut}
 use Rattle.bit_fun.specs.Parameters.{IsParam}
 use Rattle.bit_fun.specs.BitFunction.{NodeBit, leaf, parameter, node, IsBit}
 use Rattle.bit_fun.specs.Configuration.{IsConfiguration}

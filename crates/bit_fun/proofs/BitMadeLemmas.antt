@@ -1,14 +1,5 @@
 -- A pass over a LUT's order makes the LUT's bit for v; bits of a LUT and LUTs, one after the other.
-use Rattle.std.proofs.Common.{◌≡◌, ℕ, suc, ◌+◌, ◌-◌, ◌*◌, ◌/◌, ◌^◌, ◌<◌, ◌≤◌, List, [], ◌∷◌, ◌++◌, length, refl, sym, ap, ◌∙◌, subst, inl, inr, arith, append_assoc, append-nil}
-use Rattle.std.proofs.Math.Nat.{add-mul, mul-add, mul-one, one-mul, mul-le-mul_left}
-use Rattle.std.proofs.lemmas.Option.{slice_get_within}
-use Rattle.list_laws.specs.Members.{In}
-use Rattle.aig_core.specs.declared.lit.Kind.TheVariants.{Regular}
-use Rattle.aig_core.specs.declared.lit.Lit.{Lit}
-use Rattle.aig_core.specs.Aig.{Aig, first_and, node_count, AreNormal}
-use Rattle.aig_core.specs.And.{with_pairs}
-use Rattle.cover_pick.specs.declared.lut.Lut.{Lut}
-use Rattle.cover_pick.specs.Work.{IsTableWork, IsWork}
+use Rattle.bit_fun.proofs.Common.{◌≡◌, ℕ, suc, ◌+◌, ◌-◌, ◌*◌, ◌/◌, ◌^◌, ◌<◌, ◌≤◌, List, [], ◌∷◌, ◌++◌, length, refl, sym, ap, ◌∙◌, subst, inl, inr, arith, append_assoc, append-nil, add-mul, mul-add, mul-one, one-mul, mul-le-mul_left, slice_get_within, In, Regular, Lit, Aig, first_and, node_count, AreNormal, with_pairs, Lut, IsTableWork, IsWork}
 use Rattle.bit_fun.specs.PackOf.{MakesNode, MakesTable, done, more, MakesTables, none, tables}
 use Rattle.bit_fun.specs.ConeFunctions.{PassValue, lit_of, fan_in, pass_over, with_leaves, HaveSourceLits, HaveLeafLits, IsMadeOver, IsTableIn, IsConeOrder, IsBetween, IsBitMade, AreBitsMade, AreTablesMadeTo}
 use Rattle.bit_fun.proofs.BitLemmas.{AreLeaves}

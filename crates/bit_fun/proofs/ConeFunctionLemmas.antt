@@ -1,19 +1,5 @@
 -- The steps of a pass: one node, the nodes of an order, and the leaves before them.
-use Rattle.std.proofs.Common.{◌≡◌, ℕ, zero, suc, ◌+◌, ◌*◌, ◌/◌, ◌<◌, ◌≤◌, Bool, true, false, eqb, min, max, List, [], ◌∷◌, length, take, get_or, slice_set, reverse, Option, Some, None, refl, sym, ap, ◌∙◌, subst, inl, inr, ◌⊎◌, arith, length-append}
-use Rattle.std.specs.List.{slice_get, position}
-use Rattle.std.proofs.Math.ListN.{length-set}
-use Rattle.list_laws.specs.Members.{In}
-use Rattle.list_laws.specs.Digits.{bit_value, digit}
-use Rattle.list_laws.specs.Order.{IsAscending}
-use Rattle.list_laws.proofs.Choice.{choose_one}
-use Rattle.list_laws.proofs.Places.{same_or}
-use Rattle.std.proofs.lemmas.List.{length-take, length-reverse, reverse-append, take_more}
-use Rattle.std.proofs.lemmas.Option.{none-some, same_Some}
-use Rattle.aig_core.specs.declared.lit.Lit.{Lit}
-use Rattle.aig_core.specs.declared.lit.Pair.{Pair}
-use Rattle.aig_core.specs.Aig.{Aig, first_and, node_count, pair_of}
-use Rattle.aig_core.specs.And.{Answer, and_in_order, and_of, found_or_new, is_pair, with_pairs}
-use Rattle.aig_core.proofs.GrowthLemmas.{and_grows, length-Extends}
+use Rattle.bit_fun.proofs.Common.{◌≡◌, ℕ, zero, suc, ◌+◌, ◌*◌, ◌/◌, ◌<◌, ◌≤◌, Bool, true, false, eqb, min, max, List, [], ◌∷◌, length, take, get_or, slice_set, reverse, Option, Some, None, refl, sym, ap, ◌∙◌, subst, inl, inr, ◌⊎◌, arith, length-append, slice_get, position, length-set, In, bit_value, digit, IsAscending, choose_one, same_or, length-take, length-reverse, reverse-append, take_more, none-some, same_Some, Lit, Pair, Aig, first_and, node_count, pair_of, Answer, and_in_order, and_of, found_or_new, is_pair, with_pairs, and_grows, length-Extends}
 use Rattle.bit_fun.specs.ConeFunctions.{PassValue, lit_of, fan_in, made_node, pass_over, with_leaves, HaveSourceLits, HaveLeafLits, AreLits, IsMadeOver}
 use Rattle.bit_fun.proofs.BitLemmas.{AreLeaves, leaf_not_constant, leaf_not_parameter}
 use Rattle.bit_fun.proofs.ConeMakesLemmas.{lit_other, lit_here}

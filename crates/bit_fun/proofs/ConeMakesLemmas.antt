@@ -1,23 +1,5 @@
 -- Going over the postorder of a LUT's cone once, with one literal a node, makes what the recursion from the LUT's node makes.
-use Rattle.std.proofs.Common.{◌≡◌, ℕ, zero, suc, ◌-◌, ◌/◌, ◌<◌, ◌≤◌, true, min, max, List, ◌∷◌, length, slice_set, get_or-set_same, get_or-set_other, Option, refl, sym, ap, ◌∙◌, subst, inl, inr, arith}
-use Rattle.std.proofs.Math.ListN.{length-set}
-use Rattle.std.proofs.lemmas.Bool.{true≢false}
-use Rattle.std.proofs.lemmas.Option.{slice_get_within}
-use Rattle.list_laws.specs.Members.{In}
-use Rattle.list_laws.proofs.Members.{In-get, place_in, in_or}
-use Rattle.list_laws.proofs.Places.{same_or}
-use Rattle.aig_core.specs.declared.lit.Kind.TheVariants.{Parameter}
-use Rattle.aig_core.specs.declared.lit.Lit.{Lit}
-use Rattle.aig_core.specs.declared.lit.Pair.{Pair}
-use Rattle.aig_core.specs.Aig.{Aig, first_and, node_count, IsNode, IsNormal, AreNormal, IsSource}
-use Rattle.aig_core.specs.And.{Answer, product_of}
-use Rattle.aig_core.proofs.NodeLemmas.{node_normal}
-use Rattle.aig_core.proofs.GrowthLemmas.{Extends, Extends-refl, Extends-trans, and_grows}
-use Rattle.cover_pick.specs.Cone.{is_stop}
-use Rattle.cover_pick.specs.Work.{IsInner}
-use Rattle.cover_pick.proofs.WorkLemmas.{stop_inner, inner_stop, node_inside}
-use Rattle.cut_sets.specs.Cuts.{Blocks, member, constant as blocks_constant, parameter as blocks_parameter, fan_ins}
-use Rattle.depth_first.specs.DepthFirst.{Posts, skips, posts}
+use Rattle.bit_fun.proofs.Common.{◌≡◌, ℕ, zero, suc, ◌-◌, ◌/◌, ◌<◌, ◌≤◌, true, min, max, List, ◌∷◌, length, slice_set, get_or-set_same, get_or-set_other, Option, refl, sym, ap, ◌∙◌, subst, inl, inr, arith, length-set, true≢false, slice_get_within, In, In-get, place_in, in_or, same_or, Parameter, Lit, Pair, Aig, first_and, node_count, IsNode, IsNormal, AreNormal, IsSource, Answer, product_of, node_normal, Extends, Extends-refl, Extends-trans, and_grows, is_stop, IsInner, stop_inner, inner_stop, node_inside, Blocks, member, blocks_constant, blocks_parameter, fan_ins, Posts, skips, posts}
 use Rattle.bit_fun.specs.Parameters.{IsParam}
 use Rattle.bit_fun.specs.PackOf.{phase_literal, MakesNode, leaf, constant, parameter, node}
 use Rattle.bit_fun.specs.ConeFunctions.{cone_next, Visits, passed, walked, PassValue, lit_of, fan_in, with_made, made_node, pass_over, HaveSourceLits, HaveLeafLits}

@@ -1,17 +1,6 @@
 -- The order that a walk over a LUT's cone leaves.
-use Rattle.std.proofs.Common.{◌≡◌, ℕ, true, List, [], ◌∷◌, Option, Some, None, refl, sym, subst, inl, inr, ◌⊎◌, arith}
-use Rattle.std.proofs.lemmas.Option.{none-some}
-use Rattle.list_laws.specs.Members.{In}
-use Rattle.aig_core.specs.Aig.{Aig, first_and, AreNormal}
-use Rattle.cover_pick.specs.Cone.{is_stop}
-use Rattle.cover_pick.specs.Work.{IsInner}
-use Rattle.cover_pick.proofs.WorkLemmas.{inner_stop}
+use Rattle.bit_fun.proofs.Common.{◌≡◌, ℕ, true, List, [], ◌∷◌, Option, Some, None, refl, sym, subst, inl, inr, ◌⊎◌, arith, none-some, In, Aig, first_and, AreNormal, is_stop, IsInner, inner_stop, ways_from, Reaches, IsReached, WalkValue, Visited, Posts, falls_through}
 use Rattle.depth_first.specs.declared.edge.End.{End}
-use Rattle.depth_first.specs.Edges.{ways_from}
-use Rattle.depth_first.specs.Reach.{Reaches, IsReached}
-use Rattle.depth_first.specs.Walk.{WalkValue, Visited}
-use Rattle.depth_first.specs.DepthFirst.{Posts}
-use Rattle.depth_first.proofs.FallLemmas.{falls_through}
 use Rattle.bit_fun.specs.ConeFunctions.{cone_edges, cone_next, passed, walked, IsConeOrder}
 use Rattle.bit_fun.proofs.ConeWalkLemmas.{cone_falls, reach_inner, order_short}
 

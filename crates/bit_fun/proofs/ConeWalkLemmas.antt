@@ -1,21 +1,8 @@
 -- A walk over the cone of a LUT: its edges fall, its postorder visits the lower fan-in first, and what it reaches is the cone.
-use Rattle.std.proofs.Common.{◌≡◌, ℕ, ◌-◌, ◌/◌, ◌<◌, ◌≤◌, Bool, true, false, cond, ltb, List, [], ◌∷◌, length, Option, Some, refl, sym, ap, ◌∙◌, subst, inl, inr, arith}
-use Rattle.std.proofs.lemmas.Bool.{cases_lt, cond-true, cond-false, le-ltb, lt-ltb}
-use Rattle.std.proofs.lemmas.Option.{slice_get_past}
-use Rattle.list_laws.specs.Members.{In}
-use Rattle.aig_core.specs.declared.lit.Pair.{Pair}
-use Rattle.aig_core.specs.Aig.{Aig, first_and, node_count, pair_of, IsNode, IsNormal, AreNormal}
-use Rattle.aig_core.proofs.NodeLemmas.{node_normal, node_at}
-use Rattle.cover_pick.specs.Cone.{is_stop}
-use Rattle.cover_pick.specs.Work.{IsInner, Path, here as path_here, left as path_left, right as path_right, IsCone}
-use Rattle.cover_pick.proofs.WorkLemmas.{stop_inner}
+use Rattle.bit_fun.proofs.Common.{◌≡◌, ℕ, ◌-◌, ◌/◌, ◌<◌, ◌≤◌, Bool, true, false, cond, ltb, List, [], ◌∷◌, length, Option, Some, refl, sym, ap, ◌∙◌, subst, inl, inr, arith, cases_lt, cond-true, cond-false, le-ltb, lt-ltb, slice_get_past, In, Pair, Aig, first_and, node_count, pair_of, IsNode, IsNormal, AreNormal, node_normal, node_at, is_stop, IsInner, Path, path_here, path_left, path_right, IsCone, stop_inner, Way, leads, stops, nodes_of, Posts, PostsAll, none, more, ways_of, ways_from, successors, AreNodes, Reaches, here, through, LeadsBelow}
 use Rattle.depth_first.specs.declared.edge.Edge.{Edge}
 use Rattle.depth_first.specs.declared.edge.Edge.TheVariants.{Node, Pass}
-use Rattle.depth_first.specs.DepthFirst.{Way, leads, stops, nodes_of, Posts, PostsAll, none, more}
-use Rattle.depth_first.specs.Edges.{ways_of, ways_from, successors, AreNodes}
 use Rattle.depth_first.specs.Order.{IsAfter}
-use Rattle.depth_first.specs.Reach.{Reaches, here, through}
-use Rattle.depth_first.proofs.FallLemmas.{LeadsBelow}
 use Rattle.list_laws.proofs.Apart.{AreApart, apart_short}
 use Rattle.bit_fun.specs.ConeFunctions.{fan_in_edges, cone_edges, cone_next, Visits, passed, walked}
 

@@ -1,13 +1,5 @@
 -- Where LUTs map a graph, each address has one bit, and there is one configuration.
-use Rattle.std.proofs.Common.{◌≡◌, ℕ, zero, suc, ◌-◌, ◌/◌, ◌<◌, Bool, false, List, [], ◌∷◌, length, get_or, refl, sym, ap, ◌∙◌, subst, inl, inr, arith}
-use Rattle.std.proofs.lemmas.List.{ext_get_or}
-use Rattle.list_laws.specs.Members.{In}
-use Rattle.aig_core.specs.declared.lit.Kind.TheVariants.{Regular}
-use Rattle.aig_core.specs.Aig.{Aig, IsSource}
-use Rattle.aig_core.specs.Value.{in_phase}
-use Rattle.cut_sets.specs.Cuts.{Blocks, member, constant, parameter}
-use Rattle.cover_pick.specs.declared.lut.Lut.{Lut}
-use Rattle.cover_pick.specs.Mapping.{IsMapping, IsTableOf, source, free, node, bits_of}
+use Rattle.bit_fun.proofs.Common.{◌≡◌, ℕ, zero, suc, ◌-◌, ◌/◌, ◌<◌, Bool, false, List, [], ◌∷◌, length, get_or, refl, sym, ap, ◌∙◌, subst, inl, inr, arith, ext_get_or, In, Regular, Aig, IsSource, in_phase, Blocks, member, constant, parameter, Lut, IsMapping, IsTableOf, source, free, node, bits_of}
 use Rattle.bit_fun.specs.Parameters.{param_count}
 use Rattle.bit_fun.specs.BitFunction.{NodeBit, IsBit, HasOneBit}
 use Rattle.bit_fun.specs.Configuration.{IsMapped, HasOneConfiguration}

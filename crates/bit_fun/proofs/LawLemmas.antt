@@ -1,26 +1,12 @@
 -- The values of a graph's literals fit the LUTs of a mapping under the configuration, and a mapping can be played.
-use Rattle.std.proofs.Common.{◌≡◌, ℕ, ◌+◌, ◌-◌, ◌*◌, ◌/◌, ◌%◌, ◌^◌, ◌<◌, ◌≤◌, Bool, true, false, eqb, leb, List, ◌++◌, length, get_or, refl, ap, ◌∙◌, subst, arith}
-use Rattle.std.proofs.Math.ListN.{get_or-append}
-use Rattle.std.proofs.lemmas.List.{length-map, get_or-map, get_or-append-add}
-use Rattle.std.proofs.lemmas.Bool.{leb-true, leb-false}
-use Rattle.list_laws.specs.Members.{In}
-use Rattle.list_laws.specs.Digits.{number}
-use Rattle.list_laws.proofs.Choice.{choose}
+use Rattle.bit_fun.proofs.Common.{◌≡◌, ℕ, ◌+◌, ◌-◌, ◌*◌, ◌/◌, ◌%◌, ◌^◌, ◌<◌, ◌≤◌, Bool, true, false, eqb, leb, List, ◌++◌, length, get_or, refl, ap, ◌∙◌, subst, arith, get_or-append, length-map, get_or-map, get_or-append-add, leb-true, leb-false, In, number, choose, Aig, xor, node_value, value_of, FitsGraph, Lut, IsTableOf, bits_of, Shape, last_source, source_value, IsInputOrLatch, input, latch, either_side, base_within}
 use Rattle.list_laws.proofs.Digits.{number-small, digit-number}
-use Rattle.aig_core.specs.Aig.{Aig}
-use Rattle.aig_core.specs.Value.{xor, node_value, value_of, FitsGraph}
-use Rattle.cover_pick.specs.declared.lut.Lut.{Lut}
-use Rattle.cover_pick.specs.Mapping.{IsTableOf, bits_of}
-use Rattle.lut_sim.specs.declared.shape.Shape.{Shape}
-use Rattle.lut_sim.specs.Sources.{last_source, source_value}
 use Rattle.lut_sim.specs.Cycle.{leaf_values, address}
 use Rattle.lut_sim.proofs.RoomLemmas.{regular_within}
-use Rattle.lut_sim.proofs.SourceLemmas.{IsInputOrLatch, input, latch, either_side}
 use Rattle.bit_fun.specs.Parameters.{param_count}
 use Rattle.bit_fun.specs.BitFunction.{NodeBit, IsBit}
 use Rattle.bit_fun.specs.Configuration.{IsMapped, IsConfiguration}
 use Rattle.bit_fun.specs.Lawful.{IsLawful}
-use Rattle.cover_pick.proofs.BitsLemmas.{base_within}
 use Rattle.bit_fun.proofs.BitLemmas.{AreDigits, fits_bit}
 use Rattle.bit_fun.proofs.ConfigurationLemmas.{table_blocks, bits_agree}
 use Rattle.bit_fun.proofs.ParamLemmas.{HaveParams, HaveParams-shape}

@@ -1,3 +1,4 @@
+mod Common
 mod AddressLemmas
 mod BitExample
 mod BitLemmas

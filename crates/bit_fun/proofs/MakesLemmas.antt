@@ -1,13 +1,5 @@
 -- The function of a node is made in one way: the cases exclude each other. Making it grows the pack's nodes, and making it again adds nothing.
-use Rattle.std.proofs.Common.{◌≡◌, ℕ, ◌+◌, ◌-◌, ◌*◌, ◌/◌, ◌^◌, ◌<◌, ◌≤◌, min, max, List, [], ◌∷◌, ◌++◌, length, refl, sym, ap, ◌∙◌, subst, inl, inr, arith}
-use Rattle.list_laws.specs.Members.{In}
-use Rattle.list_laws.specs.Digits.{bit_value, digit}
-use Rattle.list_laws.proofs.Members.{In-get}
-use Rattle.aig_core.specs.declared.lit.Pair.{Pair}
-use Rattle.aig_core.specs.Aig.{Aig}
-use Rattle.aig_core.specs.And.{Answer, product_of}
-use Rattle.aig_core.proofs.GrowthLemmas.{Extends, Extends-refl, Extends-trans, and_again, and_grows}
-use Rattle.cover_pick.specs.declared.lut.Lut.{Lut}
+use Rattle.bit_fun.proofs.Common.{◌≡◌, ℕ, ◌+◌, ◌-◌, ◌*◌, ◌/◌, ◌^◌, ◌<◌, ◌≤◌, min, max, List, [], ◌∷◌, ◌++◌, length, refl, sym, ap, ◌∙◌, subst, inl, inr, arith, In, bit_value, digit, In-get, Pair, Aig, Answer, product_of, Extends, Extends-refl, Extends-trans, and_again, and_grows, Lut}
 use Rattle.bit_fun.specs.PackOf.{phase_literal, MakesNode, leaf, constant, parameter, node, BitsMade, MakesTable, done, more, MakesTables, none, tables}
 use Rattle.bit_fun.proofs.BitLemmas.{AreLeaves, leaf_not_constant, leaf_not_parameter, one_place, one_pair, node_not_constant, node_not_parameter, constant_not_parameter}
 

@@ -1,13 +1,5 @@
 -- Worked examples: the multiplexer's LUT over its two inputs, whose bits are the functions 0, p, not p and 1 of the parameter, and a LUT without leaves, the product of two parameters.
-use Rattle.std.proofs.Common.{ℕ, ◌<◌, List, [], ◌∷◌, refl, inl, inr, arith}
-use Rattle.list_laws.specs.Members.{In}
-use Rattle.list_laws.specs.Digits.{bit_value, digit}
-use Rattle.aig_core.specs.Aig.{Aig}
-use Rattle.aig_core.specs.And.{Answer, product_of}
-use Rattle.aig_core.specs.declared.lit.Kind.TheVariants.{Parameter}
-use Rattle.aig_core.specs.declared.lit.Pair.{Pair}
-use Rattle.aig_core.proofs.ValueExample.{multiplexer, pair}
-use Rattle.cover_pick.specs.declared.lut.Lut.{Lut}
+use Rattle.bit_fun.proofs.Common.{ℕ, ◌<◌, List, [], ◌∷◌, refl, inl, inr, arith, In, bit_value, digit, Aig, Answer, product_of, Parameter, Pair, multiplexer, pair, Lut}
 use Rattle.bit_fun.specs.Parameters.{IsParam}
 use Rattle.bit_fun.specs.PackOf.{phase_literal, MakesNode, leaf, parameter, node, BitsMade, MakesTable, done, more, MakesTables, none, tables}
 use Rattle.bit_fun.proofs.BitExample.{root_table}

@@ -1,23 +1,8 @@
 -- The pack of a template keeps what every pack keeps.
-use Rattle.std.proofs.Common.{◌≡◌, ℕ, ◌+◌, ◌-◌, ◌*◌, ◌/◌, ◌^◌, ◌<◌, ◌≤◌, false, List, [], ◌∷◌, length, map, replicate, refl, sym, ap, ◌∙◌, subst, inl, inr, arith}
-use Rattle.std.proofs.Math.Nat.{mul-le-mul_left, mul-one}
-use Rattle.std.proofs.lemmas.List.{length-map, length-replicate}
-use Rattle.std.proofs.lemmas.List.Sums.{sum_by-cons}
-use Rattle.std.proofs.lemmas.Option.{slice_get_within}
-use Rattle.list_laws.specs.Members.{In}
+use Rattle.bit_fun.proofs.Common.{◌≡◌, ℕ, ◌+◌, ◌-◌, ◌*◌, ◌/◌, ◌^◌, ◌<◌, ◌≤◌, false, List, [], ◌∷◌, length, map, replicate, refl, sym, ap, ◌∙◌, subst, inl, inr, arith, mul-le-mul_left, mul-one, length-map, length-replicate, sum_by-cons, slice_get_within, In, Regular, Parameter, Lit, Aig, first_and, node_count, Lut, IsTableOf, source, free, node, bits_of, IsTableWork, IsWork, IsLight, bits_worked, Param, PackParam, IsPack}
 use Rattle.tl_text.specs.Clean.{IsClean}
 use Rattle.tl_text.specs.Once.{AreOnce}
-use Rattle.aig_core.specs.declared.lit.Kind.TheVariants.{Regular, Parameter}
-use Rattle.aig_core.specs.declared.lit.Lit.{Lit}
-use Rattle.aig_core.specs.Aig.{Aig, first_and, node_count}
-use Rattle.cover_pick.specs.declared.lut.Lut.{Lut}
-use Rattle.cover_pick.specs.Mapping.{IsTableOf, source, free, node, bits_of}
-use Rattle.cover_pick.specs.Work.{IsTableWork, IsWork, IsLight}
-use Rattle.cover_pick.proofs.BitsLemmas.{bits_worked}
-use Rattle.param_list.specs.declared.params.Param.{Param}
 use Rattle.param_list.specs.Parameters.{AreNamed, param_names}
-use Rattle.ppc_pack.specs.declared.pack.PackParam.{PackParam}
-use Rattle.ppc_pack.specs.Pack.{IsPack}
 use Rattle.bit_fun.specs.Parameters.{param_count}
 use Rattle.bit_fun.specs.Configuration.{IsMapped}
 use Rattle.bit_fun.specs.PackOf.{pack_param, MakesTables, IsPackOf}

@@ -1,19 +1,6 @@
 -- The configurations of a template's pack are those of the template, there is one pack, and the pack keeps what every pack keeps.
-use Rattle.std.proofs.Common.{◌≡◌, ℕ, ◌+◌, ◌<◌, Bool, false, List, [], length, map, get_or, sym, ap, ◌∙◌, subst, arith}
-use Rattle.std.proofs.lemmas.List.{length-map, length-replicate, get_or-map}
-use Rattle.std.proofs.lemmas.Option.{none-some}
-use Rattle.aig_core.specs.declared.lit.Kind.TheVariants.{Parameter}
-use Rattle.aig_core.specs.declared.lit.Lit.{Lit}
-use Rattle.aig_core.specs.declared.lit.Pair.{Pair}
-use Rattle.aig_core.specs.Aig.{Aig, first_and, AreNormal}
+use Rattle.bit_fun.proofs.Common.{◌≡◌, ℕ, ◌+◌, ◌<◌, Bool, false, List, [], length, map, get_or, sym, ap, ◌∙◌, subst, arith, length-map, length-replicate, get_or-map, none-some, Parameter, Lit, Pair, Aig, first_and, AreNormal, value_of, is_values_of, Extends-refl, Lut, bits_of, Param, PackValue, IsConf}
 use Rattle.aig_core.specs.Roots.{lits_of}
-use Rattle.aig_core.specs.Value.{value_of}
-use Rattle.aig_core.proofs.FitLemmas.{is_values_of}
-use Rattle.aig_core.proofs.GrowthLemmas.{Extends-refl}
-use Rattle.cover_pick.specs.declared.lut.Lut.{Lut}
-use Rattle.cover_pick.specs.Mapping.{bits_of}
-use Rattle.param_list.specs.declared.params.Param.{Param}
-use Rattle.ppc_pack.specs.Pack.{PackValue, IsConf}
 use Rattle.bit_fun.specs.Parameters.{param_count}
 use Rattle.bit_fun.specs.BitFunction.{IsBit}
 use Rattle.bit_fun.specs.Configuration.{IsMapped, IsConfiguration}

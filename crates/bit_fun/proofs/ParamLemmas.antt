@@ -1,17 +1,5 @@
 -- The place of each parameter: among values for all sources, and in a shape.
-use Rattle.std.proofs.Common.{◌≡◌, ℕ, zero, suc, ◌+◌, ◌-◌, ◌<◌, ◌≤◌, Bool, true, false, ◌&&◌, leb, ltb, List, [], ◌∷◌, ◌++◌, length, take, get_or, Some, refl, sym, ap, ◌∙◌, subst, inl, inr, arith}
-use Rattle.std.specs.List.{slice_get}
-use Rattle.std.proofs.lemmas.Bool.{cases_lt, le-leb, lt-ltb, and_from, or_right, or_left}
-use Rattle.std.proofs.lemmas.List.{get_or-append-add}
-use Rattle.std.proofs.lemmas.Option.{none-some, same_Some, slice_get_within}
-use Rattle.std.proofs.Math.ListN.{get_or-append}
-use Rattle.aig_core.specs.declared.lit.Kind.{Kind}
-use Rattle.aig_core.specs.declared.lit.Kind.TheVariants.{Regular, Parameter}
-use Rattle.aig_core.specs.Aig.{Aig, IsSource}
-use Rattle.list_laws.proofs.Places.{at_within}
-use Rattle.lut_sim.specs.declared.shape.Shape.{Shape}
-use Rattle.lut_sim.specs.Sources.{is_regular, last_source}
-use Rattle.lut_sim.proofs.SourceLemmas.{IsInputOrLatch, input, latch, either_side}
+use Rattle.bit_fun.proofs.Common.{◌≡◌, ℕ, zero, suc, ◌+◌, ◌-◌, ◌<◌, ◌≤◌, Bool, true, false, ◌&&◌, leb, ltb, List, [], ◌∷◌, ◌++◌, length, take, get_or, Some, refl, sym, ap, ◌∙◌, subst, inl, inr, arith, slice_get, cases_lt, le-leb, lt-ltb, and_from, or_right, or_left, get_or-append-add, none-some, same_Some, slice_get_within, get_or-append, Kind, Regular, Parameter, Aig, IsSource, at_within, Shape, is_regular, last_source, IsInputOrLatch, input, latch, either_side}
 use Rattle.bit_fun.specs.Parameters.{param_count, IsParam}
 use Rattle.lut_sim.specs.GraphShape.{HasShape, AreSourceValues}
 

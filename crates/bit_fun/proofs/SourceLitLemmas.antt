@@ -1,15 +1,5 @@
 -- The literals of the sources, one source after the other.
-use Rattle.std.proofs.Common.{◌≡◌, ℕ, zero, suc, ◌+◌, ◌-◌, ◌*◌, ◌<◌, ◌≤◌, List, [], ◌∷◌, length, take, slice_set, replicate, Some, refl, sym, ap, ◌∙◌, subst, inl, inr, arith}
-use Rattle.std.specs.List.{slice_get}
-use Rattle.std.proofs.Math.ListN.{length-set}
-use Rattle.std.proofs.lemmas.Bool.{cases_lt}
-use Rattle.std.proofs.lemmas.List.{length-replicate}
-use Rattle.std.proofs.lemmas.Option.{none-some, slice_get_within}
-use Rattle.list_laws.proofs.Places.{same_or}
-use Rattle.aig_core.specs.declared.lit.Kind.{Kind}
-use Rattle.aig_core.specs.declared.lit.Kind.TheVariants.{Regular, Parameter}
-use Rattle.aig_core.specs.declared.lit.Lit.{Lit}
-use Rattle.aig_core.specs.Aig.{Aig, node_count}
+use Rattle.bit_fun.proofs.Common.{◌≡◌, ℕ, zero, suc, ◌+◌, ◌-◌, ◌*◌, ◌<◌, ◌≤◌, List, [], ◌∷◌, length, take, slice_set, replicate, Some, refl, sym, ap, ◌∙◌, subst, inl, inr, arith, slice_get, length-set, cases_lt, length-replicate, none-some, slice_get_within, same_or, Kind, Regular, Parameter, Lit, Aig, node_count}
 use Rattle.bit_fun.specs.Parameters.{param_count}
 use Rattle.bit_fun.specs.ConeFunctions.{lit_of, HaveSourceLits, HaveSourceLitsTo}
 use Rattle.bit_fun.proofs.ConeMakesLemmas.{lit_other, lit_here}

@@ -1,6 +1,4 @@
-use Rattle.std.proofs.Common.{◌≡◌, ◌∙◌, ◌<◌, ◌≤◌, ℕ, List, length, subst, sym, ap, arith}
-use Rattle.list_laws.specs.Members.{In}
-use Rattle.aig_core.specs.Aig.{node_count}
+use Rattle.bit_fun.proofs.Common.{◌≡◌, ◌∙◌, ◌<◌, ◌≤◌, ℕ, List, length, subst, sym, ap, arith, In, node_count}
 use Rattle.cut_enum.specs.declared.limits.TheConstants.{MOST_LEAVES}
 use Rattle.list_laws.proofs.Reversed.{in_reversed}
 use Rattle.bit_fun.specs.ConeFunctions.{with_leaves, AreLits}

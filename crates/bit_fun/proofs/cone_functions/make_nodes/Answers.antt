@@ -1,5 +1,4 @@
-use Rattle.std.proofs.Common.{arith}
-use Rattle.list_laws.proofs.Members.{In-get_or}
+use Rattle.bit_fun.proofs.Common.{arith, In-get_or}
 use Rattle.bit_fun.proofs.cone_functions.make_nodes.Goals as goal
 
 pub make_node-requires-clause-node : goal.make_node-requires-clause-node

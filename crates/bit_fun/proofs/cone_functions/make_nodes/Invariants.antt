@@ -1,4 +1,4 @@
-use Rattle.std.proofs.Common.{take, reverse}
+use Rattle.bit_fun.proofs.Common.{take, reverse}
 use Rattle.bit_fun.specs.ConeFunctions.{IsMadeOver}
 use Rattle.bit_fun.proofs.cone_functions.make_nodes.Given as goal
 

@@ -1,5 +1,4 @@
-use Rattle.std.proofs.Common.{◌<◌, length, get_or, arith}
-use Rattle.list_laws.proofs.Members.{In-get_or}
+use Rattle.bit_fun.proofs.Common.{◌<◌, length, get_or, arith, In-get_or}
 use Rattle.bit_fun.proofs.cone_functions.set_leaves.Goals as goal
 
 pub bounds-lits-leaf : goal.bounds-lits-leaf

@@ -1,9 +1,4 @@
-use Rattle.std.proofs.Common.{◌≡◌, ◌∙◌, ap, subst, sym}
-use Rattle.aig_core.specs.Aig.{node_count}
-use Rattle.cover_pick.specs.Work.{IsInner}
-use Rattle.cover_pick.proofs.WorkLemmas.{stop_inner}
-use Rattle.depth_first.specs.Edges.{successors, AreNodes}
-use Rattle.depth_first.specs.Walk.{WalkValue}
+use Rattle.bit_fun.proofs.Common.{◌≡◌, ◌∙◌, ap, subst, sym, node_count, IsInner, stop_inner, successors, AreNodes, WalkValue}
 use Rattle.bit_fun.specs.ConeFunctions.{cone_edges}
 use Rattle.bit_fun.proofs.ConeOrderLemmas.{cone_order}
 use Rattle.bit_fun.proofs.ConeWalkLemmas.{cone_nodes}

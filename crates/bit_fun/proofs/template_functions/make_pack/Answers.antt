@@ -1,10 +1,5 @@
-use Rattle.std.proofs.Common.{◌≡◌, ◌∙◌, [], List, ap, subst, sym}
-use Rattle.list_laws.specs.Members.{In}
-use Rattle.aig_core.specs.Aig.{Aig, first_and, AreNormal}
-use Rattle.cover_pick.specs.declared.lut.Lut.{Lut}
+use Rattle.bit_fun.proofs.Common.{◌≡◌, ◌∙◌, [], List, ap, subst, sym, In, Aig, first_and, AreNormal, Lut, PackParam, PackValue, IsPack}
 use Rattle.cover_pick.specs.Template.{TemplateValue}
-use Rattle.ppc_pack.specs.declared.pack.PackParam.{PackParam}
-use Rattle.ppc_pack.specs.Pack.{PackValue, IsPack}
 use Rattle.bit_fun.specs.ConeFunctions.{AreTablesMadeTo}
 use Rattle.bit_fun.specs.PackOf.{IsPackOf}
 use Rattle.bit_fun.proofs.PackKeptLemmas.{table_in, pack_of, pack_kept}

@@ -1,4 +1,4 @@
-use Rattle.std.proofs.Common.{reverse}
+use Rattle.bit_fun.proofs.Common.{reverse}
 use Rattle.bit_fun.specs.ConeFunctions.{AreBitsMade}
 use Rattle.bit_fun.proofs.template_functions.push_table.Given as goal
 

@@ -1,5 +1,4 @@
-use Rattle.std.proofs.Common.{◌≡◌, drop}
-use Rattle.aig_core.specs.Aig.{node_count}
+use Rattle.bit_fun.proofs.Common.{◌≡◌, drop, node_count}
 use Rattle.bit_fun.specs.ConeFunctions.{AreTablesMadeTo}
 use Rattle.bit_fun.proofs.template_functions.push_tables.Given as goal
 

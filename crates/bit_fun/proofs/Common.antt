@@ -1,0 +1,45 @@
+-- Words and lemmas of the crates below that most proofs cite, passed on from one place.
+pub use Rattle.std.proofs.Common.{Bool, List, None, Option, Some, [], ap, append-nil, append_assoc, arith, cond, drop, eqb, false, get_or, get_or-set_other, get_or-set_same, inl, inr, leb, length, length-append, ltb, map, max, min, not, refl, replicate, reverse, slice_set, subst, suc, sym, take, true, zero, ℕ, ◌%◌, ◌&&◌, ◌*◌, ◌++◌, ◌+◌, ◌-◌, ◌/◌, ◌<◌, ◌^◌, ◌∙◌, ◌∷◌, ◌≡◌, ◌≤◌, ◌⊎◌}
+pub use Rattle.std.proofs.Math.ListN.{get_or-append, length-set}
+pub use Rattle.std.proofs.Math.Nat.{add-mul, mul-add, mul-le-mul_left, mul-one, one-mul}
+pub use Rattle.std.proofs.lemmas.Bool.{and_from, cases_lt, cond-false, cond-true, le-leb, le-ltb, leb-false, leb-true, lt-ltb, or_left, or_right, true≢false}
+pub use Rattle.std.proofs.lemmas.List.{ext_get_or, get_or-append-add, get_or-map, length-map, length-replicate, length-reverse, length-take, reverse-append, take_more}
+pub use Rattle.std.proofs.lemmas.List.Sums.{sum_by-cons}
+pub use Rattle.std.proofs.lemmas.Option.{get_or_from_slice_get, none-some, same_Some, slice_get-get_or, slice_get_past, slice_get_within}
+pub use Rattle.std.specs.List.{position, slice_get}
+pub use Rattle.aig_core.proofs.FitLemmas.{behind_constant, is_values_of}
+pub use Rattle.aig_core.proofs.GrowthLemmas.{Extends, Extends-refl, Extends-trans, and_again, and_grows, length-Extends}
+pub use Rattle.aig_core.proofs.NodeLemmas.{node_at, node_normal}
+pub use Rattle.aig_core.proofs.ProductLemmas.{AreBase, AreBase-sources, Makes, Makes-and, complement-below, value_of-complement, value_of-more}
+pub use Rattle.aig_core.proofs.ValueExample.{multiplexer, pair}
+pub use Rattle.aig_core.specs.Aig.{Aig, AreNormal, IsNode, IsNormal, IsSource, first_and, node_count, pair_of}
+pub use Rattle.aig_core.specs.And.{Answer, and_in_order, and_of, complement, found_or_new, is_pair, product_of, with_pairs}
+pub use Rattle.aig_core.specs.Value.{FitsGraph, in_phase, node_value, value_of, xor}
+pub use Rattle.aig_core.specs.declared.lit.Kind.{Kind}
+pub use Rattle.aig_core.specs.declared.lit.Kind.TheVariants.{Parameter, Regular}
+pub use Rattle.aig_core.specs.declared.lit.Lit.{Lit}
+pub use Rattle.aig_core.specs.declared.lit.Pair.{Pair}
+pub use Rattle.cover_pick.proofs.BitsLemmas.{base_within, bits_worked}
+pub use Rattle.cover_pick.proofs.WorkLemmas.{inner_stop, node_inside, stop_inner}
+pub use Rattle.cover_pick.specs.Cone.{is_stop}
+pub use Rattle.cover_pick.specs.Mapping.{HaveBases, IsMapping, IsTableOf, bits_of, free, node, source}
+pub use Rattle.cover_pick.specs.Work.{IsCone, IsInner, IsLight, IsTableWork, IsWork, Path, here as path_here, left as path_left, right as path_right}
+pub use Rattle.cover_pick.specs.declared.lut.Lut.{Lut}
+pub use Rattle.cut_sets.specs.Cuts.{Blocks, CanBeLeaf, constant, constant as blocks_constant, fan_ins, member, parameter, parameter as blocks_parameter}
+pub use Rattle.depth_first.proofs.FallLemmas.{LeadsBelow, falls_through}
+pub use Rattle.depth_first.specs.DepthFirst.{Posts, PostsAll, Way, leads, more, nodes_of, none, posts, skips, stops}
+pub use Rattle.depth_first.specs.Edges.{AreNodes, successors, ways_from, ways_of}
+pub use Rattle.depth_first.specs.Reach.{IsReached, Reaches, here, through}
+pub use Rattle.depth_first.specs.Walk.{Visited, WalkValue}
+pub use Rattle.list_laws.proofs.Choice.{choose, choose_one}
+pub use Rattle.list_laws.proofs.Members.{In-append, In-get, In-get_or, in_or, place_in}
+pub use Rattle.list_laws.proofs.Places.{at_within, same_or}
+pub use Rattle.list_laws.specs.Digits.{bit_value, digit, number}
+pub use Rattle.list_laws.specs.Members.{In}
+pub use Rattle.list_laws.specs.Order.{IsAscending}
+pub use Rattle.lut_sim.proofs.SourceLemmas.{IsInputOrLatch, either_side, input, latch}
+pub use Rattle.lut_sim.specs.Sources.{is_regular, last_source, source_value}
+pub use Rattle.lut_sim.specs.declared.shape.Shape.{Shape}
+pub use Rattle.param_list.specs.declared.params.Param.{Param}
+pub use Rattle.ppc_pack.specs.Pack.{IsConf, IsPack, PackValue}
+pub use Rattle.ppc_pack.specs.declared.pack.PackParam.{PackParam}
