@@ -1,29 +1,13 @@
 -- The text of a netlist without hierarchy denotes its one model.
-use Rattle.std.proofs.Common.{◌≡◌, ℕ, suc, ◌+◌, ◌-◌, Bool, true, false, cond, List, [], ◌∷◌, ◌++◌, length, map, codes, bytes_eq, Option, Some, None, refl, sym, ap, subst, ◌∙◌, inl, inr, arith, append_assoc, append-nil}
-use Rattle.std.specs.List.{list_any, flat_map}
-use Rattle.std.proofs.lemmas.List.{map-append, length-map}
-use Rattle.std.proofs.lemmas.Slice.Eq.{bytes_eq-Decides}
-use Rattle.list_laws.specs.Members.{In}
-use Rattle.list_laws.proofs.Members.{In-append}
+use Rattle.blif_write.proofs.Common.{◌≡◌, ℕ, suc, ◌+◌, ◌-◌, Bool, true, false, cond, List, [], ◌∷◌, ◌++◌, length, map, codes, bytes_eq, Option, Some, None, refl, sym, ap, subst, ◌∙◌, inl, inr, arith, append_assoc, append-nil, list_any, flat_map, map-append, length-map, bytes_eq-Decides, In, In-append, from_map, IsClean, AreOnce, Cell, Zero, One, Any, LatchValue, Command, RowValue, CoverValue, Ports, input_ports, output_ports, clock_ports, ports_of, cell_character, output_token, IsRow, alone, behind, AreRows, names_in, IsCoverLine, AreCommands, IsModel, AreLibrary, Denotes, IsCleanBody, is_special, one_clean, word_clean}
 use Rattle.tl_text.specs.LineValue.{LineValue, words_line}
-use Rattle.tl_text.specs.Clean.{IsClean}
-use Rattle.tl_text.specs.Once.{AreOnce}
-use Rattle.netlist.specs.declared.cell.Cell.{Cell}
-use Rattle.netlist.specs.declared.cell.Cell.TheVariants.{Zero, One, Any}
-use Rattle.netlist.specs.declared.latch.Latch.{Latch as LatchValue}
-use Rattle.netlist.specs.declared.command.Command.{Command}
 use Rattle.netlist.specs.declared.command.Body.TheVariants.{Cover, Latch}
-use Rattle.netlist.specs.CoverValue.{RowValue, CoverValue}
-use Rattle.netlist.specs.LibraryValue.{Ports, input_ports, output_ports, clock_ports, ports_of}
 use Rattle.blif_read.specs.Statement.{StatementValue, statement_at, statement_of, statements}
-use Rattle.blif_read.specs.Rows.{cell_character, output_token, IsRow, alone, behind, AreRows, none, more}
+use Rattle.blif_read.specs.Rows.{none, more}
 use Rattle.blif_read.specs.Latches.{Starts, one, zero_, Controls, nil, net, IsLatch, with_init, whole}
-use Rattle.blif_read.specs.Denotes.{names_in, IsCoverLine, AreCommands, IsModel, AreLibrary, Denotes}
-use Rattle.netlist.specs.HasCleanNames.{IsCleanBody}
 use Rattle.blif_read.specs.Denotes as denotes
 use Rattle.blif_read.proofs.PortLemmas.{names_in-append}
 use Rattle.blif_write.specs.PlainNetlist.{PlainNetlist, IsPlain, all_inputs, control_words, latch_line, row_line, cover_lines, netlist_lines, netlist_text, read_control, read_latch, latch_commands, cover_commands, model_of, library_of}
-use Rattle.tl_text.proofs.WordLemmas.{is_special, one_clean, word_clean}
 use Rattle.tl_text.proofs.WrittenLineLemmas.{IsCleanLine as IsWritable, AreCleanLines as AreWritable, numbered, numbered-append, ReadsAgain, reads_again}
 
 -- statements of lines, the first of which has this number
@@ -137,10 +121,12 @@ row_portless p number (Any ∷ cells) = no_port p (λ q. names_in q (statement_a
 first_portless : (p : Ports) (s : StatementValue) (ss : List StatementValue) → names_in p (s ∷ []) ≡ [] → names_in p (s ∷ ss) ≡ names_in p ss
 first_portless p s ss h = names_in-append p (s ∷ []) ss ∙ ap (λ (t : List (List ℕ)). t ++ names_in p ss) h
 
-rows_portless : (p : Ports) (number : ℕ) (rows : List RowValue) (lines : List (List (List ℕ))) → ((k : ℕ) → names_in p (statements_of k lines) ≡ []) → names_in p (statements_of number (map (λ row. row_line row.cells) rows ++ lines)) ≡ []
-rows_portless p number [] lines rest = rest number
-rows_portless p number (row ∷ rows) lines rest =
-    first_portless p (statement_at number (row_line row.cells)) (statements_of (suc number) (map (λ row. row_line row.cells) rows ++ lines)) (row_portless p number row.cells) ∙ rows_portless p (suc number) rows lines rest
+-- lines without ports
+each_portless : {X : Type 0} (p : Ports) (line : X → List (List ℕ)) → ((k : ℕ) (x : X) → names_in p (statement_at k (line x) ∷ []) ≡ []) → (number : ℕ) (xs : List X) (lines : List (List (List ℕ)))
+    → ((k : ℕ) → names_in p (statements_of k lines) ≡ []) → names_in p (statements_of number (map line xs ++ lines)) ≡ []
+each_portless p line own number [] lines rest = rest number
+each_portless p line own number (x ∷ xs) lines rest =
+    first_portless p (statement_at number (line x)) (statements_of (suc number) (map line xs ++ lines)) (own number x) ∙ each_portless p line own (suc number) xs lines rest
 
 covers_portless : (p : Ports) (number : ℕ) (cs : List CoverValue) → names_in p (statements_of number (flat_map cover_lines cs ++ (codes ".end" ∷ []) ∷ [])) ≡ []
 covers_portless p number [] = no_port p (λ q. names_in q (statements_of number ((codes ".end" ∷ []) ∷ []))) refl refl refl
@@ -150,13 +136,7 @@ covers_portless p number (c ∷ cs) =
     let rows : List (List (List ℕ)) = map (λ (row : RowValue). row_line row.cells) c.rows in
     ap (λ (t : List (List (List ℕ))). names_in p (statements_of number t)) (append_assoc (cover_lines c) (flat_map cover_lines cs) ((codes ".end" ∷ []) ∷ []))
     ∙ first_portless p head (statements_of (suc number) (rows ++ others)) (no_port p (λ q. names_in q (head ∷ [])) refl refl refl)
-    ∙ rows_portless p (suc number) c.rows others (λ k. covers_portless p k cs)
-
-latches_portless : (p : Ports) (number : ℕ) (ls : List LatchValue) (lines : List (List (List ℕ))) → ((k : ℕ) → names_in p (statements_of k lines) ≡ []) → names_in p (statements_of number (map latch_line ls ++ lines)) ≡ []
-latches_portless p number [] lines rest = rest number
-latches_portless p number (l ∷ ls) lines rest =
-    let head : StatementValue = statement_at number (latch_line l) in
-    first_portless p head (statements_of (suc number) (map latch_line ls ++ lines)) (no_port p (λ q. names_in q (head ∷ [])) refl refl refl) ∙ latches_portless p (suc number) ls lines rest
+    ∙ each_portless p (λ (row : RowValue). row_line row.cells) (λ k row. row_portless p k row.cells) (suc number) c.rows others (λ k. covers_portless p k cs)
 
 -- the names of the `.inputs` lines, and what other lines have
 abbrev own_ports : Ports → List (List (List ℕ)) → List (List ℕ)
@@ -194,7 +174,7 @@ ports_are n p =
     sym (ap (names_in p) (statements_append 2 inputs behind_inputs) ∙ names_in-append p (statements_of 2 inputs) (statements_of (2 + length inputs) behind_inputs)
     ∙ ap (λ (t : List (List ℕ)). t ++ names_in p (statements_of (2 + length inputs) behind_inputs)) (inputs_named p 2 n.inputs)
     ∙ ap (λ (t : List (List ℕ)). own_ports p n.inputs ++ t) (outputs_named p (2 + length inputs) n.outputs (map latch_line n.latches ++ (flat_map cover_lines n.covers ++ (codes ".end" ∷ []) ∷ []))
-    (λ k. latches_portless p k n.latches (flat_map cover_lines n.covers ++ (codes ".end" ∷ []) ∷ []) (λ j. covers_portless p j n.covers)))
+    (λ k. each_portless p latch_line (λ m l. no_port p (λ q. names_in q (statement_at m (latch_line l) ∷ [])) refl refl refl) k n.latches (flat_map cover_lines n.covers ++ (codes ".end" ∷ []) ∷ []) (λ j. covers_portless p j n.covers)))
     ∙ ports_both p n)
 
 pub ports_once : (n : PlainNetlist) → IsPlain n → (p : Ports) → AreOnce (ports_of p (model_of n))
@@ -231,10 +211,8 @@ row_writable : (cells : List Cell) → IsWritable (row_line cells)
 row_writable [] = one_clean (codes "1") (output_clean true)
 row_writable (cell ∷ cells) = headed (map cell_character (cell ∷ cells)) (codes "1" ∷ []) (word_clean (map cell_character (cell ∷ cells)) (omega arith) (cells_ordinary (cell ∷ cells))) (one_clean (codes "1") (output_clean true))
 
-rows_writable : (rows : List RowValue) → AreWritable (map (λ row. row_line row.cells) rows)
-rows_writable [] words i = elim i [ ]
-rows_writable (row ∷ rows) words (inl e) = subst IsWritable (sym e) (row_writable row.cells)
-rows_writable (row ∷ rows) words (inr i) = rows_writable rows words i
+each_writable : {X : Type 0} (line : X → List (List ℕ)) (xs : List X) → ((x : X) → In xs x → IsWritable (line x)) → AreWritable (map line xs)
+each_writable {X = X} line xs h words i = let r : (x : X) × In xs x × (words ≡ line x) = from_map line xs words i in subst IsWritable (sym r.2) (h r.0 r.1)
 
 either_writable : (xs ys : List (List (List ℕ))) → AreWritable xs → AreWritable ys → AreWritable (xs ++ ys)
 either_writable xs ys a b words i = elim (In-append xs ys words i) [ inl j ↦ a words j | inr j ↦ b words j ]
@@ -245,7 +223,7 @@ either_clean xs ys a b w i = elim (In-append xs ys w i) [ inl j ↦ a w j | inr 
 cover_writable : (c : CoverValue) → IsCleanBody (Cover c) → AreWritable (cover_lines c)
 cover_writable c h words (inl e) =
     subst IsWritable (sym e) (headed (codes ".names") (c.inputs ++ c.output ∷ []) (word_clean (codes ".names") (omega arith) refl) (either_clean c.inputs (c.output ∷ []) h.0 (one_clean c.output h.1)))
-cover_writable c h words (inr i) = rows_writable c.rows words i
+cover_writable c h words (inr i) = each_writable (λ (row : RowValue). row_line row.cells) c.rows (λ row j. row_writable row.cells) words i
 
 covers_writable : (cs : List CoverValue) → ((c : CoverValue) → In cs c → IsCleanBody (Cover c)) → AreWritable (flat_map cover_lines cs)
 covers_writable [] h words i = elim i [ ]
@@ -263,16 +241,6 @@ latch_writable l h =
     (either_clean (l.input ∷ l.output ∷ []) (control_words l.control ++ output_token l.init ∷ []) (either_clean (l.input ∷ []) (l.output ∷ []) (one_clean l.input h.0) (one_clean l.output h.1))
     (either_clean (control_words l.control) (output_token l.init ∷ []) (control_clean l.control h.2) (one_clean (output_token l.init) (output_clean l.init))))
 
-latches_writable : (ls : List LatchValue) → ((l : LatchValue) → In ls l → IsCleanBody (Latch l)) → AreWritable (map latch_line ls)
-latches_writable [] h words i = elim i [ ]
-latches_writable (l ∷ ls) h words (inl e) = subst IsWritable (sym e) (latch_writable l (h l (inl refl)))
-latches_writable (l ∷ ls) h words (inr i) = latches_writable ls (λ d j. h d (inr j)) words i
-
-inputs_writable : (inputs : List (List (List ℕ))) → ((names : List (List ℕ)) → In inputs names → (w : List ℕ) → In names w → IsClean w) → AreWritable (map (λ names. codes ".inputs" ∷ names) inputs)
-inputs_writable [] h words i = elim i [ ]
-inputs_writable (names ∷ inputs) h words (inl e) = subst IsWritable (sym e) (headed (codes ".inputs") names (word_clean (codes ".inputs") (omega arith) refl) (h names (inl refl)))
-inputs_writable (names ∷ inputs) h words (inr i) = inputs_writable inputs (λ d j. h d (inr j)) words i
-
 one_writable : (words : List (List ℕ)) → IsWritable words → AreWritable (words ∷ [])
 one_writable words h other (inl e) = subst IsWritable (sym e) h
 one_writable words h other (inr i) = elim i [ ]
@@ -280,9 +248,9 @@ one_writable words h other (inr i) = elim i [ ]
 lines_writable : (n : PlainNetlist) → IsPlain n → AreWritable (netlist_lines n)
 lines_writable n h =
     either_writable ((codes ".model" ∷ n.name ∷ []) ∷ []) (body_lines n) (one_writable (codes ".model" ∷ n.name ∷ []) (headed (codes ".model") (n.name ∷ []) (word_clean (codes ".model") (omega arith) refl) (one_clean n.name h.name)))
-    (either_writable (map (λ (names : List (List ℕ)). codes ".inputs" ∷ names) n.inputs) _ (inputs_writable n.inputs h.inputs)
+    (either_writable (map (λ (names : List (List ℕ)). codes ".inputs" ∷ names) n.inputs) _ (each_writable (λ (names : List (List ℕ)). codes ".inputs" ∷ names) n.inputs (λ names i. headed (codes ".inputs") names (word_clean (codes ".inputs") (omega arith) refl) (h.inputs names i)))
     (either_writable ((codes ".outputs" ∷ n.outputs) ∷ []) _ (one_writable (codes ".outputs" ∷ n.outputs) (headed (codes ".outputs") n.outputs (word_clean (codes ".outputs") (omega arith) refl) h.outputs))
-    (either_writable (map latch_line n.latches) _ (latches_writable n.latches h.latches)
+    (either_writable (map latch_line n.latches) _ (each_writable latch_line n.latches (λ l i. latch_writable l (h.latches l i)))
     (either_writable (flat_map cover_lines n.covers) ((codes ".end" ∷ []) ∷ []) (covers_writable n.covers h.covers)
     (one_writable (codes ".end" ∷ []) (headed (codes ".end") [] (word_clean (codes ".end") (omega arith) refl) (λ w i. elim i [ ])))))))
 

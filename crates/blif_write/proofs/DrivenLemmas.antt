@@ -1,20 +1,7 @@
 -- The names of a written netlist's parts: of which kind they are, and that each occurs once.
-use Rattle.std.proofs.Common.{◌≡◌, ℕ, suc, ◌+◌, ◌^◌, ◌<◌, ◌≤◌, Bool, true, false, cond, List, [], ◌∷◌, ◌++◌, length, map, slice_get, bytes_eq, Option, Some, refl, sym, inl, inr, arith, decimal}
-use Rattle.std.proofs.lemmas.Slice.Eq.{bytes_eq-Decides}
-use Rattle.list_laws.specs.Members.{In}
-use Rattle.list_laws.proofs.Members.{In-append, from_map}
-use Rattle.tl_text.specs.Clean.{IsClean}
-use Rattle.tl_text.specs.Once.{AreOnce}
-use Rattle.netlist.specs.declared.latch.Latch.{Latch as LatchValue}
-use Rattle.netlist.specs.CoverValue.{CoverValue}
-use Rattle.netlist.specs.declared.flat.OutPort.{OutPort}
-use Rattle.netlist.specs.declared.flat.FlatLatch.{FlatLatch}
-use Rattle.aig_core.specs.declared.lit.Lit.{Lit}
-use Rattle.cover_pick.specs.declared.lut.Lut.{Lut}
-use Rattle.cover_pick.specs.Mapping.{AscendByLit}
+use Rattle.blif_write.proofs.Common.{◌≡◌, ℕ, suc, ◌+◌, ◌^◌, ◌<◌, ◌≤◌, Bool, true, false, cond, List, [], ◌∷◌, ◌++◌, length, map, slice_get, bytes_eq, Option, Some, refl, sym, inl, inr, arith, decimal, bytes_eq-Decides, In, In-append, from_map, IsClean, AreOnce, LatchValue, CoverValue, OutPort, FlatLatch, Lit, Lut, AscendByLit, is_special, ordinary_clean, marked_ordinary, decimal_ordinary}
 use Rattle.blif_write.specs.OwnNames.{Naming, own_name, table_name, latch_name, literal_name}
 use Rattle.blif_write.specs.Netlists.{wire_of, wire, wires, written_latches}
-use Rattle.tl_text.proofs.WordLemmas.{is_special, ordinary_clean, marked_ordinary, decimal_ordinary}
 use Rattle.blif_write.proofs.OwnNameLemmas.{own_number}
 
 -- own names are clean

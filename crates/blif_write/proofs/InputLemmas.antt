@@ -1,25 +1,6 @@
 -- The inputs of a written netlist, read again: the regular ones, a control `NIL`, and the configuration bits.
-use Rattle.std.proofs.Common.{◌≡◌, ℕ, suc, ◌+◌, ◌<◌, ◌^◌, Bool, true, false, not, if◌then◌else◌, List, [], ◌∷◌, ◌++◌, length, map, filter, codes, bytes_eq, Option, Some, None, slice_get, refl, sym, ap, ap₂, ◌∙◌, inl, inr, arith, append_assoc}
-use Rattle.std.specs.List.{flat_map, range_with_len}
-use Rattle.std.proofs.lemmas.List.{map-append}
+use Rattle.blif_write.proofs.Common.{◌≡◌, ℕ, suc, ◌+◌, ◌<◌, ◌^◌, Bool, true, false, not, if◌then◌else◌, List, [], ◌∷◌, ◌++◌, length, map, filter, codes, bytes_eq, Option, Some, None, slice_get, refl, sym, ap, ap₂, ◌∙◌, inl, inr, arith, append_assoc, flat_map, range_with_len, map-append, sum_by-cons, none-some, same_Some, In, place_in, In-left, In-right, ranges_join, LatchValue, FlatLatch, CoverValue, ModelValue, FlatValue, TellsClocks, IsFlat, main_input, controls, Param, Lit, Lut, HaveBases, bits_of, TemplateValue}
 use Rattle.std.proofs.lemmas.List.Elements.{filter-append}
-use Rattle.std.proofs.lemmas.List.Sums.{sum_by-cons}
-use Rattle.std.proofs.lemmas.Option.{none-some, same_Some}
-use Rattle.list_laws.specs.Members.{In}
-use Rattle.list_laws.proofs.Members.{place_in, In-left, In-right}
-use Rattle.list_laws.proofs.Ranges.{ranges_join}
-use Rattle.netlist.specs.declared.latch.Latch.{Latch as LatchValue}
-use Rattle.netlist.specs.declared.flat.FlatLatch.{FlatLatch}
-use Rattle.netlist.specs.CoverValue.{CoverValue}
-use Rattle.netlist.specs.LibraryValue.{ModelValue}
-use Rattle.netlist.specs.FlatValue.{FlatValue}
-use Rattle.netlist.specs.Flat.{TellsClocks, IsFlat}
-use Rattle.netlist.specs.Nets.{main_input, controls}
-use Rattle.param_list.specs.declared.params.Param.{Param}
-use Rattle.aig_core.specs.declared.lit.Lit.{Lit}
-use Rattle.cover_pick.specs.declared.lut.Lut.{Lut}
-use Rattle.cover_pick.specs.Mapping.{HaveBases, bits_of}
-use Rattle.cover_pick.specs.Template.{TemplateValue}
 use Rattle.blif_write.specs.PlainNetlist.{PlainNetlist, all_inputs, read_control, read_latch, library_of}
 use Rattle.blif_write.specs.OwnNames.{Naming, naming_of, bit_name}
 use Rattle.blif_write.specs.Netlists.{bit_names, clock_of, written_latch, written_latches, control_names, with_tables}

@@ -1,3 +1,4 @@
+mod Common
 -- What the bodies put.
 mod RowLemmas
 mod NameLemmas

@@ -1,40 +1,18 @@
 -- What the two written netlists mean.
-use Rattle.std.proofs.Common.{◌≡◌, ℕ, zero, suc, ◌+◌, ◌-◌, ◌^◌, ◌<◌, ◌≤◌, Bool, false, List, [], ◌∷◌, ◌++◌, length, map, filter, replicate, slice_index_or, Option, refl, sym, ap, ◌∙◌, inl, inr, arith, length-append}
-use Rattle.std.specs.List.{flat_map, range_with_len}
-use Rattle.std.proofs.lemmas.List.{length-map, length-replicate}
-use Rattle.std.proofs.lemmas.List.FromFn.{length-map-range_with_len}
-use Rattle.std.proofs.lemmas.List.Sums.{sum_by-cons}
-use Rattle.list_laws.specs.Members.{In}
-use Rattle.list_laws.specs.Digits.{digit}
-use Rattle.list_laws.proofs.Members.{In-append, In-map, from_map}
-use Rattle.tl_text.specs.Once.{AreOnce}
-use Rattle.netlist.specs.declared.cell.Cell.TheVariants.{One, Any}
+use Rattle.blif_write.proofs.Common.{◌≡◌, ℕ, zero, suc, ◌+◌, ◌-◌, ◌^◌, ◌<◌, ◌≤◌, Bool, false, List, [], ◌∷◌, ◌++◌, length, map, filter, replicate, slice_index_or, Option, refl, sym, ap, ◌∙◌, inl, inr, arith, length-append, flat_map, range_with_len, length-map, length-replicate, length-map-range_with_len, sum_by-cons, In, digit, In-append, In-map, from_map, AreOnce, One, Any, LatchValue, RowValue, CoverValue, HasOneCycle, address, Denotes, IsWellFormedBody, FlatLatch, FlatValue, Param, Lit, Lut, HaveBases, bits_of, TemplateValue, of_range, in_range, once_both}
 use Rattle.netlist.specs.declared.command.Body.TheVariants.{Cover}
-use Rattle.netlist.specs.declared.latch.Latch.{Latch as LatchValue}
-use Rattle.netlist.specs.CoverValue.{RowValue}
-use Rattle.blif_read.specs.Denotes.{Denotes}
-use Rattle.netlist.specs.WellFormed.{IsWellFormedBody}
-use Rattle.netlist.specs.declared.flat.FlatLatch.{FlatLatch}
-use Rattle.netlist.specs.FlatValue.{FlatValue}
-use Rattle.param_list.specs.declared.params.Param.{Param}
-use Rattle.aig_core.specs.declared.lit.Lit.{Lit}
-use Rattle.cover_pick.specs.declared.lut.Lut.{Lut}
-use Rattle.cover_pick.specs.Mapping.{HaveBases, bits_of}
-use Rattle.cover_pick.specs.Template.{TemplateValue}
-use Rattle.blif_write.specs.PlainNetlist.{netlist_text, library_of}
-use Rattle.blif_write.specs.OwnNames.{Naming, naming_of, bit_name}
-use Rattle.blif_write.specs.Netlists.{digit_cell, digit_cells, leaf_names, bit_names, chosen_cells, fixed_table, tunable_table, written_latches, specialised_netlist, template_netlist}
+use Rattle.blif_write.specs.PlainNetlist.{PlainNetlist, netlist_text, library_of}
+use Rattle.blif_write.specs.OwnNames.{Naming, naming_of, bit_name, table_name, literal_name}
+use Rattle.blif_write.specs.Netlists.{digit_cell, digit_cells, leaf_names, bit_names, chosen_cells, fixed_table, tunable_table, written_latches, with_tables, specialised_netlist, template_netlist}
 use Rattle.blif_write.specs.Meaning.{HasPorts, AreTablesOf, Means, free_control, all_bit_names, input_bits}
 use Rattle.blif_write.proofs.DenoteLemmas.{denotes_plain}
 use Rattle.blif_write.proofs.InputLemmas.{bits_in_order, inputs_again}
 use Rattle.netlist.proofs.LawLemmas.{sound_law}
-use Rattle.blif_write.proofs.PlainCycleLemmas.{IsPlainCycle, plain_cycle, plain_inits, plain_has_cycle, plain_has_run}
+use Rattle.blif_write.proofs.PlainCycleLemmas.{PlainFits, IsPlainCycle, plain_cycle, plain_inits, plain_has_cycle, plain_has_run}
 use Rattle.blif_write.proofs.PlainFlatLemmas.{plain_flat}
 use Rattle.blif_write.proofs.PlainSoundLemmas.{IsOrderly, plain_sound}
-use Rattle.list_laws.proofs.Ranges.{of_range, in_range}
 use Rattle.blif_write.proofs.OwnNameLemmas.{own_number}
 use Rattle.blif_write.proofs.TableCycleLemmas.{in_all, table_cycle, fixed_valued, tunable_valued}
-use Rattle.tl_text.proofs.NameSetLemmas.{once_both}
 use Rattle.blif_write.proofs.PartLemmas.{AreCovers}
 use Rattle.blif_write.proofs.OrderlyLemmas.{orderly}
 
@@ -144,45 +122,41 @@ module _ (flat : FlatValue) (params : List Param) (t : TemplateValue) (ports : H
   abbrev g : Naming
   g = naming_of flat params
 
-  specialised_orderly : (config : List Bool) → IsOrderly (specialised_netlist flat params t config)
-  specialised_orderly config = orderly flat params t [] (fixed_table g config) ports are (fixed_covers g t.luts config)
-
-  template_orderly : IsOrderly (template_netlist flat params t)
-  template_orderly = orderly flat params t (map (bit_names g) t.luts) (tunable_table g) ports are (tunable_covers g t.luts t.bits are.playable.bases are.playable.sum are.few_bits)
+  template_covers : AreCovers g t.luts (map (bit_names g) t.luts) (tunable_table g)
+  template_covers = tunable_covers g t.luts t.bits are.playable.bases are.playable.sum are.few_bits
 
   pub specialised_denotes : (config : List Bool) → Denotes (netlist_text (specialised_netlist flat params t config)) (library_of (specialised_netlist flat params t config))
-  specialised_denotes config = denotes_plain (specialised_netlist flat params t config) (specialised_orderly config).plain
+  specialised_denotes config = denotes_plain (specialised_netlist flat params t config) (orderly flat params t [] (fixed_table g config) ports are (fixed_covers g t.luts config)).plain
 
   pub template_denotes : Denotes (netlist_text (template_netlist flat params t)) (library_of (template_netlist flat params t))
-  template_denotes = denotes_plain (template_netlist flat params t) template_orderly.plain
+  template_denotes = denotes_plain (template_netlist flat params t) (orderly flat params t (map (bit_names g) t.luts) (tunable_table g) ports are template_covers).plain
+
+  means : (bits : List (List (List ℕ))) (table : Lut → CoverValue) (names : List (List ℕ)) (config : (List ℕ → Bool) → List Bool) → AreCovers g t.luts bits table → flat_map (λ (l : List (List ℕ)). l) bits ≡ names
+      → ((x : List ℕ → Bool) (s : List Bool) (value : List ℕ → Bool) → PlainFits (with_tables flat params t bits (map table t.luts)) x s value
+      → (u : Lut) → In t.luts u → value (table_name g u.lit.0) ≡ slice_index_or (config x) (address (λ lit. value (literal_name g lit)) u) false)
+      → Means flat params t (with_tables flat params t bits (map table t.luts)) names config
+  means bits table names config covers named valued =
+      let n : PlainNetlist = with_tables flat params t bits (map table t.luts) in
+      let order : IsOrderly n = orderly flat params t bits table ports are covers in
+      let law : HasOneCycle (library_of n) = sound_law (library_of n) (plain_sound n order) in
+      record {
+        sound = plain_sound n order;
+        is_flat = plain_flat n order;
+        inputs = λ again h. inputs_again flat params t bits (map table t.luts) ports are.roots.next covers.bits_own again h ∙ ap (λ (k : List (List ℕ)). g.regular ++ (free_control flat.control ++ k)) named;
+        cycles = λ x s outputs next c.
+            let p : IsPlainCycle n x s outputs next = plain_cycle n x s outputs next c in
+            table_cycle flat params t bits (map table t.luts) ports are x s p.value p.fits (config x) outputs next p.outputs_are p.next_are (valued x s p.value p.fits);
+        has_cycle = λ x s len. plain_has_cycle n law x s (len ∙ sym (latch_count g flat.control 0 flat.latches t.next are.roots.next));
+        has_run = λ xs. plain_has_run n law xs;
+        starts = λ main latches h. plain_inits n main latches h ∙ inits_are g flat.control 0 flat.latches t.next are.roots.next;
+      }
 
   pub specialised_means : (config : List Bool) → Means flat params t (specialised_netlist flat params t config) [] (λ x. config)
-  specialised_means config = record {
-    sound = plain_sound (specialised_netlist flat params t config) (specialised_orderly config);
-    is_flat = plain_flat (specialised_netlist flat params t config) (specialised_orderly config);
-    inputs = inputs_again flat params t [] (map (fixed_table g config) t.luts) ports are.roots.next (λ name i. elim i [ ]);
-    cycles = λ x s outputs next c.
-        let p : IsPlainCycle (specialised_netlist flat params t config) x s outputs next = plain_cycle (specialised_netlist flat params t config) x s outputs next c in
-        table_cycle flat params t [] (map (fixed_table g config) t.luts) ports are x s p.value p.fits config outputs next p.outputs_are p.next_are
-        (λ u i. fixed_valued flat params t [] (map (fixed_table g config) t.luts) ports are x s p.value p.fits config u (In-map (fixed_table g config) t.luts u i));
-    has_cycle = λ x s len. plain_has_cycle (specialised_netlist flat params t config) (sound_law (library_of (specialised_netlist flat params t config)) (plain_sound (specialised_netlist flat params t config) (specialised_orderly config))) x s (len ∙ sym (latch_count g flat.control 0 flat.latches t.next are.roots.next));
-    has_run = λ xs. plain_has_run (specialised_netlist flat params t config) (sound_law (library_of (specialised_netlist flat params t config)) (plain_sound (specialised_netlist flat params t config) (specialised_orderly config))) xs;
-    starts = λ main latches h. plain_inits (specialised_netlist flat params t config) main latches h ∙ inits_are g flat.control 0 flat.latches t.next are.roots.next;
-  }
+  specialised_means config = means [] (fixed_table g config) [] (λ x. config) (fixed_covers g t.luts config) refl (λ x s value fits u i.
+      fixed_valued flat params t [] (map (fixed_table g config) t.luts) ports are x s value fits config u (In-map (fixed_table g config) t.luts u i))
 
   pub template_means : Means flat params t (template_netlist flat params t) (all_bit_names g t.bits) (input_bits g t.bits)
-  template_means = record {
-    sound = plain_sound (template_netlist flat params t) template_orderly;
-    is_flat = plain_flat (template_netlist flat params t) template_orderly;
-    inputs = λ again h.
-        inputs_again flat params t (map (bit_names g) t.luts) (map (tunable_table g) t.luts) ports are.roots.next (tunable_covers g t.luts t.bits are.playable.bases are.playable.sum are.few_bits).bits_own again h
-        ∙ ap (λ (bits : List (List ℕ)). g.regular ++ (free_control flat.control ++ bits)) (bits_in_order g 0 t.luts are.playable.bases ∙ ap (λ (count : ℕ). map (bit_name g) (range_with_len 0 count)) (sym are.playable.sum));
-    cycles = λ x s outputs next c.
-        let p : IsPlainCycle (template_netlist flat params t) x s outputs next = plain_cycle (template_netlist flat params t) x s outputs next c in
-        table_cycle flat params t (map (bit_names g) t.luts) (map (tunable_table g) t.luts) ports are x s p.value p.fits (input_bits g t.bits x) outputs next p.outputs_are p.next_are
-        (λ u i. tunable_valued flat params t (map (bit_names g) t.luts) (map (tunable_table g) t.luts) ports are x s p.value p.fits u i (In-map (tunable_table g) t.luts u i)
-        (λ b low high. in_all (bit_names g) t.luts u (bit_name g b) i (In-map (bit_name g) (range_with_len u.base (2 ^ length u.leaves)) b (in_range u.base (2 ^ length u.leaves) b low high))));
-    has_cycle = λ x s len. plain_has_cycle (template_netlist flat params t) (sound_law (library_of (template_netlist flat params t)) (plain_sound (template_netlist flat params t) (template_orderly))) x s (len ∙ sym (latch_count g flat.control 0 flat.latches t.next are.roots.next));
-    has_run = λ xs. plain_has_run (template_netlist flat params t) (sound_law (library_of (template_netlist flat params t)) (plain_sound (template_netlist flat params t) (template_orderly))) xs;
-    starts = λ main latches h. plain_inits (template_netlist flat params t) main latches h ∙ inits_are g flat.control 0 flat.latches t.next are.roots.next;
-  }
+  template_means = means (map (bit_names g) t.luts) (tunable_table g) (all_bit_names g t.bits) (input_bits g t.bits) template_covers
+      (bits_in_order g 0 t.luts are.playable.bases ∙ ap (λ (count : ℕ). map (bit_name g) (range_with_len 0 count)) (sym are.playable.sum)) (λ x s value fits u i.
+      tunable_valued flat params t (map (bit_names g) t.luts) (map (tunable_table g) t.luts) ports are x s value fits u i (In-map (tunable_table g) t.luts u i)
+      (λ b low high. in_all (bit_names g) t.luts u (bit_name g b) i (In-map (bit_name g) (range_with_len u.base (2 ^ length u.leaves)) b (in_range u.base (2 ^ length u.leaves) b low high))))

@@ -1,14 +1,6 @@
 -- The names: own names are no output's, the places of the regular inputs, and the bytes of names after blanks.
-use Rattle.std.proofs.Common.{◌≡◌, ℕ, zero, suc, ◌+◌, ◌-◌, ◌/◌, ◌<◌, ◌≤◌, leb, Bool, true, false, cond, ◌&&◌, List, [], ◌∷◌, ◌++◌, length, map, replicate, get_or, Some, bytes_eq, decimal, refl, sym, ap, subst, ◌∙◌, inl, inr, arith}
-use Rattle.std.specs.List.{flat_map, slice_get}
+use Rattle.blif_write.proofs.Common.{◌≡◌, ℕ, zero, suc, ◌+◌, ◌-◌, ◌/◌, ◌<◌, ◌≤◌, leb, Bool, true, false, cond, ◌&&◌, List, [], ◌∷◌, ◌++◌, length, map, replicate, get_or, Some, bytes_eq, decimal, refl, sym, ap, subst, ◌∙◌, inl, inr, arith, flat_map, slice_get, length-map, get_or-map, get_or_read, flat_map-map, cases_Bool, In, underscores, Shape, is_plain}
 use lib.Pointwise.{bytes_decides}
-use Rattle.std.proofs.lemmas.List.{length-map, get_or-map, get_or_read}
-use Rattle.std.proofs.lemmas.List.Folds.{flat_map-map}
-use Rattle.std.proofs.lemmas.Bool.{cases_Bool}
-use Rattle.list_laws.specs.Members.{In}
-use Rattle.netlist.specs.Flat.{underscores}
-use Rattle.lut_sim.specs.declared.shape.Shape.{Shape}
-use Rattle.lut_sim.specs.Sources.{is_plain}
 use Rattle.blif_write.specs.OwnNames.{Naming, own_name, latch_name, table_name, literal_name}
 use Rattle.blif_write.specs.PlainNetlist.{words_text}
 

@@ -1,12 +1,5 @@
 -- The bytes of a netlist, as they are added.
-use Rattle.std.proofs.Common.{◌≡◌, ℕ, List, [], ◌∷◌, ◌++◌, map, codes, Bool, refl, sym, ap, ◌∙◌, append_assoc}
-use Rattle.std.specs.List.{flat_map}
-use Rattle.std.proofs.lemmas.List.Concat.{flat_map-append}
-use Rattle.netlist.specs.CoverValue.{CoverValue}
-use Rattle.netlist.specs.declared.flat.OutPort.{OutPort}
-use Rattle.netlist.specs.FlatValue.{FlatValue}
-use Rattle.param_list.specs.declared.params.Param.{Param}
-use Rattle.cover_pick.specs.Template.{TemplateValue}
+use Rattle.blif_write.proofs.Common.{◌≡◌, ℕ, List, [], ◌∷◌, ◌++◌, map, codes, Bool, refl, sym, ap, ◌∙◌, append_assoc, flat_map, flat_map-append, CoverValue, OutPort, FlatValue, Param, TemplateValue}
 use Rattle.blif_write.specs.OwnNames.{Naming, naming_of}
 use Rattle.blif_write.specs.Netlists.{control_names, bit_names, fixed_table, tunable_table, wires, written_latches, specialised_netlist, template_netlist}
 use Rattle.blif_write.specs.PlainNetlist.{PlainNetlist, line_text, latch_line, cover_lines, netlist_text}

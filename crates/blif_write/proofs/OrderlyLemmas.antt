@@ -1,38 +1,15 @@
 -- A written netlist is orderly: each name that it reads has one driver, and its LUTs are in order.
-use Rattle.std.proofs.Common.{◌≡◌, ◌⊎◌, ℕ, suc, ◌+◌, ◌-◌, ◌*◌, ◌/◌, ◌%◌, ◌^◌, ◌<◌, ◌≤◌, Bool, true, false, cond, eqb, nat_le, IsTrue, List, [], ◌∷◌, ◌++◌, length, map, get_or, slice_get, bytes_eq, Some, refl, sym, ap, subst, ◌∙◌, inl, inr, arith}
-use Rattle.std.specs.List.{flat_map}
-use Rattle.std.proofs.lemmas.List.{map-append}
-use Rattle.std.proofs.lemmas.Bool.{leb-true, le-leb, and_parts}
-use Rattle.std.proofs.lemmas.Option.{same_Some}
-use Rattle.std.proofs.lemmas.Slice.Eq.{bytes_eq-Decides}
-use Rattle.list_laws.specs.Members.{In}
-use Rattle.list_laws.proofs.Members.{In-append, In-left, In-right, In-get, In-get_or, In-map, from_map}
-use Rattle.tl_text.specs.Clean.{IsClean}
-use Rattle.tl_text.specs.Once.{AreOnce}
-use Rattle.tl_text.proofs.NameSetLemmas.{once_both}
+use Rattle.blif_write.proofs.Common.{◌≡◌, ◌⊎◌, ℕ, suc, ◌+◌, ◌-◌, ◌*◌, ◌/◌, ◌%◌, ◌^◌, ◌<◌, ◌≤◌, Bool, true, false, cond, eqb, nat_le, IsTrue, List, [], ◌∷◌, ◌++◌, length, map, get_or, slice_get, bytes_eq, Some, refl, sym, ap, subst, ◌∙◌, inl, inr, arith, flat_map, map-append, leb-true, le-leb, and_parts, same_Some, bytes_eq-Decides, In, In-append, In-left, In-right, In-get, In-get_or, In-map, from_map, IsClean, AreOnce, once_both, LatchValue, CoverValue, IsWellFormedBody, OutPort, FlatValue, underscores, Param, Lit, Lut, HasLut, TemplateValue, is_regular, is_plain, false_from_ne_true}
 use Rattle.netlist.specs.declared.command.Body.TheVariants.{Cover, Latch}
-use Rattle.netlist.specs.declared.latch.Latch.{Latch as LatchValue}
-use Rattle.netlist.specs.CoverValue.{CoverValue}
-use Rattle.netlist.specs.WellFormed.{IsWellFormedBody}
-use Rattle.netlist.specs.declared.flat.OutPort.{OutPort}
-use Rattle.netlist.specs.FlatValue.{FlatValue}
-use Rattle.netlist.specs.Flat.{underscores}
-use Rattle.param_list.specs.declared.params.Param.{Param}
-use Rattle.aig_core.specs.declared.lit.Lit.{Lit}
-use Rattle.cover_pick.specs.declared.lut.Lut.{Lut}
-use Rattle.cover_pick.specs.Mapping.{HasLut}
-use Rattle.cover_pick.specs.Template.{TemplateValue}
-use Rattle.lut_sim.specs.Sources.{is_regular, is_plain}
 use Rattle.blif_write.specs.PlainNetlist.{PlainNetlist, IsPlain, all_inputs, read_latch}
 use Rattle.blif_write.specs.OwnNames.{Naming, naming_of, own_name, table_name, latch_name, bit_name, source_name, literal_name}
 use Rattle.blif_write.specs.Netlists.{leaf_names, wire_of, wires, written_latches, control_names, with_tables}
 use Rattle.blif_write.specs.Meaning.{HasPorts, AreTablesOf}
 use Rattle.blif_write.proofs.PlainCycleLemmas.{IsControlName}
 use Rattle.blif_write.proofs.PlainSoundLemmas.{body_output, command_outputs, IsOrderly}
-use Rattle.blif_write.proofs.RowValueLemmas.{not_true}
 use Rattle.blif_write.proofs.OwnNameLemmas.{own_under, no_port_name, own_letter, own_number, plain_even, table_literal}
-use Rattle.blif_write.proofs.TableCycleLemmas.{regular_parts, name_input, latch_named, latch_written}
-use Rattle.blif_write.proofs.PartLemmas.{AreCovers, in_lits, outputs_clean, latch_next, later_wire, latch_outputs_are, cover_outputs_are, table_outputs_are, rank_in, rank_of, rank_there, in_control, control_once, regular_once, wire_formed, in_lines, control_named_in}
+use Rattle.blif_write.proofs.TableCycleLemmas.{regular_parts, name_input, latch_named, latch_written, latch_next}
+use Rattle.blif_write.proofs.PartLemmas.{AreCovers, in_lits, outputs_clean, later_wire, latch_outputs_are, cover_outputs_are, table_outputs_are, rank_in, rank_of, rank_there, in_control, control_once, regular_once, wire_formed, in_lines, control_named_in}
 use Rattle.blif_write.proofs.DrivenLemmas.{own_clean, latch_output, latches_once, table_names, tables_once, IsWire, wires_there, wires_once}
 
 module _ (flat : FlatValue) (params : List Param) (t : TemplateValue) (bits : List (List (List ℕ))) (table : Lut → CoverValue) (ports : HasPorts flat) (are : AreTablesOf flat params t)
@@ -162,7 +139,7 @@ module _ (flat : FlatValue) (params : List Param) (t : TemplateValue) (bits : Li
     | inl p ↦ let yes : nat_le m g.shape.regular ≡ true = le-leb m g.shape.regular p.1 in
         let same : source_name g m ≡ get_or g.regular (m - 1) [] = ap (λ (b : Bool). cond b (get_or g.regular (m - 1) []) (latch_name g (m - 1 - (g.shape.regular + g.shape.params)))) yes in
         of_input (subst (In g.regular) (sym (e ∙ same)) (In-get_or g.regular (m - 1) [] (omega (arith, p.0, p.1))))
-    | inr p ↦ let no : nat_le m g.shape.regular ≡ false = not_true (nat_le m g.shape.regular) (λ b. let w : m ≤ g.shape.regular = leb-true m g.shape.regular b in omega (arith, w, p.0)) in
+    | inr p ↦ let no : nat_le m g.shape.regular ≡ false = false_from_ne_true (nat_le m g.shape.regular) (λ b. let w : m ≤ g.shape.regular = leb-true m g.shape.regular b in omega (arith, w, p.0)) in
         let same : source_name g m ≡ latch_name g (m - 1 - (g.shape.regular + g.shape.params)) = ap (λ (b : Bool). cond b (get_or g.regular (m - 1) []) (latch_name g (m - 1 - (g.shape.regular + g.shape.params)))) no in
         of_latch (m - 1 - (g.shape.regular + g.shape.params)) (omega (arith, p.0, p.1)) (e ∙ same)
   ]
@@ -262,7 +239,7 @@ module _ (flat : FlatValue) (params : List Param) (t : TemplateValue) (bits : Li
   table_rank : (u : Lut) → In t.luts u → rank_of g t.luts (table_name g u.lit.0) ≡ suc u.lit.0
   table_rank u i =
       let many : underscores (table_name g u.lit.0) ≡ suc g.under = own_under g 110 u.lit.0 refl in
-      let no : nat_le (underscores (table_name g u.lit.0)) g.under ≡ false = not_true (nat_le (underscores (table_name g u.lit.0)) g.under) (λ b. let w : underscores (table_name g u.lit.0) ≤ g.under = leb-true (underscores (table_name g u.lit.0)) g.under b in omega (arith, w, many)) in
+      let no : nat_le (underscores (table_name g u.lit.0)) g.under ≡ false = false_from_ne_true (nat_le (underscores (table_name g u.lit.0)) g.under) (λ b. let w : underscores (table_name g u.lit.0) ≤ g.under = leb-true (underscores (table_name g u.lit.0)) g.under b in omega (arith, w, many)) in
       ap (λ (b : Bool). cond b (2 ^ 33) (rank_in g t.luts (table_name g u.lit.0))) no ∙ rank_there g t.luts u small_lits i
 
   wire_under : (c : CoverValue) → IsWire g flat.outputs t.outputs c → underscores c.output ≤ g.under

@@ -1,10 +1,6 @@
 -- Own names: they are clean, they are no port's names, and different numbers have different names.
-use Rattle.std.proofs.Common.{◌≡◌, ℕ, zero, suc, ◌+◌, ◌*◌, ◌/◌, ◌%◌, ◌^◌, ◌<◌, ◌≤◌, Bool, false, cond, eqb, ◌&&◌, IsTrue, List, ◌∷◌, ◌++◌, drop, replicate, get_or, sym, ap, ◌∙◌, arith, decimal}
-use Rattle.std.proofs.lemmas.List.{append_cancel_left}
+use Rattle.blif_write.proofs.Common.{◌≡◌, ℕ, zero, suc, ◌+◌, ◌*◌, ◌/◌, ◌%◌, ◌^◌, ◌<◌, ◌≤◌, Bool, false, cond, eqb, ◌&&◌, IsTrue, List, ◌∷◌, ◌++◌, drop, replicate, get_or, sym, ap, ◌∙◌, arith, decimal, append_cancel_left, underscores, Shape, is_regular, is_plain}
 use Rattle.std.proofs.lemmas.Fmt.{decimal_injective}
-use Rattle.netlist.specs.Flat.{underscores}
-use Rattle.lut_sim.specs.declared.shape.Shape.{Shape}
-use Rattle.lut_sim.specs.Sources.{is_regular, is_plain}
 use Rattle.blif_write.specs.OwnNames.{Naming, own_name, source_name, table_name, literal_name}
 
 -- how many underscores they begin with

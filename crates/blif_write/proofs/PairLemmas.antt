@@ -1,13 +1,5 @@
 -- The wires and the latches of two lists, front by front.
-use Rattle.std.proofs.Common.{◌≡◌, ℕ, suc, ◌+◌, ◌<◌, ◌≤◌, List, [], ◌∷◌, ◌++◌, length, map, take, get_or, Option, refl, sym, ap, ◌∙◌, arith, append_assoc, append-nil, length-take}
-use Rattle.std.specs.List.{flat_map}
-use Rattle.std.proofs.lemmas.List.{take_more, take_all, map-append}
-use Rattle.std.proofs.lemmas.List.Concat.{flat_map-append}
-use Rattle.netlist.specs.declared.flat.OutPort.{OutPort}
-use Rattle.netlist.specs.declared.flat.FlatLatch.{FlatLatch}
-use Rattle.netlist.specs.CoverValue.{CoverValue}
-use Rattle.netlist.specs.declared.latch.Latch.{Latch as LatchValue}
-use Rattle.aig_core.specs.declared.lit.Lit.{Lit}
+use Rattle.blif_write.proofs.Common.{◌≡◌, ℕ, suc, ◌+◌, ◌<◌, ◌≤◌, List, [], ◌∷◌, ◌++◌, length, map, take, get_or, Option, refl, sym, ap, ◌∙◌, arith, append_assoc, append-nil, length-take, flat_map, take_more, take_all, map-append, flat_map-append, OutPort, FlatLatch, CoverValue, LatchValue, Lit}
 use Rattle.blif_write.specs.OwnNames.{Naming, literal_name}
 use Rattle.blif_write.specs.PlainNetlist.{line_text, cover_lines, latch_line}
 use Rattle.blif_write.specs.Netlists.{wire, wires, written_latch, written_latches}

@@ -1,34 +1,12 @@
 -- The parts of a written netlist: what its commands are named, and the ranks of the names.
-use Rattle.std.proofs.Common.{◌≡◌, ◌⊎◌, ℕ, suc, ◌^◌, ◌<◌, Bool, true, false, not, cond, nat_le, List, [], ◌∷◌, length, map, bytes_eq, Option, Some, None, refl, sym, ap, subst, ◌∙◌, inl, inr}
-use Rattle.std.specs.List.{flat_map}
-use Rattle.std.proofs.lemmas.Option.{none-some, same_Some}
-use Rattle.std.proofs.lemmas.Slice.Eq.{bytes_eq-Decides}
-use Rattle.list_laws.specs.Members.{In}
-use Rattle.list_laws.proofs.Members.{In-left, In-right}
-use Rattle.tl_text.specs.Once.{AreOnce}
+use Rattle.blif_write.proofs.Common.{◌≡◌, ◌⊎◌, ℕ, suc, ◌^◌, ◌<◌, Bool, true, false, not, cond, nat_le, List, [], ◌∷◌, length, map, bytes_eq, Option, Some, None, refl, sym, ap, subst, ◌∙◌, inl, inr, flat_map, none-some, same_Some, bytes_eq-Decides, In, In-left, In-right, from_map, AreOnce, LatchValue, RowValue, CoverValue, IsWellFormedBody, FlatValue, underscores, Param, regular_names, param_names, has_name, Lut, once_filter, map-append, IsClean, Lit, lits_of, OutPort}
 use Rattle.netlist.specs.declared.command.Body.TheVariants.{Cover, Latch}
-use Rattle.netlist.specs.declared.latch.Latch.{Latch as LatchValue}
-use Rattle.netlist.specs.CoverValue.{RowValue, CoverValue}
-use Rattle.netlist.specs.WellFormed.{IsWellFormedBody}
-use Rattle.netlist.specs.FlatValue.{FlatValue}
-use Rattle.netlist.specs.Flat.{underscores}
-use Rattle.param_list.specs.declared.params.Param.{Param}
-use Rattle.param_list.specs.Parameters.{regular_names, param_names}
-use Rattle.netlist.specs.Models.{has_name}
-use Rattle.cover_pick.specs.declared.lut.Lut.{Lut}
 use Rattle.blif_write.specs.PlainNetlist.{read_latch}
 use Rattle.blif_write.specs.OwnNames.{Naming, table_name, literal_name, bit_name}
-use Rattle.blif_write.specs.Netlists.{wire_of, clock_of, control_names, wire, wires, written_latches, leaf_names}
+use Rattle.blif_write.specs.Netlists.{wire_of, control_names, wire, wires, leaf_names}
 use Rattle.blif_write.proofs.PlainSoundLemmas.{body_output}
 use Rattle.blif_write.proofs.OwnNameLemmas.{own_number}
-use Rattle.tl_text.proofs.NameSetLemmas.{once_filter}
 use Rattle.blif_write.proofs.DrivenLemmas.{table_names}
-use Rattle.std.proofs.lemmas.List.{map-append}
-use Rattle.tl_text.specs.Clean.{IsClean}
-use Rattle.aig_core.specs.declared.lit.Lit.{Lit}
-use Rattle.aig_core.specs.Roots.{lits_of}
-use Rattle.netlist.specs.declared.flat.OutPort.{OutPort}
-use Rattle.netlist.specs.declared.flat.FlatLatch.{FlatLatch}
 
 -- What is said of the covers of tables: each is by its on-set, under its own name, and reads its leaves and bits; and the names of the bits stand once.
 pub record AreCovers (g : Naming) (luts : List Lut) (bits : List (List (List ℕ))) (table : Lut → CoverValue) : Type 0 where
@@ -86,10 +64,6 @@ control_once (Some own) = (λ i. i, tt)
 pub regular_once : (flat : FlatValue) (params : List Param) → AreOnce flat.inputs → AreOnce (regular_names flat params)
 regular_once flat params h = once_filter (λ (name : List ℕ). not (has_name (param_names params) name)) flat.inputs h
 
-pub clock_given : (control : Option (List ℕ)) (clocked : Bool) (name : List ℕ) → clock_of control clocked ≡ Some name → control ≡ Some name
-clock_given control true name e = e
-clock_given control false name e = absurd (none-some name e)
-
 pub wire_formed : (root name : List ℕ) → IsWellFormedBody (Cover (wire_of root name))
 wire_formed root name row (inl e) = ap (λ (r : RowValue). length r.cells) e
 wire_formed root name row (inr i) = elim i [ ]
@@ -109,18 +83,8 @@ in_lits (k ∷ lits) lit (inl e) = inl (ap (λ (m : Lit). m.0) e)
 in_lits (k ∷ lits) lit (inr i) = inr (in_lits lits lit i)
 
 pub outputs_clean : (os : List OutPort) → ((o : OutPort) → In os o → IsClean o.name) → (name : List ℕ) → In (map (λ (o : OutPort). o.name) os) name → IsClean name
-outputs_clean [] h name i = elim i [ ]
-outputs_clean (o ∷ os) h name (inl e) = subst IsClean (sym e) (h o (inl refl))
-outputs_clean (o ∷ os) h name (inr i) = outputs_clean os (λ p j. h p (inr j)) name i
-
-pub latch_next : (g : Naming) (control : Option (List ℕ)) (ordinal : ℕ) (ls : List FlatLatch) (nexts : List Lit) (l : LatchValue) → In (written_latches g control ordinal ls nexts) l
-    → (lit : Lit) × In nexts lit × (l.input ≡ literal_name g lit.0) × ((name : List ℕ) → l.control ≡ Some name → control ≡ Some name)
-latch_next g control ordinal [] nexts l i = elim i [ ]
-latch_next g control ordinal (k ∷ ls) [] l i = elim i [ ]
-latch_next g control ordinal (k ∷ ls) (next ∷ nexts) l (inl e) = (next, inl refl, ap (λ (m : LatchValue). m.input) e, λ c f. clock_given control k.clocked c (sym (ap (λ (m : LatchValue). m.control) e) ∙ f))
-latch_next g control ordinal (k ∷ ls) (next ∷ nexts) l (inr i) =
-    let r : (lit : Lit) × In nexts lit × (l.input ≡ literal_name g lit.0) × ((name : List ℕ) → l.control ≡ Some name → control ≡ Some name) = latch_next g control (suc ordinal) ls nexts l i in
-    (r.0, inr r.1, r.2, r.3)
+outputs_clean os h name i =
+    let r : (o : OutPort) × In os o × (name ≡ o.name) = from_map (λ (o : OutPort). o.name) os name i in subst IsClean (sym r.2) (h r.0 r.1)
 
 pub later_wire : (g : Naming) (o : OutPort) (lit : Lit) (os : List OutPort) (lits : List Lit) (name : List ℕ) → In (map (λ (c : CoverValue). c.output) (wires g os lits)) name → In (map (λ (c : CoverValue). c.output) (wires g (o ∷ os) (lit ∷ lits))) name
 later_wire g o lit os lits name i =

@@ -1,22 +1,7 @@
 -- A clock cycle of a netlist without hierarchy, over the names of its one instance.
-use Rattle.std.proofs.Common.{◌≡◌, ℕ, zero, suc, ◌+◌, ◌<◌, Bool, true, false, cond, ◌||◌, IsTrue, List, [], ◌∷◌, ◌++◌, length, map, slice_get, slice_index_or, Option, Some, refl, sym, ap, subst, ◌∙◌, arith, append-nil}
-use Rattle.std.specs.Option.{option_and_then}
-use Rattle.std.proofs.lemmas.Bool.{eq-eqb, ne_eqb}
-use Rattle.std.proofs.lemmas.Option.{slice_get_within}
-use Rattle.list_laws.specs.Members.{In}
-use Rattle.list_laws.proofs.Members.{In-get}
-use Rattle.tl_text.proofs.NameSetLemmas.{in_has}
-use Rattle.netlist.specs.declared.command.Command.{Command}
-use Rattle.netlist.specs.declared.latch.Latch.{Latch as LatchValue}
-use Rattle.netlist.specs.CoverValue.{CoverValue, cover_value}
-use Rattle.netlist.specs.SubcktValue.{SubcktValue}
-use Rattle.netlist.specs.LibraryValue.{ModelValue, LibraryValue}
-use Rattle.netlist.specs.Models.{Path, body_at, subckts_of, has_name, is_input}
-use Rattle.netlist.specs.Instances.{CoverAt, LatchAt, IsMainInput}
-use Rattle.netlist.specs.Nets.{Net, input_net, latch_net, cover_net, Drives, main_input, latch_output, cover_output, from_inside, from_outside, IsClock, listed, controls}
-use Rattle.netlist.specs.Places.{Place, latch_at, latch_in, is_latch, own_places, FlatOrder, FlatUnder, flat, none, more}
+use Rattle.blif_write.proofs.Common.{◌≡◌, ℕ, zero, suc, ◌+◌, ◌<◌, Bool, true, false, cond, ◌||◌, IsTrue, List, [], ◌∷◌, ◌++◌, length, map, slice_get, slice_index_or, Option, Some, refl, sym, ap, subst, ◌∙◌, arith, append-nil, option_and_then, eq-eqb, ne_eqb, slice_get_within, In, In-get, in_has, Command, LatchValue, CoverValue, cover_value, SubcktValue, ModelValue, LibraryValue, Path, body_at, subckts_of, has_name, is_input, CoverAt, LatchAt, IsMainInput, input_net, Drives, main_input, latch_output, cover_output, from_inside, from_outside, IsClock, listed, controls, Place, latch_at, latch_in, is_latch, own_places, FlatOrder, FlatUnder, flat, HasOneCycle}
+use Rattle.netlist.specs.Places.{none, more}
 use Rattle.netlist.specs.Cycle.{Fits}
-use Rattle.netlist.specs.Law.{HasOneCycle}
 use Rattle.netlist.specs.Runs.{AreLatches, init_state, inits_of, state_of, next_state, next_states, IsCycle, HasACycle, HasARun}
 use Rattle.netlist.proofs.RunLemmas.{cycle_there, run_there}
 use Rattle.blif_write.specs.PlainNetlist.{PlainNetlist, all_inputs, read_control, read_latch, latch_commands, cover_commands, model_of, library_of}
@@ -88,16 +73,6 @@ state_there i (suc j) (suc count) (b ∷ s) h =
     ∙ ap (λ (k : ℕ). state_of (places_from (suc i) count) s [] k) e ∙ state_there (suc i) j count s (omega (arith, h))
 
 -- a main input, and a clock
-abbrev pub net_name : List ℕ → Net → List ℕ
-net_name d (input_net name) = name
-net_name d (latch_net path i) = d
-net_name d (cover_net path i) = d
-
-abbrev pub is_input_net : Net → Bool
-is_input_net (input_net name) = true
-is_input_net (latch_net path i) = false
-is_input_net (cover_net path i) = false
-
 pub input_is : (n : PlainNetlist) (name : List ℕ) → In (all_inputs n) name → IsTrue (is_input (model_of n) name)
 input_is n name i = ap (λ (t : Bool). t || has_name [] name) (in_has (all_inputs n) name i)
 
@@ -105,20 +80,24 @@ pub main_there : (n : PlainNetlist) (name : List ℕ) → In (all_inputs n) name
 main_there n name i = record { model = model_of n; at = refl; is = input_is n name i }
 
 pub driven_by_input : (n : PlainNetlist) (path : Path) (name net : List ℕ) → Drives (library_of n) path name (input_net net) → name ≡ net
-driven_by_input n path name net (main_input p m e) = sym (ap (net_name name) e)
-driven_by_input n path name net (latch_output i l at o e) = absurd (let t : true ≡ false = ap is_input_net e in let wrong : ⊥ = cc in wrong)
-driven_by_input n path name net (cover_output i c at o e) = absurd (let t : true ≡ false = ap is_input_net e in let wrong : ⊥ = cc in wrong)
+driven_by_input n path name net (main_input p m e) = let same : name ≡ net = cc in same
+driven_by_input n path name net (latch_output i l at o e) = absurd (let wrong : ⊥ = cc in wrong)
+driven_by_input n path name net (cover_output i c at o e) = absurd (let wrong : ⊥ = cc in wrong)
 driven_by_input n path name net (from_inside k pair at t o d) = absurd (no_connection n path k pair at)
 driven_by_input n path name net (from_outside k outer pair at t p o d) = absurd (no_connection n outer k pair at)
+
+-- the control of an instance's latch
+pub control_there : (n : PlainNetlist) (path : Path) (i : ℕ) (l : LatchValue) (control : List ℕ) → LatchAt (library_of n) path i l → l.control ≡ Some control → (path ≡ []) × IsControlName n control
+control_there n path i l control at e =
+    let t : (path ≡ []) × ((k : LatchValue) × (slice_get n.latches i ≡ Some k) × (l ≡ read_latch k)) = latch_there n path i l at in
+    (t.0, record { latch = t.1.0; in' = In-get n.latches i t.1.0 t.1.1; is = sym (ap (λ (m : LatchValue). m.control) t.1.2) ∙ e })
 
 pub clock_there : (n : PlainNetlist) (name : List ℕ) → IsClock (library_of n) name → IsControlName n name
 clock_there n name (listed m at has) = let top : m ≡ model_of n = (only_top n [] m at).1 in absurd (let t : false ≡ true = subst (λ (k : ModelValue). IsTrue (has_name k.clocks name)) top has in let wrong : ⊥ = cc in wrong)
 clock_there n name (controls path i l control at is d) =
-    let there : (path ≡ []) × ((k : LatchValue) × (slice_get n.latches i ≡ Some k) × (l ≡ read_latch k)) = latch_there n path i l at in
-    let k : LatchValue = there.1.0 in
-    record { latch = k; in' = In-get n.latches i k there.1.1; is = sym (ap (λ (m : LatchValue). m.control) there.1.2) ∙ is ∙ ap Some (driven_by_input n path control name d) }
+    subst (IsControlName n) (driven_by_input n path control name d) (control_there n path i l control at is).1
 
-length_places : (i count : ℕ) → length (places_from i count) ≡ count
+pub length_places : (i count : ℕ) → length (places_from i count) ≡ count
 length_places i zero = refl
 length_places i (suc count) = ap suc (length_places (suc i) count)
 

@@ -1,32 +1,14 @@
 -- A netlist without hierarchy has a flat circuit.
-use Rattle.std.proofs.Common.{◌≡◌, ◌⊎◌, ℕ, zero, suc, ◌+◌, ◌<◌, Bool, true, false, not, List, [], ◌∷◌, ◌++◌, length, map, filter, reverse, slice_get, bytes_eq, Option, Some, None, is_some, refl, sym, ap, subst, subst₂, ◌∙◌, inl, inr, arith, append-nil}
-use Rattle.std.specs.Option.{option_map, option_map_or}
-use Rattle.std.proofs.lemmas.List.{length-map, reverse-reverse}
-use Rattle.std.proofs.lemmas.Option.{none-some, same_Some, slice_get-map, slice_get_within}
-use Rattle.std.proofs.lemmas.Slice.Eq.{bytes_eq-Decides}
-use Rattle.depth_first.specs.DepthFirst.{PostsAll}
-use Rattle.list_laws.specs.Members.{In}
-use Rattle.list_laws.proofs.Members.{In-get, In-append, in_filter, place_in}
-use Rattle.list_laws.proofs.TwoLists.{get_right}
-use Rattle.netlist.specs.declared.command.Body.{Body}
-use Rattle.netlist.specs.declared.command.Body.TheVariants.{Cover, Latch, Subckt}
-use Rattle.netlist.specs.declared.command.Command.{Command}
-use Rattle.netlist.specs.declared.flat.FlatLatch.{FlatLatch}
+use Rattle.blif_write.proofs.Common.{◌≡◌, ◌⊎◌, ℕ, zero, suc, ◌+◌, ◌<◌, Bool, true, false, not, List, [], ◌∷◌, ◌++◌, length, map, filter, reverse, slice_get, bytes_eq, Option, Some, None, is_some, refl, sym, ap, subst, ◌∙◌, inl, inr, arith, append-nil, option_map, option_map_or, length-map, reverse-reverse, none-some, same_Some, slice_get-map, slice_get_within, bytes_eq-Decides, PostsAll, In, In-get, In-append, in_filter, place_in, get_right, Body, Subckt, Command, FlatLatch, OutPort, LatchValue, CoverValue, FlatValue, Places, IsNumbered, an_input, a_latch, a_cover, IsNetOf, AreNetsOf, no_nets, more_nets, TellsClocks, IsControl, some_latch, no_latch, with_control_net, cover_numbers, inputs_at, most_underscores, IsFlatCover, IsFlatLatch, IsFlat, CoverAt, LatchAt, Net, input_net, latch_net, cover_net, Drives, main_input, latch_output, cover_output, IsClock, controls, Place, FlatOrder, flat, is_cover, own_places}
+use Rattle.netlist.specs.declared.command.Body.TheVariants.{Cover, Latch}
 use Rattle.netlist.specs.declared.flat.Net.{Net as FlatNet}
 use Rattle.netlist.specs.declared.flat.Net.TheVariants as number
-use Rattle.netlist.specs.declared.flat.OutPort.{OutPort}
-use Rattle.netlist.specs.declared.latch.Latch.{Latch as LatchValue}
-use Rattle.netlist.specs.CoverValue.{CoverValue}
 use Rattle.netlist.specs.FlatCoverValue.{FlatCoverValue}
-use Rattle.netlist.specs.FlatValue.{FlatValue}
-use Rattle.netlist.specs.Flat.{Places, IsNumbered, an_input, a_latch, a_cover, IsNetOf, AreNetsOf, none as no_nets, more as more_nets, TellsClocks, IsControl, some_latch, no_latch, with_control_net, cover_numbers, inputs_at, most_underscores, IsFlatCover, IsFlatLatch, IsFlat}
-use Rattle.netlist.specs.Instances.{CoverAt, LatchAt}
-use Rattle.netlist.specs.Nets.{Net, input_net, latch_net, cover_net, Drives, main_input, latch_output, cover_output, IsClock, controls}
-use Rattle.netlist.specs.Places.{Place, FlatOrder, flat, none, is_cover, is_latch, own_places}
+use Rattle.netlist.specs.Places.{none}
 use Rattle.blif_write.specs.PlainNetlist.{PlainNetlist, all_inputs, read_control, read_latch, latch_commands, cover_commands, model_of, library_of}
-use Rattle.blif_write.proofs.PlainLemmas.{bodies_of, body_is, cover_or, no_subckts, latch_there, latch_at_top}
-use Rattle.blif_write.proofs.PlainCycleLemmas.{IsControlName, places_from, places_are_latches, main_there, clock_there}
-use Rattle.blif_write.proofs.PlainSoundLemmas.{body_output, command_outputs, IsOrderly, cover_body, mapped, no_subckt_body, cover_drives}
+use Rattle.blif_write.proofs.PlainLemmas.{bodies_of, body_is, no_subckts, cover_body, latch_there, latch_at_top}
+use Rattle.blif_write.proofs.PlainCycleLemmas.{IsControlName, places_from, places_are_latches, length_places, main_there, clock_there}
+use Rattle.blif_write.proofs.PlainSoundLemmas.{body_output, command_outputs, IsOrderly, mapped, no_subckt_body, cover_drives}
 use Rattle.blif_write.proofs.PostedLemmas.{all_posted}
 
 abbrev top_at : ℕ → Place
@@ -45,10 +27,6 @@ place_at : (i count k : ℕ) → k < count → slice_get (places_from i count) k
 place_at i zero k low = absurd (omega (arith, low))
 place_at i (suc count) zero low = let here : i ≡ i + 0 = omega arith in ap (λ (c : ℕ). Some (top_at c)) here
 place_at i (suc count) (suc k) low = let here : suc i + k ≡ i + suc k = omega arith in place_at (suc i) count k (omega (arith, low)) ∙ ap (λ (c : ℕ). Some (top_at c)) here
-
-place_count : (i count : ℕ) → length (places_from i count) ≡ count
-place_count i zero = refl
-place_count i (suc count) = ap suc (place_count (suc i) count)
 
 -- those of the covers
 after_latches : (i j line : ℕ) (ls : List LatchValue) (commands : List Command) → i + length ls ≡ j → own_places is_cover [] i (latch_commands line ls ++ commands) ≡ own_places is_cover [] j commands
@@ -70,13 +48,13 @@ places_are_covers n = flat [] (none (no_subckts n) refl) (sym (append-nil (own_p
 -- a cover among the commands stands behind all latches
 cover_got : (cs : List CoverValue) (k : ℕ) (c : CoverValue) → slice_get (map (λ (d : CoverValue). Cover d) cs) k ≡ Some (Cover c) → slice_get cs k ≡ Some c
 cover_got [] k c e = absurd (none-some (Cover c) e)
-cover_got (d ∷ cs) zero c e = ap (λ (b : Body). Some (cover_or c b)) (same_Some (Cover d) (Cover c) e)
+cover_got (d ∷ cs) zero c e = let same : d ≡ c = cc in ap Some same
 cover_got (d ∷ cs) (suc k) c e = cover_got cs k c e
 
 cover_behind : (ls : List LatchValue) (cs : List CoverValue) (k : ℕ) (c : CoverValue) → slice_get (map (λ (l : LatchValue). Latch (read_latch l)) ls ++ map (λ (d : CoverValue). Cover d) cs) k ≡ Some (Cover c)
     → (j : ℕ) × (k ≡ length ls + j) × (slice_get cs j ≡ Some c)
 cover_behind [] cs k c e = (k, omega arith, cover_got cs k c e)
-cover_behind (l ∷ ls) cs zero c e = absurd (let t : is_cover (Latch (read_latch l)) ≡ is_cover (Cover c) = ap is_cover (same_Some (Latch (read_latch l)) (Cover c) e) in let wrong : ⊥ = cc in wrong)
+cover_behind (l ∷ ls) cs zero c e = absurd (let wrong : ⊥ = cc in wrong)
 cover_behind (l ∷ ls) cs (suc k) c e =
     let rest : (j : ℕ) × (k ≡ length ls + j) × (slice_get cs j ≡ Some c) = cover_behind ls cs k c e in
     (rest.0, omega (arith, rest.1), rest.2)
@@ -91,30 +69,27 @@ cover_at n j c e =
 
 cover_of : (n : PlainNetlist) (j : ℕ) (c : CoverValue) → CoverAt (library_of n) [] (length n.latches + j) c → slice_get n.covers j ≡ Some c
 cover_of n j c at =
-    let behind : (k : ℕ) × (length n.latches + j ≡ length n.latches + k) × (slice_get n.covers k ≡ Some c) = cover_behind n.latches n.covers (length n.latches + j) c (cover_body n [] (length n.latches + j) c at) in
+    let behind : (k : ℕ) × (length n.latches + j ≡ length n.latches + k) × (slice_get n.covers k ≡ Some c) = cover_behind n.latches n.covers (length n.latches + j) c (cover_body n [] (length n.latches + j) c at).1 in
     let same : j ≡ behind.0 = omega (arith, behind.1) in
     ap (slice_get n.covers) same ∙ behind.2
 
--- items at numbers that follow one another
-each_from : {A : Type 0} (P : ℕ → A → Type 0) (i : ℕ) (first : A) (rest : List A) → P i first → ((k : ℕ) (x : A) → slice_get rest k ≡ Some x → P (suc i + k) x) → (k : ℕ) (x : A) → slice_get (first ∷ rest) k ≡ Some x → P (i + k) x
-each_from P i first rest p ps zero x e = let here : i ≡ i + 0 = omega arith in subst₂ P here (same_Some first x e) p
-each_from P i first rest p ps (suc k) x e = let here : suc i + k ≡ i + suc k = omega arith in subst (λ (c : ℕ). P c x) here (ps k x e)
+-- what is made for each item of a list
+first_made : {B : Type 0} (P : ℕ → B → Type 0) (first : B) (rest : List B) → P 0 first → ((k : ℕ) (b : B) → slice_get rest k ≡ Some b → P (suc k) b) → (k : ℕ) (b : B) → slice_get (first ∷ rest) k ≡ Some b → P k b
+first_made P first rest p ps zero b e = subst (P 0) (same_Some first b e) p
+first_made P first rest p ps (suc k) b e = ps k b e
+
+each_made : {A B : Type 0} (P : ℕ → B → Type 0) (xs : List A) → ((k : ℕ) (x : A) → slice_get xs k ≡ Some x → (b : B) × P k b) → (bs : List B) × (length bs ≡ length xs) × ((k : ℕ) (b : B) → slice_get bs k ≡ Some b → P k b)
+each_made P [] make = ([], refl, λ k b e. absurd (none-some b e))
+each_made {B = B} P (x ∷ xs) make =
+    let first : (b : B) × P 0 b = make 0 x refl in
+    let rest : (bs : List B) × (length bs ≡ length xs) × ((k : ℕ) (b : B) → slice_get bs k ≡ Some b → P (suc k) b) = each_made (λ k b. P (suc k) b) xs (λ k y e. make (suc k) y e) in
+    (first.0 ∷ rest.0, ap suc rest.1, first_made P first.0 rest.0 first.1 rest.2)
 
 -- the outputs with their nets
 abbrev ports_of : List (List ℕ) → List FlatNet → List OutPort
 ports_of [] nets = []
 ports_of (name ∷ names) [] = []
 ports_of (name ∷ names) (net ∷ nets) = record { name = name; net = net } ∷ ports_of names nets
-
-abbrev is_cover_number : FlatNet → Bool
-is_cover_number (number.Input j) = false
-is_cover_number (number.Latch j) = false
-is_cover_number (number.Cover j) = true
-
-abbrev number_place : FlatNet → ℕ
-number_place (number.Input j) = j
-number_place (number.Latch j) = j
-number_place (number.Cover j) = j
 
 not_clock : (n : PlainNetlist) (test : List ℕ → Bool) → TellsClocks (library_of n) test → (name : List ℕ) → (IsControlName n name → ⊥) → (b : Bool) → test name ≡ b → test name ≡ false
 not_clock n test tells name free true e = absurd (free (clock_there n name (tells.yes name e)))
@@ -178,44 +153,22 @@ module _ (n : PlainNetlist) (h : IsOrderly n) (test : List ℕ → Bool) (tells 
       (one.0 ∷ rest.0, more_nets name names one.0 rest.0 one.1 rest.1)
 
   -- the covers and the latches with these numbers
-  covers_from : (i : ℕ) (cs : List CoverValue) → ((k : ℕ) (c : CoverValue) → slice_get cs k ≡ Some c → slice_get n.covers (i + k) ≡ Some c)
-      → (fs : List FlatCoverValue) × (length fs ≡ length cs) × ((k : ℕ) (f : FlatCoverValue) → slice_get fs k ≡ Some f → IsFlatCover (library_of n) places (top_at (length n.latches + (i + k))) f)
-  covers_from i [] there = ([], refl, λ k f e. absurd (none-some f e))
-  covers_from i (c ∷ cs) there =
-      let same : i ≡ i + 0 = omega arith in
-      let first : slice_get n.covers i ≡ Some c = ap (slice_get n.covers) same ∙ there 0 c refl in
-      let reads : (nets : List FlatNet) × AreNetsOf (library_of n) places [] c.inputs nets = nets_of c.inputs (h.cover_inputs c (In-get n.covers i c first)) in
-      let rest : (fs : List FlatCoverValue) × (length fs ≡ length cs) × ((k : ℕ) (f : FlatCoverValue) → slice_get fs k ≡ Some f → IsFlatCover (library_of n) places (top_at (length n.latches + (suc i + k))) f) =
-      covers_from (suc i) cs (λ k d e. let next : suc i + k ≡ i + suc k = omega arith in ap (slice_get n.covers) next ∙ there (suc k) d e) in
-      let one : FlatCoverValue = record { model = 0; command = length n.latches + i; inputs = reads.0 } in (
-        one ∷ rest.0,
-        ap suc rest.1,
-        each_from (λ (m : ℕ) (f : FlatCoverValue). IsFlatCover (library_of n) places (top_at (length n.latches + m)) f) i one rest.0
-            (record { cover = c; is = cover_at n i c first; model = refl; command = refl; inputs = reads.1 }) rest.2,
-      )
+  covers_made : (fs : List FlatCoverValue) × (length fs ≡ length n.covers) × ((k : ℕ) (f : FlatCoverValue) → slice_get fs k ≡ Some f → IsFlatCover (library_of n) places (top_at (length n.latches + k)) f)
+  covers_made = each_made (λ k f. IsFlatCover (library_of n) places (top_at (length n.latches + k)) f) n.covers (λ k c e.
+      let reads : (nets : List FlatNet) × AreNetsOf (library_of n) places [] c.inputs nets = nets_of c.inputs (h.cover_inputs c (In-get n.covers k c e)) in
+      (record { model = 0; command = length n.latches + k; inputs = reads.0 }, record { cover = c; is = cover_at n k c e; model = refl; command = refl; inputs = reads.1 }))
 
-  latches_from : (i : ℕ) (ls : List LatchValue) → ((k : ℕ) (l : LatchValue) → slice_get ls k ≡ Some l → slice_get n.latches (i + k) ≡ Some l)
-      → (fs : List FlatLatch) × (length fs ≡ length ls) × ((k : ℕ) (f : FlatLatch) → slice_get fs k ≡ Some f → IsFlatLatch (library_of n) places (top_at (i + k)) f)
-  latches_from i [] there = ([], refl, λ k f e. absurd (none-some f e))
-  latches_from i (l ∷ ls) there =
-      let same : i ≡ i + 0 = omega arith in
-      let first : slice_get n.latches i ≡ Some l = ap (slice_get n.latches) same ∙ there 0 l refl in
-      let good : In driven l.input × (IsControlName n l.input → ⊥) = h.latch_inputs l (In-get n.latches i l first) in
+  latches_made : (fs : List FlatLatch) × (length fs ≡ length n.latches) × ((k : ℕ) (f : FlatLatch) → slice_get fs k ≡ Some f → IsFlatLatch (library_of n) places (top_at k) f)
+  latches_made = each_made (λ k f. IsFlatLatch (library_of n) places (top_at k) f) n.latches (λ k l e.
+      let good : In driven l.input × (IsControlName n l.input → ⊥) = h.latch_inputs l (In-get n.latches k l e) in
       let read : (net : FlatNet) × IsNetOf (library_of n) places [] l.input net = net_of l.input good.0 good.1 in
-      let rest : (fs : List FlatLatch) × (length fs ≡ length ls) × ((k : ℕ) (f : FlatLatch) → slice_get fs k ≡ Some f → IsFlatLatch (library_of n) places (top_at (suc i + k)) f) =
-      latches_from (suc i) ls (λ k m e. let next : suc i + k ≡ i + suc k = omega arith in ap (slice_get n.latches) next ∙ there (suc k) m e) in
-      let one : FlatLatch = record { input = read.0; init = l.init; clocked = is_some (read_control l.control) } in (
-        one ∷ rest.0,
-        ap suc rest.1,
-        each_from (λ (m : ℕ) (f : FlatLatch). IsFlatLatch (library_of n) places (top_at m) f) i one rest.0
-            (record { latch = read_latch l; is = latch_at_top n i l first; input = read.1; init = refl; clocked = refl }) rest.2,
-      )
+      (record { input = read.0; init = l.init; clocked = is_some (read_control l.control) }, record { latch = read_latch l; is = latch_at_top n k l e; input = read.1; init = refl; clocked = refl }))
 
   -- the cover of a number
   numbered_cover : (net : Net) (f : FlatNet) → IsNumbered places net f → (j : ℕ) → f ≡ number.Cover j → (p : Place) × (net ≡ cover_net p.path p.command) × (slice_get places.covers j ≡ Some p)
-  numbered_cover net f (an_input name k e s q) j is = absurd (let t : false ≡ true = ap is_cover_number (sym q ∙ is) in let wrong : ⊥ = cc in wrong)
-  numbered_cover net f (a_latch p k e s q) j is = absurd (let t : false ≡ true = ap is_cover_number (sym q ∙ is) in let wrong : ⊥ = cc in wrong)
-  numbered_cover net f (a_cover p k e s q) j is = let same : j ≡ k = ap number_place (sym is ∙ q) in (p, e, ap (slice_get places.covers) same ∙ s)
+  numbered_cover net f (an_input name k e s q) j is = absurd (let wrong : ⊥ = cc in wrong)
+  numbered_cover net f (a_latch p k e s q) j is = absurd (let wrong : ⊥ = cc in wrong)
+  numbered_cover net f (a_cover p k e s q) j is = let same : j ≡ k = cc in (p, e, ap (slice_get places.covers) same ∙ s)
 
   cover_read : (name : List ℕ) (j : ℕ) → IsNetOf (library_of n) places [] name (number.Cover j) → (d : CoverValue) × (slice_get n.covers j ≡ Some d) × (name ≡ d.output)
   cover_read name j is =
@@ -243,13 +196,12 @@ module _ (n : PlainNetlist) (h : IsOrderly n) (test : List ℕ → Bool) (tells 
   abbrev rank_at : ℕ → ℕ
   rank_at j = h.rank (option_map_or (λ (c : CoverValue). c.output) (slice_get n.covers j) [])
 
-  reads_fall : (fs : List FlatCoverValue) → ((k : ℕ) (f : FlatCoverValue) → slice_get fs k ≡ Some f → IsFlatCover (library_of n) places (top_at (length n.latches + (0 + k))) f)
+  reads_fall : (fs : List FlatCoverValue) → ((k : ℕ) (f : FlatCoverValue) → slice_get fs k ≡ Some f → IsFlatCover (library_of n) places (top_at (length n.latches + k)) f)
       → (k j : ℕ) (o : Option FlatCoverValue) → slice_get fs k ≡ o → In (cover_numbers (inputs_at o)) j → rank_at j < rank_at k
   reads_fall fs are k j None e i = elim i [ ]
   reads_fall fs are k j (Some f) e i =
-      let is : IsFlatCover (library_of n) places (top_at (length n.latches + (0 + k))) f = are k f e in
-      let here : 0 + k ≡ k = omega arith in
-      let upper : slice_get n.covers k ≡ Some is.cover = cover_of n k is.cover (subst (λ (m : ℕ). CoverAt (library_of n) [] (length n.latches + m) is.cover) here is.is) in
+      let is : IsFlatCover (library_of n) places (top_at (length n.latches + k)) f = are k f e in
+      let upper : slice_get n.covers k ≡ Some is.cover = cover_of n k is.cover is.is in
       let read : (name : List ℕ) × In is.cover.inputs name × IsNetOf (library_of n) places [] name (number.Cover j) = read_among is.cover.inputs f.inputs is.inputs j i in
       let lower : (d : CoverValue) × (slice_get n.covers j ≡ Some d) × (read.0 ≡ d.output) = cover_read read.0 j read.2 in
       let falls : h.rank lower.0.output < h.rank is.cover.output =
@@ -261,21 +213,17 @@ module _ (n : PlainNetlist) (h : IsOrderly n) (test : List ℕ → Bool) (tells 
   flat_with : (control : Option (List ℕ)) → IsControl (library_of n) control → (again : FlatValue) × IsFlat (library_of n) again
   flat_with control is_control =
       let outs : (nets : List FlatNet) × AreNetsOf (library_of n) places [] n.outputs nets = nets_of n.outputs h.outputs in
-      let cs : (fs : List FlatCoverValue) × (length fs ≡ length n.covers) × ((k : ℕ) (f : FlatCoverValue) → slice_get fs k ≡ Some f → IsFlatCover (library_of n) places (top_at (length n.latches + (0 + k))) f) =
-      covers_from 0 n.covers (λ k c e. let here : 0 + k ≡ k = omega arith in ap (slice_get n.covers) here ∙ e) in
-      let ls : (fs : List FlatLatch) × (length fs ≡ length n.latches) × ((k : ℕ) (f : FlatLatch) → slice_get fs k ≡ Some f → IsFlatLatch (library_of n) places (top_at (0 + k)) f) =
-      latches_from 0 n.latches (λ k l e. let here : 0 + k ≡ k = omega arith in ap (slice_get n.latches) here ∙ e) in
-      let next : ℕ → List ℕ = λ k. cover_numbers (inputs_at (slice_get cs.0 k)) in
-      let roots : List ℕ = cover_numbers (map (λ (o : OutPort). o.net) (ports_of n.outputs outs.0)) ++ cover_numbers (map (λ (l : FlatLatch). l.input) ls.0) in
-      let order : (result : List ℕ) × PostsAll next [] roots result = all_posted next rank_at (λ k j i. reads_fall cs.0 cs.2 k j (slice_get cs.0 k) refl i) roots in (
+      let next : ℕ → List ℕ = λ k. cover_numbers (inputs_at (slice_get covers_made.0 k)) in
+      let roots : List ℕ = cover_numbers (map (λ (o : OutPort). o.net) (ports_of n.outputs outs.0)) ++ cover_numbers (map (λ (l : FlatLatch). l.input) latches_made.0) in
+      let order : (result : List ℕ) × PostsAll next [] roots result = all_posted next rank_at (λ k j i. reads_fall covers_made.0 covers_made.2 k j (slice_get covers_made.0 k) refl i) roots in (
         record {
           model = n.name;
           inputs = places.inputs;
           clocks = with_control_net [] control;
           control = control;
           outputs = ports_of n.outputs outs.0;
-          covers = cs.0;
-          latches = ls.0;
+          covers = covers_made.0;
+          latches = latches_made.0;
           order = reverse order.0;
           under = most_underscores (all_inputs n ++ ([] ++ n.outputs));
         },
@@ -292,13 +240,14 @@ module _ (n : PlainNetlist) (h : IsOrderly n) (test : List ℕ → Bool) (tells 
           places = refl;
           covers_order = places_are_covers n;
           latches_order = (places_are_latches n).order;
-          cover_count = cs.1 ∙ sym (place_count (length n.latches) (length n.covers));
+          cover_count = covers_made.1 ∙ sym (length_places (length n.latches) (length n.covers));
           covers = λ k p c at e.
               let there : (k < length n.covers) × (p ≡ top_at (length n.latches + k)) = place_is (length n.latches) (length n.covers) k p at in
-              let here : 0 + k ≡ k = omega arith in
-              subst (λ (q : Place). IsFlatCover (library_of n) places q c) (ap (λ (m : ℕ). top_at (length n.latches + m)) here ∙ sym there.1) (cs.2 k c e);
-          latch_count = ls.1 ∙ sym (place_count 0 (length n.latches));
-          latches = λ k p l at e. subst (λ (q : Place). IsFlatLatch (library_of n) places q l) (sym (place_is 0 (length n.latches) k p at).1) (ls.2 k l e);
+              subst (λ (q : Place). IsFlatCover (library_of n) places q c) (sym there.1) (covers_made.2 k c e);
+          latch_count = latches_made.1 ∙ sym (length_places 0 (length n.latches));
+          latches = λ k p l at e.
+              let same : 0 + k ≡ k = omega arith in
+              subst (λ (q : Place). IsFlatLatch (library_of n) places q l) (sym ((place_is 0 (length n.latches) k p at).1 ∙ ap top_at same)) (latches_made.2 k l e);
           output_names = port_names n.outputs outs.0 outs.1;
           outputs = subst (AreNetsOf (library_of n) places [] n.outputs) (sym (port_nets n.outputs outs.0 outs.1)) outs.1;
           order = subst (PostsAll next [] roots) (sym (reverse-reverse order.0)) order.1;

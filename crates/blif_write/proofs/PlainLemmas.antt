@@ -1,22 +1,7 @@
 -- A netlist without hierarchy as a library: its one instance, with its latches and covers.
-use Rattle.std.proofs.Common.{◌≡◌, ◌⊎◌, ℕ, zero, suc, ◌+◌, List, [], ◌∷◌, ◌++◌, length, map, slice_get, Option, Some, None, refl, sym, ap, ◌∙◌, inl, inr}
-use Rattle.std.specs.Option.{option_map, option_and_then}
-use Rattle.std.proofs.lemmas.Option.{none-some, same_Some, slice_get-map}
-use Rattle.list_laws.specs.Members.{In}
-use Rattle.list_laws.proofs.Members.{In-get, In-map, place_in}
-use Rattle.list_laws.proofs.Places.{get_left}
-use Rattle.list_laws.proofs.TwoLists.{get_right}
-use Rattle.netlist.specs.declared.command.Body.{Body}
-use Rattle.netlist.specs.declared.command.Body.TheVariants.{Cover, Latch, Subckt}
-use Rattle.netlist.specs.declared.command.Command.{Command}
-use Rattle.netlist.specs.declared.latch.Latch.{Latch as LatchValue}
-use Rattle.netlist.specs.CoverValue.{CoverValue}
+use Rattle.blif_write.proofs.Common.{◌≡◌, ◌⊎◌, ℕ, zero, suc, ◌+◌, List, [], ◌∷◌, ◌++◌, length, map, slice_get, Option, Some, None, refl, sym, ap, ◌∙◌, inl, inr, option_map, option_and_then, none-some, same_Some, slice_get-map, In, In-get, In-map, place_in, get_left, get_right, Body, Command, LatchValue, CoverValue, SubcktValue, ModelValue, Path, body_at, subckts_of, model_named, placed, model_at, CoverAt, LatchAt, ConnectionAt}
+use Rattle.netlist.specs.declared.command.Body.TheVariants.{Cover, Latch}
 use Rattle.netlist.specs.declared.subckt.Pair.{Pair}
-use Rattle.netlist.specs.SubcktValue.{SubcktValue}
-use Rattle.netlist.specs.LibraryValue.{ModelValue}
-use Rattle.netlist.specs.Models.{Path, body_at, subckts_of, model_named, placed, model_at}
-use Rattle.netlist.specs.Places.{is_cover}
-use Rattle.netlist.specs.Instances.{CoverAt, LatchAt, ConnectionAt}
 use Rattle.blif_write.specs.PlainNetlist.{PlainNetlist, read_latch, latch_commands, cover_commands, model_of, library_of}
 
 -- no instance is placed
@@ -61,16 +46,6 @@ body_is n i =
     ∙ ap (λ (t : List Body). map (λ (l : LatchValue). Latch (read_latch l)) n.latches ++ t) (cover_bodies (3 + length n.inputs + length n.latches) n.covers))
 
 -- which covers and latches it has
-abbrev pub cover_or : CoverValue → Body → CoverValue
-cover_or d (Cover c) = c
-cover_or d (Latch l) = d
-cover_or d (Subckt s) = d
-
-abbrev latch_or : LatchValue → Body → LatchValue
-latch_or d (Cover c) = d
-latch_or d (Latch l) = l
-latch_or d (Subckt s) = d
-
 get_either : {A : Type 0} (xs ys : List A) (i : ℕ) (x : A) → slice_get (xs ++ ys) i ≡ Some x → (slice_get xs i ≡ Some x) ⊎ In ys x
 get_either [] ys i x e = inr (In-get ys i x e)
 get_either (y ∷ xs) ys zero x e = inl e
@@ -78,36 +53,46 @@ get_either (y ∷ xs) ys (suc i) x e = get_either xs ys i x e
 
 no_cover : (ls : List LatchValue) (i : ℕ) (c : CoverValue) → slice_get (map (λ (l : LatchValue). Latch (read_latch l)) ls) i ≡ Some (Cover c) → ⊥
 no_cover [] i c e = none-some (Cover c) e
-no_cover (l ∷ ls) zero c e = let t : is_cover (Latch (read_latch l)) ≡ is_cover (Cover c) = ap is_cover (same_Some (Latch (read_latch l)) (Cover c) e) in let wrong : ⊥ = cc in wrong
+no_cover (l ∷ ls) zero c e = let wrong : ⊥ = cc in wrong
 no_cover (l ∷ ls) (suc i) c e = no_cover ls i c e
 
 cover_in : (cs : List CoverValue) (c : CoverValue) → In (map (λ (d : CoverValue). Cover d) cs) (Cover c) → In cs c
 cover_in [] c i = elim i [ ]
-cover_in (d ∷ cs) c (inl e) = inl (ap (cover_or c) e)
+cover_in (d ∷ cs) c (inl e) = inl (let same : c ≡ d = cc in same)
 cover_in (d ∷ cs) c (inr i) = inr (cover_in cs c i)
 
 latch_in_covers : (cs : List CoverValue) (l : LatchValue) → In (map (λ (d : CoverValue). Cover d) cs) (Latch l) → ⊥
 latch_in_covers [] l i = elim i [ ]
-latch_in_covers (d ∷ cs) l (inl e) = let t : is_cover (Latch l) ≡ is_cover (Cover d) = ap is_cover e in let wrong : ⊥ = cc in wrong
+latch_in_covers (d ∷ cs) l (inl e) = let wrong : ⊥ = cc in wrong
 latch_in_covers (d ∷ cs) l (inr i) = latch_in_covers cs l i
 
 latch_got : (ls : List LatchValue) (i : ℕ) (l : LatchValue) → slice_get (map (λ (k : LatchValue). Latch (read_latch k)) ls) i ≡ Some (Latch l) → (k : LatchValue) × (slice_get ls i ≡ Some k) × (l ≡ read_latch k)
 latch_got [] i l e = absurd (none-some (Latch l) e)
-latch_got (k ∷ ls) zero l e = (k, refl, sym (ap (latch_or l) (same_Some (Latch (read_latch k)) (Latch l) e)))
+latch_got (k ∷ ls) zero l e = (k, refl, let same : l ≡ read_latch k = cc in same)
 latch_got (k ∷ ls) (suc i) l e = latch_got ls i l e
+
+-- a command of an instance is one of the top's
+body_there : (n : PlainNetlist) (path : Path) (i : ℕ) (m : ModelValue) (body : Body) → model_at (library_of n) path ≡ Some m → body_at m i ≡ Some body → (path ≡ []) × (slice_get (bodies_of n) i ≡ Some body)
+body_there n path i m body at is =
+    let top : (path ≡ []) × (m ≡ model_of n) = only_top n path m at in
+    (top.0, sym (body_is n i) ∙ ap (λ (o : ModelValue). body_at o i) (sym top.1) ∙ is)
+
+pub cover_body : (n : PlainNetlist) (path : Path) (i : ℕ) (c : CoverValue) → CoverAt (library_of n) path i c → (path ≡ []) × (slice_get (bodies_of n) i ≡ Some (Cover c))
+cover_body n path i c at = body_there n path i at.model (Cover c) at.at at.is
+
+pub latch_body : (n : PlainNetlist) (path : Path) (i : ℕ) (l : LatchValue) → LatchAt (library_of n) path i l → (path ≡ []) × (slice_get (bodies_of n) i ≡ Some (Latch l))
+latch_body n path i l at = body_there n path i at.model (Latch l) at.at at.is
 
 -- a cover of an instance is one of the netlist's
 pub cover_there : (n : PlainNetlist) (path : Path) (i : ℕ) (c : CoverValue) → CoverAt (library_of n) path i c → (path ≡ []) × In n.covers c
 cover_there n path i c at =
-    let top : (path ≡ []) × (at.model ≡ model_of n) = only_top n path at.model at.at in
-    let e : slice_get (bodies_of n) i ≡ Some (Cover c) = sym (body_is n i) ∙ ap (λ (m : ModelValue). body_at m i) (sym top.1) ∙ at.is in
-    (top.0, elim (get_either (map (λ (l : LatchValue). Latch (read_latch l)) n.latches) (map (λ (d : CoverValue). Cover d) n.covers) i (Cover c) e) [ inl f ↦ absurd (no_cover n.latches i c f) | inr j ↦ cover_in n.covers c j ])
+    let b : (path ≡ []) × (slice_get (bodies_of n) i ≡ Some (Cover c)) = cover_body n path i c at in
+    (b.0, elim (get_either (map (λ (l : LatchValue). Latch (read_latch l)) n.latches) (map (λ (d : CoverValue). Cover d) n.covers) i (Cover c) b.1) [ inl f ↦ absurd (no_cover n.latches i c f) | inr j ↦ cover_in n.covers c j ])
 
 pub latch_there : (n : PlainNetlist) (path : Path) (i : ℕ) (l : LatchValue) → LatchAt (library_of n) path i l → (path ≡ []) × ((k : LatchValue) × (slice_get n.latches i ≡ Some k) × (l ≡ read_latch k))
 latch_there n path i l at =
-    let top : (path ≡ []) × (at.model ≡ model_of n) = only_top n path at.model at.at in
-    let e : slice_get (bodies_of n) i ≡ Some (Latch l) = sym (body_is n i) ∙ ap (λ (m : ModelValue). body_at m i) (sym top.1) ∙ at.is in
-    (top.0, elim (get_either (map (λ (k : LatchValue). Latch (read_latch k)) n.latches) (map (λ (d : CoverValue). Cover d) n.covers) i (Latch l) e) [ inl f ↦ latch_got n.latches i l f | inr j ↦ absurd (latch_in_covers n.covers l j) ])
+    let b : (path ≡ []) × (slice_get (bodies_of n) i ≡ Some (Latch l)) = latch_body n path i l at in
+    (b.0, elim (get_either (map (λ (k : LatchValue). Latch (read_latch k)) n.latches) (map (λ (d : CoverValue). Cover d) n.covers) i (Latch l) b.1) [ inl f ↦ latch_got n.latches i l f | inr j ↦ absurd (latch_in_covers n.covers l j) ])
 
 -- and the other way round
 pub cover_at_top : (n : PlainNetlist) (c : CoverValue) → In n.covers c → (i : ℕ) × CoverAt (library_of n) [] i c

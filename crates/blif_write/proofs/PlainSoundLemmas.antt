@@ -1,30 +1,12 @@
 -- A netlist without hierarchy is sound where each name that is read has one driver, and its covers can be put in order.
-use Rattle.std.proofs.Common.{◌≡◌, ℕ, zero, suc, ◌<◌, Bool, true, false, not, ◌||◌, ◌&&◌, IsTrue, List, [], ◌∷◌, ◌++◌, length, map, slice_get, Some, refl, sym, ap, subst, ◌∙◌, inl, inr, arith}
-use Rattle.std.specs.Option.{option_map}
-use Rattle.std.proofs.lemmas.Option.{none-some, same_Some, slice_get-map}
-use Rattle.list_laws.specs.Members.{In}
-use Rattle.list_laws.proofs.Members.{In-get, In-append, In-left, In-right, place_in}
-use Rattle.tl_text.specs.Once.{AreOnce}
-use Rattle.tl_text.proofs.NameSetLemmas.{one_place, has_in}
-use Rattle.netlist.specs.declared.command.Body.{Body}
-use Rattle.netlist.specs.declared.command.Body.TheVariants.{Cover, Latch, Subckt}
-use Rattle.netlist.specs.declared.command.Command.{Command}
-use Rattle.netlist.specs.declared.latch.Latch.{Latch as LatchValue}
-use Rattle.netlist.specs.CoverValue.{CoverValue}
-use Rattle.netlist.specs.SubcktValue.{SubcktValue}
-use Rattle.netlist.specs.LibraryValue.{ModelValue}
-use Rattle.netlist.specs.WellFormed.{IsWellFormedBody, IsWellFormedModel, IsWellFormed}
-use Rattle.netlist.specs.Models.{Path, body_at, subckts_of, has_name, is_input, is_output}
-use Rattle.netlist.specs.Instances.{CoverAt, LatchAt}
-use Rattle.netlist.specs.Nets.{Net, input_net, latch_net, cover_net, Drives, main_input, latch_output, cover_output, from_inside, from_outside}
-use Rattle.netlist.specs.Places.{Place}
+use Rattle.blif_write.proofs.Common.{◌≡◌, ℕ, zero, suc, ◌<◌, Bool, true, false, not, ◌||◌, ◌&&◌, IsTrue, List, [], ◌∷◌, ◌++◌, length, map, slice_get, Some, refl, sym, ap, subst, ◌∙◌, inl, inr, arith, option_map, none-some, same_Some, slice_get-map, In, In-get, In-append, In-left, In-right, place_in, from_map, AreOnce, one_place, has_in, Body, Subckt, Command, LatchValue, CoverValue, SubcktValue, ModelValue, IsWellFormedBody, IsWellFormedModel, IsWellFormed, Path, subckts_of, has_name, is_input, is_output, CoverAt, cover_net, Drives, main_input, latch_output, cover_output, from_inside, from_outside, Place, IsData, cover_data, latch_data, IsSound, and_parts}
+use Rattle.netlist.specs.declared.command.Body.TheVariants.{Cover, Latch}
 use Rattle.netlist.specs.Loops.{ReadsCover, Depends, direct, through}
 use Rattle.netlist.specs.Drivers.{Driver, by_input, by_latch, by_cover, IsDriver, input, latch, cover, output, IsRead, cover_input, latch_input, latch_control, input_actual, model_output, Ends, ends, IsDriven}
-use Rattle.netlist.specs.Sound.{IsData, cover_data, latch_data, IsSound}
 use Rattle.blif_write.specs.PlainNetlist.{PlainNetlist, IsPlain, all_inputs, read_latch, model_of, library_of}
 use Rattle.blif_write.proofs.DenoteLemmas.{ports_once}
-use Rattle.blif_write.proofs.PlainLemmas.{bodies_of, body_is, cover_or, no_subckts, none_placed, only_top, cover_there, latch_there, no_connection}
-use Rattle.blif_write.proofs.PlainCycleLemmas.{IsControlName, input_is, main_there, driven_by_input, clock_there}
+use Rattle.blif_write.proofs.PlainLemmas.{bodies_of, body_is, no_subckts, none_placed, only_top, cover_body, latch_body, cover_there, latch_there, no_connection}
+use Rattle.blif_write.proofs.PlainCycleLemmas.{IsControlName, input_is, main_there, driven_by_input, control_there, clock_there}
 
 -- the name that a command drives
 abbrev pub body_output : Body → List ℕ
@@ -57,25 +39,19 @@ once_rest : (xs ys : List (List ℕ)) → AreOnce (xs ++ ys) → AreOnce ys
 once_rest [] ys h = h
 once_rest (x ∷ xs) ys h = once_rest xs ys h.1
 
--- the command of a cover or a latch
-pub cover_body : (n : PlainNetlist) (path : Path) (i : ℕ) (c : CoverValue) → CoverAt (library_of n) path i c → slice_get (bodies_of n) i ≡ Some (Cover c)
-cover_body n path i c at =
-    let top : (path ≡ []) × (at.model ≡ model_of n) = only_top n path at.model at.at in
-    sym (body_is n i) ∙ ap (λ (m : ModelValue). body_at m i) (sym top.1) ∙ at.is
+output_at : (n : PlainNetlist) (i : ℕ) (name : List ℕ) (body : Body) → slice_get (bodies_of n) i ≡ Some body → body_output body ≡ name → slice_get (command_outputs n) i ≡ Some name
+output_at n i name body e o = slice_get-map body_output (bodies_of n) i ∙ ap (option_map body_output) e ∙ ap Some o
 
-latch_body : (n : PlainNetlist) (path : Path) (i : ℕ) (l : LatchValue) → LatchAt (library_of n) path i l → slice_get (bodies_of n) i ≡ Some (Latch l)
-latch_body n path i l at =
-    let top : (path ≡ []) × (at.model ≡ model_of n) = only_top n path at.model at.at in
-    sym (body_is n i) ∙ ap (λ (m : ModelValue). body_at m i) (sym top.1) ∙ at.is
-
-output_at : (n : PlainNetlist) (i : ℕ) (body : Body) → slice_get (bodies_of n) i ≡ Some body → slice_get (command_outputs n) i ≡ Some (body_output body)
-output_at n i body e = slice_get-map body_output (bodies_of n) i ∙ ap (option_map body_output) e
+-- what drives the output of a command
+abbrev driver_of : ℕ → Body → Driver
+driver_of i (Cover c) = by_cover i
+driver_of i (Latch l) = by_latch i
+driver_of i (Subckt s) = by_input
 
 -- a name of the one instance is driven by an input or by a command
 data Drivers (n : PlainNetlist) (name : List ℕ) (driver : Driver) : Type 0 where
   an_input : In (all_inputs n) name → driver ≡ by_input → Drivers n name driver
-  a_latch : (i : ℕ) (l : LatchValue) → slice_get (bodies_of n) i ≡ Some (Latch l) → slice_get (command_outputs n) i ≡ Some name → driver ≡ by_latch i → Drivers n name driver
-  a_cover : (i : ℕ) (c : CoverValue) → slice_get (bodies_of n) i ≡ Some (Cover c) → slice_get (command_outputs n) i ≡ Some name → driver ≡ by_cover i → Drivers n name driver
+  a_command : (i : ℕ) (body : Body) → slice_get (bodies_of n) i ≡ Some body → body_output body ≡ name → driver ≡ driver_of i body → Drivers n name driver
 
 or_false : (b : Bool) → (b || false) ≡ true → b ≡ true
 or_false true h = refl
@@ -86,55 +62,32 @@ mapped [] i name e = absurd (none-some name e)
 mapped (body ∷ bodies) zero name e = (body, refl, same_Some (body_output body) name e)
 mapped (body ∷ bodies) (suc i) name e = mapped bodies i name e
 
-abbrev is_latch_body : Body → Bool
-is_latch_body (Cover c) = false
-is_latch_body (Latch l) = true
-is_latch_body (Subckt s) = false
-
-abbrev is_subckt_body : Body → Bool
-is_subckt_body (Cover c) = false
-is_subckt_body (Latch l) = false
-is_subckt_body (Subckt s) = true
-
-latch_no_cover : (n : PlainNetlist) (i j : ℕ) (l : LatchValue) (c : CoverValue) → slice_get (bodies_of n) i ≡ Some (Latch l) → slice_get (bodies_of n) j ≡ Some (Cover c) → i ≡ j → ⊥
-latch_no_cover n i j l c e f same =
-    let g : Some (Latch l) ≡ Some (Cover c) = sym e ∙ ap (slice_get (bodies_of n)) same ∙ f in
-    let t : true ≡ false = ap is_latch_body (same_Some (Latch l) (Cover c) g) in let wrong : ⊥ = cc in wrong
-
 no_subckt_cover : (cs : List CoverValue) (i : ℕ) (s : SubcktValue) → slice_get (map (λ (c : CoverValue). Cover c) cs) i ≡ Some (Subckt s) → ⊥
 no_subckt_cover [] i s e = none-some (Subckt s) e
-no_subckt_cover (c ∷ cs) zero s e = let t : false ≡ true = ap is_subckt_body (same_Some (Cover c) (Subckt s) e) in let wrong : ⊥ = cc in wrong
+no_subckt_cover (c ∷ cs) zero s e = let wrong : ⊥ = cc in wrong
 no_subckt_cover (c ∷ cs) (suc i) s e = no_subckt_cover cs i s e
 
 pub no_subckt_body : (ls : List LatchValue) (cs : List CoverValue) (i : ℕ) (s : SubcktValue) → slice_get (map (λ (l : LatchValue). Latch (read_latch l)) ls ++ map (λ (c : CoverValue). Cover c) cs) i ≡ Some (Subckt s) → ⊥
 no_subckt_body [] cs i s e = no_subckt_cover cs i s e
-no_subckt_body (l ∷ ls) cs zero s e = let t : false ≡ true = ap is_subckt_body (same_Some (Latch (read_latch l)) (Subckt s) e) in let wrong : ⊥ = cc in wrong
+no_subckt_body (l ∷ ls) cs zero s e = let wrong : ⊥ = cc in wrong
 no_subckt_body (l ∷ ls) cs (suc i) s e = no_subckt_body ls cs i s e
 
 driver_there : (n : PlainNetlist) (path : Path) (name : List ℕ) (driver : Driver) → IsDriver (library_of n) path name driver → Drivers n name driver
 driver_there n path name driver (input at t e) =
     let top : at.model ≡ model_of n = (only_top n path at.model at.at).1 in
     an_input (has_in (all_inputs n) name (or_false (has_name (all_inputs n) name) (subst (λ (m : ModelValue). IsTrue (is_input m name)) top t))) e
-driver_there n path name driver (latch i l at o e) =
-    let b : slice_get (bodies_of n) i ≡ Some (Latch l) = latch_body n path i l at in a_latch i l b (output_at n i (Latch l) b ∙ ap Some (sym o)) e
-driver_there n path name driver (cover i c at o e) =
-    let b : slice_get (bodies_of n) i ≡ Some (Cover c) = cover_body n path i c at in a_cover i c b (output_at n i (Cover c) b ∙ ap Some (sym o)) e
+driver_there n path name driver (latch i l at o e) = a_command i (Latch l) (latch_body n path i l at).1 (sym o) e
+driver_there n path name driver (cover i c at o e) = a_command i (Cover c) (cover_body n path i c at).1 (sym o) e
 driver_there n path name driver (output k pair at t o e) = absurd (no_connection n path k pair at)
 
 one_driver : (n : PlainNetlist) → IsOrderly n → (name : List ℕ) (driver other : Driver) → Drivers n name driver → Drivers n name other → driver ≡ other
 one_driver n h name driver other (an_input i e) (an_input j f) = e ∙ sym f
-one_driver n h name driver other (an_input i e) (a_latch j l b g f) = absurd (once_left (all_inputs n) (command_outputs n) name h.once i (In-get (command_outputs n) j name g))
-one_driver n h name driver other (an_input i e) (a_cover j c b g f) = absurd (once_left (all_inputs n) (command_outputs n) name h.once i (In-get (command_outputs n) j name g))
-one_driver n h name driver other (a_latch j l b g f) (an_input i e) = absurd (once_left (all_inputs n) (command_outputs n) name h.once i (In-get (command_outputs n) j name g))
-one_driver n h name driver other (a_cover j c b g f) (an_input i e) = absurd (once_left (all_inputs n) (command_outputs n) name h.once i (In-get (command_outputs n) j name g))
-one_driver n h name driver other (a_latch i l b g f) (a_latch j m d k e) =
-    f ∙ ap by_latch (one_place (command_outputs n) i j name (once_rest (all_inputs n) (command_outputs n) h.once) g k) ∙ sym e
-one_driver n h name driver other (a_cover i c b g f) (a_cover j d a k e) =
-    f ∙ ap by_cover (one_place (command_outputs n) i j name (once_rest (all_inputs n) (command_outputs n) h.once) g k) ∙ sym e
-one_driver n h name driver other (a_latch i l b g f) (a_cover j d a k e) =
-    absurd (latch_no_cover n i j l d b a (one_place (command_outputs n) i j name (once_rest (all_inputs n) (command_outputs n) h.once) g k))
-one_driver n h name driver other (a_cover j d a k e) (a_latch i l b g f) =
-    absurd (latch_no_cover n i j l d b a (one_place (command_outputs n) i j name (once_rest (all_inputs n) (command_outputs n) h.once) g k))
+one_driver n h name driver other (an_input i e) (a_command j b at o f) = absurd (once_left (all_inputs n) (command_outputs n) name h.once i (In-get (command_outputs n) j name (output_at n j name b at o)))
+one_driver n h name driver other (a_command j b at o f) (an_input i e) = absurd (once_left (all_inputs n) (command_outputs n) name h.once i (In-get (command_outputs n) j name (output_at n j name b at o)))
+one_driver n h name driver other (a_command i b at o f) (a_command j d there p e) =
+    let same : i ≡ j = one_place (command_outputs n) i j name (once_rest (all_inputs n) (command_outputs n) h.once) (output_at n i name b at o) (output_at n j name d there p) in
+    let body : b ≡ d = same_Some b d (sym at ∙ ap (slice_get (bodies_of n)) same ∙ there) in
+    f ∙ ap (driver_of i) body ∙ ap (λ (k : ℕ). driver_of k d) same ∙ sym e
 
 -- what is driven has a driver
 body_driver : (n : PlainNetlist) (i : ℕ) (name : List ℕ) (body : Body) → slice_get (bodies_of n) i ≡ Some body → body_output body ≡ name → (driver : Driver) × IsDriver (library_of n) [] name driver
@@ -151,27 +104,12 @@ has_driver n name i = elim (In-append (all_inputs n) (command_outputs n) name i)
 ]
 
 -- no cover depends on itself
-abbrev is_cover_net : Net → Bool
-is_cover_net (input_net name) = false
-is_cover_net (latch_net path i) = false
-is_cover_net (cover_net path i) = true
-
-abbrev net_path : Path → Net → Path
-net_path d (input_net name) = d
-net_path d (latch_net path i) = path
-net_path d (cover_net path i) = path
-
-abbrev net_command : ℕ → Net → ℕ
-net_command d (input_net name) = d
-net_command d (latch_net path i) = i
-net_command d (cover_net path i) = i
-
 pub cover_drives : (n : PlainNetlist) (path : Path) (name : List ℕ) (q : Path) (i : ℕ) → Drives (library_of n) path name (cover_net q i) → (d : CoverValue) × CoverAt (library_of n) q i d × (name ≡ d.output)
-cover_drives n path name q i (main_input p m e) = absurd (let t : is_cover_net (cover_net q i) ≡ is_cover_net (input_net name) = ap is_cover_net e in let wrong : ⊥ = cc in wrong)
-cover_drives n path name q i (latch_output j l at o e) = absurd (let t : is_cover_net (cover_net q i) ≡ is_cover_net (latch_net path j) = ap is_cover_net e in let wrong : ⊥ = cc in wrong)
+cover_drives n path name q i (main_input p m e) = absurd (let wrong : ⊥ = cc in wrong)
+cover_drives n path name q i (latch_output j l at o e) = absurd (let wrong : ⊥ = cc in wrong)
 cover_drives n path name q i (cover_output j c at o e) =
-    let p : q ≡ path = ap (net_path q) e in
-    let k : i ≡ j = ap (net_command i) e in
+    let p : q ≡ path = cc in
+    let k : i ≡ j = cc in
     (c, subst (λ (r : Path). CoverAt (library_of n) r i c) (sym p) (subst (λ (m : ℕ). CoverAt (library_of n) path m c) (sym k) at), o)
 cover_drives n path name q i (from_inside k pair at t o d) = absurd (no_connection n path k pair at)
 cover_drives n path name q i (from_outside k outer pair at t p o d) = absurd (no_connection n outer k pair at)
@@ -185,7 +123,7 @@ record Falls (n : PlainNetlist) (h : IsOrderly n) (p q : Place) : Type 0 where
   falls : h.rank lower.output < h.rank upper.output
 
 same_cover : (n : PlainNetlist) (path : Path) (i : ℕ) (c d : CoverValue) → CoverAt (library_of n) path i c → CoverAt (library_of n) path i d → c ≡ d
-same_cover n path i c d a b = ap (cover_or c) (same_Some (Cover c) (Cover d) (sym (cover_body n path i c a) ∙ cover_body n path i d b))
+same_cover n path i c d a b = let e : Some (Cover c) ≡ Some (Cover d) = sym (cover_body n path i c a).1 ∙ (cover_body n path i d b).1 in let same : c ≡ d = cc in same
 
 read_falls : (n : PlainNetlist) (h : IsOrderly n) (p q : Place) → ReadsCover (library_of n) p q → Falls n h p q
 read_falls n h p q r =
@@ -214,20 +152,10 @@ no_loop n h p d =
     omega (arith, f.falls, same)
 
 -- well formed
-latch_formed : (ls : List LatchValue) (body : Body) → In (map (λ (l : LatchValue). Latch (read_latch l)) ls) body → IsWellFormedBody body
-latch_formed [] body i = elim i [ ]
-latch_formed (l ∷ ls) body (inl e) = subst IsWellFormedBody (sym e) tt
-latch_formed (l ∷ ls) body (inr i) = latch_formed ls body i
-
-cover_formed : (cs : List CoverValue) → ((c : CoverValue) → In cs c → IsWellFormedBody (Cover c)) → (body : Body) → In (map (λ (c : CoverValue). Cover c) cs) body → IsWellFormedBody body
-cover_formed [] h body i = elim i [ ]
-cover_formed (c ∷ cs) h body (inl e) = subst IsWellFormedBody (sym e) (h c (inl refl))
-cover_formed (c ∷ cs) h body (inr i) = cover_formed cs (λ d j. h d (inr j)) body i
-
 body_formed : (n : PlainNetlist) → IsPlain n → (body : Body) → In (bodies_of n) body → IsWellFormedBody body
 body_formed n h body i = elim (In-append (map (λ (l : LatchValue). Latch (read_latch l)) n.latches) (map (λ (c : CoverValue). Cover c) n.covers) body i) [
-  | inl j ↦ latch_formed n.latches body j
-  | inr j ↦ cover_formed n.covers h.cells body j
+  | inl j ↦ let r : (l : LatchValue) × In n.latches l × (body ≡ Latch (read_latch l)) = from_map (λ (l : LatchValue). Latch (read_latch l)) n.latches body j in subst IsWellFormedBody (sym r.2) tt
+  | inr j ↦ let r : (c : CoverValue) × In n.covers c × (body ≡ Cover c) = from_map (λ (c : CoverValue). Cover c) n.covers body j in subst IsWellFormedBody (sym r.2) (h.cells r.0 r.1)
 ]
 
 command_formed : (n : PlainNetlist) → IsPlain n → (command : Command) → In (model_of n).commands command → IsWellFormedBody command.body
@@ -243,10 +171,6 @@ plain_formed n h = record {
 }
 
 -- drivers
-and_right : (a b : Bool) → (a && b) ≡ true → b ≡ true
-and_right true b h = h
-and_right false b h = absurd (let wrong : ⊥ = cc in wrong)
-
 no_child : (k : ℕ) (path : Path) → k ∷ path ≡ [] → ⊥
 no_child k path e = let l : length (k ∷ path) ≡ length {A = ℕ} [] = ap length e in omega (arith, l)
 
@@ -256,13 +180,12 @@ read_there n h path name (latch_input i l at e) =
     let t : (path ≡ []) × ((k : LatchValue) × (slice_get n.latches i ≡ Some k) × (l ≡ read_latch k)) = latch_there n path i l at in
     (t.0, subst (In (all_inputs n ++ command_outputs n)) (sym (e ∙ ap (λ (m : LatchValue). m.input) t.1.2)) (h.latch_inputs t.1.0 (In-get n.latches i t.1.0 t.1.1)).0)
 read_there n h path name (latch_control i l at e) =
-    let t : (path ≡ []) × ((k : LatchValue) × (slice_get n.latches i ≡ Some k) × (l ≡ read_latch k)) = latch_there n path i l at in
-    let control : IsControlName n name = record { latch = t.1.0; in' = In-get n.latches i t.1.0 t.1.1; is = sym (ap (λ (m : LatchValue). m.control) t.1.2) ∙ e } in
-    (t.0, In-left (all_inputs n) (command_outputs n) name (h.controls name control))
+    let t : (path ≡ []) × IsControlName n name = control_there n path i l name at e in
+    (t.0, In-left (all_inputs n) (command_outputs n) name (h.controls name t.1))
 read_there n h path name (input_actual k pair at t e) = absurd (no_connection n path k pair at)
 read_there n h path name (model_output m at o) =
     let top : (path ≡ []) × (m ≡ model_of n) = only_top n path m at in
-    (top.0, (h.outputs name (has_in n.outputs name (and_right (not (is_input (model_of n) name)) (has_name n.outputs name) (subst (λ (k : ModelValue). IsTrue (is_output k name)) top.1 o)))).0)
+    (top.0, (h.outputs name (has_in n.outputs name (and_parts (not (is_input (model_of n) name)) (has_name n.outputs name) (subst (λ (k : ModelValue). IsTrue (is_output k name)) top.1 o)).1)).0)
 
 plain_driven : (n : PlainNetlist) → IsOrderly n → IsDriven (library_of n)
 plain_driven n h = record {
@@ -282,11 +205,6 @@ data_free n h path name (cover_data i c at j) = (h.cover_inputs c (cover_there n
 data_free n h path name (latch_data i l at e) =
     let t : (path ≡ []) × ((k : LatchValue) × (slice_get n.latches i ≡ Some k) × (l ≡ read_latch k)) = latch_there n path i l at in
     subst (λ (m : List ℕ). IsControlName n m → ⊥) (sym (e ∙ ap (λ (m : LatchValue). m.input) t.1.2)) (h.latch_inputs t.1.0 (In-get n.latches i t.1.0 t.1.1)).1
-
-control_there : (n : PlainNetlist) (path : Path) (i : ℕ) (l : LatchValue) (control : List ℕ) → LatchAt (library_of n) path i l → l.control ≡ Some control → (path ≡ []) × IsControlName n control
-control_there n path i l control at e =
-    let t : (path ≡ []) × ((k : LatchValue) × (slice_get n.latches i ≡ Some k) × (l ≡ read_latch k)) = latch_there n path i l at in
-    (t.0, record { latch = t.1.0; in' = In-get n.latches i t.1.0 t.1.1; is = sym (ap (λ (m : LatchValue). m.control) t.1.2) ∙ e })
 
 pub plain_sound : (n : PlainNetlist) → IsOrderly n → IsSound (library_of n)
 plain_sound n h = record {

@@ -1,29 +1,9 @@
 -- The flat circuit of a sound library has ports as they are written.
-use Rattle.std.proofs.Common.{◌≡◌, ◌⊎◌, ℕ, ◌<◌, ◌≤◌, Bool, true, false, not, ◌||◌, List, [], ◌∷◌, ◌++◌, length, slice_get, Option, Some, is_some, refl, sym, ap, subst, ◌∙◌, inl, inr, arith}
-use Rattle.std.proofs.lemmas.Option.{none-some, same_Some, slice_get_within}
-use Rattle.list_laws.specs.Members.{In}
-use Rattle.list_laws.proofs.Places.{at_within}
-use Rattle.list_laws.proofs.Members.{place_in, In-get, In-left, In-right, In-map, In-filter}
-use Rattle.tl_text.specs.Clean.{IsClean}
-use Rattle.tl_text.specs.Once.{AreOnce}
-use Rattle.netlist.specs.LibraryValue.{ModelValue, LibraryValue, input_ports, output_ports, clock_ports}
-use Rattle.netlist.specs.HasCleanNames.{HasCleanNames}
-use Rattle.netlist.specs.declared.latch.Latch.{Latch as LatchValue}
+use Rattle.blif_write.proofs.Common.{◌≡◌, ◌⊎◌, ℕ, ◌<◌, ◌≤◌, true, false, not, ◌||◌, List, [], ◌∷◌, ◌++◌, length, slice_get, Option, Some, is_some, refl, sym, ap, subst, ◌∙◌, inl, inr, arith, none-some, same_Some, slice_get_within, In, at_within, place_in, In-get, In-left, In-right, In-map, In-filter, IsClean, AreOnce, ModelValue, LibraryValue, input_ports, output_ports, clock_ports, HasCleanNames, LatchValue, FlatLatch, OutPort, FlatValue, underscores, most_underscores, IsControl, some_latch, no_latch, IsFlatLatch, IsFlat, is_latch, Path, has_name, IsMainInput, Net, input_net, Drives, main_input, latch_output, cover_output, from_inside, from_outside, IsClock, controls, IsSound, once_filter, has_in, or_cases, not-true}
 use Rattle.netlist.specs.declared.command.Body.TheVariants.{Latch}
-use Rattle.netlist.specs.declared.flat.FlatLatch.{FlatLatch}
-use Rattle.netlist.specs.declared.flat.OutPort.{OutPort}
-use Rattle.netlist.specs.FlatValue.{FlatValue}
-use Rattle.netlist.specs.Flat.{underscores, most_underscores, IsControl, some_latch, no_latch, IsFlatLatch, IsFlat}
-use Rattle.netlist.specs.Places.{is_latch}
-use Rattle.netlist.specs.Models.{Path, has_name}
-use Rattle.netlist.specs.Instances.{IsMainInput}
-use Rattle.netlist.specs.Nets.{Net, input_net, Drives, main_input, latch_output, cover_output, from_inside, from_outside, IsClock, controls}
-use Rattle.netlist.specs.Sound.{IsSound}
 use Rattle.netlist.proofs.OrderLemmas.{flat_all}
 use Rattle.netlist.proofs.PlaceLemmas.{place_of, one_latch}
 use Rattle.blif_write.specs.Meaning.{IsPortName, HasPorts}
-use Rattle.blif_write.proofs.PlainCycleLemmas.{net_name, is_input_net}
-use Rattle.tl_text.proofs.NameSetLemmas.{once_filter, has_in}
 
 few_underscores : (names : List (List ℕ)) (name : List ℕ) → In names name → underscores name ≤ most_underscores names
 few_underscores [] name i = elim i [ ]
@@ -32,19 +12,11 @@ few_underscores (other ∷ names) name (inr i) = let l : underscores name ≤ mo
 
 -- a net that an input drives is named by a main input
 main_net : (library : LibraryValue) (path : Path) (own name : List ℕ) (net : Net) → net ≡ input_net name → Drives library path own net → IsMainInput library name
-main_net library path own name net e (main_input p m f) = subst (IsMainInput library) (ap (net_name own) (sym f ∙ e)) m
-main_net library path own name net e (latch_output i l at o f) = absurd (let t : false ≡ true = ap is_input_net (sym f ∙ e) in let wrong : ⊥ = cc in wrong)
-main_net library path own name net e (cover_output i c at o f) = absurd (let t : false ≡ true = ap is_input_net (sym f ∙ e) in let wrong : ⊥ = cc in wrong)
+main_net library path own name net e (main_input p m f) = let same : own ≡ name = cc in subst (IsMainInput library) same m
+main_net library path own name net e (latch_output i l at o f) = absurd (let wrong : ⊥ = cc in wrong)
+main_net library path own name net e (cover_output i c at o f) = absurd (let wrong : ⊥ = cc in wrong)
 main_net library path own name net e (from_inside k pair at t o d) = main_net library _ _ name net e d
 main_net library path own name net e (from_outside k outer pair at t p o d) = main_net library _ _ name net e d
-
-by_either : (a b : Bool) → (a || b) ≡ true → (a ≡ true) ⊎ (b ≡ true)
-by_either true b h = inl refl
-by_either false b h = inr h
-
-not_false : (b : Bool) → not b ≡ true → b ≡ false
-not_false true h = absurd (let wrong : ⊥ = cc in wrong)
-not_false false h = refl
 
 module _ (library : LibraryValue) (flat : FlatValue) (sound : IsSound library) (clean : HasCleanNames library) (fields : IsFlat library flat) where
   abbrev main : ModelValue
@@ -63,7 +35,7 @@ module _ (library : LibraryValue) (flat : FlatValue) (sound : IsSound library) (
   input_in : (name : List ℕ) → In flat.inputs name → In main.inputs name × (fields.test name ≡ false)
   input_in name i =
       let r : In main.inputs name × (not (fields.test name) ≡ true) = In-filter (λ (other : List ℕ). not (fields.test other)) main.inputs name (subst (λ (k : List (List ℕ)). In k name) fields.inputs i) in
-      (r.0, not_false (fields.test name) r.1)
+      (r.0, not-true (fields.test name) r.1)
 
   output_in : (o : OutPort) → In flat.outputs o → In main.outputs o.name
   output_in o i = subst (λ (k : List (List ℕ)). In k o.name) fields.output_names (In-map (λ (p : OutPort). p.name) flat.outputs o i)
@@ -79,7 +51,7 @@ module _ (library : LibraryValue) (flat : FlatValue) (sound : IsSound library) (
   control_port name e =
       let m : IsMainInput library name = (control_by flat.control name fields.control e).0 in
       let same : m.model ≡ main = same_Some m.model main (sym m.at ∙ fields.is_main) in
-      elim (by_either (has_name m.model.inputs name) (has_name m.model.clocks name) m.is) [
+      elim (or_cases (has_name m.model.inputs name) (has_name m.model.clocks name) m.is) [
         | inl h ↦ port name (inl (subst (λ (k : ModelValue). In k.inputs name) same (has_in m.model.inputs name h)))
         | inr h ↦ port name (inr (inl (subst (λ (k : ModelValue). In k.clocks name) same (has_in m.model.clocks name h))))
       ]

@@ -1,8 +1,5 @@
 -- Nodes of which each leads to nodes of lower ranks alone have a postorder.
-use Rattle.std.proofs.Common.{◌≡◌, ℕ, zero, suc, ◌+◌, ◌<◌, ◌≤◌, List, [], ◌∷◌, refl, ap, inl, inr, arith}
-use Rattle.depth_first.specs.DepthFirst.{Posts, PostsAll, skips, posts}
-use Rattle.list_laws.specs.Members.{In}
-use Rattle.list_laws.proofs.Members.{in_or}
+use Rattle.blif_write.proofs.Common.{◌≡◌, ℕ, zero, suc, ◌+◌, ◌<◌, ◌≤◌, List, [], ◌∷◌, refl, ap, inl, inr, arith, Posts, PostsAll, skips, posts, In, in_or}
 
 module _ (next : ℕ → List ℕ) (rank : ℕ → ℕ) (falls : (n m : ℕ) → In (next n) m → rank m < rank n) where
   -- several nodes in turn, where there is one of each alone

@@ -1,16 +1,5 @@
 -- The bytes of a LUT's rows, as its loops add them.
-use Rattle.std.proofs.Common.{◌≡◌, ℕ, zero, suc, ◌+◌, ◌-◌, ◌<◌, ◌^◌, Bool, true, false, cond, List, [], ◌∷◌, ◌++◌, length, map, replicate, get_or, refl, sym, ap, ◌∙◌, arith, append_assoc, length-append}
-use Rattle.std.specs.List.{flat_map, filter, range_with_len}
-use Rattle.std.proofs.lemmas.List.{map-append}
-use Rattle.std.proofs.lemmas.List.Concat.{flat_map_single}
-use Rattle.std.proofs.lemmas.List.Folds.{flat_map-map}
-use Rattle.std.proofs.lemmas.List.FromFn.{length-map-range_with_len}
-use Rattle.std.proofs.lemmas.Simd.{map-map}
-use Rattle.list_laws.specs.Digits.{digit}
-use Rattle.netlist.specs.declared.cell.Cell.{Cell}
-use Rattle.netlist.specs.declared.cell.Cell.TheVariants.{One, Any}
-use Rattle.netlist.specs.CoverValue.{RowValue}
-use Rattle.blif_read.specs.Rows.{cell_character}
+use Rattle.blif_write.proofs.Common.{◌≡◌, ℕ, zero, suc, ◌+◌, ◌-◌, ◌<◌, ◌^◌, Bool, true, false, cond, List, [], ◌∷◌, ◌++◌, length, map, replicate, get_or, refl, sym, ap, ◌∙◌, arith, append_assoc, length-append, flat_map, filter, range_with_len, map-append, flat_map_single, flat_map-map, length-map-range_with_len, digit, Cell, One, Any, RowValue, cell_character, map-map}
 use Rattle.blif_write.specs.PlainNetlist.{row_line, line_text}
 use Rattle.blif_write.specs.Netlists.{digit_cell, digit_cells, chosen_cells, fixed_rows, tunable_rows}
 

@@ -1,18 +1,6 @@
 -- The rows of a LUT have the value of the bit that its leaves' values ask for.
-use Rattle.std.proofs.Common.{◌≡◌, ◌⊎◌, ℕ, zero, suc, ◌+◌, ◌-◌, ◌*◌, ◌/◌, ◌%◌, ◌^◌, ◌<◌, ◌≤◌, Bool, true, false, eqb, ◌&&◌, ◌||◌, List, [], ◌∷◌, ◌++◌, length, map, filter, replicate, get_or, slice_index_or, refl, sym, ap, ◌∙◌, inl, inr, arith}
-use Rattle.std.specs.List.{range_with_len}
+use Rattle.blif_write.proofs.Common.{◌≡◌, ◌⊎◌, ℕ, zero, suc, ◌+◌, ◌-◌, ◌*◌, ◌/◌, ◌%◌, ◌^◌, ◌<◌, ◌≤◌, Bool, true, false, eqb, ◌&&◌, ◌||◌, List, [], ◌∷◌, ◌++◌, length, map, filter, replicate, get_or, slice_index_or, refl, sym, ap, ◌∙◌, inl, inr, arith, range_with_len, and_parts, and_from, eqb-true, length-map-range_with_len, In, bit_value, number, digit, number-small, lowest, half, In-map, In-filter, from_map, in_filter, in_range, of_range, Cell, One, Any, RowValue, allows, matches, some_row, false_from_ne_true, eqb-false}
 use Rattle.std.proofs.Math.Nat.{pow-succ', div-div-eq-div-mul}
-use Rattle.std.proofs.lemmas.Bool.{eq-eqb, cases_Bool, and_parts, and_from, eqb-true}
-use Rattle.std.proofs.lemmas.Bool.Decides.{Decides-eqb}
-use Rattle.std.proofs.lemmas.List.FromFn.{length-map-range_with_len}
-use Rattle.list_laws.specs.Members.{In}
-use Rattle.list_laws.specs.Digits.{bit_value, number, digit}
-use Rattle.list_laws.proofs.Digits.{number-small, lowest, half}
-use Rattle.list_laws.proofs.Members.{In-map, In-filter, from_map, in_filter}
-use Rattle.list_laws.proofs.Ranges.{in_range, of_range}
-use Rattle.netlist.specs.declared.cell.Cell.{Cell}
-use Rattle.netlist.specs.declared.cell.Cell.TheVariants.{One, Any}
-use Rattle.netlist.specs.CoverValue.{RowValue, allows, matches, some_row}
 use Rattle.blif_write.specs.Netlists.{digit_cell, digit_cells, fixed_rows, chosen_cells, tunable_rows}
 
 -- the cells of a number's digits, one by one
@@ -33,10 +21,6 @@ cells_from (suc leaves) place v =
 digits_are : (leaves v : ℕ) → digit_cells leaves v ≡ cells_of leaves v
 digits_are leaves v = let e : v / 1 ≡ v = omega arith in cells_from leaves 0 v ∙ ap (cells_of leaves) e
 
-pub not_true : (b : Bool) → (b ≡ true → ⊥) → b ≡ false
-not_true true h = absurd (h refl)
-not_true false h = refl
-
 -- a cell of a digit allows this digit alone
 allowed : (d b : Bool) → allows (digit_cell d) b ≡ true → b ≡ d
 allowed true b h = h
@@ -47,19 +31,9 @@ allows_own : (b : Bool) → allows (digit_cell b) b ≡ true
 allows_own true = refl
 allows_own false = refl
 
-two_digits_by : (v : ℕ) (b : Bool) → eqb (v % 2) 0 ≡ b → (v % 2 ≡ 0) ⊎ (v % 2 ≡ 1)
-two_digits_by v true e = inl ((Decides-eqb (v % 2) 0).0 e)
-two_digits_by v false e = inr (let some : v % 2 ≡ 0 → ⊥ = λ z. let t : eqb (v % 2) 0 ≡ true = eq-eqb (v % 2) 0 z in let wrong : ⊥ = cc in wrong in omega (arith, some))
-
-two_digits : (v : ℕ) → (v % 2 ≡ 0) ⊎ (v % 2 ≡ 1)
-two_digits v = two_digits_by v (eqb (v % 2) 0) refl
-
-even_rest : (v : ℕ) → (v % 2 ≡ 1 → ⊥) → 0 ≡ v % 2
-even_rest v h = elim (two_digits v) [ inl e ↦ sym e | inr e ↦ absurd (h e) ]
-
 digit_value : (v : ℕ) (b : Bool) → b ≡ eqb (v % 2) 1 → bit_value b ≡ v % 2
-digit_value v true h = elim (cases_Bool (eqb (v % 2) 1)) [ inl t ↦ sym (eqb-true (v % 2) 1 t) | inr f ↦ absurd (let wrong : ⊥ = cc in wrong) ]
-digit_value v false h = elim (cases_Bool (eqb (v % 2) 1)) [ inl t ↦ absurd (let wrong : ⊥ = cc in wrong) | inr f ↦ even_rest v (λ e. let t : eqb (v % 2) 1 ≡ true = eq-eqb (v % 2) 1 e in let wrong : ⊥ = cc in wrong) ]
+digit_value v true h = sym (eqb-true (v % 2) 1 (sym h))
+digit_value v false h = let off : v % 2 ≡ 1 → ⊥ = eqb-false (v % 2) 1 (sym h) in let zero_rest : 0 ≡ v % 2 = omega (arith, off) in zero_rest
 
 pub matches_number : (v : ℕ) (ins : List Bool) → v < 2 ^ length ins → matches (cells_of (length ins) v) ins ≡ true → number ins ≡ v
 matches_number v [] small h = omega (arith, small)
@@ -95,26 +69,23 @@ no_row_matches (r ∷ rows) ins h = ap (λ (t : Bool). t || some_row rows ins) (
 digits_match : (v : ℕ) (ins : List Bool) → matches (digit_cells (length ins) v) ins ≡ matches (cells_of (length ins) v) ins
 digits_match v ins = ap (λ (cells : List Cell). matches cells ins) (digits_are (length ins) v)
 
-fixed_by : (config : List Bool) (base : ℕ) (ins : List Bool) (bit : Bool) → slice_index_or config (base + number ins) false ≡ bit → some_row (fixed_rows config base (length ins)) ins ≡ bit
-fixed_by config base ins true e =
-    let test : ℕ → Bool = λ v. slice_index_or config (base + v) false in
-    let there : In (filter test (range_with_len 0 (2 ^ length ins))) (number ins) =
-    in_filter test (range_with_len 0 (2 ^ length ins)) (number ins) (in_range 0 (2 ^ length ins) (number ins) (omega arith) (let s : number ins < 2 ^ length ins = number-small ins in omega (arith, s))) e in
-    row_matches (fixed_rows config base (length ins)) (record { cells = digit_cells (length ins) (number ins) }) ins (In-map (λ (v : ℕ). record { cells = digit_cells (length ins) v }) (filter test (range_with_len 0 (2 ^ length ins))) (number ins) there)
-    (digits_match (number ins) ins ∙ matches_own ins)
-fixed_by config base ins false e =
-    let test : ℕ → Bool = λ v. slice_index_or config (base + v) false in
-    no_row_matches (fixed_rows config base (length ins)) ins (λ row i.
-    let at : (v : ℕ) × In (filter test (range_with_len 0 (2 ^ length ins))) v × (row ≡ record { cells = digit_cells (length ins) v }) = from_map (λ (v : ℕ). record { cells = digit_cells (length ins) v }) (filter test (range_with_len 0 (2 ^ length ins))) row i in
-    let kept : In (range_with_len 0 (2 ^ length ins)) at.0 × (test at.0 ≡ true) = In-filter test (range_with_len 0 (2 ^ length ins)) at.0 at.1 in
-    let small : (0 ≤ at.0) × (at.0 < 0 + 2 ^ length ins) = of_range 0 (2 ^ length ins) at.0 kept.0 in
-    not_true (matches row.cells ins) (λ h.
-    let same : number ins ≡ at.0 = matches_number at.0 ins (omega (arith, small.1)) (sym (digits_match at.0 ins) ∙ ap (λ (r : RowValue). matches r.cells ins) (sym at.2) ∙ h) in
-    let t : slice_index_or config (base + number ins) false ≡ true = ap (λ (k : ℕ). slice_index_or config (base + k) false) same ∙ kept.1 in
-    let wrong : ⊥ = cc in wrong))
+one_row : (rows : List RowValue) (ins : List Bool) (bit : Bool) → (bit ≡ true → (row : RowValue) × In rows row × (matches row.cells ins ≡ true)) → ((row : RowValue) → In rows row → matches row.cells ins ≡ true → bit ≡ true) → some_row rows ins ≡ bit
+one_row rows ins true there only = let r : (row : RowValue) × In rows row × (matches row.cells ins ≡ true) = there refl in row_matches rows r.0 ins r.1 r.2
+one_row rows ins false there only = no_row_matches rows ins (λ row i. false_from_ne_true (matches row.cells ins) (λ h. let t : false ≡ true = only row i h in let wrong : ⊥ = cc in wrong))
 
 pub fixed_value : (config : List Bool) (base : ℕ) (ins : List Bool) → some_row (fixed_rows config base (length ins)) ins ≡ slice_index_or config (base + number ins) false
-fixed_value config base ins = fixed_by config base ins (slice_index_or config (base + number ins) false) refl
+fixed_value config base ins =
+    let count : ℕ = 2 ^ length ins in
+    let test : ℕ → Bool = λ v. slice_index_or config (base + v) false in
+    let make : ℕ → RowValue = λ v. record { cells = digit_cells (length ins) v } in
+    let below : number ins < 2 ^ length ins = number-small ins in
+    one_row (fixed_rows config base (length ins)) ins (test (number ins))
+    (λ e. (make (number ins), In-map make (filter test (range_with_len 0 count)) (number ins) (in_filter test (range_with_len 0 count) (number ins) (in_range 0 count (number ins) (omega arith) (omega (arith, below))) e), digits_match (number ins) ins ∙ matches_own ins))
+    (λ row i h.
+    let at : (v : ℕ) × In (filter test (range_with_len 0 count)) v × (row ≡ make v) = from_map make (filter test (range_with_len 0 count)) row i in
+    let kept : In (range_with_len 0 count) at.0 × (test at.0 ≡ true) = In-filter test (range_with_len 0 count) at.0 at.1 in
+    let small : (0 ≤ at.0) × (at.0 < 0 + count) = of_range 0 count at.0 kept.0 in
+    ap test (matches_number at.0 ins (omega (arith, small.1)) (sym (digits_match at.0 ins) ∙ ap (λ (r : RowValue). matches r.cells ins) (sym at.2) ∙ h)) ∙ kept.1)
 
 -- the rows of a table whose bits are inputs
 and_moved : (a b c : Bool) → (a && (b && c)) ≡ ((a && b) && c)
@@ -150,24 +121,20 @@ row_value ins bits v count small =
     ∙ ap (λ (t : Bool). t && matches (chosen_cells (2 ^ length ins) v) bits) (digits_match v ins)
     ∙ ap (λ (t : Bool). matches (cells_of (length ins) v) ins && t) (matches_chosen v (2 ^ length ins - suc v) bits (omega (arith, count, small)))
 
-tunable_by : (ins bits : List Bool) (bit : Bool) → length bits ≡ 2 ^ length ins → get_or bits (number ins) false ≡ bit → some_row (tunable_rows (length ins)) (ins ++ bits) ≡ bit
-tunable_by ins bits true count e =
-    let small : number ins < 2 ^ length ins = number-small ins in
+pub tunable_value : (ins bits : List Bool) → length bits ≡ 2 ^ length ins → some_row (tunable_rows (length ins)) (ins ++ bits) ≡ get_or bits (number ins) false
+tunable_value ins bits count =
     let make : ℕ → RowValue = λ v. record { cells = digit_cells (length ins) v ++ chosen_cells (2 ^ length ins) v } in
-    row_matches (tunable_rows (length ins)) (make (number ins)) (ins ++ bits) (In-map make (range_with_len 0 (2 ^ length ins)) (number ins) (in_range 0 (2 ^ length ins) (number ins) (omega arith) (omega (arith, small))))
-    (row_value ins bits (number ins) count small ∙ and_from (matches (cells_of (length ins) (number ins)) ins) (get_or bits (number ins) false) (matches_own ins) e)
-tunable_by ins bits false count e =
-    let make : ℕ → RowValue = λ v. record { cells = digit_cells (length ins) v ++ chosen_cells (2 ^ length ins) v } in
-    no_row_matches (tunable_rows (length ins)) (ins ++ bits) (λ row i.
+    let below : number ins < 2 ^ length ins = number-small ins in
+    one_row (tunable_rows (length ins)) (ins ++ bits) (get_or bits (number ins) false)
+    (λ e. (
+      make (number ins),
+      In-map make (range_with_len 0 (2 ^ length ins)) (number ins) (in_range 0 (2 ^ length ins) (number ins) (omega arith) (omega (arith, below))),
+      row_value ins bits (number ins) count below ∙ and_from (matches (cells_of (length ins) (number ins)) ins) (get_or bits (number ins) false) (matches_own ins) e,
+    ))
+    (λ row i h.
     let at : (v : ℕ) × In (range_with_len 0 (2 ^ length ins)) v × (row ≡ make v) = from_map make (range_with_len 0 (2 ^ length ins)) row i in
     let small : (0 ≤ at.0) × (at.0 < 0 + 2 ^ length ins) = of_range 0 (2 ^ length ins) at.0 at.1 in
-    let below : at.0 < 2 ^ length ins = omega (arith, small.1) in
-    not_true (matches row.cells (ins ++ bits)) (λ h.
+    let fits : at.0 < 2 ^ length ins = omega (arith, small.1) in
     let parts : (matches (cells_of (length ins) at.0) ins ≡ true) × (get_or bits at.0 false ≡ true) =
-    and_parts (matches (cells_of (length ins) at.0) ins) (get_or bits at.0 false) (sym (row_value ins bits at.0 count below) ∙ ap (λ (r : RowValue). matches r.cells (ins ++ bits)) (sym at.2) ∙ h) in
-    let same : number ins ≡ at.0 = matches_number at.0 ins below parts.0 in
-    let t : get_or bits (number ins) false ≡ true = ap (λ (k : ℕ). get_or bits k false) same ∙ parts.1 in
-    let wrong : ⊥ = cc in wrong))
-
-pub tunable_value : (ins bits : List Bool) → length bits ≡ 2 ^ length ins → some_row (tunable_rows (length ins)) (ins ++ bits) ≡ get_or bits (number ins) false
-tunable_value ins bits count = tunable_by ins bits (get_or bits (number ins) false) count refl
+    and_parts (matches (cells_of (length ins) at.0) ins) (get_or bits at.0 false) (sym (row_value ins bits at.0 count fits) ∙ ap (λ (r : RowValue). matches r.cells (ins ++ bits)) (sym at.2) ∙ h) in
+    ap (λ (k : ℕ). get_or bits k false) (matches_number at.0 ins fits parts.0) ∙ parts.1)

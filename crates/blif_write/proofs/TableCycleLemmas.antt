@@ -1,38 +1,12 @@
 -- The cycles of a written netlist are those of its LUTs.
-use Rattle.std.proofs.Common.{◌≡◌, ◌⊎◌, ℕ, zero, suc, ◌+◌, ◌-◌, ◌*◌, ◌^◌, ◌<◌, ◌≤◌, Bool, true, false, cond, ◌&&◌, ◌||◌, nat_le, nat_lt, not, List, [], ◌∷◌, ◌++◌, length, map, get_or, slice_get, slice_index_or, bytes_eq, codes, Option, Some, None, refl, sym, ap, subst, ◌∙◌, inl, inr, arith}
-use Rattle.std.specs.List.{flat_map, range_with_len}
-use Rattle.std.proofs.lemmas.List.{map-append, length-map, get_or-map}
-use Rattle.std.proofs.lemmas.Bool.{leb-true, le-leb, ltb-true, and_parts}
-use Rattle.std.proofs.lemmas.List.FromFn.{get_or-map-range_with_len, length-map-range_with_len}
-use Rattle.std.proofs.lemmas.Slice.Eq.{bytes_eq-Decides}
-use Rattle.std.proofs.lemmas.Option.{none-some}
-use Rattle.list_laws.specs.Members.{In}
-use Rattle.list_laws.specs.Digits.{number}
-use Rattle.list_laws.proofs.Digits.{number-small}
-use Rattle.list_laws.proofs.Members.{In-get_or, In-left, In-right, In-filter}
-use Rattle.netlist.specs.declared.latch.Latch.{Latch as LatchValue}
-use Rattle.netlist.specs.CoverValue.{CoverValue, cover_value, some_row}
-use Rattle.netlist.specs.declared.flat.OutPort.{OutPort}
-use Rattle.netlist.specs.declared.flat.FlatLatch.{FlatLatch}
-use Rattle.netlist.specs.FlatValue.{FlatValue}
-use Rattle.param_list.specs.declared.params.Param.{Param}
-use Rattle.param_list.specs.Parameters.{regular_names, param_names}
-use Rattle.netlist.specs.Models.{has_name}
-use Rattle.aig_core.specs.declared.lit.Lit.{Lit}
-use Rattle.aig_core.specs.Roots.{lits_of}
-use Rattle.cover_pick.specs.declared.lut.Lut.{Lut}
-use Rattle.cover_pick.specs.Template.{TemplateValue}
-use Rattle.cover_pick.specs.Mapping.{bits_of}
+use Rattle.blif_write.proofs.Common.{◌≡◌, ◌⊎◌, ℕ, zero, suc, ◌+◌, ◌-◌, ◌*◌, ◌^◌, ◌<◌, ◌≤◌, Bool, true, false, cond, ◌&&◌, ◌||◌, nat_le, nat_lt, not, List, [], ◌∷◌, ◌++◌, length, map, get_or, slice_get, slice_index_or, bytes_eq, codes, Option, Some, None, refl, sym, ap, subst, ◌∙◌, inl, inr, arith, flat_map, range_with_len, map-append, length-map, get_or-map, leb-true, le-leb, ltb-true, and_parts, get_or-map-range_with_len, length-map-range_with_len, bytes_eq-Decides, none-some, In, number, number-small, In-get_or, In-left, In-right, In-filter, LatchValue, CoverValue, cover_value, some_row, OutPort, FlatLatch, FlatValue, Param, regular_names, param_names, has_name, Lit, lits_of, Lut, TemplateValue, bits_of, Shape, last_source, is_regular, source_value, leaf_values, address, IsTableCycle, false_from_ne_true, map-map}
 use Rattle.cover_pick.proofs.BitsLemmas.{base_within}
-use Rattle.lut_sim.specs.declared.shape.Shape.{Shape}
-use Rattle.lut_sim.specs.Sources.{last_source, is_regular, source_value}
-use Rattle.lut_sim.specs.Cycle.{leaf_values, address, IsTableCycle}
 use Rattle.blif_write.specs.PlainNetlist.{read_control}
 use Rattle.blif_write.specs.OwnNames.{Naming, naming_of, table_name, latch_name, bit_name, source_name, literal_name}
 use Rattle.blif_write.specs.Netlists.{leaf_names, bit_names, fixed_rows, tunable_rows, fixed_table, tunable_table, wire_of, wire, wires, clock_of, written_latch, written_latches, control_names, with_tables}
 use Rattle.blif_write.specs.Meaning.{HasPorts, AreTablesOf, input_bits}
 use Rattle.blif_write.proofs.PlainCycleLemmas.{IsControlName, PlainFits}
-use Rattle.blif_write.proofs.RowValueLemmas.{not_true, fixed_value, tunable_value}
+use Rattle.blif_write.proofs.RowValueLemmas.{fixed_value, tunable_value}
 use Rattle.blif_write.proofs.OwnNameLemmas.{no_port_name, source_literal, table_literal}
 
 -- the latches of a written netlist
@@ -60,16 +34,25 @@ named_by : (own name : List ℕ) (nil : Bool) → cond nil None (Some own) ≡ S
 named_by own name true e = absurd (none-some name e)
 named_by own name false e = e
 
-clock_named : (control : Option (List ℕ)) (clocked : Bool) (name : List ℕ) → read_control (clock_of control clocked) ≡ Some name → control ≡ Some name
-clock_named control false name e = absurd (none-some name e)
-clock_named None true name e = absurd (none-some name e)
-clock_named (Some own) true name e = named_by own name (bytes_eq own (codes "NIL")) e
+read_given : (control : Option (List ℕ)) (name : List ℕ) → read_control control ≡ Some name → control ≡ Some name
+read_given None name e = absurd (none-some name e)
+read_given (Some own) name e = named_by own name (bytes_eq own (codes "NIL")) e
+
+clock_given : (control : Option (List ℕ)) (clocked : Bool) (name : List ℕ) → clock_of control clocked ≡ Some name → control ≡ Some name
+clock_given control true name e = e
+clock_given control false name e = absurd (none-some name e)
+
+pub latch_next : (g : Naming) (control : Option (List ℕ)) (ordinal : ℕ) (ls : List FlatLatch) (nexts : List Lit) (l : LatchValue) → In (written_latches g control ordinal ls nexts) l
+    → (lit : Lit) × In nexts lit × (l.input ≡ literal_name g lit.0) × ((name : List ℕ) → l.control ≡ Some name → control ≡ Some name)
+latch_next g control ordinal [] nexts l i = elim i [ ]
+latch_next g control ordinal (k ∷ ls) [] l i = elim i [ ]
+latch_next g control ordinal (k ∷ ls) (next ∷ nexts) l (inl e) = (next, inl refl, ap (λ (m : LatchValue). m.input) e, λ c f. clock_given control k.clocked c (sym (ap (λ (m : LatchValue). m.control) e) ∙ f))
+latch_next g control ordinal (k ∷ ls) (next ∷ nexts) l (inr i) =
+    let r : (lit : Lit) × In nexts lit × (l.input ≡ literal_name g lit.0) × ((name : List ℕ) → l.control ≡ Some name → control ≡ Some name) = latch_next g control (suc ordinal) ls nexts l i in
+    (r.0, inr r.1, r.2, r.3)
 
 pub latch_named : (g : Naming) (control : Option (List ℕ)) (ordinal : ℕ) (ls : List FlatLatch) (nexts : List Lit) (l : LatchValue) (name : List ℕ) → In (written_latches g control ordinal ls nexts) l → read_control l.control ≡ Some name → control ≡ Some name
-latch_named g control ordinal [] nexts l name i e = elim i [ ]
-latch_named g control ordinal (k ∷ ls) [] l name i e = elim i [ ]
-latch_named g control ordinal (k ∷ ls) (next ∷ nexts) l name (inl same) e = clock_named control k.clocked name (sym (ap (λ (m : LatchValue). read_control m.control) same) ∙ e)
-latch_named g control ordinal (k ∷ ls) (next ∷ nexts) l name (inr i) e = latch_named g control (suc ordinal) ls nexts l name i e
+latch_named g control ordinal ls nexts l name i e = (latch_next g control ordinal ls nexts l i).3 name (read_given l.control name e)
 
 -- outputs
 or_none : (b : Bool) → ((b && true) || false) ≡ b
@@ -93,10 +76,6 @@ outputs_are_roots g value (o ∷ os) (lit ∷ lits) same h =
     ∙ ap (λ (t : List Bool). value (literal_name g lit.0) ∷ t) (outputs_are_roots g value os lits (omega (arith, same)) (λ c i. h c (In-right (wire (literal_name g lit.0) o.name) (wires g os lits) c i)))
 
 -- small facts on lists
-map_twice : {A B C : Type 0} (f : B → C) (g : A → B) (xs : List A) → map f (map g xs) ≡ map (λ x. f (g x)) xs
-map_twice f g [] = refl
-map_twice f g (x ∷ xs) = ap (λ (t : List _). f (g x) ∷ t) (map_twice f g xs)
-
 pub in_all : {A B : Type 0} (f : A → List B) (xs : List A) (x : A) (y : B) → In xs x → In (f x) y → In (flat_map (λ (t : List B). t) (map f xs)) y
 in_all f [] x y i j = elim i [ ]
 in_all f (z ∷ xs) x y (inl e) j = In-left (f z) (flat_map (λ t. t) (map f xs)) y (subst (λ k. In (f k) y) e j)
@@ -117,7 +96,7 @@ pub name_input : (flat : FlatValue) (params : List Param) (name : List ℕ) → 
 name_input flat params name i = (In-filter (λ (other : List ℕ). not (has_name (param_names params) other)) flat.inputs name i).0
 
 past_regular : (n r : ℕ) → r < n → nat_le n r ≡ false
-past_regular n r h = not_true (nat_le n r) (λ t. let e : n ≤ r = leb-true n r t in omega (arith, e, h))
+past_regular n r h = false_from_ne_true (nat_le n r) (λ t. let e : n ≤ r = leb-true n r t in omega (arith, e, h))
 
 module _ (flat : FlatValue) (params : List Param) (t : TemplateValue) (bits : List (List (List ℕ))) (tables : List CoverValue) (ports : HasPorts flat) (are : AreTablesOf flat params t)
     (x : List ℕ → Bool) (s : List Bool) (value : List ℕ → Bool) (fits : PlainFits (with_tables flat params t bits tables) x s value) where
@@ -177,7 +156,7 @@ module _ (flat : FlatValue) (params : List Param) (t : TemplateValue) (bits : Li
   }
 
   leaves_valued : (u : Lut) → map value (leaf_names named u) ≡ leaf_values valued u.leaves
-  leaves_valued u = map_twice value (λ (m : ℕ). literal_name named (2 * m)) u.leaves
+  leaves_valued u = map-map value (λ (m : ℕ). literal_name named (2 * m)) u.leaves
 
   pub fixed_valued : (config : List Bool) (u : Lut) → In tables (fixed_table named config u) → value (table_name named u.lit.0) ≡ slice_index_or config (address valued u) false
   fixed_valued config u i =
@@ -194,7 +173,7 @@ module _ (flat : FlatValue) (params : List Param) (t : TemplateValue) (bits : Li
       let ins : List Bool = leaf_values valued u.leaves in
       let count : length ins ≡ length u.leaves = length-map u.leaves (λ (m : ℕ). valued (2 * m)) in
       let chosen : List Bool = map value (bit_names named u) in
-      let own : chosen ≡ map (λ b. value (bit_name named b)) (range_with_len u.base (2 ^ length u.leaves)) = map_twice value (bit_name named) (range_with_len u.base (2 ^ length u.leaves)) in
+      let own : chosen ≡ map (λ b. value (bit_name named b)) (range_with_len u.base (2 ^ length u.leaves)) = map-map value (bit_name named) (range_with_len u.base (2 ^ length u.leaves)) in
       let size : length chosen ≡ 2 ^ length ins =
       ap length own ∙ length-map-range_with_len (λ b. value (bit_name named b)) u.base (2 ^ length u.leaves) ∙ ap (λ (k : ℕ). 2 ^ k) (sym count) in
       let small : number ins < 2 ^ length u.leaves = subst (λ (k : ℕ). number ins < 2 ^ k) count (number-small ins) in

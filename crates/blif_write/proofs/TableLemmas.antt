@@ -1,11 +1,5 @@
 -- The bytes of LUTs, latches and wires, as they are added.
-use Rattle.std.proofs.Common.{◌≡◌, ℕ, List, [], ◌∷◌, ◌++◌, map, codes, Some, refl, sym, ap, ◌∙◌, append_assoc, append-nil}
-use Rattle.std.specs.List.{flat_map}
-use Rattle.std.proofs.lemmas.List.Concat.{flat_map-append}
-use Rattle.std.proofs.lemmas.List.Folds.{flat_map-map}
-use Rattle.netlist.specs.CoverValue.{CoverValue}
-use Rattle.blif_read.specs.Rows.{output_token}
-use Rattle.netlist.specs.declared.latch.Latch.{Latch as LatchValue}
+use Rattle.blif_write.proofs.Common.{◌≡◌, ℕ, List, [], ◌∷◌, ◌++◌, map, codes, Some, refl, sym, ap, ◌∙◌, append_assoc, append-nil, flat_map, flat_map-append, flat_map-map, CoverValue, output_token, LatchValue}
 use Rattle.blif_write.specs.PlainNetlist.{line_text, words_text, cover_lines, row_line, latch_line, control_words}
 
 -- a line of inputs for each table

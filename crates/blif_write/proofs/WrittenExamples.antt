@@ -1,10 +1,7 @@
 -- Worked examples: a multiplexer with a parameter, as a template and specialised, and a latch with a clock and a constant LUT.
-use Rattle.std.proofs.Common.{◌≡◌, true, false, [], ◌∷◌, Some, None, codes, refl}
+use Rattle.blif_write.proofs.Common.{◌≡◌, true, false, [], ◌∷◌, Some, None, codes, refl, FlatValue, Param, TemplateValue}
 use Rattle.std.specs.Fmt.{digits}
 use Rattle.netlist.specs.declared.flat.Net.TheVariants.{Input, Latch, Cover}
-use Rattle.netlist.specs.FlatValue.{FlatValue}
-use Rattle.param_list.specs.declared.params.Param.{Param}
-use Rattle.cover_pick.specs.Template.{TemplateValue}
 use Rattle.blif_write.specs.PlainNetlist.{netlist_text}
 use Rattle.blif_write.specs.Netlists.{template_netlist, specialised_netlist}
 

@@ -1,5 +1,5 @@
 use Rattle.blif_write.proofs.TableLemmas.{clock_text}
-use Rattle.tl_piece.proofs.AddedLemmas.{added_as, added_twice}
+use Rattle.blif_write.proofs.Common.{added_as, added_twice}
 use Rattle.blif_write.proofs.latches.add_clock.Goals as goal
 
 pub returns : goal.returns

@@ -1,6 +1,5 @@
-use Rattle.std.proofs.Common.{arith}
+use Rattle.blif_write.proofs.Common.{arith, added_as, added_to, added_none}
 use Rattle.blif_write.proofs.PairLemmas.{latch_next, latches_whole}
-use Rattle.tl_piece.proofs.AddedLemmas.{added_as, added_to, added_none}
 use Rattle.blif_write.proofs.latches.add_latches.Goals as goal
 
 pub loop-ordinal-init : goal.loop-ordinal-init

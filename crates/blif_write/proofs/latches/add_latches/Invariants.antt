@@ -1,4 +1,4 @@
-use Rattle.tl_piece.specs.Added.{IsAdded}
+use Rattle.blif_write.proofs.Common.{IsAdded}
 use Rattle.blif_write.proofs.PairLemmas.{latches_before}
 use Rattle.blif_write.proofs.latches.add_latches.Given as goal
 

@@ -1,9 +1,6 @@
-use Rattle.std.proofs.Common.{◌≡◌, ℕ, [], ◌∷◌, arith, ap, ◌∙◌, map}
-use Rattle.blif_read.specs.Rows.{cell_character}
+use Rattle.blif_write.proofs.Common.{◌≡◌, ℕ, [], ◌∷◌, arith, ap, ◌∙◌, map, cell_character, added_as, added_none, added_next}
 use Rattle.blif_write.specs.Netlists.{digit_cells}
 use Rattle.blif_write.proofs.RowLemmas.{digit_text, digits_are}
-use Rattle.tl_piece.proofs.AddedLemmas.{added_as, added_none}
-use Rattle.tl_piece.proofs.PartLemmas.{added_next}
 use Rattle.blif_write.proofs.rows.add_digits.Goals as goal
 
 pub loop-place-init : goal.loop-place-init

@@ -1,5 +1,4 @@
-use Rattle.std.specs.List.{flat_map, range_with_len}
-use Rattle.tl_piece.specs.Added.{IsAdded}
+use Rattle.blif_write.proofs.Common.{flat_map, range_with_len, IsAdded}
 use Rattle.blif_write.proofs.RowLemmas.{digit_text}
 use Rattle.blif_write.proofs.rows.add_digits.Given as goal
 

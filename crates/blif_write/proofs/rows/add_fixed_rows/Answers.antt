@@ -1,11 +1,7 @@
-use Rattle.std.proofs.Common.{ℕ, ◌≡◌, ap, arith, ◌∙◌}
-use Rattle.std.proofs.Common.{◌^◌, cond, [], Bool}
-use Rattle.std.specs.List.{flat_map, range_with_len}
+use Rattle.blif_write.proofs.Common.{ℕ, ◌≡◌, ap, arith, ◌∙◌, ◌^◌, cond, [], Bool, flat_map, range_with_len, added_as, added_none, added_next}
 use Rattle.blif_write.specs.PlainNetlist.{row_line, line_text}
 use Rattle.blif_write.specs.Netlists.{digit_cells}
 use Rattle.blif_write.proofs.RowLemmas.{fixed_row_text, fixed_rows_are}
-use Rattle.tl_piece.proofs.AddedLemmas.{added_as, added_none}
-use Rattle.tl_piece.proofs.PartLemmas.{added_next}
 use Rattle.blif_write.proofs.rows.add_fixed_rows.Goals as goal
 
 pub loop-v-init : goal.loop-v-init

@@ -1,6 +1,5 @@
-use Rattle.std.proofs.Common.{◌-◌, arith}
+use Rattle.blif_write.proofs.Common.{◌-◌, arith, added_as, added_twice}
 use Rattle.blif_write.proofs.RowLemmas.{chosen_row}
-use Rattle.tl_piece.proofs.AddedLemmas.{added_as, added_twice}
 use Rattle.blif_write.proofs.rows.add_tunable_row.Goals as goal
 
 pub returns : goal.returns

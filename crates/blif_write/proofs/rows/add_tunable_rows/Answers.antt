@@ -1,9 +1,5 @@
-use Rattle.std.proofs.Common.{ℕ, ◌≡◌, ap, arith, ◌∙◌}
-use Rattle.std.proofs.Common.{◌^◌}
-use Rattle.std.specs.List.{flat_map, range_with_len}
+use Rattle.blif_write.proofs.Common.{ℕ, ◌≡◌, ap, arith, ◌∙◌, ◌^◌, flat_map, range_with_len, added_as, added_none, added_next}
 use Rattle.blif_write.proofs.RowLemmas.{tunable_row_text, tunable_rows_are}
-use Rattle.tl_piece.proofs.AddedLemmas.{added_as, added_none}
-use Rattle.tl_piece.proofs.PartLemmas.{added_next}
 use Rattle.blif_write.proofs.rows.add_tunable_rows.Goals as goal
 
 pub loop-v-init : goal.loop-v-init

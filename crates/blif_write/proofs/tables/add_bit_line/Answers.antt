@@ -1,4 +1,4 @@
-use Rattle.tl_piece.proofs.AddedLemmas.{added_twice}
+use Rattle.blif_write.proofs.Common.{added_twice}
 use Rattle.blif_write.proofs.tables.add_bit_line.Goals as goal
 
 pub returns : goal.returns

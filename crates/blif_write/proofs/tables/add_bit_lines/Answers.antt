@@ -1,13 +1,7 @@
-use Rattle.std.proofs.Common.{◌∷◌, ap, arith, ◌∙◌}
-use Rattle.std.specs.List.{flat_map}
-use Rattle.std.proofs.lemmas.List.{take_all}
-use Rattle.cover_pick.specs.declared.lut.Lut.{Lut}
-use Rattle.std.proofs.Common.{codes}
+use Rattle.blif_write.proofs.Common.{◌∷◌, ap, arith, ◌∙◌, flat_map, take_all, Lut, codes, added_as, added_none, added_part}
 use Rattle.blif_write.specs.PlainNetlist.{line_text}
 use Rattle.blif_write.specs.Netlists.{bit_names}
 use Rattle.blif_write.proofs.TableLemmas.{input_lines}
-use Rattle.tl_piece.proofs.AddedLemmas.{added_as, added_none}
-use Rattle.tl_piece.proofs.PartLemmas.{added_part}
 use Rattle.blif_write.proofs.tables.add_bit_lines.Goals as goal
 
 pub loop-table-init : goal.loop-table-init

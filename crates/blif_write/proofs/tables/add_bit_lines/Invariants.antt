@@ -1,7 +1,4 @@
-use Rattle.std.proofs.Common.{◌∷◌, take}
-use Rattle.std.specs.List.{flat_map}
-use Rattle.tl_piece.specs.Added.{IsAdded}
-use Rattle.std.proofs.Common.{codes}
+use Rattle.blif_write.proofs.Common.{◌∷◌, take, flat_map, IsAdded, codes}
 use Rattle.blif_write.specs.PlainNetlist.{line_text}
 use Rattle.blif_write.specs.Netlists.{bit_names}
 use Rattle.blif_write.proofs.tables.add_bit_lines.Given as goal

@@ -1,11 +1,7 @@
-use Rattle.std.proofs.Common.{ℕ, ◌≡◌, ◌+◌, ◌-◌, ◌∷◌, ap, arith, ◌∙◌}
-use Rattle.std.specs.List.{flat_map, range_with_len}
+use Rattle.blif_write.proofs.Common.{ℕ, ◌≡◌, ◌+◌, ◌-◌, ◌∷◌, ap, arith, ◌∙◌, flat_map, range_with_len, map, added_as, added_twice, added_none, added_next}
 use Rattle.blif_write.specs.OwnNames.{bit_name}
-use Rattle.std.proofs.Common.{map}
 use Rattle.blif_write.specs.PlainNetlist.{words_text}
 use Rattle.blif_write.proofs.NameLemmas.{words_of}
-use Rattle.tl_piece.proofs.AddedLemmas.{added_as, added_twice, added_none}
-use Rattle.tl_piece.proofs.PartLemmas.{added_next}
 use Rattle.blif_write.proofs.tables.add_bits.Goals as goal
 
 pub loop-address-init : goal.loop-address-init

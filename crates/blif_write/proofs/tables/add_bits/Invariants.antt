@@ -1,6 +1,4 @@
-use Rattle.std.proofs.Common.{◌-◌, ◌∷◌}
-use Rattle.std.specs.List.{flat_map, range_with_len}
-use Rattle.tl_piece.specs.Added.{IsAdded}
+use Rattle.blif_write.proofs.Common.{◌-◌, ◌∷◌, flat_map, range_with_len, IsAdded}
 use Rattle.blif_write.specs.OwnNames.{bit_name}
 use Rattle.blif_write.proofs.tables.add_bits.Given as goal
 

@@ -1,6 +1,4 @@
-use Rattle.std.proofs.Common.{take}
-use Rattle.std.specs.List.{flat_map}
-use Rattle.tl_piece.specs.Added.{IsAdded}
+use Rattle.blif_write.proofs.Common.{take, flat_map, IsAdded}
 use Rattle.blif_write.specs.PlainNetlist.{line_text, cover_lines}
 use Rattle.blif_write.specs.Netlists.{fixed_table}
 use Rattle.blif_write.proofs.tables.add_fixed_tables.Given as goal

@@ -1,10 +1,6 @@
-use Rattle.std.proofs.Common.{ℕ, ◌*◌, ◌∷◌, List, ap, arith, ◌∙◌}
-use Rattle.std.specs.List.{flat_map}
+use Rattle.blif_write.proofs.Common.{ℕ, ◌*◌, ◌∷◌, List, ap, arith, ◌∙◌, flat_map, take_all, added_as, added_twice, added_none, added_part}
 use Rattle.blif_write.specs.OwnNames.{literal_name}
-use Rattle.std.proofs.lemmas.List.{take_all}
 use Rattle.blif_write.proofs.NameLemmas.{words_of}
-use Rattle.tl_piece.proofs.AddedLemmas.{added_as, added_twice, added_none}
-use Rattle.tl_piece.proofs.PartLemmas.{added_part}
 use Rattle.blif_write.proofs.tables.add_leaves.Goals as goal
 
 pub loop-leaf-init : goal.loop-leaf-init

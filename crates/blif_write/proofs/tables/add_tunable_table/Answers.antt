@@ -1,7 +1,6 @@
-use Rattle.std.proofs.Common.{refl}
+use Rattle.blif_write.proofs.Common.{refl, added_as, added_twice}
 use Rattle.blif_write.specs.Netlists.{leaf_names, bit_names, tunable_table}
 use Rattle.blif_write.proofs.TableLemmas.{two_lists}
-use Rattle.tl_piece.proofs.AddedLemmas.{added_as, added_twice}
 use Rattle.blif_write.proofs.tables.add_tunable_table.Goals as goal
 
 pub returns : goal.returns

@@ -1,12 +1,7 @@
-use Rattle.std.proofs.Common.{ap, arith, ◌∙◌}
-use Rattle.std.specs.List.{flat_map}
-use Rattle.std.proofs.lemmas.List.{take_all}
-use Rattle.cover_pick.specs.declared.lut.Lut.{Lut}
+use Rattle.blif_write.proofs.Common.{ap, arith, ◌∙◌, flat_map, take_all, Lut, added_as, added_none, added_part}
 use Rattle.blif_write.specs.PlainNetlist.{line_text, cover_lines}
 use Rattle.blif_write.specs.Netlists.{tunable_table}
 use Rattle.blif_write.proofs.TableLemmas.{tables_text}
-use Rattle.tl_piece.proofs.AddedLemmas.{added_as, added_none}
-use Rattle.tl_piece.proofs.PartLemmas.{added_part}
 use Rattle.blif_write.proofs.tables.add_tunable_tables.Goals as goal
 
 pub loop-table-init : goal.loop-table-init

@@ -1,7 +1,5 @@
-use Rattle.std.proofs.Common.{arith}
-use Rattle.list_laws.proofs.Members.{In-get_or}
+use Rattle.blif_write.proofs.Common.{arith, In-get_or, added_as, added_to, added_none}
 use Rattle.blif_write.proofs.PairLemmas.{wire_next, wires_whole}
-use Rattle.tl_piece.proofs.AddedLemmas.{added_as, added_to, added_none}
 use Rattle.blif_write.proofs.wires.add_wires.Goals as goal
 
 pub loop-place-init : goal.loop-place-init

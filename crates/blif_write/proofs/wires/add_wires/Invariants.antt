@@ -1,4 +1,4 @@
-use Rattle.tl_piece.specs.Added.{IsAdded}
+use Rattle.blif_write.proofs.Common.{IsAdded}
 use Rattle.blif_write.proofs.PairLemmas.{wires_before}
 use Rattle.blif_write.proofs.wires.add_wires.Given as goal
 

@@ -1,5 +1,4 @@
-use Rattle.std.proofs.Common.{List, ℕ, ◌∷◌, ap}
-use Rattle.tl_piece.proofs.AddedLemmas.{added_as, added_twice}
+use Rattle.blif_write.proofs.Common.{List, ℕ, ◌∷◌, ap, added_as, added_twice}
 use Rattle.blif_write.proofs.words.add_word.Goals as goal
 
 pub returns : goal.returns

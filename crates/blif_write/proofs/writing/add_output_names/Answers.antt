@@ -1,9 +1,4 @@
-use Rattle.std.proofs.Common.{◌∷◌, ap, arith, ◌∙◌}
-use Rattle.std.specs.List.{flat_map}
-use Rattle.std.proofs.lemmas.List.{take_all}
-use Rattle.tl_piece.proofs.AddedLemmas.{added_as, added_none}
-use Rattle.tl_piece.proofs.PartLemmas.{added_part}
-use Rattle.netlist.specs.declared.flat.OutPort.{OutPort}
+use Rattle.blif_write.proofs.Common.{◌∷◌, ap, arith, ◌∙◌, flat_map, take_all, added_as, added_none, added_part, OutPort}
 use Rattle.blif_write.proofs.NameLemmas.{words_of}
 use Rattle.blif_write.proofs.writing.add_output_names.Goals as goal
 

@@ -1,7 +1,4 @@
-use Rattle.std.proofs.Common.{◌∷◌, take}
-use Rattle.std.specs.List.{flat_map}
-use Rattle.tl_piece.specs.Added.{IsAdded}
-use Rattle.netlist.specs.declared.flat.OutPort.{OutPort}
+use Rattle.blif_write.proofs.Common.{◌∷◌, take, flat_map, IsAdded, OutPort}
 use Rattle.blif_write.proofs.writing.add_output_names.Given as goal
 
 abbrev pub invariant-loop-output : goal.invariant-loop-output

@@ -1,4 +1,4 @@
-use Rattle.tl_piece.proofs.AddedLemmas.{added_twice}
+use Rattle.blif_write.proofs.Common.{added_twice}
 use Rattle.blif_write.proofs.writing.add_outputs.Goals as goal
 
 pub returns : goal.returns

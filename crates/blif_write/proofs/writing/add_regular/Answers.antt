@@ -1,8 +1,4 @@
-use Rattle.std.proofs.Common.{ℕ, ◌≡◌, ◌<◌, ◌∷◌, [], List, length, get_or, ap, sym, arith, ◌∙◌}
-use Rattle.std.proofs.lemmas.List.{length-map}
-use Rattle.list_laws.proofs.Members.{In-get_or}
-use Rattle.tl_piece.proofs.AddedLemmas.{added_as, added_none}
-use Rattle.tl_piece.proofs.PartLemmas.{added_part}
+use Rattle.blif_write.proofs.Common.{ℕ, ◌≡◌, ◌<◌, ◌∷◌, [], List, length, get_or, ap, sym, arith, ◌∙◌, length-map, In-get_or, added_as, added_none, added_part}
 use Rattle.blif_write.specs.OwnNames.{Naming}
 use Rattle.blif_write.proofs.NameLemmas.{name_at}
 use Rattle.blif_write.proofs.writing.add_regular.Goals as goal

@@ -1,6 +1,4 @@
-use Rattle.std.proofs.Common.{◌∷◌, take}
-use Rattle.std.specs.List.{flat_map}
-use Rattle.tl_piece.specs.Added.{IsAdded}
+use Rattle.blif_write.proofs.Common.{◌∷◌, take, flat_map, IsAdded}
 use Rattle.blif_write.proofs.writing.add_regular.Given as goal
 
 abbrev pub invariant-loop-place : goal.invariant-loop-place

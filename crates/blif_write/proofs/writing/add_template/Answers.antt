@@ -1,4 +1,4 @@
-use Rattle.tl_piece.proofs.AddedLemmas.{added_as, added_twice}
+use Rattle.blif_write.proofs.Common.{added_as, added_twice}
 use Rattle.blif_write.proofs.NetlistLemmas.{template_is}
 use Rattle.blif_write.proofs.writing.add_template.Goals as goal
 

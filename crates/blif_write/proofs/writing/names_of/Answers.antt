@@ -1,9 +1,4 @@
-use Rattle.std.proofs.Common.{◌≡◌, ℕ, ◌≤◌, ◌<◌, List, [], not, length, map, get_or, ap, sym, subst, ◌∙◌, arith}
-use Rattle.list_laws.proofs.Members.{length-filter_le}
-use Rattle.lut_sim.specs.declared.shape.Shape.{Shape}
-use Rattle.netlist.specs.FlatValue.{FlatValue}
-use Rattle.netlist.specs.Models.{has_name}
-use Rattle.param_list.specs.Parameters.{ParamsValue, param_names, regular_names}
+use Rattle.blif_write.proofs.Common.{◌≡◌, ℕ, ◌≤◌, ◌<◌, List, [], not, length, map, get_or, ap, sym, subst, ◌∙◌, arith, length-filter_le, Shape, FlatValue, has_name, ParamsValue, param_names, regular_names}
 use Rattle.blif_write.specs.OwnNames.{naming_of}
 use Rattle.blif_write.proofs.NameLemmas.{placed_names, placed_within, placed_count, same_naming, same_shape}
 use Rattle.blif_write.proofs.writing.names_of.Goals as goal

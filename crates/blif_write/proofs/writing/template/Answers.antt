@@ -1,5 +1,4 @@
-use Rattle.std.proofs.Common.{rules}
-use Rattle.tl_piece.proofs.AddedLemmas.{put_over}
+use Rattle.blif_write.proofs.Common.{rules, put_over}
 use Rattle.blif_write.proofs.MeaningLemmas.{template_means}
 use Rattle.blif_write.proofs.PortLemmas.{ports_there}
 use Rattle.blif_write.proofs.writing.template.Goals as goal

@@ -1,7 +1,6 @@
-use Rattle.std.proofs.Common.{ap}
+use Rattle.blif_write.proofs.Common.{ap, added_as, added_twice}
 use Rattle.blif_write.specs.OwnNames.{Naming}
 use Rattle.blif_write.proofs.NameLemmas.{own_is}
-use Rattle.tl_piece.proofs.AddedLemmas.{added_as, added_twice}
 use Rattle.blif_write.proofs.names.Names.add_own.Goals as goal
 
 pub returns : goal.returns

@@ -1,4 +1,4 @@
-use Rattle.std.proofs.Common.{sym, ◌∙◌}
+use Rattle.blif_write.proofs.Common.{sym, ◌∙◌}
 use Rattle.blif_write.proofs.NameLemmas.{other_literal}
 use Rattle.blif_write.proofs.names.Names.is_own.Goals as goal
 
