@@ -1,16 +1,8 @@
 -- A search that has handed on all that it met has found few low nodes that block the node.
-use Rattle.std.proofs.Common.{◌≡◌, ℕ, zero, suc, ◌+◌, ◌<◌, ◌≤◌, Bool, true, false, cond, List, [], ◌∷◌, ◌++◌, length, refl, sym, ap, ◌∙◌, subst, inl, inr, eqb, arith, length-append}
-use Rattle.std.proofs.lemmas.Bool.{eqb-true, eqb-false, cases_lt, cases_Bool}
-use Rattle.aig_core.specs.Aig.{IsAnd}
-use Rattle.list_laws.specs.Members.{In, Within}
-use Rattle.list_laws.specs.Order.{IsAscending}
-use Rattle.list_laws.proofs.Choice.{choose, choose_both}
-use Rattle.cut_sets.specs.Cuts.{Blocks, member, CanBeLeaf}
+use Rattle.flow_cert.proofs.Common.{◌≡◌, ℕ, zero, suc, ◌+◌, ◌<◌, ◌≤◌, Bool, true, false, cond, List, [], ◌∷◌, ◌++◌, length, refl, sym, ap, ◌∙◌, subst, inl, inr, eqb, arith, length-append, eqb-true, eqb-false, cases_lt, cases_Bool, IsAnd, In, Within, IsAscending, choose, choose_both, Blocks, member, CanBeLeaf, AreApart, joined_apart, apart_short, In-append}
 use Rattle.cut_enum.specs.Merging.{union}
 use Rattle.cut_enum.proofs.SetLemmas.{In-union, union_left, IsAscending-union}
 use Rattle.flow_cert.specs.Net.{Net, IsLow, IsInner, IsUpper, IsEnd, IsNet}
-use Rattle.list_laws.proofs.Apart.{AreApart, joined_apart, apart_short}
-use Rattle.list_laws.proofs.Members.{In-append}
 use Rattle.flow_cert.specs.Links.{IsChoice, HasChosen, IsLinked}
 use Rattle.flow_cert.specs.Search.{IsHandedOn}
 use Rattle.flow_cert.proofs.OnceLemmas.{ascending_apart}

@@ -1,14 +1,5 @@
 -- The steps of the needed nodes and the depth of the roots are a valid certificate.
-use Rattle.std.proofs.Common.{◌≡◌, ℕ, zero, suc, ◌+◌, ◌/◌, ◌^◌, ◌<◌, ◌≤◌, eqb, List, [], ◌∷◌, refl, sym, ap, ◌∙◌, subst, inl, inr, arith}
-use Rattle.std.proofs.lemmas.Bool.{eqb-true, eqb-false}
-use Rattle.aig_core.specs.Aig.{Aig, first_and, node_count, IsAnd, AreNormal}
-use Rattle.list_laws.specs.Members.{In}
-use Rattle.list_laws.proofs.Choice.{choose}
-use Rattle.list_laws.proofs.Members.{In-get}
-use Rattle.depth_label.specs.Label.{LabelsValue, label_of}
-use Rattle.cert_check.specs.CertificateValue.{StepValue, CertificateValue}
-use Rattle.cert_check.specs.Valid.{claim_of, IsJustified, Needs, node, complemented, SomeNeeds, IsReached, IsValid}
-use Rattle.cert_check.specs.WrittenText.{IsWritable}
+use Rattle.flow_cert.proofs.Common.{◌≡◌, ℕ, zero, suc, ◌+◌, ◌/◌, ◌^◌, ◌<◌, ◌≤◌, eqb, List, [], ◌∷◌, refl, sym, ap, ◌∙◌, subst, inl, inr, arith, eqb-true, eqb-false, Aig, first_and, node_count, IsAnd, AreNormal, In, choose, In-get, LabelsValue, label_of, StepValue, CertificateValue, claim_of, IsJustified, Needs, node, complemented, SomeNeeds, IsReached, IsValid, IsWritable}
 use Rattle.flow_cert.specs.Justify.{IsStepOf}
 use Rattle.flow_cert.specs.Needed.{AreLabelClaims, IsShared, IsNeeded, HasStep, AreNeeded}
 use Rattle.flow_cert.specs.Needed as needed

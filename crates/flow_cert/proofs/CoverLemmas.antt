@@ -1,13 +1,7 @@
 -- The best cut of every AND node is a cover, in which each node has its label as its depth.
-use Rattle.std.proofs.Common.{◌≡◌, ℕ, zero, suc, ◌+◌, ◌-◌, ◌/◌, ◌^◌, ◌<◌, ◌≤◌, Bool, true, ◌&&◌, cond, leb, ltb, List, [], ◌∷◌, Option, Some, None, IsSome, refl, sym, ap, ◌∙◌, subst, inl, inr, arith}
-use Rattle.std.proofs.lemmas.Bool.{cases_lt, cases_Bool, leb-true, le-leb, ltb-true, lt-ltb, and_parts, and_from}
-use Rattle.std.proofs.lemmas.Option.{none-some, same_Some}
-use Rattle.aig_core.specs.Aig.{Aig, first_and, node_count, IsAnd, AreNormal}
-use Rattle.list_laws.specs.Members.{In}
-use Rattle.cut_sets.specs.Cuts.{IsCut}
+use Rattle.flow_cert.proofs.Common.{◌≡◌, ℕ, zero, suc, ◌+◌, ◌-◌, ◌/◌, ◌^◌, ◌<◌, ◌≤◌, Bool, true, ◌&&◌, cond, leb, ltb, List, [], ◌∷◌, Option, Some, None, IsSome, refl, sym, ap, ◌∙◌, subst, inl, inr, arith, cases_lt, cases_Bool, leb-true, le-leb, ltb-true, lt-ltb, and_parts, and_from, none-some, same_Some, Aig, first_and, node_count, IsAnd, AreNormal, In, IsCut, height, LabelsValue, label_of, best_of, AreLabelled}
 use Rattle.cut_sets.specs.Covers.{IsCover, HasDepth, source, free, table, IsLeastDepth}
 use Rattle.cut_enum.specs.Table.{AreRows, row_at}
-use Rattle.depth_label.specs.Label.{height, LabelsValue, label_of, best_of, AreLabelled}
 use Rattle.depth_label.proofs.LabelLemmas.{labels_least}
 use Rattle.flow_cert.specs.Net.{AreRight}
 use Rattle.flow_cert.specs.Target.{IsTarget, nothing, node, complemented}

@@ -1,13 +1,5 @@
 -- A node with a label of at least 1 has a fan-in to which a path comes.
-use Rattle.std.proofs.Common.{◌≡◌, ℕ, ◌/◌, ◌<◌, ◌≤◌, List, [], ◌∷◌, ◌++◌, reverse, refl, sym, ap, ◌∙◌, subst, inl, inr, ◌⊎◌, arith}
-use Rattle.std.proofs.lemmas.Bool.{cases_lt}
-use Rattle.std.proofs.lemmas.List.{reverse-append}
-use Rattle.aig_core.specs.Aig.{Aig, first_and, node_count, IsAnd, IsNode, IsNormal, IsSource, AreNormal}
-use Rattle.aig_core.specs.declared.lit.Kind.TheVariants.{Regular}
-use Rattle.aig_core.specs.declared.lit.Pair.{Pair}
-use Rattle.cut_sets.specs.Cuts.{Blocks, fan_ins, CanBeLeaf}
-use Rattle.depth_label.specs.Label.{height}
-use Rattle.cert_check.specs.Paths.{IsFanIn, IsPath}
+use Rattle.flow_cert.proofs.Common.{◌≡◌, ℕ, ◌/◌, ◌<◌, ◌≤◌, List, [], ◌∷◌, ◌++◌, reverse, refl, sym, ap, ◌∙◌, subst, inl, inr, ◌⊎◌, arith, cases_lt, reverse-append, Aig, first_and, node_count, IsAnd, IsNode, IsNormal, IsSource, AreNormal, Regular, Pair, Blocks, fan_ins, CanBeLeaf, height, IsFanIn, IsPath}
 use Rattle.flow_cert.specs.Net.{AreRight}
 use Rattle.flow_cert.specs.Justify.{IsWayDown, IsDownTo}
 use Rattle.flow_cert.proofs.GraphLemmas.{free_or_leaf, source_not_and}

@@ -1,9 +1,5 @@
 -- The links before the first path.
-use Rattle.std.proofs.Common.{◌≡◌, ℕ, ◌+◌, ◌<◌, ◌≤◌, true, ◌&&◌, cond, ltb, eqb, [], length, get_or, refl, sym, ap, ◌∙◌, subst, inl, inr, arith}
-use Rattle.std.proofs.lemmas.Bool.{ltb-true, lt-ltb, eqb-false, cases_Bool, and_parts, and_from}
-use Rattle.aig_core.specs.Aig.{first_and, node_count, IsAnd}
-use Rattle.list_laws.proofs.Choice.{choose}
-use Rattle.depth_label.specs.Label.{label_of}
+use Rattle.flow_cert.proofs.Common.{◌≡◌, ℕ, ◌+◌, ◌<◌, ◌≤◌, true, ◌&&◌, cond, ltb, eqb, [], length, get_or, refl, sym, ap, ◌∙◌, subst, inl, inr, arith, ltb-true, lt-ltb, eqb-false, cases_Bool, and_parts, and_from, first_and, node_count, IsAnd, choose, label_of}
 use Rattle.flow_cert.specs.Net.{SiteValue, net_of, is_inner, IsInner}
 use Rattle.flow_cert.specs.Links.{HasChosen, AreRouted, first_owner, owner_in, AreLinks}
 use Rattle.flow_cert.specs.Stamps.{zeros}

@@ -1,16 +1,6 @@
 -- Fan-ins of a graph.
-use Rattle.std.proofs.Common.{◌≡◌, ℕ, ◌-◌, ◌/◌, ◌<◌, ◌≤◌, List, [], ◌∷◌, ◌++◌, length, get_or, Some, refl, sym, ◌∙◌, ap, subst, inl, inr, ◌⊎◌, arith}
-use Rattle.std.proofs.lemmas.Option.{slice_get_within, slice_get-get_or}
-use Rattle.std.proofs.lemmas.Bool.{cases_eq, cases_lt}
-use Rattle.std.specs.List.{slice_get}
-use Rattle.aig_core.specs.Aig.{Aig, first_and, node_count, IsAnd, IsNode, IsNormal, IsSource, AreNormal}
+use Rattle.flow_cert.proofs.Common.{◌≡◌, ℕ, ◌-◌, ◌/◌, ◌<◌, ◌≤◌, List, [], ◌∷◌, ◌++◌, length, get_or, Some, refl, sym, ◌∙◌, ap, subst, inl, inr, ◌⊎◌, arith, slice_get_within, slice_get-get_or, cases_eq, cases_lt, slice_get, Aig, first_and, node_count, IsAnd, IsNode, IsNormal, IsSource, AreNormal, Regular, Parameter, Pair, source_below, node_normal, same_pair, In, Blocks, member, constant, parameter, fan_ins, CanBeLeaf, IsFanIn, first, second, Climbs, IsPath}
 use Rattle.aig_core.specs.declared.lit.Kind.{Kind}
-use Rattle.aig_core.specs.declared.lit.Kind.TheVariants.{Regular, Parameter}
-use Rattle.aig_core.specs.declared.lit.Pair.{Pair}
-use Rattle.aig_core.proofs.NodeLemmas.{source_below, node_normal, same_pair}
-use Rattle.list_laws.specs.Members.{In}
-use Rattle.cut_sets.specs.Cuts.{Blocks, member, constant, parameter, fan_ins, CanBeLeaf}
-use Rattle.cert_check.specs.Paths.{IsFanIn, first, second, Climbs, IsPath}
 
 -- a node with a pair is an AND node
 node_and : (g : Aig) (p : Pair) (n : ℕ) → IsNode g p n → IsAnd g n

@@ -1,14 +1,5 @@
 -- The search, step by step.
-use Rattle.std.proofs.Common.{◌≡◌, ℕ, ◌+◌, ◌-◌, ◌/◌, ◌<◌, ◌≤◌, List, [], ◌∷◌, ◌++◌, length, get_or, set, refl, sym, ap, ◌∙◌, subst, inl, inr, arith, length-append, get_or-set_other, get_or-set_same, length-set}
-use Rattle.std.proofs.lemmas.Bool.{cases_eq, cases_lt}
-use Rattle.std.proofs.lemmas.List.{get_or_push}
-use Rattle.std.proofs.Math.ListN.{get_or-append}
-use Rattle.aig_core.specs.Aig.{Aig, node_count, IsNode}
-use Rattle.aig_core.specs.declared.lit.Pair.{Pair}
-use Rattle.list_laws.specs.Members.{In}
-use Rattle.list_laws.proofs.Members.{In-get_or, In-left, In-right, In-push}
-use Rattle.cut_sets.specs.Cuts.{CanBeLeaf}
-use Rattle.cert_check.specs.Paths.{IsFanIn, first, second}
+use Rattle.flow_cert.proofs.Common.{◌≡◌, ℕ, ◌+◌, ◌-◌, ◌/◌, ◌<◌, ◌≤◌, List, [], ◌∷◌, ◌++◌, length, get_or, set, refl, sym, ap, ◌∙◌, subst, inl, inr, arith, length-append, get_or-set_other, get_or-set_same, length-set, cases_eq, cases_lt, get_or_push, get_or-append, Aig, node_count, IsNode, Pair, In, In-get_or, In-left, In-right, In-push, CanBeLeaf, IsFanIn, first, second}
 use Rattle.flow_cert.specs.Net.{Net, IsLow, IsInner, IsEnd, IsNet}
 use Rattle.flow_cert.specs.Links.{IsChoice, IsLinked}
 use Rattle.flow_cert.specs.Search.{ComesFrom, IsHandedOn, IsSearched, IsSearching, Extends, HasPushed, old, new, HasTried, leaf, free}

@@ -1,16 +1,7 @@
 -- Labels do not fall on the way up, and a node has no cut that is lower than its label.
-use Rattle.std.proofs.Common.{◌≡◌, ℕ, suc, ◌+◌, ◌-◌, ◌<◌, ◌≤◌, List, [], ◌∷◌, length, refl, ap, subst, inl, inr, ◌⊎◌, arith}
-use Rattle.std.proofs.lemmas.Bool.{cases_lt}
-use Rattle.aig_core.specs.Aig.{Aig, first_and, node_count, IsAnd, AreNormal}
-use Rattle.aig_core.specs.declared.lit.Kind.TheVariants.{Regular}
-use Rattle.aig_core.proofs.NodeLemmas.{source_below}
-use Rattle.list_laws.specs.Members.{In, Within}
-use Rattle.list_laws.specs.Order.{IsAscending}
-use Rattle.cut_sets.specs.Cuts.{Blocks, CanBeLeaf}
+use Rattle.flow_cert.proofs.Common.{◌≡◌, ℕ, suc, ◌+◌, ◌-◌, ◌<◌, ◌≤◌, List, [], ◌∷◌, length, refl, ap, subst, inl, inr, ◌⊎◌, arith, cases_lt, Aig, first_and, node_count, IsAnd, AreNormal, Regular, source_below, In, Within, IsAscending, Blocks, CanBeLeaf, greatest, height, IsFanIn}
 use Rattle.cut_sets.proofs.BlockLemmas.{contains_one}
-use Rattle.depth_label.specs.Label.{greatest, height}
 use Rattle.depth_label.proofs.DepthLemmas.{greatest_le}
-use Rattle.cert_check.specs.Paths.{IsFanIn}
 use Rattle.flow_cert.specs.Net.{AreRight}
 use Rattle.flow_cert.proofs.GraphLemmas.{reader_and, blocked_below}
 

@@ -1,3 +1,4 @@
+mod Common
 mod OnceLemmas
 mod GraphLemmas
 mod LabelLemmas

@@ -1,7 +1,5 @@
 -- A node without an owner, and one choice after another, give one more path.
-use Rattle.std.proofs.Common.{◌≡◌, ℕ, ◌+◌, ◌<◌, ◌≤◌, ◌∷◌, length, sym, ap, ◌∙◌, subst, inl, inr, ◌⊎◌, arith}
-use Rattle.std.proofs.lemmas.Bool.{cases_eq}
-use Rattle.list_laws.specs.Members.{In}
+use Rattle.flow_cert.proofs.Common.{◌≡◌, ℕ, ◌+◌, ◌<◌, ◌≤◌, ◌∷◌, length, sym, ap, ◌∙◌, subst, inl, inr, ◌⊎◌, arith, cases_eq, In}
 use Rattle.flow_cert.specs.Net.{Net, IsInner, IsEnd}
 use Rattle.flow_cert.specs.Links.{IsChoice, HasChosen, IsLinked, IsUpdated}
 use Rattle.flow_cert.proofs.GraphLemmas.{leaf_pos}

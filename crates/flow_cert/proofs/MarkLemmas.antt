@@ -1,11 +1,5 @@
 -- The marks of the nodes that two paths of a step share, node by node.
-use Rattle.std.proofs.Common.{◌≡◌, ℕ, ◌+◌, ◌-◌, ◌<◌, ◌≤◌, Bool, true, false, List, [], ◌∷◌, ◌++◌, length, get_or, set, Some, refl, sym, ap, ◌∙◌, subst, inl, inr, ◌⊎◌, arith, length-set, get_or-set_other, get_or-set_same}
-use Rattle.std.specs.Prelude.{slice_get}
-use Rattle.std.proofs.lemmas.Bool.{cases_eq, cases_lt}
-use Rattle.std.proofs.lemmas.Option.{slice_get_within, same_Some}
-use Rattle.list_laws.specs.Members.{In}
-use Rattle.list_laws.proofs.Members.{In-left, In-right, In-push}
-use Rattle.cert_check.specs.CertificateValue.{PathValue, StepValue}
+use Rattle.flow_cert.proofs.Common.{◌≡◌, ℕ, ◌+◌, ◌-◌, ◌<◌, ◌≤◌, Bool, true, false, List, [], ◌∷◌, ◌++◌, length, get_or, set, Some, refl, sym, ap, ◌∙◌, subst, inl, inr, ◌⊎◌, arith, length-set, get_or-set_other, get_or-set_same, slice_get, cases_eq, cases_lt, slice_get_within, same_Some, In, In-left, In-right, In-push, PathValue, StepValue}
 use Rattle.flow_cert.specs.Needed.{IsShared}
 use Rattle.flow_cert.specs.Marks.{StandsIn, HasTaken, first, again, shared, AreTaken, AreMarkedTo, AreMarked}
 use Rattle.flow_cert.specs.Stamps.{zeros}

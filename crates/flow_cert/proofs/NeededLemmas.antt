@@ -1,11 +1,5 @@
 -- The nodes whose claims are needed: they are the same where the paths are, and the numbers of lines have no part in them.
-use Rattle.std.proofs.Common.{◌≡◌, ℕ, ◌≤◌, ◌<◌, List, map, Some, slice_get, refl, sym, ap, ◌∙◌, subst, arith}
-use Rattle.aig_core.specs.Aig.{Aig}
-use Rattle.list_laws.specs.Members.{In}
-use Rattle.list_laws.proofs.Members.{In-map, from_map}
-use Rattle.depth_label.specs.Label.{LabelsValue, label_of}
-use Rattle.cert_check.specs.CertificateValue.{PathValue, StepValue, CertificateValue}
-use Rattle.cert_check.specs.WrittenText.{bare_path, bare_step, bare}
+use Rattle.flow_cert.proofs.Common.{◌≡◌, ℕ, ◌≤◌, ◌<◌, List, map, Some, slice_get, refl, sym, ap, ◌∙◌, subst, arith, Aig, In, In-map, from_map, LabelsValue, label_of, PathValue, StepValue, CertificateValue, bare_path, bare_step, bare}
 use Rattle.cert_check.proofs.BareLemmas.{got, bared}
 use Rattle.flow_cert.specs.Needed.{AreLabelClaims, IsFirstToNeed, IsShared, IsNeeded, root, shared, AreNeeded, ShowAlike, HasOneClaiming}
 

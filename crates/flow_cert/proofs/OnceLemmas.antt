@@ -1,11 +1,5 @@
 -- Lists of numbers in which none occurs twice.
-use Rattle.std.proofs.Common.{◌≡◌, ℕ, zero, suc, ◌<◌, ◌≤◌, List, [], ◌∷◌, ◌++◌, length, get_or, Some, refl, sym, ap, ◌∙◌, subst, inl, inr, arith}
-use Rattle.std.proofs.lemmas.Bool.{cases_eq}
-use Rattle.std.proofs.lemmas.Option.{slice_get-get_or}
-use Rattle.list_laws.specs.Members.{In}
-use Rattle.list_laws.specs.Order.{IsAscending}
-use Rattle.list_laws.proofs.Apart.{AreApart, joined_apart, apart_once, apart_short}
-use Rattle.list_laws.proofs.Members.{place_in}
+use Rattle.flow_cert.proofs.Common.{◌≡◌, ℕ, zero, suc, ◌<◌, ◌≤◌, List, [], ◌∷◌, ◌++◌, length, get_or, Some, refl, sym, ap, ◌∙◌, subst, inl, inr, arith, cases_eq, slice_get-get_or, In, IsAscending, AreApart, joined_apart, apart_once, apart_short, place_in}
 use Rattle.flow_cert.specs.Net.{StandOnce}
 
 -- the same of the list's parts

@@ -1,13 +1,5 @@
 -- From labels that are right to the net of a node, and from its paths to what shows the label.
-use Rattle.std.proofs.Common.{◌≡◌, ℕ, ◌+◌, ◌<◌, ◌≤◌, eqb, List, [], ◌∷◌, length, refl, sym, ◌∙◌, subst, inl, inr, arith}
-use Rattle.std.proofs.lemmas.Bool.{eqb-true, eqb-false}
-use Rattle.std.proofs.lemmas.Option.{slice_get_within}
-use Rattle.aig_core.specs.Aig.{Aig, first_and, IsAnd, AreNormal}
-use Rattle.list_laws.proofs.Choice.{choose}
-use Rattle.depth_label.specs.Label.{LabelsValue, label_of}
-use Rattle.cert_check.specs.CertificateValue.{PathValue}
-use Rattle.cert_check.specs.Paths.{IsPath}
-use Rattle.cert_check.specs.Valid.{path_count}
+use Rattle.flow_cert.proofs.Common.{◌≡◌, ℕ, ◌+◌, ◌<◌, ◌≤◌, eqb, List, [], ◌∷◌, length, refl, sym, ◌∙◌, subst, inl, inr, arith, eqb-true, eqb-false, slice_get_within, Aig, first_and, IsAnd, AreNormal, choose, LabelsValue, label_of, PathValue, IsPath, path_count}
 use Rattle.flow_cert.specs.Net.{SiteValue, net_at, net_of, IsNet, AreReaders, AreRight}
 use Rattle.flow_cert.specs.Links.{owner_in, AreLinks}
 use Rattle.flow_cert.specs.Ways.{AreWays}

@@ -1,7 +1,5 @@
 -- Values with stamps, as the list that they count as.
-use Rattle.std.proofs.Common.{◌≡◌, ℕ, zero, suc, ◌<◌, ◌≤◌, eqb, List, [], ◌∷◌, length, get_or, set, refl, ap, ◌∙◌, arith}
-use Rattle.std.proofs.lemmas.Bool.{eqb-true, eqb-false}
-use Rattle.list_laws.proofs.Choice.{choose}
+use Rattle.flow_cert.proofs.Common.{◌≡◌, ℕ, zero, suc, ◌<◌, ◌≤◌, eqb, List, [], ◌∷◌, length, get_or, set, refl, ap, ◌∙◌, arith, eqb-true, eqb-false, choose, get_or_read}
 use Rattle.flow_cert.specs.Stamps.{zeros, counted, values_at}
 
 pub length_values : (p : ℕ) (ss vs : List ℕ) → length ss ≡ length vs → length (values_at p ss vs) ≡ length vs
@@ -60,10 +58,5 @@ pub zeros_none : (p n : ℕ) → 1 ≤ p → (i : ℕ) → get_or (zeros n) i 0 
 zeros_none p n some i e = let z : get_or (zeros n) i 0 ≡ 0 = zero_at n i in omega arith
 
 -- an element that was read, whatever stands for one past the end
-pub read_at : {A : Type 0} (xs : List A) (i : ℕ) (x d : A) → i < length xs → x ≡ get_or xs i x → x ≡ get_or xs i d
-read_at [] i x d l e = absurd (omega arith)
-read_at (y ∷ ys) zero x d l e = e
-read_at (y ∷ ys) (suc i) x d l e = read_at ys i x d (omega arith) e
-
 pub read_is : (xs : List ℕ) (i x : ℕ) → i < length xs → x ≡ get_or xs i x → x ≡ get_or xs i 0
-read_is xs i x l e = read_at xs i x 0 l e
+read_is xs i x l e = get_or_read xs i x l e 0

@@ -1,14 +1,6 @@
 -- The steps of the needed nodes, from above.
-use Rattle.std.proofs.Common.{◌≡◌, ℕ, ◌+◌, ◌<◌, ◌≤◌, Bool, true, false, List, [], ◌∷◌, ◌++◌, length, map, reverse, refl, sym, ap, ◌∙◌, subst, inl, inr, arith}
-use Rattle.std.proofs.lemmas.Bool.{cases_eq}
-use Rattle.std.proofs.lemmas.List.{reverse-append, map-append}
-use Rattle.std.proofs.lemmas.Option.{slice_get_within}
-use Rattle.aig_core.specs.Aig.{Aig, first_and, node_count, IsAnd, AreNormal}
-use Rattle.list_laws.specs.Members.{In}
-use Rattle.list_laws.specs.Order.{IsAscending, IsDescending}
-use Rattle.list_laws.proofs.Members.{In-left, In-right, In-push, In-map, from_map}
+use Rattle.flow_cert.proofs.Common.{◌≡◌, ℕ, ◌+◌, ◌<◌, ◌≤◌, Bool, true, false, List, [], ◌∷◌, ◌++◌, length, map, reverse, refl, sym, ap, ◌∙◌, subst, inl, inr, arith, cases_eq, reverse-append, map-append, slice_get_within, Aig, first_and, node_count, IsAnd, AreNormal, In, IsAscending, IsDescending, In-left, In-right, In-push, In-map, from_map, StepValue}
 use Rattle.list_laws.proofs.Reversed.{reversed_in, in_reversed}
-use Rattle.cert_check.specs.CertificateValue.{StepValue}
 use Rattle.flow_cert.specs.Net.{AreRight}
 use Rattle.flow_cert.specs.Justify.{IsStepOf}
 use Rattle.flow_cert.specs.Needed.{IsShared, HasStep}

@@ -1,33 +1,20 @@
 -- The depth that roots need, root by root.
-use Rattle.std.proofs.Common.{◌≡◌, ℕ, zero, suc, ◌+◌, ◌/◌, ◌%◌, ◌<◌, ◌≤◌, List, [], ◌∷◌, ◌++◌, take, length, get_or, refl, sym, ap, ◌∙◌, subst, inl, inr, arith}
-use Rattle.aig_core.specs.Aig.{Aig, IsAnd, IsSource}
-use Rattle.aig_core.specs.declared.lit.Kind.TheVariants.{Regular}
+use Rattle.flow_cert.proofs.Common.{◌≡◌, ℕ, ◌+◌, ◌/◌, ◌%◌, ◌<◌, ◌≤◌, List, [], ◌∷◌, ◌++◌, take, length, get_or, refl, sym, ap, ◌∙◌, subst, inl, inr, arith, Aig, IsAnd, IsSource, Regular, lits_of, In, Needs, In-append, In-map, In-get_or, map-append, take_all, take_more}
 use Rattle.aig_core.specs.declared.lit.Lit.{Lit}
-use Rattle.aig_core.specs.Roots.{lits_of}
-use Rattle.list_laws.specs.Members.{In}
-use Rattle.cert_check.specs.Valid.{Needs}
 use Rattle.cert_check.specs.Valid as valid
 use Rattle.flow_cert.specs.Needed.{IsFirstToNeed}
-use Rattle.list_laws.proofs.Members.{In-append}
 use Rattle.flow_cert.specs.Target.{IsLevel, HasBegin, nothing, node, complemented, IsTarget, IsDeeper, no_more, at_node, at_source}
 
 -- a literal of a list
 pub in_lits : (ls : List Lit) (i : ℕ) (d : Lit) → i < length ls → In (lits_of ls) (get_or ls i d).0
-in_lits [] i d h = absurd (omega arith)
-in_lits (x ∷ xs) zero d h = inl refl
-in_lits (x ∷ xs) (suc i) d h = inr (in_lits xs i d (omega arith))
+in_lits ls i d h = In-map (λ (l : Lit). l.0) ls (get_or ls i d) (In-get_or ls i d h)
 
 -- the first literals, with one more
 pub lits_more : (ls : List Lit) (i : ℕ) (d : Lit) → i < length ls → lits_of (take (i + 1) ls) ≡ lits_of (take i ls) ++ (get_or ls i d).0 ∷ []
-lits_more [] i d h = absurd (omega arith)
-lits_more (x ∷ xs) zero d h = refl
-lits_more (x ∷ xs) (suc i) d h = subst (λ n. lits_of (take n (x ∷ xs)) ≡ x.0 ∷ (lits_of (take i xs) ++ (get_or xs i d).0 ∷ [])) (let q : suc (i + 1) ≡ suc i + 1 = omega arith in q) (ap (λ ys. x.0 ∷ ys) (lits_more xs i d (omega arith)))
+lits_more ls i d h = ap lits_of (take_more ls i d h) ∙ map-append (λ (l : Lit). l.0) (take i ls) (get_or ls i d ∷ [])
 
 pub lits_all : (ls : List Lit) (i : ℕ) → length ls ≤ i → lits_of (take i ls) ≡ lits_of ls
-lits_all [] zero l = refl
-lits_all [] (suc i) l = refl
-lits_all (x ∷ xs) zero l = absurd (omega arith)
-lits_all (x ∷ xs) (suc i) l = ap (λ ys. x.0 ∷ ys) (lits_all xs i (omega arith))
+lits_all ls i l = ap lits_of (take_all i ls l)
 
 -- the first root that needs a depth is one of the roots, and there is one such at most
 pub first_in : (g : Aig) (label : ℕ → ℕ) (d : ℕ) (roots : List ℕ) (l : ℕ) → IsFirstToNeed g label d roots l → In roots l

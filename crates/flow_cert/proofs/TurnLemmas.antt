@@ -1,11 +1,6 @@
 -- A search that met a node without an owner gives one more path: the owners along it are changed from its last node on, back to
 -- its first.
-use Rattle.std.proofs.Common.{◌≡◌, ℕ, ◌+◌, ◌-◌, ◌<◌, ◌≤◌, cond, eqb, List, [], ◌∷◌, ◌++◌, length, get_or, set, get_or-set_other, get_or-set_same, length-append, refl, sym, ap, ◌∙◌, subst, inl, inr, ◌⊎◌, arith}
-use Rattle.std.proofs.lemmas.Bool.{eqb-true, eqb-false}
-use Rattle.aig_core.specs.Aig.{IsSource}
-use Rattle.aig_core.specs.declared.lit.Kind.TheVariants.{Regular}
-use Rattle.list_laws.proofs.Choice.{choose}
-use Rattle.list_laws.proofs.Members.{In-get_or, In-push}
+use Rattle.flow_cert.proofs.Common.{◌≡◌, ℕ, ◌+◌, ◌-◌, ◌<◌, ◌≤◌, cond, eqb, List, [], ◌∷◌, ◌++◌, length, get_or, set, get_or-set_other, get_or-set_same, length-append, refl, sym, ap, ◌∙◌, subst, inl, inr, ◌⊎◌, arith, eqb-true, eqb-false, IsSource, Regular, choose, In-get_or, In-push}
 use Rattle.flow_cert.specs.Net.{Net, SiteValue, net_of, IsInner}
 use Rattle.flow_cert.specs.Links.{IsChoice, IsLinked, AreRouted, IsUpdated, first_owner, owner_in}
 use Rattle.flow_cert.specs.Search.{IsSearched, CanTurn}

@@ -1,14 +1,5 @@
 -- The walk down through deep nodes, reading by reading.
-use Rattle.std.proofs.Common.{◌≡◌, ℕ, ◌+◌, ◌/◌, ◌<◌, ◌≤◌, List, [], ◌∷◌, ◌++◌, length, get_or, set, get_or-set_other, get_or-set_same, length-set, length-append, refl, sym, ap, ◌∙◌, subst, inl, inr, ◌⊎◌, arith}
-use Rattle.std.proofs.lemmas.Bool.{cases_eq, cases_lt}
-use Rattle.std.proofs.Math.ListN.{get_or-append}
-use Rattle.aig_core.specs.Aig.{Aig, first_and, node_count, IsAnd, IsNode, AreNormal}
-use Rattle.aig_core.specs.declared.lit.Pair.{Pair}
-use Rattle.list_laws.specs.Members.{In}
-use Rattle.list_laws.proofs.Members.{In-get_or, In-left, In-right, In-push}
-use Rattle.cut_sets.specs.Cuts.{CanBeLeaf}
-use Rattle.cert_check.specs.Paths.{IsFanIn, first, second}
-use Rattle.depth_label.specs.Label.{LabelsValue, label_of}
+use Rattle.flow_cert.proofs.Common.{◌≡◌, ℕ, ◌+◌, ◌/◌, ◌<◌, ◌≤◌, List, [], ◌∷◌, ◌++◌, length, get_or, set, get_or-set_other, get_or-set_same, length-set, length-append, refl, sym, ap, ◌∙◌, subst, inl, inr, ◌⊎◌, arith, cases_eq, cases_lt, get_or-append, Aig, first_and, node_count, IsAnd, IsNode, AreNormal, Pair, In, In-get_or, In-left, In-right, In-push, CanBeLeaf, IsFanIn, first, second, LabelsValue, label_of}
 use Rattle.flow_cert.specs.Net.{Net, net_at, IsUpper, IsEnd, IsMet, AreReaders, AreRight}
 use Rattle.flow_cert.specs.Stamps.{zeros}
 use Rattle.flow_cert.specs.Walks.{HasRead, free, again, low, deep, IsWalked}

@@ -1,17 +1,5 @@
 -- The ways up from the starts are paths, and share no low node.
-use Rattle.std.proofs.Common.{◌≡◌, ℕ, ◌+◌, ◌<◌, ◌≤◌, cond, ltb, List, [], ◌∷◌, ◌++◌, length, get_or, Some, refl, sym, ap, ◌∙◌, subst, inl, inr, eqb, arith, length-append}
-use Rattle.std.proofs.lemmas.Bool.{eqb-true, eqb-false, ltb-true, ltb-false, cases_lt}
-use Rattle.aig_core.specs.Aig.{IsAnd, IsSource}
-use Rattle.aig_core.specs.declared.lit.Kind.TheVariants.{Regular}
-use Rattle.list_laws.specs.Members.{In}
-use Rattle.list_laws.proofs.Choice.{choose}
-use Rattle.list_laws.proofs.Members.{In-get_or, In-push, place_in}
-use Rattle.list_laws.proofs.Places.{get_pushed}
-use Rattle.std.specs.Prelude.{slice_get}
-use Rattle.std.proofs.lemmas.Option.{slice_get_within}
-use Rattle.cut_sets.specs.Cuts.{CanBeLeaf}
-use Rattle.cert_check.specs.Paths.{IsFanIn, IsPath}
-use Rattle.cert_check.specs.CertificateValue.{PathValue}
+use Rattle.flow_cert.proofs.Common.{◌≡◌, ℕ, ◌+◌, ◌<◌, ◌≤◌, cond, ltb, List, [], ◌∷◌, ◌++◌, length, get_or, Some, refl, sym, ap, ◌∙◌, subst, inl, inr, eqb, arith, length-append, eqb-true, eqb-false, ltb-true, ltb-false, cases_lt, IsAnd, IsSource, Regular, In, choose, In-get_or, In-push, place_in, get_pushed, slice_get, slice_get_within, CanBeLeaf, IsFanIn, IsPath, PathValue}
 use Rattle.flow_cert.specs.Net.{Net, IsLow, IsInner, IsUpper, IsNet}
 use Rattle.flow_cert.specs.Links.{IsChoice, HasChosen, IsLinked, AreStarts}
 use Rattle.flow_cert.specs.Ways.{next_of, IsOnWay, low, upper, Passes, start, onward, IsWayTo, AreWays, AreWaysTo}

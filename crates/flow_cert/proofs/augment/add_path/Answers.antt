@@ -1,6 +1,4 @@
-use Rattle.std.proofs.Common.{◌≡◌, ◌<◌, ◌≤◌, ◌+◌, ◌∙◌, ◌++◌, ◌∷◌, [], arith, ap, length, get_or, refl, length-set}
-use Rattle.aig_core.specs.Aig.{node_count}
-use Rattle.list_laws.proofs.Members.{In-get_or}
+use Rattle.flow_cert.proofs.Common.{◌≡◌, ◌<◌, ◌≤◌, ◌+◌, ◌∙◌, ◌++◌, ◌∷◌, [], arith, ap, length, get_or, refl, length-set, node_count, In-get_or}
 use Rattle.flow_cert.specs.Net.{net_of}
 use Rattle.flow_cert.specs.Links.{owner_in}
 use Rattle.flow_cert.specs.Search.{CanTurn}

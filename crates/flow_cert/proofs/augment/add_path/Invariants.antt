@@ -1,5 +1,4 @@
-use Rattle.std.proofs.Common.{◌≡◌, ◌∷◌, [], ◌++◌, length, get_or}
-use Rattle.aig_core.specs.Aig.{node_count}
+use Rattle.flow_cert.proofs.Common.{◌≡◌, ◌∷◌, [], ◌++◌, length, get_or, node_count}
 use Rattle.flow_cert.specs.Net.{net_of}
 use Rattle.flow_cert.specs.Links.{owner_in}
 use Rattle.flow_cert.proofs.TurnLemmas.{IsTurning}

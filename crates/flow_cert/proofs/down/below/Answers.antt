@@ -1,6 +1,4 @@
-use Rattle.std.proofs.Common.{refl}
-use Rattle.depth_label.specs.Label.{label_of}
-use Rattle.cert_check.specs.Paths.{first, second}
+use Rattle.flow_cert.proofs.Common.{refl, label_of, first, second}
 use Rattle.flow_cert.proofs.DownLemmas.{second_way}
 use Rattle.flow_cert.proofs.down.below.Goals as goal
 

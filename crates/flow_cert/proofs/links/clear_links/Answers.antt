@@ -1,4 +1,4 @@
-use Rattle.std.proofs.Common.{length}
+use Rattle.flow_cert.proofs.Common.{length}
 use Rattle.flow_cert.proofs.FirstLemmas.{first_links}
 use Rattle.flow_cert.proofs.links.clear_links.Goals as goal
 

@@ -1,10 +1,4 @@
-use Rattle.std.proofs.Common.{◌≡◌, ◌+◌, ◌<◌, ◌≤◌, [], ◌∷◌, ◌++◌, arith, ap, ◌∙◌, sym, subst, take, length, get_or}
-use Rattle.std.proofs.lemmas.List.{take_all}
-use Rattle.std.proofs.lemmas.Option.{slice_get-get_or}
-use Rattle.list_laws.specs.Members.{In}
-use Rattle.list_laws.proofs.Members.{In-get_or, In-get}
-use Rattle.list_laws.proofs.Places.{take_get}
-use Rattle.cert_check.specs.CertificateValue.{PathValue, StepValue}
+use Rattle.flow_cert.proofs.Common.{◌≡◌, ◌+◌, ◌<◌, ◌≤◌, [], ◌∷◌, ◌++◌, arith, ap, ◌∙◌, sym, subst, take, length, get_or, take_all, slice_get-get_or, In, In-get_or, In-get, take_get, PathValue, StepValue}
 use Rattle.flow_cert.specs.Marks.{HasTaken, AreTaken, AreMarkedTo}
 use Rattle.flow_cert.proofs.MarkLemmas.{taken_sizes, taken, marked, taken_next, marked_next}
 use Rattle.flow_cert.proofs.marks.mark_path.Goals as goal

@@ -1,6 +1,4 @@
-use Rattle.std.proofs.Common.{◌≡◌, ◌≤◌, arith, ap, length}
-use Rattle.std.specs.Vec.{vec_len}
-use Rattle.cert_check.specs.CertificateValue.{StepValue}
+use Rattle.flow_cert.proofs.Common.{◌≡◌, ◌≤◌, arith, ap, length, vec_len, StepValue}
 use Rattle.flow_cert.proofs.MarkLemmas.{marked_all}
 use Rattle.flow_cert.proofs.marks.mark_shared.Goals as goal
 

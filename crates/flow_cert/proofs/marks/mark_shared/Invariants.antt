@@ -1,4 +1,4 @@
-use Rattle.std.proofs.Common.{◌≡◌, [], length}
+use Rattle.flow_cert.proofs.Common.{◌≡◌, [], length}
 use Rattle.flow_cert.specs.Marks.{AreTaken, AreMarkedTo}
 use Rattle.flow_cert.proofs.marks.mark_shared.Given as goal
 

@@ -1,5 +1,4 @@
-use Rattle.std.proofs.Common.{◌≡◌, length}
-use Rattle.aig_core.specs.Aig.{node_count}
+use Rattle.flow_cert.proofs.Common.{◌≡◌, length, node_count}
 use Rattle.flow_cert.specs.Links.{AreLinks}
 use Rattle.flow_cert.proofs.paths.add_paths.Given as goal
 

@@ -1,5 +1,4 @@
-use Rattle.std.proofs.Common.{sym, subst}
-use Rattle.depth_label.specs.Label.{label_of}
+use Rattle.flow_cert.proofs.Common.{sym, subst, label_of}
 use Rattle.flow_cert.specs.Net.{net_of, IsNet, SiteValue}
 use Rattle.flow_cert.specs.Justify.{AreShowing}
 use Rattle.flow_cert.proofs.ShowLemmas.{net_is, shown}

@@ -1,6 +1,4 @@
-use Rattle.std.proofs.Common.{◌≡◌, ◌<◌, arith, refl, length, get_or}
-use Rattle.aig_core.specs.Aig.{node_count}
-use Rattle.list_laws.proofs.Members.{In-get_or}
+use Rattle.flow_cert.proofs.Common.{◌≡◌, ◌<◌, arith, refl, length, get_or, node_count, In-get_or}
 use Rattle.flow_cert.specs.Net.{net_of}
 use Rattle.flow_cert.proofs.SearchLemmas.{begun_more, search_start}
 use Rattle.flow_cert.proofs.search.begin.Goals as goal

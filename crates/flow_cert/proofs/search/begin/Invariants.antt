@@ -1,4 +1,4 @@
-use Rattle.aig_core.specs.Aig.{node_count}
+use Rattle.flow_cert.proofs.Common.{node_count}
 use Rattle.flow_cert.specs.Search.{IsBegun}
 use Rattle.flow_cert.proofs.search.begin.Given as goal
 

@@ -1,5 +1,4 @@
-use Rattle.std.proofs.Common.{◌≡◌, ◌+◌, ◌<◌, ◌≤◌, ap, sym, ◌∙◌, arith, length, get_or, subst, inl, inr}
-use Rattle.std.proofs.lemmas.Bool.{cases_lt}
+use Rattle.flow_cert.proofs.Common.{◌≡◌, ◌+◌, ◌<◌, ◌≤◌, ap, sym, ◌∙◌, arith, length, get_or, subst, inl, inr, cases_lt}
 use Rattle.flow_cert.specs.Net.{net_of}
 use Rattle.flow_cert.specs.Links.{owner_in}
 use Rattle.flow_cert.specs.Search.{IsSearching}

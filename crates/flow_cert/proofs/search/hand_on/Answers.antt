@@ -1,5 +1,4 @@
-use Rattle.std.proofs.Common.{◌≡◌, ◌<◌, ◌/◌, sym, ap, ◌∙◌, subst, arith, length, get_or}
-use Rattle.aig_core.specs.Aig.{node_count}
+use Rattle.flow_cert.proofs.Common.{◌≡◌, ◌<◌, ◌/◌, sym, ap, ◌∙◌, subst, arith, length, get_or, node_count}
 use Rattle.flow_cert.specs.Net.{net_of, IsInner}
 use Rattle.flow_cert.specs.Links.{owner_in}
 use Rattle.flow_cert.proofs.StampLemmas.{read_is}

@@ -1,6 +1,4 @@
-use Rattle.std.proofs.Common.{◌≡◌, ◌+◌, ◌-◌, ◌<◌, ◌≤◌, arith, subst, length}
-use Rattle.aig_core.specs.Aig.{first_and}
-use Rattle.depth_label.specs.Label.{label_of}
+use Rattle.flow_cert.proofs.Common.{◌≡◌, ◌+◌, ◌-◌, ◌<◌, ◌≤◌, arith, subst, length, first_and, label_of}
 use Rattle.flow_cert.specs.Steps.{AreDoneTo}
 use Rattle.flow_cert.proofs.steps.steps_down.Goals as goal
 

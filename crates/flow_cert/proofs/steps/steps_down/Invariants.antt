@@ -1,6 +1,4 @@
-use Rattle.std.proofs.Common.{◌+◌, ◌-◌}
-use Rattle.aig_core.specs.Aig.{node_count}
-use Rattle.depth_label.specs.Label.{label_of}
+use Rattle.flow_cert.proofs.Common.{◌+◌, ◌-◌, node_count, label_of}
 use Rattle.flow_cert.specs.Justify.{IsScratch}
 use Rattle.flow_cert.specs.Steps.{AreDoneTo}
 use Rattle.flow_cert.proofs.steps.steps_down.Given as goal

@@ -1,8 +1,5 @@
-use Rattle.std.proofs.Common.{◌≡◌, ◌<◌, true, false, sym, ◌∙◌, arith, length}
-use Rattle.aig_core.specs.Aig.{node_count}
-use Rattle.depth_label.specs.Label.{label_of}
+use Rattle.flow_cert.proofs.Common.{◌≡◌, ◌<◌, true, false, sym, ◌∙◌, arith, length, node_count, label_of, get_or_read}
 use Rattle.flow_cert.specs.Marks.{mark}
-use Rattle.flow_cert.proofs.StampLemmas.{read_at}
 use Rattle.flow_cert.proofs.StepLemmas.{step_fits, done_push}
 use Rattle.flow_cert.proofs.steps.visit.Goals as goal
 
@@ -13,5 +10,5 @@ pub returns-clause-done : goal.returns-clause-done
 returns-clause-done c =
     let n : c.args.n < node_count c.args.graph.now = c.requires.node.1 in
     let size : length c.args.marks.now.items ≡ node_count c.args.graph.now = c.requires.size in
-    let on : mark c.args.marks.now.items c.args.n ≡ true = sym (read_at c.args.marks.now.items c.args.n c.index.result.now false (omega arith) c.index.ensures) ∙ c.if-not-index.false in
+    let on : mark c.args.marks.now.items c.args.n ≡ true = sym (get_or_read c.args.marks.now.items c.args.n c.index.result.now (omega arith) c.index.ensures false) ∙ c.if-not-index.false in
     λ begin d. rw c.in_ok-push.ensures.items (done_push c.args.graph.now c.args.k (label_of c.args.labels.now) c.requires.right begin c.args.n c.args.marks.now.items c.args.steps.now.items d c.in_ok-step.step c.mark_shared.new.marks.items on c.in_ok-step.ensures.step c.in_ok-step.ensures.node c.mark_shared.ensures.marked)

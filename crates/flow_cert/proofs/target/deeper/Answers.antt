@@ -1,4 +1,4 @@
-use Rattle.std.proofs.Common.{refl}
+use Rattle.flow_cert.proofs.Common.{refl}
 use Rattle.flow_cert.specs.Target.{no_more}
 use Rattle.flow_cert.proofs.target.deeper.Goals as goal
 

@@ -1,6 +1,4 @@
-use Rattle.std.proofs.Common.{take}
-use Rattle.aig_core.specs.Roots.{lits_of}
-use Rattle.depth_label.specs.Label.{label_of}
+use Rattle.flow_cert.proofs.Common.{take, lits_of, label_of}
 use Rattle.flow_cert.specs.Target.{IsTarget}
 use Rattle.flow_cert.proofs.target.target_of.Given as goal
 

@@ -1,7 +1,4 @@
-use Rattle.std.proofs.Common.{◌≡◌, ◌<◌, ◌/◌, ◌∙◌, arith, sym, subst, get_or}
-use Rattle.aig_core.specs.Aig.{IsAnd, IsNode, node_count}
-use Rattle.list_laws.proofs.Members.{In-get_or}
-use Rattle.depth_label.specs.Label.{label_of}
+use Rattle.flow_cert.proofs.Common.{◌≡◌, ◌<◌, ◌/◌, ◌∙◌, arith, sym, subst, get_or, IsAnd, IsNode, node_count, In-get_or, label_of}
 use Rattle.flow_cert.specs.Walks.{HasRead}
 use Rattle.flow_cert.proofs.StampLemmas.{read_is}
 use Rattle.flow_cert.proofs.WalkLemmas.{read_both, read_size}

@@ -1,5 +1,4 @@
-use Rattle.std.proofs.Common.{◌≡◌, ◌≤◌, ◌+◌, ◌-◌, length}
-use Rattle.aig_core.specs.Aig.{node_count}
+use Rattle.flow_cert.proofs.Common.{◌≡◌, ◌≤◌, ◌+◌, ◌-◌, length, node_count}
 use Rattle.flow_cert.specs.Net.{net_at}
 use Rattle.flow_cert.specs.Walks.{IsWalked}
 use Rattle.flow_cert.proofs.walk.walk_down.Given as goal

@@ -1,4 +1,4 @@
-use Rattle.std.proofs.Common.{◌-◌}
+use Rattle.flow_cert.proofs.Common.{◌-◌}
 use Rattle.flow_cert.specs.Net.{net_of}
 use Rattle.flow_cert.specs.Links.{owner_in}
 use Rattle.flow_cert.specs.Ways.{IsWayTo}

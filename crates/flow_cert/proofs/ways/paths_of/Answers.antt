@@ -1,7 +1,4 @@
-use Rattle.std.proofs.Common.{◌<◌, sym, subst, length, get_or}
-use Rattle.aig_core.specs.Aig.{IsSource}
-use Rattle.aig_core.specs.declared.lit.Kind.TheVariants.{Regular}
-use Rattle.list_laws.proofs.Members.{In-get_or}
+use Rattle.flow_cert.proofs.Common.{◌<◌, sym, subst, length, get_or, IsSource, Regular, In-get_or}
 use Rattle.flow_cert.specs.Net.{net_of}
 use Rattle.flow_cert.specs.Links.{owner_in}
 use Rattle.flow_cert.specs.Ways.{IsWayTo}

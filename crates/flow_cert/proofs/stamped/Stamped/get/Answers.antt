@@ -1,5 +1,4 @@
-use Rattle.std.proofs.Common.{◌≡◌, ◌<◌, ◌≤◌, arith, sym, ap, ◌∙◌, length, get_or}
-use Rattle.std.specs.Vec.{vec_len}
+use Rattle.flow_cert.proofs.Common.{◌≡◌, ◌<◌, ◌≤◌, arith, sym, ap, ◌∙◌, length, get_or, vec_len}
 use Rattle.flow_cert.proofs.StampLemmas.{read_is, value_here, value_none}
 use Rattle.flow_cert.proofs.stamped.Stamped.get.Goals as goal
 use Rattle.flow_cert.proofs.stamped.Stamped.get.Goals.{else-i-len-via-then-i-len+else-index-self, else-i-len-via-else-i-len}

@@ -1,4 +1,4 @@
-use Rattle.std.proofs.Common.{arith, sym, ap, ◌∙◌, length, get_or}
+use Rattle.flow_cert.proofs.Common.{arith, sym, ap, ◌∙◌, length, get_or}
 use Rattle.flow_cert.proofs.StampLemmas.{values_none, zeros_none}
 use Rattle.flow_cert.proofs.stamped.Stamped.of.Goals as goal
 

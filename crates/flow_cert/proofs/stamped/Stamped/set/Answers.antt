@@ -1,5 +1,4 @@
-use Rattle.std.proofs.Common.{◌≡◌, ◌<◌, arith, sym, ap, ◌∙◌, length, set}
-use Rattle.std.specs.Vec.{vec_len}
+use Rattle.flow_cert.proofs.Common.{◌≡◌, ◌<◌, arith, sym, ap, ◌∙◌, length, set, vec_len}
 use Rattle.flow_cert.proofs.StampLemmas.{length_values, values_set}
 use Rattle.flow_cert.proofs.stamped.Stamped.set.Goals as goal
 
