@@ -1,9 +1,5 @@
 -- The bits of some LUTs: those of each lie within those of all, and all are no more than the LUTs' work.
-use Rattle.std.proofs.Common.{◌≡◌, ℕ, ◌+◌, ◌*◌, ◌^◌, ◌≤◌, List, [], ◌∷◌, length, sym, subst, inl, inr, arith}
-use Rattle.std.proofs.Math.Nat.{mul-le-mul_left, mul-one}
-use Rattle.std.proofs.lemmas.List.Sums.{sum_by-cons}
-use Rattle.list_laws.specs.Members.{In}
-use Rattle.aig_core.specs.Aig.{Aig}
+use Rattle.cover_pick.proofs.Common.{◌≡◌, ℕ, ◌+◌, ◌*◌, ◌^◌, ◌≤◌, List, [], ◌∷◌, length, sym, subst, inl, inr, arith, mul-le-mul_left, mul-one, sum_by-cons, In, Aig}
 use Rattle.cover_pick.specs.declared.lut.Lut.{Lut}
 use Rattle.cover_pick.specs.Mapping.{HaveBases, bits_of}
 use Rattle.cover_pick.specs.Work.{IsTableWork, IsWork}

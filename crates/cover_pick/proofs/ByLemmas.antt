@@ -1,10 +1,5 @@
 -- What the walk finds by some flows is a plan by these flows by its own words.
-use Rattle.std.proofs.Common.{◌≡◌, ℕ, ◌-◌, ◌/◌, ◌<◌, ◌≤◌, Bool, true, false, cond, ltb, List, length, Option, Some, None, sym, ◌∙◌, subst, inl, inr, arith, refl}
-use Rattle.std.proofs.lemmas.Option.{same_Some, none-some}
-use Rattle.std.proofs.lemmas.Bool.{ltb-true, ltb-false}
-use Rattle.aig_core.specs.Aig.{Aig, first_and, node_count, IsAnd}
-use Rattle.list_laws.specs.Members.{In}
-use Rattle.list_laws.proofs.Choice.{choose}
+use Rattle.cover_pick.proofs.Common.{◌≡◌, ℕ, ◌-◌, ◌/◌, ◌<◌, ◌≤◌, Bool, true, false, cond, ltb, List, length, Option, Some, None, sym, ◌∙◌, subst, inl, inr, arith, refl, same_Some, none-some, ltb-true, ltb-false, Aig, first_and, node_count, IsAnd, In, choose}
 use Rattle.cover_pick.specs.declared.rule.Rule.{Rule}
 use Rattle.cover_pick.specs.Target.{target}
 use Rattle.cover_pick.specs.Flow.{flow_at}

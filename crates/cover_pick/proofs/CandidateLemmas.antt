@@ -1,12 +1,6 @@
 -- The walk over the cuts of a row may stop at the first that has more leaves than the best one so far.
-use Rattle.std.proofs.Common.{◌≡◌, ℕ, zero, suc, ◌+◌, ◌<◌, ◌≤◌, eqb, ltb, ◌&&◌, List, [], ◌∷◌, length, get_or, drop, Option, Some, None, refl, sym, ap, ◌∙◌, subst, inl, inr, arith}
-use Rattle.std.proofs.lemmas.List.{drop_more, drop_all}
-use Rattle.std.proofs.lemmas.Bool.{eqb-true, and_parts}
-use Rattle.list_laws.specs.Members.{In}
-use Rattle.list_laws.proofs.Choice.{choose}
-use Rattle.cut_sets.specs.Sets.{IsOrdered}
+use Rattle.cover_pick.proofs.Common.{◌≡◌, ℕ, zero, suc, ◌+◌, ◌<◌, ◌≤◌, eqb, ltb, ◌&&◌, List, [], ◌∷◌, length, get_or, drop, Option, Some, None, refl, sym, ap, ◌∙◌, subst, inl, inr, arith, drop_more, drop_all, eqb-true, and_parts, In, choose, IsOrdered, height}
 use Rattle.cut_enum.proofs.LevelLemmas.{IsRising, IsRising-ordered, first_least}
-use Rattle.depth_label.specs.Label.{height}
 use Rattle.cover_pick.specs.declared.choice.Candidate.{Candidate}
 use Rattle.cover_pick.specs.Fewest.{IsAt, IsShorter, better, fewest}
 

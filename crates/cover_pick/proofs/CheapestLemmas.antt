@@ -1,12 +1,5 @@
 -- The cut that is found for its cost: there is one where a cut is low enough, it is one of the list, and the first of the least cost.
-use Rattle.std.proofs.Common.{◌≡◌, ℕ, ◌<◌, ◌≤◌, true, ltb, List, [], ◌∷◌, Option, Some, None, refl, sym, ap, ◌∙◌, subst, inl, inr, ◌⊎◌, arith}
-use Rattle.std.proofs.lemmas.Option.{same_Some, none-some}
-use Rattle.std.proofs.lemmas.Bool.{cases_lt, ltb-true, ltb-false}
-use Rattle.list_laws.specs.Members.{In}
-use Rattle.list_laws.proofs.Choice.{choose}
-use Rattle.cut_sets.specs.Sets.{before, IsOrdered}
-use Rattle.cut_sets.proofs.OrderLemmas.{before_trans}
-use Rattle.depth_label.specs.Label.{height}
+use Rattle.cover_pick.proofs.Common.{◌≡◌, ℕ, ◌<◌, ◌≤◌, true, ltb, List, [], ◌∷◌, Option, Some, None, refl, sym, ap, ◌∙◌, subst, inl, inr, ◌⊎◌, arith, same_Some, none-some, cases_lt, ltb-true, ltb-false, In, choose, before, IsOrdered, before_trans, height}
 use Rattle.cover_pick.specs.Sharing.{IsCheaper, less, earlier}
 use Rattle.cover_pick.specs.Cheapest.{cheaper, cheaper_low, cheapest}
 

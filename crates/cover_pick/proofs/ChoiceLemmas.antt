@@ -1,11 +1,5 @@
 -- The chosen cut by the rule's own words, and that the rule keeps within the required depth.
-use Rattle.std.proofs.Common.{◌≡◌, ℕ, ◌<◌, ◌≤◌, true, false, ◌&&◌, cond, ltb, eqb, List, [], ◌∷◌, length, Option, Some, None, refl, sym, ap, ◌∙◌, subst, inl, inr, ◌⊎◌, arith}
-use Rattle.std.proofs.lemmas.Option.{same_Some, none-some}
-use Rattle.std.proofs.lemmas.Bool.{cases_order, ltb-true, ltb-false, eqb-true, and_parts, and_from, false≢true, both_ways, lt-ltb, eq-eqb}
-use Rattle.list_laws.specs.Members.{In}
-use Rattle.cut_sets.specs.Sets.{lex, before as comes_before, IsOrdered}
-use Rattle.depth_label.specs.Label.{height}
-use Rattle.list_laws.proofs.Choice.{choose}
+use Rattle.cover_pick.proofs.Common.{◌≡◌, ℕ, ◌<◌, ◌≤◌, true, false, ◌&&◌, cond, ltb, eqb, List, [], ◌∷◌, length, Option, Some, None, refl, sym, ap, ◌∙◌, subst, inl, inr, ◌⊎◌, arith, same_Some, none-some, cases_order, ltb-true, ltb-false, eqb-true, and_parts, and_from, false≢true, both_ways, lt-ltb, eq-eqb, In, lex, comes_before, IsOrdered, height, choose}
 use Rattle.cover_pick.specs.Fewest.{better, fewest}
 use Rattle.cover_pick.specs.Choice.{Precedes, fewer, lower, before, IsChosen}
 

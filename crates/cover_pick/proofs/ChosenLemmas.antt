@@ -1,17 +1,6 @@
 -- What the marks and the searches find is the tables and the work by their own words.
-use Rattle.std.proofs.Common.{◌≡◌, ℕ, ◌-◌, ◌*◌, ◌/◌, ◌%◌, ◌<◌, ◌≤◌, cond, List, [], ◌∷◌, Option, Some, None, refl, sym, ap, ◌∙◌, subst, inl, inr, arith}
-use Rattle.std.specs.List.{slice_get}
-use Rattle.std.proofs.lemmas.List.Sums.{sum_by-cons}
-use Rattle.std.proofs.lemmas.Option.{same_Some}
-use Rattle.std.proofs.lemmas.Bool.{cases_lt, cases_eq, eq-eqb}
-use Rattle.aig_core.specs.Aig.{Aig, first_and, node_count, IsAnd, AreNormal}
-use Rattle.aig_core.specs.declared.lit.Kind.TheVariants.{Regular, Parameter}
-use Rattle.aig_core.specs.declared.lit.Lit.{Lit}
-use Rattle.aig_core.specs.Roots.{RootsValue, roots_of, AreRoots}
-use Rattle.list_laws.specs.Members.{In}
-use Rattle.depth_label.specs.Label.{IsCutTable}
+use Rattle.cover_pick.proofs.Common.{◌≡◌, ℕ, ◌-◌, ◌*◌, ◌/◌, ◌%◌, ◌<◌, ◌≤◌, cond, List, [], ◌∷◌, Option, Some, None, refl, sym, ap, ◌∙◌, subst, inl, inr, arith, slice_get, sum_by-cons, same_Some, cases_lt, cases_eq, eq-eqb, Aig, first_and, node_count, IsAnd, AreNormal, Regular, Parameter, Lit, RootsValue, roots_of, AreRoots, In, IsCutTable, OrMemory, source_below}
 use Rattle.cover_pick.specs.declared.limits.TheConstants.{MOST_WORK}
-use Rattle.tl_fault.specs.OrMemory.{OrMemory}
 use Rattle.cover_pick.specs.Refusals.{refusal_of}
 use Rattle.cover_pick.specs.declared.lut.PickErr.{PickErr}
 use Rattle.cover_pick.specs.declared.lut.PickErr.TheVariants.{Work, Memory}
@@ -25,7 +14,6 @@ use Rattle.cover_pick.specs.Marks.{IsMarked, root as marked_root, leaf as marked
 use Rattle.cover_pick.specs.Cone.{cone_of, table_work, work_of}
 use Rattle.cover_pick.specs.Work.{IsWork, IsLight}
 use Rattle.cover_pick.specs.Template.{TablesWithin, AreChosen, IsTemplate, AreTimely, IsTooMuch}
-use Rattle.aig_core.proofs.NodeLemmas.{source_below}
 use Rattle.cover_pick.proofs.TableLemmas.{tables_needed}
 use Rattle.cover_pick.proofs.TemplateLemmas.{leaves_and, cut_in, in_cut, to_tables, tables_within, tables_exact, leaves_inside}
 use Rattle.cover_pick.proofs.MappingLemmas.{leaves_zero, leaves_source, kind_there, regular_leaves}

@@ -1,14 +1,5 @@
 -- The fan-outs as they are counted.
-use Rattle.std.proofs.Common.{◌≡◌, ℕ, zero, suc, ◌+◌, ◌-◌, ◌*◌, ◌/◌, ◌<◌, ◌≤◌, eqb, cond, List, [], ◌∷◌, length, get_or, get_or-set_same, get_or-set_other, take, replicate, Some, refl, sym, ap, ◌∙◌, subst, inl, inr, arith}
-use Rattle.std.specs.List.{sum_by}
-use Rattle.std.proofs.Math.ListN.{length-set}
-use Rattle.std.proofs.lemmas.List.{length-replicate, get_or-replicate, take_all, get_or_past}
-use Rattle.std.proofs.lemmas.List.Sums.{sum_by_more, sum_by-cons}
-use Rattle.std.proofs.lemmas.Option.{get_or_from_slice_get}
-use Rattle.std.proofs.lemmas.Bool.{cases_lt, cases_eq, eq-eqb, ne_eqb}
-use Rattle.list_laws.proofs.Choice.{choose}
-use Rattle.aig_core.specs.Aig.{Aig, first_and, node_count, pair_of}
-use Rattle.aig_core.specs.declared.lit.Pair.{Pair}
+use Rattle.cover_pick.proofs.Common.{◌≡◌, ℕ, zero, suc, ◌+◌, ◌-◌, ◌*◌, ◌/◌, ◌<◌, ◌≤◌, eqb, cond, List, [], ◌∷◌, length, get_or, get_or-set_same, get_or-set_other, take, replicate, Some, refl, sym, ap, ◌∙◌, subst, inl, inr, arith, sum_by, length-set, length-replicate, get_or-replicate, take_all, get_or_past, sum_by_more, sum_by-cons, get_or_from_slice_get, cases_lt, cases_eq, eq-eqb, ne_eqb, choose, Aig, first_and, node_count, pair_of, Pair}
 use Rattle.cover_pick.specs.Flow.{times_read, fan_out}
 use Rattle.cover_pick.specs.Counts.{count_at, count_one, count_pair, AreCounted}
 

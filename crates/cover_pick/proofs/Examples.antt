@@ -1,14 +1,5 @@
 -- Worked examples: the chosen LUT of the multiplexer whose choice is a parameter, with the complement of its last node as the root; its flows, and what a cut costs.
-use Rattle.std.proofs.Common.{◌≡◌, ℕ, ◌*◌, ◌/◌, ◌<◌, ◌≤◌, cond, eqb, List, [], ◌∷◌, Option, Some, None, refl, sym, ap, subst, inl, inr, arith}
-use Rattle.std.proofs.lemmas.Option.{same_Some, none-some}
-use Rattle.std.proofs.lemmas.Bool.{eqb-true}
-use Rattle.aig_core.specs.Aig.{IsSource}
-use Rattle.aig_core.specs.declared.lit.Kind.TheVariants.{Regular, Parameter}
-use Rattle.list_laws.specs.Members.{In}
-use Rattle.list_laws.proofs.Choice.{some_then, none_then}
-use Rattle.cut_enum.specs.Table.{row_at}
-use Rattle.cut_enum.proofs.Examples.{mux, mux_rows, mux_normal, last_cuts}
-use Rattle.depth_label.specs.Label.{height, label_of}
+use Rattle.cover_pick.proofs.Common.{◌≡◌, ℕ, ◌*◌, ◌/◌, ◌<◌, ◌≤◌, cond, eqb, List, [], ◌∷◌, Option, Some, None, refl, sym, ap, subst, inl, inr, arith, same_Some, none-some, eqb-true, IsSource, Regular, Parameter, In, some_then, none_then, row_at, mux, mux_rows, mux_normal, last_cuts, height, label_of}
 use Rattle.depth_label.proofs.Examples.{mux_labels}
 use Rattle.cover_pick.specs.declared.lut.Lut.{Lut}
 use Rattle.cover_pick.specs.Choice.{Precedes, before, IsChosen}

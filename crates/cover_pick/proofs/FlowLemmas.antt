@@ -1,14 +1,7 @@
 -- The flows: none of a source, none above the most, and the same for counts that are the same.
-use Rattle.std.proofs.Common.{◌≡◌, ℕ, zero, suc, ◌+◌, ◌/◌, ◌^◌, ◌<◌, ◌≤◌, min, max, ltb, cond, Bool, true, false, List, [], ◌∷◌, ◌++◌, length, get_or, drop, refl, sym, ap, ◌∙◌, subst, inl, inr, arith}
-use Rattle.std.proofs.Math.Nat.{div-le_self}
-use Rattle.std.proofs.lemmas.List.{length_push, get_or_append_left, get_or_push, get_or_past, drop_more, drop_all}
-use Rattle.std.proofs.lemmas.Bool.{cases_lt, ltb-false}
-use Rattle.list_laws.proofs.Choice.{choose, choose_both}
-use Rattle.aig_core.specs.Aig.{Aig, first_and, node_count}
-use Rattle.cut_enum.specs.Table.{row_at}
+use Rattle.cover_pick.proofs.Common.{◌≡◌, ℕ, zero, suc, ◌+◌, ◌/◌, ◌^◌, ◌<◌, ◌≤◌, min, max, ltb, cond, Bool, true, false, List, [], ◌∷◌, ◌++◌, length, get_or, drop, refl, sym, ap, ◌∙◌, subst, inl, inr, arith, div-le_self, length_push, get_or_append_left, get_or_push, get_or_past, drop_more, drop_all, cases_lt, ltb-false, choose, choose_both, Aig, first_and, node_count, row_at, height}
 use Rattle.cover_pick.specs.declared.limits.TheConstants.{MOST_FLOW}
 use Rattle.cover_pick.specs.Flow.{flow_at, cut_flow, least_flow, node_flow, flows_below}
-use Rattle.depth_label.specs.Label.{height}
 use Rattle.cover_pick.specs.declared.scope.Scope.{Scope}
 use Rattle.cover_pick.specs.declared.scope.Scope.TheVariants.{AnyHeight, LeastHeight}
 use Rattle.cover_pick.specs.Allowed.{cuts_within, allowed_row, allowed_from, allowed, allowed_flow}

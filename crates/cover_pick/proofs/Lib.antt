@@ -1,3 +1,4 @@
+mod Common
 mod MemberLemmas
 mod TargetLemmas
 mod ChoiceLemmas

@@ -1,13 +1,9 @@
 -- Members of lists that grow at the end, and lists of numbers without repeats.
-use Rattle.std.proofs.Common.{◌≡◌, ℕ, zero, suc, ◌<◌, ◌≤◌, true, false, eqb, List, [], ◌∷◌, ◌++◌, length, refl, sym, ap, inl, inr, arith, get_or}
-use Rattle.std.specs.List.{IsDistinct, AllByRecursion, list_any}
+use Rattle.cover_pick.proofs.Common.{◌≡◌, ℕ, zero, suc, ◌<◌, ◌≤◌, true, false, eqb, List, [], ◌∷◌, ◌++◌, length, refl, sym, ap, inl, inr, arith, get_or, AllByRecursion, list_any, cases_Bool, eqb-true, eq-eqb, ne_eqb, false≢true, In, IsDescending, same_test}
+use Rattle.std.specs.List.{IsDistinct}
 use Rattle.std.specs.Cmp.{IsEquivalence}
-use Rattle.std.proofs.lemmas.Bool.{cases_Bool, eqb-true, eq-eqb, ne_eqb, false≢true}
 use Rattle.std.proofs.lemmas.Map.Made.{length-from_same_keys}
 use Rattle.std.proofs.lemmas.Map.Steps.{length-le_from_distinct_below}
-use Rattle.list_laws.specs.Members.{In}
-use Rattle.list_laws.specs.Order.{IsDescending}
-use Rattle.list_laws.proofs.Choice.{same_test}
 
 -- where a member stands
 pub In-place : (xs : List ℕ) (m : ℕ) → In xs m → (j : ℕ) × (j < length xs) × (get_or xs j 0 ≡ m)

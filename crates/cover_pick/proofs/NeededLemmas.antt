@@ -1,9 +1,5 @@
 -- When the walk comes to a node, required depths are there exactly of what is needed from above it.
-use Rattle.std.proofs.Common.{◌≡◌, ℕ, zero, suc, ◌+◌, ◌-◌, ◌/◌, ◌<◌, ◌≤◌, List, length, Option, Some, None, refl, sym, ◌∙◌, subst, inl, inr, arith}
-use Rattle.std.proofs.lemmas.Bool.{cases_eq}
-use Rattle.aig_core.specs.Aig.{Aig, first_and, node_count, IsAnd}
-use Rattle.list_laws.specs.Members.{In}
-use Rattle.cut_sets.specs.Cuts.{AreMinimal}
+use Rattle.cover_pick.proofs.Common.{◌≡◌, ℕ, zero, suc, ◌+◌, ◌-◌, ◌/◌, ◌<◌, ◌≤◌, List, length, Option, Some, None, refl, sym, ◌∙◌, subst, inl, inr, arith, cases_eq, Aig, first_and, node_count, IsAnd, In, AreMinimal}
 use Rattle.cover_pick.specs.Required.{need, visit, walk, met_at, cover_of}
 use Rattle.cover_pick.specs.Planned.{Chooses}
 use Rattle.cover_pick.specs.Sharing.{IsNeededAbove, root, leaf}

@@ -1,11 +1,5 @@
 -- The places of the chosen cuts: one more node of the walk, and the cuts that they stand for.
-use Rattle.std.proofs.Common.{◌≡◌, ℕ, zero, suc, ◌+◌, ◌<◌, ◌≤◌, List, [], ◌∷◌, length, Option, Some, None, refl, sym, ap, ◌∙◌, subst, inl, inr, arith, get_or-set_same, get_or-set_other, slice_set, replicate}
-use Rattle.std.proofs.lemmas.List.{length-replicate, get_or-replicate, get_or_past}
-use Rattle.std.proofs.Math.ListN.{length-set}
-use Rattle.std.proofs.lemmas.Option.{none-some}
-use Rattle.std.proofs.lemmas.Bool.{cases_lt, cases_eq}
-use Rattle.aig_core.specs.Aig.{Aig, node_count}
-use Rattle.cut_enum.specs.Table.{row_at}
+use Rattle.cover_pick.proofs.Common.{◌≡◌, ℕ, zero, suc, ◌+◌, ◌<◌, ◌≤◌, List, [], ◌∷◌, length, Option, Some, None, refl, sym, ap, ◌∙◌, subst, inl, inr, arith, get_or-set_same, get_or-set_other, slice_set, replicate, length-replicate, get_or-replicate, get_or_past, length-set, none-some, cases_lt, cases_eq, Aig, node_count, row_at}
 use Rattle.cover_pick.specs.Required.{need}
 use Rattle.cover_pick.specs.Planned.{cut_at}
 use Rattle.cover_pick.specs.Places.{place_at, cut_of, cuts_from, cuts_of, found_for, AreBestPlaces}

@@ -1,16 +1,5 @@
 -- The chosen cuts: the rule in its own words, and that they are a cover of the least depth.
-use Rattle.std.proofs.Common.{ltb, ◌≡◌, ℕ, zero, suc, ◌*◌, ◌/◌, ◌<◌, ◌≤◌, List, [], ◌∷◌, length, Option, Some, None, IsSome, refl, sym, ap, ◌∙◌, subst, inl, inr, arith, get_or}
-use Rattle.std.proofs.lemmas.List.{get_or_past}
-use Rattle.std.proofs.lemmas.Bool.{cases_lt, ltb-true, ltb-false}
-use Rattle.aig_core.specs.Aig.{Aig, first_and, node_count, IsAnd, AreNormal}
-use Rattle.aig_core.specs.declared.lit.Lit.{Lit}
-use Rattle.list_laws.specs.Members.{In}
-use Rattle.cut_sets.specs.Cuts.{AreMinimal}
-use Rattle.depth_label.specs.Label.{AreLabels, IsCutTable}
-use Rattle.cut_sets.specs.Covers.{IsCover, HasDepth, source, free, table, RootsWithin}
-use Rattle.cut_enum.specs.Table.{AreRows, row_at}
-use Rattle.list_laws.proofs.Choice.{choose}
-use Rattle.aig_core.specs.Roots.{lits_of, AreRoots}
+use Rattle.cover_pick.proofs.Common.{ltb, ◌≡◌, ℕ, zero, suc, ◌*◌, ◌/◌, ◌<◌, ◌≤◌, List, [], ◌∷◌, length, Option, Some, None, IsSome, refl, sym, ap, ◌∙◌, subst, inl, inr, arith, get_or, get_or_past, cases_lt, ltb-true, ltb-false, Aig, first_and, node_count, IsAnd, AreNormal, Lit, In, AreMinimal, AreLabels, IsCutTable, IsCover, HasDepth, source, free, table, RootsWithin, AreRows, row_at, choose, lits_of, AreRoots}
 use Rattle.cover_pick.specs.Target.{target}
 use Rattle.cover_pick.specs.declared.rule.Rule.{Rule}
 use Rattle.cover_pick.specs.Flow.{flow_at}

@@ -1,12 +1,5 @@
 -- A graph has one plan by some flows for its table, labels and roots.
-use Rattle.std.proofs.Common.{◌≡◌, ℕ, zero, suc, ◌+◌, ◌-◌, ◌<◌, ◌≤◌, List, Option, Some, None, refl, sym, ap, ◌∙◌, subst, inl, inr, arith}
-use Rattle.std.proofs.lemmas.Option.{same_Some, none-some}
-use Rattle.std.proofs.lemmas.Bool.{false≢true}
-use Rattle.aig_core.specs.Aig.{Aig, node_count, IsAnd}
-use Rattle.list_laws.specs.Members.{In}
-use Rattle.cut_enum.specs.Table.{row_at}
-use Rattle.cut_sets.proofs.OrderLemmas.{lex_trans, lex-same, before_trans, before-same}
-use Rattle.depth_label.specs.Label.{IsCutTable}
+use Rattle.cover_pick.proofs.Common.{◌≡◌, ℕ, zero, suc, ◌+◌, ◌-◌, ◌<◌, ◌≤◌, List, Option, Some, None, refl, sym, ap, ◌∙◌, subst, inl, inr, arith, same_Some, none-some, false≢true, Aig, node_count, IsAnd, In, row_at, lex_trans, lex-same, before_trans, before-same, IsCutTable}
 use Rattle.cover_pick.specs.declared.rule.Rule.{Rule}
 use Rattle.cover_pick.specs.declared.rule.Rule.TheVariants.{FewestLeaves, LeastCost}
 use Rattle.cover_pick.specs.Target.{target}

@@ -3,11 +3,7 @@
 -- Its sources are the inputs 1 to 4. Nodes 6 and 7 read node 5, node 8 reads node 7 and is the root; node 6 is not needed. The
 -- first round shares node 5 between its two readers, and takes it as a leaf of node 8. The cover uses it once, so in the
 -- second round it costs twice as much, and node 8 takes node 7 as a leaf. The second cover costs as much as the first one.
-use Rattle.std.proofs.Common.{◌≡◌, ℕ, ◌≤◌, cond, eqb, List, [], ◌∷◌, Some, None, refl, sym, subst, inl, inr, arith}
-use Rattle.aig_core.specs.Aig.{Aig}
-use Rattle.aig_core.specs.declared.lit.Kind.TheVariants.{Regular}
-use Rattle.cut_enum.proofs.Examples.{pair}
-use Rattle.depth_label.specs.Label.{label_at}
+use Rattle.cover_pick.proofs.Common.{◌≡◌, ℕ, ◌≤◌, cond, eqb, List, [], ◌∷◌, Some, None, refl, sym, subst, inl, inr, arith, Aig, Regular, pair, label_at}
 use Rattle.cover_pick.specs.declared.scope.Scope.TheVariants.{AnyHeight, LeastHeight}
 use Rattle.cover_pick.specs.Flow.{fan_out, flow_at}
 use Rattle.cover_pick.specs.Allowed.{allowed, flows_by}

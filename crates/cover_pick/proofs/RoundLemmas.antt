@@ -1,12 +1,5 @@
 -- The rounds that are made are rounds by their own words, and the flows that are found are those of the first plan of the least cost.
-use Rattle.std.proofs.Common.{◌≡◌, ℕ, ◌/◌, ◌<◌, ◌≤◌, cond, ltb, Bool, true, false, List, [], ◌∷◌, ◌++◌, Option, refl, sym, ap, ◌∙◌, subst, inl, inr, arith}
-use Rattle.std.proofs.lemmas.Bool.{ltb-true, ltb-false}
-use Rattle.aig_core.specs.Aig.{Aig, first_and, node_count, AreNormal}
-use Rattle.list_laws.specs.Members.{In}
-use Rattle.list_laws.proofs.Members.{In-append}
-use Rattle.list_laws.proofs.Choice.{choose, choose_one}
-use Rattle.cut_enum.specs.Table.{row_at}
-use Rattle.depth_label.specs.Label.{AreLabels, IsCutTable}
+use Rattle.cover_pick.proofs.Common.{◌≡◌, ℕ, ◌/◌, ◌<◌, ◌≤◌, cond, ltb, Bool, true, false, List, [], ◌∷◌, ◌++◌, Option, refl, sym, ap, ◌∙◌, subst, inl, inr, arith, ltb-true, ltb-false, Aig, first_and, node_count, AreNormal, In, In-append, choose, choose_one, row_at, AreLabels, IsCutTable}
 use Rattle.cover_pick.specs.declared.rule.Rule.{Rule}
 use Rattle.cover_pick.specs.declared.rule.Rule.TheVariants.{FewestLeaves, LeastCost}
 use Rattle.cover_pick.specs.declared.scope.Scope.{Scope}

@@ -1,7 +1,5 @@
 -- A graph has one plan of each rule for its table, labels and roots: rounds from the same counts on agree plan by plan, so the first ones of the least cost do.
-use Rattle.std.proofs.Common.{◌≡◌, ℕ, ◌<◌, ◌≤◌, List, [], ◌∷◌, ◌++◌, length, Option, refl, sym, ap, ◌∙◌, subst, inl, inr, arith}
-use Rattle.aig_core.specs.Aig.{Aig, node_count}
-use Rattle.depth_label.specs.Label.{IsCutTable}
+use Rattle.cover_pick.proofs.Common.{◌≡◌, ℕ, ◌<◌, ◌≤◌, List, [], ◌∷◌, ◌++◌, length, Option, refl, sym, ap, ◌∙◌, subst, inl, inr, arith, Aig, node_count, IsCutTable}
 use Rattle.cover_pick.specs.declared.rule.Rule.{Rule}
 use Rattle.cover_pick.specs.declared.rule.Rule.TheVariants.{FewestLeaves, LeastCost}
 use Rattle.cover_pick.specs.declared.scope.Scope.{Scope}

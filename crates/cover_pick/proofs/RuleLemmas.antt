@@ -1,12 +1,5 @@
 -- What is found by a rule: a cut of the node that is low enough, wherever there is one, and the one that the rule's own words tell.
-use Rattle.std.proofs.Common.{◌≡◌, ℕ, ◌-◌, ◌+◌, ◌/◌, ◌<◌, ◌≤◌, List, length, Option, Some, None, refl, sym, ap, ◌∙◌, subst, inl, inr, ◌⊎◌, arith}
-use Rattle.std.proofs.lemmas.Option.{none-some}
-use Rattle.std.proofs.lemmas.Bool.{cases_lt}
-use Rattle.aig_core.specs.Aig.{Aig, first_and, node_count, IsAnd}
-use Rattle.list_laws.specs.Members.{In}
-use Rattle.cut_sets.specs.Sets.{IsOrdered}
-use Rattle.cut_enum.specs.Table.{AreRows, row_at}
-use Rattle.depth_label.specs.Label.{height, AreLabels}
+use Rattle.cover_pick.proofs.Common.{◌≡◌, ℕ, ◌-◌, ◌+◌, ◌/◌, ◌<◌, ◌≤◌, List, length, Option, Some, None, refl, sym, ap, ◌∙◌, subst, inl, inr, ◌⊎◌, arith, none-some, cases_lt, Aig, first_and, node_count, IsAnd, In, IsOrdered, AreRows, row_at, height, AreLabels}
 use Rattle.cover_pick.specs.declared.rule.Rule.{Rule}
 use Rattle.cover_pick.specs.declared.rule.Rule.TheVariants.{FewestLeaves, LeastCost}
 use Rattle.cover_pick.specs.Flow.{flow_at}

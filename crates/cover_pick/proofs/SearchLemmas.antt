@@ -1,15 +1,6 @@
 -- A search reaches exactly the cone of its top, each node once.
-use Rattle.std.proofs.Common.{◌≡◌, ℕ, ◌+◌, ◌/◌, ◌<◌, ◌≤◌, true, false, cond, eqb, List, [], ◌∷◌, ◌++◌, length, Some, refl, sym, ap, ◌∙◌, subst, inl, inr, ◌⊎◌, arith, get_or-set_same, get_or-set_other, slice_set, replicate, length-append}
-use Rattle.std.proofs.lemmas.List.{get_or-replicate, get_or_past, length-replicate}
+use Rattle.cover_pick.proofs.Common.{◌≡◌, ℕ, ◌+◌, ◌/◌, ◌<◌, ◌≤◌, true, false, cond, eqb, List, [], ◌∷◌, ◌++◌, length, Some, refl, sym, ap, ◌∙◌, subst, inl, inr, ◌⊎◌, arith, get_or-set_same, get_or-set_other, slice_set, replicate, length-append, get_or-replicate, get_or_past, length-replicate, length-set, get_or-append, same_Some, cases_lt, cases_eq, eqb-true, eqb-false, both_ways, Aig, first_and, node_count, IsAnd, pair_of, IsNormal, AreNormal, Pair, In, In-get_or, In-left, In-push, In-pushed, choose}
 use Rattle.std.specs.List.{IsDistinct}
-use Rattle.std.proofs.Math.ListN.{length-set, get_or-append}
-use Rattle.std.proofs.lemmas.Option.{same_Some}
-use Rattle.std.proofs.lemmas.Bool.{cases_lt, cases_eq, eqb-true, eqb-false, both_ways}
-use Rattle.aig_core.specs.Aig.{Aig, first_and, node_count, IsAnd, pair_of, IsNormal, AreNormal}
-use Rattle.aig_core.specs.declared.lit.Pair.{Pair}
-use Rattle.list_laws.specs.Members.{In}
-use Rattle.list_laws.proofs.Members.{In-get_or, In-left, In-push, In-pushed}
-use Rattle.list_laws.proofs.Choice.{choose}
 use Rattle.cover_pick.specs.Cone.{is_stop, cone_of}
 use Rattle.cover_pick.specs.Work.{IsInner, Path, here, left, right, IsCone}
 use Rattle.cover_pick.specs.Search.{SearchValue, stamp_at, reach}

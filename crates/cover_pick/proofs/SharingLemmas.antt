@@ -1,10 +1,5 @@
 -- The cost that is summed is the cost by its own words, so the cut that is found is the cheapest.
-use Rattle.std.proofs.Common.{◌≡◌, ℕ, ◌+◌, ◌^◌, ◌<◌, List, [], ◌∷◌, length, Option, Some, None, refl, sym, ◌∙◌, subst, inl, inr, ◌⊎◌, arith}
-use Rattle.std.specs.List.{sum_by}
-use Rattle.std.proofs.lemmas.List.Sums.{sum_by-cons}
-use Rattle.std.proofs.lemmas.Option.{none-some}
-use Rattle.std.proofs.lemmas.Bool.{cases_eq}
-use Rattle.cut_sets.specs.Sets.{IsOrdered}
+use Rattle.cover_pick.proofs.Common.{◌≡◌, ℕ, ◌+◌, ◌^◌, ◌<◌, List, [], ◌∷◌, length, Option, Some, None, refl, sym, ◌∙◌, subst, inl, inr, ◌⊎◌, arith, sum_by, sum_by-cons, none-some, cases_eq, IsOrdered}
 use Rattle.cover_pick.specs.Flow.{flow_at}
 use Rattle.cover_pick.specs.Sharing.{IsNeededAbove, root, leaf, IsLeafCost, shared, free, new, AreLeafCosts, IsCost, IsCheaper, IsCheapest}
 use Rattle.cover_pick.specs.Cheapest.{cost_where, leaf_cost, cut_cost, cheapest}

@@ -1,7 +1,5 @@
 -- The walk by a choice that sees what is needed so far is the walk by what that choice finds when it comes to each node.
-use Rattle.std.proofs.Common.{◌≡◌, ℕ, zero, suc, ◌+◌, ◌-◌, ◌<◌, eqb, List, Option, Some, None, refl, sym, ap, ◌∙◌, arith}
-use Rattle.std.proofs.lemmas.Bool.{eqb-true, eqb-false}
-use Rattle.list_laws.proofs.Choice.{choose}
+use Rattle.cover_pick.proofs.Common.{◌≡◌, ℕ, zero, suc, ◌+◌, ◌-◌, ◌<◌, eqb, List, Option, Some, None, refl, sym, ap, ◌∙◌, arith, eqb-true, eqb-false, choose}
 use Rattle.cover_pick.specs.Required.{need, require_each, visit, walk, walk_by, met_at}
 
 -- a node is taken in the same way by two choices that are the same there

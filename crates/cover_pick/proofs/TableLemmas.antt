@@ -1,16 +1,5 @@
 -- The LUTs that are made are those of the needed literals, with their bases, bits and work.
-use Rattle.std.proofs.Common.{◌≡◌, ℕ, zero, suc, ◌+◌, ◌*◌, ◌^◌, ◌<◌, ◌≤◌, Bool, true, false, List, [], ◌∷◌, ◌++◌, length, Option, Some, None, refl, sym, ap, ◌∙◌, subst, inl, inr, ◌⊎◌, arith, get_or, slice_set, get_or-set_same, get_or-set_other, replicate, drop}
-use Rattle.std.proofs.Math.Nat.{mul-le-mul}
-use Rattle.std.proofs.Math.ListN.{length-set}
-use Rattle.std.proofs.lemmas.List.{length-replicate, get_or-replicate, get_or_past}
-use Rattle.std.proofs.lemmas.List.Sums.{sum_by_push, sum_by-cons}
-use Rattle.std.proofs.lemmas.Option.{same_Some, none-some}
-use Rattle.std.proofs.lemmas.Bool.{cases_lt, cases_eq, false≢true}
-use Rattle.aig_core.specs.Aig.{Aig, node_count}
-use Rattle.list_laws.specs.Members.{In}
-use Rattle.cut_enum.specs.declared.limits.TheConstants.{MOST_LEAVES}
-use Rattle.list_laws.proofs.Members.{In-left, In-push, In-pushed}
-use Rattle.tl_fault.specs.OrMemory.{OrMemory}
+use Rattle.cover_pick.proofs.Common.{◌≡◌, ℕ, zero, suc, ◌+◌, ◌*◌, ◌^◌, ◌<◌, ◌≤◌, Bool, true, false, List, [], ◌∷◌, ◌++◌, length, Option, Some, None, refl, sym, ap, ◌∙◌, subst, inl, inr, ◌⊎◌, arith, get_or, slice_set, get_or-set_same, get_or-set_other, replicate, drop, mul-le-mul, length-set, length-replicate, get_or-replicate, get_or_past, sum_by_push, sum_by-cons, same_Some, none-some, cases_lt, cases_eq, false≢true, Aig, node_count, In, MOST_LEAVES, In-left, In-push, In-pushed, OrMemory}
 use Rattle.cover_pick.specs.Refusals.{refusal_of}
 use Rattle.cover_pick.specs.declared.limits.TheConstants.{MOST_WORK}
 use Rattle.cover_pick.specs.declared.lut.PickErr.{PickErr}

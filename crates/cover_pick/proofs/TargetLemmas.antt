@@ -1,11 +1,5 @@
 -- What a root of a source counts, in words.
-use Rattle.std.proofs.Common.{◌≡◌, ℕ, ◌-◌, ◌/◌, ◌%◌, ◌<◌, ◌≤◌, eqb, Option, Some, None, refl, ap, ◌∙◌, inl, inr, arith}
-use Rattle.std.specs.List.{slice_get}
-use Rattle.std.proofs.lemmas.Bool.{eqb-true, eqb-false, cases_eq}
-use Rattle.aig_core.specs.Aig.{Aig, IsSource}
-use Rattle.aig_core.specs.declared.lit.Kind.{Kind}
-use Rattle.aig_core.specs.declared.lit.Kind.TheVariants.{Regular, Parameter}
-use Rattle.list_laws.proofs.Choice.{choose}
+use Rattle.cover_pick.proofs.Common.{◌≡◌, ℕ, ◌-◌, ◌/◌, ◌%◌, ◌<◌, ◌≤◌, eqb, Option, Some, None, refl, ap, ◌∙◌, inl, inr, arith, slice_get, eqb-true, eqb-false, cases_eq, Aig, IsSource, Kind, Regular, Parameter, choose}
 use Rattle.cover_pick.specs.Target.{source_level, kind_level}
 
 pub level_complemented : (g : Aig) (l : ℕ) → IsSource g Regular (l / 2) → l % 2 ≡ 1 → source_level g l ≡ 1

@@ -1,21 +1,11 @@
 -- The depth of the chosen LUTs is the depth of the chosen cuts.
-use Rattle.std.proofs.Common.{◌≡◌, ℕ, suc, ◌-◌, ◌*◌, ◌/◌, ◌%◌, ◌<◌, ◌≤◌, cond, eqb, ltb, List, [], ◌∷◌, length, Option, Some, None, refl, sym, ap, ◌∙◌, subst, inl, inr, ◌⊎◌, arith}
-use Rattle.std.specs.List.{slice_get}
-use Rattle.std.proofs.lemmas.List.{get_or_past}
-use Rattle.std.proofs.lemmas.Option.{none-some}
-use Rattle.std.proofs.lemmas.Bool.{cases_lt, eqb-true, ltb-true}
-use Rattle.aig_core.specs.Aig.{Aig, first_and, node_count, IsAnd}
-use Rattle.list_laws.specs.Members.{In}
-use Rattle.cut_sets.specs.Covers.{IsCover, HasDepth, source, free as no_leaves, table}
-use Rattle.list_laws.proofs.Choice.{choose}
-use Rattle.depth_label.specs.Label.{IsCutTable}
+use Rattle.cover_pick.proofs.Common.{◌≡◌, ℕ, suc, ◌-◌, ◌*◌, ◌/◌, ◌%◌, ◌<◌, ◌≤◌, cond, eqb, ltb, List, [], ◌∷◌, length, Option, Some, None, refl, sym, ap, ◌∙◌, subst, inl, inr, ◌⊎◌, arith, slice_get, get_or_past, none-some, cases_lt, eqb-true, ltb-true, Aig, first_and, node_count, IsAnd, In, IsCover, HasDepth, source, no_leaves, table, choose, IsCutTable, In-get_or}
 use Rattle.cover_pick.specs.declared.rule.Rule.{Rule}
 use Rattle.cover_pick.specs.Target.{target}
 use Rattle.cover_pick.specs.Planned.{cut_at, IsPlanned}
 use Rattle.cover_pick.specs.Marks.{leaves_of, source_leaves, Made, AreMade, IsMarked, root, leaf, IsMade}
 use Rattle.cover_pick.specs.Tables.{HasTable}
 use Rattle.cover_pick.specs.Template.{TableDepth, free, over, TablesWithin}
-use Rattle.list_laws.proofs.Members.{In-get_or}
 
 pub leaves_and : (g : Aig) (cuts : List (Option (List ℕ))) (l : ℕ) → IsAnd g (l / 2) → leaves_of g cuts l ≡ cut_at cuts (l / 2)
 leaves_and g cuts l and =

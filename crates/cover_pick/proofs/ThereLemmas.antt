@@ -1,9 +1,5 @@
 -- The chosen template is there, whether it is found or not; and as there is one, each template maps the graph with the least depth.
-use Rattle.std.proofs.Common.{◌≡◌, ℕ, zero, suc, ◌+◌, ◌<◌, List, [], ◌∷◌, length, Option, refl, ap, sym, ◌∙◌, subst, arith}
-use Rattle.aig_core.specs.Aig.{Aig, first_and, node_count, AreNormal}
-use Rattle.aig_core.specs.Roots.{RootsValue, roots_of, AreRoots}
-use Rattle.cut_enum.specs.Table.{AreRows, row_at}
-use Rattle.depth_label.specs.Label.{IsCutTable, AreLabels}
+use Rattle.cover_pick.proofs.Common.{◌≡◌, ℕ, zero, suc, ◌+◌, ◌<◌, List, [], ◌∷◌, length, Option, refl, ap, sym, ◌∙◌, subst, arith, Aig, first_and, node_count, AreNormal, RootsValue, roots_of, AreRoots, AreRows, row_at, IsCutTable, AreLabels}
 use Rattle.cover_pick.specs.declared.rule.Rule.{Rule}
 use Rattle.cover_pick.specs.Mapping.{IsMapping, IsLeast}
 use Rattle.cover_pick.specs.Marks.{Made, IsMade, tables_of}

@@ -1,6 +1,5 @@
 -- The first of the least cost of three rounds, as it is found over counted uses.
-use Rattle.std.proofs.Common.{◌≡◌, ℕ, cond, ltb, List, Option, sym, ap, ◌∙◌, subst}
-use Rattle.aig_core.specs.Aig.{Aig, node_count}
+use Rattle.cover_pick.proofs.Common.{◌≡◌, ℕ, cond, ltb, List, Option, sym, ap, ◌∙◌, subst, Aig, node_count}
 use Rattle.cover_pick.specs.declared.rule.Rule.TheVariants.{LeastCost}
 use Rattle.cover_pick.specs.declared.scope.Scope.{Scope}
 use Rattle.cover_pick.specs.Flow.{fan_out}

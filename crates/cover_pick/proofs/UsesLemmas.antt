@@ -1,13 +1,5 @@
 -- The uses of nodes as they are counted, and covers that agree.
-use Rattle.std.proofs.Common.{◌≡◌, ℕ, zero, suc, ◌+◌, ◌<◌, ◌≤◌, List, [], ◌∷◌, length, Option, Some, None, replicate, drop, get_or, refl, sym, ap, ◌∙◌, subst, inl, inr, arith}
-use Rattle.std.proofs.lemmas.List.{length-replicate, get_or-replicate, drop_more}
-use Rattle.std.proofs.lemmas.List.Sums.{sum_by-cons}
-use Rattle.std.proofs.lemmas.Bool.{cases_eq, eq-eqb, ne_eqb}
-use Rattle.list_laws.proofs.Choice.{choose_one}
-use Rattle.aig_core.specs.Aig.{Aig, node_count}
-use Rattle.list_laws.specs.Members.{In}
-use Rattle.list_laws.specs.Order.{IsAscending}
-use Rattle.depth_label.specs.Fold.{or_empty}
+use Rattle.cover_pick.proofs.Common.{◌≡◌, ℕ, zero, suc, ◌+◌, ◌<◌, ◌≤◌, List, [], ◌∷◌, length, Option, Some, None, replicate, drop, get_or, refl, sym, ap, ◌∙◌, subst, inl, inr, arith, length-replicate, get_or-replicate, drop_more, sum_by-cons, cases_eq, eq-eqb, ne_eqb, choose_one, Aig, node_count, In, IsAscending, or_empty}
 use Rattle.cover_pick.specs.Uses.{times_in, times_leaf, uses_below, price, cost_below}
 use Rattle.cover_pick.specs.Counts.{count_at, count_one, count_each, AreLeaves, AreUsed}
 use Rattle.cover_pick.proofs.CountLemmas.{one_if, one_more, one_size}

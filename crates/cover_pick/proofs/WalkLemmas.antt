@@ -1,17 +1,5 @@
 -- The walk of required depths: what it keeps, and that its cuts are a cover of the least depth.
-use Rattle.std.proofs.Common.{◌≡◌, ℕ, zero, suc, ◌+◌, ◌-◌, ◌/◌, ◌<◌, ◌≤◌, min, ltb, List, [], ◌∷◌, length, Option, Some, None, IsSome, refl, sym, ap, ◌∙◌, subst, inl, inr, ◌⊎◌, arith, get_or-set_same, get_or-set_other, replicate}
-use Rattle.std.proofs.lemmas.List.{length-replicate, get_or-replicate, get_or_past}
-use Rattle.std.proofs.Math.ListN.{length-set}
-use Rattle.std.proofs.lemmas.Option.{same_Some, none-some}
-use Rattle.std.proofs.lemmas.Bool.{cases_lt, cases_eq, ltb-true, ltb-false}
-use Rattle.aig_core.specs.Aig.{Aig, first_and, node_count, IsAnd, AreNormal}
-use Rattle.aig_core.specs.declared.lit.Kind.TheVariants.{Regular}
-use Rattle.aig_core.proofs.NodeLemmas.{source_below}
-use Rattle.list_laws.specs.Members.{In}
-use Rattle.cut_sets.specs.Cuts.{IsCut, AreMinimal}
-use Rattle.cut_sets.specs.Covers.{IsCover, HasDepth, source, free, table, RootsWithin}
-use Rattle.depth_label.specs.Label.{greatest, height, AreLabels}
-use Rattle.list_laws.proofs.Choice.{choose}
+use Rattle.cover_pick.proofs.Common.{◌≡◌, ℕ, zero, suc, ◌+◌, ◌-◌, ◌/◌, ◌<◌, ◌≤◌, min, ltb, List, [], ◌∷◌, length, Option, Some, None, IsSome, refl, sym, ap, ◌∙◌, subst, inl, inr, ◌⊎◌, arith, get_or-set_same, get_or-set_other, replicate, length-replicate, get_or-replicate, get_or_past, length-set, same_Some, none-some, cases_lt, cases_eq, ltb-true, ltb-false, Aig, first_and, node_count, IsAnd, AreNormal, Regular, source_below, In, IsCut, AreMinimal, IsCover, HasDepth, source, free, table, RootsWithin, greatest, height, AreLabels, choose}
 use Rattle.depth_label.proofs.DepthLemmas.{greatest_le, label_le_depth}
 use Rattle.cover_pick.specs.Target.{source_level, root_level, target}
 use Rattle.cover_pick.specs.Required.{need, least_of, require, require_each, visit, walk, require_root, require_roots, roots_required, required, chosen, cover_of}

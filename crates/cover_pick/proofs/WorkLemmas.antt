@@ -1,17 +1,8 @@
 -- The cone of a node, as a list, is what is reached from it.
-use Rattle.std.proofs.Common.{◌≡◌, ℕ, zero, suc, ◌-◌, ◌/◌, ◌<◌, ◌≤◌, true, false, cond, ltb, eqb, List, [], ◌∷◌, Option, Some, None, refl, sym, length, subst, inl, inr, ◌⊎◌, arith}
-use Rattle.std.specs.List.{list_any}
-use Rattle.std.proofs.lemmas.Option.{slice_get_within}
-use Rattle.std.proofs.lemmas.Bool.{cases_Bool, or_cases, or_parts, cases_lt, ltb-true, ltb-false, eqb-true, eqb-false, both_ways, lt-ltb}
-use Rattle.aig_core.specs.Aig.{Aig, first_and, node_count, pair_of, IsNode, IsNormal, AreNormal}
-use Rattle.aig_core.specs.declared.lit.Pair.{Pair}
-use Rattle.aig_core.proofs.NodeLemmas.{node_normal}
-use Rattle.list_laws.specs.Members.{In}
+use Rattle.cover_pick.proofs.Common.{◌≡◌, ℕ, zero, suc, ◌-◌, ◌/◌, ◌<◌, ◌≤◌, true, false, cond, ltb, eqb, List, [], ◌∷◌, Option, Some, None, refl, sym, length, subst, inl, inr, ◌⊎◌, arith, list_any, slice_get_within, cases_Bool, or_cases, or_parts, cases_lt, ltb-true, ltb-false, eqb-true, eqb-false, both_ways, lt-ltb, Aig, first_and, node_count, pair_of, IsNode, IsNormal, AreNormal, Pair, node_normal, In, choose, IsDescending}
 use Rattle.cut_enum.proofs.SetLemmas.{has_true, has_from}
-use Rattle.list_laws.proofs.Choice.{choose}
 use Rattle.cover_pick.specs.Cone.{put_down, is_stop, put_fan_ins, cone, cone_of}
 use Rattle.cover_pick.specs.Work.{IsInner, Path, here, left, right, IsCone}
-use Rattle.list_laws.specs.Order.{IsDescending}
 
 -- what does not end the way down is an AND node that is no leaf
 pub stop_inner : (g : Aig) (c : List ℕ) (n : ℕ) → n < node_count g → is_stop g c n ≡ false → IsInner g c n

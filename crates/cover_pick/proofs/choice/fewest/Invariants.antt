@@ -1,6 +1,4 @@
-use Rattle.std.proofs.Common.{◌≡◌, ℕ, List, Option, None, drop}
-use Rattle.cut_enum.specs.Table.{row_at}
-use Rattle.depth_label.specs.Label.{label_of}
+use Rattle.cover_pick.proofs.Common.{◌≡◌, ℕ, List, Option, None, drop, row_at, label_of}
 use Rattle.cover_pick.specs.Fewest.{IsAt, fewest}
 use Rattle.cover_pick.proofs.choice.fewest.Given as goal
 

@@ -1,7 +1,4 @@
-use Rattle.std.proofs.Common.{◌∙◌, ℕ, List, [], None, get_or, refl, sym, ap, subst, arith}
-use Rattle.std.proofs.lemmas.List.{drop_more, drop_all}
-use Rattle.cut_enum.specs.Table.{row_at}
-use Rattle.depth_label.specs.Label.{label_of}
+use Rattle.cover_pick.proofs.Common.{◌∙◌, ℕ, List, [], None, get_or, refl, sym, ap, subst, arith, drop_more, drop_all, row_at, label_of}
 use Rattle.cover_pick.specs.Cheapest.{IsOffer, cut_cost, cheaper_low, cheapest}
 use Rattle.cover_pick.proofs.cost.cheapest.Goals as goal
 

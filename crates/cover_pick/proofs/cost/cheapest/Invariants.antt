@@ -1,6 +1,4 @@
-use Rattle.std.proofs.Common.{◌≡◌, ℕ, List, Option, None, drop}
-use Rattle.cut_enum.specs.Table.{row_at}
-use Rattle.depth_label.specs.Label.{label_of}
+use Rattle.cover_pick.proofs.Common.{◌≡◌, ℕ, List, Option, None, drop, row_at, label_of}
 use Rattle.cover_pick.specs.Cheapest.{IsOffer, cut_cost, cheapest}
 use Rattle.cover_pick.proofs.cost.cheapest.Given as goal
 

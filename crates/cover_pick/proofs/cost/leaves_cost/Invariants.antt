@@ -1,5 +1,4 @@
-use Rattle.std.proofs.Common.{◌≡◌, ◌*◌, ◌≤◌, take}
-use Rattle.std.specs.List.{sum_by}
+use Rattle.cover_pick.proofs.Common.{◌≡◌, ◌*◌, ◌≤◌, take, sum_by}
 use Rattle.cover_pick.specs.declared.limits.TheConstants.{MOST_FLOW}
 use Rattle.cover_pick.specs.Cheapest.{leaf_cost}
 use Rattle.cover_pick.proofs.cost.leaves_cost.Given as goal

@@ -1,6 +1,4 @@
-use Rattle.std.proofs.Common.{◌∙◌}
-use Rattle.aig_core.specs.Roots.{lits_of}
-use Rattle.depth_label.specs.Label.{label_of}
+use Rattle.cover_pick.proofs.Common.{◌∙◌, lits_of, label_of}
 use Rattle.cover_pick.specs.Places.{cuts_of}
 use Rattle.cover_pick.specs.Planned.{cut_at}
 use Rattle.cover_pick.proofs.PlaceLemmas.{cuts_length}

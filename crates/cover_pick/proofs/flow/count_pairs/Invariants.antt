@@ -1,5 +1,4 @@
-use Rattle.std.proofs.Common.{◌≤◌}
-use Rattle.aig_core.specs.Aig.{first_and}
+use Rattle.cover_pick.proofs.Common.{◌≤◌, first_and}
 use Rattle.cover_pick.specs.Counts.{AreCounted}
 use Rattle.cover_pick.proofs.flow.count_pairs.Given as goal
 

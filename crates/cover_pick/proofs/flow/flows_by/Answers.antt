@@ -1,6 +1,4 @@
-use Rattle.std.proofs.Common.{◌≡◌, ◌∙◌, ◌+◌, ◌++◌, ◌∷◌, ℕ, List, [], suc, sym, ap, subst, arith}
-use Rattle.aig_core.specs.Aig.{node_count}
-use Rattle.depth_label.specs.Label.{label_of}
+use Rattle.cover_pick.proofs.Common.{◌≡◌, ◌∙◌, ◌+◌, ◌++◌, ◌∷◌, ℕ, List, [], suc, sym, ap, subst, arith, node_count, label_of}
 use Rattle.cover_pick.specs.Flow.{node_flow, flows_below}
 use Rattle.cover_pick.specs.Allowed.{allowed}
 use Rattle.cover_pick.specs.Cheapest.{AreCapped}

@@ -1,5 +1,4 @@
-use Rattle.std.proofs.Common.{◌≡◌}
-use Rattle.depth_label.specs.Label.{label_of}
+use Rattle.cover_pick.proofs.Common.{◌≡◌, label_of}
 use Rattle.cover_pick.specs.Flow.{flows_below}
 use Rattle.cover_pick.specs.Allowed.{allowed}
 use Rattle.cover_pick.specs.Counts.{count_at}

@@ -1,6 +1,4 @@
-use Rattle.std.proofs.Common.{◌≡◌, ◌≤◌, min, drop}
-use Rattle.cut_enum.specs.Table.{row_at}
-use Rattle.depth_label.specs.Label.{label_of}
+use Rattle.cover_pick.proofs.Common.{◌≡◌, ◌≤◌, min, drop, row_at, label_of}
 use Rattle.cover_pick.specs.declared.limits.TheConstants.{MOST_FLOW}
 use Rattle.cover_pick.specs.Flow.{least_flow}
 use Rattle.cover_pick.specs.Allowed.{allowed_row}

@@ -1,10 +1,4 @@
-use Rattle.std.proofs.Common.{◌≡◌, ◌≤◌, ◌/◌, ◌∙◌, ℕ, List, max, ltb, sym, ap, arith}
-use Rattle.std.proofs.Math.Nat.{div-le_self}
-use Rattle.std.proofs.lemmas.Bool.{ltb-true}
-use Rattle.aig_core.specs.Aig.{first_and}
-use Rattle.list_laws.proofs.Choice.{choose}
-use Rattle.cut_enum.specs.Table.{row_at}
-use Rattle.depth_label.specs.Label.{label_of}
+use Rattle.cover_pick.proofs.Common.{◌≡◌, ◌≤◌, ◌/◌, ◌∙◌, ℕ, List, max, ltb, sym, ap, arith, div-le_self, ltb-true, first_and, choose, row_at, label_of}
 use Rattle.cover_pick.specs.declared.limits.TheConstants.{MOST_FLOW}
 use Rattle.cover_pick.specs.Flow.{least_flow}
 use Rattle.cover_pick.specs.Allowed.{allowed, allowed_row}

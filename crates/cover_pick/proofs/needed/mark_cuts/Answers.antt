@@ -1,8 +1,4 @@
-use Rattle.std.proofs.Common.{◌≡◌, ◌<◌, ◌+◌, ◌*◌, ◌∙◌, ℕ, List, Bool, length, Option, None, Some, drop, get_or, refl, sym, ap, subst, arith}
-use Rattle.std.proofs.lemmas.List.{drop_more, drop_all}
-use Rattle.list_laws.specs.Members.{In}
-use Rattle.list_laws.proofs.Members.{In-get_or}
-use Rattle.depth_label.specs.Fold.{or_empty}
+use Rattle.cover_pick.proofs.Common.{◌≡◌, ◌<◌, ◌+◌, ◌*◌, ◌∙◌, ℕ, List, Bool, length, Option, None, Some, drop, get_or, refl, sym, ap, subst, arith, drop_more, drop_all, In, In-get_or, or_empty}
 use Rattle.cover_pick.specs.Planned.{cut_at}
 use Rattle.cover_pick.specs.Marks.{mark_leaves, mark_cut, mark_cuts}
 use Rattle.cover_pick.proofs.TemplateLemmas.{cut_in}

@@ -1,4 +1,4 @@
-use Rattle.std.proofs.Common.{◌≡◌, drop}
+use Rattle.cover_pick.proofs.Common.{◌≡◌, drop}
 use Rattle.cover_pick.specs.Marks.{mark_cuts}
 use Rattle.cover_pick.proofs.needed.mark_cuts.Given as goal
 

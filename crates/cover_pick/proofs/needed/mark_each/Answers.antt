@@ -1,4 +1,4 @@
-use Rattle.std.proofs.Common.{arith, length, ◌<◌}
+use Rattle.cover_pick.proofs.Common.{arith, length, ◌<◌}
 use Rattle.cover_pick.proofs.PlanLemmas.{lit_below}
 use Rattle.cover_pick.proofs.needed.mark_each.Goals as goal
 

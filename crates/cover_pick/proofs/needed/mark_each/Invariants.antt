@@ -1,5 +1,4 @@
-use Rattle.std.proofs.Common.{◌≡◌, drop}
-use Rattle.aig_core.specs.Roots.{lits_of}
+use Rattle.cover_pick.proofs.Common.{◌≡◌, drop, lits_of}
 use Rattle.cover_pick.specs.Marks.{mark_each}
 use Rattle.cover_pick.proofs.needed.mark_each.Given as goal
 

@@ -1,8 +1,4 @@
-use Rattle.std.proofs.Common.{rules, ◌≡◌, ◌∙◌, ℕ, List, None, length, drop, replicate, sym, ap, subst}
-use Rattle.std.proofs.lemmas.List.{take_at}
-use Rattle.aig_core.specs.Aig.{first_and, node_count}
-use Rattle.aig_core.specs.Roots.{lits_of}
-use Rattle.depth_label.specs.Label.{label_of}
+use Rattle.cover_pick.proofs.Common.{rules, ◌≡◌, ◌∙◌, ℕ, List, None, length, drop, replicate, sym, ap, subst, take_at, first_and, node_count, lits_of, label_of}
 use Rattle.cover_pick.specs.Target.{target}
 use Rattle.cover_pick.specs.Required.{require_roots, roots_required}
 use Rattle.cover_pick.specs.Ruled.{found_of}

@@ -1,4 +1,4 @@
-use Rattle.std.proofs.Common.{◌≡◌, drop}
+use Rattle.cover_pick.proofs.Common.{◌≡◌, drop}
 use Rattle.cover_pick.specs.Required.{require_each}
 use Rattle.cover_pick.proofs.required.require_each.Given as goal
 

@@ -1,5 +1,4 @@
-use Rattle.std.proofs.Common.{arith, ◌<◌, ◌/◌, get_or}
-use Rattle.aig_core.specs.Aig.{node_count}
+use Rattle.cover_pick.proofs.Common.{arith, ◌<◌, ◌/◌, get_or, node_count}
 use Rattle.cover_pick.proofs.PlanLemmas.{root_below}
 use Rattle.cover_pick.proofs.required.require_roots.Goals as goal
 

@@ -1,6 +1,4 @@
-use Rattle.std.proofs.Common.{◌≡◌, drop}
-use Rattle.aig_core.specs.Aig.{first_and}
-use Rattle.aig_core.specs.Roots.{lits_of}
+use Rattle.cover_pick.proofs.Common.{◌≡◌, drop, first_and, lits_of}
 use Rattle.cover_pick.specs.Required.{require_roots}
 use Rattle.cover_pick.proofs.required.require_roots.Given as goal
 

@@ -1,11 +1,4 @@
-use Rattle.std.proofs.Common.{arith, ◌<◌, ◌≡◌, ◌∙◌, [], Some, subst, ap, List, ℕ, get_or, length}
-use Rattle.std.specs.List.{slice_get}
-use Rattle.std.proofs.lemmas.Option.{get_or_from_slice_get}
-use Rattle.aig_core.specs.Aig.{Aig, IsAnd}
-use Rattle.list_laws.specs.Members.{In}
-use Rattle.list_laws.proofs.Members.{In-get_or}
-use Rattle.cut_enum.specs.Table.{row_at}
-use Rattle.depth_label.specs.Label.{IsCutTable}
+use Rattle.cover_pick.proofs.Common.{arith, ◌<◌, ◌≡◌, ◌∙◌, [], Some, subst, ap, List, ℕ, get_or, length, slice_get, get_or_from_slice_get, Aig, IsAnd, In, In-get_or, row_at, IsCutTable}
 use Rattle.depth_label.proofs.LabelLemmas.{leaves_below}
 use Rattle.cover_pick.specs.Required.{need}
 use Rattle.cover_pick.proofs.WalkLemmas.{each_other}

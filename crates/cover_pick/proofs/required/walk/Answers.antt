@@ -1,7 +1,4 @@
-use Rattle.std.proofs.Common.{arith, ◌∙◌, ◌+◌, ◌-◌, ◌≡◌, ℕ, suc, List, Option, length, ap, subst, sym, slice_set}
-use Rattle.aig_core.specs.Aig.{first_and, node_count}
-use Rattle.cut_enum.specs.Table.{row_at}
-use Rattle.depth_label.specs.Label.{label_of}
+use Rattle.cover_pick.proofs.Common.{arith, ◌∙◌, ◌+◌, ◌-◌, ◌≡◌, ℕ, suc, List, Option, length, ap, subst, sym, slice_set, first_and, node_count, row_at, label_of}
 use Rattle.cover_pick.specs.Ruled.{choice_by, found_in, found_from}
 use Rattle.cover_pick.specs.Required.{need, walk_by, met_at}
 use Rattle.cover_pick.specs.Places.{found_for, AreBestPlaces}

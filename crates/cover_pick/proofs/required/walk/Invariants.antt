@@ -1,6 +1,4 @@
-use Rattle.std.proofs.Common.{◌≡◌, ℕ, ◌+◌, ◌-◌, ◌<◌, length}
-use Rattle.aig_core.specs.Aig.{first_and}
-use Rattle.depth_label.specs.Label.{label_of}
+use Rattle.cover_pick.proofs.Common.{◌≡◌, ℕ, ◌+◌, ◌-◌, ◌<◌, length, first_and, label_of}
 use Rattle.cover_pick.specs.Ruled.{choice_by, found_from}
 use Rattle.cover_pick.specs.Required.{walk_by, met_at}
 use Rattle.cover_pick.specs.Places.{AreBestPlaces}

@@ -1,7 +1,4 @@
-use Rattle.std.proofs.Common.{ℕ, List, subst, sym}
-use Rattle.aig_core.specs.Aig.{node_count}
-use Rattle.aig_core.specs.Roots.{lits_of}
-use Rattle.depth_label.specs.Label.{label_of}
+use Rattle.cover_pick.proofs.Common.{ℕ, List, subst, sym, node_count, lits_of, label_of}
 use Rattle.cover_pick.specs.declared.scope.Scope.TheVariants.{AnyHeight, LeastHeight}
 use Rattle.cover_pick.specs.Flow.{fan_out}
 use Rattle.cover_pick.specs.Allowed.{flows_by}

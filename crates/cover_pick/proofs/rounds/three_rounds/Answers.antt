@@ -1,6 +1,4 @@
-use Rattle.std.proofs.Common.{◌∙◌, ℕ, List, sym}
-use Rattle.aig_core.specs.Roots.{lits_of}
-use Rattle.depth_label.specs.Label.{label_of}
+use Rattle.cover_pick.proofs.Common.{◌∙◌, ℕ, List, sym, lits_of, label_of}
 use Rattle.cover_pick.specs.declared.rule.Rule.TheVariants.{LeastCost}
 use Rattle.cover_pick.specs.Flow.{fan_out}
 use Rattle.cover_pick.specs.Allowed.{flows_by}

@@ -1,5 +1,4 @@
-use Rattle.std.proofs.Common.{◌≡◌, ◌≤◌, drop, [], length, ℕ}
-use Rattle.aig_core.specs.Aig.{node_count}
+use Rattle.cover_pick.proofs.Common.{◌≡◌, ◌≤◌, drop, [], length, ℕ, node_count}
 use Rattle.cover_pick.specs.declared.limits.TheConstants.{MOST_WORK}
 use Rattle.cover_pick.specs.Search.{stamp_at}
 use Rattle.cover_pick.specs.Marks.{tables_from}

@@ -1,6 +1,5 @@
-use Rattle.std.proofs.Common.{arith, ◌≤◌, ◌^◌}
+use Rattle.cover_pick.proofs.Common.{arith, ◌≤◌, ◌^◌, MOST_LEAVES}
 use Rattle.std.proofs.Math.Pow.{pow_mono}
-use Rattle.cut_enum.specs.declared.limits.TheConstants.{MOST_LEAVES}
 use Rattle.cover_pick.proofs.tables.table_bits.Goals as goal
 
 pub returns-clause-few : goal.returns-clause-few

@@ -1,6 +1,4 @@
-use Rattle.std.proofs.Common.{◌≡◌, max, drop}
-use Rattle.aig_core.specs.Roots.{lits_of}
-use Rattle.depth_label.specs.Label.{greatest, label_of}
+use Rattle.cover_pick.proofs.Common.{◌≡◌, max, drop, lits_of, greatest, label_of}
 use Rattle.cover_pick.specs.Target.{root_level}
 use Rattle.cover_pick.proofs.target.target.Given as goal
 

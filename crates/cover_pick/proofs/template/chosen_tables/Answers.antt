@@ -1,6 +1,5 @@
-use Rattle.std.proofs.lemmas.Result.{err_from_is_err_and}
-use Rattle.aig_core.specs.Roots.{lits_of}
-use Rattle.depth_label.specs.Label.{label_of}
+use Rattle.cover_pick.proofs.Common.{ℕ, List, err_from_is_err_and, lits_of, label_of}
+use Rattle.cover_pick.specs.Marks.{IsMade}
 use Rattle.cover_pick.specs.Planned.{cut_at}
 use Rattle.cover_pick.specs.Rounded.{flows_for}
 use Rattle.cover_pick.proofs.PlanLemmas.{roots_inside}
@@ -17,33 +16,20 @@ make_tables-requires-clause-leaves c x m i j =
     let roots = lits_of c.args.roots.now in
     leaves_inside c.args.rule g rows label roots (flows_for c.args.rule g rows label roots) c.in_ok-cuts.cuts c.requires.table c.in_ok-cuts.ensures.plan x m i j
 
-pub returns-clause-ok : goal.returns-clause-ok
-returns-clause-ok c =
+pub returns : goal.returns
+returns c =
     let g = c.args.graph.now in
     let rows = c.args.table.now in
-    let label = label_of c.args.labels.now in
-    let roots = lits_of c.args.roots.now in
-    record {
+    let label : ℕ → ℕ = label_of c.args.labels.now in
+    let roots : List ℕ = lits_of c.args.roots.now in
+    let made : IsMade c.args.rule g rows label roots c.in_ok-made.made = record {
       flows = flows_for c.args.rule g rows label roots;
       cuts = c.in_ok-cuts.cuts;
       plan = c.in_ok-cuts.ensures.plan;
       chosen = rule_plan c.args.rule g rows label roots (roots_inside g roots c.requires.roots) c.requires.labels.labels c.in_ok-cuts.ensures.normal c.requires.table (cut_at c.in_ok-cuts.cuts) c.in_ok-cuts.ensures.plan;
       tables = c.in_ok-made.ensures.ok;
-    }
-
-pub returns-clause-light : goal.returns-clause-light
-returns-clause-light c =
-    let g = c.args.graph.now in
-    let rows = c.args.table.now in
-    let label = label_of c.args.labels.now in
-    let roots = lits_of c.args.roots.now in
-    light_is c.args.rule g rows label roots c.in_ok-made.made c.in_ok-cuts.ensures.normal (record {
-      flows = flows_for c.args.rule g rows label roots;
-      cuts = c.in_ok-cuts.cuts;
-      plan = c.in_ok-cuts.ensures.plan;
-      chosen = rule_plan c.args.rule g rows label roots (roots_inside g roots c.requires.roots) c.requires.labels.labels c.in_ok-cuts.ensures.normal c.requires.table (cut_at c.in_ok-cuts.cuts) c.in_ok-cuts.ensures.plan;
-      tables = c.in_ok-made.ensures.ok;
-    }) c.in_ok-made.ensures.within
+    } in
+    record { ok = made; light = light_is c.args.rule g rows label roots c.in_ok-made.made c.in_ok-cuts.ensures.normal made c.in_ok-made.ensures.within; err = tt }
 
 pub returns-in_err-made-clause-err : goal.returns-in_err-made-clause-err
 returns-in_err-made-clause-err c =

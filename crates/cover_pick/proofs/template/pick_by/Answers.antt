@@ -1,4 +1,4 @@
-use Rattle.depth_label.specs.Label.{label_of}
+use Rattle.cover_pick.proofs.Common.{label_of}
 use Rattle.cover_pick.proofs.OnceLemmas.{template_once, light_or_too_much, too_much_answer}
 use Rattle.cover_pick.proofs.ThereLemmas.{each_maps, each_least}
 use Rattle.cover_pick.proofs.template.pick_by.Goals as goal

@@ -1,6 +1,4 @@
-use Rattle.std.proofs.Common.{◌≡◌, ◌∙◌, ap, subst, sym}
-use Rattle.aig_core.specs.Roots.{RootsValue, lits_of, roots_of}
-use Rattle.depth_label.specs.Label.{label_of}
+use Rattle.cover_pick.proofs.Common.{◌≡◌, ◌∙◌, ap, subst, sym, RootsValue, lits_of, roots_of, label_of}
 use Rattle.cover_pick.specs.Target.{target}
 use Rattle.cover_pick.specs.Marks.{Made, IsMade}
 use Rattle.cover_pick.specs.Work.{IsLight}

@@ -1,4 +1,4 @@
-use Rattle.std.proofs.Common.{◌≡◌, ◌+◌, arith}
+use Rattle.cover_pick.proofs.Common.{◌≡◌, ◌+◌, arith}
 use Rattle.cover_pick.specs.Planned.{cut_at}
 use Rattle.cover_pick.specs.Uses.{price, cost_below}
 use Rattle.cover_pick.proofs.UsesLemmas.{cost_next}

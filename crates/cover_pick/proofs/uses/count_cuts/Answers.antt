@@ -1,8 +1,4 @@
-use Rattle.std.proofs.Common.{◌≡◌, ◌<◌, ◌≤◌, ◌+◌, ◌∙◌, ℕ, List, length, get_or, ap, subst, arith}
-use Rattle.aig_core.specs.Aig.{node_count}
-use Rattle.list_laws.specs.Members.{In}
-use Rattle.list_laws.proofs.Members.{In-get_or}
-use Rattle.depth_label.specs.Fold.{or_empty}
+use Rattle.cover_pick.proofs.Common.{◌≡◌, ◌<◌, ◌≤◌, ◌+◌, ◌∙◌, ℕ, List, length, get_or, ap, subst, arith, node_count, In, In-get_or, or_empty}
 use Rattle.cover_pick.specs.Planned.{cut_at}
 use Rattle.cover_pick.specs.Counts.{count_at, count_each}
 use Rattle.cover_pick.specs.Uses.{times_in}

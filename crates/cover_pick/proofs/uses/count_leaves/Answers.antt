@@ -1,5 +1,4 @@
-use Rattle.std.proofs.Common.{◌≡◌, ◌<◌, ◌≤◌, ◌+◌, ◌^◌, ◌∙◌, ◌∷◌, ℕ, List, drop, length, get_or, ap, sym, arith}
-use Rattle.std.proofs.lemmas.List.{drop_more}
+use Rattle.cover_pick.proofs.Common.{◌≡◌, ◌<◌, ◌≤◌, ◌+◌, ◌^◌, ◌∙◌, ◌∷◌, ℕ, List, drop, length, get_or, ap, sym, arith, drop_more}
 use Rattle.cover_pick.specs.Counts.{count_at, count_each}
 use Rattle.cover_pick.specs.Uses.{times_in}
 use Rattle.cover_pick.proofs.CountLemmas.{one_if, one_more, one_size}

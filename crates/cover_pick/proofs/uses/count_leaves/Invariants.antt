@@ -1,4 +1,4 @@
-use Rattle.std.proofs.Common.{◌≡◌, ◌<◌, ◌+◌, ◌^◌, ℕ, drop, length}
+use Rattle.cover_pick.proofs.Common.{◌≡◌, ◌<◌, ◌+◌, ◌^◌, ℕ, drop, length}
 use Rattle.cover_pick.specs.Counts.{count_at, count_each}
 use Rattle.cover_pick.specs.Uses.{times_in}
 use Rattle.cover_pick.proofs.uses.count_leaves.Given as goal

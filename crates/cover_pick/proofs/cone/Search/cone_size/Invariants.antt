@@ -1,5 +1,4 @@
-use Rattle.std.proofs.Common.{◌-◌}
-use Rattle.aig_core.specs.Aig.{node_count}
+use Rattle.cover_pick.proofs.Common.{◌-◌, node_count}
 use Rattle.cover_pick.proofs.SearchLemmas.{Found}
 use Rattle.cover_pick.proofs.cone.Search.cone_size.Given as goal
 

@@ -1,6 +1,4 @@
-use Rattle.std.proofs.Common.{◌∙◌, [], None, Some, sym, ap}
-use Rattle.std.proofs.lemmas.Option.{get_or_from_slice_get}
-use Rattle.cut_enum.specs.Table.{row_at}
+use Rattle.cover_pick.proofs.Common.{◌∙◌, [], None, Some, sym, ap, get_or_from_slice_get, row_at}
 use Rattle.cover_pick.proofs.PlaceLemmas.{cut_at_place}
 use Rattle.cover_pick.proofs.cuts.ChosenCuts.cut.Goals as goal
 

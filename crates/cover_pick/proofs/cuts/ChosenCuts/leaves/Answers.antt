@@ -1,7 +1,4 @@
-use Rattle.std.proofs.Common.{◌∙◌, [], None, Some, sym, ap}
-use Rattle.std.proofs.lemmas.Option.{get_or_from_slice_get}
-use Rattle.cut_enum.specs.Table.{row_at}
-use Rattle.depth_label.specs.Fold.{or_empty}
+use Rattle.cover_pick.proofs.Common.{◌∙◌, [], None, Some, sym, ap, get_or_from_slice_get, row_at, or_empty}
 use Rattle.cover_pick.proofs.PlaceLemmas.{cut_at_place}
 use Rattle.cover_pick.proofs.cuts.ChosenCuts.leaves.Goals as goal
 

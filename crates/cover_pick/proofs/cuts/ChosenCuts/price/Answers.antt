@@ -1,5 +1,4 @@
-use Rattle.std.proofs.Common.{◌≡◌, ◌∙◌, ◌+◌, ◌^◌, ℕ, List, [], length, None, Some, get_or, sym, ap}
-use Rattle.cut_enum.specs.Table.{row_at}
+use Rattle.cover_pick.proofs.Common.{◌≡◌, ◌∙◌, ◌+◌, ◌^◌, ℕ, List, [], length, None, Some, get_or, sym, ap, row_at}
 use Rattle.cover_pick.specs.declared.limits.TheConstants.{TABLE_PRICE}
 use Rattle.cover_pick.specs.Uses.{price}
 use Rattle.cover_pick.proofs.PlaceLemmas.{cut_at_place}
