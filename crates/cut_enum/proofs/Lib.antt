@@ -10,6 +10,7 @@ mod CutLemmas
 mod PutLemmas
 mod SignedLemmas
 mod GroupLemmas
+mod SharedLemmas
 mod StepLemmas
 mod RowLemmas
 mod SpanLemmas

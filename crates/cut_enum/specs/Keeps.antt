@@ -1,10 +1,10 @@
 -- What the fields of a cut and of lists of cuts keep.
-use Rattle.std.specs.Prelude.{◌≡◌, ℕ, ◌<◌, ◌≤◌, List, [], length, map, take, slice_index_or}
+use Rattle.std.specs.Prelude.{◌≡◌, ℕ, ◌+◌, ◌*◌, ◌<◌, ◌≤◌, List, [], length, map, take, bit_or, slice_index_or}
 use Rattle.std.specs.Int.Bits.{bit_and}
 use Rattle.list_laws.specs.Members.{In}
 use Rattle.list_laws.specs.Order.{IsAscending}
 use Rattle.cut_sets.specs.Sets.{IsOrdered}
-use Rattle.cut_enum.specs.declared.limits.TheConstants.{MOST_LEAVES}
+use Rattle.cut_enum.specs.declared.limits.TheConstants.{MOST_LEAVES, GROUP}
 use Rattle.cut_enum.specs.Signature.{signature_of}
 
 -- the leaves ascend and lie in the inline places, and the signature is theirs
@@ -24,9 +24,19 @@ pub record IsFlatCut (leaves : List ℕ) (len signature : ℕ) : Type 0 where
 abbrev pub NoneClear : ℕ → List ℕ → Type 0
 NoneClear bits words = (i : ℕ) → i < length words → bit_and bits (slice_index_or words i 0) ≡ 0 → ⊥
 
--- the words are the signatures of some cuts
-pub record AreSigned (cuts : List (List ℕ)) (words : List ℕ) : Type 0 where
+-- each of some words has all of these bits
+abbrev pub AllHave : ℕ → List ℕ → Type 0
+AllHave bits words = (i : ℕ) → i < length words → bit_or bits (slice_index_or words i 0) ≡ slice_index_or words i 0
+
+-- a number for each of the first groups of some words: each word of the group has all bits of it
+pub record AreShared (words shared : List ℕ) : Type 0 where
+  pub within : length shared * GROUP ≤ length words
+  pub bits : (n i : ℕ) → n < length shared → i < GROUP → bit_or (slice_index_or shared n 0) (slice_index_or words (n * GROUP + i) 0) ≡ slice_index_or words (n * GROUP + i) 0
+
+-- the words are the signatures of some cuts, and the first groups of them have numbers
+pub record AreSigned (cuts : List (List ℕ)) (words shared : List ℕ) : Type 0 where
   pub signed : words ≡ map signature_of cuts
+  pub grouped : AreShared words shared
 
 -- some cuts by their places
 abbrev pub listed : List (List ℕ) → List ℕ → List (List ℕ)

@@ -34,8 +34,8 @@
 //!
 //! Each cut in the table stores its signature. A union's signature is the OR of the two cuts' signatures. While the cuts
 //! of a node are computed, their signatures are in a vector of their own, one after another (`signed.rt`). In a list of
-//! 32 or more, eight signatures are tested together, and skipped if each has a bit that the tested cut's signature
-//! lacks.
+//! 32 or more, each eight in a row are a group. A group is skipped if the tested cut's signature lacks a bit that all
+//! eight have, or if each of the eight has a bit that it lacks.
 //!
 //! # Table
 //! All cuts are in one vector, first those of the first node. The cuts of a node are sorted by the number of leaves and

@@ -4,12 +4,15 @@
 //! more than k bits, the union of the cuts has more than k leaves. So a scan over many cuts reads their signatures, one
 //! after another, and the leaves of few.
 //!
-//! In a long list, eight signatures in a row are tested together, in code without branches. If each of the eight has a bit
-//! that the tested cut's signature lacks, that cut contains none of the eight. The signatures after the last eight, and
-//! all signatures of a short list, are tested one by one.
+//! In a long list, each eight signatures in a row are a group, and the bits that all eight have are kept beside the list. If
+//! the tested cut's signature lacks one of these, that cut contains none of the eight: one test skips them. Cuts in order
+//! have leaves in common with the next ones, so in a list of some hundreds most groups are skipped so. Of the others, the
+//! eight signatures are tested together, in code without branches: if each has a bit that the tested cut's signature lacks,
+//! that cut contains none of the eight either. The signatures after the last group, and all signatures of a short list, are
+//! tested one by one.
 ghost use Rattle.std.specs.Prelude.{◌≡◌, ◌+◌, ◌-◌, ◌^◌, ◌++◌, ◌≤◌, [], false, length, take, map, OnOk, IfOk};
 ghost use Rattle.std.specs.List.{list_any};
-ghost use Rattle.cut_enum.specs.Keeps.{NoneClear};
+ghost use Rattle.cut_enum.specs.Keeps.{AllHave, AreShared, NoneClear};
 ghost use Rattle.cut_enum.specs.Merging.{leading, subset};
 ghost use Rattle.cut_enum.specs.Signature.{signature_of};
 
@@ -19,11 +22,12 @@ use crate::limits::{FEWEST_GROUPED, GROUP};
 use std::alloc::{AllocError, Global};
 use std::marker::Model;
 
-// Cuts and their signatures.
+// Cuts, their signatures, and the bits that all signatures of a group have.
 #[derive(Drop)]
 pub struct Signed {
     cuts: Vec<FlatCut>,
     signatures: Vec<u64>,
+    shared: Vec<u64>,
 }
 
 impl Model for Signed {
@@ -34,7 +38,7 @@ impl Model for Signed {
 
     ghost view = { λ s. s.cuts.items };
 
-    ghost invariant = { λ s. AreSigned s.cuts.items s.signatures.items };
+    ghost invariant = { λ s. AreSigned s.cuts.items s.signatures.items s.shared.items };
 }
 
 // Some of them, one after another.
@@ -42,6 +46,7 @@ impl Model for Signed {
 pub struct SignedPart<'a> {
     pub cuts: &'a [FlatCut],
     pub signatures: &'a [u64],
+    shared: &'a [u64],
 }
 
 impl<'a> Model for SignedPart<'a> {
@@ -52,7 +57,7 @@ impl<'a> Model for SignedPart<'a> {
 
     ghost view = { λ p. p.cuts.now };
 
-    ghost invariant = { λ p. AreSigned p.cuts.now p.signatures.now };
+    ghost invariant = { λ p. AreSigned p.cuts.now p.signatures.now p.shared.now };
 }
 
 // Adds the signatures of some cuts.
@@ -62,6 +67,32 @@ fn sign(signatures: &mut Vec<u64>, cuts: &[FlatCut]) -> Result<(), AllocError>
     signatures.reserve(cuts.len())?;
     for cut in cuts {
         signatures.push(cut.signature())?;
+    }
+    Ok(())
+}
+
+// The bits that all of some words have.
+fn shared_bits(words: &[u64]) -> u64
+    ensures { AllHave result words.now }
+{
+    let mut bits = u64::MAX;
+    for word in words {
+        bits &= *word;
+    }
+    bits
+}
+
+// Adds the shared bits of the groups that have none yet, if the signatures are many.
+fn share(shared: &mut Vec<u64>, signatures: &[u64]) -> Result<(), AllocError>
+    requires { AreShared signatures.now shared.old.items }
+    ensures { OnOk result (AreShared signatures.now shared.new.items) }
+{
+    if signatures.len() < FEWEST_GROUPED {
+        return Ok(());
+    }
+    for n in shared.len()..signatures.len() / GROUP {
+        let start = n * GROUP;
+        shared.push(shared_bits(&signatures[start..start + GROUP]))?;
     }
     Ok(())
 }
@@ -87,6 +118,7 @@ impl Signed {
         Signed {
             cuts: Vec::new(alloc),
             signatures: Vec::new(alloc),
+            shared: Vec::new(alloc),
         }
     }
 
@@ -96,7 +128,13 @@ impl Signed {
     {
         let mut signatures = Vec::new(alloc);
         sign(&mut signatures, &cuts)?;
-        Ok(Signed { cuts, signatures })
+        let mut shared = Vec::new(alloc);
+        share(&mut shared, &signatures)?;
+        Ok(Signed {
+            cuts,
+            signatures,
+            shared,
+        })
     }
 
     // With the cuts of a level behind the others, in order.
@@ -106,11 +144,17 @@ impl Signed {
         let Signed {
             mut cuts,
             mut signatures,
+            mut shared,
         } = self;
         let before = cuts.len();
         level.append_to(&mut cuts)?;
         sign(&mut signatures, &cuts[before..])?;
-        Ok(Signed { cuts, signatures })
+        share(&mut shared, &signatures)?;
+        Ok(Signed {
+            cuts,
+            signatures,
+            shared,
+        })
     }
 
     // The cuts alone.
@@ -134,6 +178,7 @@ impl Signed {
         SignedPart {
             cuts: &self.cuts,
             signatures: &self.signatures,
+            shared: &self.shared,
         }
     }
 
@@ -145,6 +190,7 @@ impl Signed {
         SignedPart {
             cuts: &self.cuts[..count],
             signatures: &self.signatures[..count],
+            shared: &self.shared[..self.shared.len().min(count / GROUP)],
         }
     }
 }
@@ -178,7 +224,8 @@ fn has_listed_part(cuts: &[FlatCut], signatures: &[u64], outside: u64, cut: &Fla
 // Has one of a group of words none of these bits?
 fn is_one_clear(words: &[u64], bits: u64) -> bool
     requires { length words.now ≡ GROUP }
-    ensures { result ≡ false → NoneClear bits words.now }
+    ensures none { result ≡ false → NoneClear bits words.now }
+    ensures one { NoneClear bits words.now → result ≡ false }
 {
     let mut clear = false;
     for word in words {
@@ -189,35 +236,50 @@ fn is_one_clear(words: &[u64], bits: u64) -> bool
     clear
 }
 
-// Is one of a group within the cut?
-fn has_grouped_part(cuts: &[FlatCut], signatures: &[u64], outside: u64, cut: &FlatCut) -> bool
+// Is one of a group within the cut? All signatures of the group have the shared bits.
+fn has_grouped_part(
+    cuts: &[FlatCut],
+    signatures: &[u64],
+    shared: u64,
+    outside: u64,
+    cut: &FlatCut,
+) -> bool
     requires group { length signatures.now ≡ GROUP }
     requires signed { signatures.now ≡ map signature_of cuts.now }
+    requires shared { AllHave shared signatures.now }
     requires outside { outside + signature_of cut.now ≡ 2 ^ 64 - 1 }
     ensures { result ≡ list_any (λ d. subset d cut.now) cuts.now }
 {
+    if outside & shared != 0 {
+        return false;
+    }
     if !is_one_clear(signatures, outside) {
         return false;
     }
     has_listed_part(cuts, signatures, outside, cut)
 }
 
-// Is one of these within the cut? A group is passed over at once where it can be.
+// Is one of these within the cut? A group is skipped where it can be.
 fn has_part_in_groups(parts: &SignedPart<'_>, outside: u64, cut: &FlatCut) -> bool
     requires { outside + signature_of cut.now ≡ 2 ^ 64 - 1 }
     ensures { result ≡ list_any (λ d. subset d cut.now) parts.now }
 {
     let cuts = parts.cuts;
     let signatures = parts.signatures;
-    let groups = signatures.len() / GROUP;
-    for n in 0..groups {
+    for (n, shared) in parts.shared.iter().enumerate() {
         let start = n * GROUP;
         let end = start + GROUP;
-        if has_grouped_part(&cuts[start..end], &signatures[start..end], outside, cut) {
+        if has_grouped_part(
+            &cuts[start..end],
+            &signatures[start..end],
+            *shared,
+            outside,
+            cut,
+        ) {
             return true;
         }
     }
-    let rest = groups * GROUP;
+    let rest = parts.shared.len() * GROUP;
     has_listed_part(&cuts[rest..], &signatures[rest..], outside, cut)
 }
 
@@ -226,7 +288,7 @@ pub fn has_part(parts: &SignedPart<'_>, cut: &FlatCut) -> bool
     ensures { result ≡ list_any (λ d. subset d cut.now) parts.now }
 {
     let outside = !cut.signature();
-    if parts.signatures.len() < FEWEST_GROUPED {
+    if parts.shared.is_empty() {
         return has_listed_part(parts.cuts, parts.signatures, outside, cut);
     }
     has_part_in_groups(parts, outside, cut)

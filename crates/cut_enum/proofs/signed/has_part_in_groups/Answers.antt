@@ -1,4 +1,4 @@
-use Rattle.std.proofs.Common.{◌≡◌, ◌+◌, ◌*◌, ◌/◌, ◌<◌, ◌∙◌, ℕ, List, false, length, slice_range, ap, sym, arith}
+use Rattle.std.proofs.Common.{◌≡◌, ◌+◌, ◌*◌, ◌≤◌, ◌∙◌, ℕ, List, false, length, slice_range, ap, sym, arith}
 use Rattle.std.specs.List.{list_any}
 use Rattle.cut_enum.specs.declared.limits.TheConstants.{GROUP}
 use Rattle.cut_enum.specs.Merging.{subset}
@@ -17,9 +17,9 @@ loop-n-preserved c =
     group_passed c.args.cut.now c.args.parts.now c.loop-n.n (list_any (λ d. subset d c.args.cut.now) c.args.parts.now) none c.loop-n.invariant
 
 pub has_listed_part-requires-clause-signed : goal.has_listed_part-requires-clause-signed
-has_listed_part-requires-clause-signed c = signed_rest c.parts.inside.signatures.now c.parts.inside.cuts.now (length c.parts.inside.signatures.now / GROUP * GROUP) c.parts.invariant.signed
+has_listed_part-requires-clause-signed c = signed_rest c.parts.inside.signatures.now c.parts.inside.cuts.now (length c.parts.inside.shared.now * GROUP) c.parts.invariant.signed
 
 pub has_grouped_part-requires-clause-group : goal.has_grouped_part-requires-clause-group
 has_grouped_part-requires-clause-group c =
-    let l : c.loop-n.n < length c.parts.inside.signatures.now / GROUP = c.loop-n-test.true in
+    let within : length c.parts.inside.shared.now * GROUP ≤ length c.parts.inside.signatures.now = c.parts.invariant.grouped.within in
     group_length c.parts.inside.signatures.now (c.loop-n.n * GROUP) (omega arith)

@@ -1,0 +1,9 @@
+use Rattle.std.proofs.Common.{◌≡◌, length}
+use Rattle.cut_enum.specs.Keeps.{AreShared}
+use Rattle.cut_enum.proofs.signed.share.Given as goal
+
+abbrev pub invariant-loop-n : goal.invariant-loop-n
+invariant-loop-n l = record {
+  count : length l.shared.items ≡ l.n;
+  grouped : AreShared l.signatures l.shared.items;
+}
