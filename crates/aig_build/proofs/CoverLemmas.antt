@@ -3,6 +3,7 @@ use Rattle.std.proofs.Common.{◌≡◌, ℕ, ◌+◌, ◌*◌, ◌<◌, ◌≤�
 use Rattle.std.proofs.Math.Seq.{drop-cons}
 use Rattle.std.specs.List.{All}
 use Rattle.std.proofs.lemmas.List.Elements.{All-nil, All-cons, All-head, All-tail, All-append, All-push}
+use Rattle.std.proofs.Math.Bool.{and-true}
 use Rattle.list_laws.proofs.Places.{drop_past}
 use Rattle.netlist.specs.declared.cell.Cell.{Cell}
 use Rattle.netlist.specs.declared.cell.Cell.TheVariants.{Zero, One, Any}
@@ -25,15 +26,11 @@ use Rattle.aig_build.proofs.BalancedLemmas.{balanced-grows, all_true, all_true-a
 abbrev pub values_at : List Lit → List Bool → List Bool
 values_at inputs values = map (λ (input : Lit). value_of values input.0) inputs
 
-and_true : (b : Bool) → (b && true) ≡ b
-and_true true = refl
-and_true false = refl
-
 -- what a cell asks for is 1 exactly where it allows its input
 all_true-cell : (cell : Cell) (input : Lit) (values : List Bool) → all_true (cell_literals cell input) values ≡ allows cell (value_of values input.0)
 all_true-cell Any input values = refl
-all_true-cell One input values = and_true (value_of values input.0)
-all_true-cell Zero input values = and_true (value_of values (complement input.0)) ∙ value_of-complement values input.0
+all_true-cell One input values = and-true (value_of values input.0)
+all_true-cell Zero input values = and-true (value_of values (complement input.0)) ∙ value_of-complement values input.0
 
 -- the literals of a row are all 1 exactly where it matches
 all_true-row : (cells : List Cell) (inputs : List Lit) (values : List Bool) → length cells ≡ length inputs → all_true (row_literals cells inputs) values ≡ matches cells (values_at inputs values)

@@ -10,7 +10,7 @@ use Rattle.list_laws.proofs.Members.{In-map, In-filter, from_map, place_in}
 use Rattle.list_laws.proofs.Places.{at_within, get_left, set_here, set_other, set_length, same_or, replicate_at, same_list}
 use Rattle.list_laws.proofs.TwoLists.{get_right}
 use Rattle.tl_text.specs.Once.{AreOnce}
-use Rattle.tl_text.proofs.NameSetLemmas.{has_in, in_has, names_apart as once_apart}
+use Rattle.tl_text.proofs.NameSetLemmas.{has_in, in_has}
 use Rattle.netlist.specs.declared.flat.Net.TheVariants.{Input}
 use Rattle.netlist.specs.FlatValue.{FlatValue}
 use Rattle.netlist.specs.Models.{has_name}
@@ -115,11 +115,11 @@ module _ (flat : FlatValue) (params : List Param) (once : AreOnce flat.inputs) (
 
   -- an input is a parameter's exactly where it has a parameter's name
   input_place : (p : Param) → In params p → (i : ℕ) → slice_get flat.inputs i ≡ Some p.name → p.input ≡ i
-  input_place p m i e = apart_once flat.inputs p.input i p.name (once_apart flat.inputs once) (are.inputs p m) e
+  input_place p m i e = apart_once flat.inputs p.input i p.name once (are.inputs p m) e
 
   -- the names of the sources stand once
   pub names_apart : AreApart (input_names flat params)
-  names_apart = joined_apart (regular_names flat params) (param_names params) (filtered_apart (λ name. not (is_param name)) flat.inputs (once_apart flat.inputs once)) (once_apart (param_names params) are.named.once)
+  names_apart = joined_apart (regular_names flat params) (param_names params) (filtered_apart (λ name. not (is_param name)) flat.inputs once) are.named.once
       (λ name i j. let r = In-filter (λ n. not (is_param n)) flat.inputs name i in
       let t : is_param name ≡ true = in_has (param_names params) name j in
       let b : not true ≡ true = subst (λ b. not b ≡ true) t r.1 in
@@ -191,7 +191,7 @@ module _ (flat : FlatValue) (params : List Param) (once : AreOnce flat.inputs) (
             let count : length (regular_lits 1 marks) ≡ length flat.inputs = length-regular 1 marks ∙ ap length marks_eq ∙ length-map flat.inputs is_param in
             let few : p.0.input < length (regular_lits 1 marks) = subst (λ m. p.0.input < m) (sym count) (subst (λ m. m < length flat.inputs) (sym place) l) in
             let at : slice_get lits p.0.input ≡ Some (record { 0 = 2 * (regular_next 1 marks + j.0) }) =
-            param_lits-at (regular_lits 1 marks) (regular_next 1 marks) params j.0 p.0 (inputs_apart params are.inputs (once_apart (param_names params) are.named.once)) j.1 few in
+            param_lits-at (regular_lits 1 marks) (regular_next 1 marks) params j.0 p.0 (inputs_apart params are.inputs are.named.once) j.1 few in
             let named : slice_get (param_names params) j.0 ≡ Some name = slice_get-map (λ (q : Param). q.name) params j.0 ∙ ap (option_map (λ (q : Param). q.name)) j.1 ∙ ap Some (sym p.2) in
             let lit : (net_lit nets (Input p.0.input)).0 ≡ 2 * (1 + (length (regular_names flat params) + j.0)) =
             ap (λ o. (unwrap_or o no_lit).0) at ∙ (let m : regular_next 1 marks ≡ 1 + length (regular_names flat params) = next_is in omega arith) in

@@ -5,6 +5,7 @@ use Rattle.std.proofs.lemmas.Option.{slice_get-get_or}
 use Rattle.std.proofs.lemmas.List.{get_or_push}
 use Rattle.std.proofs.lemmas.List.Quantifiers.{position-Some}
 use Rattle.std.proofs.lemmas.Bool.{eqb-true, eqb-false, and_parts, cases_lt}
+use Rattle.std.proofs.Math.Bool.{and_comm}
 use Rattle.list_laws.proofs.Choice.{choose}
 use Rattle.aig_core.specs.declared.lit.Pair.{Pair}
 use Rattle.aig_core.specs.Aig.{Aig, IsLit, IsNormal, AreNormal, first_and}
@@ -179,12 +180,6 @@ Makes-and_in_order first ps x y normal some order high =
     (λ f3. let n3 : (x / 2 ≡ y / 2 → ⊥) = eqb-false (x / 2) (y / 2) f3 in
     Makes-found_or_new first ps x y (position (is_pair x y) ps) normal (omega arith) (omega arith) (omega arith) refl))))
 
-and-comm : (a b : Bool) → (a && b) ≡ (b && a)
-and-comm true true = refl
-and-comm true false = refl
-and-comm false true = refl
-and-comm false false = refl
-
 pub Makes-weaker : (first : ℕ) (ps : List Pair) (m n : List Bool → Bool) (made : Answer) → ((vs : List Bool) → m vs ≡ n vs) → Makes first ps m made → Makes first ps n made
 Makes-weaker first ps m n made same makes = record { grows = makes.grows; normal = makes.normal; below = makes.below; value = λ vs base. makes.value vs base ∙ same (values_from vs ps) }
 
@@ -194,7 +189,7 @@ Makes-and first ps a b normal some la lb = elim (cases_lt b a) [
   | inl l ↦
       let lo : min a b ≡ b = omega arith in
       let hi : max a b ≡ a = omega arith in
-      rw (lo, hi) (Makes-weaker first ps (product b a) (product a b) _ (λ vs. and-comm (value_of vs b) (value_of vs a)) (Makes-and_in_order first ps b a normal some (omega arith) la))
+      rw (lo, hi) (Makes-weaker first ps (product b a) (product a b) _ (λ vs. and_comm (value_of vs b) (value_of vs a)) (Makes-and_in_order first ps b a normal some (omega arith) la))
   | inr l ↦
       let lo : min a b ≡ a = omega arith in
       let hi : max a b ≡ b = omega arith in

@@ -6,7 +6,8 @@ use Rattle.std.specs.Cmp.Lexicographic.{bytes_decides}
 use Rattle.std.specs.Str.Parse.{digits_value}
 use Rattle.std.proofs.lemmas.Bool.{cond-true, cond-false, cases_Bool, and_parts, or_cases, true≢false}
 use Rattle.std.proofs.lemmas.Fmt.{decimal_is_IsNumeral}
-use Rattle.std.proofs.lemmas.Option.{none-some, same_Some, slice_get-map, slice_get-get_or}
+use Rattle.std.proofs.lemmas.Option.{none-some, same_Some, slice_get-map, slice_get-get_or, slice_get_within}
+use Rattle.std.proofs.Math.Seq.{take-append_seam, drop-append_seam}
 use Rattle.list_laws.specs.Members.{In}
 use Rattle.list_laws.proofs.Members.{In-get, In-left, In-right}
 use Rattle.netlist.specs.CoverValue.{CoverValue, allows, cover_value}
@@ -20,6 +21,7 @@ use Rattle.netlist.specs.declared.cell.Cell.TheVariants.{One}
 use Rattle.netlist.specs.declared.command.Body.TheVariants as body
 use Rattle.netlist.specs.declared.command.Command.{Command}
 use Rattle.netlist.specs.declared.latch.Latch.{Latch as LatchValue}
+use Rattle.netlist.proofs.UnderscoreLemmas.{few_underscores, many_underscores}
 use Rattle.tl_text.specs.Once.{AreOnce}
 use Rattle.tl_text.proofs.NameSetLemmas.{in_has, has_in}
 use Rattle.aiger_io.specs.Circuit.{Circuit}
@@ -33,8 +35,7 @@ use Rattle.aiger_io.specs.declared.item.Kind.TheVariants as kind
 use Rattle.aiger_io.proofs.CleanLemmas.{IsKept}
 use Rattle.aiger_io.proofs.FitLemmas.{latches_of, IsCommandOf, zero_is, input_is, next_is, latch_is, output_is, gate_is, command_is, own_command, no_clock, no_subckts, only_path, circuit_kinds, literal_row, gate_row, plain}
 use Rattle.aiger_io.proofs.LatchLemmas.{latch_indices, latch_of, state_at}
-use Rattle.aiger_io.proofs.NamedLemmas.{within_get}
-use Rattle.aiger_io.proofs.PortLemmas.{outputs_once}
+use Rattle.list_laws.proofs.Apart.{right_apart, not_in_both}
 use Rattle.aiger_io.proofs.PickLemmas.{IsPicked, picked_at}
 use Rattle.aiger_io.proofs.PlaceLemmas.{of_input, of_latch, of_output, literal_low, variable_low, kind_of_item, place_kind, input_place, latch_place, output_place, and_place}
 
@@ -61,27 +62,10 @@ built c x f path name =
     cond (starts (mark_of (c.inputs ++ c.outputs)) name) (own_value f (next_literals c.items) (drop (length (mark_of (c.inputs ++ c.outputs))) name))
     (port_value c.inputs c.outputs (output_literals c.items) x f name)
 
-take_front : (xs ys : List ℕ) → take (length xs) (xs ++ ys) ≡ xs
-take_front [] ys = refl
-take_front (x ∷ xs) ys = ap (λ l. x ∷ l) (take_front xs ys)
-
-drop_front : (xs ys : List ℕ) → drop (length xs) (xs ++ ys) ≡ ys
-drop_front [] ys = refl
-drop_front (x ∷ xs) ys = drop_front xs ys
-
 front_is : (n : ℕ) (name mark : List ℕ) → take n name ≡ mark → name ≡ mark ++ drop n name
 front_is zero name mark e = ap (λ m. m ++ name) e
 front_is (suc n) [] mark e = ap (λ m. m ++ []) e
 front_is (suc n) (b ∷ bs) mark e = ap (λ l. b ∷ l) (front_is n bs (take n bs) refl) ∙ ap (λ m. m ++ drop n bs) e
-
-most_of_all : (names : List (List ℕ)) (name : List ℕ) → In names name → underscores name ≤ most_underscores names
-most_of_all [] name i = absurd i
-most_of_all (n ∷ names) name (inl e) = let q : underscores name ≡ underscores n = ap underscores e in omega arith
-most_of_all (n ∷ names) name (inr i) = let l : underscores name ≤ most_underscores names = most_of_all names name i in omega arith
-
-many_underscores : (n : ℕ) (rest : List ℕ) → n ≤ underscores (replicate n 95 ++ rest)
-many_underscores zero rest = omega arith
-many_underscores (suc n) rest = let l : n ≤ underscores (replicate n 95 ++ rest) = many_underscores n rest in omega arith
 
 no_start : (names : List (List ℕ)) (name : List ℕ) → In names name → starts (mark_of names) name ≡ false
 no_start names name i = elim (cases_Bool (starts (mark_of names) name)) [
@@ -89,7 +73,7 @@ no_start names name i = elim (cases_Bool (starts (mark_of names) name)) [
       let e : take (length (mark_of names)) name ≡ mark_of names = (bytes_decides (take (length (mark_of names)) name) (mark_of names)).0 t in
       let u : underscores name ≡ underscores (mark_of names ++ drop (length (mark_of names)) name) = ap underscores (front_is (length (mark_of names)) name (mark_of names) e) in
       let l : 1 + most_underscores names ≤ underscores (replicate (1 + most_underscores names) 95 ++ drop (length (mark_of names)) name) = many_underscores (1 + most_underscores names) (drop (length (mark_of names)) name) in
-      let m : underscores name ≤ most_underscores names = most_of_all names name i in absurd (omega arith))
+      let m : underscores name ≤ most_underscores names = few_underscores names name i in absurd (omega arith))
   | inr f ↦ f
 ]
 
@@ -102,27 +86,22 @@ place_once (n ∷ names) (suc j) name once e = elim (cases_Bool (bytes_eq name n
   | inr f ↦ cond-false (bytes_eq name n) 0 (suc (place_among names name)) f ∙ ap (λ k. suc k) (place_once names j name once.1 e)
 ]
 
-apart_both : (xs ys : List (List ℕ)) (name : List ℕ) → AreOnce (xs ++ ys) → In xs name → In ys name → ⊥
-apart_both [] ys name once i j = absurd i
-apart_both (x ∷ xs) ys name once (inl e) j = once.0 (In-right xs ys x (subst (λ z. In ys z) e j))
-apart_both (x ∷ xs) ys name once (inr i) j = apart_both xs ys name once.1 i j
-
 not_input : (xs ys : List (List ℕ)) (name : List ℕ) → AreOnce (xs ++ ys) → In ys name → has_name xs name ≡ false
-not_input xs ys name once j = elim (cases_Bool (has_name xs name)) [ inl t ↦ absurd (apart_both xs ys name once (has_in xs name t) j) | inr f ↦ f ]
+not_input xs ys name once j = elim (cases_Bool (has_name xs name)) [ inl t ↦ absurd (not_in_both xs ys name once (has_in xs name t) j) | inr f ↦ f ]
 
 module _ (c : Circuit) (x : List ℕ → Bool) (f : ℕ → Bool) where
   own_built : (path : Path) (letter n : ℕ) → built c x f path (own_name (mark_of (c.inputs ++ c.outputs)) letter n) ≡ own_value f (next_literals c.items) (letter ∷ decimal n)
   own_built path letter n =
       cond-true (starts (mark_of (c.inputs ++ c.outputs)) (own_name (mark_of (c.inputs ++ c.outputs)) letter n)) _ _
-      ((bytes_decides (take (length (mark_of (c.inputs ++ c.outputs))) (own_name (mark_of (c.inputs ++ c.outputs)) letter n)) (mark_of (c.inputs ++ c.outputs))).1 (take_front (mark_of (c.inputs ++ c.outputs)) (letter ∷ decimal n)))
-      ∙ ap (own_value f (next_literals c.items)) (drop_front (mark_of (c.inputs ++ c.outputs)) (letter ∷ decimal n))
+      ((bytes_decides (take (length (mark_of (c.inputs ++ c.outputs))) (own_name (mark_of (c.inputs ++ c.outputs)) letter n)) (mark_of (c.inputs ++ c.outputs))).1 (take-append_seam (mark_of (c.inputs ++ c.outputs)) (letter ∷ decimal n)))
+      ∙ ap (own_value f (next_literals c.items)) (drop-append_seam (mark_of (c.inputs ++ c.outputs)) (letter ∷ decimal n))
 
   pub variable_built : (path : Path) (v : ℕ) → v < 2 ^ 64 → built c x f path (variable_name (mark_of (c.inputs ++ c.outputs)) v) ≡ f v
   variable_built path v l = own_built path 118 v ∙ ap f (decimal_is_IsNumeral v l).1
 
   pub next_built : (path : Path) (k next : ℕ) → k < 2 ^ 64 → slice_get (next_literals c.items) k ≡ Some next → built c x f path (next_name (mark_of (c.inputs ++ c.outputs)) k) ≡ literal_value f next
   next_built path k next l e =
-      let w : k < length (next_literals c.items) = within_get (next_literals c.items) k next e in
+      let w : k < length (next_literals c.items) = slice_get_within (next_literals c.items) k next e in
       let g : get_or (next_literals c.items) k 0 ≡ next = same_Some (get_or (next_literals c.items) k 0) next (sym (slice_get-get_or (next_literals c.items) k 0 w) ∙ e) in
       own_built path 120 k ∙ ap (λ n. literal_value f (get_or (next_literals c.items) n 0)) (decimal_is_IsNumeral k l).1 ∙ ap (literal_value f) g
 
@@ -134,11 +113,11 @@ module _ (c : Circuit) (x : List ℕ → Bool) (f : ℕ → Bool) where
 
   pub output_built : (path : Path) (j l : ℕ) (name : List ℕ) → AreOnce (c.inputs ++ c.outputs) → slice_get c.outputs j ≡ Some name → slice_get (output_literals c.items) j ≡ Some l → built c x f path name ≡ literal_value f l
   output_built path j l name once at e =
-      let w : j < length (output_literals c.items) = within_get (output_literals c.items) j l e in
+      let w : j < length (output_literals c.items) = slice_get_within (output_literals c.items) j l e in
       let g : get_or (output_literals c.items) j 0 ≡ l = same_Some (get_or (output_literals c.items) j 0) l (sym (slice_get-get_or (output_literals c.items) j 0 w) ∙ e) in
       port_built path name (In-right c.inputs c.outputs name (In-get c.outputs j name at))
       ∙ cond-false (has_name c.inputs name) (x name) _ (not_input c.inputs c.outputs name once (In-get c.outputs j name at))
-      ∙ ap (λ n. literal_value f (get_or (output_literals c.items) n 0)) (place_once c.outputs j name (outputs_once c.inputs c.outputs once) at) ∙ ap (literal_value f) g
+      ∙ ap (λ n. literal_value f (get_or (output_literals c.items) n 0)) (place_once c.outputs j name (right_apart c.inputs c.outputs once) at) ∙ ap (literal_value f) g
 
 -- what is picked of latches and of outputs
 of_gate : (h : Header) (p : ℕ) → kind.And ≡ kind_at h p → h.inputs + h.latches + h.outputs ≤ p
@@ -209,7 +188,7 @@ module _ (c : Circuit) (kept : IsKept c) (once : AreOnce (c.inputs ++ c.outputs)
   cover_built path d cover (next_is q own next init at is) e =
       let k = kept.items q (Latch own next init) at in
       let r = and_parts (is_variable c.header.variables own) (is_literal c.header.variables next) k.range in
-      let w : q < length c.items = within_get c.items q (Latch own next init) at in
+      let w : q < length c.items = slice_get_within c.items q (Latch own next init) at in
       let n : length c.items < 4294967296 = kept.count in
       let picked = picked_at c.header next_literal c.header.inputs (c.header.inputs + c.header.latches) (nexts_picked c.header) 0 c.items (circuit_kinds c kept) q (Latch own next init) next at refl in
       let z : 0 + q - max 0 c.header.inputs ≡ 0 + q - c.header.inputs = omega arith in

@@ -3,6 +3,7 @@ use Rattle.std.proofs.Common.{◌≡◌, lit<, ℕ, ◌+◌, ◌-◌, ◌*◌, �
 use Rattle.std.specs.Str.Lines.{lines}
 use Rattle.std.proofs.lemmas.Bool.{and_parts}
 use Rattle.std.proofs.lemmas.Fmt.{length-decimal-le}
+use Rattle.std.proofs.lemmas.Option.{slice_get_within}
 use Rattle.list_laws.specs.Members.{In}
 use Rattle.list_laws.proofs.Members.{In-get_or, In-left, In-right}
 use Rattle.netlist.specs.Flat.{most_underscores}
@@ -25,7 +26,7 @@ use Rattle.aiger_io.specs.declared.header.Header.{Header}
 use Rattle.aiger_io.specs.declared.item.Item.{Item}
 use Rattle.aiger_io.specs.declared.item.Item.TheVariants.{Input, Latch, Output, And}
 use Rattle.aiger_io.proofs.FormedLemmas.{all_commands, small_names, said_size, said_named}
-use Rattle.aiger_io.proofs.NamedLemmas.{AreNamed, within_get}
+use Rattle.aiger_io.proofs.NamedLemmas.{AreNamed}
 use Rattle.aiger_io.proofs.PlaceLemmas.{AreItems, IsItemAt, of_input, of_output, literal_low, variable_low, items_known}
 use Rattle.aiger_io.proofs.PortLemmas.{IsPortName, by_symbol, by_default, port_name_of, inputs_length, outputs_length}
 use Rattle.aiger_io.proofs.ReadLemmas.{circuit_read}
@@ -116,7 +117,7 @@ module _ (c : Circuit) (kept : IsKept c) where
   commands_clean : (d : Command) → In (commands_of (mark_of (c.inputs ++ c.outputs)) c) d → IsCleanBody d.body
   commands_clean d (inl same) = zero_clean 1 (variable_name (mark_of (c.inputs ++ c.outputs)) 0) d (name_clean 118 0 (omega arith) (omega arith) (lit< tt)) same
   commands_clean d (inr i) = all_commands (λ (e : Command). IsCleanBody e.body) (mark_of (c.inputs ++ c.outputs)) c.header c.inputs c.outputs 0 c.items
-      (λ q item e at j. item_clean q item e (let w : q < length c.items = within_get c.items q item at in let n : length c.items < 4294967296 = kept.count in omega arith) (kept.items q item at) j) d i
+      (λ q item e at j. item_clean q item e (let w : q < length c.items = slice_get_within c.items q item at in let n : length c.items < 4294967296 = kept.count in omega arith) (kept.items q item at) j) d i
 
   ports_clean : (p : Ports) → AreClean (ports_of p (model_of c))
   ports_clean input_ports x i = kept.clean x (In-left c.inputs c.outputs x i)
@@ -135,12 +136,12 @@ module _ (c : Circuit) (kept : IsKept c) where
 port_clean : (said : SymbolsValue) (most : ℕ) (x : List ℕ) → AreNamed most said → length said.names < 4294967296 → IsPortName said x → IsClean x
 port_clean said most x are few (by_symbol p at) = (are.good p x at).clean
 port_clean said most x are few (by_default letter k p o which low at is) =
-    let l : p < length said.names = within_get said.names p o at in let w : k ≤ p = low in subst IsClean (sym is) (default_clean letter k which (omega arith))
+    let l : p < length said.names = slice_get_within said.names p o at in let w : k ≤ p = low in subst IsClean (sym is) (default_clean letter k which (omega arith))
 
 port_short : (said : SymbolsValue) (most : ℕ) (x : List ℕ) → AreNamed most said → length said.names < 4294967296 → most < 4294967296 → IsPortName said x → length x < 4294967296
 port_short said most x are few small (by_symbol p at) = let l : length x ≤ most = (are.good p x at).short in omega arith
 port_short said most x are few small (by_default letter k p o which low at is) =
-    let l : p < length said.names = within_get said.names p o at in let w : k ≤ p = low in
+    let l : p < length said.names = slice_get_within said.names p o at in let w : k ≤ p = low in
     let d : length (decimal k) ≤ 10 = length-decimal-le 10 k (lit< tt) (omega arith) (omega arith) in
     let n : length x ≡ length (letter ∷ decimal k) = ap length is in omega arith
 

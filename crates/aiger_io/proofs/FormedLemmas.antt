@@ -23,7 +23,8 @@ use Rattle.aiger_io.specs.declared.header.Header.{Header}
 use Rattle.aiger_io.specs.declared.item.Item.{Item}
 use Rattle.aiger_io.specs.declared.item.Item.TheVariants.{Input, Latch, Output, And}
 use Rattle.aiger_io.proofs.NamedLemmas.{AreNamed, symbols_named}
-use Rattle.aiger_io.proofs.PortLemmas.{ports_once, inputs_once, outputs_once}
+use Rattle.list_laws.proofs.Apart.{left_apart, right_apart}
+use Rattle.aiger_io.proofs.PortLemmas.{ports_once}
 use Rattle.aiger_io.proofs.ReadLemmas.{IsCircuitOf, circuit_read}
 use Rattle.aiger_io.proofs.RowLemmas.{lines_few, lines_short, In-drop}
 use Rattle.aiger_io.proofs.SymbolLemmas.{symbols_sized}
@@ -107,7 +108,7 @@ text_ports_once text c l is =
 pub text_formed : (text : List ℕ) → length text ≤ 67108864 → (library : LibraryValue) → IsLibraryIn (circuit_of text) library → IsWellFormed library
 text_formed text l library made =
     let once = text_ports_once text made.circuit l made.is in
-    subst IsWellFormed (sym made.made) (circuit_formed made.circuit (inputs_once made.circuit.inputs made.circuit.outputs once) (outputs_once made.circuit.inputs made.circuit.outputs once))
+    subst IsWellFormed (sym made.made) (circuit_formed made.circuit (left_apart made.circuit.inputs made.circuit.outputs once) (right_apart made.circuit.inputs made.circuit.outputs once))
 
 -- the commands of each line are among all
 pub of_item : (mark : List ℕ) (h : Header) (inputs outputs : List (List ℕ)) (p : ℕ) (items : List Item) (q : ℕ) (item : Item) (d : Command) → slice_get items q ≡ Some item → In (item_commands mark h inputs outputs (p + q) item) d → In (commands_from mark h inputs outputs p items) d

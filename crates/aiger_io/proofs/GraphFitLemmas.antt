@@ -5,6 +5,7 @@ use Rattle.std.specs.List.{range_with_len}
 use Rattle.std.proofs.lemmas.Bool.{cases_lt, and_parts}
 use Rattle.std.proofs.lemmas.List.FromFn.{length-map-range_with_len, get_or-map-range_with_len}
 use Rattle.std.proofs.lemmas.Option.{same_Some, slice_get_within, get_or_from_slice_get}
+use Rattle.std.proofs.Math.Bool.{and_comm}
 use Rattle.list_laws.proofs.Members.{map_agree, place_in}
 use Rattle.list_laws.proofs.Places.{at_within, get_left, same_list}
 use Rattle.list_laws.proofs.Ranges.{of_range}
@@ -25,13 +26,6 @@ use Rattle.aiger_io.specs.declared.item.Item.TheVariants.{Input, Latch, And}
 use Rattle.aiger_io.proofs.GraphItemLemmas.{IsGraphItem, an_input, a_latch, an_output, a_gate, item_is, input_there, latch_there, gate_there}
 use Rattle.aiger_io.proofs.PlaceLemmas.{variable_low}
 use Rattle.aiger_io.proofs.RoundTripLemmas.{IsFormed}
-
--- a product's factors in the other order
-and_swapped : (a b : Bool) → (a && b) ≡ (b && a)
-and_swapped true true = refl
-and_swapped true false = refl
-and_swapped false true = refl
-and_swapped false false = refl
 
 -- a complement as a choice and as a sum
 phase_is : (b t : Bool) → xor b t ≡ cond t (not b) b
@@ -108,7 +102,7 @@ module _ (flat : FlatValue) (params : List Param) (regular : List ℕ) (g : Aig)
         let z : j ≡ first_and g + j - first_and g = omega arith in
         ap (node_value values) n
         ∙ fits.node (first_and g + j) pair (record { above = omega arith; is = subst (λ m. slice_get g.pairs m ≡ Some pair) z there })
-        ∙ and_swapped (value_of values pair.x.0) (value_of values pair.y.0)
+        ∙ and_comm (value_of values pair.x.0) (value_of values pair.y.0)
         ∙ ap (λ v. v && value_of values pair.x.0) (literal_same values (node_value values) pair.y.0 refl ∙ ap (literal_value (node_value values)) a)
         ∙ ap (λ v. literal_value (node_value values) left && v) (literal_same values (node_value values) pair.x.0 refl ∙ ap (literal_value (node_value values)) b)
 
@@ -150,7 +144,7 @@ module _ (flat : FlatValue) (params : List Param) (regular : List ℕ) (g : Aig)
         let z : 2 * (first_and g + (n - first_and g)) / 2 ≡ n = omega arith in
         node_at g value n (omega arith) ∙ ap value (sym z)
         ∙ fits.ands (2 * (first_and g + (n - first_and g))) p.y.0 p.x.0 (gate_there (input_count regular params) flat.latches g roots (n - first_and g) p is)
-        ∙ and_swapped (literal_value value p.y.0) (literal_value value p.x.0)
+        ∙ and_comm (literal_value value p.y.0) (literal_value value p.x.0)
         ∙ ap (λ v. v && literal_value value p.y.0) (sym (literal_same (node_list g value) value p.x.0 (node_at g value (p.x.0 / 2) (omega arith))))
         ∙ ap (λ v. value_of (node_list g value) p.x.0 && v) (sym (literal_same (node_list g value) value p.y.0 (node_at g value (p.y.0 / 2) (omega arith))))
 

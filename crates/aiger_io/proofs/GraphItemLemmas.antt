@@ -9,7 +9,7 @@ use Rattle.std.proofs.lemmas.List.FromFn.{length-range_with_len, get_or-range_wi
 use Rattle.std.proofs.lemmas.Option.{none-some, same_Some, slice_get-map, slice_get-get_or, slice_get_within, get_or_from_slice_get}
 use Rattle.list_laws.specs.Members.{In}
 use Rattle.list_laws.proofs.Members.{In-get, In-right}
-use Rattle.list_laws.proofs.Places.{get_left, drop_past}
+use Rattle.list_laws.proofs.Places.{get_left, drop_past, mapped_at}
 use Rattle.list_laws.proofs.TwoLists.{get_right}
 use Rattle.aig_core.specs.Aig.{Aig, first_and}
 use Rattle.aig_core.specs.Roots.{RootsValue, lits_of}
@@ -21,12 +21,6 @@ use Rattle.aiger_io.specs.Run.{output_literal, next_literal, init_bit, output_li
 use Rattle.aiger_io.specs.WrittenText.{numbered}
 use Rattle.aiger_io.specs.declared.item.Item.{Item}
 use Rattle.aiger_io.proofs.PortLemmas.{append_at}
-
--- what stands at a place of a mapped list
-mapped_from : {A B : Type 0} (f : A → B) (xs : List A) (k : ℕ) (y : B) → slice_get (map f xs) k ≡ Some y → (x : A) × (slice_get xs k ≡ Some x) × (y ≡ f x)
-mapped_from f [] k y e = absurd (none-some y e)
-mapped_from f (x ∷ xs) zero y e = (x, refl, sym (same_Some (f x) y e))
-mapped_from f (x ∷ xs) (suc k) y e = mapped_from f xs k y e
 
 -- of things by numbers
 numbered_from : {X Y : Type 0} (f : ℕ → X → Y) (n : ℕ) (xs : List X) (k : ℕ) (y : Y) → slice_get (numbered f n xs) k ≡ Some y → (x : X) × (slice_get xs k ≡ Some x) × (y ≡ f (n + k) x)
@@ -91,7 +85,7 @@ module _ (inputs : ℕ) (latches : List FlatLatch) (g : Aig) (roots : RootsValue
   -- from a place to its item
   input_is : (p : ℕ) (item : Item) → slice_get input_part p ≡ Some item → IsGraphItem inputs latches g roots p item
   input_is p item e =
-      let r = mapped_from input_item (range_with_len 1 inputs) p item e in
+      let r = mapped_at input_item (range_with_len 1 inputs) p item e in
       let l : p < length (range_with_len 1 inputs) = slice_get_within (range_with_len 1 inputs) p r.0 r.1 in
       let n : length (range_with_len 1 inputs) ≡ inputs = length-range_with_len 1 inputs in
       let low : p < inputs = omega arith in
@@ -105,7 +99,7 @@ module _ (inputs : ℕ) (latches : List FlatLatch) (g : Aig) (roots : RootsValue
       a_latch k r.0 at r.1 (r.2 ∙ ap (λ m. latch_item inputs roots.next m r.0) z)
 
   output_is : (p k : ℕ) (item : Item) → p ≡ inputs + length latches + k → slice_get output_part k ≡ Some item → IsGraphItem inputs latches g roots p item
-  output_is p k item at e = let r = mapped_from output_item roots.outputs k item e in an_output k r.0 at r.1 r.2
+  output_is p k item at e = let r = mapped_at output_item roots.outputs k item e in an_output k r.0 at r.1 r.2
 
   gate_is : (p k : ℕ) (item : Item) → p ≡ inputs + length latches + length roots.outputs + k → slice_get gate_part k ≡ Some item → IsGraphItem inputs latches g roots p item
   gate_is p k item at e = let r = numbered_from gate_item (first_and g) g.pairs k item e in a_gate k r.0 at r.1 r.2

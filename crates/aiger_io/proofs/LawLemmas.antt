@@ -4,7 +4,7 @@ use Rattle.std.specs.Prelude.{slice_get}
 use Rattle.std.specs.Option.{option_map, option_and_then}
 use Rattle.std.proofs.lemmas.Bool.{and_parts}
 use Rattle.std.proofs.lemmas.List.{length-map}
-use Rattle.std.proofs.lemmas.Option.{same_Some, slice_get-map, slice_get-get_or}
+use Rattle.std.proofs.lemmas.Option.{same_Some, slice_get-map, slice_get-get_or, slice_get_within}
 use Rattle.list_laws.specs.Members.{In}
 use Rattle.list_laws.proofs.Members.{place_in}
 use Rattle.list_laws.proofs.Places.{at_within, same_list}
@@ -35,10 +35,9 @@ use Rattle.aiger_io.proofs.CleanLemmas.{IsKept, text_kept}
 use Rattle.aiger_io.proofs.FitLemmas.{latches_of, no_subckts, are_latches, cover_in_place, command_in, item_in, circuit_kinds, literal_is, fits_lines}
 use Rattle.aiger_io.proofs.FormedLemmas.{text_ports_once}
 use Rattle.aiger_io.proofs.LatchLemmas.{latch_indices, top_place, own_latches}
-use Rattle.aiger_io.proofs.NamedLemmas.{within_get}
 use Rattle.aiger_io.proofs.PickLemmas.{picked_length, picked_at, picked_from}
 use Rattle.aiger_io.proofs.PlaceLemmas.{of_input, variable_low}
-use Rattle.aiger_io.proofs.PortLemmas.{inputs_once}
+use Rattle.list_laws.proofs.Apart.{left_apart}
 
 -- bits by the names of their places
 abbrev by_name : List (List ℕ) → List Bool → List ℕ → Bool
@@ -47,13 +46,13 @@ by_name names bits name = get_or bits (place_among names name) false
 by_name_at : (names : List (List ℕ)) (bits : List Bool) (k : ℕ) (b : Bool) → AreOnce names → k < length names → slice_get bits k ≡ Some b → slice_get (map (by_name names bits) names) k ≡ Some b
 by_name_at names bits k b once l e =
     let n = at_within names k l in
-    let w : k < length bits = within_get bits k b e in
+    let w : k < length bits = slice_get_within bits k b e in
     slice_get-map (by_name names bits) names k ∙ ap (option_map (by_name names bits)) n.1
     ∙ ap (λ i. Some (get_or bits i false)) (place_once names k n.0 once n.1) ∙ sym (slice_get-get_or bits k false w) ∙ e
 
 by_name_all : (names : List (List ℕ)) (bits : List Bool) → AreOnce names → length bits ≡ length names → map (by_name names bits) names ≡ bits
 by_name_all names bits once l = same_list (map (by_name names bits) names) bits (length-map names (by_name names bits) ∙ sym l)
-    (λ i x y a b. let w : i < length bits = within_get bits i y b in same_Some x y (sym a ∙ by_name_at names bits i y once (omega arith) b))
+    (λ i x y a b. let w : i < length bits = slice_get_within bits i y b in same_Some x y (sym a ∙ by_name_at names bits i y once (omega arith) b))
 
 -- two lists that give the same values place by place
 values_same : {A B : Type 0} (g : A → Bool) (h : B → Bool) (xs : List A) (ys : List B) → length xs ≡ length ys → ((i : ℕ) (x : A) (y : B) → slice_get xs i ≡ Some x → slice_get ys i ≡ Some y → g x ≡ h y) → map g xs ≡ map h ys
@@ -71,7 +70,7 @@ module _ (c : Circuit) (kept : IsKept c) (once : AreOnce (c.inputs ++ c.outputs)
     inputs = λ k own e.
         let low : k < c.header.inputs = of_input c.header k (kept.items k (Input own) e).kind in
         let n : length c.inputs ≡ c.header.inputs = kept.inputs in
-        by_name_at c.inputs x k (f (own / 2)) (inputs_once c.inputs c.outputs once) (omega arith) (fits.inputs k own e);
+        by_name_at c.inputs x k (f (own / 2)) (left_apart c.inputs c.outputs once) (omega arith) (fits.inputs k own e);
     latches = fits.latches;
     ands = fits.ands;
   }
@@ -125,7 +124,7 @@ module _ (c : Circuit) (kept : IsKept c) (once : AreOnce (c.inputs ++ c.outputs)
   one_fit law = record {
     exists = λ x s l m.
         let fit = law.exists (by_name c.inputs x) (state_of (latches_of c) s) in
-        let names : map (by_name c.inputs x) c.inputs ≡ x = by_name_all c.inputs x (inputs_once c.inputs c.outputs once) (l ∙ sym kept.inputs) in (
+        let names : map (by_name c.inputs x) c.inputs ≡ x = by_name_all c.inputs x (left_apart c.inputs c.outputs once) (l ∙ sym kept.inputs) in (
           λ v. fit.value [] (variable_name (mark_of (c.inputs ++ c.outputs)) v),
           subst (λ i. FitsLines c i s (λ v. fit.value [] (variable_name (mark_of (c.inputs ++ c.outputs)) v))) names (fits_lines c kept (by_name c.inputs x) s m fit.value fit.fits),
         );
@@ -246,7 +245,7 @@ module _ (c : Circuit) (kept : IsKept c) (once : AreOnce (c.inputs ++ c.outputs)
 
   built_nexts : (x : List ℕ → Bool) (f : ℕ → Bool) → next_states (library_of c) (built c x f) (latches_of c) ≡ map (literal_value f) (next_literals c.items)
   built_nexts x f = nexts_same c (built c x f) f 1 0 c.items (all_there c) (λ q own next init e.
-      let w : q < length c.items = within_get c.items q (Latch own next init) e in
+      let w : q < length c.items = slice_get_within c.items q (Latch own next init) e in
       let n : length c.items < 4294967296 = kept.count in
       let picked = picked_at c.header next_literal c.header.inputs (c.header.inputs + c.header.latches) (nexts_picked c.header) 0 c.items (circuit_kinds c kept) q (Latch own next init) next e refl in
       let z : 0 + q - max 0 c.header.inputs ≡ 0 + q - c.header.inputs = omega arith in
@@ -276,7 +275,7 @@ module _ (c : Circuit) (kept : IsKept c) (once : AreOnce (c.inputs ++ c.outputs)
     output_here j name l a q (Output o) at is e =
         let same : o ≡ l = cc in
         let z : 0 + q - (c.header.inputs + c.header.latches) ≡ j = omega arith in
-        let w : j < length c.outputs = within_get c.outputs j name a in
+        let w : j < length c.outputs = slice_get_within c.outputs j name a in
         let n : port_name c.outputs (0 + q - (c.header.inputs + c.header.latches)) ≡ name = ap (port_name c.outputs) z ∙ same_Some (port_name c.outputs j) name (sym (slice_get-get_or c.outputs j [] w) ∙ a) in
         subst (λ k. value [] k ≡ literal_value own_values l) n
         (literal_is c kept x s count value fits (0 + q + 2) o (port_name c.outputs (0 + q - (c.header.inputs + c.header.latches))) (item_in c q (Output o) _ at (inl refl)) ∙ ap (literal_value own_values) same)

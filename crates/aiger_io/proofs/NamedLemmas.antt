@@ -1,9 +1,10 @@
 -- Symbols: each name that stands is that of a line, is clean, and no longer than the line.
-use Rattle.std.proofs.Common.{◌≡◌, ℕ, zero, suc, ◌+◌, ◌<◌, ◌≤◌, Bool, true, false, not, ◌&&◌, ◌||◌, eqb, ltb, List, [], ◌∷◌, ◌++◌, length, Option, Some, None, Result, Ok, Err, inl, inr, refl, sym, ap, ◌∙◌, subst, arith, length-drop}
+use Rattle.std.proofs.Common.{◌≡◌, ℕ, zero, suc, ◌+◌, ◌<◌, ◌≤◌, Bool, false, not, ◌&&◌, ◌||◌, eqb, ltb, List, [], ◌∷◌, ◌++◌, length, Option, Some, None, Result, Ok, Err, inl, inr, refl, sym, ap, ◌∙◌, subst, arith, length-drop}
 use Rattle.std.specs.Prelude.{bytes_eq, codes, slice_get, slice_set, replicate, slice_index_or}
 use Rattle.std.specs.List.{list_any, before_first, after_first, position_or_len}
 use Rattle.std.specs.Option.{is_some}
-use Rattle.std.proofs.lemmas.Bool.{or_from, and_parts, not-true, ltb-false, eqb-false, le-ltb, ne_eqb, cond-true, cond-false, cases_Bool, cases_lt}
+use Rattle.std.proofs.lemmas.Bool.{or_from, and_parts, not-true, ltb-false, eqb-false, le-ltb, ne_eqb, cond-true, cond-false, cases_Bool, cases_lt, or_parts}
+use Rattle.std.proofs.lemmas.Option.{slice_get_within}
 use Rattle.list_laws.specs.Members.{In}
 use Rattle.list_laws.proofs.Members.{In-left, In-pushed}
 use Rattle.list_laws.proofs.Places.{set_here, set_other, set_length, same_or}
@@ -23,14 +24,10 @@ pub record IsGoodName (most : ℕ) (name : List ℕ) : Type 0 where
   pub clean : IsClean name
   pub short : length name ≤ most
 
-both_false : (x y : Bool) → (x || y) ≡ false → (x ≡ false) × (y ≡ false)
-both_false true y e = absurd (cc)
-both_false false y e = (refl, e)
-
 none_of : (test : ℕ → Bool) (xs : List ℕ) → list_any test xs ≡ false → (x : ℕ) → In xs x → test x ≡ false
 none_of test [] e x i = absurd i
-none_of test (y ∷ ys) e x (inl q) = subst (λ z. test z ≡ false) (sym q) (both_false (test y) (list_any test ys) e).0
-none_of test (y ∷ ys) e x (inr i) = none_of test ys (both_false (test y) (list_any test ys) e).1 x i
+none_of test (y ∷ ys) e x (inl q) = subst (λ z. test z ≡ false) (sym q) (or_parts (test y) (list_any test ys) e).0
+none_of test (y ∷ ys) e x (inr i) = none_of test ys (or_parts (test y) (list_any test ys) e).1 x i
 
 record IsGoodByte (b : ℕ) : Type 0 where
   low : 33 ≤ b
@@ -39,8 +36,8 @@ record IsGoodByte (b : ℕ) : Type 0 where
 
 good_byte : (b : ℕ) → is_bad_byte b ≡ false → IsGoodByte b
 good_byte b e =
-    let p = both_false (ltb b 33) (eqb b 35 || eqb b 127) e in
-    let q = both_false (eqb b 35) (eqb b 127) p.1 in
+    let p = or_parts (ltb b 33) (eqb b 35 || eqb b 127) e in
+    let q = or_parts (eqb b 35) (eqb b 127) p.1 in
     record { low = ltb-false b 33 p.0; comment = eqb-false b 35 q.0; delete = eqb-false b 127 q.1 }
 
 not_blank : (b : ℕ) → IsGoodByte b → is_blank b ≡ false
@@ -62,7 +59,7 @@ bytes_clean name some good no_slash = record {
 
 clean_name : (name : List ℕ) → 0 < length name → is_bad_name name ≡ false → IsClean name
 clean_name name some e =
-    let p = both_false (list_any is_bad_byte name) (ends_in 92 name) e in
+    let p = or_parts (list_any is_bad_byte name) (ends_in 92 name) e in
     bytes_clean name some (λ b i. good_byte b (none_of is_bad_byte name p.0 b i)) p.1
 
 -- the name of a symbol's line
@@ -92,11 +89,6 @@ pub record AreNamed (most : ℕ) (said : SymbolsValue) : Type 0 where
   pub placed : (p : ℕ) (name : List ℕ) → slice_get said.names p ≡ Some (Some name) → In said.places p
   pub good : (p : ℕ) (name : List ℕ) → slice_get said.names p ≡ Some (Some name) → IsGoodName most name
 
-pub within_get : {A : Type 0} (xs : List A) (i : ℕ) (x : A) → slice_get xs i ≡ Some x → i < length xs
-within_get [] i x e = absurd (cc)
-within_get (y ∷ ys) zero x e = omega arith
-within_get (y ∷ ys) (suc i) x e = let l : i < length ys = within_get ys i x e in omega arith
-
 pub none_at : (n p : ℕ) (name : List ℕ) → slice_get (replicate n no_name) p ≡ Some (Some name) → ⊥
 none_at zero p name e = absurd (cc)
 none_at (suc n) zero name e = absurd (cc)
@@ -118,7 +110,7 @@ module _ (most : ℕ) (h : Header) (said : SymbolsValue) (are : AreNamed most sa
           let same : s.name ≡ name = cc in
           (subst (IsGoodName most) same good, subst (λ i. In (said.places ++ place_of h s ∷ []) i) (sym q) (In-pushed said.places (place_of h s))))
       | inr l ↦ absurd (
-          let t : p < length (slice_set said.names (place_of h s) (Some s.name)) = within_get (slice_set said.names (place_of h s) (Some s.name)) p (Some name) e in
+          let t : p < length (slice_set said.names (place_of h s) (Some s.name)) = slice_get_within (slice_set said.names (place_of h s) (Some s.name)) p (Some name) e in
           let n : length (slice_set said.names (place_of h s) (Some s.name)) ≡ length said.names = set_length said.names (place_of h s) (Some s.name) in
           let z : p ≡ place_of h s = q in omega arith)
     ]

@@ -3,11 +3,11 @@ use Rattle.std.proofs.Common.{◌≡◌, lit<, ℕ, zero, suc, ◌+◌, ◌^◌,
 use Rattle.std.specs.Prelude.{bytes_eq, slice_get}
 use Rattle.std.specs.Cmp.Lexicographic.{bytes_decides}
 use Rattle.std.proofs.lemmas.Bool.{and_parts, and_from, or_cases, or_left, or_right, lt-ltb, le-leb, true≢false}
-use Rattle.std.proofs.lemmas.Option.{slice_get-get_or, same_Some}
+use Rattle.std.proofs.lemmas.Option.{slice_get-get_or, same_Some, slice_get_within}
 use Rattle.std.proofs.lemmas.Fmt.{decimal_is_IsNumeral}
 use Rattle.std.specs.Str.Parse.{digits_value}
 use Rattle.list_laws.specs.Members.{In}
-use Rattle.list_laws.proofs.Members.{place_in, In-left}
+use Rattle.list_laws.proofs.Members.{place_in}
 use Rattle.list_laws.proofs.Choice.{none_both}
 use Rattle.tl_text.specs.NameSets.{has_name}
 use Rattle.tl_text.specs.Once.{AreOnce}
@@ -18,7 +18,7 @@ use Rattle.aiger_io.specs.Refused.{StandsTwice}
 use Rattle.aiger_io.specs.Symbols.{SymbolsValue, no_name}
 use Rattle.aiger_io.specs.declared.aag_err.AagErr.TheVariants.{BadSymbol}
 use Rattle.aiger_io.specs.declared.header.Header.{Header}
-use Rattle.aiger_io.proofs.NamedLemmas.{AreNamed, within_get}
+use Rattle.aiger_io.proofs.NamedLemmas.{AreNamed}
 
 -- names none of which stands twice are apart
 behind_twice : (names : List (List ℕ)) (n x : List ℕ) → is_twice names x ≡ true → is_twice (n ∷ names) x ≡ true
@@ -125,7 +125,7 @@ module _ (h : Header) (said : SymbolsValue) (most line : ℕ) (size : length sai
   symbol_once : (p : ℕ) (name : List ℕ) → is_port h p ≡ true → slice_get said.names p ≡ Some (Some name) → is_twice (port_names h said) name ≡ true → ⊥
   symbol_once p name port at t =
       let f = none_found h said line said.places none p (are.placed p name at) in
-      let l : p < length said.names = within_get said.names p (Some name) at in
+      let l : p < length said.names = slice_get_within said.names p (Some name) at in
       let g : get_or said.names p no_name ≡ Some name = same_Some (get_or said.names p no_name) (Some name) (sym (slice_get-get_or said.names p no_name l) ∙ at) in
       let n : name_at said p ≡ name = ap (λ o. unwrap_or o []) g in
       true≢false (sym (and_from (is_port h p) (is_twice (port_names h said) (name_at said p)) port (ap (is_twice (port_names h said)) n ∙ t)) ∙ f)
@@ -146,7 +146,7 @@ module _ (h : Header) (said : SymbolsValue) (most line : ℕ) (size : length sai
   default_output k (Some name) x at is t = absurd (symbol_once (h.inputs + h.latches + k) name (output_port k) at (subst (λ z. is_twice (port_names h said) z ≡ true) is t))
 
   small_place : (p : ℕ) (o : Option (List ℕ)) → slice_get said.names p ≡ Some o → p < 2 ^ 64
-  small_place p o at = let l : p < length said.names = within_get said.names p o at in omega arith
+  small_place p o at = let l : p < length said.names = slice_get_within said.names p o at in omega arith
 
   not_two : (i j : ℕ) (x : List ℕ) → i < j → IsPortAt h said i x → IsPortAt h said j x → is_twice (port_names h said) x ≡ true → ⊥
   not_two i j x l (input o a b c) (input q d e f) t =
@@ -170,21 +170,6 @@ module _ (h : Header) (said : SymbolsValue) (most line : ℕ) (size : length sai
   ports_once = never_twice (port_names h said) (λ x t.
       let p = two_places (port_names h said) x t in
       not_two p.first p.second x p.order (port_at h said size p.first x p.here) (port_at h said size p.second x p.there) t)
-
--- so are the names of each of two lists
-once_left : (xs ys : List (List ℕ)) → AreOnce (xs ++ ys) → AreOnce xs
-once_left [] ys once = tt
-once_left (x ∷ xs) ys once = (λ i. once.0 (In-left xs ys x i), once_left xs ys once.1)
-
-once_right : (xs ys : List (List ℕ)) → AreOnce (xs ++ ys) → AreOnce ys
-once_right [] ys once = once
-once_right (x ∷ xs) ys once = once_right xs ys once.1
-
-pub inputs_once : (xs ys : List (List ℕ)) → AreOnce (xs ++ ys) → AreOnce xs
-inputs_once xs ys once = once_left xs ys once
-
-pub outputs_once : (xs ys : List (List ℕ)) → AreOnce (xs ++ ys) → AreOnce ys
-outputs_once xs ys once = once_right xs ys once
 
 -- each port's name is a symbol, or one by default
 pub data IsPortName (said : SymbolsValue) (x : List ℕ) : Type 0 where

@@ -23,6 +23,7 @@ use Rattle.aiger_io.specs.declared.item.Item.TheVariants.{Input, Latch, Output, 
 use Rattle.aiger_io.proofs.CleanLemmas.{aag_word}
 use Rattle.aiger_io.proofs.CappedLemmas.{header_small}
 use Rattle.aiger_io.proofs.PlaceLemmas.{kind_of_item, literal_low, variable_low}
+use Rattle.aiger_io.proofs.RowLemmas.{one_more}
 
 -- numbers as they are written
 pub number_back : (n : ℕ) → n < 2 ^ 64 → number_of (decimal n) ≡ Some n
@@ -74,11 +75,6 @@ row_byte w ws b clean i = elim (In-append w (words_text ws) b i) [
   | inr j ↦ words_byte ws b (λ y m. clean y (inr m)) j
 ]
 
--- a line of a text
-one_line : (x : List ℕ) (parts : List (List ℕ)) → 0 < length parts → lines_of_parts (x ∷ parts) ≡ strip_carriage_return x ∷ lines_of_parts parts
-one_line x [] l = absurd (let e : 0 < length {A = List ℕ} [] = l in omega arith)
-one_line x (y ∷ more) l = refl
-
 not_stripped : (row : List ℕ) → ((b : ℕ) → In row b → eqb b 13 ≡ false) → strip_carriage_return row ≡ row
 not_stripped [] h = refl
 not_stripped (b ∷ bs) h = cond-false (eqb (get_or (b ∷ bs) (length (b ∷ bs) - 1) 0) 13) (take (length (b ∷ bs) - 1) (b ∷ bs)) (b ∷ bs) (h (get_or (b ∷ bs) (length (b ∷ bs) - 1) 0) (In-get_or (b ∷ bs) (length (b ∷ bs) - 1) 0 (omega arith)))
@@ -90,7 +86,7 @@ line_back w ws rest clean =
     ap (λ t. t ++ rest) (sym (append_assoc w (words_text ws) (10 ∷ []))) ∙ append_assoc (w ++ words_text ws) (10 ∷ []) rest in
     ap lines shape
     ∙ ap lines_of_parts (slice_split_at (λ b. eqb b 10) (w ++ words_text ws) 10 rest (λ k d l. (row_byte w ws (get_or (w ++ words_text ws) k d) clean (In-get_or (w ++ words_text ws) k d l)).no_feed) refl)
-    ∙ one_line (w ++ words_text ws) (slice_split (λ b. eqb b 10) rest) (omega (arith, length-slice_split (λ b. eqb b 10) rest))
+    ∙ one_more (w ++ words_text ws) (slice_split (λ b. eqb b 10) rest) (omega (arith, length-slice_split (λ b. eqb b 10) rest))
     ∙ ap (λ r. r ∷ lines rest) (not_stripped (w ++ words_text ws) (λ b i. (row_byte w ws b clean i).no_return))
 
 -- numbers of items

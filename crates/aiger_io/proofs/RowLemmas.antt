@@ -11,7 +11,8 @@ use Rattle.list_laws.specs.Members.{In}
 use Rattle.list_laws.proofs.Choice.{choose_one}
 use Rattle.list_laws.proofs.Places.{drop_get, drop_past}
 
-one_more : (x : List ℕ) (parts : List (List ℕ)) → 0 < length parts → lines_of_parts (x ∷ parts) ≡ strip_carriage_return x ∷ lines_of_parts parts
+-- a line before others
+pub one_more : (x : List ℕ) (parts : List (List ℕ)) → 0 < length parts → lines_of_parts (x ∷ parts) ≡ strip_carriage_return x ∷ lines_of_parts parts
 one_more x [] l = absurd (let e : 0 < length {A = List ℕ} [] = l in omega arith)
 one_more x (y ∷ more) l = refl
 

@@ -1,11 +1,11 @@
 -- What the calls return that read a text, step by step.
-use Rattle.std.proofs.Common.{◌≡◌, ℕ, ◌+◌, ◌<◌, max, get_or, List, [], ◌∷◌, ◌++◌, length, map, drop, Option, Some, None, Result, Ok, Err, codes, Bor, refl, sym, ap, ◌∙◌, arith}
+use Rattle.std.proofs.Common.{◌≡◌, ℕ, ◌+◌, ◌<◌, get_or, List, [], ◌∷◌, length, map, drop, Some, None, Result, Ok, Err, codes, Bor, refl, sym, ap, ◌∙◌, arith}
 use Rattle.std.specs.Prelude.{bytes_eq, MatchResult}
 use Rattle.std.specs.Cmp.Lexicographic.{bytes_decides}
 use Rattle.std.proofs.lemmas.Bool.{cond-true}
-use Rattle.netlist.specs.Flat.{underscores, most_underscores}
 use Rattle.netlist.specs.LibraryValue.{LibraryValue}
-use Rattle.tl_fault.specs.OrMemory.{Unless, OrMemory}
+use Rattle.tl_fault.specs.OrMemory.{OrMemory}
+use Rattle.tl_fault.proofs.OrMemoryLemmas.{Unless-of}
 use Rattle.aiger_io.specs.Bodies.{capped_header, capped_numbers, capped_result, IsHeaderOf}
 use Rattle.aiger_io.specs.Reader.{circuit_with, unless, named_circuit, named_behind, circuit_behind, circuit_under, circuit_in, IsLibraryIn}
 use Rattle.aiger_io.specs.CircuitLibrary.{library_of}
@@ -22,19 +22,9 @@ use Rattle.aiger_io.specs.declared.item.Item.{Item}
 use Rattle.aiger_io.proofs.CappedLemmas.{header_capped}
 use Rattle.aiger_io.proofs.ReadLemmas.{header_whole, under_same}
 
--- the most underscores of two lists of names
-pub most_of_both : (xs ys : List (List ℕ)) → most_underscores (xs ++ ys) ≡ max (most_underscores xs) (most_underscores ys)
-most_of_both [] ys = omega arith
-most_of_both (x ∷ xs) ys = ap (max (underscores x)) (most_of_both xs ys) ∙ (let e : max (underscores x) (max (most_underscores xs) (most_underscores ys)) ≡ max (max (underscores x) (most_underscores xs)) (most_underscores ys) = omega arith in e)
-
--- an answer that is a value's
-always : {R : Type 0} (o : Option R) (P : Type 0) → P → Unless o P
-always None P p = tt
-always (Some r) P p = p
-
 pub answer_is : (r x : Result Header AagErr) → x ≡ r → MatchResult r (λ h. x ≡ Ok h) (OrMemory refusal_of (λ e. x ≡ Err e))
 answer_is (Ok h) x e = e
-answer_is (Err f) x e = always (refusal_of f) (x ≡ Err f) e
+answer_is (Err f) x e = Unless-of (refusal_of f) e
 
 -- the header
 pub words_capped : (words : List (List ℕ)) (word : List ℕ) (rest : List (List ℕ)) → words ≡ word ∷ rest → word ≡ codes "aag" → capped_result (header_of words) ≡ header_by (capped_numbers rest)

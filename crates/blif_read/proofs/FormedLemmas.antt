@@ -6,6 +6,7 @@ use Rattle.std.proofs.lemmas.List.Quantifiers.{position-Some}
 use Rattle.std.proofs.lemmas.Bool.{both_ways, and_parts, or_cases, or_parts, not-true, eqb-true, eqb-false}
 use Rattle.std.proofs.lemmas.Option.{none-some, same_Some}
 use Rattle.std.proofs.lemmas.Slice.Eq.{bytes_eq-Decides}
+use Rattle.list_laws.proofs.Apart.{pushed_apart}
 use Rattle.list_laws.specs.Members.{In}
 use Rattle.list_laws.proofs.Choice.{choose, none_else, none_both, some_then, some_else}
 use Rattle.tl_text.specs.Decimal.{bit_of}
@@ -24,7 +25,7 @@ use Rattle.netlist.specs.SubcktValue.{formals}
 use Rattle.blif_read.specs.Context.{RowRead, cell_of, put_cell, cells_of, row_with, row_of}
 use Rattle.blif_read.specs.LineFault.{or_later, names_fault, init_fault, kind_fault, latch_fault, split_at, connection_of, repeats_formal, with_formal, connections_fault, subckt_fault}
 use Rattle.blif_read.specs.Reading.{cover_of, control_of, init_of, latch_of, put_pair, pairs_of, subckt_of}
-use Rattle.tl_text.proofs.NameLemmas.{not_there as name_not_there, once_push}
+use Rattle.tl_text.proofs.NameLemmas.{not_there as name_not_there}
 
 -- two words that the test finds alike
 same_word : (a b : List ℕ) → bytes_eq a b ≡ true → a ≡ b
@@ -180,7 +181,7 @@ connection_put : (before : List (List ℕ)) (word : List ℕ) (words : List (Lis
     → ((pair : Pair) → o ≡ Some pair → AreOnce (before ++ pair.formal ∷ []) → AreConnections (before ++ pair.formal ∷ []) words pairs) → AreConnections before (word ∷ words) (put_pair o pairs)
 connection_put before word words None pairs at new once more = absurd (let f : ⊥ = cc in f)
 connection_put before word words (Some pair) pairs at new once more =
-    connection_more before word words pair pairs (split_is word (position (λ b. eqb b 61) word) pair refl at) (more pair refl (once_push before pair.formal once (name_not_there before pair.formal new)))
+    connection_more before word words pair pairs (split_is word (position (λ b. eqb b 61) word) pair refl at) (more pair refl (pushed_apart before pair.formal once (name_not_there before pair.formal new)))
 
 connections_are : (n : ℕ) (words before : List (List ℕ)) → AreOnce before → connections_fault n before words ≡ None → AreConnections before words (pairs_of words)
 connections_are n [] before once h = record { words_are = refl; each = λ p i. absurd i; once = subst AreOnce (sym (append-nil before)) once }

@@ -3,13 +3,14 @@ use Rattle.std.proofs.Common.{◌≡◌, ℕ, List, [], ◌∷◌, ◌++◌, map
 use Rattle.std.proofs.lemmas.List.{map_push}
 use Rattle.blif_read.specs.declared.keyword.Keyword.{Keyword}
 use Rattle.blif_read.specs.declared.keyword.Keyword.TheVariants.{Model, End, Plain}
+use Rattle.list_laws.proofs.Apart.{pushed_apart}
 use Rattle.netlist.specs.LibraryValue.{ModelValue}
 use Rattle.blif_read.specs.Statement.{StatementValue}
 use Rattle.blif_read.specs.LineFault.{fault_by, line_fault}
 use Rattle.tl_text.specs.Once.{AreOnce}
 use Rattle.blif_read.specs.Reading.{CoverRead, ModelRead, State, with_cover, flushed, ended, context, first_word, fresh, model_after, next_by, next, steps}
 use Rattle.blif_read.proofs.FaultLemmas.{state_of, or_fault_ok}
-use Rattle.blif_read.proofs.OnceLemmas.{once_push, IsNewName, model_new}
+use Rattle.blif_read.proofs.OnceLemmas.{IsNewName, model_new}
 
 abbrev pub names_of : List ModelValue → List (List ℕ)
 names_of ms = map (λ (m : ModelValue). m.name) ms
@@ -38,7 +39,7 @@ next_named Model names done current n words named h =
           ∙ ap (λ ws. names_of (ended (state_of names done current)) ++ ws) new.words_are
           ∙ ap (λ ws. names_of (ended (state_of names done current)) ++ first_word ws ∷ []) (sym new.words_are)
           ∙ sym (map_push (λ (x : ModelValue). x.name) (ended (state_of names done current)) (fresh words n).model);
-      once = subst (λ ws. AreOnce (names ++ ws)) (sym new.words_are) (once_push names new.name named.once new.apart);
+      once = subst (λ ws. AreOnce (names ++ ws)) (sym new.words_are) (pushed_apart names new.name named.once new.apart);
     }
 next_named End names done current n words named h = record { names_are = named.names_are; once = named.once }
 next_named k names done None n words named h = record { names_are = named.names_are; once = named.once }

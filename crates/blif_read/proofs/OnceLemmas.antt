@@ -2,20 +2,21 @@
 use Rattle.std.proofs.Common.{◌≡◌, ℕ, List, [], ◌∷◌, ◌++◌, None, refl, sym, subst}
 use Rattle.std.proofs.lemmas.List.{append-nil, append_assoc}
 use Rattle.std.proofs.lemmas.Option.{none-some}
+use Rattle.list_laws.proofs.Apart.{pushed_apart}
 use Rattle.list_laws.specs.Members.{In}
 use Rattle.blif_read.specs.declared.blif_err.BlifErr.TheVariants.{DuplicateModel, DuplicatePort}
 use Rattle.blif_read.specs.LineFault.{has, model_fault, ports_fault}
 use Rattle.tl_text.specs.Once.{AreOnce}
 use Rattle.list_laws.proofs.Choice.{none_both}
 pub use Rattle.list_laws.proofs.Members.{In-append}
-pub use Rattle.tl_text.proofs.NameLemmas.{not_there, once_push}
+pub use Rattle.tl_text.proofs.NameLemmas.{not_there}
 
 -- ports of a line without a refusal
 pub ports_once : (n : ℕ) (words seen : List (List ℕ)) → AreOnce seen → ports_fault n seen words ≡ None → AreOnce (seen ++ words)
 ports_once n [] seen o h = subst AreOnce (sym (append-nil seen)) o
 ports_once n (w ∷ ws) seen o h =
     let p = none_both (has seen w) (DuplicatePort n w) (ports_fault n (seen ++ w ∷ []) ws) h in
-    subst AreOnce (append_assoc seen (w ∷ []) ws) (ports_once n ws (seen ++ w ∷ []) (once_push seen w o (not_there seen w p.0)) p.1)
+    subst AreOnce (append_assoc seen (w ∷ []) ws) (ports_once n ws (seen ++ w ∷ []) (pushed_apart seen w o (not_there seen w p.0)) p.1)
 
 -- the words behind `.model` are one name, that of no earlier model
 pub record IsNewName (models words : List (List ℕ)) : Type 0 where

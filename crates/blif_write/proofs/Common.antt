@@ -18,6 +18,7 @@ pub use Rattle.cover_pick.specs.Mapping.{AscendByLit, HasLut, HaveBases, bits_of
 pub use Rattle.cover_pick.specs.Template.{TemplateValue}
 pub use Rattle.cover_pick.specs.declared.lut.Lut.{Lut}
 pub use Rattle.depth_first.specs.DepthFirst.{Posts, PostsAll, posts, skips}
+pub use Rattle.list_laws.proofs.Apart.{apart_once, filtered_apart, joined_apart, not_in_both, right_apart}
 pub use Rattle.list_laws.proofs.Digits.{half, lowest, number-small}
 pub use Rattle.list_laws.proofs.Members.{In-append, In-filter, In-get, In-get_or, In-left, In-map, In-right, from_map, in_filter, in_or, length-filter_le, place_in}
 pub use Rattle.list_laws.proofs.Places.{at_within, get_left}
@@ -54,7 +55,7 @@ pub use Rattle.param_list.specs.declared.params.Param.{Param}
 pub use Rattle.tl_piece.proofs.AddedLemmas.{added_as, added_none, added_to, added_twice, put_over}
 pub use Rattle.tl_piece.proofs.PartLemmas.{added_next, added_part}
 pub use Rattle.tl_piece.specs.Added.{IsAdded}
-pub use Rattle.tl_text.proofs.NameSetLemmas.{has_in, in_has, once_both, once_filter, one_place}
+pub use Rattle.tl_text.proofs.NameSetLemmas.{has_in, in_has}
 pub use Rattle.tl_text.proofs.WordLemmas.{decimal_ordinary, is_special, marked_ordinary, one_clean, ordinary_clean, word_clean}
 pub use Rattle.tl_text.specs.Clean.{IsClean}
 pub use Rattle.tl_text.specs.Once.{AreOnce}

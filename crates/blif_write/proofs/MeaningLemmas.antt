@@ -1,5 +1,5 @@
 -- What the two written netlists mean.
-use Rattle.blif_write.proofs.Common.{◌≡◌, ℕ, zero, suc, ◌+◌, ◌-◌, ◌^◌, ◌<◌, ◌≤◌, Bool, false, List, [], ◌∷◌, ◌++◌, length, map, filter, replicate, slice_index_or, Option, refl, sym, ap, ◌∙◌, inl, inr, arith, length-append, flat_map, range_with_len, length-map, length-replicate, length-map-range_with_len, sum_by-cons, In, digit, In-append, In-map, from_map, AreOnce, One, Any, LatchValue, RowValue, CoverValue, HasOneCycle, address, Denotes, IsWellFormedBody, FlatLatch, FlatValue, Param, Lit, Lut, HaveBases, bits_of, TemplateValue, of_range, in_range, once_both}
+use Rattle.blif_write.proofs.Common.{◌≡◌, ℕ, zero, suc, ◌+◌, ◌-◌, ◌^◌, ◌<◌, ◌≤◌, Bool, false, List, [], ◌∷◌, ◌++◌, length, map, filter, replicate, slice_index_or, Option, refl, sym, ap, ◌∙◌, inl, inr, arith, length-append, flat_map, range_with_len, length-map, length-replicate, length-map-range_with_len, sum_by-cons, In, digit, In-append, In-map, from_map, AreOnce, One, Any, LatchValue, RowValue, CoverValue, HasOneCycle, address, Denotes, IsWellFormedBody, FlatLatch, FlatValue, Param, Lit, Lut, HaveBases, bits_of, TemplateValue, of_range, in_range, joined_apart}
 use Rattle.netlist.specs.declared.command.Body.TheVariants.{Cover}
 use Rattle.blif_write.specs.PlainNetlist.{PlainNetlist, netlist_text, library_of}
 use Rattle.blif_write.specs.OwnNames.{Naming, naming_of, bit_name, table_name, literal_name}
@@ -80,7 +80,7 @@ bits_once g b [] h small = tt
 bits_once g b (t ∷ ts) h small =
     let sum : bits_of (t ∷ ts) ≡ 2 ^ length t.leaves + bits_of ts = sum_by-cons (λ (k : Lut). 2 ^ length k.leaves) t ts in
     let base : t.base ≡ b = h.0 in
-    once_both (bit_names g t) (all_bits g ts) (range_once g t.base (2 ^ length t.leaves) (omega (arith, small, sum, base))) (bits_once g (b + 2 ^ length t.leaves) ts h.1 (omega (arith, small, sum)))
+    joined_apart (bit_names g t) (all_bits g ts) (range_once g t.base (2 ^ length t.leaves) (omega (arith, small, sum, base))) (bits_once g (b + 2 ^ length t.leaves) ts h.1 (omega (arith, small, sum)))
     (λ name i j.
     let r : (a : ℕ) × In (range_with_len t.base (2 ^ length t.leaves)) a × (name ≡ bit_name g a) = from_map (bit_name g) (range_with_len t.base (2 ^ length t.leaves)) name i in
     let s : (t.base ≤ r.0) × (r.0 < t.base + 2 ^ length t.leaves) = of_range t.base (2 ^ length t.leaves) r.0 r.1 in

@@ -1,6 +1,7 @@
 -- The names: own names are no output's, the places of the regular inputs, and the bytes of names after blanks.
 use Rattle.blif_write.proofs.Common.{◌≡◌, ℕ, zero, suc, ◌+◌, ◌-◌, ◌/◌, ◌<◌, ◌≤◌, leb, Bool, true, false, cond, ◌&&◌, List, [], ◌∷◌, ◌++◌, length, map, replicate, get_or, Some, bytes_eq, decimal, refl, sym, ap, subst, ◌∙◌, inl, inr, arith, flat_map, slice_get, length-map, get_or-map, get_or_read, flat_map-map, cases_Bool, In, underscores, Shape, is_plain}
 use lib.Pointwise.{bytes_decides}
+use Rattle.netlist.proofs.UnderscoreLemmas.{many_underscores}
 use Rattle.blif_write.specs.OwnNames.{Naming, own_name, latch_name, table_name, literal_name}
 use Rattle.blif_write.specs.PlainNetlist.{words_text}
 
@@ -12,10 +13,6 @@ words_of f xs = sym (flat_map-map (λ (w : List ℕ). 32 ∷ w) f xs)
 pub own_is : (g : Naming) (under letter number : ℕ) → under ≡ g.under → replicate (under + 1) 95 ++ (letter ∷ decimal number) ≡ own_name g letter number
 own_is g under letter number e =
     ap (λ (n : ℕ). replicate n 95 ++ (letter ∷ decimal number)) (let d : under + 1 ≡ suc g.under = omega arith in d)
-
-many_underscores : (count : ℕ) (rest : List ℕ) → count ≤ underscores (replicate count 95 ++ rest)
-many_underscores zero rest = omega arith
-many_underscores (suc count) rest = let h : count ≤ underscores (replicate count 95 ++ rest) = many_underscores count rest in omega arith
 
 -- a name with few underscores is no own name
 pub not_own : (g : Naming) (letter number : ℕ) (name : List ℕ) → underscores name ≤ g.under → false ≡ bytes_eq name (own_name g letter number)

@@ -1,5 +1,5 @@
 -- A written netlist is orderly: each name that it reads has one driver, and its LUTs are in order.
-use Rattle.blif_write.proofs.Common.{◌≡◌, ◌⊎◌, ℕ, suc, ◌+◌, ◌-◌, ◌*◌, ◌/◌, ◌%◌, ◌^◌, ◌<◌, ◌≤◌, Bool, true, false, cond, eqb, nat_le, IsTrue, List, [], ◌∷◌, ◌++◌, length, map, get_or, slice_get, bytes_eq, Some, refl, sym, ap, subst, ◌∙◌, inl, inr, arith, flat_map, map-append, leb-true, le-leb, and_parts, same_Some, bytes_eq-Decides, In, In-append, In-left, In-right, In-get, In-get_or, In-map, from_map, IsClean, AreOnce, once_both, LatchValue, CoverValue, IsWellFormedBody, OutPort, FlatValue, underscores, Param, Lit, Lut, HasLut, TemplateValue, is_regular, is_plain, false_from_ne_true}
+use Rattle.blif_write.proofs.Common.{◌≡◌, ◌⊎◌, ℕ, suc, ◌+◌, ◌-◌, ◌*◌, ◌/◌, ◌%◌, ◌^◌, ◌<◌, ◌≤◌, Bool, true, false, cond, eqb, nat_le, IsTrue, List, [], ◌∷◌, ◌++◌, length, map, get_or, slice_get, bytes_eq, Some, refl, sym, ap, subst, ◌∙◌, inl, inr, arith, flat_map, map-append, leb-true, le-leb, and_parts, same_Some, bytes_eq-Decides, In, In-append, In-left, In-right, In-get, In-get_or, In-map, from_map, IsClean, AreOnce, LatchValue, CoverValue, IsWellFormedBody, OutPort, FlatValue, underscores, Param, Lit, Lut, HasLut, TemplateValue, is_regular, is_plain, false_from_ne_true, joined_apart}
 use Rattle.netlist.specs.declared.command.Body.TheVariants.{Cover, Latch}
 use Rattle.blif_write.specs.PlainNetlist.{PlainNetlist, IsPlain, all_inputs, read_latch}
 use Rattle.blif_write.specs.OwnNames.{Naming, naming_of, own_name, table_name, latch_name, bit_name, source_name, literal_name}
@@ -79,17 +79,17 @@ module _ (flat : FlatValue) (params : List Param) (t : TemplateValue) (bits : Li
       subst (λ (k : List ℕ). underscores k ≤ g.under) (sym r.2) (ports.outputs r.0 r.1).under
 
   main_once : AreOnce (g.regular ++ control_names flat.control)
-  main_once = once_both g.regular (control_names flat.control) (regular_once flat params ports.inputs_once) (control_once flat.control) ports_apart
+  main_once = joined_apart g.regular (control_names flat.control) (regular_once flat params ports.inputs_once) (control_once flat.control) ports_apart
 
   inputs_once : AreOnce ((g.regular ++ control_names flat.control) ++ bit_inputs)
-  inputs_once = once_both (g.regular ++ control_names flat.control) bit_inputs main_once covers.bits_once (λ name i j.
+  inputs_once = joined_apart (g.regular ++ control_names flat.control) bit_inputs main_once covers.bits_once (λ name i j.
       let b : (b : ℕ) × (b < 2 ^ 64) × (name ≡ bit_name g b) = covers.bits_own name j in
       no_port_name g 99 b.0 name refl (main_port name i) (sym b.2))
 
   commands_once : AreOnce (latch_names ++ (table_names g t.luts ++ wire_names))
   commands_once =
-      once_both latch_names (table_names g t.luts ++ wire_names) (latches_once g flat.control 0 flat.latches t.next (let f : length flat.latches < 2 ^ 32 = are.few_latches in omega (arith, f)))
-      (once_both (table_names g t.luts) wire_names (tables_once g t.luts small_lits are.playable.ascending) (wires_once g flat.outputs t.outputs ports.outputs_once)
+      joined_apart latch_names (table_names g t.luts ++ wire_names) (latches_once g flat.control 0 flat.latches t.next (let f : length flat.latches < 2 ^ 32 = are.few_latches in omega (arith, f)))
+      (joined_apart (table_names g t.luts) wire_names (tables_once g t.luts small_lits are.playable.ascending) (wires_once g flat.outputs t.outputs ports.outputs_once)
       (λ name i j. let u : (u : Lut) × In t.luts u × (name ≡ table_name g u.lit.0) = table_is name i in no_port_name g 110 u.0.lit.0 name refl (wire_port name j) (sym u.2)))
       (λ name i j. let l : (k : ℕ) × (k < 2 ^ 64) × (name ≡ latch_name g k) = latch_is name i in
       elim (In-append (table_names g t.luts) wire_names name j) [
@@ -125,7 +125,7 @@ module _ (flat : FlatValue) (params : List Param) (t : TemplateValue) (bits : Li
 
   all_once : AreOnce (all_inputs n ++ command_outputs n)
   all_once = subst (λ (k : List (List ℕ)). AreOnce (((g.regular ++ control_names flat.control) ++ bit_inputs) ++ k)) (sym outputs_named)
-      (once_both ((g.regular ++ control_names flat.control) ++ bit_inputs) (latch_names ++ (table_names g t.luts ++ wire_names)) inputs_once commands_once
+      (joined_apart ((g.regular ++ control_names flat.control) ++ bit_inputs) (latch_names ++ (table_names g t.luts ++ wire_names)) inputs_once commands_once
       (λ name i j. elim (In-append (g.regular ++ control_names flat.control) bit_inputs name i) [ inl k ↦ main_no_command name k j | inr k ↦ bits_no_command name k j ]))
 
   -- what a literal's name is: a regular input's, a latch's, or a table's

@@ -1,5 +1,5 @@
 -- The parts of a written netlist: what its commands are named, and the ranks of the names.
-use Rattle.blif_write.proofs.Common.{◌≡◌, ◌⊎◌, ℕ, suc, ◌^◌, ◌<◌, Bool, true, false, not, cond, nat_le, List, [], ◌∷◌, length, map, bytes_eq, Option, Some, None, refl, sym, ap, subst, ◌∙◌, inl, inr, flat_map, none-some, same_Some, bytes_eq-Decides, In, In-left, In-right, from_map, AreOnce, LatchValue, RowValue, CoverValue, IsWellFormedBody, FlatValue, underscores, Param, regular_names, param_names, has_name, Lut, once_filter, map-append, IsClean, Lit, lits_of, OutPort}
+use Rattle.blif_write.proofs.Common.{◌≡◌, ◌⊎◌, ℕ, suc, ◌^◌, ◌<◌, Bool, true, false, not, cond, nat_le, List, [], ◌∷◌, length, map, bytes_eq, Option, Some, None, refl, sym, ap, subst, ◌∙◌, inl, inr, flat_map, none-some, same_Some, bytes_eq-Decides, In, In-left, In-right, from_map, AreOnce, LatchValue, RowValue, CoverValue, IsWellFormedBody, FlatValue, underscores, Param, regular_names, param_names, has_name, Lut, map-append, IsClean, Lit, lits_of, OutPort, filtered_apart}
 use Rattle.netlist.specs.declared.command.Body.TheVariants.{Cover, Latch}
 use Rattle.blif_write.specs.PlainNetlist.{read_latch}
 use Rattle.blif_write.specs.OwnNames.{Naming, table_name, literal_name, bit_name}
@@ -62,7 +62,7 @@ control_once None = tt
 control_once (Some own) = (λ i. i, tt)
 
 pub regular_once : (flat : FlatValue) (params : List Param) → AreOnce flat.inputs → AreOnce (regular_names flat params)
-regular_once flat params h = once_filter (λ (name : List ℕ). not (has_name (param_names params) name)) flat.inputs h
+regular_once flat params h = filtered_apart (λ (name : List ℕ). not (has_name (param_names params) name)) flat.inputs h
 
 pub wire_formed : (root name : List ℕ) → IsWellFormedBody (Cover (wire_of root name))
 wire_formed root name row (inl e) = ap (λ (r : RowValue). length r.cells) e

@@ -1,5 +1,5 @@
 -- A netlist without hierarchy is sound where each name that is read has one driver, and its covers can be put in order.
-use Rattle.blif_write.proofs.Common.{◌≡◌, ℕ, zero, suc, ◌<◌, Bool, true, false, not, ◌||◌, ◌&&◌, IsTrue, List, [], ◌∷◌, ◌++◌, length, map, slice_get, Some, refl, sym, ap, subst, ◌∙◌, inl, inr, arith, option_map, none-some, same_Some, slice_get-map, In, In-get, In-append, In-left, In-right, place_in, from_map, AreOnce, one_place, has_in, Body, Subckt, Command, LatchValue, CoverValue, SubcktValue, ModelValue, IsWellFormedBody, IsWellFormedModel, IsWellFormed, Path, subckts_of, has_name, is_input, is_output, CoverAt, cover_net, Drives, main_input, latch_output, cover_output, from_inside, from_outside, Place, IsData, cover_data, latch_data, IsSound, and_parts}
+use Rattle.blif_write.proofs.Common.{◌≡◌, ℕ, zero, suc, ◌<◌, Bool, true, false, not, ◌||◌, ◌&&◌, IsTrue, List, [], ◌∷◌, ◌++◌, length, map, slice_get, Some, refl, sym, ap, subst, ◌∙◌, inl, inr, arith, option_map, none-some, same_Some, slice_get-map, In, In-get, In-append, In-left, place_in, from_map, AreOnce, has_in, Body, Subckt, Command, LatchValue, CoverValue, SubcktValue, ModelValue, IsWellFormedBody, IsWellFormedModel, IsWellFormed, Path, subckts_of, has_name, is_input, is_output, CoverAt, cover_net, Drives, main_input, latch_output, cover_output, from_inside, from_outside, Place, IsData, cover_data, latch_data, IsSound, and_parts, apart_once, right_apart, not_in_both}
 use Rattle.netlist.specs.declared.command.Body.TheVariants.{Cover, Latch}
 use Rattle.netlist.specs.Loops.{ReadsCover, Depends, direct, through}
 use Rattle.netlist.specs.Drivers.{Driver, by_input, by_latch, by_cover, IsDriver, input, latch, cover, output, IsRead, cover_input, latch_input, latch_control, input_actual, model_output, Ends, ends, IsDriven}
@@ -28,16 +28,6 @@ pub record IsOrderly (n : PlainNetlist) : Type 0 where
   pub one_control : (name other : List ℕ) → IsControlName n name → IsControlName n other → name ≡ other
   pub rank : List ℕ → ℕ
   pub falls : (c d : CoverValue) → In n.covers c → In n.covers d → In c.inputs d.output → rank d.output < rank c.output
-
--- names without repeats
-once_left : (xs ys : List (List ℕ)) (name : List ℕ) → AreOnce (xs ++ ys) → In xs name → In ys name → ⊥
-once_left [] ys name h i j = elim i [ ]
-once_left (x ∷ xs) ys name h (inl e) j = h.0 (In-right xs ys x (subst (In ys) e j))
-once_left (x ∷ xs) ys name h (inr i) j = once_left xs ys name h.1 i j
-
-once_rest : (xs ys : List (List ℕ)) → AreOnce (xs ++ ys) → AreOnce ys
-once_rest [] ys h = h
-once_rest (x ∷ xs) ys h = once_rest xs ys h.1
 
 output_at : (n : PlainNetlist) (i : ℕ) (name : List ℕ) (body : Body) → slice_get (bodies_of n) i ≡ Some body → body_output body ≡ name → slice_get (command_outputs n) i ≡ Some name
 output_at n i name body e o = slice_get-map body_output (bodies_of n) i ∙ ap (option_map body_output) e ∙ ap Some o
@@ -82,10 +72,10 @@ driver_there n path name driver (output k pair at t o e) = absurd (no_connection
 
 one_driver : (n : PlainNetlist) → IsOrderly n → (name : List ℕ) (driver other : Driver) → Drivers n name driver → Drivers n name other → driver ≡ other
 one_driver n h name driver other (an_input i e) (an_input j f) = e ∙ sym f
-one_driver n h name driver other (an_input i e) (a_command j b at o f) = absurd (once_left (all_inputs n) (command_outputs n) name h.once i (In-get (command_outputs n) j name (output_at n j name b at o)))
-one_driver n h name driver other (a_command j b at o f) (an_input i e) = absurd (once_left (all_inputs n) (command_outputs n) name h.once i (In-get (command_outputs n) j name (output_at n j name b at o)))
+one_driver n h name driver other (an_input i e) (a_command j b at o f) = absurd (not_in_both (all_inputs n) (command_outputs n) name h.once i (In-get (command_outputs n) j name (output_at n j name b at o)))
+one_driver n h name driver other (a_command j b at o f) (an_input i e) = absurd (not_in_both (all_inputs n) (command_outputs n) name h.once i (In-get (command_outputs n) j name (output_at n j name b at o)))
 one_driver n h name driver other (a_command i b at o f) (a_command j d there p e) =
-    let same : i ≡ j = one_place (command_outputs n) i j name (once_rest (all_inputs n) (command_outputs n) h.once) (output_at n i name b at o) (output_at n j name d there p) in
+    let same : i ≡ j = apart_once (command_outputs n) i j name (right_apart (all_inputs n) (command_outputs n) h.once) (output_at n i name b at o) (output_at n j name d there p) in
     let body : b ≡ d = same_Some b d (sym at ∙ ap (slice_get (bodies_of n)) same ∙ there) in
     f ∙ ap (driver_of i) body ∙ ap (λ (k : ℕ). driver_of k d) same ∙ sym e
 

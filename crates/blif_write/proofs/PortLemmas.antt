@@ -1,14 +1,10 @@
 -- The flat circuit of a sound library has ports as they are written.
-use Rattle.blif_write.proofs.Common.{◌≡◌, ◌⊎◌, ℕ, ◌<◌, ◌≤◌, true, false, not, ◌||◌, List, [], ◌∷◌, ◌++◌, length, slice_get, Option, Some, is_some, refl, sym, ap, subst, ◌∙◌, inl, inr, arith, none-some, same_Some, slice_get_within, In, at_within, place_in, In-get, In-left, In-right, In-map, In-filter, IsClean, AreOnce, ModelValue, LibraryValue, input_ports, output_ports, clock_ports, HasCleanNames, LatchValue, FlatLatch, OutPort, FlatValue, underscores, most_underscores, IsControl, some_latch, no_latch, IsFlatLatch, IsFlat, is_latch, Path, has_name, IsMainInput, Net, input_net, Drives, main_input, latch_output, cover_output, from_inside, from_outside, IsClock, controls, IsSound, once_filter, has_in, or_cases, not-true}
+use Rattle.blif_write.proofs.Common.{◌≡◌, ◌⊎◌, ℕ, ◌<◌, ◌≤◌, true, false, not, List, ◌++◌, length, slice_get, Option, Some, is_some, refl, sym, ap, subst, ◌∙◌, inl, inr, arith, none-some, same_Some, slice_get_within, In, at_within, place_in, In-get, In-left, In-right, In-map, In-filter, IsClean, AreOnce, ModelValue, LibraryValue, input_ports, output_ports, clock_ports, HasCleanNames, LatchValue, FlatLatch, OutPort, FlatValue, underscores, IsControl, some_latch, no_latch, IsFlatLatch, IsFlat, is_latch, Path, has_name, IsMainInput, Net, input_net, Drives, main_input, latch_output, cover_output, from_inside, from_outside, IsClock, controls, IsSound, has_in, or_cases, not-true, filtered_apart}
 use Rattle.netlist.specs.declared.command.Body.TheVariants.{Latch}
 use Rattle.netlist.proofs.OrderLemmas.{flat_all}
 use Rattle.netlist.proofs.PlaceLemmas.{place_of, one_latch}
+use Rattle.netlist.proofs.UnderscoreLemmas.{few_underscores}
 use Rattle.blif_write.specs.Meaning.{IsPortName, HasPorts}
-
-few_underscores : (names : List (List ℕ)) (name : List ℕ) → In names name → underscores name ≤ most_underscores names
-few_underscores [] name i = elim i [ ]
-few_underscores (other ∷ names) name (inl e) = let s : underscores name ≡ underscores other = ap underscores e in omega (arith, s)
-few_underscores (other ∷ names) name (inr i) = let l : underscores name ≤ most_underscores names = few_underscores names name i in omega (arith, l)
 
 -- a net that an input drives is named by a main input
 main_net : (library : LibraryValue) (path : Path) (own name : List ℕ) (net : Net) → net ≡ input_net name → Drives library path own net → IsMainInput library name
@@ -71,7 +67,7 @@ module _ (library : LibraryValue) (flat : FlatValue) (sound : IsSound library) (
   ports_there = record {
     model = subst IsClean (sym fields.model) (clean.each main main_in).name;
     inputs = λ name i. port name (inl (input_in name i).0);
-    inputs_once = subst AreOnce (sym fields.inputs) (once_filter (λ (name : List ℕ). not (fields.test name)) main.inputs ((sound.formed.each main main_in).ports input_ports));
+    inputs_once = subst AreOnce (sym fields.inputs) (filtered_apart (λ (name : List ℕ). not (fields.test name)) main.inputs ((sound.formed.each main main_in).ports input_ports));
     outputs = λ o i. port o.name (inr (inr (output_in o i)));
     outputs_once = subst AreOnce (sym fields.output_names) ((sound.formed.each main main_in).ports output_ports);
     control = control_port;

@@ -1,6 +1,7 @@
 -- The rows of a LUT have the value of the bit that its leaves' values ask for.
 use Rattle.blif_write.proofs.Common.{◌≡◌, ◌⊎◌, ℕ, zero, suc, ◌+◌, ◌-◌, ◌*◌, ◌/◌, ◌%◌, ◌^◌, ◌<◌, ◌≤◌, Bool, true, false, eqb, ◌&&◌, ◌||◌, List, [], ◌∷◌, ◌++◌, length, map, filter, replicate, get_or, slice_index_or, refl, sym, ap, ◌∙◌, inl, inr, arith, range_with_len, and_parts, and_from, eqb-true, length-map-range_with_len, In, bit_value, number, digit, number-small, lowest, half, In-map, In-filter, from_map, in_filter, in_range, of_range, Cell, One, Any, RowValue, allows, matches, some_row, false_from_ne_true, eqb-false}
 use Rattle.std.proofs.Math.Nat.{pow-succ', div-div-eq-div-mul}
+use Rattle.std.proofs.Math.Bool.{or-true, and-true}
 use Rattle.blif_write.specs.Netlists.{digit_cell, digit_cells, fixed_rows, chosen_cells, tunable_rows}
 
 -- the cells of a number's digits, one by one
@@ -52,14 +53,10 @@ matches_own (b ∷ bs) =
     (ap (λ (k : ℕ). matches (cells_of (length bs) k) bs) (half b (number bs)) ∙ matches_own bs)
 
 -- rows
-or_true : (b : Bool) → (b || true) ≡ true
-or_true true = refl
-or_true false = refl
-
 row_matches : (rows : List RowValue) (row : RowValue) (ins : List Bool) → In rows row → matches row.cells ins ≡ true → some_row rows ins ≡ true
 row_matches [] row ins i h = elim i [ ]
 row_matches (r ∷ rows) row ins (inl e) h = ap (λ (t : Bool). t || some_row rows ins) (ap (λ (q : RowValue). matches q.cells ins) (sym e) ∙ h)
-row_matches (r ∷ rows) row ins (inr i) h = ap (λ (t : Bool). matches r.cells ins || t) (row_matches rows row ins i h) ∙ or_true (matches r.cells ins)
+row_matches (r ∷ rows) row ins (inr i) h = ap (λ (t : Bool). matches r.cells ins || t) (row_matches rows row ins i h) ∙ or-true (matches r.cells ins)
 
 no_row_matches : (rows : List RowValue) (ins : List Bool) → ((row : RowValue) → In rows row → matches row.cells ins ≡ false) → some_row rows ins ≡ false
 no_row_matches [] ins h = refl
@@ -92,10 +89,6 @@ and_moved : (a b c : Bool) → (a && (b && c)) ≡ ((a && b) && c)
 and_moved true b c = refl
 and_moved false b c = refl
 
-and_true : (b : Bool) → (b && true) ≡ b
-and_true true = refl
-and_true false = refl
-
 matches_both : (front back : List Cell) (xs ys : List Bool) → length front ≡ length xs → matches (front ++ back) (xs ++ ys) ≡ (matches front xs && matches back ys)
 matches_both [] back [] ys h = refl
 matches_both [] back (x ∷ xs) ys h = absurd (omega (arith, h))
@@ -111,7 +104,7 @@ matches_any (suc count) (b ∷ bits) h = matches_any count bits (omega (arith, h
 
 matches_chosen : (v rest : ℕ) (bits : List Bool) → length bits ≡ v + suc rest → matches (replicate v Any ++ One ∷ replicate rest Any) bits ≡ get_or bits v false
 matches_chosen v rest [] h = absurd (omega (arith, h))
-matches_chosen zero rest (b ∷ bits) h = ap (λ (t : Bool). b && t) (matches_any rest bits (omega (arith, h))) ∙ and_true b
+matches_chosen zero rest (b ∷ bits) h = ap (λ (t : Bool). b && t) (matches_any rest bits (omega (arith, h))) ∙ and-true b
 matches_chosen (suc v) rest (b ∷ bits) h = matches_chosen v rest bits (omega (arith, h))
 
 row_value : (ins bits : List Bool) (v : ℕ) → length bits ≡ 2 ^ length ins → v < 2 ^ length ins

@@ -38,7 +38,7 @@ claim_cases (s ∷ ss) n =
 path_count-one : (k claim : ℕ) → 1 ≤ path_count k claim
 path_count-one k claim = choose (λ v. 1 ≤ v) (eqb claim 1) 1 (k + 1) (λ e. omega arith) (λ e. omega arith)
 
-path_count-more : (k claim : ℕ) → 2 ≤ claim → path_count k claim ≡ k + 1
+pub path_count-more : (k claim : ℕ) → 2 ≤ claim → path_count k claim ≡ k + 1
 path_count-more k claim two = choose (λ v. v ≡ k + 1) (eqb claim 1) 1 (k + 1) (λ e. let one : claim ≡ 1 = eqb-true claim 1 e in absurd (omega arith)) (λ e. refl)
 
 -- one leaf of a cut on each of these paths, none twice

@@ -1,5 +1,5 @@
-mod PathLemmas
-mod PathPlaces
+pub mod PathLemmas
+pub mod PathPlaces
 mod StampLemmas
 mod StepLemmas
 mod InTurnLemmas

@@ -1,9 +1,9 @@
 -- The nodes of a path are no higher than its end, and a set that blocks this has one of them.
-use Rattle.std.proofs.Common.{◌≡◌, ℕ, ◌+◌, ◌-◌, ◌/◌, ◌<◌, ◌≤◌, List, [], ◌∷◌, refl, sym, ap, ◌∙◌, subst, inl, inr, ◌⊎◌, arith}
+use Rattle.std.proofs.Common.{◌≡◌, ℕ, ◌-◌, ◌/◌, ◌<◌, ◌≤◌, List, [], ◌∷◌, refl, sym, ap, ◌∙◌, subst, inl, inr, ◌⊎◌, arith}
 use Rattle.aig_core.specs.Aig.{Aig, first_and, IsNode, IsNormal, AreNormal}
 use Rattle.aig_core.specs.declared.lit.Kind.TheVariants.{Parameter}
 use Rattle.aig_core.specs.declared.lit.Pair.{Pair}
-use Rattle.aig_core.proofs.NodeLemmas.{source_below, same_pair}
+use Rattle.aig_core.proofs.NodeLemmas.{source_below, node_normal, same_pair}
 use Rattle.list_laws.specs.Members.{In}
 use Rattle.cut_sets.specs.Cuts.{Blocks, member, constant, parameter, fan_ins}
 use Rattle.cut_sets.proofs.BlockLemmas.{regular_blocked}
@@ -47,12 +47,9 @@ path_meets g c n (m ∷ ms) path b =
     climb_meets g c (m ∷ ms) m ms n (λ bm. record { at = m; in_set = regular_blocked g c path.0 bm; in_list = inl refl }) (λ x i. inr i) path.1 b
 
 -- a fan-in node is lower, so no node of a path is higher than its end
-fan_in_below : (g : Aig) (m n : ℕ) → AreNormal (first_and g) g.pairs → IsFanIn g m n → m < n
-fan_in_below g m n normal (first p is e) = let k : IsNormal n p = node_normal g p n normal is in let a : p.y.0 / 2 < n = k.below in let b : p.x.0 / 2 < p.y.0 / 2 = k.ordered in omega arith
-  where
-    node_normal : (g : Aig) (p : Pair) (n : ℕ) → AreNormal (first_and g) g.pairs → IsNode g p n → IsNormal n p
-    node_normal g p n normal is = let a : first_and g ≤ n = is.above in subst (λ i. IsNormal i p) (let e : first_and g + (n - first_and g) ≡ n = omega arith in e) (normal.each (n - first_and g) p is.is)
-fan_in_below g m n normal (second p is e) = let a : first_and g ≤ n = is.above in let k : IsNormal n p = subst (λ i. IsNormal i p) (let q : first_and g + (n - first_and g) ≡ n = omega arith in q) (normal.each (n - first_and g) p is.is) in let b : p.y.0 / 2 < n = k.below in omega arith
+pub fan_in_below : (g : Aig) (m n : ℕ) → AreNormal (first_and g) g.pairs → IsFanIn g m n → m < n
+fan_in_below g m n normal (first p is e) = let k : IsNormal n p = node_normal g n p normal is in let a : p.y.0 / 2 < n = k.below in let b : p.x.0 / 2 < p.y.0 / 2 = k.ordered in omega arith
+fan_in_below g m n normal (second p is e) = let k : IsNormal n p = node_normal g n p normal is in let a : p.y.0 / 2 < n = k.below in omega arith
 
 climbs_below : (g : Aig) (m : ℕ) (ms : List ℕ) (n x : ℕ) → AreNormal (first_and g) g.pairs → Climbs g m ms n → In (m ∷ ms) x → (x ≤ n) × (m ≤ n)
 climbs_below g m [] n x normal c (inl e) = let q : m ≡ n = c in (omega arith, omega arith)

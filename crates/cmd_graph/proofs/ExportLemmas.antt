@@ -5,7 +5,7 @@ use Rattle.std.proofs.lemmas.Option.{get_or_from_slice_get}
 use Rattle.list_laws.specs.Members.{In}
 use Rattle.list_laws.proofs.Members.{In-append, In-filter, In-get}
 use Rattle.tl_text.specs.Once.{AreOnce}
-use Rattle.tl_text.proofs.NameSetLemmas.{once_both}
+use Rattle.list_laws.proofs.Apart.{joined_apart}
 use Rattle.netlist.specs.Flat.{IsFlat}
 use Rattle.netlist.specs.FlatValue.{FlatValue}
 use Rattle.netlist.specs.HasCleanNames.{AreClean}
@@ -86,7 +86,7 @@ module _ (b : BuiltSource) (is : IsBuiltSource b) (regular : List ℕ) where
 
     -- and no two of them are alike, but for an output that has the name of an input
     once : HasOtherNames circuit → AreOnce (circuit.inputs ++ circuit.outputs)
-    once other = once_both circuit.inputs circuit.outputs (subst AreOnce (sym inputs_are) split.once) (subst AreOnce (sym fields.output_names) ((is.read.netlist.formed.each main main_in).ports output_ports)) other
+    once other = joined_apart circuit.inputs circuit.outputs (subst AreOnce (sym inputs_are) split.once) (subst AreOnce (sym fields.output_names) ((is.read.netlist.formed.each main main_in).ports output_ports)) other
 
     pub exported : IsGraphsCircuit flat params b.graph b.roots circuit → IsExported b.source circuit
     exported law = record {

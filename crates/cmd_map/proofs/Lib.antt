@@ -2,4 +2,3 @@ mod MachineReplayLemmas
 mod SpecLemmas
 mod MapLemmas
 mod SourceWalkLemmas
-mod TableLemmas

@@ -24,7 +24,7 @@ use Rattle.list_laws.proofs.Members.{In-filter}
 use Rattle.tl_text.proofs.NameSetLemmas.{in_has}
 use Rattle.param_list.specs.declared.params.Param.{Param}
 use Rattle.param_list.specs.Parameters.{param_names, regular_names}
-use Rattle.param_list.proofs.OnceLemmas.{one_place}
+use Rattle.list_laws.proofs.Apart.{apart_once}
 use Rattle.param_list.proofs.RegularLemmas.{is_split}
 use Rattle.aig_core.specs.declared.lit.Lit.{Lit}
 use Rattle.aig_core.specs.declared.lit.Pair.{Pair}
@@ -165,7 +165,7 @@ module _ (source : Source) (read : IsReadSource source) where
     regular_place : (place : ℕ) (name : List ℕ) → slice_get (input_names flat params) place ≡ Some name → In (regular_names flat params) name → slice_get (regular_names flat params) place ≡ Some name
     regular_place place name at i =
         let r : (k : ℕ) × (slice_get (regular_names flat params) k ≡ Some name) = place_in (regular_names flat params) name i in
-        let same : r.0 ≡ place = one_place (input_names flat params) r.0 place name once (get_left (regular_names flat params) (param_names params) r.0 name r.1) at in
+        let same : r.0 ≡ place = apart_once (input_names flat params) r.0 place name once (get_left (regular_names flat params) (param_names params) r.0 name r.1) at in
         subst (λ (k : ℕ). slice_get (regular_names flat params) k ≡ Some name) same r.1
 
     -- its positive literal has its name

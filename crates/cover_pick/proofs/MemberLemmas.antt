@@ -4,12 +4,7 @@ use Rattle.std.specs.List.{IsDistinct}
 use Rattle.std.specs.Cmp.{IsEquivalence}
 use Rattle.std.proofs.lemmas.Map.Made.{length-from_same_keys}
 use Rattle.std.proofs.lemmas.Map.Steps.{length-le_from_distinct_below}
-
--- where a member stands
-pub In-place : (xs : List ℕ) (m : ℕ) → In xs m → (j : ℕ) × (j < length xs) × (get_or xs j 0 ≡ m)
-In-place [] m i = elim i [ ]
-In-place (x ∷ xs) m (inl e) = (0, omega arith, sym e)
-In-place (x ∷ xs) m (inr i) = let r = In-place xs m i in (suc r.0, (let l : r.0 < length xs = r.1 in omega arith), r.2)
+pub use Rattle.list_laws.proofs.Members.{In-place}
 
 pub get_or_any : {X : Type 0} (xs : List X) (i : ℕ) (d e : X) → i < length xs → get_or xs i d ≡ get_or xs i e
 get_or_any [] i d e l = absurd (omega arith)

@@ -1,6 +1,6 @@
 -- The walk of required depths: what it keeps, and that its cuts are a cover of the least depth.
 use Rattle.cover_pick.proofs.Common.{◌≡◌, ℕ, zero, suc, ◌+◌, ◌-◌, ◌/◌, ◌<◌, ◌≤◌, min, ltb, List, [], ◌∷◌, length, Option, Some, None, IsSome, refl, sym, ap, ◌∙◌, subst, inl, inr, ◌⊎◌, arith, get_or-set_same, get_or-set_other, replicate, length-replicate, get_or-replicate, get_or_past, length-set, same_Some, none-some, cases_lt, cases_eq, ltb-true, ltb-false, Aig, first_and, node_count, IsAnd, AreNormal, Regular, source_below, In, IsCut, AreMinimal, IsCover, HasDepth, source, free, table, RootsWithin, greatest, height, AreLabels, choose}
-use Rattle.depth_label.proofs.DepthLemmas.{greatest_le, label_le_depth}
+use Rattle.depth_label.proofs.DepthLemmas.{greatest_le, label_le_depth, greatest_in}
 use Rattle.cover_pick.specs.Target.{source_level, root_level, target}
 use Rattle.cover_pick.specs.Required.{need, least_of, require, require_each, visit, walk, require_root, require_roots, roots_required, required, chosen, cover_of}
 use Rattle.cover_pick.specs.Schedule.{AtMost, FromRoot}
@@ -100,11 +100,6 @@ each_other (m ∷ ms) reqs r n o = each_other ms (require reqs m r) r n (λ i. o
 -- a node that is needed lies in the list
 pub need_in : (reqs : List (Option ℕ)) (n s : ℕ) → need reqs n ≡ Some s → n < length reqs
 need_in reqs n s h = elim (cases_lt n (length reqs)) [ inl l ↦ l | inr l ↦ absurd (none-some s (sym (get_or_past reqs n None l) ∙ h)) ]
-
-greatest_in : (label : ℕ → ℕ) (c : List ℕ) (m : ℕ) → In c m → label m ≤ greatest label c
-greatest_in label [] m i = elim i [ ]
-greatest_in label (x ∷ xs) m (inl e) = let a : label m ≡ label x = ap label e in omega arith
-greatest_in label (x ∷ xs) m (inr i) = let a : label m ≤ greatest label xs = greatest_in label xs m i in omega arith
 
 height_in : (label : ℕ → ℕ) (c : List ℕ) (m : ℕ) → In c m → 1 + label m ≤ height label c
 height_in label [] m i = elim i [ ]

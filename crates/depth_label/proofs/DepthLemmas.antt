@@ -12,9 +12,15 @@ pub greatest_le : (label : ℕ → ℕ) (c : List ℕ) (d : ℕ) → ((m : ℕ) 
 greatest_le label [] d h = omega arith
 greatest_le label (m ∷ ms) d h = let a : label m ≤ d = h m (inl refl) in let b : greatest label ms ≤ d = greatest_le label ms d (λ n i. h n (inr i)) in omega arith
 
-height_le : (label : ℕ → ℕ) (c : List ℕ) (d : ℕ) → ((m : ℕ) → In c m → label m ≤ d) → height label c ≤ suc d
+pub height_le : (label : ℕ → ℕ) (c : List ℕ) (d : ℕ) → ((m : ℕ) → In c m → label m ≤ d) → height label c ≤ suc d
 height_le label [] d h = omega arith
 height_le label (m ∷ ms) d h = let a : greatest label (m ∷ ms) ≤ d = greatest_le label (m ∷ ms) d h in omega arith
+
+-- the greatest is at least each
+pub greatest_in : (label : ℕ → ℕ) (c : List ℕ) (m : ℕ) → In c m → label m ≤ greatest label c
+greatest_in label [] m i = absurd i
+greatest_in label (x ∷ xs) m (inl e) = let a : label m ≡ label x = ap label e in omega arith
+greatest_in label (x ∷ xs) m (inr i) = let a : label m ≤ greatest label xs = greatest_in label xs m i in omega arith
 
 within_none : (c : List ℕ) → Within c [] → c ≡ []
 within_none [] w = refl

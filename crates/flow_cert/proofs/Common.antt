@@ -6,7 +6,7 @@ pub use Rattle.std.proofs.lemmas.List.{get_or_past, get_or_push, get_or_read, ma
 pub use Rattle.std.proofs.lemmas.Option.{none-some, same_Some, slice_get-get_or, slice_get_within}
 pub use Rattle.std.specs.Prelude.{slice_get}
 pub use Rattle.std.specs.Vec.{vec_len}
-pub use Rattle.aig_core.proofs.NodeLemmas.{node_normal, same_pair, source_below}
+pub use Rattle.aig_core.proofs.NodeLemmas.{source_below}
 pub use Rattle.aig_core.specs.Aig.{Aig, AreNormal, IsAnd, IsNode, IsNormal, IsSource, first_and, node_count}
 pub use Rattle.aig_core.specs.Roots.{lits_of, roots_of}
 pub use Rattle.aig_core.specs.declared.lit.Kind.TheVariants.{Parameter, Regular}
@@ -17,9 +17,9 @@ pub use Rattle.cert_check.specs.Valid.{IsJustified, IsReached, IsValid, Needs, S
 pub use Rattle.cert_check.specs.WrittenText.{IsWritable, bare, bare_path, bare_step}
 pub use Rattle.cut_sets.specs.Cuts.{Blocks, CanBeLeaf, IsCut, constant, fan_ins, member, parameter}
 pub use Rattle.depth_label.specs.Label.{AreLabelled, LabelsValue, best_of, greatest, height, label_at, label_of}
-pub use Rattle.list_laws.proofs.Apart.{AreApart, apart_once, apart_short, joined_apart}
+pub use Rattle.list_laws.proofs.Apart.{AreApart, apart_once, apart_short, joined_apart, pushed_apart}
 pub use Rattle.list_laws.proofs.Choice.{choose, choose_both}
-pub use Rattle.list_laws.proofs.Members.{In-append, In-get, In-get_or, In-left, In-map, In-push, In-right, from_map, place_in}
+pub use Rattle.list_laws.proofs.Members.{In-append, In-get, In-get_or, In-left, In-map, In-place, In-push, In-right, from_map, place_in}
 pub use Rattle.list_laws.proofs.Places.{get_pushed, take_get}
 pub use Rattle.list_laws.specs.Members.{In, Within}
 pub use Rattle.list_laws.specs.Order.{IsAscending, IsDescending}

@@ -3,7 +3,6 @@ use Rattle.flow_cert.proofs.Common.{◌≡◌, ℕ, ◌+◌, ◌<◌, ◌≤◌,
 use Rattle.flow_cert.specs.Net.{SiteValue, net_of, is_inner, IsInner}
 use Rattle.flow_cert.specs.Links.{HasChosen, AreRouted, first_owner, owner_in, AreLinks}
 use Rattle.flow_cert.specs.Stamps.{zeros}
-use Rattle.flow_cert.proofs.OnceLemmas.{once_none}
 use Rattle.flow_cert.proofs.StampLemmas.{zero_at, length_zeros}
 
 -- nothing was set
@@ -51,7 +50,7 @@ module _ (s : SiteValue) (n : ℕ) (and : IsAnd s.graph s.node) where
       all_ends = λ u ne e. let q : first_and s.graph ≤ s.node = and.0 in let r = owned_itself u (omega arith) in let l : u < s.node = r.1.below in let f : owner_in s (zeros n) u ≡ u = r.0 in absurd (omega arith);
       count_ends = refl;
     };
-    begin = record { once = once_none; source = λ s i. absurd i; owned = λ s i. absurd i };
+    begin = record { once = tt; source = λ s i. absurd i; owned = λ s i. absurd i };
   }
 
 -- the links where no path runs

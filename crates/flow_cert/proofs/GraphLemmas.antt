@@ -1,6 +1,8 @@
 -- Fan-ins of a graph.
-use Rattle.flow_cert.proofs.Common.{◌≡◌, ℕ, ◌-◌, ◌/◌, ◌<◌, ◌≤◌, List, [], ◌∷◌, ◌++◌, length, get_or, Some, refl, sym, ◌∙◌, ap, subst, inl, inr, ◌⊎◌, arith, slice_get_within, slice_get-get_or, cases_eq, cases_lt, slice_get, Aig, first_and, node_count, IsAnd, IsNode, IsNormal, IsSource, AreNormal, Regular, Parameter, Pair, source_below, node_normal, same_pair, In, Blocks, member, constant, parameter, fan_ins, CanBeLeaf, IsFanIn, first, second, Climbs, IsPath}
+use Rattle.flow_cert.proofs.Common.{◌≡◌, ℕ, ◌-◌, ◌/◌, ◌<◌, ◌≤◌, List, [], ◌∷◌, ◌++◌, length, get_or, Some, refl, sym, subst, inl, inr, ◌⊎◌, arith, slice_get_within, slice_get-get_or, cases_eq, cases_lt, slice_get, Aig, first_and, node_count, IsAnd, IsNode, IsSource, AreNormal, Regular, Parameter, Pair, source_below, In, Blocks, member, constant, parameter, fan_ins, CanBeLeaf, IsFanIn, first, second, Climbs, IsPath}
 use Rattle.aig_core.specs.declared.lit.Kind.{Kind}
+pub use Rattle.cert_check.proofs.PathLemmas.{fan_in_below, path_below}
+pub use Rattle.cert_check.proofs.PathPlaces.{fan_in_cases}
 
 -- a node with a pair is an AND node
 node_and : (g : Aig) (p : Pair) (n : ℕ) → IsNode g p n → IsAnd g n
@@ -9,15 +11,6 @@ node_and g p n is = let l : n - first_and g < length g.pairs = slice_get_within 
 pub reader_and : (g : Aig) (m n : ℕ) → IsFanIn g m n → IsAnd g n
 reader_and g m n (first p is e) = node_and g p n is
 reader_and g m n (second p is e) = node_and g p n is
-
-pub fan_in_below : (g : Aig) (m n : ℕ) → AreNormal (first_and g) g.pairs → IsFanIn g m n → m < n
-fan_in_below g m n normal (first p is e) = let k : IsNormal n p = node_normal g n p normal is in let a : p.y.0 / 2 < n = k.below in let b : p.x.0 / 2 < p.y.0 / 2 = k.ordered in omega arith
-fan_in_below g m n normal (second p is e) = let k : IsNormal n p = node_normal g n p normal is in let a : p.y.0 / 2 < n = k.below in omega arith
-
--- a fan-in is one of the pair
-pub fan_in_of : (g : Aig) (m n : ℕ) (p : Pair) → IsNode g p n → IsFanIn g m n → (m ≡ p.x.0 / 2) ⊎ (m ≡ p.y.0 / 2)
-fan_in_of g m n p is (first q at e) = inl (e ∙ ap (λ (r : Pair). r.x.0 / 2) (same_pair g q p n at is))
-fan_in_of g m n p is (second q at e) = inr (e ∙ ap (λ (r : Pair). r.y.0 / 2) (same_pair g q p n at is))
 
 -- an AND node has a pair
 and_pair : (g : Aig) (n : ℕ) → IsAnd g n → (p : Pair) × IsNode g p n
@@ -90,20 +83,9 @@ path_two g n [] and p = absurd p
 path_two g n (m ∷ []) and p = absurd (source_not_and g m p.0 (subst (λ x. IsAnd g x) (sym p.1) and))
 path_two g n (m ∷ x ∷ xs) and p = omega arith
 
--- the nodes of a path are not above its end
-climbs_below : (g : Aig) (m : ℕ) (ms : List ℕ) (n x : ℕ) → AreNormal (first_and g) g.pairs → Climbs g m ms n → In (m ∷ ms) x → (x ≤ n) × (m ≤ n)
-climbs_below g m [] n x normal c (inl e) = let q : m ≡ n = c in (omega arith, omega arith)
-climbs_below g m [] n x normal c (inr b) = absurd b
-climbs_below g m (y ∷ ys) n x normal c (inl e) = let r : y ≤ n = (climbs_below g y ys n y normal c.1 (inl refl)).0 in let l : m < y = fan_in_below g m y normal c.0 in (omega arith, omega arith)
-climbs_below g m (y ∷ ys) n x normal c (inr i) = let r = climbs_below g y ys n x normal c.1 i in let s : y ≤ n = r.1 in let l : m < y = fan_in_below g m y normal c.0 in (r.0, omega arith)
-
-pub path_below : (g : Aig) (n : ℕ) (p : List ℕ) (x : ℕ) → AreNormal (first_and g) g.pairs → IsPath g n p → In p x → x ≤ n
-path_below g n [] x normal path i = absurd path
-path_below g n (m ∷ ms) x normal path i = (climbs_below g m ms n x normal path.1 i).0
-
 -- what blocks an AND node has the node, or blocks its fan-ins
 pub blocked_below : (g : Aig) (c : List ℕ) (m n : ℕ) → IsFanIn g m n → Blocks g c n → In c n ⊎ Blocks g c m
 blocked_below g c m n f (member i) = inl i
 blocked_below g c m n f (constant e) = absurd (let a : first_and g ≤ n = (reader_and g m n f).0 in omega arith)
 blocked_below g c m n f (parameter s) = absurd (let a : first_and g ≤ n = (reader_and g m n f).0 in let b : n < first_and g = source_below g Parameter n s in omega arith)
-blocked_below g c m n f (fan_ins p is x y) = elim (fan_in_of g m n p is f) [ inl e ↦ inr (subst (λ l. Blocks g c l) (sym e) x) | inr e ↦ inr (subst (λ l. Blocks g c l) (sym e) y) ]
+blocked_below g c m n f (fan_ins p is x y) = elim (fan_in_cases g m n p is f) [ inl e ↦ inr (subst (λ l. Blocks g c l) (sym e) x) | inr e ↦ inr (subst (λ l. Blocks g c l) (sym e) y) ]

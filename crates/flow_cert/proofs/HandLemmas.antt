@@ -1,10 +1,9 @@
 -- The search, step by step.
-use Rattle.flow_cert.proofs.Common.{◌≡◌, ℕ, ◌+◌, ◌-◌, ◌/◌, ◌<◌, ◌≤◌, List, [], ◌∷◌, ◌++◌, length, get_or, set, refl, sym, ap, ◌∙◌, subst, inl, inr, arith, length-append, get_or-set_other, get_or-set_same, length-set, cases_eq, cases_lt, get_or_push, get_or-append, Aig, node_count, IsNode, Pair, In, In-get_or, In-left, In-right, In-push, CanBeLeaf, IsFanIn, first, second}
+use Rattle.flow_cert.proofs.Common.{◌≡◌, ℕ, ◌+◌, ◌-◌, ◌/◌, ◌<◌, ◌≤◌, List, [], ◌∷◌, ◌++◌, length, get_or, set, refl, sym, ap, ◌∙◌, subst, inl, inr, arith, length-append, get_or-set_other, get_or-set_same, length-set, cases_eq, cases_lt, get_or_push, get_or-append, Aig, node_count, IsNode, Pair, In, In-get_or, In-left, In-right, In-push, CanBeLeaf, IsFanIn, first, second, pushed_apart}
 use Rattle.flow_cert.specs.Net.{Net, IsLow, IsInner, IsEnd, IsNet}
 use Rattle.flow_cert.specs.Links.{IsChoice, IsLinked}
 use Rattle.flow_cert.specs.Search.{ComesFrom, IsHandedOn, IsSearched, IsSearching, Extends, HasPushed, old, new, HasTried, leaf, free}
-use Rattle.flow_cert.proofs.OnceLemmas.{once_push}
-use Rattle.flow_cert.proofs.GraphLemmas.{fan_in_below, fan_in_of, leaf_inside, leaf_pos}
+use Rattle.flow_cert.proofs.GraphLemmas.{fan_in_below, fan_in_cases, leaf_inside, leaf_pos}
 
 -- all choices that were met are met still
 handed_more : (net : Net) (owner : ℕ → ℕ) (queue queue' : List ℕ) (u : ℕ) → ((x : ℕ) → In queue x → In queue' x) → IsHandedOn net owner queue u → IsHandedOn net owner queue' u
@@ -57,7 +56,7 @@ module _ (net : Net) (owner : ℕ → ℕ) where
 
     searched_push : get_or seen m 0 ≡ 0 → IsSearched net owner (queue ++ m ∷ []) (backs ++ (done + 1) ∷ []) done
     searched_push unseen = record {
-      once = once_push queue m k.is.once (λ i. let e : 0 < get_or seen m 0 = k.in_seen m i in absurd (omega arith));
+      once = pushed_apart queue m k.is.once (λ i. let e : 0 < get_or seen m 0 = k.in_seen m i in absurd (omega arith));
       nodes = λ u i. elim (In-push queue m u i) [ inl j ↦ k.is.nodes u j | inr e ↦ subst (λ x. (x < net.node) × CanBeLeaf net.graph x × IsLow net x) (sym e) node ];
       ends = λ u e. In-left queue (m ∷ []) u (k.is.ends u e);
       count = (let a : length (queue ++ m ∷ []) ≡ length queue + 1 = length-append queue (m ∷ []) in let b : length (backs ++ (done + 1) ∷ []) ≡ length backs + 1 = length-append backs ((done + 1) ∷ []) in let c : length backs ≡ length queue = k.is.count in omega arith);
@@ -169,7 +168,7 @@ module _ (net : Net) (owner : ℕ → ℕ) (is : IsNet net) (place a : ℕ) (inn
     where
       choices : (m : ℕ) → IsChoice net a m → In queue3 a → (CanBeLeaf net.graph (p.x.0 / 2) → In queue3 (p.x.0 / 2)) → (CanBeLeaf net.graph (p.y.0 / 2) → In queue3 (p.y.0 / 2)) → In queue3 m
       choices m (inl e) own x y = subst (λ i. In queue3 i) (sym e) own
-      choices m (inr f) own x y = elim (fan_in_of net.graph m a p node f.0) [
+      choices m (inr f) own x y = elim (fan_in_cases net.graph m a p node f.0) [
         | inl e ↦ subst (λ i. In queue3 i) (sym e) (x (subst (λ i. CanBeLeaf net.graph i) e f.1))
         | inr e ↦ subst (λ i. In queue3 i) (sym e) (y (subst (λ i. CanBeLeaf net.graph i) e f.1))
       ]

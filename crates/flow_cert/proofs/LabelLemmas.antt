@@ -1,30 +1,21 @@
 -- Labels do not fall on the way up, and a node has no cut that is lower than its label.
-use Rattle.flow_cert.proofs.Common.{◌≡◌, ℕ, suc, ◌+◌, ◌-◌, ◌<◌, ◌≤◌, List, [], ◌∷◌, length, refl, ap, subst, inl, inr, ◌⊎◌, arith, cases_lt, Aig, first_and, node_count, IsAnd, AreNormal, Regular, source_below, In, Within, IsAscending, Blocks, CanBeLeaf, greatest, height, IsFanIn}
+use Rattle.flow_cert.proofs.Common.{◌≡◌, ℕ, suc, ◌+◌, ◌-◌, ◌<◌, ◌≤◌, List, [], ◌∷◌, length, refl, subst, inl, inr, ◌⊎◌, arith, cases_lt, Aig, first_and, node_count, IsAnd, AreNormal, Regular, source_below, In, Within, IsAscending, Blocks, CanBeLeaf, greatest, height, IsFanIn}
 use Rattle.cut_sets.proofs.BlockLemmas.{contains_one}
-use Rattle.depth_label.proofs.DepthLemmas.{greatest_le}
+use Rattle.depth_label.proofs.DepthLemmas.{greatest_le, greatest_in}
+pub use Rattle.depth_label.proofs.DepthLemmas.{height_le}
 use Rattle.flow_cert.specs.Net.{AreRight}
 use Rattle.flow_cert.proofs.GraphLemmas.{reader_and, blocked_below}
 
-pub height_le : (label : ℕ → ℕ) (c : List ℕ) (d : ℕ) → ((m : ℕ) → In c m → label m ≤ d) → height label c ≤ suc d
-height_le label [] d h = omega arith
-height_le label (m ∷ ms) d h = let a : greatest label (m ∷ ms) ≤ d = greatest_le label (m ∷ ms) d h in omega arith
-
--- the greatest is at least each
-greatest_member : (label : ℕ → ℕ) (c : List ℕ) (m : ℕ) → In c m → label m ≤ greatest label c
-greatest_member label [] m i = absurd i
-greatest_member label (x ∷ xs) m (inl e) = let a : label m ≡ label x = ap label e in omega arith
-greatest_member label (x ∷ xs) m (inr i) = let a : label m ≤ greatest label xs = greatest_member label xs m i in omega arith
-
 pub height_member : (label : ℕ → ℕ) (c : List ℕ) (m : ℕ) → In c m → label m + 1 ≤ height label c
 height_member label [] m i = absurd i
-height_member label (x ∷ xs) m i = let a : label m ≤ greatest label (x ∷ xs) = greatest_member label (x ∷ xs) m i in omega arith
+height_member label (x ∷ xs) m i = let a : label m ≤ greatest label (x ∷ xs) = greatest_in label (x ∷ xs) m i in omega arith
 
 -- a smaller set is no higher
 height_within : (label : ℕ → ℕ) (a b : List ℕ) → Within a b → height label a ≤ height label b
 height_within label [] b w = omega arith
 height_within label (x ∷ xs) [] w = absurd (w x (inl refl))
 height_within label (x ∷ xs) (y ∷ ys) w =
-    let a : greatest label (x ∷ xs) ≤ greatest label (y ∷ ys) = greatest_le label (x ∷ xs) (greatest label (y ∷ ys)) (λ m i. greatest_member label (y ∷ ys) m (w m i)) in omega arith
+    let a : greatest label (x ∷ xs) ≤ greatest label (y ∷ ys) = greatest_le label (x ∷ xs) (greatest label (y ∷ ys)) (λ m i. greatest_in label (y ∷ ys) m (w m i)) in omega arith
 
 -- only the empty cut has height 0
 height_none : (label : ℕ → ℕ) (c : List ℕ) → height label c ≡ 0 → c ≡ []

@@ -1,10 +1,10 @@
 -- A search begins at the ends, and comes to a node without an owner.
-use Rattle.flow_cert.proofs.Common.{◌≡◌, ℕ, zero, suc, ◌+◌, ◌<◌, ◌≤◌, List, [], ◌∷◌, ◌++◌, length, get_or, set, take, Some, refl, sym, ap, ◌∙◌, subst, inl, inr, arith, length-append, get_or-set_other, get_or-set_same, length-set, cases_eq, cases_lt, get_or_push, get_or_past, slice_get-get_or, get_or-append, node_count, In, In-get_or, In-push, In-left, In-right, take_get}
-use Rattle.flow_cert.specs.Net.{Net, StandOnce, IsEnd, IsNet, AreEnds, AreRight}
+use Rattle.flow_cert.proofs.Common.{◌≡◌, ℕ, zero, suc, ◌+◌, ◌<◌, ◌≤◌, List, [], ◌∷◌, ◌++◌, length, get_or, set, take, Some, refl, sym, ap, ◌∙◌, subst, inl, inr, arith, length-append, get_or-set_other, get_or-set_same, length-set, cases_eq, cases_lt, get_or_push, get_or_past, slice_get-get_or, get_or-append, node_count, In, In-get_or, In-push, In-left, In-right, take_get, AreApart, In-place}
+use Rattle.flow_cert.specs.Net.{Net, IsEnd, IsNet, AreEnds, AreRight}
 use Rattle.flow_cert.specs.Links.{IsLinked}
 use Rattle.flow_cert.specs.Search.{ComesFrom, IsHandedOn, IsSearched, IsSearching, IsBegun}
 use Rattle.flow_cert.specs.Stamps.{zeros}
-use Rattle.flow_cert.proofs.OnceLemmas.{once_apart, once_few, place_of}
+use Rattle.flow_cert.proofs.OnceLemmas.{once_few}
 use Rattle.flow_cert.proofs.BarrierLemmas.{some_barrier}
 use Rattle.flow_cert.proofs.LabelLemmas.{not_blocked}
 use Rattle.flow_cert.proofs.StampLemmas.{length_zeros, zero_at}
@@ -12,8 +12,8 @@ use Rattle.flow_cert.proofs.StampLemmas.{length_zeros, zero_at}
 -- A search always comes to a node without an owner: it does not hand on all that it met.
 pub search_ends : (net : Net) → IsNet net → (k : ℕ) → AreRight net.graph k net.label → (owner chosen : ℕ → ℕ) (count : ℕ) → IsLinked net 0 owner chosen count → count ≤ k → (queue backs : List ℕ) (done : ℕ) → IsSearched net owner queue backs done → length queue ≤ done → ⊥
 search_ends net is k right owner chosen count linked few queue backs done s all =
-    let handed : (u : ℕ) → In queue u → IsHandedOn net owner queue u = (λ u i. let r = place_of queue u i in let l : r.0 < length queue = r.1 in subst (λ x. IsHandedOn net owner queue x) r.2 (s.handed r.0 (omega arith))) in
-    let b = some_barrier net is owner chosen count linked queue (once_apart queue s.once) s.nodes s.ends handed in
+    let handed : (u : ℕ) → In queue u → IsHandedOn net owner queue u = (λ u i. let r = In-place queue u i in let l : r.0 < length queue = r.1 in subst (λ x. IsHandedOn net owner queue x) r.2 (s.handed r.0 (omega arith))) in
+    let b = some_barrier net is owner chosen count linked queue s.once s.nodes s.ends handed in
     let c : length b.0 ≤ count = b.1.few in
     let h : net.label net.node ≡ net.height = is.is in
     let high : 2 ≤ net.height = is.high in
@@ -69,7 +69,7 @@ search_start net is owner ends limit seen queue backs e all k =
     let whole : queue ≡ ends = k.is ∙ take_past ends limit all in
     record {
       is = record {
-        once = subst (λ q. StandOnce q) (sym whole) e.once;
+        once = subst (λ q. AreApart q) (sym whole) e.once;
         nodes = λ u i. let end : IsEnd net u = e.only u (subst (λ q. In q u) whole i) in let m = is.readers.met u end.met in (m.below, m.leaf, end.low);
         ends = λ u end. subst (λ q. In q u) (sym whole) (e.all u end);
         count = k.count;

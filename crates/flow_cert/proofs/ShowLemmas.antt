@@ -1,5 +1,6 @@
 -- From labels that are right to the net of a node, and from its paths to what shows the label.
-use Rattle.flow_cert.proofs.Common.{◌≡◌, ℕ, ◌+◌, ◌<◌, ◌≤◌, eqb, List, [], ◌∷◌, length, refl, sym, ◌∙◌, subst, inl, inr, arith, eqb-true, eqb-false, slice_get_within, Aig, first_and, IsAnd, AreNormal, choose, LabelsValue, label_of, PathValue, IsPath, path_count}
+use Rattle.flow_cert.proofs.Common.{◌≡◌, ℕ, ◌+◌, ◌<◌, ◌≤◌, eqb, List, [], ◌∷◌, length, refl, sym, ◌∙◌, subst, inl, inr, arith, eqb-false, slice_get_within, Aig, first_and, IsAnd, AreNormal, choose, LabelsValue, label_of, PathValue, IsPath, path_count}
+use Rattle.cert_check.proofs.LeastLemmas.{path_count-more}
 use Rattle.flow_cert.specs.Net.{SiteValue, net_at, net_of, IsNet, AreReaders, AreRight}
 use Rattle.flow_cert.specs.Links.{owner_in, AreLinks}
 use Rattle.flow_cert.specs.Ways.{AreWays}
@@ -32,9 +33,6 @@ shown site k owners starts paths is links ways e = record {
 pub count_one : (k claim : ℕ) → claim ≡ 1 → path_count k claim ≡ 1
 count_one k claim e = choose (λ v. v ≡ 1) (eqb claim 1) 1 (k + 1) (λ _. refl) (λ f. absurd (eqb-false claim 1 f e))
 
-count_more : (k claim : ℕ) → 2 ≤ claim → path_count k claim ≡ k + 1
-count_more k claim two = choose (λ v. v ≡ k + 1) (eqb claim 1) 1 (k + 1) (λ e. let one : claim ≡ 1 = eqb-true claim 1 e in absurd (omega arith)) (λ _. refl)
-
 -- one path shows a label of 1
 pub low_shown : (g : Aig) (k : ℕ) (label : ℕ → ℕ) (n : ℕ) (p : PathValue) → IsAnd g n → label n ≡ 1 → IsPath g n p.nodes → IsStepOf g k label (record { line = 0; node = n; claim = 1; paths = p ∷ [] })
 low_shown g k label n p and one path = record {
@@ -55,7 +53,7 @@ high_shown g k label n claim paths and e two show = record {
   claim = e;
   positive = omega arith;
   justified = record {
-    count = show.count ∙ sym (count_more k claim two);
+    count = show.count ∙ sym (path_count-more k claim two);
     paths = show.each;
     apart = λ i j m p q l a b c d ne. let h : label n ≤ label m + 1 = show.apart i j m p q l a b c d ne in omega arith;
   };

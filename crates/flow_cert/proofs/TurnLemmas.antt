@@ -1,10 +1,10 @@
 -- A search that met a node without an owner gives one more path: the owners along it are changed from its last node on, back to
 -- its first.
-use Rattle.flow_cert.proofs.Common.{◌≡◌, ℕ, ◌+◌, ◌-◌, ◌<◌, ◌≤◌, cond, eqb, List, [], ◌∷◌, ◌++◌, length, get_or, set, get_or-set_other, get_or-set_same, length-append, refl, sym, ap, ◌∙◌, subst, inl, inr, ◌⊎◌, arith, eqb-true, eqb-false, IsSource, Regular, choose, In-get_or, In-push}
+use Rattle.flow_cert.proofs.Common.{◌≡◌, ℕ, ◌+◌, ◌-◌, ◌<◌, ◌≤◌, cond, eqb, List, [], ◌∷◌, ◌++◌, length, get_or, set, get_or-set_other, get_or-set_same, length-append, refl, sym, ap, ◌∙◌, subst, inl, inr, ◌⊎◌, arith, eqb-true, eqb-false, IsSource, Regular, choose, In-get_or, In-push, pushed_apart}
 use Rattle.flow_cert.specs.Net.{Net, SiteValue, net_of, IsInner}
 use Rattle.flow_cert.specs.Links.{IsChoice, IsLinked, AreRouted, IsUpdated, first_owner, owner_in}
 use Rattle.flow_cert.specs.Search.{IsSearched, CanTurn}
-use Rattle.flow_cert.proofs.OnceLemmas.{once_push, once_places}
+use Rattle.flow_cert.proofs.OnceLemmas.{once_places}
 use Rattle.flow_cert.proofs.GraphLemmas.{leaf_pos, leaf_inside}
 use Rattle.flow_cert.proofs.LinkLemmas.{inner_pos, take_up, hand_on, take_end, owned_kept}
 
@@ -110,7 +110,7 @@ module _ (net : Net) (count : ℕ) (before : ℕ → ℕ) (queue backs : List �
       record {
         linked = subst (λ c. IsLinked net 0 owner' k.chosen c) (let f : count + 1 ≡ length (starts ++ x ∷ []) = omega arith in f) k2;
         begin = record {
-          once = once_push starts x was.begin.once (λ i. let p : 0 < before x = was.begin.owned x i in absurd (omega arith));
+          once = pushed_apart starts x was.begin.once (λ i. let p : 0 < before x = was.begin.owned x i in absurd (omega arith));
           source = λ y i. elim (In-push starts x y i) [
             | inl h ↦ was.begin.source y h
             | inr q ↦ subst (λ z. IsSource net.graph Regular z) (sym q) (free_source first (subst (λ c. IsLinked net 0 before first c) (sym e) was.linked) free)

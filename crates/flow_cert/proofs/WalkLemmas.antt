@@ -1,10 +1,10 @@
 -- The walk down through deep nodes, reading by reading.
-use Rattle.flow_cert.proofs.Common.{◌≡◌, ℕ, ◌+◌, ◌/◌, ◌<◌, ◌≤◌, List, [], ◌∷◌, ◌++◌, length, get_or, set, get_or-set_other, get_or-set_same, length-set, length-append, refl, sym, ap, ◌∙◌, subst, inl, inr, ◌⊎◌, arith, cases_eq, cases_lt, get_or-append, Aig, first_and, node_count, IsAnd, IsNode, AreNormal, Pair, In, In-get_or, In-left, In-right, In-push, CanBeLeaf, IsFanIn, first, second, LabelsValue, label_of}
+use Rattle.flow_cert.proofs.Common.{◌≡◌, ℕ, ◌+◌, ◌/◌, ◌<◌, ◌≤◌, List, [], ◌∷◌, ◌++◌, length, get_or, set, get_or-set_other, get_or-set_same, length-set, length-append, refl, sym, ap, ◌∙◌, subst, inl, inr, ◌⊎◌, arith, cases_eq, cases_lt, get_or-append, Aig, first_and, node_count, IsAnd, IsNode, AreNormal, Pair, In, In-get_or, In-left, In-right, In-push, CanBeLeaf, IsFanIn, first, second, LabelsValue, label_of, pushed_apart, In-place}
 use Rattle.flow_cert.specs.Net.{Net, net_at, IsUpper, IsEnd, IsMet, AreReaders, AreRight}
 use Rattle.flow_cert.specs.Stamps.{zeros}
 use Rattle.flow_cert.specs.Walks.{HasRead, free, again, low, deep, IsWalked}
-use Rattle.flow_cert.proofs.OnceLemmas.{once_none, once_one, once_push, once_few, place_of}
-use Rattle.flow_cert.proofs.GraphLemmas.{fan_in_below, fan_in_of, leaf_inside}
+use Rattle.flow_cert.proofs.OnceLemmas.{once_few}
+use Rattle.flow_cert.proofs.GraphLemmas.{fan_in_below, fan_in_cases, leaf_inside}
 use Rattle.flow_cert.proofs.LabelLemmas.{high_and}
 use Rattle.flow_cert.proofs.StampLemmas.{zero_at}
 
@@ -92,7 +92,7 @@ module _ (g : Aig) (ls : LabelsValue) (n : ℕ) (normal : AreNormal (first_and g
         ];
       };
       ends_are = record {
-        once = once_push ends m w.ends_are.once not_end;
+        once = pushed_apart ends m w.ends_are.once not_end;
         only = λ x i. elim (In-push ends m x i) [ inl j ↦ end_still x (w.ends_are.only x j) | inr e ↦ subst (λ y. IsEnd (net_at g ls n (set readers m v)) y) (sym e) (record { met = met_pos; low = l }) ];
         all = λ x e. elim (end_cases x e) [ inl o ↦ In-left ends (m ∷ []) x (w.ends_are.all x o) | inr q ↦ In-right ends (m ∷ []) x (inl q) ];
       };
@@ -107,7 +107,7 @@ module _ (g : Aig) (ls : LabelsValue) (n : ℕ) (normal : AreNormal (first_and g
         record {
           met = met_all;
           uppers_are = record {
-            once = once_push uppers m w.uppers_are.once not_upper;
+            once = pushed_apart uppers m w.uppers_are.once not_upper;
             only = λ x i. elim (In-push uppers m x i) [
               | inl j ↦ (let r = w.uppers_are.only x j in (upper_still x r.0, r.1, r.2))
               | inr e ↦ subst (λ y. IsUpper (net_at g ls n (set readers m v)) y × IsAnd g y × (y ≤ n)) (sym e) (inr (met_pos, h), high_and g k (label_of ls) right m (omega arith), (let b : m < n = m_below in omega arith))
@@ -181,7 +181,7 @@ module _ (g : Aig) (ls : LabelsValue) (n : ℕ) (normal : AreNormal (first_and g
         read = λ j x l f c. elim (cases_lt j place) [
           | inl o ↦ b.walked.read j x o f c
           | inr o ↦ (let q : j ≡ place = omega arith in
-              elim (fan_in_of g x (get_or uppers place 0) p is (subst (λ y. IsFanIn g x y) (ap (λ i. get_or uppers2 i 0) q ∙ same) f)) [
+              elim (fan_in_cases g x (get_or uppers place 0) p is (subst (λ y. IsFanIn g x y) (ap (λ i. get_or uppers2 i 0) q ∙ same) f)) [
                 | inl e ↦ b.kept x (subst (λ y. 0 < get_or readers1 y 0) (sym e) (a.met (subst (λ y. CanBeLeaf g y) e c)))
                 | inr e ↦ subst (λ y. 0 < get_or readers2 y 0) (sym e) (b.met (subst (λ y. CanBeLeaf g y) e c))
               ])
@@ -199,11 +199,11 @@ module _ (g : Aig) (ls : LabelsValue) (n : ℕ) (normal : AreNormal (first_and g
   walk_start count = record {
     met = λ m l. absurd (nothing m l);
     uppers_are = record {
-      once = once_one n;
+      once = ((λ i. i), tt);
       only = λ v i. elim i [ inl e ↦ (inl e, subst (λ x. IsAnd g x) (sym e) node, omega arith) | inr b ↦ absurd b ];
       all = λ v u. elim u [ inl e ↦ inl e | inr d ↦ absurd (nothing v d.0) ];
     };
-    ends_are = record { once = once_none; only = λ u i. absurd i; all = λ u e. absurd (nothing u e.met) };
+    ends_are = record { once = tt; only = λ u i. absurd i; all = λ u e. absurd (nothing u e.met) };
     within = omega arith;
     read = λ j m l f c. absurd (omega arith);
   }
@@ -215,7 +215,7 @@ module _ (g : Aig) (ls : LabelsValue) (n : ℕ) (normal : AreNormal (first_and g
 pub walk_all : (net : Net) (uppers ends : List ℕ) (done : ℕ) → IsWalked net uppers ends done → length uppers ≤ done → AreReaders net
 walk_all net uppers ends done w all = record {
   met = w.met;
-  all = λ m v u f leaf. let r = place_of uppers v (w.uppers_are.all v u) in let l : r.0 < length uppers = r.1 in w.read r.0 m (omega arith) (subst (λ x. IsFanIn net.graph m x) (sym r.2) f) leaf;
+  all = λ m v u f leaf. let r = In-place uppers v (w.uppers_are.all v u) in let l : r.0 < length uppers = r.1 in w.read r.0 m (omega arith) (subst (λ x. IsFanIn net.graph m x) (sym r.2) f) leaf;
 }
 
 -- there are no more upper nodes than nodes

@@ -6,10 +6,11 @@
 use Rattle.std.specs.Prelude.{◌≡◌, ℕ, ◌<◌, ◌≢◌, if◌then◌else◌, ◌==◌, List, slice_index, length, ◌⊎◌}
 use Rattle.aig_core.specs.Aig.{node_count, IsSource}
 use Rattle.aig_core.specs.declared.lit.Kind.TheVariants.{Regular}
+use Rattle.list_laws.specs.Apart.{AreApart}
 use Rattle.list_laws.specs.Members.{In}
 use Rattle.cut_sets.specs.Cuts.{CanBeLeaf}
 use Rattle.cert_check.specs.Paths.{IsFanIn}
-use Rattle.flow_cert.specs.Net.{Net, SiteValue, StandOnce, net_of, is_inner, IsInner, IsEnd}
+use Rattle.flow_cert.specs.Net.{Net, SiteValue, net_of, is_inner, IsInner, IsEnd}
 
 -- what an inner node may choose: itself or a leaf that it reads
 abbrev pub IsChoice : Net → ℕ → ℕ → Type 0
@@ -35,7 +36,7 @@ pub record IsLinked (net : Net) (loose : ℕ) (owner chosen : ℕ → ℕ) (coun
 
 -- where the paths start: regular sources with an owner
 pub record AreStarts (net : Net) (owner : ℕ → ℕ) (starts : List ℕ) : Type 0 where
-  pub once : StandOnce starts
+  pub once : AreApart starts
   pub source : (s : ℕ) → In starts s → IsSource net.graph Regular s
   pub owned : (s : ℕ) → In starts s → 0 < owner s
 

@@ -2,8 +2,9 @@
 --
 -- The node has a label of at least 2. A node below it is low where its label is at least two less: of the paths that are sought
 -- at most one may pass a low node.
-use Rattle.std.specs.Prelude.{◌≡◌, ℕ, ◌+◌, ◌<◌, ◌≤◌, ◌⊎◌, Bool, ◌&&◌, nat_lt, List, length, Some, slice_get, slice_index}
+use Rattle.std.specs.Prelude.{◌≡◌, ℕ, ◌+◌, ◌<◌, ◌≤◌, ◌⊎◌, Bool, ◌&&◌, nat_lt, List, length, slice_index}
 use Rattle.aig_core.specs.Aig.{Aig, first_and, IsAnd, AreNormal}
+use Rattle.list_laws.specs.Apart.{AreApart}
 use Rattle.list_laws.specs.Members.{In}
 use Rattle.cut_sets.specs.Cuts.{CanBeLeaf, AreMinimal}
 use Rattle.depth_label.specs.Label.{AreLabels, LabelsValue, label_of}
@@ -17,10 +18,6 @@ pub record Net : Type 0 where
   pub node : ℕ
   pub height : ℕ
   pub reader : ℕ → ℕ
-
--- no number stands twice in a list
-pub record StandOnce (xs : List ℕ) : Type 0 where
-  pub once : (i j x : ℕ) → slice_get xs i ≡ Some x → slice_get xs j ≡ Some x → i ≡ j
 
 abbrev pub IsLow : Net → ℕ → Type 0
 IsLow net m = net.label m + 1 < net.height
@@ -54,7 +51,7 @@ pub record AreReaders (net : Net) : Type 0 where
 
 -- the nodes from which paths go up by readers
 pub record AreEnds (net : Net) (ends : List ℕ) : Type 0 where
-  pub once : StandOnce ends
+  pub once : AreApart ends
   pub only : (u : ℕ) → In ends u → IsEnd net u
   pub all : (u : ℕ) → IsEnd net u → In ends u
 

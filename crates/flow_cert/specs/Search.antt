@@ -4,10 +4,11 @@
 -- on: the owner would choose another node, so its choices are met too. A node without an owner ends the search.
 use Rattle.std.specs.Prelude.{◌≡◌, ℕ, ◌-◌, ◌<◌, ◌≤◌, List, [], ◌∷◌, ◌++◌, length, slice_index, slice_set, take, ◌⊎◌}
 use Rattle.aig_core.specs.Aig.{Aig, node_count}
+use Rattle.list_laws.specs.Apart.{AreApart}
 use Rattle.list_laws.specs.Members.{In}
 use Rattle.cut_sets.specs.Cuts.{CanBeLeaf}
 use Rattle.depth_label.specs.Label.{label_of}
-use Rattle.flow_cert.specs.Net.{Net, SiteValue, StandOnce, net_of, IsLow, IsInner, IsEnd, AreRight}
+use Rattle.flow_cert.specs.Net.{Net, SiteValue, net_of, IsLow, IsInner, IsEnd, AreRight}
 use Rattle.flow_cert.specs.Links.{IsChoice, owner_in}
 
 -- where a node of the queue comes from: an end from nowhere (0), another from the place before `back`, whose owner may choose it
@@ -23,7 +24,7 @@ IsHandedOn net owner queue u = (owner u ≡ net.node) ⊎ (IsInner net (owner u)
 
 -- the search has met the nodes of the queue, and handed on the first `done` of them
 pub record IsSearched (net : Net) (owner : ℕ → ℕ) (queue backs : List ℕ) (done : ℕ) : Type 0 where
-  pub once : StandOnce queue
+  pub once : AreApart queue
   pub nodes : (u : ℕ) → In queue u → (u < net.node) × CanBeLeaf net.graph u × IsLow net u
   pub ends : (u : ℕ) → IsEnd net u → In queue u
   pub count : length backs ≡ length queue

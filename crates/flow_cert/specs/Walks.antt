@@ -1,10 +1,11 @@
 -- The walk down from a node through deep nodes, as the code takes it: upper nodes wait in a queue.
 use Rattle.std.specs.Prelude.{◌≡◌, ℕ, ◌+◌, ◌<◌, ◌≤◌, List, [], ◌∷◌, ◌++◌, length, slice_index, slice_set}
 use Rattle.aig_core.specs.Aig.{Aig, IsAnd}
+use Rattle.list_laws.specs.Apart.{AreApart}
 use Rattle.list_laws.specs.Members.{In}
 use Rattle.cut_sets.specs.Cuts.{CanBeLeaf}
 use Rattle.cert_check.specs.Paths.{IsFanIn}
-use Rattle.flow_cert.specs.Net.{Net, StandOnce, IsUpper, IsMet, AreEnds}
+use Rattle.flow_cert.specs.Net.{Net, IsUpper, IsMet, AreEnds}
 
 -- m is read by v: it may have been met before or be no leaf, and else it is one more upper node or one more end
 pub data HasRead (g : Aig) (label : ℕ → ℕ) (height m v : ℕ) (readers uppers ends readers' uppers' ends' : List ℕ) : Type 0 where
@@ -15,7 +16,7 @@ pub data HasRead (g : Aig) (label : ℕ → ℕ) (height m v : ℕ) (readers upp
 
 -- the upper nodes that wait, or have read
 pub record AreUppers (net : Net) (uppers : List ℕ) : Type 0 where
-  pub once : StandOnce uppers
+  pub once : AreApart uppers
   pub only : (v : ℕ) → In uppers v → IsUpper net v × IsAnd net.graph v × (v ≤ net.node)
   pub all : (v : ℕ) → IsUpper net v → In uppers v
 

@@ -1,15 +1,11 @@
--- Lists in which nothing occurs twice.
+-- Lists in which nothing stands twice.
 use Rattle.std.proofs.Common.{◌≡◌, ℕ, zero, suc, ◌≤◌, Bool, List, [], ◌∷◌, ◌++◌, length, Some, refl, sym, ap, ◌∙◌, subst, inl, inr, arith}
 use Rattle.std.specs.Prelude.{filter, slice_get}
 use Rattle.std.proofs.lemmas.Option.{none-some}
+pub use Rattle.list_laws.specs.Apart.{AreApart}
 use Rattle.list_laws.specs.Members.{In}
 use Rattle.list_laws.proofs.Choice.{choose}
-use Rattle.list_laws.proofs.Members.{In-get, In-append, In-filter}
-
--- a list in which nothing stands twice
-abbrev pub AreApart : {A : Type 0} → List A → Type 0
-AreApart [] = Unit {0}
-AreApart (x ∷ xs) = (In xs x → ⊥) × AreApart xs
+use Rattle.list_laws.proofs.Members.{In-get, In-left, In-right, In-append, In-filter}
 
 pub joined_apart : {A : Type 0} (xs ys : List A) → AreApart xs → AreApart ys → ((p : A) → In xs p → In ys p → ⊥) → AreApart (xs ++ ys)
 joined_apart [] ys a b apart = b
@@ -17,6 +13,24 @@ joined_apart (x ∷ xs) ys a b apart = (
   λ (i : In (xs ++ ys) x). elim (In-append xs ys x i) [ inl j ↦ a.0 j | inr j ↦ apart x (inl refl) j ],
   joined_apart xs ys a.1 b (λ p i j. apart p (inr i) j),
 )
+
+-- one more, which isn't there
+pub pushed_apart : {A : Type 0} (xs : List A) (x : A) → AreApart xs → (In xs x → ⊥) → AreApart (xs ++ x ∷ [])
+pushed_apart xs x a never = joined_apart xs (x ∷ []) a ((λ i. i), tt) (λ p i j. elim j [ inl e ↦ never (subst (In xs) e i) | inr k ↦ k ])
+
+-- the parts of a list, which have nothing in common
+pub left_apart : {A : Type 0} (xs ys : List A) → AreApart (xs ++ ys) → AreApart xs
+left_apart [] ys a = tt
+left_apart (x ∷ xs) ys a = ((λ i. a.0 (In-left xs ys x i)), left_apart xs ys a.1)
+
+pub right_apart : {A : Type 0} (xs ys : List A) → AreApart (xs ++ ys) → AreApart ys
+right_apart [] ys a = a
+right_apart (x ∷ xs) ys a = right_apart xs ys a.1
+
+pub not_in_both : {A : Type 0} (xs ys : List A) (x : A) → AreApart (xs ++ ys) → In xs x → In ys x → ⊥
+not_in_both [] ys x a i j = absurd i
+not_in_both (y ∷ xs) ys x a (inl e) j = a.0 (In-right xs ys y (subst (In ys) e j))
+not_in_both (y ∷ xs) ys x a (inr i) j = not_in_both xs ys x a.1 i j
 
 pub filtered_apart : {A : Type 0} (test : A → Bool) (xs : List A) → AreApart xs → AreApart (filter test xs)
 filtered_apart test [] apart = tt

@@ -25,6 +25,11 @@ in_or (m ∷ ms) n = elim (cases_eq n m) [
   | inr d ↦ elim (in_or ms n) [ inl i ↦ inl (inr i) | inr o ↦ inr (λ i. elim i [ inl e ↦ d e | inr j ↦ o j ]) ]
 ]
 
+pub In-place : (xs : List ℕ) (m : ℕ) → In xs m → (j : ℕ) × (j < length xs) × (get_or xs j 0 ≡ m)
+In-place [] m i = absurd i
+In-place (x ∷ xs) m (inl e) = (0, omega arith, sym e)
+In-place (x ∷ xs) m (inr i) = let r = In-place xs m i in (suc r.0, (let l : r.0 < length xs = r.1 in omega arith), r.2)
+
 -- and a member stands at a place
 pub place_in : {A : Type 0} (xs : List A) (x : A) → In xs x → (i : ℕ) × (slice_get xs i ≡ Some x)
 place_in [] x h = absurd h

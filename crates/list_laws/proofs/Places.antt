@@ -1,5 +1,5 @@
 -- The elements of a list by their places: of joined lists, of what is left after a place, and with one element set.
-use Rattle.std.proofs.Common.{◌≡◌, ◌⊎◌, ℕ, zero, suc, ◌+◌, ◌<◌, ◌≤◌, eqb, List, [], ◌∷◌, ◌++◌, length, drop, take, Some, None, replicate, refl, sym, ap, ◌∙◌, subst, inl, inr, arith, eqb-true, eq-eqb, slice_set}
+use Rattle.std.proofs.Common.{◌≡◌, ◌⊎◌, ℕ, zero, suc, ◌+◌, ◌<◌, ◌≤◌, eqb, List, [], ◌∷◌, ◌++◌, length, drop, take, map, Some, None, replicate, refl, sym, ap, ◌∙◌, subst, inl, inr, arith, eqb-true, eq-eqb, slice_set}
 use Rattle.std.specs.Prelude.{slice_get}
 use Rattle.std.proofs.lemmas.Bool.{both_ways, cases_Bool}
 use Rattle.std.proofs.lemmas.Option.{none-some, same_Some}
@@ -63,6 +63,12 @@ same_list (x ∷ xs) [] n h = absurd (omega arith)
 same_list (x ∷ xs) (y ∷ ys) n h =
     let m : suc (length xs) ≡ suc (length ys) = n in
     ap (λ z. z ∷ xs) (h 0 x y refl refl) ∙ ap (λ zs. y ∷ zs) (same_list xs ys (omega arith) (λ i a b e f. h (suc i) a b e f))
+
+-- an element of a mapped list
+pub mapped_at : {A B : Type 0} (f : A → B) (xs : List A) (i : ℕ) (y : B) → slice_get (map f xs) i ≡ Some y → (x : A) × (slice_get xs i ≡ Some x) × (y ≡ f x)
+mapped_at f [] i y e = absurd (none-some y e)
+mapped_at f (x ∷ xs) zero y e = (x, refl, sym (same_Some (f x) y e))
+mapped_at f (x ∷ xs) (suc i) y e = mapped_at f xs i y e
 
 -- a list of one element many times
 pub replicate_at : {A : Type 0} (n i : ℕ) (x : A) → i < n → slice_get (replicate n x) i ≡ Some x

@@ -4,4 +4,4 @@ pub mod RoomLemmas
 mod MappingLemmas
 pub mod SourceLemmas
 pub mod ToggleLemmas
-mod TableCountLemmas
+pub mod TableCountLemmas

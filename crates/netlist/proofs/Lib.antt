@@ -14,3 +14,4 @@ pub mod PostLemmas
 pub mod RunLemmas
 mod RegularLemmas
 mod Worked
+pub mod UnderscoreLemmas

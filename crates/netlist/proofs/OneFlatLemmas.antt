@@ -9,11 +9,10 @@ use Rattle.netlist.specs.FlatValue.{FlatValue}
 use Rattle.netlist.specs.declared.flat.Net.TheVariants.{Input, Latch, Cover}
 use Rattle.netlist.proofs.ControlLemmas.{name_of}
 use Rattle.netlist.proofs.NetLemmas.{one_net}
-use Rattle.tl_text.proofs.NameSetLemmas.{once_filter}
+use Rattle.list_laws.proofs.Apart.{filtered_apart}
 use Rattle.netlist.proofs.OrderLemmas.{order_once, places_apart}
 use Rattle.netlist.proofs.PlaceLemmas.{place_of, cover_at-is, one_latch}
 use Rattle.netlist.proofs.NameLemmas.{same_number, cons_first, cons_rest}
-use Rattle.tl_text.proofs.NameSetLemmas.{names_apart}
 use Rattle.netlist.proofs.PostLemmas.{nodes_once}
 
 -- no driver stands at two places
@@ -144,7 +143,7 @@ module _ (library : LibraryValue) where
 
       placed_once : ArePlacedOnce f.at
       placed_once = record {
-        inputs = subst AreApart (sym (f.places ∙ f.inputs)) (names_apart (filter (λ name. not (f.test name)) (f.main).inputs) (once_filter (λ name. not (f.test name)) (f.main).inputs (((sound.formed).each f.main (In-get library.models 0 f.main f.is_main)).ports input_ports)));
+        inputs = subst AreApart (sym (f.places ∙ f.inputs)) (filtered_apart (λ name. not (f.test name)) (f.main).inputs (((sound.formed).each f.main (In-get library.models 0 f.main f.is_main)).ports input_ports));
         latches = places_apart library is_latch f.latches_order;
         covers = places_apart library is_cover f.covers_order;
       }

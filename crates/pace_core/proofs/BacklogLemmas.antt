@@ -10,9 +10,9 @@ use Rattle.aig_core.specs.Value.{xor}
 use Rattle.dirty_idx.specs.Marks.{is_marked, IsLeast, IsEmpty}
 use Rattle.spec_core.specs.Differences.{config_bit, differs_at, write_of, differences}
 use Rattle.spec_core.proofs.AssignLemmas.{none_marked}
-use Rattle.spec_core.proofs.MarkLemmas.{xor-same}
+use Rattle.spec_core.proofs.MarkLemmas.{xor-same, xor-false}
 use Rattle.pace_core.specs.Backlog.{BacklogValue, IsBehind, with_write, IsCaughtUp, IsCatchingUp}
-use Rattle.pace_core.proofs.DifferenceLemmas.{one_more, first_is, differing, length-differences, differences_few, differs_some, no_own_differences, differs_nowhere, written_fails, written_agrees, wanted_agrees, written-append}
+use Rattle.pace_core.proofs.DifferenceLemmas.{one_more, first_is, differing, length-differences, differences_few, differs_some, no_own_differences, differs_nowhere, written_fails, written_agrees, wanted_agrees, written-append, xor-true}
 
 -- a bit differs from the other one
 xor-not : (a b : Bool) → a ≡ not b → xor a b ≡ true
@@ -20,20 +20,6 @@ xor-not true true e = absurd (false≢true (sym e))
 xor-not true false e = refl
 xor-not false true e = refl
 xor-not false false e = absurd (false≢true e)
-
--- a bit that differs from another one is the other one
-xor-apart : (a b : Bool) → xor a b ≡ true → a ≡ not b
-xor-apart true true e = absurd (false≢true e)
-xor-apart true false e = refl
-xor-apart false true e = refl
-xor-apart false false e = absurd (false≢true e)
-
--- one that doesn't is the same
-xor-meet : (a b : Bool) → xor a b ≡ false → a ≡ b
-xor-meet true true e = refl
-xor-meet true false e = absurd (false≢true (sym e))
-xor-meet false true e = absurd (false≢true (sym e))
-xor-meet false false e = refl
 
 -- the other one's other one
 not-twice : (b : Bool) → not (not b) ≡ b
@@ -81,7 +67,7 @@ module _ (b : BacklogValue) (from : List Bool) (write : Write) (behind : IsBehin
 
     -- so it has the new value
     has : config_bit b.config write.address ≡ write.bit
-    has = xor-apart (config_bit b.config write.address) (config_bit from write.address) differed ∙ ap not other ∙ not-twice write.bit
+    has = xor-true (config_bit b.config write.address) (config_bit from write.address) differed ∙ ap not other ∙ not-twice write.bit
 
     -- so it was behind somewhere
     pub turn_waits : 0 < b.waiting
@@ -123,7 +109,7 @@ module _ (b : BacklogValue) (from : List Bool) (write : Write) (behind : IsBehin
 
     -- so it has the old value
     lacks : config_bit b.config write.address ≡ not write.bit
-    lacks = xor-meet (config_bit b.config write.address) (config_bit from write.address) agreed ∙ other
+    lacks = xor-false (config_bit b.config write.address) (config_bit from write.address) agreed ∙ other
 
     -- it does now
     differs_now : differs_at b.config (slice_set from write.address write.bit) write.address ≡ true
@@ -186,7 +172,7 @@ module _ (b : BacklogValue) (wanted : List Bool) (behind : IsBehind b wanted) (a
 
   -- the device has the other bit there
   has_other : config_bit b.config a ≡ not (config_bit wanted a)
-  has_other = xor-apart (config_bit b.config a) (config_bit wanted a) (behind.only a least.marked)
+  has_other = xor-true (config_bit b.config a) (config_bit wanted a) (behind.only a least.marked)
 
   -- so its other one is the wanted one
   wanted_bit : not (config_bit b.config a) ≡ config_bit wanted a

@@ -14,6 +14,7 @@ use Rattle.list_laws.proofs.Ranges.{of_range, in_range}
 use Rattle.aig_core.specs.Value.{xor}
 use Rattle.spec_core.specs.Differences.{config_bit, differs_at, write_of, differences}
 use Rattle.spec_core.proofs.MarkLemmas.{xor-false, xor-same}
+use Rattle.spec_core.proofs.WriteLemmas.{filter_none}
 
 -- one more element in front of the longer list, or of both
 longer : (b : Bool) (n : ℕ) (ms ns : List ℕ) → length ms ≡ suc (length ns) → length (cond b (n ∷ ms) ms) ≡ suc (length (cond b (n ∷ ns) ns))
@@ -118,18 +119,13 @@ no_differences from to same none = ext_get_or false from to same (λ a l. elim (
   | inr n ↦ xor-false (config_bit from a) (config_bit to a) n
 ])
 
--- a test that fails everywhere
-none_pass : (test : ℕ → Bool) (ns : List ℕ) → ((n : ℕ) → test n ≡ false) → filter test ns ≡ []
-none_pass test [] none = refl
-none_pass test (n ∷ ns) none = ap (λ b. cond b (n ∷ filter test ns) (filter test ns)) (none n) ∙ none_pass test ns none
-
 -- a configuration differs nowhere from itself
 pub differs_nowhere : (config : List Bool) (a : ℕ) → differs_at config config a ≡ false
 differs_nowhere config a = xor-same (config_bit config a) (config_bit config a) refl
 
 -- so it has no difference from itself
 pub no_own_differences : (config : List Bool) → length (differences config config) ≡ 0
-no_own_differences config = length-differences config config ∙ ap length (none_pass (differs_at config config) (range_with_len 0 (length config)) (differs_nowhere config))
+no_own_differences config = length-differences config config ∙ ap length (filter_none (differs_at config config) (range_with_len 0 (length config)) (differs_nowhere config))
 
 -- The first of two configurations takes the bit of the second at an address: they differ there no more, and elsewhere as before.
 module _ (from to : List Bool) (a : ℕ) where
@@ -217,7 +213,7 @@ pub written-next : (ws : List Write) (i : ℕ) (w : Write) (config : List Bool) 
 written-next ws i w config at = ap (written config) (take_get ws i w at) ∙ written-append (take i ws) (w ∷ []) config
 
 -- two bits that differ
-xor-true : (a b : Bool) → xor a b ≡ true → a ≡ not b
+pub xor-true : (a b : Bool) → xor a b ≡ true → a ≡ not b
 xor-true true true e = absurd (false≢true e)
 xor-true true false e = refl
 xor-true false true e = refl

@@ -2,13 +2,13 @@
 use Rattle.std.proofs.Common.{◌≡◌, ℕ, suc, ◌<◌, Bool, List, [], ◌∷◌, length, map, Some, Err, refl, sym, ap, ◌∙◌, subst, inl, inr, arith}
 use Rattle.std.specs.Prelude.{slice_get}
 use Rattle.std.proofs.lemmas.Option.{none-some, same_Some}
+use Rattle.list_laws.proofs.Apart.{apart_once}
 use Rattle.list_laws.proofs.Members.{place_in}
 use Rattle.list_laws.proofs.TwoLists.{item_there}
 use Rattle.list_laws.proofs.Places.{same_list}
 use Rattle.tl_text.specs.LineValue.{WordsLine, words_line}
 use Rattle.tl_text.specs.Lines.{lines_of}
 use Rattle.tl_text.specs.Once.{AreOnce}
-pub use Rattle.tl_text.proofs.NameSetLemmas.{one_place}
 use Rattle.tl_text.specs.Refusals.{refusal_of as text_refusal}
 use Rattle.tl_text.specs.declared.text_err.TextErr.{TextErr}
 use Rattle.tl_text.specs.declared.text_err.TextErr.TheVariants as text_err
@@ -31,7 +31,7 @@ same_param inputs once line p q a b =
     let e = same_Some _ _ (sym a.says ∙ b.says) in
     let names : p.name ≡ q.name = ap (λ (x : Entry). x.name) e in
     let inits : p.init ≡ q.init = ap (λ (x : Entry). x.init) e in
-    let places : p.input ≡ q.input = one_place inputs p.input q.input q.name once (a.input ∙ ap (λ n. Some n) names) b.input in
+    let places : p.input ≡ q.input = apart_once inputs p.input q.input q.name once (a.input ∙ ap (λ n. Some n) names) b.input in
     ap (λ n. param n p.input p.init) names ∙ ap (λ i. param q.name i p.init) places ∙ ap (λ v. param q.name q.input v) inits
 
 same_params : (inputs clocks : List (List ℕ)) → AreOnce inputs → (lines : List WordsLine) (params others : List Param) → AreParamsOf inputs clocks lines params → AreParamsOf inputs clocks lines others → params ≡ others

@@ -1,16 +1,17 @@
 -- The lines of a list are read one by one: the parameters of the lines so far, and the first line that has a refusal.
-use Rattle.std.proofs.Common.{◌≡◌, ℕ, zero, suc, ◌+◌, ◌<◌, ◌≤◌, List, [], ◌∷◌, ◌++◌, length, take, Option, Some, None, refl, sym, ap, ◌∙◌, subst, inl, inr, arith, length-append}
+use Rattle.std.proofs.Common.{◌≡◌, ℕ, ◌+◌, ◌<◌, ◌≤◌, List, [], ◌∷◌, ◌++◌, length, take, Option, Some, None, refl, sym, ap, ◌∙◌, subst, inl, inr, arith, length-append}
 use Rattle.std.specs.Prelude.{slice_get}
 use Rattle.std.specs.Option.{option_and_then}
 use Rattle.std.proofs.lemmas.Bool.{cases_lt}
 use Rattle.std.proofs.lemmas.List.{length-map, map-append}
 use Rattle.std.proofs.lemmas.Option.{none-some, same_Some, slice_get_past}
+use Rattle.list_laws.proofs.Apart.{pushed_apart}
 use Rattle.list_laws.proofs.Members.{In-push}
 use Rattle.list_laws.proofs.Places.{get_pushed, take_get}
 use Rattle.tl_text.specs.Clean.{IsClean}
 use Rattle.tl_text.specs.LineValue.{WordsLine}
 use Rattle.tl_text.specs.Once.{AreOnce}
-use Rattle.tl_text.proofs.NameLemmas.{not_there, once_push}
+use Rattle.tl_text.proofs.NameLemmas.{not_there}
 use Rattle.param_list.specs.declared.params.Param.{Param}
 use Rattle.param_list.specs.declared.par_err.ParErr.{ParErr}
 use Rattle.param_list.specs.Parameters.{param_names, AreNamed}
@@ -70,7 +71,7 @@ module _ (inputs clocks : List (List ℕ)) (lines : List WordsLine) where
             let l : length (params ++ p ∷ []) ≡ length params + 1 = length-append params (p ∷ []) in omega arith);
         short = λ q j. elim (In-push params p q j) [ inl o ↦ read.named.short q o | inr e ↦ subst (λ (r : Param). length r.name ≤ 65535) (sym e) (is_short inputs clocks (param_names params) line.number p.name p.init said) ];
         clean = λ q j. elim (In-push params p q j) [ inl o ↦ read.named.clean q o | inr e ↦ subst (λ (r : Param). IsClean r.name) (sym e) clean ];
-        once = subst AreOnce (sym (param_names-push params p)) (once_push (param_names params) p.name read.named.once (not_there (param_names params) p.name (is_new inputs clocks (param_names params) line.number p.name p.init said)));
+        once = subst AreOnce (sym (param_names-push params p)) (pushed_apart (param_names params) p.name read.named.once (not_there (param_names params) p.name (is_new inputs clocks (param_names params) line.number p.name p.init said)));
       }
 
       pub one_more : AreRead inputs clocks lines (i + 1) (params ++ p ∷ [])

@@ -1,18 +1,18 @@
 -- The places of the inputs that aren't parameters, and the inputs as those that are left and the parameters.
-use Rattle.std.proofs.Common.{◌≡◌, ℕ, ◌+◌, ◌<◌, ◌≤◌, Bool, true, false, not, List, [], ◌∷◌, ◌++◌, length, map, Some, refl, sym, ap, ◌∙◌, subst, inl, inr, arith}
-use Rattle.std.specs.Prelude.{filter, slice_get}
+use Rattle.std.proofs.Common.{◌≡◌, ℕ, ◌+◌, ◌<◌, ◌≤◌, Bool, true, false, not, List, ◌++◌, length, map, Some, refl, sym, ap, ◌∙◌, subst, inl, inr, arith}
+use Rattle.std.specs.Prelude.{slice_get}
 use Rattle.std.specs.Option.{option_map}
-use Rattle.std.proofs.lemmas.Bool.{both_ways, cases_Bool, cond-true, cond-false, not-true, not_from_false}
+use Rattle.std.proofs.lemmas.Bool.{both_ways, cases_Bool, not-true, not_from_false}
 use Rattle.std.proofs.lemmas.List.{length-map}
 use Rattle.std.proofs.lemmas.Option.{same_Some, slice_get-map, slice_get_within}
 use Rattle.list_laws.specs.Members.{In}
 use Rattle.list_laws.proofs.Members.{In-get, In-map, In-append, In-left, In-right, In-filter, in_filter, from_map}
 use Rattle.list_laws.proofs.Places.{at_within}
 use Rattle.tl_text.specs.Once.{AreOnce}
-use Rattle.tl_text.proofs.NameSetLemmas.{has_in, in_has, names_apart, apart_names, one_place}
+use Rattle.tl_text.proofs.NameSetLemmas.{has_in, in_has}
 use Rattle.netlist.specs.FlatValue.{FlatValue}
 use Rattle.netlist.specs.Models.{has_name}
-use Rattle.list_laws.proofs.Apart.{AreApart, joined_apart, filtered_apart, apart_short}
+use Rattle.list_laws.proofs.Apart.{AreApart, apart_once, joined_apart, filtered_apart, apart_short}
 use Rattle.param_list.specs.declared.params.Param.{Param}
 use Rattle.param_list.specs.Parameters.{param_names, regular_names, AreParameters, IsSplit}
 use Rattle.param_list.specs.RegularPlaces.{IsFree, AreRegularPlaces}
@@ -54,7 +54,7 @@ module _ (flat : FlatValue) (params : List Param) (once : AreOnce flat.inputs) (
       let x = at_within inputs i l in
       elim (cases_Bool (has_name names x.0)) [
         | inl t ↦ (let r = param_of x.0 t in
-            absurd (free r.0 r.1 (one_place inputs r.0.input i x.0 once (are.inputs r.0 r.1 ∙ ap (λ n. Some n) (sym r.2)) x.1)))
+            absurd (free r.0 r.1 (apart_once inputs r.0.input i x.0 once (are.inputs r.0 r.1 ∙ ap (λ n. Some n) (sym r.2)) x.1)))
         | inr f ↦ mark_at i x.0 x.1 ∙ ap (λ b. Some b) f
       ]
 
@@ -86,7 +86,7 @@ module _ (flat : FlatValue) (params : List Param) (once : AreOnce flat.inputs) (
   is_left name = not (has_name names name)
 
   both_apart : AreApart both
-  both_apart = joined_apart regular names (filtered_apart is_left inputs (names_apart inputs once)) (names_apart names (are.named).once)
+  both_apart = joined_apart regular names (filtered_apart is_left inputs once) (are.named).once
       (λ name i j. both_ways (has_name names name) (not-true (has_name names name) (In-filter is_left inputs name i).1) (in_has names name j))
 
   only_inputs : (name : List ℕ) → In both name → In inputs name
@@ -103,9 +103,9 @@ module _ (flat : FlatValue) (params : List Param) (once : AreOnce flat.inputs) (
 
   pub is_split : IsSplit flat params
   is_split = record {
-    once = apart_names both both_apart;
+    once = both_apart;
     count = (let a : length both ≤ length inputs = apart_short both inputs both_apart only_inputs in
-        let b : length inputs ≤ length both = apart_short inputs both (names_apart inputs once) all_inputs in omega arith);
+        let b : length inputs ≤ length both = apart_short inputs both once all_inputs in omega arith);
     only = only_inputs;
     all = all_inputs;
   }

@@ -2,7 +2,7 @@
 use Rattle.std.proofs.Common.{◌≡◌, ℕ, suc, ◌-◌, ◌*◌, ◌/◌, ◌<◌, ◌≤◌, Bool, true, false, not, ◌||◌, cond, ltb, leb, eqb, bytes_eq, List, [], ◌∷◌, ◌++◌, length, take, drop, Result, Ok, Err, refl, sym, ap, subst, arith, inl, inr, eqb-true}
 use Rattle.std.specs.Int.{w16, w32, to_be_bytes}
 use Rattle.std.specs.List.{list_any}
-use Rattle.std.proofs.lemmas.Bool.{ltb-false, leb-false, eqb-false, cases_Bool, or_parts}
+use Rattle.std.proofs.lemmas.Bool.{ltb-false, leb-false, eqb-false, cases_Bool, or_parts, not-false}
 use Rattle.std.proofs.lemmas.List.{length-take}
 use Rattle.std.proofs.lemmas.Slice.Eq.{bytes_eq-Decides}
 use Rattle.list_laws.specs.Members.{In}
@@ -31,16 +31,12 @@ module _ (total : ℕ) where
       let count : length (take n bytes) ≡ n = omega (arith, length-take n bytes) in
       subst (λ (p : List ℕ × List ℕ). Takes bytes p.0 p.1 × (length p.0 ≡ n)) g.1 (front_taken n bytes fits, count)
 
-  not_false : (b : Bool) → not b ≡ false → b ≡ true
-  not_false true h = refl
-  not_false false h = sym h
-
   pub magic_takes : (bytes : List ℕ) (y : List ℕ × List ℕ) → IsBytes bytes → magic_at total bytes ≡ Ok y → Takes bytes magic y.1
   magic_takes bytes y fits e =
       let x = bind_ok (bytes_at total 4 bytes) (if_magic (offset total bytes)) y e in
       let t = bytes_takes 4 bytes x.0 fits x.1 in
       let m = guard_ok (not (bytes_eq x.0.0 magic)) (refused.Magic (offset total bytes)) x.0 y x.2 in
-      let is : x.0.0 ≡ magic = (bytes_eq-Decides x.0.0 magic).0 (not_false (bytes_eq x.0.0 magic) m.0) in
+      let is : x.0.0 ≡ magic = (bytes_eq-Decides x.0.0 magic).0 (not-false (bytes_eq x.0.0 magic) m.0) in
       subst (λ (b : List ℕ). Takes bytes b y.1) is (subst (λ (p : List ℕ × List ℕ). Takes bytes x.0.0 p.1) m.1 t.0)
 
   version_by_ok : (at : ℕ) (x : ℕ × List ℕ) (y : Version × List ℕ) → version_by at x ≡ Ok y → (x.0 ≡ version_number y.0) × (x.1 ≡ y.1)

@@ -2,7 +2,7 @@
 use Rattle.std.proofs.Common.{◌≡◌, ℕ, ◌-◌, ◌*◌, ◌/◌, ◌<◌, ◌≤◌, Bool, true, false, ◌||◌, cond, ltb, leb, eqb, List, [], ◌∷◌, ◌++◌, length, Ok, Err, refl, ap, ◌∙◌, append_assoc, arith, length-append}
 use Rattle.std.specs.Int.{w16, w32, to_be_bytes}
 use Rattle.std.specs.List.{list_any}
-use Rattle.std.proofs.lemmas.Bool.{le-ltb, lt-leb, or_from}
+use Rattle.std.proofs.lemmas.Bool.{le-ltb, lt-leb, or_from, ne_eqb}
 use Rattle.std.proofs.lemmas.List.{take_at, drop_at}
 use Rattle.aig_core.specs.Aig.{IsNormal}
 use Rattle.aig_core.specs.And.{is_pair}
@@ -18,7 +18,7 @@ use Rattle.ppc_file.specs.Numbers.{Field, ◌>>=◌, offset, spelled, unless_ove
 use Rattle.ppc_file.specs.Bytes.{magic, version_number, bit_byte, param_bytes, node_bytes, bit_bytes}
 use Rattle.ppc_file.specs.Fields.{bytes_at, if_magic, magic_at, version_by, version_at, if_some, name_length_at, is_bad_name, if_good_name, name_at, value_at, with_name, value_behind, name_behind, param_at, pair, higher_behind, lower_behind, fan_ins_at, is_bad_pair, if_new_pair, node_at, if_literal, bit_at}
 use Rattle.ppc_file.proofs.NumberLemmas.{unless_again, number_again, wide16, wide32}
-use Rattle.ppc_file.proofs.NameRules.{clean_again, eqb_off}
+use Rattle.ppc_file.proofs.NameRules.{clean_again}
 use Rattle.ppc_file.proofs.FieldTakes.{IsNextParam, IsNextNode}
 
 module _ (total : ℕ) where
@@ -45,7 +45,7 @@ module _ (total : ℕ) where
   length_again : (v : Version) (n : ℕ) (rest : List ℕ) → 1 ≤ n → n ≤ MOST_NAME_BYTES → name_length_at total v (spelled v w16 n ++ rest) ≡ Ok (n, rest)
   length_again v n rest some short =
       ap (λ (f : Field ℕ). f >>= if_some (offset total (spelled v w16 n ++ rest))) (count16_again v MOST_NAME_BYTES (refused.BadName (offset total (spelled v w16 n ++ rest))) n rest short (omega arith))
-      ∙ ap (λ (b : Bool). cond b (Err (refused.BadName (offset total (spelled v w16 n ++ rest)))) (Ok (n, rest))) (eqb_off n 0 (λ e. absurd (omega arith)))
+      ∙ ap (λ (b : Bool). cond b (Err (refused.BadName (offset total (spelled v w16 n ++ rest)))) (Ok (n, rest))) (ne_eqb n 0 (λ e. absurd (omega arith)))
 
   name_again : (earlier : List (List ℕ)) (name rest : List ℕ) → is_bad_name earlier name ≡ false → name_at total earlier (length name) (name ++ rest) ≡ Ok (name, rest)
   name_again earlier name rest good =
@@ -77,7 +77,7 @@ module _ (total : ℕ) where
       let below : p.y.0 / 2 < node = normal.below in
       or_from (ltb p.x.0 2) (leb p.y.0 p.x.0 || (eqb (p.x.0 / 2) (p.y.0 / 2) || leb node (p.y.0 / 2))) (le-ltb p.x.0 2 low)
       (or_from (leb p.y.0 p.x.0) (eqb (p.x.0 / 2) (p.y.0 / 2) || leb node (p.y.0 / 2)) (lt-leb p.y.0 p.x.0 (omega arith))
-      (or_from (eqb (p.x.0 / 2) (p.y.0 / 2)) (leb node (p.y.0 / 2)) (eqb_off (p.x.0 / 2) (p.y.0 / 2) (λ e. absurd (omega arith))) (lt-leb node (p.y.0 / 2) below)))
+      (or_from (eqb (p.x.0 / 2) (p.y.0 / 2)) (leb node (p.y.0 / 2)) (ne_eqb (p.x.0 / 2) (p.y.0 / 2) (λ e. absurd (omega arith))) (lt-leb node (p.y.0 / 2) below)))
 
   fan_ins_again : (v : Version) (node : ℕ) (p : Pair) (rest : List ℕ) → IsNormal node p → node < 2147483648 → fan_ins_at total v node (node_bytes v node p ++ rest) ≡ Ok (p, rest)
   fan_ins_again One node p rest normal small =

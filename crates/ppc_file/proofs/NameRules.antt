@@ -1,7 +1,7 @@
 -- The names that the test of a name passes are the clean ones that are new.
-use Rattle.std.proofs.Common.{◌≡◌, ℕ, ◌≤◌, Bool, true, false, not, ◌||◌, ◌&&◌, eqb, ltb, List, [], ◌∷◌, length, Option, Some, None, refl, sym, ap, subst, inl, inr, arith, eqb-true}
+use Rattle.std.proofs.Common.{◌≡◌, ℕ, ◌≤◌, Bool, true, false, not, ◌||◌, ◌&&◌, eqb, ltb, List, [], ◌∷◌, length, None, refl, sym, subst, inl, inr, arith}
 use Rattle.std.specs.List.{list_any}
-use Rattle.std.proofs.lemmas.Bool.{both_ways, or_parts, or_from, cases_Bool, ltb-false, le-ltb, eqb-false}
+use Rattle.std.proofs.lemmas.Bool.{both_ways, or_parts, or_from, cases_Bool, ltb-false, le-ltb, eqb-false, ne_eqb}
 use Rattle.list_laws.specs.Members.{In}
 use Rattle.tl_text.specs.NameIndex.{place_of}
 use Rattle.tl_text.specs.NameSets.{has_name}
@@ -11,9 +11,6 @@ use Rattle.tl_text.specs.Tokens.{is_blank}
 use Rattle.tl_text.proofs.NameLemmas.{not_there}
 use Rattle.tl_text.proofs.NameSetLemmas.{has_in, place_none}
 use Rattle.ppc_file.specs.Fields.{is_bad_byte, is_bad_name}
-
-pub eqb_off : (a b : ℕ) → (a ≡ b → ⊥) → eqb a b ≡ false
-eqb_off a b h = elim (cases_Bool (eqb a b)) [ inl t ↦ absurd (h (eqb-true a b t)) | inr f ↦ f ]
 
 -- a test that no element passes
 none_in : {A : Type 0} (test : A → Bool) (xs : List A) (x : A) → list_any test xs ≡ false → In xs x → test x ≡ false
@@ -38,15 +35,15 @@ good_byte b h =
     record { low = ltb-false b 33 p.0; no_comment = eqb-false b 35 q.0; no_delete = eqb-false b 127 q.1 }
 
 good_again : (b : ℕ) → 33 ≤ b → (b ≡ 35 → ⊥) → (b ≡ 127 → ⊥) → is_bad_byte b ≡ false
-good_again b low comment delete = or_from (ltb b 33) (eqb b 35 || eqb b 127) (le-ltb b 33 low) (or_from (eqb b 35) (eqb b 127) (eqb_off b 35 comment) (eqb_off b 127 delete))
+good_again b low comment delete = or_from (ltb b 33) (eqb b 35 || eqb b 127) (le-ltb b 33 low) (or_from (eqb b 35) (eqb b 127) (ne_eqb b 35 comment) (ne_eqb b 127 delete))
 
 no_blank : (b : ℕ) → IsGood b → is_blank b ≡ false
-no_blank b g = or_from (eqb b 32) (eqb b 9) (eqb_off b 32 (λ e. let l = g.low in absurd (omega arith))) (eqb_off b 9 (λ e. let l = g.low in absurd (omega arith)))
+no_blank b g = or_from (eqb b 32) (eqb b 9) (ne_eqb b 32 (λ e. let l = g.low in absurd (omega arith))) (ne_eqb b 9 (λ e. let l = g.low in absurd (omega arith)))
 
 no_bad : (b : ℕ) → IsGood b → is_bad b ≡ false
 no_bad b g =
     let low : ltb b 32 ≡ false = le-ltb b 32 (let l = g.low in omega arith) in
-    or_from (ltb b 32 && not (eqb b 9)) (eqb b 127) (rw low refl) (eqb_off b 127 g.no_delete)
+    or_from (ltb b 32 && not (eqb b 9)) (eqb b 127) (rw low refl) (ne_eqb b 127 g.no_delete)
 
 -- a byte that is no blank, no bad one and no comment's
 clean_low : (b : ℕ) → is_blank b ≡ false → is_bad b ≡ false → 33 ≤ b

@@ -1,7 +1,7 @@
 -- What the readers of a file's parts are compared with: refusals, new names, and new pairs of a graph.
 use Rattle.std.proofs.Common.{◌≡◌, ℕ, ◌+◌, ◌*◌, ◌/◌, ◌<◌, ◌≤◌, Bool, true, false, ◌||◌, List, [], ◌∷◌, ◌++◌, length, replicate, min, max, Option, Some, None, Ok, Err, refl, sym, ap, subst, ◌∙◌, arith, inl, inr, cond}
 use Rattle.std.specs.List.{list_any, position}
-use Rattle.std.proofs.lemmas.Bool.{cases_Bool}
+use Rattle.std.proofs.lemmas.Bool.{cases_Bool, ne_eqb}
 use Rattle.std.proofs.lemmas.List.{length-replicate}
 use Rattle.std.proofs.lemmas.List.Quantifiers.{position-Some}
 use Rattle.list_laws.proofs.FirstPlace.{position_none, list_any-position_none}
@@ -24,7 +24,7 @@ use Rattle.ppc_file.specs.PackFile.{IsPackFault}
 use Rattle.ppc_file.specs.Reading.{StandsAt}
 use Rattle.ppc_file.specs.Refusals.{refusal_of}
 use Rattle.ppc_file.proofs.FieldTakes.{param_takes}
-use Rattle.ppc_file.proofs.NameRules.{eqb_off, new_place}
+use Rattle.ppc_file.proofs.NameRules.{new_place}
 use Rattle.ppc_file.proofs.NumberLemmas.{IsBytes}
 use Rattle.ppc_file.proofs.StandLemmas.{rest_bytes, stands_param, stands_node, stands_bit, no_param, no_node, no_bit}
 
@@ -44,7 +44,7 @@ module _ (g : Aig) (p : Pair) (normal : IsNormal (node_count g) p) where
       let order : p.x.0 / 2 < p.y.0 / 2 = normal.ordered in
       let least : min p.x.0 p.y.0 ≡ p.x.0 = omega arith in
       let most : max p.x.0 p.y.0 ≡ p.y.0 = omega arith in
-      rw (least, most) (rw (eqb_off p.x.0 0 (λ e. absurd (omega arith)), eqb_off p.x.0 1 (λ e. absurd (omega arith)), eqb_off p.x.0 p.y.0 (λ e. absurd (omega arith)), eqb_off (p.x.0 / 2) (p.y.0 / 2) (λ e. absurd (omega arith))) refl)
+      rw (least, most) (rw (ne_eqb p.x.0 0 (λ e. absurd (omega arith)), ne_eqb p.x.0 1 (λ e. absurd (omega arith)), ne_eqb p.x.0 p.y.0 (λ e. absurd (omega arith)), ne_eqb (p.x.0 / 2) (p.y.0 / 2) (λ e. absurd (omega arith))) refl)
 
   -- it is made where its literal is that of the next node
   pub record IsMade : Type 0 where

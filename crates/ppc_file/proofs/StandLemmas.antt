@@ -11,7 +11,7 @@ use Rattle.list_laws.proofs.FirstPlace.{position_none}
 use Rattle.list_laws.proofs.Members.{In-push}
 use Rattle.tl_text.specs.Clean.{IsClean}
 use Rattle.tl_text.specs.Once.{AreOnce}
-use Rattle.tl_text.proofs.NameLemmas.{once_push}
+use Rattle.list_laws.proofs.Apart.{pushed_apart}
 use Rattle.aig_core.specs.And.{is_pair}
 use Rattle.aig_core.specs.declared.lit.Lit.{Lit}
 use Rattle.aig_core.specs.declared.lit.Pair.{Pair}
@@ -82,7 +82,7 @@ module _ (bytes : List ℕ) (fits : IsBytes bytes) where
     few = omega (arith, length-append params (p ∷ []));
     short = λ q i. elim (In-push params p q i) [ inl old ↦ are.short q old | inr new ↦ subst (λ (r : PackParam). length r.name ≤ MOST_NAME_BYTES) (sym new) next.short ];
     clean = λ q i. elim (In-push params p q i) [ inl old ↦ are.clean q old | inr new ↦ subst (λ (r : PackParam). IsClean r.name) (sym new) next.clean ];
-    once = subst AreOnce (sym (map-append (λ (r : PackParam). r.name) params (p ∷ []))) (once_push (names_of_params params) p.name are.once next.new);
+    once = subst AreOnce (sym (map-append (λ (r : PackParam). r.name) params (p ∷ []))) (pushed_apart (names_of_params params) p.name are.once next.new);
   }
 
   pub stands_param : (v : Version) (count : ℕ) (params : List PackParam) (rest : List ℕ) (y : PackParam × List ℕ) → StandsAt bytes (in_params v count params) rest → length params < count

@@ -3,7 +3,7 @@ mod StoreLemmas
 mod LeastLemmas
 mod SweepLemmas
 pub mod AssignLemmas
-mod WriteLemmas
+pub mod WriteLemmas
 mod ChangeLemmas
 mod KeepLemmas
 mod EventsExample

@@ -31,7 +31,7 @@ filter_ascends test (suc count) from = choose IsAscending (test from) (from ∷ 
     (λ f. filter_ascends test count (from + 1))
 
 -- a filter by a test that fails everywhere
-filter_none : (test : ℕ → Bool) (xs : List ℕ) → ((x : ℕ) → test x ≡ false) → filter test xs ≡ []
+pub filter_none : (test : ℕ → Bool) (xs : List ℕ) → ((x : ℕ) → test x ≡ false) → filter test xs ≡ []
 filter_none test [] none = refl
 filter_none test (x ∷ xs) none = ap (λ b. cond b (x ∷ filter test xs) (filter test xs)) (none x) ∙ filter_none test xs none
 

@@ -2,6 +2,10 @@
 use Rattle.std.proofs.Common.{◌≡◌, Option, Some, None, subst}
 use Rattle.tl_fault.specs.OrMemory.{Unless, OrMemory}
 
+pub Unless-of : {R P : Type 0} (refusal : Option R) → P → Unless refusal P
+Unless-of None p = tt
+Unless-of (Some r) p = p
+
 pub Unless-map : {R : Type 0} (refusal : Option R) (P Q : Type 0) → (P → Q) → Unless refusal P → Unless refusal Q
 Unless-map None P Q f h = tt
 Unless-map (Some r) P Q f h = f h

@@ -1,6 +1,7 @@
 -- Texts that are added to a writer one after another, and the writer's end.
-use Rattle.std.proofs.Common.{◌≡◌, ◌⊎◌, inl, inr, ℕ, ◌≤◌, Bool, true, false, List, [], ◌++◌, Result, Ok, Err, is_err, refl, sym, ap, subst, ◌∙◌, arith}
+use Rattle.std.proofs.Common.{◌≡◌, ◌⊎◌, inl, inr, ℕ, ◌≤◌, true, false, List, [], ◌++◌, Result, Ok, Err, is_err, refl, sym, ap, subst, ◌∙◌, arith}
 use Rattle.std.specs.Borrow.{MutBor}
+use Rattle.std.proofs.lemmas.Bool.{cases_Bool}
 use Rattle.tl_io.specs.Sink.{SinkSeen, IsPut}
 use Rattle.tl_io.proofs.PutLemmas.{rose_late, rose_early, cause_late}
 use Rattle.tl_piece.specs.Added.{IsNew, Grows, waits, cut, stays, IsAdded, IsFinished}
@@ -37,18 +38,13 @@ added_as {seen = seen} {old = old} {new = new} e a = subst (λ (t : List ℕ). I
 pub added_to : {O : Type 0} {seen : O → SinkSeen} {old mid new : Writer O} {text more whole : List ℕ} → text ++ more ≡ whole → IsAdded seen old text mid → IsAdded seen mid more new → IsAdded seen old whole new
 added_to e a b = added_as e (added_twice a b)
 
--- a flag is set or not
-set_or_not : (flag : Bool) → (flag ≡ true) ⊎ (flag ≡ false)
-set_or_not true = inl refl
-set_or_not false = inr refl
-
 -- nothing is added
 none_grows : {O : Type 0} (seen : O → SinkSeen) (w : Writer O) → (w.failed ≡ true) ⊎ (w.failed ≡ false) → Grows seen w [] w
 none_grows seen w (inl set) = stays set set refl
 none_grows seen w (inr clear) = waits clear clear (adds_none _ _)
 
 pub added_none : {O : Type 0} (seen : O → SinkSeen) (w : Writer O) → IsAdded seen w [] w
-added_none seen w = record { name = refl; grows = none_grows seen w (set_or_not w.failed); later = omega arith; through = refl; others = refl }
+added_none seen w = record { name = refl; grows = none_grows seen w (cases_Bool w.failed); later = omega arith; through = refl; others = refl }
 
 -- a text that waits behind what waited
 behind_grows : {O : Type 0} (seen : O → SinkSeen) (old new : Writer O) (more : List ℕ) → new.failed ≡ old.failed → new.piece.now ≡ old.piece.now ++ more → (seen new.out.now).bytes ≡ (seen old.out.now).bytes
@@ -61,7 +57,7 @@ added_behind {O = O} seen old new more out same e =
     let there : seen new.out.now ≡ seen old.out.now = ap (λ (b : MutBor O). seen b.now) out in
     record {
       name = ap (λ (b : MutBor O). b.ghost_name) out;
-      grows = behind_grows seen old new more same e (ap (λ (s : SinkSeen). s.bytes) there) (set_or_not old.failed);
+      grows = behind_grows seen old new more same e (ap (λ (s : SinkSeen). s.bytes) there) (cases_Bool old.failed);
       later = omega (arith, ap (λ (s : SinkSeen). s.faults) there);
       through = ap (λ (s : SinkSeen). s.through) there;
       others = ap (λ (s : SinkSeen). s.others) there;
@@ -91,7 +87,7 @@ room_made seen old mid new result (inr clear) f name there empty failed =
 pub added_room : {O E : Type 0} {seen : O → SinkSeen} {old mid new : Writer O} (result : Result Unit E) → IsFinished seen old mid result → new.out ≡ mid.out → new.piece.now ≡ [] → new.failed ≡ is_err result
     → IsAdded seen old [] new
 added_room {O = O} {seen = seen} {old = old} {mid = mid} {new = new} result f out empty failed =
-    room_made seen old mid new result (set_or_not old.failed) f (ap (λ (b : MutBor O). b.ghost_name) out) (ap (λ (b : MutBor O). seen b.now) out) empty failed
+    room_made seen old mid new result (cases_Bool old.failed) f (ap (λ (b : MutBor O). b.ghost_name) out) (ap (λ (b : MutBor O). seen b.now) out) empty failed
 
 -- a text that was added to a new writer, and then what waited was put: the text was put
 put_by : {O E : Type 0} (seen : O → SinkSeen) (was mid is : Writer O) (text : List ℕ) (result : Result Unit E) → was.failed ≡ false → was.piece.now ≡ [] → IsFinished seen mid is result

@@ -7,7 +7,7 @@ use Rattle.std.proofs.lemmas.Bool.{cases_Bool, cond-true, cond-false}
 use Rattle.std.proofs.lemmas.Bool.{both_ways, or_parts}
 use Rattle.std.proofs.lemmas.Slice.Eq.{bytes_eq-Decides}
 use Rattle.list_laws.specs.Members.{In}
-use Rattle.list_laws.proofs.Members.{In-append}
+use Rattle.list_laws.proofs.Apart.{pushed_apart}
 use Rattle.list_laws.proofs.FirstPlace.{list_any-position_none}
 use Rattle.tl_text.specs.NameIndex.{place_of}
 use Rattle.tl_text.specs.NameSets.{has_name, with_name}
@@ -30,19 +30,11 @@ not_there [] name h i = i
 not_there (y ∷ ys) name h (inl e) = both_ways (bytes_eq name y) (or_parts (bytes_eq name y) (list_any (bytes_eq name) ys) h).0 ((bytes_eq-Decides name y).1 e)
 not_there (y ∷ ys) name h (inr i) = not_there ys name (or_parts (bytes_eq name y) (list_any (bytes_eq name) ys) h).1 i
 
--- one more name, which isn't there
-pub once_push : (names : List (List ℕ)) (name : List ℕ) → AreOnce names → (In names name → ⊥) → AreOnce (names ++ name ∷ [])
-once_push [] name once apart = (λ i. i, tt)
-once_push (y ∷ ys) name once apart = (
-  λ i. elim (In-append ys (name ∷ []) y i) [ inl a ↦ once.0 a | inr b ↦ elim b [ inl e ↦ apart (inl (sym e)) | inr c ↦ c ] ],
-  once_push ys name once.1 (λ i. apart (inr i)),
-)
-
 -- the names after one is inserted
 with_one : (names : List (List ℕ)) (name : List ℕ) → AreOnce names → AreOnce (with_name names name)
 with_one names name once = elim (cases_Bool (has_name names name)) [
   | inl t ↦ subst AreOnce (sym (cond-true (has_name names name) names (names ++ name ∷ []) t)) once
-  | inr f ↦ subst AreOnce (sym (cond-false (has_name names name) names (names ++ name ∷ []) f)) (once_push names name once (not_there names name f))
+  | inr f ↦ subst AreOnce (sym (cond-false (has_name names name) names (names ++ name ∷ []) f)) (pushed_apart names name once (not_there names name f))
 ]
 
 -- and a new one stands behind the others

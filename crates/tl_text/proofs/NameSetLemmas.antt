@@ -8,7 +8,6 @@ use Rattle.std.proofs.lemmas.Option.{none-some, same_Some, cond_some}
 use Rattle.std.proofs.lemmas.List.Folds.{find_at, list_any-append}
 use lib.Pointwise.{bytes_decides}
 use Rattle.list_laws.specs.Members.{In}
-use Rattle.list_laws.proofs.Apart.{AreApart, apart_once, joined_apart, filtered_apart}
 use Rattle.list_laws.proofs.FirstPlace.{position_none, list_any-position_none}
 use Rattle.list_laws.proofs.Places.{at_within}
 use Rattle.tl_text.specs.NameIndex.{place_of}
@@ -24,26 +23,6 @@ pub in_has : (names : List (List ℕ)) (name : List ℕ) → In names name → h
 in_has [] name i = absurd i
 in_has (n ∷ names) name (inl e) = or_left (bytes_eq name n) (has_name names name) ((bytes_decides name n).1 e)
 in_has (n ∷ names) name (inr i) = or_right (bytes_eq name n) (has_name names name) (in_has names name i)
-
--- names of which none stands twice are a list in which nothing does
-pub names_apart : (names : List (List ℕ)) → AreOnce names → AreApart names
-names_apart [] once = tt
-names_apart (name ∷ names) once = (once.0, names_apart names once.1)
-
-pub apart_names : (names : List (List ℕ)) → AreApart names → AreOnce names
-apart_names [] apart = tt
-apart_names (name ∷ names) apart = (apart.0, apart_names names apart.1)
-
--- so a name has one place
-pub one_place : (names : List (List ℕ)) (i j : ℕ) (name : List ℕ) → AreOnce names → slice_get names i ≡ Some name → slice_get names j ≡ Some name → i ≡ j
-one_place names i j name once = apart_once names i j name (names_apart names once)
-
--- names of two lists that have none in common, and those that pass a test
-pub once_both : (xs ys : List (List ℕ)) → AreOnce xs → AreOnce ys → ((name : List ℕ) → In xs name → In ys name → ⊥) → AreOnce (xs ++ ys)
-once_both xs ys a b apart = apart_names (xs ++ ys) (joined_apart xs ys (names_apart xs a) (names_apart ys b) apart)
-
-pub once_filter : (test : List ℕ → Bool) (names : List (List ℕ)) → AreOnce names → AreOnce (filter test names)
-once_filter test names once = apart_names (filter test names) (filtered_apart test names (names_apart names once))
 
 -- a name has a place exactly where it is among the names
 some_when : {A : Type 0} (o : Option A) (b : Bool) → (b ≡ false → o ≡ None) → (o ≡ None → b ≡ false) → is_some o ≡ b

@@ -1,5 +1,6 @@
 -- The tokens of bytes are exactly their runs.
-use Rattle.std.proofs.Common.{◌≡◌, ℕ, zero, suc, ◌+◌, ◌<◌, ◌≤◌, Bool, true, false, not, List, [], ◌∷◌, length, map, get_or, refl, sym, ap, subst, ◌∙◌, inl, inr, arith}
+use Rattle.std.proofs.Common.{◌≡◌, ℕ, zero, suc, ◌+◌, ◌<◌, ◌≤◌, Bool, true, false, List, [], ◌∷◌, length, map, get_or, refl, sym, ap, subst, ◌∙◌, inl, inr, arith}
+use Rattle.std.proofs.lemmas.Bool.{not-true, not-false}
 use Rattle.list_laws.specs.Members.{In}
 use Rattle.list_laws.proofs.Members.{In-map}
 use Rattle.list_laws.proofs.Choice.{choose}
@@ -58,25 +59,17 @@ lengthen_run b bs first past dark e given =
       behind = λ l. r.behind (omega arith);
     }
 
-choose_not : (b : Bool) → not b ≡ true → b ≡ false
-choose_not true h = absurd (let e : ⊥ = cc in e)
-choose_not false h = refl
-
 begins : (bs : List ℕ) → begins_run bs ≡ true → is_blank (get_or bs 0 0) ≡ false
 begins [] h = absurd (let e : ⊥ = cc in e)
-begins (b ∷ bs) h = choose_not (is_blank b) h
+begins (b ∷ bs) h = not-true (is_blank b) h
 
 begins_some : (bs : List ℕ) → begins_run bs ≡ true → 0 < length bs
 begins_some [] h = absurd (let e : ⊥ = cc in e)
 begins_some (b ∷ bs) h = omega arith
 
-choose_no : (b : Bool) → not b ≡ false → b ≡ true
-choose_no true h = refl
-choose_no false h = absurd (let e : ⊥ = cc in e)
-
 stops : (bs : List ℕ) → begins_run bs ≡ false → 0 < length bs → is_blank (get_or bs 0 0) ≡ true
 stops [] h l = absurd (omega arith)
-stops (b ∷ bs) h l = choose_no (is_blank b) h
+stops (b ∷ bs) h l = not-false (is_blank b) h
 
 no_first_run : {A : Type 0} (bs : List ℕ) (first past : ℕ) → begins_run bs ≡ false → IsRun bs first past → first ≡ 0 → A
 no_first_run bs first past ends given e =
@@ -215,7 +208,7 @@ record Begins (at : ℕ) (tokens : List Token) : Type 0 where
 begins_token : (at : ℕ) (bs : List ℕ) → begins_run bs ≡ true → Begins at (tokens_at at bs)
 begins_token at [] h = absurd (let e : ⊥ = cc in e)
 begins_token at (b ∷ bs) h =
-    choose (Begins at) (is_blank b) _ _ (λ blank. true_false (is_blank b) blank (choose_not (is_blank b) h))
+    choose (Begins at) (is_blank b) _ _ (λ blank. true_false (is_blank b) blank (not-true (is_blank b) h))
     (λ _. choose (Begins at) (begins_run bs) (lengthened at (tokens_at (at + 1) bs)) (token_of at (at + 1) ∷ tokens_at (at + 1) bs)
     (λ runs. let b : Begins (at + 1) (tokens_at (at + 1) bs) = begins_token (at + 1) bs runs in record { first = token_of at b.first.end; rest = b.rest; is = ap (lengthened at) b.is; start = refl })
     (λ _. record { first = token_of at (at + 1); rest = tokens_at (at + 1) bs; is = refl; start = refl }))

@@ -2,7 +2,7 @@
 use Rattle.std.proofs.Common.{◌≡◌, ◌≢◌, ℕ, zero, suc, ◌+◌, ◌-◌, ◌*◌, ◌/◌, ◌%◌, ◌^◌, ◌<◌, ◌≤◌, Bool, true, false, ◌&&◌, ◌||◌, not, eqb, leb, ltb, List, [], ◌∷◌, ◌++◌, length, get_or, Some, None, decimal, refl, sym, ap, ◌∙◌, subst, inl, inr, arith, length-append}
 use Rattle.std.specs.Prelude.{replicate}
 use Rattle.std.specs.List.{list_all, list_any}
-use Rattle.std.proofs.lemmas.Bool.{and_from, or_from, or_left, or_right, not_from_false, le-leb, le-ltb, lt-ltb, eq-eqb, ne_eqb, cond-true, cases_eq}
+use Rattle.std.proofs.lemmas.Bool.{and_from, or_from, or_left, or_right, not_from_false, le-leb, le-ltb, lt-ltb, eq-eqb, ne_eqb, cond-true, cases_eq, or_parts}
 use Rattle.std.proofs.lemmas.Fmt.{decimal_by_steps}
 use Rattle.list_laws.specs.Members.{In}
 use Rattle.list_laws.proofs.Members.{In-append, In-get_or}
@@ -18,16 +18,12 @@ is_special b = is_blank b || (is_bad b || (eqb b 35 || eqb b 92))
 abbrev pub AreOrdinary : List ℕ → Type 0
 AreOrdinary w = (b : ℕ) → In w b → is_special b ≡ false
 
-part_free : (a b : Bool) → (a || b) ≡ false → (a ≡ false) × (b ≡ false)
-part_free true b h = absurd (let wrong : ⊥ = cc in wrong)
-part_free false b h = (refl, h)
-
 pub ordinary_clean : (w : List ℕ) → 0 < length w → AreOrdinary w → IsClean w
 ordinary_clean w some h = record {
   bytes = record {
     some = some;
-    no_blank = λ b i. (part_free (is_blank b) (is_bad b || (eqb b 35 || eqb b 92)) (h b i)).0;
-    no_bad = λ b i. (part_free (is_bad b) (eqb b 35 || eqb b 92) (part_free (is_blank b) (is_bad b || (eqb b 35 || eqb b 92)) (h b i)).1).0;
+    no_blank = λ b i. (or_parts (is_blank b) (is_bad b || (eqb b 35 || eqb b 92)) (h b i)).0;
+    no_bad = λ b i. (or_parts (is_bad b) (eqb b 35 || eqb b 92) (or_parts (is_blank b) (is_bad b || (eqb b 35 || eqb b 92)) (h b i)).1).0;
     no_comment = λ b i e. let f : is_special b ≡ false = h b i in let t : is_special b ≡ true = ap is_special e in let wrong : ⊥ = cc in wrong;
   };
   no_slash = ne_eqb (get_or w (length w - 1) 0) 92 (λ e. let f : is_special (get_or w (length w - 1) 0) ≡ false = h _ (In-get_or w (length w - 1) 0 (omega (arith, some))) in let t : is_special (get_or w (length w - 1) 0) ≡ true = ap is_special e in let wrong : ⊥ = cc in wrong);
@@ -35,8 +31,8 @@ ordinary_clean w some h = record {
 
 tested_ordinary : (w : List ℕ) → list_any is_special w ≡ false → AreOrdinary w
 tested_ordinary [] h b i = absurd i
-tested_ordinary (c ∷ w) h b (inl e) = ap is_special e ∙ (part_free (is_special c) (list_any is_special w) h).0
-tested_ordinary (c ∷ w) h b (inr i) = tested_ordinary w (part_free (is_special c) (list_any is_special w) h).1 b i
+tested_ordinary (c ∷ w) h b (inl e) = ap is_special e ∙ (or_parts (is_special c) (list_any is_special w) h).0
+tested_ordinary (c ∷ w) h b (inr i) = tested_ordinary w (or_parts (is_special c) (list_any is_special w) h).1 b i
 
 -- a word that is known, by the test of its bytes
 pub word_clean : (w : List ℕ) → 0 < length w → list_any is_special w ≡ false → IsClean w
@@ -70,7 +66,7 @@ record IsNumeral (n : ℕ) (ds : List ℕ) : Type 0 where
   one : n ≡ 0 → length ds ≡ 1
   value : number_from 0 ds ≡ n
 
-number_from-push : (ds : List ℕ) (m d : ℕ) → number_from m (ds ++ d ∷ []) ≡ 10 * number_from m ds + (d - 48)
+pub number_from-push : (ds : List ℕ) (m d : ℕ) → number_from m (ds ++ d ∷ []) ≡ 10 * number_from m ds + (d - 48)
 number_from-push [] m d = refl
 number_from-push (b ∷ bs) m d = number_from-push bs (10 * m + (b - 48)) d
 

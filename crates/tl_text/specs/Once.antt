@@ -1,7 +1,6 @@
 -- Lists of names in which none stands twice.
-use Rattle.std.specs.Prelude.{ℕ, List, [], ◌∷◌}
-use Rattle.list_laws.specs.Members.{In}
+use Rattle.std.specs.Prelude.{ℕ, List}
+use Rattle.list_laws.specs.Apart.{AreApart}
 
 abbrev pub AreOnce : List (List ℕ) → Type 0
-AreOnce [] = Unit {0}
-AreOnce (name ∷ names) = (¬ (In names name)) × AreOnce names
+AreOnce names = AreApart names

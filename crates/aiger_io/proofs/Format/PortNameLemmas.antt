@@ -3,7 +3,7 @@ use Rattle.std.proofs.Common.{◌≡◌, ℕ, zero, suc, ◌+◌, ◌<◌, ◌�
 use Rattle.std.specs.Prelude.{bytes_eq, slice_get}
 use Rattle.std.specs.Cmp.Lexicographic.{bytes_decides}
 use Rattle.std.proofs.lemmas.Bool.{and_from, and_parts, or_cases, or_left, or_right, ltb-true, leb-true, lt-ltb, le-leb, cond-true, cond-false, cases_Bool}
-use Rattle.std.proofs.lemmas.Option.{same_Some, get_or_from_slice_get}
+use Rattle.std.proofs.lemmas.Option.{same_Some, get_or_from_slice_get, slice_get_within}
 use Rattle.list_laws.specs.Members.{In}
 use Rattle.list_laws.proofs.Members.{In-get}
 use Rattle.list_laws.proofs.Places.{same_list}
@@ -20,7 +20,6 @@ use Rattle.aiger_io.specs.declared.aag_err.AagErr.TheVariants.{BadSymbol}
 use Rattle.aiger_io.specs.declared.header.Header.{Header}
 use Rattle.aiger_io.specs.declared.item.Kind.{Kind}
 use Rattle.aiger_io.specs.declared.item.Kind.TheVariants.{Input, Latch, Output, And}
-use Rattle.aiger_io.proofs.NamedLemmas.{within_get}
 use Rattle.aiger_io.proofs.PortLemmas.{names_at, take_at, drop_at, inputs_length, outputs_length, two_places}
 use Rattle.aiger_io.proofs.Format.SaidLemmas.{Says, place_apart}
 
@@ -56,7 +55,7 @@ module _ (h : Header) (symbols : List Symbol) (said : SymbolsValue) (says : Says
     each = λ i x e.
         let n = names_at 111 0 (drop (h.inputs + h.latches) said.names) i x e in
         let t = drop_at (h.inputs + h.latches) said.names i n.name n.at in
-        let w : i < length (output_names h said) = within_get (output_names h said) i x e in
+        let w : i < length (output_names h said) = slice_get_within (output_names h said) i x e in
         let c : length (output_names h said) ≡ h.outputs = outputs_length h said says.size in
         let z : i ≡ 0 + i = omega arith in
         name_of Output 111 i n.name x (omega arith) t (n.is ∙ ap (λ y. unwrap_or n.name (default_name 111 y)) (sym z));

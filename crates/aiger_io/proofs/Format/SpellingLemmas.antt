@@ -6,12 +6,9 @@ use Rattle.std.proofs.lemmas.List.Splits.{slice_split_none, slice_split_at, join
 use Rattle.list_laws.specs.Members.{In}
 use Rattle.list_laws.proofs.Members.{In-get_or}
 use Rattle.tl_text.specs.Decimal.{is_digit, is_decimal, number_from}
+use Rattle.tl_text.proofs.WordLemmas.{number_from-push}
 use Rattle.aiger_io.specs.Numbers.{words_of, number_of, numbers_of, in_front}
 use Rattle.aiger_io.specs.Spelling.{IsNumber, digit, more, AreNumbers}
-
-number_pushed : (ds : List ℕ) (m d : ℕ) → number_from m (ds ++ d ∷ []) ≡ 10 * number_from m ds + (d - 48)
-number_pushed [] m d = refl
-number_pushed (b ∷ bs) m d = number_pushed bs (10 * m + (b - 48)) d
 
 digits_pushed : (ds : List ℕ) (d : ℕ) → list_all is_digit ds ≡ true → is_digit d ≡ true → list_all is_digit (ds ++ d ∷ []) ≡ true
 digits_pushed [] d all one = and_from (is_digit d) true one refl
@@ -42,7 +39,7 @@ more_read (b ∷ bs) m d k pos l =
     let v : number_from 0 (b ∷ bs) ≡ m = k.value in
     record {
       all = digits_pushed (b ∷ bs) (48 + d) k.all (digit_here d l);
-      value = number_pushed (b ∷ bs) 0 (48 + d) ∙ (let e : 10 * number_from 0 (b ∷ bs) + (48 + d - 48) ≡ 10 * m + d = omega arith in e);
+      value = number_from-push (b ∷ bs) 0 (48 + d) ∙ (let e : 10 * number_from 0 (b ∷ bs) + (48 + d - 48) ≡ 10 * m + d = omega arith in e);
       form = and_from (list_all is_digit (b ∷ (bs ++ (48 + d) ∷ []))) (not (eqb b 48) || eqb (length (bs ++ (48 + d) ∷ [])) 0) (digits_pushed (b ∷ bs) (48 + d) k.all (digit_here d l))
           (or_left (not (eqb b 48)) (eqb (length (bs ++ (48 + d) ∷ [])) 0) (not_from_false (eqb b 48) first));
       head = λ p c cs e. let q : b ≡ c = cc in subst (λ z. eqb z 48 ≡ false) q first;

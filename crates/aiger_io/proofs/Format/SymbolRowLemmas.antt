@@ -3,6 +3,7 @@ use Rattle.std.proofs.Common.{◌≡◌, ℕ, zero, suc, ◌+◌, ◌<◌, false
 use Rattle.std.specs.List.{position_or_len, before_first, after_first}
 use Rattle.std.proofs.lemmas.Bool.{cond-true, cond-false, eqb-true, cases_Bool}
 use Rattle.std.proofs.lemmas.List.Sums.{position_or_len_is, split_at_first, passes_at_first}
+use Rattle.std.proofs.Math.Seq.{take-append_seam}
 use Rattle.list_laws.proofs.Members.{In-get_or}
 use Rattle.aiger_io.specs.Numbers.{number_of}
 use Rattle.aiger_io.specs.Spelling.{IsNumber}
@@ -21,10 +22,6 @@ get_behind : (w ys : List ℕ) (b : ℕ) → get_or (w ++ b ∷ ys) (length w) 0
 get_behind [] ys b = refl
 get_behind (x ∷ w) ys b = get_behind w ys b
 
-take_front : (xs ys : List ℕ) → take (length xs) (xs ++ ys) ≡ xs
-take_front [] ys = refl
-take_front (x ∷ xs) ys = ap (λ l. x ∷ l) (take_front xs ys)
-
 drop_behind : (w ys : List ℕ) (b : ℕ) → drop (suc (length w)) (w ++ b ∷ ys) ≡ ys
 drop_behind [] ys b = refl
 drop_behind (x ∷ w) ys b = drop_behind w ys b
@@ -39,7 +36,7 @@ symbol_split key name none =
     let at : position_or_len (λ b. eqb b 32) (key ++ 32 ∷ name) ≡ length key = blank_at key name none in
     let z : length key + 1 ≡ suc (length key) = omega arith in
     ap (λ n. symbol_with (take n (key ++ 32 ∷ name)) (drop (n + 1) (key ++ 32 ∷ name))) at
-    ∙ ap (λ w. symbol_with w (drop (length key + 1) (key ++ 32 ∷ name))) (take_front key (32 ∷ name))
+    ∙ ap (λ w. symbol_with w (drop (length key + 1) (key ++ 32 ∷ name))) (take-append_seam key (32 ∷ name))
     ∙ ap (symbol_with key) (ap (λ n. drop n (key ++ 32 ∷ name)) z ∙ drop_behind key name 32)
 
 letter_read : (k : Kind) (letter : ℕ) → IsLetterOf k letter → kind_of letter ≡ Some k

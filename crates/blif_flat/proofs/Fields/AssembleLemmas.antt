@@ -1,5 +1,5 @@
 -- The parts of a flat circuit make its fields.
-use Rattle.blif_flat.proofs.Common.{◌≡◌, ℕ, ◌≤◌, List, [], ◌++◌, map, length, reverse, filter, Some, refl, sym, ap, ◌∙◌, subst, subst₂, arith, Bool, not, ◌∷◌, slice_get, same_Some, length-map, ◌<◌, inl, inr, is_some, option_map, slice_get_within, slice_get-map, In, In-get, at_within, apart_once, reversed_in, in_reversed, nodes_done}
+use Rattle.blif_flat.proofs.Common.{◌≡◌, ℕ, ◌≤◌, List, [], ◌++◌, map, length, reverse, filter, Some, refl, sym, ap, ◌∙◌, subst, subst₂, arith, Bool, not, slice_get, same_Some, length-map, ◌<◌, inl, inr, is_some, option_map, slice_get_within, slice_get-map, In, In-get, at_within, apart_once, reversed_in, in_reversed, nodes_done}
 use Rattle.blif_flat.specs.{ModelValue, Path, model_at, inputs_of, is_cover, is_latch, Circuit, ClockNets, Instance, FlatNet, OutPort, FlatLatch, paths_of, IsLight, places_at, is_gate, input_name, clock_test, cover_reads, PostsAll, most_weight, own_weight, AreNetsOf, IsControl, with_control_net, most_underscores, IsFlat, regular_numbers, IsRegular, regular_places, AreFlatCovers, AreFlatLatches, AreCounted, root_numbers, IsCircuit, AreClockNets, input_ports, Place, AreOnce, IsWellFormed, FlatNet as Net, IsNumbered, an_input, a_latch, a_cover, reads_at, IsFlatCover, IsFlatLatch, cover_behind, IsThere, StandsBefore, IsWithinBounds}
 use Rattle.netlist.specs.LibraryValue.{LibraryValue}
 use Rattle.netlist.specs.CoverValue.{CoverValue}
@@ -13,7 +13,7 @@ use Rattle.blif_flat.proofs.Hierarchy.InstanceWeightLemmas.{few_inputs, places_f
 use Rattle.netlist.proofs.EvaluateLemmas.{behind_is}
 use Rattle.netlist.proofs.PostLemmas.{nodes_only, nodes_after, reversed_forward, reversed_apart, reads_earlier}
 use Rattle.blif_flat.specs.declared.circuit.instances.GateKind.TheVariants as kinds
-use Rattle.tl_text.proofs.NameSetLemmas.{once_filter}
+use Rattle.list_laws.proofs.Apart.{filtered_apart}
 use Rattle.list_laws.proofs.Members.{length-filter_le}
 
 module _ (library : LibraryValue) (main : ModelValue) (at : model_at library [] ≡ Some main) (circuit : Circuit) (is : IsCircuit library circuit) (clocks : ClockNets)
@@ -187,7 +187,7 @@ module _ (library : LibraryValue) (flat : FlatValue) (f : IsFlat library flat) w
         few_outputs = omega arith;
         few_reads = λ k c e. (let h : IsAt k c = at_cover k c e in
             omega (arith, nets_long (h.is).inputs, inputs_few library light (h.place).path (h.place).command (h.is).cover (h.is).is));
-        inputs_once = subst AreOnce (sym f.inputs) (once_filter (λ name. not (f.test name)) (f.main).inputs ((formed.each f.main (In-get library.models 0 f.main f.is_main)).ports input_ports));
+        inputs_once = subst AreOnce (sym f.inputs) (filtered_apart (λ name. not (f.test name)) (f.main).inputs ((formed.each f.main (In-get library.models 0 f.main f.is_main)).ports input_ports));
         cover_nets = λ k c net e i. nets_there ((at_cover k c e).is).inputs net i;
         latch_nets = latch_there;
         output_nets = output_there;

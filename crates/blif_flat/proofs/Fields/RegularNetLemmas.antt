@@ -9,8 +9,10 @@ use Rattle.netlist.specs.Flat.{Places, none, more}
 use Rattle.netlist.specs.declared.flat.Net.TheVariants.{Input}
 use Rattle.netlist.proofs.NetLemmas.{net_of_driver}
 use Rattle.list_laws.proofs.Members.{In-filter}
+use Rattle.list_laws.proofs.Places.{mapped_at}
 use Rattle.blif_flat.proofs.Hierarchy.GateLemmas.{place_model, gate_row, gate_place}
 use Rattle.netlist.proofs.OrderLemmas.{IsOfKind, flat_only}
+use Rattle.netlist.proofs.UnderscoreLemmas.{most-append}
 use Rattle.blif_flat.proofs.Hierarchy.OrderLemmas.{is_cover-some, is_latch-some, order_places, order_first}
 use Rattle.tl_text.proofs.NameSetLemmas.{in_has}
 
@@ -120,12 +122,6 @@ module _ (library : LibraryValue) (numbers : List ℕ) (r : IsRegular library nu
         more name names (regular_net numbers n i name) (regular_nets numbers n i names) (net_is i path name e (c name (inl refl))) (nets_are i path e names (λ other j. c other (inr j)))
 
 -- The flat covers and latches of gates are those of their places.
-
--- an element of a mapped list
-mapped_at : {A B : Type 0} (f : A → B) (xs : List A) (k : ℕ) (y : B) → slice_get (map f xs) k ≡ Some y → (x : A) × (slice_get xs k ≡ Some x) × (y ≡ f x)
-mapped_at f [] k y e = absurd (none-some y e)
-mapped_at f (x ∷ xs) zero y e = (x, refl, sym (same_Some (f x) y e))
-mapped_at f (x ∷ xs) (suc k) y e = mapped_at f xs k y e
 
 -- the last step of a list that is mapped one by one
 pub all_mapped : {A B : Type 0} (f : A → B) (made : List B) (xs : List A) (i : ℕ) → made ++ map f (drop i xs) ≡ map f xs → length xs ≤ i → made ≡ map f xs
@@ -290,13 +286,6 @@ pub regular_names : (test : List ℕ → Bool) (kept given : List (List ℕ)) (m
     → kept ≡ unmarked_after [] given marks → given ≡ m.inputs → marks ≡ map test (inputs_of m) → kept ≡ filter (λ name. not (test name)) m.inputs
 regular_names test kept given marks m e f g =
     e ∙ ap₂ (unmarked_after []) f g ∙ unmarked_are test [] m.inputs (filter (λ name. not (has_name m.inputs name)) m.clocks)
-
--- the underscores of joined lists
-pub most-append : (xs ys : List (List ℕ)) → most_underscores (xs ++ ys) ≡ max (most_underscores xs) (most_underscores ys)
-most-append [] ys = let z : most_underscores ys ≡ max 0 (most_underscores ys) = omega arith in z
-most-append (x ∷ xs) ys =
-    ap (max (underscores x)) (most-append xs ys)
-    ∙ (let z : max (underscores x) (max (most_underscores xs) (most_underscores ys)) ≡ max (max (underscores x) (most_underscores xs)) (most_underscores ys) = omega arith in z)
 
 pub most_of_three : (xs ys zs : List (List ℕ)) (a b c : ℕ) → a ≡ max 0 (most_underscores xs) → b ≡ max a (most_underscores ys) → c ≡ max b (most_underscores zs) → c ≡ most_underscores (xs ++ (ys ++ zs))
 most_of_three xs ys zs a b c e f g =

@@ -1,10 +1,10 @@
 use Rattle.std.proofs.Common.{◌≡◌, ℕ, ap, ◌+◌, ◌++◌, ◌∙◌, arith}
 use Rattle.std.specs.Prelude.{replicate}
 use Rattle.netlist.specs.Flat.{most_underscores}
-use Rattle.aiger_io.proofs.TextLemmas.{most_of_both}
+use Rattle.netlist.proofs.UnderscoreLemmas.{most-append}
 use Rattle.aiger_io.proofs.own_name.mark.Goals as goal
 
 pub returns : goal.returns
 returns c =
-    let same : c.most_of-2.result ≡ most_underscores (c.args.inputs.now ++ c.args.outputs.now) = omega (arith, most_of_both c.args.inputs.now c.args.outputs.now) in
+    let same : c.most_of-2.result ≡ most_underscores (c.args.inputs.now ++ c.args.outputs.now) = omega (arith, most-append c.args.inputs.now c.args.outputs.now) in
     c.in_ok-mark.ensures ∙ ap (λ (n : ℕ). replicate (1 + n) 95) same

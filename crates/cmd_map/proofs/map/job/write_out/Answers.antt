@@ -1,7 +1,7 @@
 use Rattle.std.proofs.Common.{[], ◌∷◌, Option, refl, ap, ◌∙◌}
 use Rattle.tl_io.specs.Shelf.{Files, with_file}
 use Rattle.blif_write.specs.PlainNetlist.{netlist_text}
-use Rattle.cmd_map.proofs.TableLemmas.{tables_within_bits}
+use Rattle.lut_sim.proofs.TableCountLemmas.{tables_within_bits}
 use Rattle.cmd_base.specs.Writing.{FileText}
 use Rattle.cmd_base.proofs.EndLemmas.{Rose_from}
 use Rattle.cmd_stations.specs.Mapped.{template_header}

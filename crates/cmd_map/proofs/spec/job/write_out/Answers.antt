@@ -1,6 +1,6 @@
 use Rattle.std.proofs.Common.{[], ◌∷◌, refl}
 use Rattle.blif_write.specs.PlainNetlist.{netlist_text}
-use Rattle.cmd_map.proofs.TableLemmas.{tables_within_bits}
+use Rattle.lut_sim.proofs.TableCountLemmas.{tables_within_bits}
 use Rattle.cmd_base.specs.Writing.{FileText}
 use Rattle.cmd_stations.specs.Mapped.{template_header}
 use Rattle.cmd_stations.specs.Written.{specialised_of}
