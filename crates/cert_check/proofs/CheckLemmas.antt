@@ -1,5 +1,5 @@
 -- The steps of a certificate, one by one.
-use Rattle.std.proofs.Common.{◌≡◌, ℕ, suc, ◌+◌, ◌<◌, ◌≤◌, cond, eqb, List, [], ◌∷◌, ◌++◌, take, drop, drop-cons, set, length, get_or, get_or-set_same, get_or-set_other, length-set, append_assoc, append-nil, refl, sym, ap, ◌∙◌, subst, inl, inr, Option, Some, None, Result, Ok, Err, arith}
+use Rattle.std.proofs.Common.{◌≡◌, ℕ, suc, ◌+◌, ◌<◌, ◌≤◌, cond, eqb, List, [], ◌∷◌, ◌++◌, take, drop, drop-cons, set, length, get_or, get_or-set_same, get_or-set_other, length-set, append_assoc, append-nil, refl, sym, ap, ◌∙◌, subst, inl, inr, Result, Ok, Err, arith}
 use Rattle.std.specs.Prelude.{IsErrAnd, IfOk, OnOk}
 use Rattle.std.proofs.Math.Path.{fun_ext}
 use Rattle.std.proofs.lemmas.Bool.{eqb-true, eqb-false, cases_eq, cases_lt}
@@ -11,7 +11,6 @@ use Rattle.list_laws.specs.Members.{In}
 use Rattle.list_laws.proofs.Choice.{choose}
 use Rattle.list_laws.proofs.Items.{drop_at}
 use Rattle.list_laws.proofs.Members.{In-push, In-pushed}
-use Rattle.tl_fault.specs.OrMemory.{Unless}
 use Rattle.cert_check.specs.CertificateValue.{StepValue, CertificateValue}
 use Rattle.cert_check.specs.Valid.{claim_of, IsJustified, SomeNeeds, IsReached}
 use Rattle.cert_check.specs.Faults.{First, IsAbove, StepFault, StepsFault, DepthFault, IsFault, HasOneVerdict}
@@ -140,11 +139,6 @@ neither g (x ∷ xs) ys claim d a b (inr need) = neither g xs ys claim d (λ n. 
 
 pub lits_drop : (ls : List Lit) (i : ℕ) → i < length ls → lits_of (drop i ls) ≡ (get_or ls i (record { 0 = 0 })).0 ∷ lits_of (drop (i + 1) ls)
 lits_drop ls i l = let e : suc i ≡ i + 1 = omega arith in ap lits_of (drop-cons ls i (record { 0 = 0 }) l) ∙ ap (λ j. (get_or ls i (record { 0 = 0 })).0 ∷ lits_of (drop j ls)) e
-
--- what holds of an error is said of it whether or not it is want of memory
-pub Unless-of : {R P : Type 0} (refusal : Option R) → P → Unless refusal P
-Unless-of None h = tt
-Unless-of (Some r) h = h
 
 -- what holds after an error that a `?` passes on
 pub passed_ok : {T E : Type 0} (r : Result T E) (P : T → Type 0) (Q : E → Type 0) → IsErrAnd r Q → IfOk r P

@@ -11,8 +11,8 @@ use Rattle.tl_fault.specs.OrMemory.{OrMemory}
 use Rattle.tl_fault.proofs.OrMemoryLemmas.{OrMemory-map}
 use Rattle.tl_text.specs.LineValue.{LineValue, WordsLine, words_line}
 use Rattle.cert_check.specs.CertificateValue.{PathValue, StepValue}
-use Rattle.cert_check.specs.CertText.{Saying, says_depth, says_claim, says_path, said_of, SaidLine, path_said, step_said, steps_said, AreSaid, AreLinesOf, fits_at, first_misfit}
-use Rattle.cert_check.specs.Reading.{IsMisfit, IsMalformed}
+use Rattle.cert_check.specs.CertText.{Saying, says_depth, says_claim, says_path, said_of, SaidLine, path_said, step_said, steps_said, AreSaid, AreLinesOf, fits_at, first_misfit, IsMalformed}
+use Rattle.cert_check.specs.Reading.{IsMisfit}
 use Rattle.cert_check.specs.Refusals.{refusal_of}
 use Rattle.cert_check.specs.declared.cert_err.CertErr.{CertErr}
 use Rattle.cert_check.specs.declared.cert_err.CertErr.TheVariants.{Malformed}

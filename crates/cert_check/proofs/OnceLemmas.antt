@@ -1,18 +1,12 @@
 -- A text is that of one certificate at most, or has one refusal at most, and never both.
-use Rattle.std.proofs.Common.{◌≡◌, ℕ, suc, List, [], ◌∷◌, ◌++◌, map, Some, None, Err, refl, sym, ap, ◌∙◌, subst, arith}
+use Rattle.std.proofs.Common.{◌≡◌, ℕ, suc, List, [], ◌∷◌, ◌++◌, map, Some, None, refl, sym, ap, ◌∙◌, arith}
 use Rattle.std.proofs.lemmas.Bool.{cond-true, le-leb}
 use Rattle.std.proofs.lemmas.Option.{none-some, same_Some}
-use Rattle.tl_fault.specs.OrMemory.{OrMemory}
-use Rattle.tl_text.specs.LineValue.{WordsLine, words_line}
-use Rattle.tl_text.specs.Lines.{lines_of}
-use Rattle.tl_text.specs.Refusals.{refusal_of as text_refusal}
-use Rattle.tl_text.specs.declared.text_err.TextErr.{TextErr}
-use Rattle.tl_text.specs.declared.text_err.TextErr.TheVariants as text_err
+use Rattle.tl_fault.specs.Settled.{IsSettled}
+use Rattle.tl_text.specs.LineValue.{WordsLine}
+use Rattle.tl_text.proofs.TextOfLemmas.{text_settled}
 use Rattle.cert_check.specs.CertificateValue.{PathValue, StepValue, CertificateValue}
-use Rattle.cert_check.specs.CertText.{Saying, says_depth, says_claim, says_path, said_of, SaidLine, path_said, steps_said, AreSaid, AreLinesOf, IsCertText, fits_at, first_misfit, malformed_line, IsCertTextFault, bad_byte, trailing_slash, malformed, HasOneReading}
-use Rattle.cert_check.specs.Reading.{cert_err}
-use Rattle.cert_check.specs.Refusals.{refusal_of}
-use Rattle.cert_check.specs.declared.cert_err.CertErr.{CertErr}
+use Rattle.cert_check.specs.CertText.{Saying, says_depth, says_claim, says_path, said_of, SaidLine, path_said, steps_said, AreSaid, AreLinesOf, fits_at, first_misfit, malformed_line, IsMalformed, cert_err, HasOneReading}
 
 -- lines say one thing
 said_same : (x y : SaidLine) → x.number ≡ y.number → x.saying ≡ y.saying → x ≡ y
@@ -85,37 +79,12 @@ lines_fit : (lines : List WordsLine) (c : CertificateValue) → AreLinesOf lines
 lines_fit [] c are = absurd are
 lines_fit (l ∷ ls) c are = cond-true (fits_at 0 (said_of l.words)) (first_misfit 1 ls) (Some l.number) (ap (fits_at 0) are.0) ∙ steps_fit ls 0 c.steps are.1
 
-module _ (text : List ℕ) where
-  one_certificate : (c d : CertificateValue) → IsCertText text c → IsCertText text d → c ≡ d
-  one_certificate c d a b =
-      let same : b.lines ≡ a.lines = cc (a.lines_are, b.lines_are) in
-      lines_once (map (words_line text) a.lines) c d a.are (subst (λ l. AreLinesOf (map (words_line text) l) d) same b.are)
+lines_settled : (lines : List WordsLine) → IsSettled (AreLinesOf lines) (IsMalformed lines)
+lines_settled lines = record {
+  one_value = lines_once lines;
+  one_fault = λ e f a b. let line : a.line ≡ b.line = same_Some a.line b.line (sym a.first ∙ b.first) in cc (a.is, b.is, line);
+  not_both = λ c e are fault. none-some fault.line (sym (lines_fit lines c are) ∙ fault.first);
+}
 
-  one_fault : (e f : CertErr) → IsCertTextFault text e → IsCertTextFault text f → e ≡ f
-  one_fault e f (bad_byte l a b) (bad_byte m c d) = cc (a, b, c, d)
-  one_fault e f (bad_byte l a b) (trailing_slash m c d) = cc (a, c)
-  one_fault e f (bad_byte l a b) (malformed m ms c first d) = cc (a, c)
-  one_fault e f (trailing_slash l a b) (bad_byte m c d) = cc (a, c)
-  one_fault e f (trailing_slash l a b) (trailing_slash m c d) = cc (a, b, c, d)
-  one_fault e f (trailing_slash l a b) (malformed m ms c first d) = cc (a, c)
-  one_fault e f (malformed l ls a first b) (bad_byte m c d) = cc (a, c)
-  one_fault e f (malformed l ls a first b) (trailing_slash m c d) = cc (a, c)
-  one_fault e f (malformed l ls a first b) (malformed m ms c second d) =
-      let same : ms ≡ ls = cc (a, c) in
-      let line : l ≡ m = same_Some l m (sym first ∙ ap (λ x. malformed_line (map (words_line text) x)) (sym same) ∙ second) in cc (b, d, line)
-
-  not_both : (c : CertificateValue) (e : CertErr) → IsCertText text c → IsCertTextFault text e → ⊥
-  not_both c e t (bad_byte l a b) = cc (t.lines_are, a)
-  not_both c e t (trailing_slash l a b) = cc (t.lines_are, a)
-  not_both c e t (malformed l ls a first b) =
-      let same : ls ≡ t.lines = cc (t.lines_are, a) in
-      none-some l (sym (lines_fit (map (words_line text) t.lines) c t.are) ∙ ap (λ x. malformed_line (map (words_line text) x)) (sym same) ∙ first)
-
-  pub one_reading : HasOneReading text
-  one_reading = record { one_certificate = one_certificate; one_fault = one_fault; not_both = not_both }
-
--- a refusal of the text's lines
-pub text_fault : (text : List ℕ) (error : TextErr) (e : CertErr) → e ≡ cert_err error → OrMemory text_refusal (λ x. lines_of text ≡ Err x) error → OrMemory refusal_of (IsCertTextFault text) e
-text_fault text (text_err.BadByte line) e is told = subst (OrMemory refusal_of (IsCertTextFault text)) (sym is) (bad_byte line told refl)
-text_fault text (text_err.TrailingSlash line) e is told = subst (OrMemory refusal_of (IsCertTextFault text)) (sym is) (trailing_slash line told refl)
-text_fault text text_err.Memory e is told = subst (OrMemory refusal_of (IsCertTextFault text)) (sym is) tt
+pub one_reading : (text : List ℕ) → HasOneReading text
+one_reading text = text_settled cert_err AreLinesOf IsMalformed text lines_settled

@@ -1,14 +1,16 @@
 -- A certificate as a text: a line for its depth, then for each step a line for its claim and one for each of its paths.
-use Rattle.std.specs.Prelude.{◌≡◌, ℕ, suc, Bool, false, if◌then◌else◌, ◌==◌, nat_le, List, [], ◌∷◌, map, Option, Some, None, Ok, Err, bytes_eq, codes}
+use Rattle.std.specs.Prelude.{◌≡◌, ℕ, suc, Bool, false, if◌then◌else◌, ◌==◌, nat_le, List, [], ◌∷◌, map, Option, Some, None, bytes_eq, codes}
 use Rattle.std.specs.List.{flat_map}
 use Rattle.std.specs.Option.{option_and_then}
 use Rattle.tl_text.specs.Decimal.{decimal_of}
-use Rattle.tl_text.specs.LineValue.{LineValue, WordsLine, words_line}
-use Rattle.tl_text.specs.Lines.{lines_of}
+use Rattle.tl_fault.specs.Settled.{IsSettled}
+use Rattle.tl_text.specs.LineValue.{WordsLine}
+use Rattle.tl_text.specs.TextOf.{IsTextOf, IsTextFault}
+use Rattle.tl_text.specs.declared.text_err.TextErr.{TextErr}
 use Rattle.tl_text.specs.declared.text_err.TextErr.TheVariants as text_err
 use Rattle.cert_check.specs.CertificateValue.{PathValue, StepValue, CertificateValue}
 use Rattle.cert_check.specs.declared.cert_err.CertErr.{CertErr}
-use Rattle.cert_check.specs.declared.cert_err.CertErr.TheVariants.{BadByte, TrailingSlash, Malformed}
+use Rattle.cert_check.specs.declared.cert_err.CertErr.TheVariants.{BadByte, TrailingSlash, Malformed, Memory}
 
 -- what a line says: the depth, the claim of a node, or the nodes of a path
 pub data Saying : Type 0 where
@@ -89,10 +91,8 @@ AreLinesOf [] c = ⊥
 AreLinesOf (line ∷ lines) c = (said_of line.words ≡ Some (says_depth c.depth)) × AreSaid lines (steps_said c.steps)
 
 -- a text is that of a certificate
-pub record IsCertText (text : List ℕ) (c : CertificateValue) : Type 0 where
-  pub lines : List LineValue
-  pub lines_are : lines_of text ≡ Ok lines
-  pub are : AreLinesOf (map (words_line text) lines) c
+abbrev pub IsCertText : List ℕ → CertificateValue → Type 0
+IsCertText = IsTextOf AreLinesOf
 
 -- may a line that says this stand at a place: the depth comes first, then a claim, and then claims and paths
 abbrev pub fits_at : ℕ → Option Saying → Bool
@@ -111,14 +111,22 @@ abbrev pub malformed_line : List WordsLine → Option ℕ
 malformed_line [] = Some 1
 malformed_line (line ∷ lines) = first_misfit 0 (line ∷ lines)
 
+-- lines are refused at this one
+pub record IsMalformed (lines : List WordsLine) (e : CertErr) : Type 0 where
+  pub line : ℕ
+  pub first : malformed_line lines ≡ Some line
+  pub is : e ≡ Malformed line
+
+-- a refusal of a text's lines as one of a certificate
+abbrev pub cert_err : TextErr → CertErr
+cert_err (text_err.BadByte line) = BadByte line
+cert_err (text_err.TrailingSlash line) = TrailingSlash line
+cert_err text_err.Memory = Memory
+
 -- a text is refused: as its lines are, else at the first line that is malformed
-pub data IsCertTextFault (text : List ℕ) (e : CertErr) : Type 0 where
-  bad_byte : (line : ℕ) → lines_of text ≡ Err (text_err.BadByte line) → e ≡ BadByte line → IsCertTextFault text e
-  trailing_slash : (line : ℕ) → lines_of text ≡ Err (text_err.TrailingSlash line) → e ≡ TrailingSlash line → IsCertTextFault text e
-  malformed : (line : ℕ) (lines : List LineValue) → lines_of text ≡ Ok lines → malformed_line (map (words_line text) lines) ≡ Some line → e ≡ Malformed line → IsCertTextFault text e
+abbrev pub IsCertTextFault : List ℕ → CertErr → Type 0
+IsCertTextFault = IsTextFault cert_err IsMalformed
 
 -- a text is that of one certificate at most, or has one refusal at most, and never both
-pub record HasOneReading (text : List ℕ) : Type 0 where
-  pub one_certificate : (c d : CertificateValue) → IsCertText text c → IsCertText text d → c ≡ d
-  pub one_fault : (e f : CertErr) → IsCertTextFault text e → IsCertTextFault text f → e ≡ f
-  pub not_both : (c : CertificateValue) (e : CertErr) → IsCertText text c → IsCertTextFault text e → ⊥
+abbrev pub HasOneReading : List ℕ → Type 0
+HasOneReading text = IsSettled (IsCertText text) (IsCertTextFault text)

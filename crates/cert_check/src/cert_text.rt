@@ -4,8 +4,8 @@ ghost use Rattle.tl_fault.specs.OrMemory.{OrMemory};
 ghost use Rattle.tl_text.specs.LineValue.{AreLinesIn};
 ghost use Rattle.tl_text.specs.Lines.{lines_of};
 ghost use Rattle.tl_text.specs.declared.logical_lines.TheConstants.{MOST_BYTES};
-ghost use Rattle.cert_check.specs.CertText.{IsCertText, IsCertTextFault, HasOneReading};
-ghost use Rattle.cert_check.specs.Reading.{cert_err};
+ghost use Rattle.tl_text.specs.TextOf.{IsLinesFault};
+ghost use Rattle.cert_check.specs.CertText.{cert_err, IsCertText, IsCertTextFault, HasOneReading};
 ghost use Rattle.cert_check.specs.Refusals.{refusal_of};
 ghost use Rattle.cert_check.specs.WrittenText.{IsWritable};
 
@@ -31,7 +31,7 @@ fn text_lines(alloc: Global, text: &[u8]) -> Result<Vec<Line>, CertErr>
     requires { length text.now ≤ MOST_BYTES }
     ensures lines { IfOk result (λ found. lines_of text.now ≡ Ok found.items) }
     ensures within { IfOk result (λ found. AreLinesIn text.now found.items) }
-    ensures fault { IfErr result (OrMemory refusal_of (IsCertTextFault text.now)) }
+    ensures fault { IfErr result (OrMemory refusal_of (IsLinesFault cert_err text.now)) }
 {
     match lines(alloc, text) {
         Ok(found) => Ok(found),

@@ -36,14 +36,14 @@ module _ (g : Aig) (roots : RootsValue) (k : ℕ) (text : List ℕ) (settled : I
   valid_or : (c : CertificateValue) (e : CertErr) → IsCertText text c → IsValid g (roots_of roots) k c → IsCertFault g roots k text e → ⊥
   valid_or c e is valid (malformed fault) = settled.one_reading.not_both c e is fault
   valid_or c e is valid (invalid d other fault) =
-      (settled.one_verdict c is).not_both e valid (subst (λ x. IsFault g (roots_of roots) k x e) (settled.one_reading.one_certificate d c other is) fault)
+      (settled.one_verdict c is).not_both e valid (subst (λ x. IsFault g (roots_of roots) k x e) (settled.one_reading.one_value d c other is) fault)
 
   fault_once : (e f : CertErr) → IsCertFault g roots k text e → IsCertFault g roots k text f → e ≡ f
   fault_once e f (malformed a) (malformed b) = settled.one_reading.one_fault e f a b
   fault_once e f (malformed a) (invalid c is b) = absurd (settled.one_reading.not_both c e is a)
   fault_once e f (invalid c is a) (malformed b) = absurd (settled.one_reading.not_both c f is b)
   fault_once e f (invalid c is a) (invalid d other b) =
-      (settled.one_verdict c is).one_fault e f a (subst (λ x. IsFault g (roots_of roots) k x f) (settled.one_reading.one_certificate d c other is) b)
+      (settled.one_verdict c is).one_fault e f a (subst (λ x. IsFault g (roots_of roots) k x f) (settled.one_reading.one_value d c other is) b)
 
   refusal_once : (r s : RefusalValue) → IsCertRefusal g roots k text r → IsCertRefusal g roots k text s → r ≡ s
   refusal_once r s a b = same_Some r s (sym a.tells ∙ (ap refusal_of (fault_once a.e b.e a.fault b.fault) ∙ b.tells))

@@ -28,7 +28,7 @@ same_events : (files others : Files) (name other_name : List ℕ) (p q : PackVal
 same_events files others name other_name p q events again same text a b =
     let bytes : b.text ≡ a.text = same_Some b.text a.text (sym b.there.is ∙ (text ∙ a.there.is)) in
     let there : IsScript (pack_names p) a.text again = subst (λ names. IsScript names a.text again) (sym (same_names p q same)) (subst (λ ts. IsScript (pack_names q) ts again) bytes b.is) in
-    (scripts.one_reading (pack_names p) a.text).one_script events again a.is there
+    (scripts.one_reading (pack_names p) a.text).one_value events again a.is there
 
 same_header : (h k : SpecialiserValue) (p q : PackValue) → AreSame p q → h.pack ≡ p → k.pack ≡ q → pack_header k.pack ≡ pack_header h.pack
 same_header h k p q same a b =

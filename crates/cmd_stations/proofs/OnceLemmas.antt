@@ -22,7 +22,7 @@ netlist_once files words n m settled a b =
 -- its parameters
 pub params_once : (files : Files) (words : SourceWords) (n : NetlistValue) (ps qs : List Param) → AreParamsSettled files words n → HasParams files words n.flat ps → HasParams files words n.flat qs → ps ≡ qs
 params_once files words n ps qs settled a b =
-    (settled b.text b.there).one_list ps qs (subst (λ ts. IsParamsText n.flat ts ps) (text_once files words.params a.text b.text a.there b.there) a.is) b.is
+    (settled b.text b.there).one_value ps qs (subst (λ ts. IsParamsText n.flat ts ps) (text_once files words.params a.text b.text a.there b.there) a.is) b.is
 
 -- both: a source circuit
 pub source_once : (files : Files) (words : SourceWords) (a b : Source) → IsNetlistSettled files words → AreParamsSettled files words b.netlist → HasSource files words a → HasSource files words b → a ≡ b

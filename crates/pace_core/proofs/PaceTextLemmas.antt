@@ -114,8 +114,8 @@ events_fit names width read paced wide are fits pace i =
 -- a text is one script at most, or has one refusal at most, and never both
 pub one_pace_reading : (names : NamesValue) (text : List ℕ) → HasOneReading names text
 one_pace_reading names text = record {
-  one_script = λ events others a b.
-      let same : a.read ≡ b.read = (one_reading names text).one_script a.read b.read a.is b.is in
+  one_value = λ events others a b.
+      let same : a.read ≡ b.read = (one_reading names text).one_value a.read b.read a.is b.is in
       each_once pace_of b.read events others (ap (each_of pace_of) (sym same) ∙ a.are) b.are;
   one_fault = (one_reading names text).one_fault;
   not_both = λ events e a. (one_reading names text).not_both a.read e a.is;

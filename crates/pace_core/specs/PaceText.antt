@@ -1,10 +1,10 @@
 -- A script at a limited rate as a text: one by the forms of `ask` and `tick`, whose sets are asks and whose cycles are ticks.
 use Rattle.std.specs.Prelude.{◌≡◌, ℕ, List, Some}
+use Rattle.tl_fault.specs.Settled.{IsSettled}
 use Rattle.run_text.specs.Each.{each_of}
 use Rattle.run_text.specs.EventValue.{EventValue}
 use Rattle.run_text.specs.NamesValue.{NamesValue}
 use Rattle.run_text.specs.ScriptText.{IsScript, IsScriptFault}
-use Rattle.run_text.specs.declared.script_err.ScriptErr.{ScriptErr}
 use Rattle.pace_core.specs.EventValue.{PaceValue, pace_of}
 
 -- these are the events of a script's lines
@@ -18,7 +18,5 @@ pub record IsPaceScript (names : NamesValue) (text : List ℕ) (events : List Pa
   pub are : ArePaced read events
 
 -- a text is one script at most, or has one refusal at most, and never both
-pub record HasOneReading (names : NamesValue) (text : List ℕ) : Type 0 where
-  pub one_script : (events others : List PaceValue) → IsPaceScript names text events → IsPaceScript names text others → events ≡ others
-  pub one_fault : (e f : ScriptErr) → IsScriptFault names text e → IsScriptFault names text f → e ≡ f
-  pub not_both : (events : List PaceValue) (e : ScriptErr) → IsPaceScript names text events → IsScriptFault names text e → ⊥
+abbrev pub HasOneReading : NamesValue → List ℕ → Type 0
+HasOneReading names text = IsSettled (IsPaceScript names text) (IsScriptFault names text)

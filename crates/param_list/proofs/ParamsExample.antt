@@ -10,7 +10,8 @@ use Rattle.param_list.specs.declared.params.Param.{Param}
 use Rattle.param_list.specs.declared.par_err.ParErr.{ParErr}
 use Rattle.param_list.specs.declared.par_err.ParErr.TheVariants.{Malformed, Parameters, NotInput, IsClock, Repeated}
 use Rattle.param_list.specs.Parameters.{param_names, param_inits, regular_names}
-use Rattle.param_list.specs.ParamsText.{line_refusal, refusal_at, IsParamOf, IsParamsText, IsParamsFault, at_line}
+use Rattle.tl_text.specs.TextOf.{at_line}
+use Rattle.param_list.specs.ParamsText.{line_refusal, refusal_at, IsParamOf, IsParamsText, IsParamsFault}
 use Rattle.param_list.specs.RegularPlaces.{AreRegularPlaces}
 
 -- a circuit with the inputs `a`, `b` and `p` and the clock net `c`

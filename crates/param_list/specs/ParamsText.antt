@@ -1,17 +1,18 @@
 -- A parameter list as a text: what its lines say, and its refusal, that of the first line that has one.
-use Rattle.std.specs.Prelude.{◌≡◌, ℕ, ◌<◌, Bool, not, ◌||◌, nat_lt, nat_le, if◌then◌else◌, List, [], ◌∷◌, ◌++◌, length, map, take, Option, Some, None, Ok, Err, slice_get}
+use Rattle.std.specs.Prelude.{◌≡◌, ℕ, Bool, not, ◌||◌, nat_lt, nat_le, if◌then◌else◌, List, [], ◌∷◌, ◌++◌, length, take, Option, Some, None, slice_get}
 use Rattle.std.specs.Option.{option_and_then}
+use Rattle.tl_fault.specs.Settled.{IsSettled}
 use Rattle.tl_text.specs.FirstRefusal.{IsFirst}
 use Rattle.tl_text.specs.Decimal.{bit_of}
-use Rattle.tl_text.specs.LineValue.{LineValue, WordsLine, words_line}
-use Rattle.tl_text.specs.Lines.{lines_of}
-use Rattle.tl_text.specs.declared.text_err.TextErr.TheVariants as text_err
+use Rattle.tl_text.specs.LineValue.{WordsLine}
+use Rattle.tl_text.specs.TextOf.{IsTextOf, IsTextFault}
 use Rattle.netlist.specs.FlatValue.{FlatValue}
 use Rattle.netlist.specs.Models.{has_name}
 use Rattle.param_list.specs.declared.params.Param.{Param}
 use Rattle.tl_text.specs.declared.limits.TheConstants.{MOST_PARAMETERS, MOST_NAME_BYTES}
 use Rattle.param_list.specs.declared.par_err.ParErr.{ParErr}
-use Rattle.param_list.specs.declared.par_err.ParErr.TheVariants.{BadByte, TrailingSlash, Malformed, Parameters, NotInput, IsClock, Repeated}
+use Rattle.param_list.specs.declared.par_err.ParErr.TheVariants.{Malformed, Parameters, NotInput, IsClock, Repeated}
+use Rattle.param_list.specs.LinesErr.{par_err}
 
 -- what a line says: a name and its value at the start
 pub record Entry : Type 0 where
@@ -71,19 +72,13 @@ pub record AreParamsOf (inputs clocks : List (List ℕ)) (lines : List WordsLine
   pub each : (i : ℕ) (line : WordsLine) (p : Param) → slice_get lines i ≡ Some line → slice_get params i ≡ Some p → IsParamOf inputs line p
 
 -- a text is a list of these parameters
-pub record IsParamsText (flat : FlatValue) (text : List ℕ) (params : List Param) : Type 0 where
-  pub lines : List LineValue
-  pub lines_are : lines_of text ≡ Ok lines
-  pub are : AreParamsOf flat.inputs flat.clocks (map (words_line text) lines) params
+abbrev pub IsParamsText : FlatValue → List ℕ → List Param → Type 0
+IsParamsText flat = IsTextOf (λ lines. AreParamsOf flat.inputs flat.clocks lines)
 
 -- a text is refused: as its lines are, else at the first line that has a refusal
-pub data IsParamsFault (flat : FlatValue) (text : List ℕ) (e : ParErr) : Type 0 where
-  bad_byte : (line : ℕ) → lines_of text ≡ Err (text_err.BadByte line) → e ≡ BadByte line → IsParamsFault flat text e
-  trailing_slash : (line : ℕ) → lines_of text ≡ Err (text_err.TrailingSlash line) → e ≡ TrailingSlash line → IsParamsFault flat text e
-  at_line : (lines : List LineValue) → lines_of text ≡ Ok lines → IsFirstRefusal flat.inputs flat.clocks (map (words_line text) lines) e → IsParamsFault flat text e
+abbrev pub IsParamsFault : FlatValue → List ℕ → ParErr → Type 0
+IsParamsFault flat = IsTextFault par_err (λ lines. IsFirstRefusal flat.inputs flat.clocks lines)
 
 -- a text is one list of parameters at most, or has one refusal at most, and never both
-pub record HasOneReading (flat : FlatValue) (text : List ℕ) : Type 0 where
-  pub one_list : (params others : List Param) → IsParamsText flat text params → IsParamsText flat text others → params ≡ others
-  pub one_fault : (e f : ParErr) → IsParamsFault flat text e → IsParamsFault flat text f → e ≡ f
-  pub not_both : (params : List Param) (e : ParErr) → IsParamsText flat text params → IsParamsFault flat text e → ⊥
+abbrev pub HasOneReading : FlatValue → List ℕ → Type 0
+HasOneReading flat text = IsSettled (IsParamsText flat text) (IsParamsFault flat text)

@@ -5,7 +5,7 @@ ghost use Rattle.tl_text.specs.Once.{AreOnce};
 ghost use Rattle.tl_text.specs.Clean.{AreCleanIn};
 ghost use Rattle.tl_text.specs.LineValue.{AreLinesIn};
 ghost use Rattle.tl_text.specs.Lines.{lines_of};
-ghost use Rattle.netlist.specs.FlatValue.{FlatValue};
+ghost use Rattle.tl_text.specs.TextOf.{IsLinesFault};
 ghost use Rattle.tl_text.specs.declared.logical_lines.TheConstants.{MOST_BYTES};
 ghost use Rattle.param_list.specs.Parameters.{AreParameters};
 ghost use Rattle.param_list.specs.ParamsText.{IsParamsText, IsParamsFault, HasOneReading};
@@ -60,7 +60,7 @@ fn text_lines(alloc: Global, text: &[u8]) -> Result<Vec<Line>, ParErr>
     ensures lines { IfOk result (λ found. lines_of text.now ≡ Ok found.items) }
     ensures within { IfOk result (λ found. AreLinesIn text.now found.items) }
     ensures clean { IfOk result (λ found. AreCleanIn text.now found.items) }
-    ensures fault { IfErr result (OrMemory refusal_of (λ e. (flat : FlatValue) → IsParamsFault flat text.now e)) }
+    ensures fault { IfErr result (OrMemory refusal_of (IsLinesFault par_err text.now)) }
 {
     match lines(alloc, text) {
         Ok(found) => Ok(found),

@@ -13,7 +13,8 @@ use Rattle.run_text.specs.Fits.{Fits}
 use Rattle.run_text.specs.NamesValue.{NamesValue}
 use Rattle.run_text.specs.ScriptRefusals.{refusal_of}
 use Rattle.run_text.specs.Sayings.{split_last, setting_of, settings_of, bits_of, address_of}
-use Rattle.run_text.specs.ScriptText.{line_refusal, line_event, refusal_at, IsScript, IsScriptFault, at_line}
+use Rattle.tl_text.specs.TextOf.{at_line}
+use Rattle.run_text.specs.ScriptText.{line_refusal, line_event, refusal_at, IsScript, IsScriptFault}
 use Rattle.run_text.specs.declared.event.Event.TheVariants as event
 use Rattle.run_text.specs.declared.event.Forms.TheVariants as form
 use Rattle.run_text.specs.declared.script_err.ScriptErr.{ScriptErr}

@@ -1,9 +1,7 @@
--- What the calls return that read a line of a script, and a refusal of a text's lines as one of a script.
+-- What the calls return that read a line of a script.
 use Rattle.std.specs.Prelude.{◌≡◌, ℕ, Option, Some, None, Result, MatchResult}
 use Rattle.std.specs.Option.{option_and_then}
 use Rattle.tl_fault.specs.OrMemory.{OrMemory}
-use Rattle.tl_text.specs.declared.text_err.TextErr.{TextErr}
-use Rattle.tl_text.specs.declared.text_err.TextErr.TheVariants as text_err
 use Rattle.run_text.specs.EventValue.{event_value}
 use Rattle.run_text.specs.NamesValue.{NamesValue}
 use Rattle.run_text.specs.Sayings.{Saying}
@@ -11,12 +9,6 @@ use Rattle.run_text.specs.ScriptText.{saying_refusal, event_of}
 use Rattle.run_text.specs.ScriptRefusals.{refusal_of}
 use Rattle.run_text.specs.declared.event.Event.{Event}
 use Rattle.run_text.specs.declared.script_err.ScriptErr.{ScriptErr}
-use Rattle.run_text.specs.declared.script_err.ScriptErr.TheVariants.{BadByte, TrailingSlash, Memory}
-
-abbrev pub script_err : TextErr → ScriptErr
-script_err (text_err.BadByte line) = BadByte line
-script_err (text_err.TrailingSlash line) = TrailingSlash line
-script_err text_err.Memory = Memory
 
 -- the event of a line that says this, or its refusal
 abbrev pub Reads : NamesValue → ℕ → Option Saying → Result Event ScriptErr → Type 0

@@ -1,11 +1,13 @@
 -- A script as a text: the events of its lines, and its refusal, that of the first line that has one.
-use Rattle.std.specs.Prelude.{◌≡◌, ℕ, Bool, not, nat_lt, nat_le, ◌==◌, if◌then◌else◌, List, [], ◌∷◌, ◌++◌, length, map, Option, Some, None, Ok, Err, slice_get}
+use Rattle.std.specs.Prelude.{◌≡◌, ℕ, Bool, not, nat_lt, nat_le, ◌==◌, if◌then◌else◌, List, [], ◌∷◌, ◌++◌, length, Option, Some, None, slice_get}
 use Rattle.std.specs.Option.{option_map, option_and_then}
 use Rattle.tl_io.specs.declared.Assign.{Assign}
+use Rattle.tl_fault.specs.Settled.{IsSettled}
 use Rattle.tl_text.specs.FirstRefusal.{IsFirst}
-use Rattle.tl_text.specs.LineValue.{LineValue, WordsLine, words_line}
-use Rattle.tl_text.specs.Lines.{lines_of}
+use Rattle.tl_text.specs.LineValue.{WordsLine}
 use Rattle.tl_text.specs.NameIndex.{place_of}
+use Rattle.tl_text.specs.TextOf.{IsTextOf, IsTextFault}
+use Rattle.tl_text.specs.declared.text_err.TextErr.{TextErr}
 use Rattle.tl_text.specs.declared.text_err.TextErr.TheVariants as text_err
 use Rattle.tl_text.specs.NameSets.{has_name}
 use Rattle.run_text.specs.Each.{each_of}
@@ -15,7 +17,13 @@ use Rattle.run_text.specs.Sayings.{Saying, sets, cycles, upsets, scrubs, images,
 use Rattle.run_text.specs.declared.event.TheConstants.{MOST_EVENTS}
 use Rattle.run_text.specs.declared.setting.Setting.{Setting}
 use Rattle.run_text.specs.declared.script_err.ScriptErr.{ScriptErr}
-use Rattle.run_text.specs.declared.script_err.ScriptErr.TheVariants.{BadByte, TrailingSlash, Malformed, NotHere, Width, NotParameter, RepeatedInSet, Address, Events}
+use Rattle.run_text.specs.declared.script_err.ScriptErr.TheVariants.{BadByte, TrailingSlash, Malformed, NotHere, Width, NotParameter, RepeatedInSet, Address, Events, Memory}
+
+-- a refusal of a text's lines as one of a script
+abbrev pub script_err : TextErr → ScriptErr
+script_err (text_err.BadByte line) = BadByte line
+script_err (text_err.TrailingSlash line) = TrailingSlash line
+script_err text_err.Memory = Memory
 
 -- the refusal of settings, one by one, where a line's settings before them have these names
 abbrev pub settings_refusal : List (List ℕ) → ℕ → List (List ℕ) → List Setting → Option ScriptErr
@@ -80,19 +88,13 @@ pub record AreEventsOf (names : NamesValue) (lines : List WordsLine) (events : L
   pub are : each_of (line_event names) lines ≡ Some events
 
 -- a text is a script of these events
-pub record IsScript (names : NamesValue) (text : List ℕ) (events : List EventValue) : Type 0 where
-  pub lines : List LineValue
-  pub lines_are : lines_of text ≡ Ok lines
-  pub are : AreEventsOf names (map (words_line text) lines) events
+abbrev pub IsScript : NamesValue → List ℕ → List EventValue → Type 0
+IsScript names = IsTextOf (λ lines. AreEventsOf names lines)
 
 -- a text is refused: as its lines are, else at the first line that has a refusal
-pub data IsScriptFault (names : NamesValue) (text : List ℕ) (e : ScriptErr) : Type 0 where
-  bad_byte : (line : ℕ) → lines_of text ≡ Err (text_err.BadByte line) → e ≡ BadByte line → IsScriptFault names text e
-  trailing_slash : (line : ℕ) → lines_of text ≡ Err (text_err.TrailingSlash line) → e ≡ TrailingSlash line → IsScriptFault names text e
-  at_line : (lines : List LineValue) → lines_of text ≡ Ok lines → IsFirstRefusal names (map (words_line text) lines) e → IsScriptFault names text e
+abbrev pub IsScriptFault : NamesValue → List ℕ → ScriptErr → Type 0
+IsScriptFault names = IsTextFault script_err (λ lines. IsFirstRefusal names lines)
 
 -- a text is one script at most, or has one refusal at most, and never both
-pub record HasOneReading (names : NamesValue) (text : List ℕ) : Type 0 where
-  pub one_script : (events others : List EventValue) → IsScript names text events → IsScript names text others → events ≡ others
-  pub one_fault : (e f : ScriptErr) → IsScriptFault names text e → IsScriptFault names text f → e ≡ f
-  pub not_both : (events : List EventValue) (e : ScriptErr) → IsScript names text events → IsScriptFault names text e → ⊥
+abbrev pub HasOneReading : NamesValue → List ℕ → Type 0
+HasOneReading names text = IsSettled (IsScript names text) (IsScriptFault names text)

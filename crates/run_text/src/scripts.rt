@@ -6,12 +6,11 @@ ghost use Rattle.tl_fault.specs.OrMemory.{OrMemory};
 ghost use Rattle.tl_text.specs.LineValue.{AreLinesIn};
 ghost use Rattle.tl_text.specs.Lines.{lines_of};
 ghost use Rattle.tl_text.specs.Once.{AreOnce};
+ghost use Rattle.tl_text.specs.TextOf.{IsLinesFault};
 ghost use Rattle.tl_text.specs.declared.logical_lines.TheConstants.{MOST_BYTES};
 ghost use Rattle.run_text.specs.EventValue.{EventValue, event_values};
 ghost use Rattle.run_text.specs.Fits.{Fits};
-ghost use Rattle.run_text.specs.NamesValue.{NamesValue};
-ghost use Rattle.run_text.specs.ScriptLines.{script_err};
-ghost use Rattle.run_text.specs.ScriptText.{IsScript, IsScriptFault, HasOneReading};
+ghost use Rattle.run_text.specs.ScriptText.{script_err, IsScript, IsScriptFault, HasOneReading};
 ghost use Rattle.run_text.specs.ScriptRefusals.{refusal_of};
 
 use crate::event::{Event, Names};
@@ -36,7 +35,7 @@ fn text_lines(alloc: Global, text: &[u8]) -> Result<Vec<Line>, ScriptErr>
     requires { length text.now ≤ MOST_BYTES }
     ensures lines { IfOk result (λ found. lines_of text.now ≡ Ok found.items) }
     ensures within { IfOk result (λ found. AreLinesIn text.now found.items) }
-    ensures fault { IfErr result (OrMemory refusal_of (λ e. (names : NamesValue) → IsScriptFault names text.now e)) }
+    ensures fault { IfErr result (OrMemory refusal_of (IsLinesFault script_err text.now)) }
 {
     match lines(alloc, text) {
         Ok(found) => Ok(found),

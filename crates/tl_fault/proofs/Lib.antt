@@ -1,2 +1,3 @@
 pub mod OrMemoryLemmas
 pub mod PassedOn
+pub mod SettledLemmas

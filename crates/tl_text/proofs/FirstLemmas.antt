@@ -1,5 +1,5 @@
 -- One line is the first that has a refusal.
-use Rattle.std.proofs.Common.{◌≡◌, ℕ, ◌<◌, Option, sym, ap, ◌∙◌, inl, inr, arith}
+use Rattle.std.proofs.Common.{◌≡◌, ℕ, ◌<◌, Option, None, sym, ap, ◌∙◌, inl, inr, arith}
 use Rattle.std.proofs.lemmas.Bool.{cases_lt}
 use Rattle.std.proofs.lemmas.Option.{none-some, same_Some}
 use Rattle.tl_text.specs.FirstRefusal.{IsFirst}
@@ -16,3 +16,7 @@ module _ {E : Type 0} (refusal_at : ℕ → Option E) where
       | inr n ↦ (let same : a.place ≡ b.place = omega arith in same_Some e f (sym a.is ∙ ap refusal_at same ∙ b.is))
     ]
   ]
+
+  -- and where none has one, none is the first
+  pub none_first : (e : E) → ((i : ℕ) → refusal_at i ≡ None) → IsFirst refusal_at e → ⊥
+  none_first e none first = none-some e (sym (none first.place) ∙ first.is)

@@ -8,6 +8,7 @@ pub mod NameIndex
 pub mod NameSets
 pub mod Once
 pub mod Refusals
+pub mod TextOf
 pub mod Tokens
 pub mod WrittenText
 -- What only bodies are compared with.

@@ -6,8 +6,8 @@ use Rattle.list_laws.proofs.Members.{In-right}
 use Rattle.tl_fault.specs.OrMemory.{OrMemory}
 use Rattle.tl_fault.proofs.OrMemoryLemmas.{OrMemory-map}
 use Rattle.tl_text.specs.LineValue.{LineValue, WordsLine, words_line}
-use Rattle.cert_check.specs.CertText.{said_of, steps_said, fits_at, AreSaid}
-use Rattle.cert_check.specs.Reading.{IsMisfit, IsMalformed}
+use Rattle.cert_check.specs.CertText.{said_of, steps_said, fits_at, AreSaid, IsMalformed}
+use Rattle.cert_check.specs.Reading.{IsMisfit}
 use Rattle.cert_check.specs.Refusals.{refusal_of}
 use Rattle.cert_check.specs.declared.cert_err.CertErr.TheVariants.{Malformed}
 use Rattle.tl_fault.proofs.PassedOn.{passed_err}

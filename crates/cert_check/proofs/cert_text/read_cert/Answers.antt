@@ -2,8 +2,8 @@ use Rattle.std.proofs.Common.{List, map, Ok, sym, ap, ◌∙◌}
 use Rattle.tl_fault.proofs.OrMemoryLemmas.{OrMemory-map}
 use Rattle.tl_fault.specs.OrMemory.{OrMemory}
 use Rattle.tl_text.specs.LineValue.{LineValue, words_line}
-use Rattle.cert_check.specs.CertText.{IsCertTextFault, malformed}
-use Rattle.cert_check.specs.Reading.{IsMalformed}
+use Rattle.tl_text.specs.TextOf.{IsLinesFault, by_lines, at_line}
+use Rattle.cert_check.specs.CertText.{cert_err, IsMalformed, IsCertTextFault}
 use Rattle.cert_check.specs.Refusals.{refusal_of}
 use Rattle.tl_fault.proofs.PassedOn.{passed_err}
 use Rattle.cert_check.proofs.FormedLemmas.{text_writable}
@@ -11,7 +11,8 @@ use Rattle.cert_check.proofs.OnceLemmas.{one_reading}
 use Rattle.cert_check.proofs.cert_text.read_cert.Goals as goal
 
 pub returns-in_err-found-clause-fault : goal.returns-in_err-found-clause-fault
-returns-in_err-found-clause-fault c = passed_err c.from_residual.result c.in_err-found.field-0.0 (OrMemory refusal_of (IsCertTextFault c.args.text.now)) c.from_residual.ensures.1 c.in_err-found.ensures.fault
+returns-in_err-found-clause-fault c = passed_err c.from_residual.result c.in_err-found.field-0.0 (OrMemory refusal_of (IsCertTextFault c.args.text.now)) c.from_residual.ensures.1
+    (OrMemory-map refusal_of (IsLinesFault cert_err c.args.text.now) (IsCertTextFault c.args.text.now) c.in_err-found.field-0.0 (λ e f. by_lines f) c.in_err-found.ensures.fault)
 
 pub returns-in_err-found-clause-one_reading : goal.returns-in_err-found-clause-one_reading
 returns-in_err-found-clause-one_reading c = one_reading c.args.text.now
@@ -21,7 +22,7 @@ returns-in_err-cert-clause-fault c =
     let lines : List LineValue = c.deref.result.now in
     passed_err c.from_residual-in_err-cert.result c.in_err-cert.field-0.0 (OrMemory refusal_of (IsCertTextFault c.args.text.now)) c.from_residual-in_err-cert.ensures.1
     (OrMemory-map refusal_of (IsMalformed (map (words_line c.args.text.now) lines)) (IsCertTextFault c.args.text.now) c.in_err-cert.field-0.0
-    (λ e f. malformed f.line lines (c.in_ok-found.ensures.lines ∙ ap (λ l. Ok l) (sym c.deref.ensures.value)) f.first f.is) c.in_err-cert.ensures.fault)
+    (λ e f. at_line lines (c.in_ok-found.ensures.lines ∙ ap (λ l. Ok l) (sym c.deref.ensures.value)) f) c.in_err-cert.ensures.fault)
 
 pub returns-in_err-cert-clause-one_reading : goal.returns-in_err-cert-clause-one_reading
 returns-in_err-cert-clause-one_reading c = one_reading c.args.text.now

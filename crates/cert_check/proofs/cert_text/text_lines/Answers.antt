@@ -1,5 +1,8 @@
-use Rattle.cert_check.proofs.OnceLemmas.{text_fault}
+use Rattle.std.proofs.Common.{refl}
+use Rattle.tl_text.proofs.TextOfLemmas.{lines_fault}
+use Rattle.cert_check.specs.CertText.{cert_err}
+use Rattle.cert_check.specs.Refusals.{refusal_of}
 use Rattle.cert_check.proofs.cert_text.text_lines.Goals as goal
 
 pub returns-in-Err-clause-fault : goal.returns-in-Err-clause-fault
-returns-in-Err-clause-fault c = text_fault c.args.text.now c.in-Err.error c.lines_err.result c.lines_err.ensures c.in-Err.ensures.answer
+returns-in-Err-clause-fault c = lines_fault cert_err refusal_of c.args.text.now c.in-Err.error c.lines_err.result c.lines_err.ensures refl c.in-Err.ensures.answer

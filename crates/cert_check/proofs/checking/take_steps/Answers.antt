@@ -4,7 +4,8 @@ use Rattle.cert_check.specs.CertificateValue.{StepValue}
 use Rattle.cert_check.specs.Faults.{StepsFault}
 use Rattle.cert_check.specs.Refusals.{refusal_of}
 use Rattle.tl_fault.proofs.PassedOn.{passed_err}
-use Rattle.cert_check.proofs.CheckLemmas.{no_steps, next_stops, next_taken, all_turn, all_claims, passed_ok, passed_on_ok, Unless-of}
+use Rattle.tl_fault.proofs.OrMemoryLemmas.{Unless-of}
+use Rattle.cert_check.proofs.CheckLemmas.{no_steps, next_stops, next_taken, all_turn, all_claims, passed_ok, passed_on_ok}
 use Rattle.cert_check.proofs.checking.take_steps.Goals as goal
 
 pub returns-in_err-take_step : goal.returns-in_err-take_step

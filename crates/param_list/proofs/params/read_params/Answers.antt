@@ -2,16 +2,17 @@ use Rattle.std.proofs.Common.{List, map, Ok, sym, ap, ◌∙◌}
 use Rattle.tl_fault.proofs.OrMemoryLemmas.{OrMemory-map}
 use Rattle.tl_fault.specs.OrMemory.{OrMemory}
 use Rattle.tl_text.specs.LineValue.{LineValue, words_line}
-use Rattle.netlist.specs.FlatValue.{FlatValue}
+use Rattle.tl_text.specs.TextOf.{IsLinesFault, by_lines, at_line}
+use Rattle.param_list.specs.LinesErr.{par_err}
 use Rattle.param_list.specs.Refusals.{refusal_of}
-use Rattle.param_list.specs.ParamsText.{IsFirstRefusal, IsParamsFault, at_line}
+use Rattle.param_list.specs.ParamsText.{IsFirstRefusal, IsParamsFault}
 use Rattle.tl_fault.proofs.PassedOn.{passed_err}
 use Rattle.param_list.proofs.OnceLemmas.{one_reading, are_parameters}
 use Rattle.param_list.proofs.params.read_params.Goals as goal
 
 pub returns-in_err-found-clause-fault : goal.returns-in_err-found-clause-fault
 returns-in_err-found-clause-fault c = passed_err c.from_residual.result c.in_err-found.field-0.0 (OrMemory refusal_of (IsParamsFault c.args.flat.now c.args.text.now)) c.from_residual.ensures.1
-    (OrMemory-map refusal_of (λ e. (flat : FlatValue) → IsParamsFault flat c.args.text.now e) (IsParamsFault c.args.flat.now c.args.text.now) c.in_err-found.field-0.0 (λ e f. f c.args.flat.now) c.in_err-found.ensures.fault)
+    (OrMemory-map refusal_of (IsLinesFault par_err c.args.text.now) (IsParamsFault c.args.flat.now c.args.text.now) c.in_err-found.field-0.0 (λ e f. by_lines f) c.in_err-found.ensures.fault)
 
 pub returns-in_err-found-clause-one_reading : goal.returns-in_err-found-clause-one_reading
 returns-in_err-found-clause-one_reading c = one_reading c.args.flat.now c.args.text.now c.requires.once

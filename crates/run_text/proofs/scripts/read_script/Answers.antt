@@ -2,10 +2,10 @@ use Rattle.std.proofs.Common.{List, map, Ok, sym, ap, ◌∙◌}
 use Rattle.tl_fault.proofs.OrMemoryLemmas.{OrMemory-map}
 use Rattle.tl_fault.specs.OrMemory.{OrMemory}
 use Rattle.tl_text.specs.LineValue.{LineValue, words_line}
+use Rattle.tl_text.specs.TextOf.{IsLinesFault, by_lines, at_line}
 use Rattle.run_text.specs.EventValue.{event_values}
-use Rattle.run_text.specs.NamesValue.{NamesValue}
 use Rattle.run_text.specs.ScriptRefusals.{refusal_of}
-use Rattle.run_text.specs.ScriptText.{IsFirstRefusal, IsScriptFault, at_line}
+use Rattle.run_text.specs.ScriptText.{script_err, IsFirstRefusal, IsScriptFault}
 use Rattle.run_text.proofs.FitLemmas.{events_fit}
 use Rattle.tl_fault.proofs.PassedOn.{passed_err}
 use Rattle.run_text.proofs.ScriptOnceLemmas.{one_reading}
@@ -13,7 +13,7 @@ use Rattle.run_text.proofs.scripts.read_script.Goals as goal
 
 pub returns-in_err-found-clause-fault : goal.returns-in_err-found-clause-fault
 returns-in_err-found-clause-fault c = passed_err c.from_residual.result c.in_err-found.field-0.0 (OrMemory refusal_of (IsScriptFault c.args.names.now c.args.text.now)) c.from_residual.ensures.1
-    (OrMemory-map refusal_of (λ e. (names : NamesValue) → IsScriptFault names c.args.text.now e) (IsScriptFault c.args.names.now c.args.text.now) c.in_err-found.field-0.0 (λ e f. f c.args.names.now) c.in_err-found.ensures.fault)
+    (OrMemory-map refusal_of (IsLinesFault script_err c.args.text.now) (IsScriptFault c.args.names.now c.args.text.now) c.in_err-found.field-0.0 (λ e f. by_lines f) c.in_err-found.ensures.fault)
 
 pub returns-in_err-found-clause-one_reading : goal.returns-in_err-found-clause-one_reading
 returns-in_err-found-clause-one_reading c = one_reading c.args.names.now c.args.text.now
