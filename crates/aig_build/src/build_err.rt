@@ -1,7 +1,6 @@
 //! Why no graph was built.
 use aig_core::AigErr;
-use std::alloc::{AllocError, AllocFailed};
-use tl_fault::{Details, Refusal};
+use tl_fault::{Details, OutOfMemory, Refusal, Reported};
 
 /// Why no graph was built.
 #[derive(Debug, Drop, thiserror::Error)]
@@ -14,39 +13,26 @@ pub enum BuildErr {
     Memory,
 }
 
-impl<T: Drop> From<AllocFailed<T>> for BuildErr {
-    ghost use Rattle.std.specs.Prelude.{◌≡◌};
-    ghost use Rattle.aig_build.specs.declared.build_err.BuildErr.TheVariants.{Memory};
-
-    ghost from_gives = { λ _ e. e ≡ Memory };
-
-    fn from(_: AllocFailed<T>) -> BuildErr {
-        BuildErr::Memory
-    }
-}
-
-impl From<AllocError> for BuildErr {
-    ghost use Rattle.std.specs.Prelude.{◌≡◌};
-    ghost use Rattle.aig_build.specs.declared.build_err.BuildErr.TheVariants.{Memory};
-
-    ghost from_gives = { λ _ e. e ≡ Memory };
-
-    fn from(_: AllocError) -> BuildErr {
-        BuildErr::Memory
-    }
-}
-
-impl BuildErr {
-    ghost use Rattle.std.specs.Prelude.{◌≡◌};
+impl Reported for BuildErr {
     ghost use Rattle.aig_build.specs.Refusals.{refusal_of};
 
-    /// The refusal that the fault line reports. `None` if memory ran out.
-    pub fn refusal(self) -> Option<Refusal>
-        ensures { result ≡ refusal_of self }
-    {
+    ghost reports = { refusal_of };
+
+    fn refusal(self) -> Option<Refusal> {
         match self {
             BuildErr::TooManyNodes => Some(Refusal::new("L3", "TooManyNodes", Details::Nothing)),
             BuildErr::Memory => None,
         }
+    }
+}
+
+impl<E: OutOfMemory> From<E> for BuildErr {
+    ghost use Rattle.std.specs.Prelude.{◌≡◌};
+    ghost use Rattle.aig_build.specs.declared.build_err.BuildErr.TheVariants.{Memory};
+
+    ghost from_gives = { λ _ e. e ≡ Memory };
+
+    fn from(_: E) -> BuildErr {
+        BuildErr::Memory
     }
 }

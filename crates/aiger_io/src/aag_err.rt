@@ -1,6 +1,5 @@
 //! Why a text is refused as a circuit.
-use std::alloc::{AllocError, AllocFailed};
-use tl_fault::{Details, Name, Refusal};
+use tl_fault::{Details, Name, OutOfMemory, Refusal, Reported};
 
 /// Why a text is refused as an AIGER circuit. Lines are counted from 1.
 #[derive(Debug, Drop, thiserror::Error)]
@@ -25,36 +24,12 @@ pub enum AagErr {
     Memory,
 }
 
-impl<T: Drop> From<AllocFailed<T>> for AagErr {
-    ghost use Rattle.std.specs.Prelude.{◌≡◌};
-    ghost use Rattle.aiger_io.specs.declared.aag_err.AagErr.TheVariants.{Memory};
-
-    ghost from_gives = { λ _ e. e ≡ Memory };
-
-    fn from(_: AllocFailed<T>) -> AagErr {
-        AagErr::Memory
-    }
-}
-
-impl From<AllocError> for AagErr {
-    ghost use Rattle.std.specs.Prelude.{◌≡◌};
-    ghost use Rattle.aiger_io.specs.declared.aag_err.AagErr.TheVariants.{Memory};
-
-    ghost from_gives = { λ _ e. e ≡ Memory };
-
-    fn from(_: AllocError) -> AagErr {
-        AagErr::Memory
-    }
-}
-
-impl AagErr {
-    ghost use Rattle.std.specs.Prelude.{◌≡◌};
+impl Reported for AagErr {
     ghost use Rattle.aiger_io.specs.Refusals.{refusal_of};
 
-    /// The refusal that the fault line reports. `None` if memory ran out.
-    pub fn refusal(self) -> Option<Refusal>
-        ensures { result ≡ refusal_of self }
-    {
+    ghost reports = { refusal_of };
+
+    fn refusal(self) -> Option<Refusal> {
         match self {
             AagErr::Header => Some(Refusal::new("A1", "Header", Details::Line(1))),
             AagErr::Malformed(line) => Some(Refusal::new("A2", "Malformed", Details::Line(line))),
@@ -67,5 +42,16 @@ impl AagErr {
             AagErr::Unsupported => Some(Refusal::new("A5", "Unsupported", Details::Line(1))),
             AagErr::Memory => None,
         }
+    }
+}
+
+impl<E: OutOfMemory> From<E> for AagErr {
+    ghost use Rattle.std.specs.Prelude.{◌≡◌};
+    ghost use Rattle.aiger_io.specs.declared.aag_err.AagErr.TheVariants.{Memory};
+
+    ghost from_gives = { λ _ e. e ≡ Memory };
+
+    fn from(_: E) -> AagErr {
+        AagErr::Memory
     }
 }

@@ -1,7 +1,6 @@
 //! Why a library has no flat circuit.
 
-use std::alloc::{AllocError, AllocFailed};
-use tl_fault::{Details, Name, Names, Refusal};
+use tl_fault::{Details, Name, Names, OutOfMemory, Refusal, Reported};
 
 /// Why a library has no flat circuit. Most variants hold the name of a model, a logical line in it (counted from 1), and the
 /// name that is reported. A net is written as the ordinals of its instance, each followed by `/`, and the name at its driver.
@@ -45,36 +44,12 @@ pub enum FlatErr {
     Memory,
 }
 
-impl<T: Drop> From<AllocFailed<T>> for FlatErr {
-    ghost use Rattle.std.specs.Prelude.{◌≡◌};
-    ghost use Rattle.blif_flat.specs.declared.flat_err.FlatErr.TheVariants.{Memory};
-
-    ghost from_gives = { λ _ e. e ≡ Memory };
-
-    fn from(_: AllocFailed<T>) -> FlatErr {
-        FlatErr::Memory
-    }
-}
-
-impl From<AllocError> for FlatErr {
-    ghost use Rattle.std.specs.Prelude.{◌≡◌};
-    ghost use Rattle.blif_flat.specs.declared.flat_err.FlatErr.TheVariants.{Memory};
-
-    ghost from_gives = { λ _ e. e ≡ Memory };
-
-    fn from(_: AllocError) -> FlatErr {
-        FlatErr::Memory
-    }
-}
-
-impl FlatErr {
-    ghost use Rattle.std.specs.Prelude.{◌≡◌};
+impl Reported for FlatErr {
     ghost use Rattle.blif_flat.specs.Refusals.{refusal_of};
 
-    /// The refusal that is reported; `None` if memory ran out.
-    pub fn refusal(self) -> Option<Refusal>
-        ensures { result ≡ refusal_of self }
-    {
+    ghost reports = { refusal_of };
+
+    fn refusal(self) -> Option<Refusal> {
         match self {
             FlatErr::UnknownModel(model, line, name) => Some(Refusal::new(
                 "F1",
@@ -121,5 +96,16 @@ impl FlatErr {
             FlatErr::Loop(nets) => Some(Refusal::new("F10", "Loop", Details::Listed(nets))),
             FlatErr::Memory => None,
         }
+    }
+}
+
+impl<E: OutOfMemory> From<E> for FlatErr {
+    ghost use Rattle.std.specs.Prelude.{◌≡◌};
+    ghost use Rattle.blif_flat.specs.declared.flat_err.FlatErr.TheVariants.{Memory};
+
+    ghost from_gives = { λ _ e. e ≡ Memory };
+
+    fn from(_: E) -> FlatErr {
+        FlatErr::Memory
     }
 }

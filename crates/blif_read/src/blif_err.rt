@@ -1,6 +1,5 @@
 //! Why a text denotes no library.
-use std::alloc::{AllocError, AllocFailed};
-use tl_fault::{Details, Name, Refusal};
+use tl_fault::{Details, Name, OutOfMemory, Refusal, Reported};
 use tl_text::TextErr;
 
 /// Why a text denotes no library. Each number is that of a logical line; for the first two variants, of a physical line.
@@ -54,36 +53,12 @@ pub enum BlifErr {
     Memory,
 }
 
-impl<T: Drop> From<AllocFailed<T>> for BlifErr {
-    ghost use Rattle.std.specs.Prelude.{◌≡◌};
-    ghost use Rattle.blif_read.specs.declared.blif_err.BlifErr.TheVariants.{Memory};
-
-    ghost from_gives = { λ _ e. e ≡ Memory };
-
-    fn from(_: AllocFailed<T>) -> BlifErr {
-        BlifErr::Memory
-    }
-}
-
-impl From<AllocError> for BlifErr {
-    ghost use Rattle.std.specs.Prelude.{◌≡◌};
-    ghost use Rattle.blif_read.specs.declared.blif_err.BlifErr.TheVariants.{Memory};
-
-    ghost from_gives = { λ _ e. e ≡ Memory };
-
-    fn from(_: AllocError) -> BlifErr {
-        BlifErr::Memory
-    }
-}
-
-impl BlifErr {
-    ghost use Rattle.std.specs.Prelude.{◌≡◌};
+impl Reported for BlifErr {
     ghost use Rattle.blif_read.specs.Refusals.{refusal_of};
 
-    /// The refusal that is reported; `None` if memory ran out.
-    pub fn refusal(self) -> Option<Refusal>
-        ensures { result ≡ refusal_of self }
-    {
+    ghost reports = { refusal_of };
+
+    fn refusal(self) -> Option<Refusal> {
         match self {
             BlifErr::BadByte(line) => TextErr::BadByte(line).refusal(),
             BlifErr::TrailingSlash(line) => TextErr::TrailingSlash(line).refusal(),
@@ -125,5 +100,16 @@ impl BlifErr {
             BlifErr::NoModel => Some(Refusal::new("B12", "NoModel", Details::Nothing)),
             BlifErr::Memory => None,
         }
+    }
+}
+
+impl<E: OutOfMemory> From<E> for BlifErr {
+    ghost use Rattle.std.specs.Prelude.{◌≡◌};
+    ghost use Rattle.blif_read.specs.declared.blif_err.BlifErr.TheVariants.{Memory};
+
+    ghost from_gives = { λ _ e. e ≡ Memory };
+
+    fn from(_: E) -> BlifErr {
+        BlifErr::Memory
     }
 }

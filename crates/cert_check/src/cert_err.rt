@@ -1,6 +1,5 @@
 //! Why a certificate is refused.
-use std::alloc::{AllocError, AllocFailed};
-use tl_fault::{Details, Refusal};
+use tl_fault::{Details, OutOfMemory, Refusal, Reported};
 use tl_text::TextErr;
 
 /// Why a text is no certificate, or a certificate is invalid. The first number is that of a logical line, or of a physical
@@ -36,36 +35,12 @@ pub enum CertErr {
     Memory,
 }
 
-impl<T: Drop> From<AllocFailed<T>> for CertErr {
-    ghost use Rattle.std.specs.Prelude.{◌≡◌};
-    ghost use Rattle.cert_check.specs.declared.cert_err.CertErr.TheVariants.{Memory};
-
-    ghost from_gives = { λ _ e. e ≡ Memory };
-
-    fn from(_: AllocFailed<T>) -> CertErr {
-        CertErr::Memory
-    }
-}
-
-impl From<AllocError> for CertErr {
-    ghost use Rattle.std.specs.Prelude.{◌≡◌};
-    ghost use Rattle.cert_check.specs.declared.cert_err.CertErr.TheVariants.{Memory};
-
-    ghost from_gives = { λ _ e. e ≡ Memory };
-
-    fn from(_: AllocError) -> CertErr {
-        CertErr::Memory
-    }
-}
-
-impl CertErr {
-    ghost use Rattle.std.specs.Prelude.{◌≡◌};
+impl Reported for CertErr {
     ghost use Rattle.cert_check.specs.Refusals.{refusal_of};
 
-    /// The refusal that the fault line reports. `None` if memory ran out.
-    pub fn refusal(self) -> Option<Refusal>
-        ensures { result ≡ refusal_of self }
-    {
+    ghost reports = { refusal_of };
+
+    fn refusal(self) -> Option<Refusal> {
         match self {
             CertErr::BadByte(line) => TextErr::BadByte(line).refusal(),
             CertErr::TrailingSlash(line) => TextErr::TrailingSlash(line).refusal(),
@@ -79,5 +54,16 @@ impl CertErr {
             CertErr::NotReached => Some(Refusal::new("C6", "NotReached", Details::Nothing)),
             CertErr::Memory => None,
         }
+    }
+}
+
+impl<E: OutOfMemory> From<E> for CertErr {
+    ghost use Rattle.std.specs.Prelude.{◌≡◌};
+    ghost use Rattle.cert_check.specs.declared.cert_err.CertErr.TheVariants.{Memory};
+
+    ghost from_gives = { λ _ e. e ≡ Memory };
+
+    fn from(_: E) -> CertErr {
+        CertErr::Memory
     }
 }

@@ -21,6 +21,7 @@ use cert_check::{CertErr, Certificate, check, put_cert, read_cert};
 use cmd_base::{File, Outcome};
 use cmd_stations::{BuiltSource, read_file};
 use std::alloc::Global;
+use tl_fault::Reported;
 use tl_io::{Failed, FileSink, Shelf};
 
 // The outcome of a certificate's refusal.

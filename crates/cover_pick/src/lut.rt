@@ -1,8 +1,7 @@
 //! A LUT, and why a call returns no template.
 use aig_core::Lit;
 use cut_enum::Cut;
-use std::alloc::{AllocError, AllocFailed};
-use tl_fault::{Details, Refusal};
+use tl_fault::{Details, OutOfMemory, Refusal, Reported};
 
 /// The LUT of a literal: its leaves, and the address of its first bit. A LUT of m leaves has 2^m bits.
 #[derive(Drop)]
@@ -23,14 +22,12 @@ pub enum PickErr {
     Memory,
 }
 
-impl PickErr {
-    ghost use Rattle.std.specs.Prelude.{◌≡◌};
+impl Reported for PickErr {
     ghost use Rattle.cover_pick.specs.Refusals.{refusal_of};
 
-    /// The refusal that the fault line reports. `None` if memory ran out.
-    pub fn refusal(self) -> Option<Refusal>
-        ensures { result ≡ refusal_of self }
-    {
+    ghost reports = { refusal_of };
+
+    fn refusal(self) -> Option<Refusal> {
         match self {
             PickErr::Work => Some(Refusal::new("L6", "Work", Details::Nothing)),
             PickErr::Memory => None,
@@ -38,24 +35,13 @@ impl PickErr {
     }
 }
 
-impl<T: Drop> From<AllocFailed<T>> for PickErr {
+impl<E: OutOfMemory> From<E> for PickErr {
     ghost use Rattle.std.specs.Prelude.{◌≡◌};
     ghost use Rattle.cover_pick.specs.declared.lut.PickErr.TheVariants.{Memory};
 
     ghost from_gives = { λ _ e. e ≡ Memory };
 
-    fn from(_: AllocFailed<T>) -> PickErr {
-        PickErr::Memory
-    }
-}
-
-impl From<AllocError> for PickErr {
-    ghost use Rattle.std.specs.Prelude.{◌≡◌};
-    ghost use Rattle.cover_pick.specs.declared.lut.PickErr.TheVariants.{Memory};
-
-    ghost from_gives = { λ _ e. e ≡ Memory };
-
-    fn from(_: AllocError) -> PickErr {
+    fn from(_: E) -> PickErr {
         PickErr::Memory
     }
 }

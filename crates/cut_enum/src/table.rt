@@ -14,10 +14,10 @@ use crate::level::Level;
 use crate::limits::{MOST_LEAVES, MOST_OF_A_TABLE};
 use crate::row::row_of;
 use aig_core::{Graph, Steps};
-use std::alloc::{AllocError, AllocFailed, Global};
+use std::alloc::{AllocError, Global};
 use std::marker::{Brand, Model};
 use std::sync::ledger::{Blank, Ledger};
-use tl_fault::{Details, Refusal};
+use tl_fault::{Details, OutOfMemory, Refusal, Reported};
 
 /// Why `enumerate` returns no table.
 #[derive(Debug, PartialEq, Eq, Drop)]
@@ -30,14 +30,12 @@ pub enum CutErr {
     Memory,
 }
 
-impl CutErr {
-    ghost use Rattle.std.specs.Prelude.{◌≡◌};
+impl Reported for CutErr {
     ghost use Rattle.cut_enum.specs.Refusals.{refusal_of};
 
-    /// The code and details of the refusal, or `None` if memory ran out.
-    pub fn refusal(self) -> Option<Refusal>
-        ensures { result ≡ refusal_of self }
-    {
+    ghost reports = { refusal_of };
+
+    fn refusal(self) -> Option<Refusal> {
         match self {
             CutErr::NodeCuts(node) => Some(Refusal::new("L4", "NodeCuts", Details::Node(node))),
             CutErr::TotalCuts(node) => Some(Refusal::new("L5", "TotalCuts", Details::Node(node))),
@@ -46,24 +44,13 @@ impl CutErr {
     }
 }
 
-impl<T: Drop> From<AllocFailed<T>> for CutErr {
+impl<E: OutOfMemory> From<E> for CutErr {
     ghost use Rattle.std.specs.Prelude.{◌≡◌};
     ghost use Rattle.cut_enum.specs.declared.table.CutErr.TheVariants.{Memory};
 
     ghost from_gives = { λ _ e. e ≡ Memory };
 
-    fn from(_: AllocFailed<T>) -> CutErr {
-        CutErr::Memory
-    }
-}
-
-impl From<AllocError> for CutErr {
-    ghost use Rattle.std.specs.Prelude.{◌≡◌};
-    ghost use Rattle.cut_enum.specs.declared.table.CutErr.TheVariants.{Memory};
-
-    ghost from_gives = { λ _ e. e ≡ Memory };
-
-    fn from(_: AllocError) -> CutErr {
+    fn from(_: E) -> CutErr {
         CutErr::Memory
     }
 }

@@ -1,6 +1,5 @@
 //! Why a text is refused as a parameter list.
-use std::alloc::{AllocError, AllocFailed};
-use tl_fault::{Details, Name, Refusal};
+use tl_fault::{Details, Name, OutOfMemory, Refusal, Reported};
 use tl_text::TextErr;
 
 /// Why a text is refused as a parameter list. The number is that of a logical line, or of a physical line for the first two
@@ -33,36 +32,12 @@ pub enum ParErr {
     Memory,
 }
 
-impl<T: Drop> From<AllocFailed<T>> for ParErr {
-    ghost use Rattle.std.specs.Prelude.{◌≡◌};
-    ghost use Rattle.param_list.specs.declared.par_err.ParErr.TheVariants.{Memory};
-
-    ghost from_gives = { λ _ e. e ≡ Memory };
-
-    fn from(_: AllocFailed<T>) -> ParErr {
-        ParErr::Memory
-    }
-}
-
-impl From<AllocError> for ParErr {
-    ghost use Rattle.std.specs.Prelude.{◌≡◌};
-    ghost use Rattle.param_list.specs.declared.par_err.ParErr.TheVariants.{Memory};
-
-    ghost from_gives = { λ _ e. e ≡ Memory };
-
-    fn from(_: AllocError) -> ParErr {
-        ParErr::Memory
-    }
-}
-
-impl ParErr {
-    ghost use Rattle.std.specs.Prelude.{◌≡◌};
+impl Reported for ParErr {
     ghost use Rattle.param_list.specs.Refusals.{refusal_of};
 
-    /// The refusal that the fault line reports. `None` if memory ran out.
-    pub fn refusal(self) -> Option<Refusal>
-        ensures { result ≡ refusal_of self }
-    {
+    ghost reports = { refusal_of };
+
+    fn refusal(self) -> Option<Refusal> {
         match self {
             ParErr::BadByte(line) => TextErr::BadByte(line).refusal(),
             ParErr::TrailingSlash(line) => TextErr::TrailingSlash(line).refusal(),
@@ -85,5 +60,16 @@ impl ParErr {
             )),
             ParErr::Memory => None,
         }
+    }
+}
+
+impl<E: OutOfMemory> From<E> for ParErr {
+    ghost use Rattle.std.specs.Prelude.{◌≡◌};
+    ghost use Rattle.param_list.specs.declared.par_err.ParErr.TheVariants.{Memory};
+
+    ghost from_gives = { λ _ e. e ≡ Memory };
+
+    fn from(_: E) -> ParErr {
+        ParErr::Memory
     }
 }

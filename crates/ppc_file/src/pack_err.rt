@@ -1,6 +1,5 @@
 //! Why bytes are refused as a pack file.
-use std::alloc::{AllocError, AllocFailed};
-use tl_fault::{Details, Refusal};
+use tl_fault::{Details, OutOfMemory, Refusal, Reported};
 
 /// Why bytes are refused as a pack file. The number is the offset of the refused field.
 #[derive(Clone, Copy, Debug, PartialEq, Eq, thiserror::Error)]
@@ -36,36 +35,12 @@ pub enum PackErr {
     Memory,
 }
 
-impl<T: Drop> From<AllocFailed<T>> for PackErr {
-    ghost use Rattle.std.specs.Prelude.{◌≡◌};
-    ghost use Rattle.ppc_file.specs.declared.pack_err.PackErr.TheVariants.{Memory};
-
-    ghost from_gives = { λ _ e. e ≡ Memory };
-
-    fn from(_: AllocFailed<T>) -> PackErr {
-        PackErr::Memory
-    }
-}
-
-impl From<AllocError> for PackErr {
-    ghost use Rattle.std.specs.Prelude.{◌≡◌};
-    ghost use Rattle.ppc_file.specs.declared.pack_err.PackErr.TheVariants.{Memory};
-
-    ghost from_gives = { λ _ e. e ≡ Memory };
-
-    fn from(_: AllocError) -> PackErr {
-        PackErr::Memory
-    }
-}
-
-impl PackErr {
-    ghost use Rattle.std.specs.Prelude.{◌≡◌};
+impl Reported for PackErr {
     ghost use Rattle.ppc_file.specs.Refusals.{refusal_of};
 
-    /// The refusal that the fault line reports. `None` if memory ran out.
-    pub fn refusal(self) -> Option<Refusal>
-        ensures { result ≡ refusal_of self }
-    {
+    ghost reports = { refusal_of };
+
+    fn refusal(self) -> Option<Refusal> {
         let (code, word, at) = match self {
             PackErr::Magic(at) => ("K1", "Magic", at),
             PackErr::Version(at) => ("K2", "Version", at),
@@ -78,5 +53,16 @@ impl PackErr {
             PackErr::Memory => return None,
         };
         Some(Refusal::new(code, word, Details::Byte(at)))
+    }
+}
+
+impl<E: OutOfMemory> From<E> for PackErr {
+    ghost use Rattle.std.specs.Prelude.{◌≡◌};
+    ghost use Rattle.ppc_file.specs.declared.pack_err.PackErr.TheVariants.{Memory};
+
+    ghost from_gives = { λ _ e. e ≡ Memory };
+
+    fn from(_: E) -> PackErr {
+        PackErr::Memory
     }
 }

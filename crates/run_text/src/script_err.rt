@@ -1,6 +1,5 @@
 //! Why a text is refused as a script.
-use std::alloc::{AllocError, AllocFailed};
-use tl_fault::{Details, Name, Refusal};
+use tl_fault::{Details, Name, OutOfMemory, Refusal, Reported};
 use tl_text::TextErr;
 
 /// Why a text is refused as a script. The first number is that of a logical line, or of a physical line for the first two
@@ -39,36 +38,12 @@ pub enum ScriptErr {
     Memory,
 }
 
-impl<T: Drop> From<AllocFailed<T>> for ScriptErr {
-    ghost use Rattle.std.specs.Prelude.{◌≡◌};
-    ghost use Rattle.run_text.specs.declared.script_err.ScriptErr.TheVariants.{Memory};
-
-    ghost from_gives = { λ _ e. e ≡ Memory };
-
-    fn from(_: AllocFailed<T>) -> ScriptErr {
-        ScriptErr::Memory
-    }
-}
-
-impl From<AllocError> for ScriptErr {
-    ghost use Rattle.std.specs.Prelude.{◌≡◌};
-    ghost use Rattle.run_text.specs.declared.script_err.ScriptErr.TheVariants.{Memory};
-
-    ghost from_gives = { λ _ e. e ≡ Memory };
-
-    fn from(_: AllocError) -> ScriptErr {
-        ScriptErr::Memory
-    }
-}
-
-impl ScriptErr {
-    ghost use Rattle.std.specs.Prelude.{◌≡◌};
+impl Reported for ScriptErr {
     ghost use Rattle.run_text.specs.ScriptRefusals.{refusal_of};
 
-    /// The refusal that the fault line reports. `None` if memory ran out.
-    pub fn refusal(self) -> Option<Refusal>
-        ensures { result ≡ refusal_of self }
-    {
+    ghost reports = { refusal_of };
+
+    fn refusal(self) -> Option<Refusal> {
         match self {
             ScriptErr::BadByte(line) => TextErr::BadByte(line).refusal(),
             ScriptErr::TrailingSlash(line) => TextErr::TrailingSlash(line).refusal(),
@@ -99,5 +74,16 @@ impl ScriptErr {
             )),
             ScriptErr::Memory => None,
         }
+    }
+}
+
+impl<E: OutOfMemory> From<E> for ScriptErr {
+    ghost use Rattle.std.specs.Prelude.{◌≡◌};
+    ghost use Rattle.run_text.specs.declared.script_err.ScriptErr.TheVariants.{Memory};
+
+    ghost from_gives = { λ _ e. e ≡ Memory };
+
+    fn from(_: E) -> ScriptErr {
+        ScriptErr::Memory
     }
 }

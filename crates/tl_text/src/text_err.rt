@@ -1,6 +1,5 @@
 //! Why a text is refused.
-use std::alloc::{AllocError, AllocFailed};
-use tl_fault::{Details, Refusal};
+use tl_fault::{Details, OutOfMemory, Refusal, Reported};
 
 /// Why a text is refused. The number is that of the physical line, counted from 1.
 #[derive(Clone, Copy, Debug, PartialEq, Eq, thiserror::Error)]
@@ -16,36 +15,12 @@ pub enum TextErr {
     Memory,
 }
 
-impl<T: Drop> From<AllocFailed<T>> for TextErr {
-    ghost use Rattle.std.specs.Prelude.{◌≡◌};
-    ghost use Rattle.tl_text.specs.declared.text_err.TextErr.TheVariants.{Memory};
-
-    ghost from_gives = { λ _ e. e ≡ Memory };
-
-    fn from(_: AllocFailed<T>) -> TextErr {
-        TextErr::Memory
-    }
-}
-
-impl From<AllocError> for TextErr {
-    ghost use Rattle.std.specs.Prelude.{◌≡◌};
-    ghost use Rattle.tl_text.specs.declared.text_err.TextErr.TheVariants.{Memory};
-
-    ghost from_gives = { λ _ e. e ≡ Memory };
-
-    fn from(_: AllocError) -> TextErr {
-        TextErr::Memory
-    }
-}
-
-impl TextErr {
-    ghost use Rattle.std.specs.Prelude.{◌≡◌};
+impl Reported for TextErr {
     ghost use Rattle.tl_text.specs.Refusals.{refusal_of};
 
-    /// The refusal that is reported; `None` if memory ran out.
-    pub fn refusal(self) -> Option<Refusal>
-        ensures { result ≡ refusal_of self }
-    {
+    ghost reports = { refusal_of };
+
+    fn refusal(self) -> Option<Refusal> {
         match self {
             TextErr::BadByte(line) => Some(Refusal::new("T1", "BadByte", Details::Line(line))),
             TextErr::TrailingSlash(line) => Some(Refusal::new(
@@ -55,5 +30,16 @@ impl TextErr {
             )),
             TextErr::Memory => None,
         }
+    }
+}
+
+impl<E: OutOfMemory> From<E> for TextErr {
+    ghost use Rattle.std.specs.Prelude.{◌≡◌};
+    ghost use Rattle.tl_text.specs.declared.text_err.TextErr.TheVariants.{Memory};
+
+    ghost from_gives = { λ _ e. e ≡ Memory };
+
+    fn from(_: E) -> TextErr {
+        TextErr::Memory
     }
 }
