@@ -1,5 +1,5 @@
 -- A job of `prove`: a source circuit that is labelled is accepted, and its certificate is the verdict's, whole or cut off.
-use Rattle.std.proofs.Common.{◌≡◌, ◌≤◌, ℕ, List, [], ◌∷◌, Some, refl, sym, ap, ◌∙◌, subst}
+use Rattle.std.proofs.Common.{◌≡◌, ◌≤◌, ℕ, List, [], ◌∷◌, Some, sym, ap, ◌∙◌, subst}
 use Rattle.std.specs.Prelude.{string_bytes}
 use Rattle.tl_text.specs.declared.logical_lines.TheConstants.{MOST_BYTES}
 use Rattle.tl_fault.specs.RefusalValue.{RefusalValue}
@@ -17,7 +17,7 @@ use Rattle.depth_label.specs.Label.{label_of}
 use Rattle.flow_cert.proofs.NeededLemmas.{same_label_claims, same_needed}
 use Rattle.cmd_base.specs.Outside.{outside}
 use Rattle.cmd_base.specs.Writing.{FileText, AreWritten, IsCut}
-use Rattle.cmd_base.specs.Ends.{Told, IsBegun, IsBegunFrom, Ends}
+use Rattle.cmd_base.specs.Ends.{Told, IsBegun, Ends}
 use Rattle.cmd_base.specs.WalkLaws.{HasLaws}
 use Rattle.cmd_base.specs.declared.outcome.File.{File}
 use Rattle.cmd_base.specs.declared.outcome.Outcome.TheVariants as outcome
@@ -26,7 +26,7 @@ use Rattle.cmd_stations.specs.Aims.{ToLabels}
 use Rattle.cmd_stations.specs.Source.{IsSourceRefused}
 use Rattle.cmd_stations.specs.Settled.{IsSourceSettled}
 use Rattle.cmd_stations.specs.Built.{ComesToLabels}
-use Rattle.cmd_stations.proofs.WriteAllLemmas.{cut_cause}
+use Rattle.cmd_stations.proofs.WritingWalkLemmas.{writing_done, writing_cut}
 use Rattle.cmd_stations.proofs.ClashLemmas.{refused_unmade}
 use Rattle.cmd_stations.proofs.RefusedLemmas.{source_refused_once}
 use Rattle.cmd_cert.specs.declared.prove.job.Proof.{Proof}
@@ -45,9 +45,6 @@ module _ (words : CertWords) (p : Proof) (is : IsProof words.source.k p) where
   -- a job that came past its labels, and wrote
   module _ (old mid new : ShelfSeen) (same : (out : SinkSeen) (ports : List PortSeen) → outside mid out ports ≡ outside old out ports) (few : mid.given ≤ MOST_BYTES) (given : new.given ≡ mid.given) (comes : Told old.files (λ files. ComesToLabels files words.source p.labelled))
       (before after : SinkSeen) (ports : List PortSeen) where
-    begun_from : IsBegunFrom (prove_walk words) old new
-    begun_from = record { given = subst (λ n. n ≤ MOST_BYTES) (sym given) few; begun = λ files told. prove_begun files words p.labelled (comes files told) }
-
     has_proof : (files : Files) → old.files ≡ Some files → (P : List FileText → List ℕ → Type 0) → P texts (string_bytes p.line) → HasProof files words P
     has_proof files told P ends =
         let past = comes files told in
@@ -74,21 +71,12 @@ module _ (words : CertWords) (p : Proof) (is : IsProof words.source.k p) where
         }
 
     pub prove_done : AreWritten texts (string_bytes p.line) (outside mid before ports) (outside new after ports) → Ends (prove_walk words) old new (outside old before ports) (outside new after ports) outcome.Done
-    prove_done all = (
-      begun_from,
-      λ files told. has_proof files told (λ ts line. AreWritten ts line (outside old before ports) (outside new after ports))
-          (subst (λ w. AreWritten texts (string_bytes p.line) w (outside new after ports)) (same before ports) all),
-      refl,
-    )
+    prove_done all = writing_done ToLabels words.source (λ files. HasProveJob files words.source) (λ files P. HasProof files words P) texts (string_bytes p.line) old mid new same few given
+        (λ files told. prove_begun files words p.labelled (comes files told)) has_proof before after ports all
 
     pub prove_cut : IsCut texts (string_bytes p.line) (outside mid before ports) (outside new after ports) → Ends (prove_walk words) old new (outside old before ports) (outside new after ports) outcome.WriteFault
-    prove_cut part =
-        let cut = subst (λ w. IsCut texts (string_bytes p.line) w (outside new after ports)) (same before ports) part in (
-          begun_from,
-          λ files told. has_proof files told (λ ts line. IsCut ts line (outside old before ports) (outside new after ports)) cut,
-          refl,
-          cut_cause (prove_walk words) texts (string_bytes p.line) (outside old before ports) (outside new after ports) tt cut,
-        )
+    prove_cut part = writing_cut ToLabels words.source (λ files. HasProveJob files words.source) (λ files P. HasProof files words P) texts (string_bytes p.line) old mid new same few given
+        (λ files told. prove_begun files words p.labelled (comes files told)) has_proof before after ports part
 
 -- a source circuit that is labelled isn't refused
 labelled_or : (files : Files) (words : CertWords) → IsSourceSettled ToLabels files words.source → (job : HasProveJob files words.source) (f : File) (r : RefusalValue) → IsSourceRefused ToLabels files words.source f r → ⊥

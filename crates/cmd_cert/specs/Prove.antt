@@ -1,5 +1,5 @@
 -- The walk of `prove`: a source circuit is labelled, and the certificate of its least depth is written.
-use Rattle.std.specs.Prelude.{◌≡◌, ℕ, List, [], ◌∷◌}
+use Rattle.std.specs.Prelude.{ℕ, List, [], ◌∷◌}
 use Rattle.tl_io.specs.Shelf.{Files}
 use Rattle.aig_core.specs.Aig.{Aig}
 use Rattle.aig_core.specs.Roots.{RootsValue, roots_of}
@@ -12,12 +12,12 @@ use Rattle.cert_check.specs.WrittenText.{cert_text}
 use Rattle.depth_label.specs.Label.{label_of}
 use Rattle.flow_cert.specs.Needed.{AreLabelClaims, AreNeeded}
 use Rattle.cmd_base.specs.Walk.{Walk}
-use Rattle.cmd_base.specs.Writing.{FileText, AreWritten, IsCut}
+use Rattle.cmd_base.specs.Writing.{FileText}
 use Rattle.cmd_stations.specs.declared.source.Source.{Source}
 use Rattle.cmd_stations.specs.Words.{SourceWords}
 use Rattle.cmd_stations.specs.Aims.{ToLabels}
 use Rattle.cmd_stations.specs.Source.{HasLabels}
-use Rattle.cmd_stations.specs.Settled.{source_reading}
+use Rattle.cmd_stations.specs.WritingWalk.{writing_walk}
 use Rattle.cmd_cert.specs.Words.{CertWords}
 use Rattle.cmd_cert.specs.Certs.{proved_line}
 
@@ -46,14 +46,4 @@ pub record HasProveJob (files : Files) (words : SourceWords) : Type 0 where
   pub has : HasLabels files words source graph roots
 
 abbrev pub prove_walk : CertWords → Walk
-prove_walk words = record {
-  reading = source_reading ToLabels words.source;
-  IsAccepted = λ files. HasProveJob files words.source;
-  IsDone = λ files old new. HasProof files words (λ texts line. AreWritten texts line old new);
-  IsCutOff = λ files old new. HasProof files words (λ texts line. IsCut texts line old new);
-  IsLost = λ files old new. ⊥;
-  Shows = λ files old new. Unit {0};
-  WritesFiles = Unit {0};
-  KeepsPorts = λ old new. new.ports ≡ old.ports;
-  HasPortFault = λ old new. ⊥;
-}
+prove_walk words = writing_walk ToLabels words.source (λ files. HasProveJob files words.source) (λ files P. HasProof files words P)

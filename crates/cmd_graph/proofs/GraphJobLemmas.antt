@@ -1,5 +1,5 @@
 -- A job of `graph`: a source circuit that has a graph is accepted, and the circuit of its graph is the verdict's, whole or cut off.
-use Rattle.std.proofs.Common.{◌≡◌, ◌≤◌, ℕ, List, [], ◌∷◌, Some, refl, sym, subst}
+use Rattle.std.proofs.Common.{◌≡◌, ◌≤◌, ℕ, List, [], ◌∷◌, Some, subst}
 use Rattle.std.specs.Prelude.{string_bytes}
 use Rattle.tl_text.specs.declared.logical_lines.TheConstants.{MOST_BYTES}
 use Rattle.tl_fault.specs.RefusalValue.{RefusalValue}
@@ -10,7 +10,7 @@ use Rattle.aiger_io.specs.Circuit.{Circuit}
 use Rattle.aiger_io.specs.WrittenText.{circuit_text}
 use Rattle.cmd_base.specs.Outside.{outside}
 use Rattle.cmd_base.specs.Writing.{FileText, AreWritten, IsCut}
-use Rattle.cmd_base.specs.Ends.{Told, IsBegun, IsBegunFrom, Ends}
+use Rattle.cmd_base.specs.Ends.{Told, IsBegun, Ends}
 use Rattle.cmd_base.specs.WalkLaws.{HasLaws}
 use Rattle.cmd_base.specs.declared.outcome.File.{File}
 use Rattle.cmd_base.specs.declared.outcome.Outcome.TheVariants as outcome
@@ -19,7 +19,7 @@ use Rattle.cmd_stations.specs.Aims.{ToGraph}
 use Rattle.cmd_stations.specs.Source.{IsSourceRefused}
 use Rattle.cmd_stations.specs.Settled.{IsSourceSettled}
 use Rattle.cmd_stations.specs.Built.{ComesToGraph}
-use Rattle.cmd_stations.proofs.WriteAllLemmas.{cut_cause}
+use Rattle.cmd_stations.proofs.WritingWalkLemmas.{writing_done, writing_cut}
 use Rattle.cmd_stations.proofs.ClashLemmas.{refused_unmade}
 use Rattle.cmd_stations.proofs.RefusedLemmas.{source_refused_once}
 use Rattle.cmd_graph.specs.declared.export.Export.{Export}
@@ -41,9 +41,6 @@ module _ (words : GraphWords) (e : Export) (is : IsExport e) where
   -- a job that came past its graph, and wrote
   module _ (old mid new : ShelfSeen) (same : (out : SinkSeen) (ports : List PortSeen) → outside mid out ports ≡ outside old out ports) (few : mid.given ≤ MOST_BYTES) (given : new.given ≡ mid.given) (comes : Told old.files (λ files. ComesToGraph files words.source e.built))
       (before after : SinkSeen) (ports : List PortSeen) where
-    begun_from : IsBegunFrom (graph_walk words) old new
-    begun_from = record { given = subst (λ n. n ≤ MOST_BYTES) (sym given) few; begun = λ files told. graph_begun files words e.built (comes files told) }
-
     has_export : (files : Files) → old.files ≡ Some files → (P : List FileText → List ℕ → Type 0) → P texts (string_bytes e.line) → HasExport files words P
     has_export files told P ends = record {
       source = e.built.source;
@@ -58,21 +55,12 @@ module _ (words : GraphWords) (e : Export) (is : IsExport e) where
     }
 
     pub graph_done : AreWritten texts (string_bytes e.line) (outside mid before ports) (outside new after ports) → Ends (graph_walk words) old new (outside old before ports) (outside new after ports) outcome.Done
-    graph_done all = (
-      begun_from,
-      λ files told. has_export files told (λ ts line. AreWritten ts line (outside old before ports) (outside new after ports))
-          (subst (λ w. AreWritten texts (string_bytes e.line) w (outside new after ports)) (same before ports) all),
-      refl,
-    )
+    graph_done all = writing_done ToGraph words.source (λ files. HasGraphJob files words.source) (λ files P. HasExport files words P) texts (string_bytes e.line) old mid new same few given
+        (λ files told. graph_begun files words e.built (comes files told)) has_export before after ports all
 
     pub graph_cut : IsCut texts (string_bytes e.line) (outside mid before ports) (outside new after ports) → Ends (graph_walk words) old new (outside old before ports) (outside new after ports) outcome.WriteFault
-    graph_cut part =
-        let cut = subst (λ w. IsCut texts (string_bytes e.line) w (outside new after ports)) (same before ports) part in (
-          begun_from,
-          λ files told. has_export files told (λ ts line. IsCut ts line (outside old before ports) (outside new after ports)) cut,
-          refl,
-          cut_cause (graph_walk words) texts (string_bytes e.line) (outside old before ports) (outside new after ports) tt cut,
-        )
+    graph_cut part = writing_cut ToGraph words.source (λ files. HasGraphJob files words.source) (λ files P. HasExport files words P) texts (string_bytes e.line) old mid new same few given
+        (λ files told. graph_begun files words e.built (comes files told)) has_export before after ports part
 
 -- a source circuit that has a graph isn't refused
 built_or : (files : Files) (words : GraphWords) → IsSourceSettled ToGraph files words.source → (job : HasGraphJob files words.source) (f : File) (r : RefusalValue) → IsSourceRefused ToGraph files words.source f r → ⊥

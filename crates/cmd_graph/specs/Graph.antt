@@ -1,5 +1,5 @@
 -- The walk of `graph`: a source circuit is read, and its graph is written as the text of its circuit.
-use Rattle.std.specs.Prelude.{◌≡◌, ℕ, List, [], ◌∷◌, codes, decimal}
+use Rattle.std.specs.Prelude.{ℕ, List, [], ◌∷◌, codes, decimal}
 use Rattle.std.specs.List.{concat}
 use Rattle.list_laws.specs.Members.{In}
 use Rattle.tl_io.specs.Shelf.{Files}
@@ -17,12 +17,12 @@ use Rattle.aiger_io.specs.Run.{HasOneFit, HasSameRuns}
 use Rattle.aiger_io.specs.WrittenText.{circuit_text}
 use Rattle.aiger_io.specs.declared.header.Header.{Header}
 use Rattle.cmd_base.specs.Walk.{Walk}
-use Rattle.cmd_base.specs.Writing.{FileText, AreWritten, IsCut}
+use Rattle.cmd_base.specs.Writing.{FileText}
 use Rattle.cmd_stations.specs.declared.source.Source.{Source}
 use Rattle.cmd_stations.specs.Words.{SourceWords}
 use Rattle.cmd_stations.specs.Aims.{ToGraph}
 use Rattle.cmd_stations.specs.Source.{HasGraph}
-use Rattle.cmd_stations.specs.Settled.{source_reading}
+use Rattle.cmd_stations.specs.WritingWalk.{writing_walk}
 use Rattle.cmd_graph.specs.Words.{GraphWords}
 
 -- the line that it prints
@@ -68,14 +68,4 @@ pub record HasGraphJob (files : Files) (words : SourceWords) : Type 0 where
   pub has : HasGraph files words source graph roots
 
 abbrev pub graph_walk : GraphWords → Walk
-graph_walk words = record {
-  reading = source_reading ToGraph words.source;
-  IsAccepted = λ files. HasGraphJob files words.source;
-  IsDone = λ files old new. HasExport files words (λ texts line. AreWritten texts line old new);
-  IsCutOff = λ files old new. HasExport files words (λ texts line. IsCut texts line old new);
-  IsLost = λ files old new. ⊥;
-  Shows = λ files old new. Unit {0};
-  WritesFiles = Unit {0};
-  KeepsPorts = λ old new. new.ports ≡ old.ports;
-  HasPortFault = λ old new. ⊥;
-}
+graph_walk words = writing_walk ToGraph words.source (λ files. HasGraphJob files words.source) (λ files P. HasExport files words P)

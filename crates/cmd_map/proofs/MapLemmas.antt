@@ -1,5 +1,5 @@
 -- A job of `map`: a source circuit that is mapped is accepted, and its written template and pack are the verdict's, whole or cut off.
-use Rattle.std.proofs.Common.{◌≡◌, ◌≤◌, List, [], ◌∷◌, ℕ, Some, refl, sym, subst}
+use Rattle.std.proofs.Common.{◌≡◌, ◌≤◌, List, [], ◌∷◌, ℕ, Some}
 use Rattle.tl_text.specs.declared.logical_lines.TheConstants.{MOST_BYTES}
 use Rattle.tl_io.specs.Port.{PortSeen}
 use Rattle.tl_io.specs.Shelf.{Files, ShelfSeen}
@@ -7,18 +7,20 @@ use Rattle.tl_io.specs.Sink.{SinkSeen}
 use Rattle.blif_write.specs.PlainNetlist.{netlist_text}
 use Rattle.cmd_base.specs.Outside.{outside}
 use Rattle.cmd_base.specs.Writing.{FileText, AreWritten, IsCut}
-use Rattle.cmd_base.specs.Ends.{Told, IsBegun, IsBegunFrom, Ends}
+use Rattle.cmd_base.specs.Ends.{Told, IsBegun, Ends}
 use Rattle.cmd_base.specs.declared.outcome.Outcome.TheVariants as outcome
 use Rattle.cmd_stations.specs.declared.mapped.MappedSource.{MappedSource}
 use Rattle.cmd_stations.specs.Mapped.{template_header}
 use Rattle.cmd_stations.specs.Tables.{AreMade, ComesPast}
 use Rattle.cmd_stations.specs.Written.{IsTuned, template_of}
-use Rattle.cmd_stations.proofs.WriteAllLemmas.{cut_cause}
+use Rattle.cmd_stations.proofs.WritingWalkLemmas.{writing_done, writing_cut}
 use Rattle.cmd_map.specs.Map.Words.{MapWords}
 use Rattle.cmd_map.specs.Map.Verdict.{HasMap, map_walk}
 use Rattle.cmd_stations.proofs.OnceLemmas.{least_mapped}
 use Rattle.cmd_map.proofs.MachineReplayLemmas.{replays_machine}
 use Rattle.cmd_stations.specs.Packs.{present_bytes}
+use Rattle.cmd_stations.specs.Aims.{ToTables}
+use Rattle.cmd_stations.specs.Source.{IsMappedFrom}
 
 map_begun : (files : Files) (words : MapWords) (m : MappedSource) → ComesPast files words.source m → IsBegun (map_walk words) files
 map_begun files words m past = record { accepted = record { source = m.source; template = m.tables.template; has = past.has }; settled = past.settled }
@@ -31,9 +33,6 @@ texts m template pack = record { name = template; bytes = netlist_text (template
 module _ (m : MappedSource) (made : AreMade m.source m.tables) (means : IsTuned m.source m.tables.template m.tables.pack (template_of m.source m.tables.template))
     (words : MapWords) (old mid new : ShelfSeen) (same : (out : SinkSeen) (ports : List PortSeen) → outside mid out ports ≡ outside old out ports) (few : mid.given ≤ MOST_BYTES) (given : new.given ≡ mid.given) (comes : Told old.files (λ files. ComesPast files words.source m))
     (before after : SinkSeen) (ports : List PortSeen) where
-  begun_from : IsBegunFrom (map_walk words) old new
-  begun_from = record { given = subst (λ n. n ≤ MOST_BYTES) (sym given) few; begun = λ files told. map_begun files words m (comes files told) }
-
   has_map : (files : Files) → old.files ≡ Some files → (P : List FileText → List ℕ → Type 0) → P (texts m words.template words.pack) (template_header m.tables.template) → HasMap files words P
   has_map files told P ends =
       let past = comes files told in
@@ -52,19 +51,10 @@ module _ (m : MappedSource) (made : AreMade m.source m.tables) (means : IsTuned 
 
   pub map_done : AreWritten (texts m words.template words.pack) (template_header m.tables.template) (outside mid before ports) (outside new after ports)
       → Ends (map_walk words) old new (outside old before ports) (outside new after ports) outcome.Done
-  map_done all = (
-    begun_from,
-    λ files told. has_map files told (λ ts line. AreWritten ts line (outside old before ports) (outside new after ports))
-        (subst (λ w. AreWritten (texts m words.template words.pack) (template_header m.tables.template) w (outside new after ports)) (same before ports) all),
-    refl,
-  )
+  map_done all = writing_done ToTables words.source (λ files. IsMappedFrom files words.source) (λ files P. HasMap files words P) (texts m words.template words.pack) (template_header m.tables.template) old mid new same few given
+      (λ files told. map_begun files words m (comes files told)) has_map before after ports all
 
   pub map_cut : IsCut (texts m words.template words.pack) (template_header m.tables.template) (outside mid before ports) (outside new after ports)
       → Ends (map_walk words) old new (outside old before ports) (outside new after ports) outcome.WriteFault
-  map_cut part =
-      let cut = subst (λ w. IsCut (texts m words.template words.pack) (template_header m.tables.template) w (outside new after ports)) (same before ports) part in (
-        begun_from,
-        λ files told. has_map files told (λ ts line. IsCut ts line (outside old before ports) (outside new after ports)) cut,
-        refl,
-        cut_cause (map_walk words) (texts m words.template words.pack) (template_header m.tables.template) (outside old before ports) (outside new after ports) tt cut,
-      )
+  map_cut part = writing_cut ToTables words.source (λ files. IsMappedFrom files words.source) (λ files P. HasMap files words P) (texts m words.template words.pack) (template_header m.tables.template) old mid new same few given
+      (λ files told. map_begun files words m (comes files told)) has_map before after ports part

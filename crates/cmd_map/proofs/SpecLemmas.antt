@@ -1,5 +1,5 @@
 -- A job of `spec`: a source circuit that is mapped is accepted, and its written netlist is the verdict's, whole or cut off.
-use Rattle.std.proofs.Common.{◌≡◌, ◌≤◌, Bool, List, [], ◌∷◌, ℕ, length, Some, refl, sym, subst}
+use Rattle.std.proofs.Common.{◌≡◌, ◌≤◌, Bool, List, [], ◌∷◌, ℕ, length, Some, subst}
 use Rattle.std.proofs.lemmas.List.{length-map}
 use Rattle.tl_text.specs.declared.logical_lines.TheConstants.{MOST_BYTES}
 use Rattle.tl_io.specs.Port.{PortSeen}
@@ -13,18 +13,20 @@ use Rattle.bit_fun.specs.Configuration.{IsConfiguration}
 use Rattle.blif_write.specs.PlainNetlist.{netlist_text}
 use Rattle.cmd_base.specs.Outside.{outside}
 use Rattle.cmd_base.specs.Writing.{FileText, AreWritten, IsCut}
-use Rattle.cmd_base.specs.Ends.{Told, IsBegun, IsBegunFrom, Ends}
+use Rattle.cmd_base.specs.Ends.{Told, IsBegun, Ends}
 use Rattle.cmd_base.specs.declared.outcome.Outcome.TheVariants as outcome
 use Rattle.cmd_stations.specs.declared.mapped.MappedSource.{MappedSource}
 use Rattle.cmd_stations.specs.Mapped.{template_header}
 use Rattle.cmd_stations.specs.Tables.{AreMade, ComesPast}
 use Rattle.cmd_stations.specs.Written.{RunsAs, specialised_of}
-use Rattle.cmd_stations.proofs.WriteAllLemmas.{cut_cause}
+use Rattle.cmd_stations.proofs.WritingWalkLemmas.{writing_done, writing_cut}
 use Rattle.cmd_map.specs.Spec.Words.{SpecWords}
 use Rattle.cmd_map.specs.Spec.Verdict.{HasSpec, spec_walk}
 use Rattle.cmd_stations.proofs.OnceLemmas.{least_mapped}
 use Rattle.cmd_stations.proofs.GraphLemmas.{same_graph}
 use Rattle.cmd_stations.proofs.InitLemmas.{init_params}
+use Rattle.cmd_stations.specs.Aims.{ToTables}
+use Rattle.cmd_stations.specs.Source.{IsMappedFrom}
 
 spec_begun : (files : Files) (words : SpecWords) (m : MappedSource) → ComesPast files words.source m → IsBegun (spec_walk words) files
 spec_begun files words m past = record { accepted = record { source = m.source; template = m.tables.template; has = past.has }; settled = past.settled }
@@ -45,9 +47,6 @@ module _ (m : MappedSource) (made : AreMade m.source m.tables) (config : List Bo
   module _ (means : (params : List Bool) → length params ≡ length m.source.params.list → IsConf m.tables.pack params config → RunsAs m.source params (specialised_of m.source m.tables.template config))
       (words : SpecWords) (old mid new : ShelfSeen) (same : (out : SinkSeen) (ports : List PortSeen) → outside mid out ports ≡ outside old out ports) (few : mid.given ≤ MOST_BYTES) (given : new.given ≡ mid.given) (comes : Told old.files (λ files. ComesPast files words.source m))
       (before after : SinkSeen) (ports : List PortSeen) where
-    begun_from : IsBegunFrom (spec_walk words) old new
-    begun_from = record { given = subst (λ n. n ≤ MOST_BYTES) (sym given) few; begun = λ files told. spec_begun files words m (comes files told) }
-
     has_spec : (files : Files) → old.files ≡ Some files → (P : List FileText → List ℕ → Type 0) → P (texts words.out) (template_header m.tables.template) → HasSpec files words P
     has_spec files told P ends =
         let past = comes files told in
@@ -64,19 +63,10 @@ module _ (m : MappedSource) (made : AreMade m.source m.tables) (config : List Bo
 
     pub spec_done : AreWritten (texts words.out) (template_header m.tables.template) (outside mid before ports) (outside new after ports)
         → Ends (spec_walk words) old new (outside old before ports) (outside new after ports) outcome.Done
-    spec_done all = (
-      begun_from,
-      λ files told. has_spec files told (λ ts line. AreWritten ts line (outside old before ports) (outside new after ports))
-          (subst (λ w. AreWritten (texts words.out) (template_header m.tables.template) w (outside new after ports)) (same before ports) all),
-      refl,
-    )
+    spec_done all = writing_done ToTables words.source (λ files. IsMappedFrom files words.source) (λ files P. HasSpec files words P) (texts words.out) (template_header m.tables.template) old mid new same few given
+        (λ files told. spec_begun files words m (comes files told)) has_spec before after ports all
 
     pub spec_cut : IsCut (texts words.out) (template_header m.tables.template) (outside mid before ports) (outside new after ports)
         → Ends (spec_walk words) old new (outside old before ports) (outside new after ports) outcome.WriteFault
-    spec_cut part =
-        let cut = subst (λ w. IsCut (texts words.out) (template_header m.tables.template) w (outside new after ports)) (same before ports) part in (
-          begun_from,
-          λ files told. has_spec files told (λ ts line. IsCut ts line (outside old before ports) (outside new after ports)) cut,
-          refl,
-          cut_cause (spec_walk words) (texts words.out) (template_header m.tables.template) (outside old before ports) (outside new after ports) tt cut,
-        )
+    spec_cut part = writing_cut ToTables words.source (λ files. IsMappedFrom files words.source) (λ files P. HasSpec files words P) (texts words.out) (template_header m.tables.template) old mid new same few given
+        (λ files told. spec_begun files words m (comes files told)) has_spec before after ports part

@@ -20,6 +20,7 @@ pub mod InitLemmas
 -- of what is written,
 pub mod WriteLemmas
 pub mod WriteAllLemmas
+pub mod WritingWalkLemmas
 mod WrittenTableLemmas
 mod WrittenCycleLemmas
 -- and of packs and their hosts.

@@ -20,6 +20,8 @@ pub mod Host
 pub mod Replay
 -- and that each file says one thing.
 pub mod Settled
+-- A walk that several commands have.
+pub mod WritingWalk
 -- What only bodies are compared with.
 pub mod Stops
 pub mod Unread

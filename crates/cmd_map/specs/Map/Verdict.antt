@@ -1,15 +1,15 @@
 -- The walk of `map`.
-use Rattle.std.specs.Prelude.{◌≡◌, ℕ, List, [], ◌∷◌}
+use Rattle.std.specs.Prelude.{ℕ, List, [], ◌∷◌}
 use Rattle.tl_io.specs.Shelf.{Files}
 use Rattle.cover_pick.specs.Template.{TemplateValue}
 use Rattle.ppc_pack.specs.Pack.{PackValue}
 use Rattle.blif_write.specs.PlainNetlist.{netlist_text}
 use Rattle.cmd_base.specs.Walk.{Walk}
-use Rattle.cmd_base.specs.Writing.{FileText, AreWritten, IsCut}
+use Rattle.cmd_base.specs.Writing.{FileText}
 use Rattle.cmd_stations.specs.declared.source.Source.{Source}
 use Rattle.cmd_stations.specs.Mapped.{template_header}
 use Rattle.cmd_stations.specs.Source.{HasMapped, IsLeastMapped, IsMappedFrom}
-use Rattle.cmd_stations.specs.Settled.{source_reading}
+use Rattle.cmd_stations.specs.WritingWalk.{writing_walk}
 use Rattle.cmd_stations.specs.Tunable.{IsTunable}
 use Rattle.cmd_stations.specs.Written.{IsTuned, template_of}
 use Rattle.cmd_map.specs.Map.Replay.{ReplaysMachine}
@@ -31,14 +31,4 @@ pub record HasMap (files : Files) (words : MapWords) (Ends : List FileText → L
   pub replays : ReplaysMachine source template pack
 
 abbrev pub map_walk : MapWords → Walk
-map_walk words = record {
-  reading = source_reading ToTables words.source;
-  IsAccepted = λ files. IsMappedFrom files words.source;
-  IsDone = λ files old new. HasMap files words (λ texts line. AreWritten texts line old new);
-  IsCutOff = λ files old new. HasMap files words (λ texts line. IsCut texts line old new);
-  IsLost = λ files old new. ⊥;
-  Shows = λ files old new. Unit {0};
-  WritesFiles = Unit {0};
-  KeepsPorts = λ old new. new.ports ≡ old.ports;
-  HasPortFault = λ old new. ⊥;
-}
+map_walk words = writing_walk ToTables words.source (λ files. IsMappedFrom files words.source) (λ files P. HasMap files words P)

@@ -1,16 +1,16 @@
 -- The walk of `spec`.
-use Rattle.std.specs.Prelude.{◌≡◌, ℕ, Bool, List, [], ◌∷◌}
+use Rattle.std.specs.Prelude.{ℕ, Bool, List, [], ◌∷◌}
 use Rattle.tl_io.specs.Shelf.{Files}
 use Rattle.cover_pick.specs.Template.{TemplateValue}
 use Rattle.bit_fun.specs.Configuration.{IsConfiguration}
 use Rattle.param_list.specs.Parameters.{param_inits}
 use Rattle.blif_write.specs.PlainNetlist.{netlist_text}
 use Rattle.cmd_base.specs.Walk.{Walk}
-use Rattle.cmd_base.specs.Writing.{FileText, AreWritten, IsCut}
+use Rattle.cmd_base.specs.Writing.{FileText}
 use Rattle.cmd_stations.specs.declared.source.Source.{Source}
 use Rattle.cmd_stations.specs.Mapped.{template_header}
 use Rattle.cmd_stations.specs.Source.{HasMapped, IsLeastMapped, IsMappedFrom}
-use Rattle.cmd_stations.specs.Settled.{source_reading}
+use Rattle.cmd_stations.specs.WritingWalk.{writing_walk}
 use Rattle.cmd_stations.specs.Aims.{ToTables}
 use Rattle.cmd_stations.specs.Written.{RunsAs, specialised_of}
 use Rattle.cmd_map.specs.Spec.Words.{SpecWords}
@@ -27,14 +27,4 @@ pub record HasSpec (files : Files) (words : SpecWords) (Ends : List FileText →
   pub means : RunsAs source (param_inits source.params.list) (specialised_of source template config)
 
 abbrev pub spec_walk : SpecWords → Walk
-spec_walk words = record {
-  reading = source_reading ToTables words.source;
-  IsAccepted = λ files. IsMappedFrom files words.source;
-  IsDone = λ files old new. HasSpec files words (λ texts line. AreWritten texts line old new);
-  IsCutOff = λ files old new. HasSpec files words (λ texts line. IsCut texts line old new);
-  IsLost = λ files old new. ⊥;
-  Shows = λ files old new. Unit {0};
-  WritesFiles = Unit {0};
-  KeepsPorts = λ old new. new.ports ≡ old.ports;
-  HasPortFault = λ old new. ⊥;
-}
+spec_walk words = writing_walk ToTables words.source (λ files. IsMappedFrom files words.source) (λ files P. HasSpec files words P)
