@@ -19,11 +19,7 @@ pub struct Source {
 fn inits(alloc: Global, latches: &[FlatLatch]) -> Result<Vec<bool>, AllocError>
     ensures { IfOk result (λ states. states.items ≡ map (λ (l : LatchValue). l.init) latches.now) }
 {
-    let mut states = Vec::with_capacity(alloc, latches.len())?;
-    for latch in latches {
-        states.push(latch.init)?;
-    }
-    Ok(states)
+    latches.iter().map(|latch| latch.init).collect(alloc)
 }
 
 /// The initial states of a source circuit's latches.

@@ -26,11 +26,7 @@ use tl_io::{Failed, Shelf, Sink};
 fn listed_values(alloc: Global, params: &[Param]) -> Result<Vec<bool>, AllocError>
     ensures { IfOk result (λ values. values.items ≡ param_inits params.now) }
 {
-    let mut values = Vec::with_capacity(alloc, params.len())?;
-    for param in params {
-        values.push(param.init)?;
-    }
-    Ok(values)
+    params.iter().map(|param| param.init).collect(alloc)
 }
 
 // The configuration of the listed values.
