@@ -41,13 +41,24 @@ fn make_draft(alloc: Global, mapped: MappedSource) -> Result<Draft, AllocError>
     ensures mapped { IfOk result (λ d. d.mapped ≡ mapped) }
     ensures named { IfOk result (λ d. CanBeNamed mapped.source.netlist.flat mapped.source.params.list d.regular.items) }
 {
-    let regular = regular_places(alloc, &mapped.source)?;
-    let buf = LineBuf::make(alloc)?;
-    Ok(Draft {
-        mapped,
-        regular,
-        buf,
-    })
+    let regular = match regular_places(alloc, &mapped.source) {
+        Ok(places) => places,
+        Err(error) => {
+            drop(mapped);
+            return Err(error);
+        }
+    };
+    match LineBuf::make(alloc) {
+        Ok(buf) => Ok(Draft {
+            mapped,
+            regular,
+            buf,
+        }),
+        Err(error) => {
+            drop(mapped);
+            Err(error)
+        }
+    }
 }
 
 /// Reads a source circuit, maps it, and prepares what its files and its line need.

@@ -93,6 +93,9 @@ pub fn read_graph<S: Shelf>(
             graph,
             roots,
         }),
-        Err(stop) => Err(stop.at(File::Netlist)),
+        Err(stop) => {
+            drop(source);
+            Err(stop.at(File::Netlist))
+        }
     }
 }

@@ -108,6 +108,9 @@ pub fn read_labelled<S: Shelf>(
             table,
             labels,
         }),
-        Err(stop) => Err(stop.at(File::Netlist)),
+        Err(stop) => {
+            drop(source);
+            Err(stop.at(File::Netlist))
+        }
     }
 }

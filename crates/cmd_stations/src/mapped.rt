@@ -52,6 +52,9 @@ pub fn read_mapped<S: Shelf>(
     };
     match map_source(alloc, words.rule, &source, words.k) {
         Ok(tables) => Ok(MappedSource { source, tables }),
-        Err(stop) => Err(stop.at(File::Netlist)),
+        Err(stop) => {
+            drop(source);
+            Err(stop.at(File::Netlist))
+        }
     }
 }

@@ -40,7 +40,10 @@ fn choose(alloc: Global, rule: Rule, graph: &Graph, roots: &Roots, k: u8) -> Res
 {
     let table = enumerate(alloc, graph, k)?;
     let labels = labels(alloc, graph, &table)?;
-    let template = pick_by(alloc, rule, graph, roots, &table, &labels)?;
+    let picked = pick_by(alloc, rule, graph, roots, &table, &labels);
+    drop(labels);
+    drop(table);
+    let template = picked?;
     Ok(template)
 }
 
@@ -95,6 +98,9 @@ pub fn map_source(alloc: Global, rule: Rule, source: &Source, k: u8) -> Result<T
 {
     let (graph, roots) = source_graph(alloc, source)?;
     let template = choose(alloc, rule, &graph, &roots, k)?;
-    let tables = tabulate(alloc, source, &graph, template)?;
+    let made = tabulate(alloc, source, &graph, template);
+    drop(graph);
+    drop(roots);
+    let tables = made?;
     Ok(tables)
 }

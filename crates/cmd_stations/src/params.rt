@@ -119,6 +119,9 @@ pub fn read_source<S: Shelf>(
     };
     match read_params_file(alloc, words, &netlist, shelf) {
         Ok(params) => Ok(Source { netlist, params }),
-        Err(outcome) => Err(outcome),
+        Err(outcome) => {
+            drop(netlist);
+            Err(outcome)
+        }
     }
 }

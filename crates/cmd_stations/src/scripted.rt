@@ -97,6 +97,9 @@ pub fn read_scripted<S: Shelf>(
     };
     match read_events(alloc, words, &mapped, shelf) {
         Ok(events) => Ok(Scripted { mapped, events }),
-        Err(outcome) => Err(outcome),
+        Err(outcome) => {
+            drop(mapped);
+            Err(outcome)
+        }
     }
 }

@@ -33,8 +33,8 @@ pub returns-in_err-template-clause-settled : goal.returns-in_err-template-clause
 returns-in_err-template-clause-settled c =
     settled_anyway c.from_residual-in_err-template.result
     (table_settled c.args.rule c.args.graph.now c.args.k c.args.roots.now c.enumerate.ensures.once c.enumerate.ensures.excluded c.in_ok-table.table c.in_ok-table.ensures.ok c.enumerate.ensures.one_table
-    c.in_ok-labels.labels c.in_ok-labels.ensures.ok c.labels.ensures.once c.pick_by.ensures.once c.pick_by.ensures.excluded
-    c.requires.least (λ t is. c.pick_by.ensures.mapping t is c.args.k c.in_ok-table.ensures.ok) (λ t is. c.pick_by.ensures.least t is c.args.k c.in_ok-table.ensures.ok))
+    c.in_ok-labels.labels c.in_ok-labels.ensures.ok c.labels.ensures.once c.pick_by-picked.ensures.once c.pick_by-picked.ensures.excluded
+    c.requires.least (λ t is. c.pick_by-picked.ensures.mapping t is c.args.k c.in_ok-table.ensures.ok) (λ t is. c.pick_by-picked.ensures.least t is c.args.k c.in_ok-table.ensures.ok))
 
 pub returns-clause-chosen : goal.returns-clause-chosen
 returns-clause-chosen c = record {
@@ -48,11 +48,11 @@ returns-clause-chosen c = record {
 pub returns-clause-settled : goal.returns-clause-settled
 returns-clause-settled c =
     table_settled c.args.rule c.args.graph.now c.args.k c.args.roots.now c.enumerate.ensures.once c.enumerate.ensures.excluded c.in_ok-table.table c.in_ok-table.ensures.ok c.enumerate.ensures.one_table
-    c.in_ok-labels.labels c.in_ok-labels.ensures.ok c.labels.ensures.once c.pick_by.ensures.once c.pick_by.ensures.excluded
-    c.requires.least (λ t is. c.pick_by.ensures.mapping t is c.args.k c.in_ok-table.ensures.ok) (λ t is. c.pick_by.ensures.least t is c.args.k c.in_ok-table.ensures.ok)
+    c.in_ok-labels.labels c.in_ok-labels.ensures.ok c.labels.ensures.once c.pick_by-picked.ensures.once c.pick_by-picked.ensures.excluded
+    c.requires.least (λ t is. c.pick_by-picked.ensures.mapping t is c.args.k c.in_ok-table.ensures.ok) (λ t is. c.pick_by-picked.ensures.least t is c.args.k c.in_ok-table.ensures.ok)
 
 pub returns-clause-least : goal.returns-clause-least
 returns-clause-least c =
     let t = c.in_ok-template.template in
     let is = c.in_ok-template.ensures.template in
-    least_mapping c.args.graph.now c.args.k c.args.roots.now t c.requires.least (c.pick_by.ensures.mapping t is c.args.k c.in_ok-table.ensures.ok) (c.pick_by.ensures.least t is c.args.k c.in_ok-table.ensures.ok)
+    least_mapping c.args.graph.now c.args.k c.args.roots.now t c.requires.least (c.pick_by-picked.ensures.mapping t is c.args.k c.in_ok-table.ensures.ok) (c.pick_by-picked.ensures.least t is c.args.k c.in_ok-table.ensures.ok)
