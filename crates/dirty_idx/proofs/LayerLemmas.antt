@@ -3,7 +3,7 @@ use Rattle.std.proofs.Common.{◌≡◌, ℕ, ◌+◌, ◌-◌, ◌*◌, ◌/◌
 use Rattle.std.specs.Int.{bit_at, bit_not, w64}
 use Rattle.std.proofs.lemmas.List.{length-set, get_or-set_same, get_or-set_other, get_or_read}
 use Rattle.std.proofs.lemmas.Bool.{cases_eq}
-use Rattle.std.proofs.lemmas.Nat.Bits.{bit_at-zero, bit_at_set_same, bit_at_set_other, bit_at_clear_same, bit_at_clear_other}
+use Rattle.std.proofs.lemmas.Nat.Bits.{bit_at-zero, bit_at_set_same, bit_at_set_other, bit_at_clear_same, bit_at_clear_other, shr_and_one}
 use Rattle.dirty_idx.specs.Layers.{word_at, bit_above, AreTold, IsClimbed, IsSomeOnTheWay, IsNoneOnTheWay, IsRetold}
 
 -- a word with a bit is not 0
@@ -74,9 +74,6 @@ some_up base at x old new la lu read way =
       some = subst (λ m. 0 < m) (sym (get_or-set_same new up w 0 lu)) (some_bit w b here);
     }
 
-pub some_end : (base : ℕ) (old new : List ℕ) → IsSomeOnTheWay base 0 old new → IsRetold base old new
-some_end base old new way = record { count = way.climbed.count; lowest = way.climbed.lowest; told = way.climbed.told }
-
 -- where it has none any more
 pub none_up : (base at x : ℕ) (old new : List ℕ) → 0 < at → (at - 1) / 64 < length new → x ≡ get_or new ((at - 1) / 64) x → word_at new at ≡ 0 → IsNoneOnTheWay base at old new
     → IsNoneOnTheWay base ((at - 1) / 64) old (set new ((at - 1) / 64) (bit_and x (bit_not w64 (1 * 2 ^ ((at - 1) % 64) % 2 ^ 64))))
@@ -104,23 +101,38 @@ none_up base at x old new la lu read none way =
         let told : bit_at (word_at new above) c ≡ min 1 (word_at new up) = way.climbed.told.each above c (omega arith) (omega arith) (λ q. omega arith) ∙ ap (λ m. min 1 (word_at new m)) child in
         ap (λ m. bit_at m c) (get_or-set_other new up above w 0 (λ q. omega arith)) ∙ (let r : bit_at (word_at new above) c ≡ 1 = omega arith in r)
 
--- at the end the word above says it right too
-pub none_end : (base at : ℕ) (old new : List ℕ) → (0 < at → 0 < word_at new at) → IsNoneOnTheWay base at old new → IsRetold base old new
-none_end base at old new some way = record {
-  count = way.climbed.count;
-  lowest = way.climbed.lowest;
-  told = record { each = λ a c la lc off. right a c la lc };
-}
+-- Once the bit above a word is put right, all are.
+told_end : (base at : ℕ) (words : List ℕ) → AreTold base at words → (0 < at → bit_above words at ≡ min 1 (word_at words at)) → AreTold base 0 words
+told_end base at words told above = record { each = λ a c la lc off. right a c la lc }
   where
-    right : (a c : ℕ) → a < base → c < 64 → bit_at (word_at new a) c ≡ min 1 (word_at new (64 * a + 1 + c))
+    right : (a c : ℕ) → a < base → c < 64 → bit_at (word_at words a) c ≡ min 1 (word_at words (64 * a + 1 + c))
     right a c la lc = elim (cases_eq (64 * a + 1 + c) at) [
       | inl q ↦ (
           let up : (at - 1) / 64 ≡ a = omega arith in
           let bit : (at - 1) % 64 ≡ c = omega arith in
-          let s : bit_at (word_at new ((at - 1) / 64)) ((at - 1) % 64) ≡ 1 = way.said (omega arith) in
-          let t : bit_at (word_at new a) c ≡ 1 = subst (λ m. bit_at (word_at new m) c ≡ 1) up (subst (λ m. bit_at (word_at new ((at - 1) / 64)) m ≡ 1) bit s) in
-          let n : 0 < word_at new at = some (omega arith) in
-          let m : word_at new (64 * a + 1 + c) ≡ word_at new at = ap (λ k. word_at new k) q in
-          omega arith)
-      | inr d ↦ way.climbed.told.each a c la lc d
+          let s : bit_at (word_at words ((at - 1) / 64)) ((at - 1) % 64) ≡ min 1 (word_at words at) = above (omega arith) in
+          let t : bit_at (word_at words a) c ≡ min 1 (word_at words at) = subst (λ m. bit_at (word_at words m) c ≡ min 1 (word_at words at)) up (subst (λ m. bit_at (word_at words ((at - 1) / 64)) m ≡ min 1 (word_at words at)) bit s) in
+          t ∙ ap (λ k. min 1 (word_at words k)) (sym q))
+      | inr d ↦ told.each a c la lc d
     ]
+
+-- a bit above that is not 0
+pub said_above : (at x : ℕ) (words : List ℕ) → (at - 1) / 64 < length words → x ≡ get_or words ((at - 1) / 64) x → (bit_and (x / 2 ^ ((at - 1) % 64)) 1 ≡ 0 → ⊥) → bit_above words at ≡ 1
+said_above at x words l read some =
+    let e : bit_and (x / 2 ^ ((at - 1) % 64)) 1 ≡ bit_at (word_at words ((at - 1) / 64)) ((at - 1) % 64) = shr_and_one x ((at - 1) % 64) ∙ ap (λ m. bit_at m ((at - 1) % 64)) (get_or_read words ((at - 1) / 64) x l read 0) in
+    elim (cases_eq (bit_at (word_at words ((at - 1) / 64)) ((at - 1) % 64)) 0) [ inl z ↦ absurd (some (e ∙ z)) | inr d ↦ (let one : bit_at (word_at words ((at - 1) / 64)) ((at - 1) % 64) ≡ 1 = omega arith in one) ]
+
+-- The bit above says that a word has a bit, and it has one.
+pub some_end : (base at : ℕ) (old new : List ℕ) → (0 < at → bit_above new at ≡ 1) → IsSomeOnTheWay base at old new → IsRetold base old new
+some_end base at old new said way = record {
+  count = way.climbed.count;
+  lowest = way.climbed.lowest;
+  told = told_end base at new way.climbed.told (λ l. let s : bit_above new at ≡ 1 = said l in let n : 0 < word_at new at = way.some in omega arith);
+}
+
+pub none_end : (base at : ℕ) (old new : List ℕ) → (0 < at → 0 < word_at new at) → IsNoneOnTheWay base at old new → IsRetold base old new
+none_end base at old new some way = record {
+  count = way.climbed.count;
+  lowest = way.climbed.lowest;
+  told = told_end base at new way.climbed.told (λ l. let s : bit_above new at ≡ 1 = way.said l in let n : 0 < word_at new at = some l in omega arith);
+}

@@ -6,7 +6,7 @@ use Rattle.std.proofs.lemmas.List.FromFn.{length-map-range_with_len, get_or-map-
 use Rattle.std.proofs.lemmas.Bool.{cases_eq, cases_lt}
 use Rattle.std.proofs.lemmas.Nat.Bits.{bit_at-trailing_zeros, bit_at_set_same, bit_at_set_other, bit_at_clear_same, bit_at_clear_other, shr_and_one}
 use Rattle.dirty_idx.specs.Marks.{is_marked, IsLeast, IsEmpty}
-use Rattle.dirty_idx.specs.Layers.{word_at, upper_words, AreTold, bit_above, mark_bit, marks_of, AreTiers, IsPut, IsRetold, IsFirstWord}
+use Rattle.dirty_idx.specs.Layers.{word_at, upper_words, AreTold, bit_above, mark_bit, marks_of, AreTiers, AreNoneBefore, AreKept, IsPut, IsRetold, IsFirstWord}
 use Rattle.dirty_idx.proofs.LayerLemmas.{some_bit, no_bit}
 use Rattle.dirty_idx.proofs.FirstLemmas.{none_below}
 use Rattle.dirty_idx.proofs.Zeros.{zeros-at}
@@ -51,6 +51,24 @@ tiers_put size depth base i v old new l tiers put =
       outside = λ j h. put.others j (λ e. omega arith) ∙ tiers.outside j h;
     }
 
+-- no word before a place has a bit, where it had none and the bit is not before that place
+pub none_put : (base place to i v : ℕ) (old new : List ℕ) → base ≤ to → to ≤ place → to ≤ base + i / 64 → AreNoneBefore base place old → IsPut base i v old new → AreNoneBefore base to new
+none_put base place to i v old new lowest below within before put =
+    let count : length new ≡ length old = put.count in
+    let had : place < length old = before.within in
+    record {
+      lowest = lowest;
+      within = omega arith;
+      none = λ m l h. put.rest m l (λ e. omega arith) ∙ before.none m l (omega arith);
+    }
+
+-- a word that has a bit is not before the place
+pub not_before : (base place at : ℕ) (words : List ℕ) → AreNoneBefore base place words → base ≤ at → 0 < word_at words at → place ≤ at
+not_before base place at words before l some = elim (cases_lt at place) [
+  | inl h ↦ (let z : word_at words at ≡ 0 = before.none at l h in absurd (omega arith))
+  | inr g ↦ g
+]
+
 -- a word of the lowest layer says nothing of others
 pub told_lowest : (base at w : ℕ) (words : List ℕ) → base ≤ at → AreTold base 0 words → AreTold base at (set words at w)
 told_lowest base at w words l told = record {
@@ -69,6 +87,7 @@ put_is base i v w old new l told here others = record {
     | inl e ↦ ap (λ m. bit_at m (j % 64)) (ap (λ n. word_at new n) e ∙ changed) ∙ others (j % 64) (omega arith) (λ q. d (omega arith)) ∙ ap (λ n. bit_at (word_at old n) (j % 64)) (sym e)
     | inr n ↦ ap (λ m. bit_at m (j % 64)) (told.lowest (base + j / 64) (omega arith) ∙ get_or-set_other old (base + i / 64) (base + j / 64) w 0 n)
   ];
+  rest = λ m h d. told.lowest m h ∙ get_or-set_other old (base + i / 64) m w 0 d;
   told = told.told;
 }
   where
@@ -196,14 +215,47 @@ module _ (size depth base : ℕ) (words : List ℕ) (marks : List Bool) (tiers :
   pub put_marks : (i v : ℕ) (new : List ℕ) → i < length marks → IsPut base i v words new → marks_of size base new ≡ set marks i (eqb v 1)
   put_marks i v new l put = marks_put size base i v words new (number_within i l) put ∙ ap (λ m. set m i (eqb v 1)) are
 
-  pub least_marks : (at x : ℕ) → x ≡ get_or words at x → x < 2 ^ 64 → IsFirstWord depth at words → IsLeast marks ((at - base) * 64 + trailing_zeros w64 x)
-  least_marks at x read fits first =
-      let e : x ≡ word_at words at = get_or_read words at x (some_within words at first.some) read 0 in
-      let n : 64 * (at - base) + trailing_zeros w64 x ≡ (at - base) * 64 + trailing_zeros w64 x = omega arith in
-      subst (λ k. IsLeast marks k) n (subst (λ w. IsLeast marks (64 * (at - base) + trailing_zeros w64 w)) (sym e) (subst (λ m. IsLeast m (64 * (at - base) + trailing_zeros w64 (word_at words at))) are (least_is size depth base at words tiers first (omega arith))))
+  -- the lowest bit of the first word, as it is read
+  pub least_marks : (seen read : List ℕ) (at n : ℕ) → seen ≡ words → read ≡ words → IsFirstWord depth at seen → n ≡ (at - base) * 64 + trailing_zeros w64 (word_at read at) → word_at read at < 2 ^ 64 → IsLeast marks n
+  least_marks seen read at n sees reads first number fits =
+      let e : 64 * (at - base) + trailing_zeros w64 (word_at words at) ≡ n = omega arith ∙ ap (λ ws. (at - base) * 64 + trailing_zeros w64 (word_at ws at)) (sym reads) ∙ sym number in
+      let small : word_at words at < 2 ^ 64 = subst (λ ws. word_at ws at < 2 ^ 64) reads fits in
+      subst (λ k. IsLeast marks k) e (subst (λ m. IsLeast m (64 * (at - base) + trailing_zeros w64 (word_at words at))) are (least_is size depth base at words tiers (subst (λ ws. IsFirstWord depth at ws) sees first) small))
 
-  pub least_fits : (i : ℕ) → IsLeast marks i → i < 2 ^ 26
-  least_fits i least = let h : i < size = number_within i least.within in let s : size ≤ 2 ^ 26 = tiers.small in omega arith
+  pub empty_marks : (seen : List ℕ) → seen ≡ words → word_at seen 0 ≡ 0 → IsEmpty marks
+  empty_marks seen sees none = subst IsEmpty are (empty_is size depth base words tiers (subst (λ ws. word_at ws 0 ≡ 0) sees none))
 
-  pub empty_marks : (x : ℕ) → x ≡ get_or words 0 x → x ≡ 0 → IsEmpty marks
-  empty_marks x read none = subst IsEmpty are (empty_is size depth base words tiers (let n : length words ≡ base + size / 64 + 1 = tiers.count in sym (get_or_read words 0 x (omega arith) read 0) ∙ none))
+  -- once it is taken, no word before its own has a bit
+  pub kept_taken : (seen new : List ℕ) (at n t : ℕ) → seen ≡ words → IsFirstWord depth at seen → n ≡ (at - base) * 64 + t → n < length marks → IsPut base n 0 words new → AreKept size depth base at new
+  kept_taken seen new at n t sees first number l put = record {
+    tiers = tiers_put size depth base n 0 words new (number_within n l) tiers put;
+    before = none_put base at at n 0 words new lowest (omega arith) (omega (arith, lowest)) none put;
+  }
+    where
+      is : IsFirstWord depth at words
+      is = subst (λ ws. IsFirstWord depth at ws) sees first
+
+      above : base ≡ upper_words depth
+      above = tiers.above
+
+      lowest : base ≤ at
+      lowest = let f : upper_words depth ≤ at = is.from in omega (arith, above)
+
+      none : AreNoneBefore base at words
+      none = record { lowest = lowest; within = some_within words at is.some; none = λ m h d. is.before m (omega (arith, above)) d }
+
+module _ (size depth base place : ℕ) (words : List ℕ) (marks : List Bool) (kept : AreKept size depth base place words) (are : marks_of size base words ≡ marks) where
+  pub kept_marked : (i to : ℕ) (new : List ℕ) → i < length marks → base ≤ to → to ≤ place → to ≤ base + i / 64 → IsPut base i 1 words new → AreKept size depth base to new
+  kept_marked i to new l lowest below within put = record {
+    tiers = tiers_put size depth base i 1 words new (number_within size depth base words marks kept.tiers are i l) kept.tiers put;
+    before = none_put base place to i 1 words new lowest below within kept.before put;
+  }
+
+  pub kept_unmarked : (i : ℕ) (new : List ℕ) → i < length marks → is_marked marks i ≡ true → IsPut base i 0 words new → AreKept size depth base place new
+  kept_unmarked i new l is put =
+      let lowest : base ≤ place = kept.before.lowest in
+      let some : 0 < word_at words (base + i / 64) = some_bit (word_at words (base + i / 64)) (i % 64) (mark_set size depth base words marks kept.tiers are i l is) in
+      record {
+        tiers = tiers_put size depth base i 0 words new (number_within size depth base words marks kept.tiers are i l) kept.tiers put;
+        before = none_put base place place i 0 words new lowest (omega arith) (not_before base place (base + i / 64) words kept.before (omega arith) some) kept.before put;
+      }

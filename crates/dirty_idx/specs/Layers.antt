@@ -38,11 +38,23 @@ pub record AreTiers (size depth base : ℕ) (words : List ℕ) : Type 0 where
   pub told : AreTold base 0 words
   pub outside : (i : ℕ) → size ≤ i → mark_bit base words i ≡ 0
 
+-- a place in the lowest layer, whose words before it have no bit
+pub record AreNoneBefore (base place : ℕ) (words : List ℕ) : Type 0 where
+  pub lowest : base ≤ place
+  pub within : place < length words
+  pub none : (m : ℕ) → base ≤ m → m < place → word_at words m ≡ 0
+
+-- and such a place is known
+pub record AreKept (size depth base place : ℕ) (words : List ℕ) : Type 0 where
+  pub tiers : AreTiers size depth base words
+  pub before : AreNoneBefore base place words
+
 -- what changes where the bit of one number is set to v
 pub record IsPut (base i v : ℕ) (old new : List ℕ) : Type 0 where
   pub count : length new ≡ length old
   pub here : mark_bit base new i ≡ v
   pub others : (j : ℕ) → (j ≡ i → ⊥) → mark_bit base new j ≡ mark_bit base old j
+  pub rest : (m : ℕ) → base ≤ m → (m ≡ base + i / 64 → ⊥) → word_at new m ≡ word_at old m
   pub told : AreTold base 0 new
 
 -- what changes where the words above a place are told of it: only they do

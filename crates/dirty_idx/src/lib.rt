@@ -5,7 +5,8 @@
 //! fan-ins, so each marked node is read once, after everything that it depends on.
 //!
 //! `Tiers` is the set, seen as its marks, one for each number below its size (`specs/Marks.antt`). It is a bit set in layers,
-//! with 64 words of a layer below each word of the layer above. Finding the least member reads one word of each layer.
+//! with 64 words of a layer below each word of the layer above. Finding the least member reads one word of each layer, or only
+//! one word if the member taken before was in the same word.
 //!
 //! `Readers` has for each node of a pack's graph the AND nodes that have it as a fan-in and the addresses of the bits that
 //! are its literals, exactly and ascending (`specs/Readers.antt`). The lists are one after another in one vector, built by

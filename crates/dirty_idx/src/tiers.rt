@@ -1,7 +1,8 @@
 //! A set of numbers below a size, as a bit set in layers.
-ghost use Rattle.std.specs.Prelude.{◌≡◌, ℕ, ◌+◌, ◌*◌, ◌/◌, ◌^◌, ◌<◌, ◌≤◌, true, false, length, replicate, slice_set, IfOk, MatchOption, vec_len};
+ghost use Rattle.std.specs.Prelude.{◌≡◌, ℕ, ◌+◌, ◌-◌, ◌*◌, ◌/◌, ◌^◌, ◌<◌, ◌≤◌, true, false, length, replicate, slice_set, IfOk, MatchOption, vec_len};
+ghost use Rattle.std.specs.Int.{trailing_zeros, w64};
 ghost use Rattle.dirty_idx.specs.Marks.{is_marked, IsLeast, IsEmpty, without};
-ghost use Rattle.dirty_idx.specs.Layers.{word_at, upper_words, bit_above, mark_bit, AreTold, IsPut, IsRetold, IsFirstWord};
+ghost use Rattle.dirty_idx.specs.Layers.{word_at, upper_words, bit_above, mark_bit, AreTold, AreNoneBefore, IsPut, IsRetold, IsFirstWord};
 
 use std::alloc::{AllocError, Global};
 use std::marker::Model;
@@ -15,6 +16,9 @@ pub const MOST_MARKS: u32 = 67_108_864;
 /// if the word has a bit set itself. The topmost layer is one word. So finding the least member reads one word of each layer,
 /// and there are at most five layers.
 ///
+/// The set also keeps a place in the lowest layer before which no word has a bit. As long as the word at this place has one,
+/// the least member is found in it alone.
+///
 /// All layers are in one vector, the topmost first: below the word at place p are the 64 words that begin at place 64 p + 1.
 /// Every layer except the lowest has room for as many words as can be below the one above it, at most 266,305 in all.
 #[derive(Drop)]
@@ -23,27 +27,29 @@ pub struct Tiers {
     // The number of layers above the lowest, and the number of their words.
     depth: u32,
     base: usize,
+    // A place in the lowest layer. No word of that layer before it has a bit.
+    from: usize,
     words: Vec<u64>,
 }
 
 impl Model for Tiers {
     ghost use Rattle.std.specs.Prelude.{List, Bool};
-    ghost use Rattle.dirty_idx.specs.Layers.{marks_of, AreTiers};
+    ghost use Rattle.dirty_idx.specs.Layers.{marks_of, AreKept};
 
     ghost Value = { List Bool };
 
     ghost view = { λ t. marks_of t.size t.base t.words.items };
 
-    ghost invariant = { λ t. AreTiers t.size t.depth t.base t.words.items };
+    ghost invariant = { λ t. AreKept t.size t.depth t.base t.from t.words.items };
 }
 
-// Records in the words above that the word at a place has a bit.
+// Records in the words above that the word at a place has a bit, up to a word that says so already.
 fn tell_some(words: &mut Vec<u64>, at: usize)
     requires { at < vec_len words.old }
     ensures { (base : ℕ) → AreTold base at words.old.items → at ≤ 64 * base → 0 < word_at words.old.items at → IsRetold base words.old.items words.new.items }
 {
     let mut at = at;
-    while at > 0 {
+    while at > 0 && words[(at - 1) / 64] >> ((at - 1) % 64) & 1 == 0 {
         let up = (at - 1) / 64;
         words[up] |= 1 << ((at - 1) % 64);
         at = up;
@@ -103,6 +109,34 @@ fn first_word(words: &[u64], depth: u32) -> usize
     at
 }
 
+// The place of the first word of the lowest layer that has a bit, or nothing if none has. None before `from` has one.
+fn first_from(words: &[u64], depth: u32, from: usize) -> Option<usize>
+    requires few { upper_words depth ≤ 2 ^ 27 }
+    requires fits { length words.now ≤ 64 * upper_words depth + 1 }
+    requires told { AreTold (upper_words depth) 0 words.now }
+    requires before { AreNoneBefore (upper_words depth) from words.now }
+    ensures { MatchOption result (word_at words.now 0 ≡ 0) (λ at. IsFirstWord depth at words.now) }
+{
+    if words[from] != 0 {
+        return Some(from);
+    }
+    if words[0] == 0 {
+        return None;
+    }
+    Some(first_word(words, depth))
+}
+
+// The number of the lowest bit of a word of the lowest layer.
+fn lowest_number(words: &[u64], base: usize, at: usize) -> u32
+    requires above { base ≤ at }
+    requires within { at < length words.now }
+    requires few { length words.now ≤ base + 2 ^ 20 + 1 }
+    ensures number { result ≡ (at - base) * 64 + trailing_zeros w64 (word_at words.now at) }
+    ensures fits { word_at words.now at < 2 ^ 64 }
+{
+    (at - base) as u32 * 64 + words[at].trailing_zeros()
+}
+
 // The number of layers above a lowest layer of `count` words, and the number of their words.
 fn layers_above(count: usize) -> (u32, usize)
     requires { count ≤ 2 ^ 21 }
@@ -134,6 +168,7 @@ impl Tiers {
             size,
             depth,
             base,
+            from: base,
             words,
         })
     }
@@ -143,6 +178,7 @@ impl Tiers {
         requires { i < length self.old }
         ensures { self.new ≡ slice_set self.old i true }
     {
+        self.from = self.from.min(self.base + i as usize / 64);
         set_bit(&mut self.words, self.base, i as usize);
     }
 
@@ -168,12 +204,8 @@ impl Tiers {
     pub fn first(&self) -> Option<u32>
         ensures { MatchOption result (IsEmpty self.now) (λ i. IsLeast self.now i) }
     {
-        if self.words[0] == 0 {
-            return None;
-        }
-        let at = first_word(&self.words, self.depth);
-        let word = self.words[at];
-        Some((at - self.base) as u32 * 64 + word.trailing_zeros())
+        let at = first_from(&self.words, self.depth, self.from)?;
+        Some(lowest_number(&self.words, self.base, at))
     }
 
     /// Removes the least member and returns it; `None` if and only if the set is empty.
@@ -181,7 +213,9 @@ impl Tiers {
         ensures least { MatchOption result (IsEmpty self.old) (λ i. IsLeast self.old i) }
         ensures rest { self.new ≡ without self.old result }
     {
-        let first = self.first()?;
+        let at = first_from(&self.words, self.depth, self.from)?;
+        let first = lowest_number(&self.words, self.base, at);
+        self.from = at;
         clear_bit(&mut self.words, self.base, first as usize);
         Some(first)
     }
