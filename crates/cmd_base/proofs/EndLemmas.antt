@@ -9,6 +9,7 @@ use Rattle.tl_io.specs.declared.told_name.TheConstants.{NAME_ROOM}
 use Rattle.cmd_base.specs.Outside.{Outside, outside}
 use Rattle.cmd_base.specs.Walk.{Reading, Walk}
 use Rattle.cmd_base.specs.Refusals.{too_long}
+use Rattle.cmd_base.specs.KeepsFiles.{KeepsFiles}
 use Rattle.cmd_base.specs.Ends.{InFiles, IsTooLongAt, IsRefusedAt, IsFaultAt, Explains, Ends}
 use Rattle.cmd_base.specs.declared.outcome.File.{File}
 use Rattle.cmd_base.specs.declared.outcome.Outcome.{Outcome}
@@ -19,9 +20,9 @@ pub Rose_from : (first mid last : ℕ) → first ≤ mid → Rose mid last → R
 Rose_from first mid last h r = omega arith
 
 -- What explains an outcome from a later state of the shelf does from an earlier one.
-module _ (reading : Reading) (old mid new : ShelfSeen) (later : old.read_faults ≤ mid.read_faults) (same : mid.files ≡ old.files) where
+module _ (reading : Reading) (old mid new : ShelfSeen) (keeps : KeepsFiles old mid) where
   here : (files : Files) → reading.HasFiles old.files files → reading.HasFiles mid.files files
-  here files has = subst (λ told. reading.HasFiles told files) (sym same) has
+  here files has = subst (λ told. reading.HasFiles told files) (sym keeps.files) has
 
   long_from : (f : File) → IsTooLongAt reading mid new f → IsTooLongAt reading old new f
   long_from f h = record { given = h.given; is_read = h.is_read; is = λ files has. h.is files (here files has); settled = λ files has. h.settled files (here files has) }
@@ -33,7 +34,7 @@ module _ (reading : Reading) (old mid new : ShelfSeen) (later : old.read_faults 
   fault_from f h = record {
     given = h.given;
     is_read = h.is_read;
-    fault = record { rose = Rose_from old.read_faults mid.read_faults new.read_faults later h.fault.rose; rose_since = h.fault.rose_since; told = h.fault.told };
+    fault = record { rose = Rose_from old.read_faults mid.read_faults new.read_faults keeps.later h.fault.rose; rose_since = h.fault.rose_since; told = h.fault.told };
     reached = λ files has. h.reached files (here files has);
   }
 
@@ -47,10 +48,23 @@ module _ (reading : Reading) (old mid new : ShelfSeen) (later : old.read_faults 
   Explains_from outcome.WriteFault h = h
   Explains_from outcome.PortFault h = h
 
+-- Files are kept by two calls where each keeps them.
+at_most_past : (first mid last : ℕ) → first ≤ mid → mid ≤ last → first ≤ last
+at_most_past first mid last h k = omega arith
+
+pub keeps_past : {old mid new : ShelfSeen} → KeepsFiles old mid → KeepsFiles mid new → KeepsFiles old new
+keeps_past {old = old} {mid = mid} {new = new} first next = record {
+  later = at_most_past old.read_faults mid.read_faults new.read_faults first.later next.later;
+  files = next.files ∙ first.files;
+  write_faults = next.write_faults ∙ first.write_faults;
+  not_writing = next.not_writing;
+}
+
 -- Where a shelf was read alone, what is outside is as it was.
-pub only_read : (old new : ShelfSeen) (out : SinkSeen) (ports : List PortSeen) → new.files ≡ old.files → new.write_faults ≡ old.write_faults → outside new out ports ≡ outside old out ports
-only_read old new out ports files faults =
-    ap (λ told. let w : Outside = record (outside new out ports) { files = told } in w) files ∙ ap (λ n. let w : Outside = record (outside old out ports) { file_faults = n } in w) faults
+module _ {old new : ShelfSeen} (keeps : KeepsFiles old new) (out : SinkSeen) (ports : List PortSeen) where
+  pub only_read : outside new out ports ≡ outside old out ports
+  only_read =
+      ap (λ told. let w : Outside = record (outside new out ports) { files = told } in w) keeps.files ∙ ap (λ n. let w : Outside = record (outside old out ports) { file_faults = n } in w) keeps.write_faults
 
 -- A job that was not begun leaves what is outside as it was.
 module _ (walk : Walk) (old new : ShelfSeen) (before after : Outside) (same : after ≡ before) (not_writing : walk.WritesFiles → new.is_writing ≡ false) where
@@ -63,6 +77,14 @@ module _ (walk : Walk) (old new : ShelfSeen) (before after : Outside) (same : af
   explained_ends outcome.Usage h = absurd h
   explained_ends outcome.WriteFault h = absurd h
   explained_ends outcome.PortFault h = absurd h
+
+-- so does one whose files were only read
+module _ (walk : Walk) {old new : ShelfSeen} (keeps : KeepsFiles old new) (out : SinkSeen) (ports : List PortSeen) where
+  pub unbegun_ends : (o : Outcome) → Explains walk.reading old new o → Ends walk old new (outside old out ports) (outside new out ports) o
+  unbegun_ends o h = explained_ends walk old new (outside old out ports) (outside new out ports) (only_read keeps out ports) (λ _. keeps.not_writing) o h
+
+  pub memory_ends : Ends walk old new (outside old out ports) (outside new out ports) outcome.Memory
+  memory_ends = unbegun_ends outcome.Memory tt
 
 -- a reading is part of another: its files have the same words there, and what ends it ends the other
 pub record IsPart (part whole : Reading) (told : Option Files) : Type 0 where

@@ -6,5 +6,7 @@ pub mod Writing
 pub mod Ends
 pub mod Refusals
 pub mod Statuses
+-- what a call that reads files leaves of a shelf,
+pub mod KeepsFiles
 -- and the fault line.
 pub mod FaultLine

@@ -1,5 +1,5 @@
 //! The file of a certificate: reading, checking and writing.
-ghost use Rattle.std.specs.Prelude.{◌≡◌, ◌≤◌, false, length, IfOk, IfErr, OnOk};
+ghost use Rattle.std.specs.Prelude.{◌≡◌, ◌≤◌, length, IfOk, IfErr, OnOk};
 ghost use Rattle.tl_fault.specs.OrMemory.{OrMemory};
 ghost use Rattle.tl_text.specs.declared.logical_lines.TheConstants.{MOST_BYTES};
 ghost use Rattle.tl_io.specs.Causes.{HasCause};
@@ -9,6 +9,7 @@ ghost use Rattle.cert_check.specs.Refusals.{refusal_of};
 ghost use Rattle.cert_check.specs.Valid.{IsValid};
 ghost use Rattle.cert_check.specs.WrittenText.{cert_text};
 ghost use Rattle.cmd_base.specs.Ends.{Told, Explains};
+ghost use Rattle.cmd_base.specs.KeepsFiles.{KeepsFiles};
 ghost use Rattle.cmd_stations.specs.FileWrites.{WritesFile};
 ghost use Rattle.cmd_stations.specs.Built.{IsBuiltSource, ComesToGraph};
 ghost use Rattle.cmd_cert.specs.Words.{cert_seen};
@@ -67,10 +68,7 @@ pub fn read_valid<S: Shelf>(
     ensures valid { IfOk result (IsValid built.now.graph (roots_of built.now.roots) words.now.source.k) }
     ensures given { OnOk result ((S.seen shelf.new).given ≤ MOST_BYTES) }
     ensures err { IfErr result (Explains (audit_reading (cert_seen words.now)) (S.seen shelf.old) (S.seen shelf.new)) }
-    ensures later { (S.seen shelf.old).read_faults ≤ (S.seen shelf.new).read_faults }
-    ensures files { (S.seen shelf.new).files ≡ (S.seen shelf.old).files }
-    ensures write_faults { (S.seen shelf.new).write_faults ≡ (S.seen shelf.old).write_faults }
-    ensures not_writing { (S.seen shelf.new).is_writing ≡ false }
+    ensures keeps { KeepsFiles (S.seen shelf.old) (S.seen shelf.new) }
 {
     let text = match read_file(alloc, words.cert, File::Cert, shelf) {
         Ok(text) => text,

@@ -4,6 +4,7 @@ ghost use Rattle.tl_text.specs.declared.logical_lines.TheConstants.{MOST_BYTES};
 ghost use Rattle.run_text.specs.EventValue.{event_values};
 ghost use Rattle.pace_core.specs.EventValue.{pace_values, asks_and_ticks};
 ghost use Rattle.cmd_base.specs.Ends.{Told, Explains};
+ghost use Rattle.cmd_base.specs.KeepsFiles.{KeepsFiles};
 ghost use Rattle.cmd_stations.specs.Scripted.{scripted_reading};
 ghost use Rattle.cmd_stations.specs.Tables.{IsReadSource, AreMade};
 ghost use Rattle.cmd_pace.specs.Words.{pace_seen, scripted_of, IsInRange};
@@ -80,9 +81,7 @@ pub fn prepare<S: Shelf>(alloc: Global, words: &PaceWords, shelf: &mut S) -> Res
     ensures prepared { IfOk result (λ r. Told (S.seen shelf.old).files (λ files. IsReadyFor files (pace_seen words.now) r)) }
     ensures given { OnOk result ((S.seen shelf.new).given ≤ MOST_BYTES) }
     ensures err { IfErr result (Explains (scripted_reading (scripted_of (pace_seen words.now))) (S.seen shelf.old) (S.seen shelf.new)) }
-    ensures later { (S.seen shelf.old).read_faults ≤ (S.seen shelf.new).read_faults }
-    ensures files { (S.seen shelf.new).files ≡ (S.seen shelf.old).files }
-    ensures write_faults { (S.seen shelf.new).write_faults ≡ (S.seen shelf.old).write_faults }
+    ensures keeps { KeepsFiles (S.seen shelf.old) (S.seen shelf.new) }
 {
     let read = match read_scripted(alloc, &scripted(words), shelf) {
         Ok(read) => read,

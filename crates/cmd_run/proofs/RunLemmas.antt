@@ -9,6 +9,7 @@ use Rattle.run_text.specs.EventValue.{event_values}
 use Rattle.run_core.specs.declared.step_err.StepErr.{StepErr}
 use Rattle.run_core.specs.declared.step_err.StepErr.TheVariants.{WriteFault, PortFault}
 use Rattle.cmd_base.specs.Outside.{outside}
+use Rattle.cmd_base.specs.KeepsFiles.{KeepsFiles}
 use Rattle.cmd_base.specs.Ends.{Told, IsBegun, Ends}
 use Rattle.cmd_base.proofs.EndLemmas.{only_read}
 use Rattle.cmd_stations.proofs.OnceLemmas.{least_mapped}
@@ -22,39 +23,39 @@ module _ (files : Files) (words : RunWords) (ready : Ready) (is : IsReadyFor fil
   pub ready_begun : IsBegun (run_walk words) files
   ready_begun = record { accepted = record { job = is.job; is = is.is_job }; settled = is.settled }
 
-  pub ready_run : (old new : ShelfSeen) (before after : SinkSeen) (ports others : List PortSeen) (result : Result Unit StepErr) → new.files ≡ old.files → new.write_faults ≡ old.write_faults
+  pub ready_run : (old new : ShelfSeen) (before after : SinkSeen) (ports others : List PortSeen) (result : Result Unit StepErr) → KeepsFiles old new
       → ((shelf : ShelfSeen) → IsPlayEnd words.ports ready.machine (event_values ready.events.items) (outside shelf before ports) (outside shelf after others) result) → HasRun files words (outside old before ports) (outside new after others) result
-  ready_run old new before after ports others result same faults ends = record {
+  ready_run old new before after ports others result keeps ends = record {
     job = is.job;
     is_job = is.is_job;
     law = least_mapped files words.source is.job.source is.job.template is.settled.source is.is_job.mapped;
     machine = ready.machine;
     start = is.start;
-    kept = same;
+    kept = keeps.files;
     ends =
         let here : IsPlayEnd words.ports ready.machine (event_values ready.events.items) (outside old before ports) (outside new after others) result =
-        subst (λ w. IsPlayEnd words.ports ready.machine (event_values ready.events.items) (outside old before ports) w result) (sym (only_read old new after others same faults)) (ends old) in
+        subst (λ w. IsPlayEnd words.ports ready.machine (event_values ready.events.items) (outside old before ports) w result) (sym (only_read keeps after others)) (ends old) in
         subst (λ es. IsPlayEnd words.ports ready.machine es (outside old before ports) (outside new after others) result) (sym is.events) here;
   }
 
 -- so ends the job
 module _ (words : RunWords) (ready : Ready) (old new : ShelfSeen) (before after : SinkSeen) (ports others : List PortSeen) where
-  pub run_ends : new.given ≤ MOST_BYTES → Told old.files (λ files. IsReadyFor files words ready) → new.files ≡ old.files → new.write_faults ≡ old.write_faults → (result : Result Unit StepErr)
+  pub run_ends : new.given ≤ MOST_BYTES → Told old.files (λ files. IsReadyFor files words ready) → KeepsFiles old new → (result : Result Unit StepErr)
       → ((shelf : ShelfSeen) → IsPlayEnd words.ports ready.machine (event_values ready.events.items) (outside shelf before ports) (outside shelf after others) result) → (result ≡ Err WriteFault → Rose before.faults after.faults)
       → IsServed words.ports ports others result → (result ≡ Err PortFault → HaveFailed words.ports ports others) → Ends (run_walk words) old new (outside old before ports) (outside new after others) (played_outcome result)
-  run_ends given is same faults (Ok done) ends cause served failed = (
+  run_ends given is keeps (Ok done) ends cause served failed = (
     record { given = given; begun = λ files told. ready_begun files words ready (is files told) },
-    λ files told. ready_run files words ready (is files told) old new before after ports others (Ok done) same faults ends,
+    λ files told. ready_run files words ready (is files told) old new before after ports others (Ok done) keeps ends,
     served,
   )
-  run_ends given is same faults (Err WriteFault) ends cause served failed = (
+  run_ends given is keeps (Err WriteFault) ends cause served failed = (
     record { given = given; begun = λ files told. ready_begun files words ready (is files told) },
-    λ files told. ready_run files words ready (is files told) old new before after ports others (Err WriteFault) same faults ends,
+    λ files told. ready_run files words ready (is files told) old new before after ports others (Err WriteFault) keeps ends,
     served,
     inl (cause refl),
   )
-  run_ends given is same faults (Err PortFault) ends cause served failed = (
+  run_ends given is keeps (Err PortFault) ends cause served failed = (
     record { given = given; begun = λ files told. ready_begun files words ready (is files told) },
-    λ files told. ready_run files words ready (is files told) old new before after ports others (Err PortFault) same faults ends,
+    λ files told. ready_run files words ready (is files told) old new before after ports others (Err PortFault) keeps ends,
     failed refl,
   )

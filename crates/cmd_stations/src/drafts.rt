@@ -1,9 +1,10 @@
 //! A mapped source circuit that is ready to be written.
-ghost use Rattle.std.specs.Prelude.{◌≡◌, ◌≤◌, false, IfOk, IfErr, OnOk};
+ghost use Rattle.std.specs.Prelude.{◌≡◌, ◌≤◌, IfOk, IfErr, OnOk};
 ghost use Rattle.tl_text.specs.declared.logical_lines.TheConstants.{MOST_BYTES};
 ghost use Rattle.cut_enum.specs.declared.limits.TheConstants.{MOST_LEAVES};
 ghost use Rattle.blif_write.specs.Writable.{CanBeNamed};
 ghost use Rattle.cmd_base.specs.Ends.{Told, Explains};
+ghost use Rattle.cmd_base.specs.KeepsFiles.{KeepsFiles};
 ghost use Rattle.cmd_stations.specs.Words.{source_seen};
 ghost use Rattle.cmd_stations.specs.Settled.{source_reading};
 ghost use Rattle.cmd_stations.specs.Tables.{IsReadSource, AreTables, ComesPast};
@@ -77,10 +78,7 @@ pub fn read_draft<S: Shelf>(
     ensures comes { IfOk result (λ d. Told (S.seen shelf.old).files (λ files. ComesPast files (source_seen words.now) d.mapped)) }
     ensures given { OnOk result ((S.seen shelf.new).given ≤ MOST_BYTES) }
     ensures err { IfErr result (Explains (source_reading ToTables (source_seen words.now)) (S.seen shelf.old) (S.seen shelf.new)) }
-    ensures later { (S.seen shelf.old).read_faults ≤ (S.seen shelf.new).read_faults }
-    ensures files { (S.seen shelf.new).files ≡ (S.seen shelf.old).files }
-    ensures write_faults { (S.seen shelf.new).write_faults ≡ (S.seen shelf.old).write_faults }
-    ensures not_writing { (S.seen shelf.new).is_writing ≡ false }
+    ensures keeps { KeepsFiles (S.seen shelf.old) (S.seen shelf.new) }
 {
     let mapped = match read_mapped(alloc, words, shelf) {
         Ok(mapped) => mapped,

@@ -1,8 +1,9 @@
 //! Reading the files of a command.
-ghost use Rattle.std.specs.Prelude.{◌≡◌, ◌≤◌, false, length, IfOk, IfErr, OnOk};
+ghost use Rattle.std.specs.Prelude.{◌≡◌, ◌≤◌, length, IfOk, IfErr, OnOk};
 ghost use Rattle.tl_io.specs.Shelf.{Files};
 ghost use Rattle.cmd_base.specs.Ends.{Told};
 ghost use Rattle.cmd_base.specs.Refusals.{most_bytes};
+ghost use Rattle.cmd_base.specs.KeepsFiles.{KeepsFiles};
 ghost use Rattle.cmd_stations.specs.Texts.{HasBytes};
 ghost use Rattle.cmd_stations.specs.Unread.{IsUnread};
 
@@ -43,10 +44,7 @@ pub fn read_file<S: Shelf>(
     ensures short { IfOk result (λ text. length text.items ≤ most_bytes file) }
     ensures given { OnOk result ((S.seen shelf.new).given ≤ most_bytes file) }
     ensures err { IfErr result (IsUnread name.now file (S.seen shelf.old) (S.seen shelf.new)) }
-    ensures later { (S.seen shelf.old).read_faults ≤ (S.seen shelf.new).read_faults }
-    ensures files { (S.seen shelf.new).files ≡ (S.seen shelf.old).files }
-    ensures write_faults { (S.seen shelf.new).write_faults ≡ (S.seen shelf.old).write_faults }
-    ensures not_writing { (S.seen shelf.new).is_writing ≡ false }
+    ensures keeps { KeepsFiles (S.seen shelf.old) (S.seen shelf.new) }
 {
     match slurp(alloc, shelf, name, limit(file)) {
         Ok(text) => Ok(text),

@@ -1,10 +1,11 @@
 //! Reading a pack, and what its scripts may name.
-ghost use Rattle.std.specs.Prelude.{◌≡◌, ◌≤◌, false, length, map, IfOk, IfErr, OnOk};
+ghost use Rattle.std.specs.Prelude.{◌≡◌, ◌≤◌, length, map, IfOk, IfErr, OnOk};
 ghost use Rattle.ppc_pack.specs.Pack.{IsPack};
 ghost use Rattle.ppc_pack.specs.declared.pack.PackParam.{PackParam as PackParamValue};
 ghost use Rattle.ppc_file.specs.PackFile.{IsPackFile, HasOneReading};
 ghost use Rattle.cmd_base.specs.Ends.{Told, Explains};
 ghost use Rattle.cmd_base.specs.Refusals.{most_bytes};
+ghost use Rattle.cmd_base.specs.KeepsFiles.{KeepsFiles};
 ghost use Rattle.cmd_stations.specs.Stops.{Stops};
 ghost use Rattle.cmd_stations.specs.Packs.{HasPack, IsPackRefusal, IsPackSettled, pack_reading, names_on};
 
@@ -38,10 +39,7 @@ pub fn read_pack<S: Shelf>(alloc: Global, name: &str, shelf: &mut S) -> Result<P
     ensures settled { OnOk result (Told (S.seen shelf.old).files (λ files. IsPackSettled files name.now)) }
     ensures given { OnOk result ((S.seen shelf.new).given ≤ most_bytes File.Pack) }
     ensures err { IfErr result (Explains (pack_reading name.now) (S.seen shelf.old) (S.seen shelf.new)) }
-    ensures later { (S.seen shelf.old).read_faults ≤ (S.seen shelf.new).read_faults }
-    ensures files { (S.seen shelf.new).files ≡ (S.seen shelf.old).files }
-    ensures write_faults { (S.seen shelf.new).write_faults ≡ (S.seen shelf.old).write_faults }
-    ensures not_writing { (S.seen shelf.new).is_writing ≡ false }
+    ensures keeps { KeepsFiles (S.seen shelf.old) (S.seen shelf.new) }
 {
     let bytes = match read_file(alloc, name, File::Pack, shelf) {
         Ok(bytes) => bytes,

@@ -1,10 +1,11 @@
 //! Reading a source circuit: the netlist and the parameters.
-ghost use Rattle.std.specs.Prelude.{◌≡◌, ◌≤◌, false, length, IfOk, IfErr, OnOk};
+ghost use Rattle.std.specs.Prelude.{◌≤◌, length, IfOk, IfErr, OnOk};
 ghost use Rattle.tl_text.specs.declared.logical_lines.TheConstants.{MOST_BYTES};
 ghost use Rattle.tl_io.specs.Shelf.{Files};
 ghost use Rattle.param_list.specs.Parameters.{AreParameters};
 ghost use Rattle.param_list.specs.ParamsText.{IsParamsText, HasOneReading};
 ghost use Rattle.cmd_base.specs.Ends.{Told, Explains};
+ghost use Rattle.cmd_base.specs.KeepsFiles.{KeepsFiles};
 ghost use Rattle.cmd_stations.specs.Stops.{Stops};
 ghost use Rattle.cmd_stations.specs.Words.{source_seen};
 ghost use Rattle.cmd_stations.specs.Texts.{IsParamsRefusal};
@@ -35,10 +36,7 @@ fn read_netlist_file<S: Shelf>(
     ensures settled { OnOk result (Told (S.seen shelf.old).files (λ files. IsNetlistSettled files (source_seen words.now))) }
     ensures given { OnOk result ((S.seen shelf.new).given ≤ MOST_BYTES) }
     ensures err { IfErr result (λ o. (aim : Aim) → Explains (source_reading aim (source_seen words.now)) (S.seen shelf.old) (S.seen shelf.new) o) }
-    ensures later { (S.seen shelf.old).read_faults ≤ (S.seen shelf.new).read_faults }
-    ensures files { (S.seen shelf.new).files ≡ (S.seen shelf.old).files }
-    ensures write_faults { (S.seen shelf.new).write_faults ≡ (S.seen shelf.old).write_faults }
-    ensures not_writing { (S.seen shelf.new).is_writing ≡ false }
+    ensures keeps { KeepsFiles (S.seen shelf.old) (S.seen shelf.new) }
 {
     let text = match read_file(alloc, words.netlist, File::Netlist, shelf) {
         Ok(text) => text,
@@ -80,10 +78,7 @@ fn read_params_file<S: Shelf>(
     ensures settled { OnOk result (Told (S.seen shelf.old).files (λ files. AreParamsSettled files (source_seen words.now) netlist.now)) }
     ensures given { OnOk result ((S.seen shelf.new).given ≤ MOST_BYTES) }
     ensures err { IfErr result (λ o. (aim : Aim) → Explains (source_reading aim (source_seen words.now)) (S.seen shelf.old) (S.seen shelf.new) o) }
-    ensures later { (S.seen shelf.old).read_faults ≤ (S.seen shelf.new).read_faults }
-    ensures files { (S.seen shelf.new).files ≡ (S.seen shelf.old).files }
-    ensures write_faults { (S.seen shelf.new).write_faults ≡ (S.seen shelf.old).write_faults }
-    ensures not_writing { (S.seen shelf.new).is_writing ≡ false }
+    ensures keeps { KeepsFiles (S.seen shelf.old) (S.seen shelf.new) }
 {
     let text = match read_file(alloc, words.params, File::Params, shelf) {
         Ok(text) => text,
@@ -108,10 +103,7 @@ pub fn read_source<S: Shelf>(
     ensures source { IfOk result (λ source. Told (S.seen shelf.old).files (λ files. ComesWith files (source_seen words.now) source)) }
     ensures given { OnOk result ((S.seen shelf.new).given ≤ MOST_BYTES) }
     ensures err { IfErr result (λ o. (aim : Aim) → Explains (source_reading aim (source_seen words.now)) (S.seen shelf.old) (S.seen shelf.new) o) }
-    ensures later { (S.seen shelf.old).read_faults ≤ (S.seen shelf.new).read_faults }
-    ensures files { (S.seen shelf.new).files ≡ (S.seen shelf.old).files }
-    ensures write_faults { (S.seen shelf.new).write_faults ≡ (S.seen shelf.old).write_faults }
-    ensures not_writing { (S.seen shelf.new).is_writing ≡ false }
+    ensures keeps { KeepsFiles (S.seen shelf.old) (S.seen shelf.new) }
 {
     let netlist = match read_netlist_file(alloc, words, shelf) {
         Ok(netlist) => netlist,

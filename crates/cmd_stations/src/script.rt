@@ -1,5 +1,5 @@
 //! Reading a script.
-ghost use Rattle.std.specs.Prelude.{◌≡◌, ◌≤◌, length, IfOk, IfErr, OnOk, map};
+ghost use Rattle.std.specs.Prelude.{◌≤◌, length, IfOk, IfErr, OnOk, map};
 ghost use Rattle.list_laws.specs.Members.{In};
 ghost use Rattle.tl_text.specs.Once.{AreOnce};
 ghost use Rattle.tl_text.specs.declared.logical_lines.TheConstants.{MOST_BYTES};
@@ -9,6 +9,7 @@ ghost use Rattle.run_text.specs.EventValue.{EventValue, event_values};
 ghost use Rattle.run_text.specs.Fits.{Fits};
 ghost use Rattle.run_text.specs.ScriptText.{IsScript, HasOneReading};
 ghost use Rattle.cmd_base.specs.Ends.{Told, Explains};
+ghost use Rattle.cmd_base.specs.KeepsFiles.{KeepsFiles};
 ghost use Rattle.cmd_stations.specs.Stops.{Stops};
 ghost use Rattle.cmd_stations.specs.Texts.{IsScriptRefusal};
 ghost use Rattle.cmd_stations.specs.Script.{HasScript, IsScriptSettled, script_reading};
@@ -54,9 +55,7 @@ pub fn read_script_file<S: Shelf>(
     ensures settled { OnOk result (Told (S.seen shelf.old).files (λ files. IsScriptSettled files name.now names.now)) }
     ensures given { OnOk result ((S.seen shelf.new).given ≤ MOST_BYTES) }
     ensures err { IfErr result (Explains (script_reading name.now names.now) (S.seen shelf.old) (S.seen shelf.new)) }
-    ensures later { (S.seen shelf.old).read_faults ≤ (S.seen shelf.new).read_faults }
-    ensures files { (S.seen shelf.new).files ≡ (S.seen shelf.old).files }
-    ensures write_faults { (S.seen shelf.new).write_faults ≡ (S.seen shelf.old).write_faults }
+    ensures keeps { KeepsFiles (S.seen shelf.old) (S.seen shelf.new) }
 {
     let text = match read_file(alloc, name, File::Script, shelf) {
         Ok(text) => text,

@@ -5,6 +5,7 @@ ghost use Rattle.tl_text.specs.declared.logical_lines.TheConstants.{MOST_BYTES};
 ghost use Rattle.run_text.specs.EventValue.{EventValue, event_values};
 ghost use Rattle.run_text.specs.Fits.{Fits};
 ghost use Rattle.cmd_base.specs.Ends.{Told, Explains};
+ghost use Rattle.cmd_base.specs.KeepsFiles.{KeepsFiles};
 ghost use Rattle.cmd_stations.specs.Words.{IsTableSize};
 ghost use Rattle.cmd_stations.specs.Script.{names_in, HasScript, IsScriptSettled, script_reading};
 ghost use Rattle.cmd_stations.specs.Scripted.{scripted_seen, scripted_reading};
@@ -61,9 +62,7 @@ fn read_events<S: Shelf>(
     ensures settled { OnOk result (Told (S.seen shelf.old).files (λ files. IsScriptSettled files words.now.script.now (names_in words.now.forms mapped.now.source mapped.now.tables.template.bits))) }
     ensures given { OnOk result ((S.seen shelf.new).given ≤ MOST_BYTES) }
     ensures err { IfErr result (Explains (script_reading words.now.script.now (names_in words.now.forms mapped.now.source mapped.now.tables.template.bits)) (S.seen shelf.old) (S.seen shelf.new)) }
-    ensures later { (S.seen shelf.old).read_faults ≤ (S.seen shelf.new).read_faults }
-    ensures files { (S.seen shelf.new).files ≡ (S.seen shelf.old).files }
-    ensures write_faults { (S.seen shelf.new).write_faults ≡ (S.seen shelf.old).write_faults }
+    ensures keeps { KeepsFiles (S.seen shelf.old) (S.seen shelf.new) }
 {
     match mapped_names(alloc, words.forms, mapped) {
         Ok(names) => read_script_file(alloc, words.script, &names, shelf),
@@ -87,9 +86,7 @@ pub fn read_scripted<S: Shelf>(
     ensures fit { IfOk result (λ s. (event : EventValue) → In (event_values s.events.items) event → Fits (names_in words.now.forms s.mapped.source s.mapped.tables.template.bits) event) }
     ensures given { OnOk result ((S.seen shelf.new).given ≤ MOST_BYTES) }
     ensures err { IfErr result (Explains (scripted_reading (scripted_seen words.now)) (S.seen shelf.old) (S.seen shelf.new)) }
-    ensures later { (S.seen shelf.old).read_faults ≤ (S.seen shelf.new).read_faults }
-    ensures files { (S.seen shelf.new).files ≡ (S.seen shelf.old).files }
-    ensures write_faults { (S.seen shelf.new).write_faults ≡ (S.seen shelf.old).write_faults }
+    ensures keeps { KeepsFiles (S.seen shelf.old) (S.seen shelf.new) }
 {
     let mapped = match read_mapped(alloc, &words.source, shelf) {
         Ok(mapped) => mapped,

@@ -1,5 +1,5 @@
 //! The command `audit`.
-ghost use Rattle.std.specs.Prelude.{◌≡◌, ◌≤◌, List, [], false, string_bytes, IfOk, IfErr, OnOk};
+ghost use Rattle.std.specs.Prelude.{◌≡◌, ◌≤◌, List, [], string_bytes, IfOk, IfErr, OnOk};
 ghost use Rattle.tl_text.specs.declared.logical_lines.TheConstants.{MOST_BYTES};
 ghost use Rattle.tl_io.specs.Port.{PortSeen};
 ghost use Rattle.aig_core.specs.Roots.{roots_of};
@@ -7,6 +7,7 @@ ghost use Rattle.cert_check.specs.Valid.{IsValid};
 ghost use Rattle.cmd_base.specs.Outside.{outside};
 ghost use Rattle.cmd_base.specs.Ends.{Ends, Explains, Told};
 ghost use Rattle.cmd_base.specs.WalkLaws.{HasLaws};
+ghost use Rattle.cmd_base.specs.KeepsFiles.{KeepsFiles};
 ghost use Rattle.cmd_stations.specs.Built.{IsBuiltSource, ComesToGraph};
 ghost use Rattle.cmd_cert.specs.Words.{cert_seen};
 ghost use Rattle.cmd_cert.specs.Certs.{HasCert};
@@ -40,9 +41,7 @@ fn read_audited<S: Shelf>(
     ensures valid { IfOk result (λ a. IsValid a.built.graph (roots_of a.built.roots) words.now.source.k a.cert) }
     ensures given { OnOk result ((S.seen shelf.new).given ≤ MOST_BYTES) }
     ensures err { IfErr result (Explains (audit_reading (cert_seen words.now)) (S.seen shelf.old) (S.seen shelf.new)) }
-    ensures files { (S.seen shelf.new).files ≡ (S.seen shelf.old).files }
-    ensures write_faults { (S.seen shelf.new).write_faults ≡ (S.seen shelf.old).write_faults }
-    ensures not_writing { (S.seen shelf.new).is_writing ≡ false }
+    ensures keeps { KeepsFiles (S.seen shelf.old) (S.seen shelf.new) }
 {
     let built = match read_graph(alloc, &words.source, shelf) {
         Ok(built) => built,

@@ -1,5 +1,5 @@
 //! The command `prove`.
-ghost use Rattle.std.specs.Prelude.{◌≡◌, ◌≤◌, List, [], ◌∷◌, false, string_bytes, IfOk, IfErr, OnOk};
+ghost use Rattle.std.specs.Prelude.{◌≡◌, ◌≤◌, List, [], ◌∷◌, string_bytes, IfOk, IfErr, OnOk};
 ghost use Rattle.tl_text.specs.declared.logical_lines.TheConstants.{MOST_BYTES};
 ghost use Rattle.tl_io.specs.Port.{PortSeen};
 ghost use Rattle.aig_core.specs.Roots.{roots_of};
@@ -9,6 +9,7 @@ ghost use Rattle.cert_check.specs.WrittenText.{IsWritable, cert_text};
 ghost use Rattle.cmd_base.specs.Outside.{outside};
 ghost use Rattle.cmd_base.specs.Ends.{Ends, Explains, Told};
 ghost use Rattle.cmd_base.specs.WalkLaws.{HasLaws};
+ghost use Rattle.cmd_base.specs.KeepsFiles.{KeepsFiles};
 ghost use Rattle.cmd_stations.specs.Words.{IsTableSize};
 ghost use Rattle.cmd_stations.specs.Aims.{ToLabels};
 ghost use Rattle.cmd_stations.specs.Settled.{source_reading};
@@ -81,10 +82,7 @@ fn read_proof<S: Shelf>(alloc: Global, words: &CertWords, shelf: &mut S) -> Resu
     ensures comes { IfOk result (λ p. Told (S.seen shelf.old).files (λ files. ComesToLabels files (cert_seen words.now).source p.labelled)) }
     ensures given { OnOk result ((S.seen shelf.new).given ≤ MOST_BYTES) }
     ensures err { IfErr result (Explains (source_reading ToLabels (cert_seen words.now).source) (S.seen shelf.old) (S.seen shelf.new)) }
-    ensures later { (S.seen shelf.old).read_faults ≤ (S.seen shelf.new).read_faults }
-    ensures files { (S.seen shelf.new).files ≡ (S.seen shelf.old).files }
-    ensures write_faults { (S.seen shelf.new).write_faults ≡ (S.seen shelf.old).write_faults }
-    ensures not_writing { (S.seen shelf.new).is_writing ≡ false }
+    ensures keeps { KeepsFiles (S.seen shelf.old) (S.seen shelf.new) }
 {
     let labelled = match read_labelled(alloc, &words.source, shelf) {
         Ok(labelled) => labelled,

@@ -5,6 +5,7 @@ ghost use Rattle.tl_text.specs.declared.logical_lines.TheConstants.{MOST_BYTES};
 ghost use Rattle.run_text.specs.EventValue.{EventValue, event_values};
 ghost use Rattle.run_text.specs.Fits.{Fits};
 ghost use Rattle.cmd_base.specs.Ends.{Told, Explains};
+ghost use Rattle.cmd_base.specs.KeepsFiles.{KeepsFiles};
 ghost use Rattle.cmd_stations.specs.Packs.{pack_names};
 ghost use Rattle.cmd_stations.specs.Script.{HasScript, IsScriptSettled, script_reading};
 ghost use Rattle.cmd_pack.specs.Bits.Words.{bits_seen};
@@ -41,9 +42,7 @@ fn read_events<S: Shelf>(
     ensures settled { OnOk result (Told (S.seen shelf.old).files (λ files. IsScriptSettled files words.now.script.now (pack_names pack.now))) }
     ensures given { OnOk result ((S.seen shelf.new).given ≤ MOST_BYTES) }
     ensures err { IfErr result (Explains (script_reading words.now.script.now (pack_names pack.now)) (S.seen shelf.old) (S.seen shelf.new)) }
-    ensures later { (S.seen shelf.old).read_faults ≤ (S.seen shelf.new).read_faults }
-    ensures files { (S.seen shelf.new).files ≡ (S.seen shelf.old).files }
-    ensures write_faults { (S.seen shelf.new).write_faults ≡ (S.seen shelf.old).write_faults }
+    ensures keeps { KeepsFiles (S.seen shelf.old) (S.seen shelf.new) }
 {
     match script_names(alloc, Forms::Run, pack, None) {
         Ok(names) => read_script_file(alloc, words.script, &names, shelf),
@@ -92,8 +91,7 @@ pub fn prepare<S: Shelf>(
     ensures prepared { IfOk result (λ r. Told (S.seen shelf.old).files (λ files. IsReadyFor files (bits_seen words.now) r)) }
     ensures given { OnOk result ((S.seen shelf.new).given ≤ MOST_BYTES) }
     ensures err { IfErr result (Explains (bits_reading (bits_seen words.now)) (S.seen shelf.old) (S.seen shelf.new)) }
-    ensures files { (S.seen shelf.new).files ≡ (S.seen shelf.old).files }
-    ensures write_faults { (S.seen shelf.new).write_faults ≡ (S.seen shelf.old).write_faults }
+    ensures keeps { KeepsFiles (S.seen shelf.old) (S.seen shelf.new) }
 {
     let pack = match read_pack(alloc, words.pack, shelf) {
         Ok(pack) => pack,

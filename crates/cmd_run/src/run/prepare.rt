@@ -5,6 +5,7 @@ ghost use Rattle.tl_io.specs.Shelf.{Files};
 ghost use Rattle.cut_enum.specs.declared.limits.TheConstants.{MOST_LEAVES};
 ghost use Rattle.run_text.specs.EventValue.{event_values};
 ghost use Rattle.cmd_base.specs.Ends.{Told, Explains};
+ghost use Rattle.cmd_base.specs.KeepsFiles.{KeepsFiles};
 ghost use Rattle.cmd_stations.specs.Tables.{IsReadSource, AreMade};
 ghost use Rattle.cmd_run.specs.Run.Words.{run_seen};
 ghost use Rattle.cmd_run.specs.Run.Job.{run_reading};
@@ -64,9 +65,7 @@ pub fn prepare<S: Shelf>(alloc: Global, words: &RunWords, shelf: &mut S) -> Resu
     ensures prepared { IfOk result (λ r. Told (S.seen shelf.old).files (λ files. IsReadyFor files (run_seen words.now) r)) }
     ensures given { OnOk result ((S.seen shelf.new).given ≤ MOST_BYTES) }
     ensures err { IfErr result (Explains (run_reading (run_seen words.now)) (S.seen shelf.old) (S.seen shelf.new)) }
-    ensures later { (S.seen shelf.old).read_faults ≤ (S.seen shelf.new).read_faults }
-    ensures files { (S.seen shelf.new).files ≡ (S.seen shelf.old).files }
-    ensures write_faults { (S.seen shelf.new).write_faults ≡ (S.seen shelf.old).write_faults }
+    ensures keeps { KeepsFiles (S.seen shelf.old) (S.seen shelf.new) }
 {
     let read = match read_scripted(alloc, &scripted(words), shelf) {
         Ok(read) => read,

@@ -1,5 +1,4 @@
-use Rattle.cmd_base.specs.Outside.{outside}
-use Rattle.cmd_base.proofs.EndLemmas.{explained_ends, only_read}
+use Rattle.cmd_base.proofs.EndLemmas.{only_read, unbegun_ends}
 use Rattle.cmd_graph.specs.Words.{graph_seen}
 use Rattle.cmd_graph.specs.Graph.{graph_walk}
 use Rattle.cmd_graph.proofs.GraphJobLemmas.{graph_done, graph_cut, graph_laws}
@@ -7,21 +6,17 @@ use Rattle.cmd_graph.proofs.job.graph_job.Goals as goal
 
 pub returns-in-Err-clause-ends : goal.returns-in-Err-clause-ends
 returns-in-Err-clause-ends g c ports =
-    let old = g.S.Shelf.seen c.args.shelf.now in
-    let new = g.S.Shelf.seen c.read_export.new.shelf in
-    let out = g.O.Sink.seen c.args.out.now in
-    explained_ends (graph_walk (graph_seen c.args.words.now)) old new (outside old out ports) (outside new out ports) (only_read old new out ports c.read_export.ensures.files c.read_export.ensures.write_faults) (λ _. c.read_export.ensures.not_writing) c.in-Err.outcome
-    c.in-Err.ensures.err
+    unbegun_ends (graph_walk (graph_seen c.args.words.now)) c.read_export.ensures.keeps (g.O.Sink.seen c.args.out.now) ports c.in-Err.outcome c.in-Err.ensures.err
 
 pub returns-in-Ok-written-clause-ends : goal.returns-in-Ok-written-clause-ends
 returns-in-Ok-written-clause-ends g c ports =
     graph_done (graph_seen c.args.words.now) c.in-Ok.export c.in-Ok.ensures.export (g.S.Shelf.seen c.args.shelf.now) (g.S.Shelf.seen c.read_export.new.shelf) (g.S.Shelf.seen c.write_out-written.new.shelf)
-    (λ out ps. only_read (g.S.Shelf.seen c.args.shelf.now) (g.S.Shelf.seen c.read_export.new.shelf) out ps c.read_export.ensures.files c.read_export.ensures.write_faults) c.in-Ok.ensures.given c.write_out-written.ensures.given c.in-Ok.ensures.comes (g.O.Sink.seen c.args.out.now) (g.O.Sink.seen c.write_out-written.new.out) ports (c.in-Ok-written.ensures.ends ports)
+    (only_read c.read_export.ensures.keeps) c.in-Ok.ensures.given c.write_out-written.ensures.given c.in-Ok.ensures.comes (g.O.Sink.seen c.args.out.now) (g.O.Sink.seen c.write_out-written.new.out) ports (c.in-Ok-written.ensures.ends ports)
 
 pub returns-in-Err-written-clause-ends : goal.returns-in-Err-written-clause-ends
 returns-in-Err-written-clause-ends g c ports =
     graph_cut (graph_seen c.args.words.now) c.in-Ok.export c.in-Ok.ensures.export (g.S.Shelf.seen c.args.shelf.now) (g.S.Shelf.seen c.read_export.new.shelf) (g.S.Shelf.seen c.write_out-written.new.shelf)
-    (λ out ps. only_read (g.S.Shelf.seen c.args.shelf.now) (g.S.Shelf.seen c.read_export.new.shelf) out ps c.read_export.ensures.files c.read_export.ensures.write_faults) c.in-Ok.ensures.given c.write_out-written.ensures.given c.in-Ok.ensures.comes (g.O.Sink.seen c.args.out.now) (g.O.Sink.seen c.write_out-written.new.out) ports (c.in-Err-written.ensures.ends ports)
+    (only_read c.read_export.ensures.keeps) c.in-Ok.ensures.given c.write_out-written.ensures.given c.in-Ok.ensures.comes (g.O.Sink.seen c.args.out.now) (g.O.Sink.seen c.write_out-written.new.out) ports (c.in-Err-written.ensures.ends ports)
 
 pub returns-in-Err-clause-laws : goal.returns-in-Err-clause-laws
 returns-in-Err-clause-laws g c = graph_laws (graph_seen c.args.words.now)

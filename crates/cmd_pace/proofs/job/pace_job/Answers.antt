@@ -1,7 +1,7 @@
 use Rattle.std.proofs.Common.{refl, inl}
 use Rattle.pace_core.specs.EventValue.{pace_values}
 use Rattle.cmd_base.specs.Outside.{Outside, outside}
-use Rattle.cmd_base.proofs.EndLemmas.{explained_ends, only_read}
+use Rattle.cmd_base.proofs.EndLemmas.{unbegun_ends}
 use Rattle.cmd_pace.specs.Ends.{IsAllPaced, IsPaceCut}
 use Rattle.cmd_pace.specs.Verdict.{pace_walk}
 use Rattle.cmd_pace.specs.Words.{pace_seen}
@@ -12,10 +12,7 @@ use Rattle.cmd_pace.proofs.job.pace_job.Goals as goal
 
 pub returns-in-Err-clause-ends : goal.returns-in-Err-clause-ends
 returns-in-Err-clause-ends g c ports =
-    let old = g.S.Shelf.seen c.args.shelf.now in
-    let new = g.S.Shelf.seen c.prepare.new.shelf in
-    let out = g.O.Sink.seen c.args.out.now in
-    explained_ends (pace_walk (pace_seen c.args.words.now)) old new (outside old out ports) (outside new out ports) (only_read old new out ports c.prepare.ensures.files c.prepare.ensures.write_faults) (λ none. absurd none) c.in-Err.outcome c.in-Err.ensures.err
+    unbegun_ends (pace_walk (pace_seen c.args.words.now)) c.prepare.ensures.keeps (g.O.Sink.seen c.args.out.now) ports c.in-Err.outcome c.in-Err.ensures.err
 
 pub returns-in-Ok-played-clause-ends : goal.returns-in-Ok-played-clause-ends
 returns-in-Ok-played-clause-ends g c ports =
@@ -24,7 +21,7 @@ returns-in-Ok-played-clause-ends g c ports =
     let before : Outside = outside (g.S.Shelf.seen c.args.shelf.now) (g.O.Sink.seen c.args.out.now) ports in
     let after : Outside = outside (g.S.Shelf.seen c.prepare.new.shelf) (g.O.Sink.seen c.play-played.new.out) ports in (
       record { given = c.in-Ok.ensures.given; begun = λ files told. ready_begun files words ready (c.in-Ok.ensures.prepared files told) },
-      λ files told. ready_pace files words ready (c.in-Ok.ensures.prepared files told) IsAllPaced before after c.prepare.ensures.files (refl {a = ports})
+      λ files told. ready_pace files words ready (c.in-Ok.ensures.prepared files told) IsAllPaced before after c.prepare.ensures.keeps.files (refl {a = ports})
           (all_paced ready.pacer (pace_values ready.events.items) before after c.in-Ok-played.ensures.ends),
       refl {a = ports},
     )
@@ -37,7 +34,7 @@ returns-in-Err-played-clause-ends g c ports =
     let after : Outside = outside (g.S.Shelf.seen c.prepare.new.shelf) (g.O.Sink.seen c.play-played.new.out) ports in
     let rose = c.in-Err-played.ensures.cause.failed in (
       record { given = c.in-Ok.ensures.given; begun = λ files told. ready_begun files words ready (c.in-Ok.ensures.prepared files told) },
-      λ files told. ready_pace files words ready (c.in-Ok.ensures.prepared files told) IsPaceCut before after c.prepare.ensures.files (refl {a = ports})
+      λ files told. ready_pace files words ready (c.in-Ok.ensures.prepared files told) IsPaceCut before after c.prepare.ensures.keeps.files (refl {a = ports})
           (cut_paced ready.pacer (pace_values ready.events.items) before after c.in-Err-played.ensures.ends rose),
       refl {a = ports},
       inl rose,

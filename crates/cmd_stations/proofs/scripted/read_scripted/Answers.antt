@@ -1,5 +1,5 @@
-use Rattle.std.proofs.Common.{◌≡◌, ◌∙◌, sym}
-use Rattle.cmd_base.proofs.EndLemmas.{Explains_from}
+use Rattle.std.proofs.Common.{◌∙◌, sym}
+use Rattle.cmd_base.proofs.EndLemmas.{Explains_from, keeps_past}
 use Rattle.cmd_stations.specs.Scripted.{scripted_seen, scripted_reading}
 use Rattle.cmd_stations.proofs.ScriptedLemmas.{source_to_scripted, script_to_scripted, comes_scripted}
 use Rattle.cmd_stations.proofs.scripted.read_scripted.Goals as goal
@@ -14,13 +14,19 @@ returns-in-Err-read_events-clause-err g c =
     let mid = g.S.Shelf.seen c.read_mapped.new.shelf in
     let new = g.S.Shelf.seen c.read_events.new.shelf in
     let mapped = c.in-Ok.mapped in
-    let same : mid.files ≡ old.files = c.read_mapped.ensures.files in
-    Explains_from (scripted_reading words) old mid new c.read_mapped.ensures.later same c.in-Err-read_events.outcome
+    let keeps = c.read_mapped.ensures.keeps in
+    Explains_from (scripted_reading words) old mid new keeps c.in-Err-read_events.outcome
     (script_to_scripted words mid new c.in-Err-read_events.outcome mapped.source mapped.tables.template
-    (λ files told. let past = c.in-Ok.ensures.comes files (sym same ∙ told) in (past.has, past.settled)) c.in-Err-read_events.ensures.err)
+    (λ files told. let past = c.in-Ok.ensures.comes files (sym keeps.files ∙ told) in (past.has, past.settled)) c.in-Err-read_events.ensures.err)
 
 pub returns-in-Ok-read_events-clause-comes : goal.returns-in-Ok-read_events-clause-comes
 returns-in-Ok-read_events-clause-comes g c files told =
-    let there = c.read_mapped.ensures.files ∙ told in
+    let there = c.read_mapped.ensures.keeps.files ∙ told in
     comes_scripted files (scripted_seen c.args.words.now) (record { mapped = c.in-Ok.mapped; events = c.in-Ok-read_events.events }) (c.in-Ok.ensures.comes files told)
     (c.in-Ok-read_events.ensures.script files there) (c.in-Ok-read_events.ensures.settled files there)
+
+pub returns-in-Err-read_events-clause-keeps : goal.returns-in-Err-read_events-clause-keeps
+returns-in-Err-read_events-clause-keeps g c = keeps_past c.read_mapped.ensures.keeps c.read_events.ensures.keeps
+
+pub returns-in-Ok-read_events-clause-keeps : goal.returns-in-Ok-read_events-clause-keeps
+returns-in-Ok-read_events-clause-keeps g c = keeps_past c.read_mapped.ensures.keeps c.read_events.ensures.keeps

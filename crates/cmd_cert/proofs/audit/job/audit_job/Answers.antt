@@ -1,7 +1,7 @@
 use Rattle.std.proofs.Common.{[], ap, ◌∙◌, refl, inl}
 use Rattle.cmd_base.specs.Outside.{Outside, outside}
 use Rattle.cmd_base.specs.Writing.{AreWritten, IsCutInLine}
-use Rattle.cmd_base.proofs.EndLemmas.{explained_ends, only_read}
+use Rattle.cmd_base.proofs.EndLemmas.{memory_ends, unbegun_ends}
 use Rattle.cmd_cert.specs.declared.audit.job.Audited.{Audited}
 use Rattle.cmd_cert.specs.Words.{cert_seen}
 use Rattle.cmd_cert.specs.Certs.{audited_line}
@@ -11,15 +11,10 @@ use Rattle.cmd_cert.proofs.audit.job.audit_job.Goals as goal
 
 pub returns-in-Err-clause-ends : goal.returns-in-Err-clause-ends
 returns-in-Err-clause-ends g c ports =
-    let old = g.S.Shelf.seen c.args.shelf.now in
-    let new = g.S.Shelf.seen c.read_audited.new.shelf in
-    let out = g.O.Sink.seen c.args.out.now in
-    explained_ends (audit_walk (cert_seen c.args.words.now)) old new (outside old out ports) (outside new out ports) (only_read old new out ports c.read_audited.ensures.files c.read_audited.ensures.write_faults) (λ none. absurd none) c.in-Err.outcome
-    c.in-Err.ensures.err
+    unbegun_ends (audit_walk (cert_seen c.args.words.now)) c.read_audited.ensures.keeps (g.O.Sink.seen c.args.out.now) ports c.in-Err.outcome c.in-Err.ensures.err
 
 pub returns-in-Err-line-clause-ends : goal.returns-in-Err-line-clause-ends
-returns-in-Err-line-clause-ends g c ports =
-    (only_read (g.S.Shelf.seen c.args.shelf.now) (g.S.Shelf.seen c.read_audited.new.shelf) (g.O.Sink.seen c.args.out.now) ports c.read_audited.ensures.files c.read_audited.ensures.write_faults, λ none. absurd none)
+returns-in-Err-line-clause-ends g c ports = memory_ends (audit_walk (cert_seen c.args.words.now)) c.read_audited.ensures.keeps (g.O.Sink.seen c.args.out.now) ports
 
 pub returns-in-Ok-put_line-clause-ends : goal.returns-in-Ok-put_line-clause-ends
 returns-in-Ok-put_line-clause-ends g c ports =
@@ -31,7 +26,7 @@ returns-in-Ok-put_line-clause-ends g c ports =
     let after : Outside = outside new (g.O.Sink.seen c.put_line.new.out) ports in (
       audit_begun words c.in-Ok.audited is.normal is.valid old new is.comes is.has is.given,
       audited words c.in-Ok.audited is.normal is.valid old new is.comes is.has c.as_str.result.now (c.as_str.ensures.value ∙ c.in-Ok-line.ensures ∙ ap (λ (a : Audited). audited_line a.cert.depth) c.audited.view_is) (λ line. AreWritten [] line before after)
-          (record { files = is.files; bytes = c.in-Ok-put_line.ensures.grown; ports = refl }),
+          (record { files = is.keeps.files; bytes = c.in-Ok-put_line.ensures.grown; ports = refl }),
       refl,
     )
 
@@ -47,7 +42,7 @@ returns-clause-ends g c ports =
     let after : Outside = outside new (g.O.Sink.seen c.put_line.new.out) ports in (
       audit_begun words c.in-Ok.audited is.normal is.valid old new is.comes is.has is.given,
       audited words c.in-Ok.audited is.normal is.valid old new is.comes is.has c.as_str.result.now (c.as_str.ensures.value ∙ c.in-Ok-line.ensures ∙ ap (λ (a : Audited). audited_line a.cert.depth) c.audited.view_is) (λ line. IsCutInLine [] line before after)
-          (record { part = put.0; within = put.1; files = is.files; bytes = put.2; cause = rose; ports = refl }),
+          (record { part = put.0; within = put.1; files = is.keeps.files; bytes = put.2; cause = rose; ports = refl }),
       refl,
       inl rose,
     )

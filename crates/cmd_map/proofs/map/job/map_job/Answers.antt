@@ -1,28 +1,23 @@
-use Rattle.cmd_base.specs.Outside.{outside}
 use Rattle.cmd_map.specs.Map.Words.{map_seen}
 use Rattle.cmd_map.specs.Map.Verdict.{map_walk}
-use Rattle.cmd_base.proofs.EndLemmas.{explained_ends, only_read}
+use Rattle.cmd_base.proofs.EndLemmas.{only_read, unbegun_ends}
 use Rattle.cmd_map.proofs.MapLemmas.{map_done, map_cut}
 use Rattle.cmd_map.proofs.SourceWalkLemmas.{map_laws}
 use Rattle.cmd_map.proofs.map.job.map_job.Goals as goal
 
 pub returns-in-Err-clause-ends : goal.returns-in-Err-clause-ends
 returns-in-Err-clause-ends g c ports =
-    let old = g.S.Shelf.seen c.args.shelf.now in
-    let new = g.S.Shelf.seen c.read_draft.new.shelf in
-    let out = g.O.Sink.seen c.args.out.now in
-    let same = only_read old new out ports c.read_draft.ensures.files c.read_draft.ensures.write_faults in
-    explained_ends (map_walk (map_seen c.args.words.now)) old new (outside old out ports) (outside new out ports) same (λ _. c.read_draft.ensures.not_writing) c.in-Err.outcome c.in-Err.ensures.err
+    unbegun_ends (map_walk (map_seen c.args.words.now)) c.read_draft.ensures.keeps (g.O.Sink.seen c.args.out.now) ports c.in-Err.outcome c.in-Err.ensures.err
 
 pub returns-in-Ok-written-clause-ends : goal.returns-in-Ok-written-clause-ends
 returns-in-Ok-written-clause-ends g c ports =
     map_done c.in-Ok.draft.mapped c.in-Ok.ensures.draft.made c.write_out-written.ensures.means (map_seen c.args.words.now) (g.S.Shelf.seen c.args.shelf.now) (g.S.Shelf.seen c.read_draft.new.shelf) (g.S.Shelf.seen c.write_out-written.new.shelf)
-    (λ out ps. only_read (g.S.Shelf.seen c.args.shelf.now) (g.S.Shelf.seen c.read_draft.new.shelf) out ps c.read_draft.ensures.files c.read_draft.ensures.write_faults) c.in-Ok.ensures.given c.write_out-written.ensures.given c.in-Ok.ensures.comes (g.O.Sink.seen c.args.out.now) (g.O.Sink.seen c.write_out-written.new.out) ports (c.in-Ok-written.ensures.ends ports)
+    (only_read c.read_draft.ensures.keeps) c.in-Ok.ensures.given c.write_out-written.ensures.given c.in-Ok.ensures.comes (g.O.Sink.seen c.args.out.now) (g.O.Sink.seen c.write_out-written.new.out) ports (c.in-Ok-written.ensures.ends ports)
 
 pub returns-in-Err-written-clause-ends : goal.returns-in-Err-written-clause-ends
 returns-in-Err-written-clause-ends g c ports =
     map_cut c.in-Ok.draft.mapped c.in-Ok.ensures.draft.made c.write_out-written.ensures.means (map_seen c.args.words.now) (g.S.Shelf.seen c.args.shelf.now) (g.S.Shelf.seen c.read_draft.new.shelf) (g.S.Shelf.seen c.write_out-written.new.shelf)
-    (λ out ps. only_read (g.S.Shelf.seen c.args.shelf.now) (g.S.Shelf.seen c.read_draft.new.shelf) out ps c.read_draft.ensures.files c.read_draft.ensures.write_faults) c.in-Ok.ensures.given c.write_out-written.ensures.given c.in-Ok.ensures.comes (g.O.Sink.seen c.args.out.now) (g.O.Sink.seen c.write_out-written.new.out) ports (c.in-Err-written.ensures.ends ports)
+    (only_read c.read_draft.ensures.keeps) c.in-Ok.ensures.given c.write_out-written.ensures.given c.in-Ok.ensures.comes (g.O.Sink.seen c.args.out.now) (g.O.Sink.seen c.write_out-written.new.out) ports (c.in-Err-written.ensures.ends ports)
 
 pub returns-in-Err-clause-laws : goal.returns-in-Err-clause-laws
 returns-in-Err-clause-laws g c = map_laws (map_seen c.args.words.now)

@@ -1,38 +1,33 @@
 use Rattle.std.proofs.Common.{sym, subst}
 use Rattle.param_list.specs.Parameters.{param_inits}
 use Rattle.ppc_pack.specs.Pack.{IsConf}
-use Rattle.cmd_base.specs.Outside.{outside}
 use Rattle.cmd_map.specs.Spec.Words.{spec_seen}
 use Rattle.cmd_map.specs.Spec.Verdict.{spec_walk}
-use Rattle.cmd_base.proofs.EndLemmas.{explained_ends, only_read}
+use Rattle.cmd_base.proofs.EndLemmas.{memory_ends, only_read, unbegun_ends}
 use Rattle.cmd_map.proofs.SpecLemmas.{spec_done, spec_cut}
 use Rattle.cmd_map.proofs.SourceWalkLemmas.{spec_laws}
 use Rattle.cmd_map.proofs.spec.job.spec_job.Goals as goal
 
 pub returns-in-Err-clause-ends : goal.returns-in-Err-clause-ends
 returns-in-Err-clause-ends g c ports =
-    let old = g.S.Shelf.seen c.args.shelf.now in
-    let new = g.S.Shelf.seen c.read_draft.new.shelf in
-    let out = g.O.Sink.seen c.args.out.now in
-    let same = only_read old new out ports c.read_draft.ensures.files c.read_draft.ensures.write_faults in
-    explained_ends (spec_walk (spec_seen c.args.words.now)) old new (outside old out ports) (outside new out ports) same (λ _. c.read_draft.ensures.not_writing) c.in-Err.outcome c.in-Err.ensures.err
+    unbegun_ends (spec_walk (spec_seen c.args.words.now)) c.read_draft.ensures.keeps (g.O.Sink.seen c.args.out.now) ports c.in-Err.outcome c.in-Err.ensures.err
 
 pub returns-in-Err-listed_config-clause-ends : goal.returns-in-Err-listed_config-clause-ends
-returns-in-Err-listed_config-clause-ends g c ports = (only_read (g.S.Shelf.seen c.args.shelf.now) (g.S.Shelf.seen c.read_draft.new.shelf) (g.O.Sink.seen c.args.out.now) ports c.read_draft.ensures.files c.read_draft.ensures.write_faults, λ _. c.read_draft.ensures.not_writing)
+returns-in-Err-listed_config-clause-ends g c ports = memory_ends (spec_walk (spec_seen c.args.words.now)) c.read_draft.ensures.keeps (g.O.Sink.seen c.args.out.now) ports
 
 pub returns-in-Ok-written-clause-ends : goal.returns-in-Ok-written-clause-ends
 returns-in-Ok-written-clause-ends g c ports =
     let m = c.in-Ok.draft.mapped in
     let conf = subst (λ cs. IsConf m.tables.pack (param_inits m.source.params.list) cs) (sym c.deref.ensures.value) c.in-Ok-listed_config.ensures in
     spec_done m c.in-Ok.ensures.draft.made c.deref.result.now conf c.write_out-written.ensures.means (spec_seen c.args.words.now) (g.S.Shelf.seen c.args.shelf.now) (g.S.Shelf.seen c.read_draft.new.shelf) (g.S.Shelf.seen c.write_out-written.new.shelf)
-    (λ out ps. only_read (g.S.Shelf.seen c.args.shelf.now) (g.S.Shelf.seen c.read_draft.new.shelf) out ps c.read_draft.ensures.files c.read_draft.ensures.write_faults) c.in-Ok.ensures.given c.write_out-written.ensures.given c.in-Ok.ensures.comes (g.O.Sink.seen c.args.out.now) (g.O.Sink.seen c.write_out-written.new.out) ports (c.in-Ok-written.ensures.ends ports)
+    (only_read c.read_draft.ensures.keeps) c.in-Ok.ensures.given c.write_out-written.ensures.given c.in-Ok.ensures.comes (g.O.Sink.seen c.args.out.now) (g.O.Sink.seen c.write_out-written.new.out) ports (c.in-Ok-written.ensures.ends ports)
 
 pub returns-clause-ends : goal.returns-clause-ends
 returns-clause-ends g c ports =
     let m = c.in-Ok.draft.mapped in
     let conf = subst (λ cs. IsConf m.tables.pack (param_inits m.source.params.list) cs) (sym c.deref.ensures.value) c.in-Ok-listed_config.ensures in
     spec_cut m c.in-Ok.ensures.draft.made c.deref.result.now conf c.write_out-written.ensures.means (spec_seen c.args.words.now) (g.S.Shelf.seen c.args.shelf.now) (g.S.Shelf.seen c.read_draft.new.shelf) (g.S.Shelf.seen c.write_out-written.new.shelf)
-    (λ out ps. only_read (g.S.Shelf.seen c.args.shelf.now) (g.S.Shelf.seen c.read_draft.new.shelf) out ps c.read_draft.ensures.files c.read_draft.ensures.write_faults) c.in-Ok.ensures.given c.write_out-written.ensures.given c.in-Ok.ensures.comes (g.O.Sink.seen c.args.out.now) (g.O.Sink.seen c.write_out-written.new.out) ports (c.in-Err-written.ensures.ends ports)
+    (only_read c.read_draft.ensures.keeps) c.in-Ok.ensures.given c.write_out-written.ensures.given c.in-Ok.ensures.comes (g.O.Sink.seen c.args.out.now) (g.O.Sink.seen c.write_out-written.new.out) ports (c.in-Err-written.ensures.ends ports)
 
 pub returns-in-Err-clause-laws : goal.returns-in-Err-clause-laws
 returns-in-Err-clause-laws g c = spec_laws (spec_seen c.args.words.now)

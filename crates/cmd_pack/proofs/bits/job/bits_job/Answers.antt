@@ -1,7 +1,7 @@
 use Rattle.std.proofs.Common.{◌≡◌, refl, sym, subst, inl}
 use Rattle.run_text.specs.EventValue.{event_values}
 use Rattle.cmd_base.specs.Outside.{Outside, outside}
-use Rattle.cmd_base.proofs.EndLemmas.{explained_ends, only_read}
+use Rattle.cmd_base.proofs.EndLemmas.{only_read, unbegun_ends}
 use Rattle.cmd_pack.specs.Bits.Words.{bits_seen}
 use Rattle.cmd_pack.specs.Bits.Verdict.{AreLinesPut, AreLinesCut, bits_walk}
 use Rattle.cmd_pack.proofs.BitsPlayLemmas.{cut_cause, ready_begun, ready_bits}
@@ -10,10 +10,7 @@ use Rattle.cmd_pack.proofs.bits.job.bits_job.Goals as goal
 
 pub returns-in-Err-clause-ends : goal.returns-in-Err-clause-ends
 returns-in-Err-clause-ends g c ports =
-    let old = g.S.Shelf.seen c.args.shelf.now in
-    let new = g.S.Shelf.seen c.prepare.new.shelf in
-    let out = g.O.Sink.seen c.args.out.now in
-    explained_ends (bits_walk (bits_seen c.args.words.now)) old new (outside old out ports) (outside new out ports) (only_read old new out ports c.prepare.ensures.files c.prepare.ensures.write_faults) (λ none. absurd none) c.in-Err.outcome c.in-Err.ensures.err
+    unbegun_ends (bits_walk (bits_seen c.args.words.now)) c.prepare.ensures.keeps (g.O.Sink.seen c.args.out.now) ports c.in-Err.outcome c.in-Err.ensures.err
 
 pub returns-in-Ok-played-clause-ends : goal.returns-in-Ok-played-clause-ends
 returns-in-Ok-played-clause-ends g c ports =
@@ -24,7 +21,7 @@ returns-in-Ok-played-clause-ends g c ports =
     let out = g.O.Sink.seen c.play-played.new.out in
     let before : Outside = outside old (g.O.Sink.seen c.args.out.now) ports in
     let after : Outside = outside new out ports in
-    let same : after ≡ outside old out ports = only_read old new out ports c.prepare.ensures.files c.prepare.ensures.write_faults in
+    let same : after ≡ outside old out ports = only_read c.prepare.ensures.keeps out ports in
     let ends : AreLinesPut ready.host (event_values ready.events.items) before after =
     subst (λ w. AreLinesPut ready.host (event_values ready.events.items) before w) (sym same) (c.in-Ok-played.ensures.ends old ports) in (
       record { given = c.in-Ok.ensures.given; begun = λ fs told. ready_begun fs words ready (c.in-Ok.ensures.prepared fs told) },
@@ -41,7 +38,7 @@ returns-in-Err-played-clause-ends g c ports =
     let out = g.O.Sink.seen c.play-played.new.out in
     let before : Outside = outside old (g.O.Sink.seen c.args.out.now) ports in
     let after : Outside = outside new out ports in
-    let same : after ≡ outside old out ports = only_read old new out ports c.prepare.ensures.files c.prepare.ensures.write_faults in
+    let same : after ≡ outside old out ports = only_read c.prepare.ensures.keeps out ports in
     let ends : AreLinesCut ready.host (event_values ready.events.items) before after =
     subst (λ w. AreLinesCut ready.host (event_values ready.events.items) before w) (sym same) (c.in-Err-played.ensures.ends old ports) in (
       record { given = c.in-Ok.ensures.given; begun = λ fs told. ready_begun fs words ready (c.in-Ok.ensures.prepared fs told) },

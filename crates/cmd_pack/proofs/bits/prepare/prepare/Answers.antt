@@ -1,8 +1,8 @@
-use Rattle.std.proofs.Common.{◌≡◌, ◌∙◌, sym}
+use Rattle.std.proofs.Common.{◌∙◌, sym}
 use Rattle.run_text.specs.EventValue.{event_values}
 use Rattle.cmd_pack.specs.Bits.Job.{bits_reading}
 use Rattle.cmd_pack.specs.Bits.Words.{bits_seen}
-use Rattle.cmd_base.proofs.EndLemmas.{Explains_from}
+use Rattle.cmd_base.proofs.EndLemmas.{Explains_from, keeps_past}
 use Rattle.cmd_pack.proofs.BitsWalkLemmas.{pack_to_bits, script_to_bits}
 use Rattle.cmd_pack.proofs.BitsPlayLemmas.{can_play, ready_for}
 use Rattle.cmd_pack.proofs.bits.prepare.prepare.Goals as goal
@@ -16,16 +16,25 @@ returns-in-Err-read_events-clause-err g c =
     let old = g.S.Shelf.seen c.args.shelf.now in
     let mid = g.S.Shelf.seen c.read_pack.new.shelf in
     let new = g.S.Shelf.seen c.read_events.new.shelf in
-    let same : mid.files ≡ old.files = c.read_pack.ensures.files in
-    Explains_from (bits_reading words) old mid new c.read_pack.ensures.later same c.in-Err-read_events.outcome
+    let keeps = c.read_pack.ensures.keeps in
+    Explains_from (bits_reading words) old mid new keeps c.in-Err-read_events.outcome
     (script_to_bits words mid new c.in-Err-read_events.outcome c.in-Ok.pack
-    (λ files told. (c.in-Ok.ensures.pack files (sym same ∙ told), c.in-Ok.ensures.settled files (sym same ∙ told))) c.in-Err-read_events.ensures.err)
+    (λ files told. (c.in-Ok.ensures.pack files (sym keeps.files ∙ told), c.in-Ok.ensures.settled files (sym keeps.files ∙ told))) c.in-Err-read_events.ensures.err)
 
 pub returns-in-Ok-make_ready-clause-ready : goal.returns-in-Ok-make_ready-clause-ready
 returns-in-Ok-make_ready-clause-ready g c = can_play c.in-Ok.pack (event_values c.in-Ok-read_events.events.items) c.in-Ok-make_ready.ready c.in-Ok-make_ready.ensures c.in-Ok-read_events.ensures.fit
 
 pub returns-in-Ok-make_ready-clause-prepared : goal.returns-in-Ok-make_ready-clause-prepared
 returns-in-Ok-make_ready-clause-prepared g c files told =
-    let there = c.read_pack.ensures.files ∙ told in
+    let there = c.read_pack.ensures.keeps.files ∙ told in
     ready_for files (bits_seen c.args.words.now) c.in-Ok.pack (event_values c.in-Ok-read_events.events.items) c.in-Ok-make_ready.ready c.in-Ok-make_ready.ensures (c.in-Ok.ensures.pack files told) (c.in-Ok.ensures.settled files told)
     (c.in-Ok-read_events.ensures.script files there) (c.in-Ok-read_events.ensures.settled files there)
+
+pub returns-in-Err-read_events-clause-keeps : goal.returns-in-Err-read_events-clause-keeps
+returns-in-Err-read_events-clause-keeps g c = keeps_past c.read_pack.ensures.keeps c.read_events.ensures.keeps
+
+pub returns-in-Ok-make_ready-clause-keeps : goal.returns-in-Ok-make_ready-clause-keeps
+returns-in-Ok-make_ready-clause-keeps g c = keeps_past c.read_pack.ensures.keeps c.read_events.ensures.keeps
+
+pub returns-in-Err-make_ready-clause-keeps : goal.returns-in-Err-make_ready-clause-keeps
+returns-in-Err-make_ready-clause-keeps g c = keeps_past c.read_pack.ensures.keeps c.read_events.ensures.keeps

@@ -1,9 +1,7 @@
 use Rattle.std.proofs.Common.{refl, subst, List, [], ◌∷◌}
-use Rattle.tl_io.specs.Port.{PortSeen}
-use Rattle.tl_io.specs.Sink.{SinkSeen}
 use Rattle.cmd_base.specs.Outside.{Outside, outside}
 use Rattle.cmd_base.specs.Writing.{FileText, AreWritten, IsCut}
-use Rattle.cmd_base.proofs.EndLemmas.{explained_ends, only_read}
+use Rattle.cmd_base.proofs.EndLemmas.{memory_ends, only_read, unbegun_ends}
 use Rattle.cmd_stations.specs.Packs.{present_bytes}
 use Rattle.cmd_stations.proofs.WriteAllLemmas.{cut_cause}
 use Rattle.cmd_pack.specs.Bits.Verdict.{pack_header}
@@ -15,15 +13,10 @@ use Rattle.cmd_pack.proofs.repack.job.repack_job.Goals as goal
 
 pub returns-in-Err-clause-ends : goal.returns-in-Err-clause-ends
 returns-in-Err-clause-ends g c ports =
-    let old = g.S.Shelf.seen c.args.shelf.now in
-    let new = g.S.Shelf.seen c.read_pack.new.shelf in
-    let out = g.O.Sink.seen c.args.out.now in
-    explained_ends (repack_walk (repack_seen c.args.words.now)) old new (outside old out ports) (outside new out ports) (only_read old new out ports c.read_pack.ensures.files c.read_pack.ensures.write_faults) (λ _. c.read_pack.ensures.not_writing) c.in-Err.outcome
-    c.in-Err.ensures.err
+    unbegun_ends (repack_walk (repack_seen c.args.words.now)) c.read_pack.ensures.keeps (g.O.Sink.seen c.args.out.now) ports c.in-Err.outcome c.in-Err.ensures.err
 
 pub returns-in-Err-make-clause-ends : goal.returns-in-Err-make-clause-ends
-returns-in-Err-make-clause-ends g c ports =
-    (only_read (g.S.Shelf.seen c.args.shelf.now) (g.S.Shelf.seen c.read_pack.new.shelf) (g.O.Sink.seen c.args.out.now) ports c.read_pack.ensures.files c.read_pack.ensures.write_faults, λ _. c.read_pack.ensures.not_writing)
+returns-in-Err-make-clause-ends g c ports = memory_ends (repack_walk (repack_seen c.args.words.now)) c.read_pack.ensures.keeps (g.O.Sink.seen c.args.out.now) ports
 
 pub returns-in-Ok-written-clause-ends : goal.returns-in-Ok-written-clause-ends
 returns-in-Ok-written-clause-ends g c ports =
@@ -32,7 +25,7 @@ returns-in-Ok-written-clause-ends g c ports =
     let mid = g.S.Shelf.seen c.read_pack.new.shelf in
     let new = g.S.Shelf.seen c.write_all-written.new.shelf in
     let after : Outside = outside new (g.O.Sink.seen c.write_all-written.new.out) ports in
-    let same = λ (out : SinkSeen) (ps : List PortSeen). only_read old mid out ps c.read_pack.ensures.files c.read_pack.ensures.write_faults in (
+    let same = only_read c.read_pack.ensures.keeps in (
       begun_from words c.in-Ok.pack old mid new same c.in-Ok.ensures.pack c.in-Ok.ensures.settled c.in-Ok.ensures.given c.write_all-written.ensures.given,
       repacked_from words c.in-Ok.pack old mid new same c.in-Ok.ensures.pack c.in-Ok.ensures.settled (λ before texts line. AreWritten texts line before after) (g.O.Sink.seen c.args.out.now) ports (c.in-Ok-written.ensures.ends ports),
       refl,
@@ -46,7 +39,7 @@ returns-clause-ends g c ports =
     let new = g.S.Shelf.seen c.write_all-written.new.shelf in
     let out = g.O.Sink.seen c.args.out.now in
     let after : Outside = outside new (g.O.Sink.seen c.write_all-written.new.out) ports in
-    let same = λ (put : SinkSeen) (ps : List PortSeen). only_read old mid put ps c.read_pack.ensures.files c.read_pack.ensures.write_faults in
+    let same = only_read c.read_pack.ensures.keeps in
     let text : FileText = record { name = words.new; bytes = present_bytes c.in-Ok.pack } in
     let cut = subst (λ w. IsCut (text ∷ []) (pack_header c.in-Ok.pack) w after) (same out ports) (c.in-Err-written.ensures.ends ports) in (
       begun_from words c.in-Ok.pack old mid new same c.in-Ok.ensures.pack c.in-Ok.ensures.settled c.in-Ok.ensures.given c.write_all-written.ensures.given,

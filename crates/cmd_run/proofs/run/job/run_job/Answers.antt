@@ -4,7 +4,7 @@ use Rattle.cmd_base.specs.Outside.{outside}
 use Rattle.cmd_base.specs.declared.outcome.Outcome.{Outcome}
 use Rattle.cmd_run.specs.Run.Words.{run_seen}
 use Rattle.cmd_run.specs.Run.Verdict.{run_walk}
-use Rattle.cmd_base.proofs.EndLemmas.{explained_ends, only_read}
+use Rattle.cmd_base.proofs.EndLemmas.{unbegun_ends}
 use Rattle.cmd_run.proofs.RunLemmas.{run_ends}
 use Rattle.cmd_run.proofs.WalkLemmas.{run_laws}
 use Rattle.cmd_run.proofs.run.job.run_job.Goals as goal
@@ -19,7 +19,7 @@ returns-in-Ok-clause-ends g c =
     let before = g.O.Sink.seen c.args.out.now in
     let after = g.O.Sink.seen c.play-played.new.out in
     subst (λ (o : Outcome). Ends (run_walk words) old new (outside old before ports) (outside new after others) o) (sym c.outcome_of.ensures)
-    (run_ends words c.in-Ok.ready old new before after ports others c.in-Ok.ensures.given c.in-Ok.ensures.prepared c.prepare.ensures.files c.prepare.ensures.write_faults c.play-played.result c.play-played.ensures.ends c.play-played.ensures.cause c.play-played.ensures.served
+    (run_ends words c.in-Ok.ready old new before after ports others c.in-Ok.ensures.given c.in-Ok.ensures.prepared c.prepare.ensures.keeps c.play-played.result c.play-played.ensures.ends c.play-played.ensures.cause c.play-played.ensures.served
     c.play-played.ensures.failed)
 
 pub returns-in-Ok-clause-laws : goal.returns-in-Ok-clause-laws
@@ -27,11 +27,7 @@ returns-in-Ok-clause-laws g c = run_laws (run_seen c.args.words.now)
 
 pub returns-in-Err-clause-ends : goal.returns-in-Err-clause-ends
 returns-in-Err-clause-ends g c =
-    let ports = map g.P.ConfigPort.port_seen c.args.ports.now.items in
-    let out = g.O.Sink.seen c.args.out.now in
-    let old = g.S.Shelf.seen c.args.shelf.now in
-    let new = g.S.Shelf.seen c.prepare.new.shelf in
-    explained_ends (run_walk (run_seen c.args.words.now)) old new (outside old out ports) (outside new out ports) (only_read old new out ports c.prepare.ensures.files c.prepare.ensures.write_faults) (λ none. absurd none) c.in-Err.outcome c.in-Err.ensures.err
+    unbegun_ends (run_walk (run_seen c.args.words.now)) c.prepare.ensures.keeps (g.O.Sink.seen c.args.out.now) (map g.P.ConfigPort.port_seen c.args.ports.now.items) c.in-Err.outcome c.in-Err.ensures.err
 
 pub returns-in-Err-clause-laws : goal.returns-in-Err-clause-laws
 returns-in-Err-clause-laws g c = run_laws (run_seen c.args.words.now)
