@@ -7,7 +7,6 @@ use Rattle.cert_check.proofs.CheckLemmas.{one_verdict}
 use Rattle.cert_check.proofs.OnceLemmas.{one_reading}
 use Rattle.cmd_base.specs.Ends.{Explains}
 use Rattle.cmd_base.specs.declared.outcome.File.{File}
-use Rattle.cmd_base.specs.declared.outcome.File.TheVariants as file
 use Rattle.cmd_base.specs.declared.outcome.Outcome.{Outcome}
 use Rattle.cmd_base.proofs.EndLemmas.{IsPart, Explains_lift}
 use Rattle.cmd_stations.specs.declared.source.Source.{Source}
@@ -16,6 +15,7 @@ use Rattle.cmd_stations.specs.Source.{HasGraph, ReachesSource}
 use Rattle.cmd_stations.specs.Settled.{IsOfSource, source_word, source_reading, IsSourceSettled}
 use Rattle.cmd_stations.proofs.ClashLemmas.{refused_unmade}
 use Rattle.cmd_stations.proofs.GraphLemmas.{same_graph}
+use Rattle.cmd_stations.proofs.EachFileLemmas.{of_source}
 use Rattle.cmd_stations.proofs.OnceLemmas.{settled_once}
 use Rattle.cmd_cert.specs.Words.{CertWords, cert_word}
 use Rattle.cmd_cert.specs.Audit.{IsOfAudit, ReachesAudit, IsAuditSettled, audit_reading}
@@ -44,35 +44,14 @@ unbuilt_settles files words settled none = record { source = settled; cert = λ 
 
 source_part : (words : CertWords) (told : Option Files) → IsPart (source_reading ToGraph words.source) (audit_reading words) told
 source_part words told = record {
-  read = is_read;
-  word = same_word;
+  read = of_source IsOfAudit tt tt;
+  word = of_source (λ f. source_word words.source f ≡ cert_word words f) refl refl;
   given = λ f n h. h;
   files = λ files told. told;
-  reaches = λ files told f h reached. reaches files f h reached;
+  reaches = λ files told f h reached. of_source (λ f. ReachesSource files words.source f → ReachesAudit files words f) (λ h. h) (λ h. h) f h reached;
   refused = λ files told f r refused. audit.IsAuditRefused.source refused;
   settled = λ files told f r settled refused. unbuilt_settles files words settled (λ s g roots has. (settled.made s has.has).not_both g roots r has.built (refused_unmade files words.source settled s f r has.has refused));
 }
-  where
-    is_read : (f : File) → IsOfSource f → IsOfAudit f
-    is_read file.Netlist h = tt
-    is_read file.Params h = tt
-    is_read file.Script h = absurd h
-    is_read file.Pack h = absurd h
-    is_read file.Cert h = absurd h
-
-    same_word : (f : File) → IsOfSource f → source_word words.source f ≡ cert_word words f
-    same_word file.Netlist h = refl
-    same_word file.Params h = refl
-    same_word file.Script h = absurd h
-    same_word file.Pack h = absurd h
-    same_word file.Cert h = absurd h
-
-    reaches : (files : Files) (f : File) → IsOfSource f → ReachesSource files words.source f → ReachesAudit files words f
-    reaches files file.Netlist h reached = reached
-    reaches files file.Params h reached = reached
-    reaches files file.Script h reached = absurd h
-    reaches files file.Pack h reached = absurd h
-    reaches files file.Cert h reached = absurd h
 
 pub source_to_audit : (words : CertWords) (old new : ShelfSeen) (o : Outcome) → Explains (source_reading ToGraph words.source) old new o → Explains (audit_reading words) old new o
 source_to_audit words old new o h = Explains_lift (source_reading ToGraph words.source) (audit_reading words) old new (source_part words old.files) o h

@@ -5,7 +5,6 @@ use Rattle.tl_io.specs.Shelf.{Files, ShelfSeen}
 use Rattle.ppc_pack.specs.Pack.{PackValue}
 use Rattle.cmd_base.specs.Ends.{Told, Explains}
 use Rattle.cmd_base.specs.declared.outcome.File.{File}
-use Rattle.cmd_base.specs.declared.outcome.File.TheVariants as file
 use Rattle.cmd_base.specs.declared.outcome.Outcome.{Outcome}
 use Rattle.cmd_stations.specs.Packs.{HasPack, IsPackSettled, IsPackItself, pack_reading, pack_names}
 use Rattle.cmd_stations.specs.Script.{IsScriptRefused, IsScriptSettled, IsScriptFile, script_reading}
@@ -16,6 +15,7 @@ use Rattle.cmd_pack.specs.Bits.Verdict.{HasBitsJob}
 use Rattle.cmd_stations.proofs.ClashLemmas.{events_or_not}
 use Rattle.cmd_stations.proofs.RefusedLemmas.{events_refused_once}
 use Rattle.cmd_base.proofs.EndLemmas.{IsPart, Explains_lift}
+use Rattle.cmd_stations.proofs.EachFileLemmas.{of_script, of_pack}
 use Rattle.cmd_stations.proofs.PackLemmas.{pack_or_not, pack_refused_once, pack_once, same_names}
 
 module _ (files : Files) (words : BitsWords) (settled : IsBitsSettled files words) where
@@ -40,35 +40,14 @@ module _ (files : Files) (words : BitsWords) (settled : IsBitsSettled files word
 -- the reading of a pack is part of that of `bits`
 pack_part : (words : BitsWords) (told : Option Files) → IsPart (pack_reading words.pack) (bits_reading words) told
 pack_part words told = record {
-  read = is_read;
-  word = same_word;
+  read = of_pack IsOfBits tt;
+  word = of_pack (λ f. words.pack ≡ bits_word words f) refl;
   given = λ f n h. h;
   files = λ files told. told;
-  reaches = λ files told f h reached. reaches files f h;
+  reaches = λ files told f h reached. of_pack (λ f. ReachesBits files words f) tt f h;
   refused = λ files told f r refused. job.IsBitsRefused.pack refused;
   settled = λ files told f r settled refused. record { pack = settled; script = λ pack there. absurd (pack_or_not files words.pack settled pack f r there refused) };
 }
-  where
-    is_read : (f : File) → IsPackItself f → IsOfBits f
-    is_read file.Netlist h = absurd h
-    is_read file.Params h = absurd h
-    is_read file.Script h = absurd h
-    is_read file.Pack h = tt
-    is_read file.Cert h = absurd h
-
-    same_word : (f : File) → IsPackItself f → words.pack ≡ bits_word words f
-    same_word file.Netlist h = absurd h
-    same_word file.Params h = absurd h
-    same_word file.Script h = absurd h
-    same_word file.Pack h = refl
-    same_word file.Cert h = absurd h
-
-    reaches : (files : Files) (f : File) → IsPackItself f → ReachesBits files words f
-    reaches files file.Netlist h = absurd h
-    reaches files file.Params h = absurd h
-    reaches files file.Script h = absurd h
-    reaches files file.Pack h = tt
-    reaches files file.Cert h = absurd h
 
 pub pack_to_bits : (words : BitsWords) (old new : ShelfSeen) (o : Outcome) → Explains (pack_reading words.pack) old new o → Explains (bits_reading words) old new o
 pack_to_bits words old new o h = Explains_lift (pack_reading words.pack) (bits_reading words) old new (pack_part words old.files) o h
@@ -81,35 +60,14 @@ module _ (words : BitsWords) (pack : PackValue) where
 
   script_part : (told : Option Files) → Told told (λ files. HasPack files words.pack pack × IsPackSettled files words.pack) → IsPart (script_reading words.script (pack_names pack)) (bits_reading words) told
   script_part is_told comes = record {
-    read = is_read;
-    word = same_word;
+    read = of_script IsOfBits tt;
+    word = of_script (λ f. words.script ≡ bits_word words f) refl;
     given = λ f n h. h;
     files = λ files told. told;
-    reaches = λ files told f h reached. reaches files f h (comes files told).0;
+    reaches = λ files told f h reached. of_script (λ f. ReachesBits files words f) (pack, (comes files told).0) f h;
     refused = λ files told f r refused. job.IsBitsRefused.script pack (comes files told).0 refused;
     settled = λ files told f r settled refused. record { pack = (comes files told).1; script = names_settled files (comes files told).0 (comes files told).1 settled };
   }
-    where
-      is_read : (f : File) → IsScriptFile f → IsOfBits f
-      is_read file.Netlist h = absurd h
-      is_read file.Params h = absurd h
-      is_read file.Script h = tt
-      is_read file.Pack h = absurd h
-      is_read file.Cert h = absurd h
-
-      same_word : (f : File) → IsScriptFile f → words.script ≡ bits_word words f
-      same_word file.Netlist h = absurd h
-      same_word file.Params h = absurd h
-      same_word file.Script h = refl
-      same_word file.Pack h = absurd h
-      same_word file.Cert h = absurd h
-
-      reaches : (files : Files) (f : File) → IsScriptFile f → HasPack files words.pack pack → ReachesBits files words f
-      reaches files file.Netlist h there = absurd h
-      reaches files file.Params h there = absurd h
-      reaches files file.Script h there = (pack, there)
-      reaches files file.Pack h there = absurd h
-      reaches files file.Cert h there = absurd h
 
 pub script_to_bits : (words : BitsWords) (old new : ShelfSeen) (o : Outcome) (pack : PackValue) → Told old.files (λ files. HasPack files words.pack pack × IsPackSettled files words.pack)
     → Explains (script_reading words.script (pack_names pack)) old new o → Explains (bits_reading words) old new o

@@ -1,6 +1,7 @@
 -- of texts and files, and of the stops at them,
 mod StopLemmas
 pub mod FileLemmas
+pub mod EachFileLemmas
 pub mod LibraryTextLemmas
 mod TextLemmas
 mod LengthLemmas

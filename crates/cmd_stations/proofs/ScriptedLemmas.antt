@@ -6,7 +6,6 @@ use Rattle.cover_pick.specs.Template.{TemplateValue}
 use Rattle.run_text.specs.EventValue.{EventValue, event_values}
 use Rattle.cmd_base.specs.Ends.{Told, Explains}
 use Rattle.cmd_base.specs.declared.outcome.File.{File}
-use Rattle.cmd_base.specs.declared.outcome.File.TheVariants as file
 use Rattle.cmd_base.specs.declared.outcome.Outcome.{Outcome}
 use Rattle.cmd_base.proofs.EndLemmas.{IsPart, Explains_lift}
 use Rattle.cmd_stations.specs.declared.scripted.Scripted.{Scripted}
@@ -19,6 +18,7 @@ use Rattle.cmd_stations.specs.Scripted.{ScriptedWords, HasScripted, IsScriptedRe
 use Rattle.cmd_stations.specs.Scripted as scripted
 use Rattle.cmd_stations.specs.ScriptedMade.{ComesScripted}
 use Rattle.cmd_stations.specs.Tables.{ComesPast}
+use Rattle.cmd_stations.proofs.EachFileLemmas.{of_source, of_script}
 use Rattle.cmd_stations.proofs.OnceLemmas.{settled_once, template_once}
 use Rattle.cmd_stations.proofs.ClashLemmas.{source_or_not, events_or_not}
 use Rattle.cmd_stations.proofs.RefusedLemmas.{source_refused_once, events_refused_once}
@@ -51,28 +51,14 @@ module _ (files : Files) (words : ScriptedWords) (settled : IsScriptedSettled fi
 -- the reading of a source circuit is part of that of both
 source_part : (words : ScriptedWords) (told : Option Files) → IsPart (source_reading ToTables words.source) (scripted_reading words) told
 source_part words told = record {
-  read = is_read;
-  word = same_word;
+  read = of_source IsOfScripted tt tt;
+  word = of_source (λ f. source_word words.source f ≡ scripted_word words f) refl refl;
   given = λ f n h. h;
   files = λ files told. told;
   reaches = λ files told f h reached. reached;
   refused = λ files told f r refused. scripted.IsScriptedRefused.source refused;
   settled = λ files told f r settled refused. record { source = settled; script = λ source template past. absurd (source_or_not files words.source settled source template f r past refused) };
 }
-  where
-    is_read : (f : File) → IsOfSource f → IsOfScripted f
-    is_read file.Netlist h = tt
-    is_read file.Params h = tt
-    is_read file.Script h = absurd h
-    is_read file.Pack h = absurd h
-    is_read file.Cert h = absurd h
-
-    same_word : (f : File) → IsOfSource f → source_word words.source f ≡ scripted_word words f
-    same_word file.Netlist h = refl
-    same_word file.Params h = refl
-    same_word file.Script h = absurd h
-    same_word file.Pack h = absurd h
-    same_word file.Cert h = absurd h
 
 pub source_to_scripted : (words : ScriptedWords) (old new : ShelfSeen) (o : Outcome) → Explains (source_reading ToTables words.source) old new o → Explains (scripted_reading words) old new o
 source_to_scripted words old new o h = Explains_lift (source_reading ToTables words.source) (scripted_reading words) old new (source_part words old.files) o h
@@ -88,35 +74,14 @@ module _ (words : ScriptedWords) (source : Source) (template : TemplateValue) wh
   script_part : (told : Option Files) → Told told (λ files. HasMapped files words.source source template × IsSourceSettled ToTables files words.source)
       → IsPart (script_reading words.script (names_in words.forms source template.bits)) (scripted_reading words) told
   script_part is_told comes = record {
-    read = is_read;
-    word = same_word;
+    read = of_script IsOfScripted tt;
+    word = of_script (λ f. words.script ≡ scripted_word words f) refl;
     given = λ f n h. h;
     files = λ files told. told;
-    reaches = λ files told f h reached. reaches files f h (comes files told).0;
+    reaches = λ files told f h reached. of_script (λ f. ReachesSource files words.source f) (source, template, (comes files told).0) f h;
     refused = λ files told f r refused. scripted.IsScriptedRefused.script source template (comes files told).0 refused;
     settled = λ files told f r settled refused. record { source = (comes files told).1; script = names_settled files (comes files told).0 (comes files told).1 settled };
   }
-    where
-      is_read : (f : File) → IsScriptFile f → IsOfScripted f
-      is_read file.Netlist h = absurd h
-      is_read file.Params h = absurd h
-      is_read file.Script h = tt
-      is_read file.Pack h = absurd h
-      is_read file.Cert h = absurd h
-
-      same_word : (f : File) → IsScriptFile f → words.script ≡ scripted_word words f
-      same_word file.Netlist h = absurd h
-      same_word file.Params h = absurd h
-      same_word file.Script h = refl
-      same_word file.Pack h = absurd h
-      same_word file.Cert h = absurd h
-
-      reaches : (files : Files) (f : File) → IsScriptFile f → HasMapped files words.source source template → ReachesSource files words.source f
-      reaches files file.Netlist h past = absurd h
-      reaches files file.Params h past = absurd h
-      reaches files file.Script h past = (source, template, past)
-      reaches files file.Pack h past = absurd h
-      reaches files file.Cert h past = absurd h
 
 pub script_to_scripted : (words : ScriptedWords) (old new : ShelfSeen) (o : Outcome) (source : Source) (template : TemplateValue)
     → Told old.files (λ files. HasMapped files words.source source template × IsSourceSettled ToTables files words.source)
