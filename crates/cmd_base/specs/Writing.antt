@@ -1,9 +1,16 @@
 -- What a job that writes files makes of what is outside: first its files, in their order, and then its line.
-use Rattle.std.specs.Prelude.{◌≡◌, ◌<◌, ◌⊎◌, ℕ, List, [], ◌∷◌, ◌++◌, length, take, Option}
+use Rattle.std.specs.Prelude.{◌≡◌, ◌<◌, ◌⊎◌, ℕ, List, [], ◌∷◌, ◌++◌, length, take, Option, Result, Ok, Err}
 use Rattle.tl_io.specs.Causes.{Rose}
 use Rattle.tl_io.specs.Content.{extended}
 use Rattle.tl_io.specs.Shelf.{Files, with_file, emptied}
 use Rattle.cmd_base.specs.Outside.{Outside}
+use Rattle.cmd_base.specs.declared.outcome.Outcome.{Outcome}
+use Rattle.cmd_base.specs.declared.outcome.Outcome.TheVariants.{Done, WriteFault}
+
+-- the outcome of a job whose last work was to write
+abbrev pub writing_outcome : {E : Type 0} → Result Unit E → Outcome
+writing_outcome (Ok done) = Done
+writing_outcome (Err e) = WriteFault
 
 -- a file's name and its bytes
 pub record FileText : Type 0 where

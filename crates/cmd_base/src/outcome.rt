@@ -1,9 +1,11 @@
 //! The outcome of a call.
 ghost use Rattle.std.specs.Prelude.{◌≡◌};
 ghost use Rattle.cmd_base.specs.Statuses.{refusal_status as status_of_refusal, status_of};
+ghost use Rattle.cmd_base.specs.Writing.{writing_outcome};
 
 use crate::status::Status;
 use tl_fault::Refusal;
+use tl_io::Failed;
 
 /// A file that a command reads.
 #[derive(Clone, Copy, Debug, PartialEq, Eq)]
@@ -41,6 +43,16 @@ fn refusal_status(refusal: &Refusal) -> Status
 }
 
 impl Outcome {
+    /// The outcome of a job whose last work was to write: done, or a fault of writing.
+    pub fn of_writing(written: Result<(), Failed>) -> Outcome
+        ensures { result ≡ writing_outcome written }
+    {
+        match written {
+            Ok(()) => Outcome::Done,
+            Err(_) => Outcome::WriteFault,
+        }
+    }
+
     /// The exit status for this outcome.
     pub fn status(&self) -> Status
         ensures { result ≡ status_of self.now }

@@ -1,5 +1,5 @@
 -- A job of `prove`: a source circuit that is labelled is accepted, and its certificate is the verdict's, whole or cut off.
-use Rattle.std.proofs.Common.{◌≡◌, ◌≤◌, ℕ, List, [], ◌∷◌, Some, sym, ap, ◌∙◌, subst}
+use Rattle.std.proofs.Common.{◌≡◌, ◌≤◌, ℕ, List, [], ◌∷◌, Some, sym, ap, ◌∙◌, subst, Result}
 use Rattle.std.specs.Prelude.{string_bytes}
 use Rattle.tl_text.specs.declared.logical_lines.TheConstants.{MOST_BYTES}
 use Rattle.tl_fault.specs.RefusalValue.{RefusalValue}
@@ -16,17 +16,18 @@ use Rattle.cert_check.proofs.RoundTrip.{reads_back}
 use Rattle.depth_label.specs.Label.{label_of}
 use Rattle.flow_cert.proofs.NeededLemmas.{same_label_claims, same_needed}
 use Rattle.cmd_base.specs.Outside.{outside}
-use Rattle.cmd_base.specs.Writing.{FileText, AreWritten, IsCut}
+use Rattle.cmd_base.specs.Writing.{FileText, writing_outcome}
 use Rattle.cmd_base.specs.Ends.{Told, IsBegun, Ends}
 use Rattle.cmd_base.specs.WalkLaws.{HasLaws}
 use Rattle.cmd_base.specs.declared.outcome.File.{File}
-use Rattle.cmd_base.specs.declared.outcome.Outcome.TheVariants as outcome
+use Rattle.cmd_base.specs.declared.outcome.Outcome.{Outcome}
+use Rattle.cmd_stations.specs.FileWrites.{WritesAll}
 use Rattle.cmd_stations.specs.declared.labelling.LabelledSource.{LabelledSource}
 use Rattle.cmd_stations.specs.Aims.{ToLabels}
 use Rattle.cmd_stations.specs.Source.{IsSourceRefused}
 use Rattle.cmd_stations.specs.Settled.{IsSourceSettled}
 use Rattle.cmd_stations.specs.Built.{ComesToLabels}
-use Rattle.cmd_stations.proofs.WritingWalkLemmas.{writing_done, writing_cut}
+use Rattle.cmd_stations.proofs.WritingWalkLemmas.{writing_ends}
 use Rattle.cmd_stations.proofs.ClashLemmas.{refused_unmade}
 use Rattle.cmd_stations.proofs.RefusedLemmas.{source_refused_once}
 use Rattle.cmd_cert.specs.declared.prove.job.Proof.{Proof}
@@ -70,13 +71,10 @@ module _ (words : CertWords) (p : Proof) (is : IsProof words.source.k p) where
               (subst (λ bytes. P (record { name = words.cert; bytes = bytes } ∷ []) (string_bytes p.line)) text ends);
         }
 
-    pub prove_done : AreWritten texts (string_bytes p.line) (outside mid before ports) (outside new after ports) → Ends (prove_walk words) old new (outside old before ports) (outside new after ports) outcome.Done
-    prove_done all = writing_done ToLabels words.source (λ files. HasProveJob files words.source) (λ files P. HasProof files words P) texts (string_bytes p.line) old mid new same few given
-        (λ files told. prove_begun files words p.labelled (comes files told)) has_proof before after ports all
-
-    pub prove_cut : IsCut texts (string_bytes p.line) (outside mid before ports) (outside new after ports) → Ends (prove_walk words) old new (outside old before ports) (outside new after ports) outcome.WriteFault
-    prove_cut part = writing_cut ToLabels words.source (λ files. HasProveJob files words.source) (λ files P. HasProof files words P) texts (string_bytes p.line) old mid new same few given
-        (λ files told. prove_begun files words p.labelled (comes files told)) has_proof before after ports part
+    pub prove_ends : {E : Type 0} (r : Result Unit E) → WritesAll texts (string_bytes p.line) (outside mid before ports) (outside new after ports) r → (o : Outcome) → o ≡ writing_outcome r
+        → Ends (prove_walk words) old new (outside old before ports) (outside new after ports) o
+    prove_ends r all o is = writing_ends ToLabels words.source (λ files. HasProveJob files words.source) (λ files P. HasProof files words P) texts (string_bytes p.line) old mid new same few given
+        (λ files told. prove_begun files words p.labelled (comes files told)) has_proof before after ports r all o is
 
 -- a source circuit that is labelled isn't refused
 labelled_or : (files : Files) (words : CertWords) → IsSourceSettled ToLabels files words.source → (job : HasProveJob files words.source) (f : File) (r : RefusalValue) → IsSourceRefused ToLabels files words.source f r → ⊥

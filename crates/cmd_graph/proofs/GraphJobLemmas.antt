@@ -1,5 +1,5 @@
 -- A job of `graph`: a source circuit that has a graph is accepted, and the circuit of its graph is the verdict's, whole or cut off.
-use Rattle.std.proofs.Common.{◌≡◌, ◌≤◌, ℕ, List, [], ◌∷◌, Some, subst}
+use Rattle.std.proofs.Common.{◌≡◌, ◌≤◌, ℕ, List, [], ◌∷◌, Some, subst, Result}
 use Rattle.std.specs.Prelude.{string_bytes}
 use Rattle.tl_text.specs.declared.logical_lines.TheConstants.{MOST_BYTES}
 use Rattle.tl_fault.specs.RefusalValue.{RefusalValue}
@@ -9,17 +9,18 @@ use Rattle.tl_io.specs.Sink.{SinkSeen}
 use Rattle.aiger_io.specs.Circuit.{Circuit}
 use Rattle.aiger_io.specs.WrittenText.{circuit_text}
 use Rattle.cmd_base.specs.Outside.{outside}
-use Rattle.cmd_base.specs.Writing.{FileText, AreWritten, IsCut}
+use Rattle.cmd_base.specs.Writing.{FileText, writing_outcome}
 use Rattle.cmd_base.specs.Ends.{Told, IsBegun, Ends}
 use Rattle.cmd_base.specs.WalkLaws.{HasLaws}
 use Rattle.cmd_base.specs.declared.outcome.File.{File}
-use Rattle.cmd_base.specs.declared.outcome.Outcome.TheVariants as outcome
+use Rattle.cmd_base.specs.declared.outcome.Outcome.{Outcome}
+use Rattle.cmd_stations.specs.FileWrites.{WritesAll}
 use Rattle.cmd_stations.specs.declared.graphs.BuiltSource.{BuiltSource}
 use Rattle.cmd_stations.specs.Aims.{ToGraph}
 use Rattle.cmd_stations.specs.Source.{IsSourceRefused}
 use Rattle.cmd_stations.specs.Settled.{IsSourceSettled}
 use Rattle.cmd_stations.specs.Built.{ComesToGraph}
-use Rattle.cmd_stations.proofs.WritingWalkLemmas.{writing_done, writing_cut}
+use Rattle.cmd_stations.proofs.WritingWalkLemmas.{writing_ends}
 use Rattle.cmd_stations.proofs.ClashLemmas.{refused_unmade}
 use Rattle.cmd_stations.proofs.RefusedLemmas.{source_refused_once}
 use Rattle.cmd_graph.specs.declared.export.Export.{Export}
@@ -54,13 +55,10 @@ module _ (words : GraphWords) (e : Export) (is : IsExport e) where
       ends = subst (λ line. P texts line) is.line ends;
     }
 
-    pub graph_done : AreWritten texts (string_bytes e.line) (outside mid before ports) (outside new after ports) → Ends (graph_walk words) old new (outside old before ports) (outside new after ports) outcome.Done
-    graph_done all = writing_done ToGraph words.source (λ files. HasGraphJob files words.source) (λ files P. HasExport files words P) texts (string_bytes e.line) old mid new same few given
-        (λ files told. graph_begun files words e.built (comes files told)) has_export before after ports all
-
-    pub graph_cut : IsCut texts (string_bytes e.line) (outside mid before ports) (outside new after ports) → Ends (graph_walk words) old new (outside old before ports) (outside new after ports) outcome.WriteFault
-    graph_cut part = writing_cut ToGraph words.source (λ files. HasGraphJob files words.source) (λ files P. HasExport files words P) texts (string_bytes e.line) old mid new same few given
-        (λ files told. graph_begun files words e.built (comes files told)) has_export before after ports part
+    pub graph_ends : {E : Type 0} (r : Result Unit E) → WritesAll texts (string_bytes e.line) (outside mid before ports) (outside new after ports) r → (o : Outcome) → o ≡ writing_outcome r
+        → Ends (graph_walk words) old new (outside old before ports) (outside new after ports) o
+    graph_ends r all o is = writing_ends ToGraph words.source (λ files. HasGraphJob files words.source) (λ files P. HasExport files words P) texts (string_bytes e.line) old mid new same few given
+        (λ files told. graph_begun files words e.built (comes files told)) has_export before after ports r all o is
 
 -- a source circuit that has a graph isn't refused
 built_or : (files : Files) (words : GraphWords) → IsSourceSettled ToGraph files words.source → (job : HasGraphJob files words.source) (f : File) (r : RefusalValue) → IsSourceRefused ToGraph files words.source f r → ⊥

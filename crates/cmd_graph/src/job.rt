@@ -77,8 +77,5 @@ pub fn graph_job<S: Shelf, O: Sink>(
     };
     let written = write_out(&export, words.out, shelf, out);
     drop(export);
-    match written {
-        Ok(()) => Outcome::Done,
-        Err(_) => Outcome::WriteFault,
-    }
+    Outcome::of_writing(written)
 }

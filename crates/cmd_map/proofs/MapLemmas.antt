@@ -1,19 +1,20 @@
 -- A job of `map`: a source circuit that is mapped is accepted, and its written template and pack are the verdict's, whole or cut off.
-use Rattle.std.proofs.Common.{◌≡◌, ◌≤◌, List, [], ◌∷◌, ℕ, Some}
+use Rattle.std.proofs.Common.{◌≡◌, ◌≤◌, List, [], ◌∷◌, ℕ, Some, Result}
 use Rattle.tl_text.specs.declared.logical_lines.TheConstants.{MOST_BYTES}
 use Rattle.tl_io.specs.Port.{PortSeen}
 use Rattle.tl_io.specs.Shelf.{Files, ShelfSeen}
 use Rattle.tl_io.specs.Sink.{SinkSeen}
 use Rattle.blif_write.specs.PlainNetlist.{netlist_text}
 use Rattle.cmd_base.specs.Outside.{outside}
-use Rattle.cmd_base.specs.Writing.{FileText, AreWritten, IsCut}
+use Rattle.cmd_base.specs.Writing.{FileText, writing_outcome}
 use Rattle.cmd_base.specs.Ends.{Told, IsBegun, Ends}
-use Rattle.cmd_base.specs.declared.outcome.Outcome.TheVariants as outcome
+use Rattle.cmd_base.specs.declared.outcome.Outcome.{Outcome}
+use Rattle.cmd_stations.specs.FileWrites.{WritesAll}
 use Rattle.cmd_stations.specs.declared.mapped.MappedSource.{MappedSource}
 use Rattle.cmd_stations.specs.Mapped.{template_header}
 use Rattle.cmd_stations.specs.Tables.{AreMade, ComesPast}
 use Rattle.cmd_stations.specs.Written.{IsTuned, template_of}
-use Rattle.cmd_stations.proofs.WritingWalkLemmas.{writing_done, writing_cut}
+use Rattle.cmd_stations.proofs.WritingWalkLemmas.{writing_ends}
 use Rattle.cmd_map.specs.Map.Words.{MapWords}
 use Rattle.cmd_map.specs.Map.Verdict.{HasMap, map_walk}
 use Rattle.cmd_stations.proofs.OnceLemmas.{least_mapped}
@@ -49,12 +50,7 @@ module _ (m : MappedSource) (made : AreMade m.source m.tables) (means : IsTuned 
         replays = replays_machine words.source.rule m.source words.source.k m.tables.template m.tables.pack past.has.mapped law.least made.tunable made.file;
       }
 
-  pub map_done : AreWritten (texts m words.template words.pack) (template_header m.tables.template) (outside mid before ports) (outside new after ports)
-      → Ends (map_walk words) old new (outside old before ports) (outside new after ports) outcome.Done
-  map_done all = writing_done ToTables words.source (λ files. IsMappedFrom files words.source) (λ files P. HasMap files words P) (texts m words.template words.pack) (template_header m.tables.template) old mid new same few given
-      (λ files told. map_begun files words m (comes files told)) has_map before after ports all
-
-  pub map_cut : IsCut (texts m words.template words.pack) (template_header m.tables.template) (outside mid before ports) (outside new after ports)
-      → Ends (map_walk words) old new (outside old before ports) (outside new after ports) outcome.WriteFault
-  map_cut part = writing_cut ToTables words.source (λ files. IsMappedFrom files words.source) (λ files P. HasMap files words P) (texts m words.template words.pack) (template_header m.tables.template) old mid new same few given
-      (λ files told. map_begun files words m (comes files told)) has_map before after ports part
+  pub map_ends : {E : Type 0} (r : Result Unit E) → WritesAll (texts m words.template words.pack) (template_header m.tables.template) (outside mid before ports) (outside new after ports) r → (o : Outcome) → o ≡ writing_outcome r
+      → Ends (map_walk words) old new (outside old before ports) (outside new after ports) o
+  map_ends r all o is = writing_ends ToTables words.source (λ files. IsMappedFrom files words.source) (λ files P. HasMap files words P) (texts m words.template words.pack) (template_header m.tables.template) old mid new same few given
+      (λ files told. map_begun files words m (comes files told)) has_map before after ports r all o is

@@ -1,5 +1,5 @@
 -- A job of `spec`: a source circuit that is mapped is accepted, and its written netlist is the verdict's, whole or cut off.
-use Rattle.std.proofs.Common.{◌≡◌, ◌≤◌, Bool, List, [], ◌∷◌, ℕ, length, Some, subst}
+use Rattle.std.proofs.Common.{◌≡◌, ◌≤◌, Bool, List, [], ◌∷◌, ℕ, length, Some, subst, Result}
 use Rattle.std.proofs.lemmas.List.{length-map}
 use Rattle.tl_text.specs.declared.logical_lines.TheConstants.{MOST_BYTES}
 use Rattle.tl_io.specs.Port.{PortSeen}
@@ -12,14 +12,15 @@ use Rattle.ppc_pack.specs.Pack.{IsConf}
 use Rattle.bit_fun.specs.Configuration.{IsConfiguration}
 use Rattle.blif_write.specs.PlainNetlist.{netlist_text}
 use Rattle.cmd_base.specs.Outside.{outside}
-use Rattle.cmd_base.specs.Writing.{FileText, AreWritten, IsCut}
+use Rattle.cmd_base.specs.Writing.{FileText, writing_outcome}
 use Rattle.cmd_base.specs.Ends.{Told, IsBegun, Ends}
-use Rattle.cmd_base.specs.declared.outcome.Outcome.TheVariants as outcome
+use Rattle.cmd_base.specs.declared.outcome.Outcome.{Outcome}
+use Rattle.cmd_stations.specs.FileWrites.{WritesAll}
 use Rattle.cmd_stations.specs.declared.mapped.MappedSource.{MappedSource}
 use Rattle.cmd_stations.specs.Mapped.{template_header}
 use Rattle.cmd_stations.specs.Tables.{AreMade, ComesPast}
 use Rattle.cmd_stations.specs.Written.{RunsAs, specialised_of}
-use Rattle.cmd_stations.proofs.WritingWalkLemmas.{writing_done, writing_cut}
+use Rattle.cmd_stations.proofs.WritingWalkLemmas.{writing_ends}
 use Rattle.cmd_map.specs.Spec.Words.{SpecWords}
 use Rattle.cmd_map.specs.Spec.Verdict.{HasSpec, spec_walk}
 use Rattle.cmd_stations.proofs.OnceLemmas.{least_mapped}
@@ -61,12 +62,7 @@ module _ (m : MappedSource) (made : AreMade m.source m.tables) (config : List Bo
           means = means (param_inits m.source.params.list) (length-map m.source.params.list (λ (p : Param). p.init)) conf;
         }
 
-    pub spec_done : AreWritten (texts words.out) (template_header m.tables.template) (outside mid before ports) (outside new after ports)
-        → Ends (spec_walk words) old new (outside old before ports) (outside new after ports) outcome.Done
-    spec_done all = writing_done ToTables words.source (λ files. IsMappedFrom files words.source) (λ files P. HasSpec files words P) (texts words.out) (template_header m.tables.template) old mid new same few given
-        (λ files told. spec_begun files words m (comes files told)) has_spec before after ports all
-
-    pub spec_cut : IsCut (texts words.out) (template_header m.tables.template) (outside mid before ports) (outside new after ports)
-        → Ends (spec_walk words) old new (outside old before ports) (outside new after ports) outcome.WriteFault
-    spec_cut part = writing_cut ToTables words.source (λ files. IsMappedFrom files words.source) (λ files P. HasSpec files words P) (texts words.out) (template_header m.tables.template) old mid new same few given
-        (λ files told. spec_begun files words m (comes files told)) has_spec before after ports part
+    pub spec_ends : {E : Type 0} (r : Result Unit E) → WritesAll (texts words.out) (template_header m.tables.template) (outside mid before ports) (outside new after ports) r → (o : Outcome) → o ≡ writing_outcome r
+        → Ends (spec_walk words) old new (outside old before ports) (outside new after ports) o
+    spec_ends r all o is = writing_ends ToTables words.source (λ files. IsMappedFrom files words.source) (λ files P. HasSpec files words P) (texts words.out) (template_header m.tables.template) old mid new same few given
+        (λ files told. spec_begun files words m (comes files told)) has_spec before after ports r all o is

@@ -22,16 +22,20 @@ use Rattle.run_core.specs.EventLines.{host_line}
 use Rattle.run_core.specs.Ends.{HasLine, HasSinkCause, HasPlaces}
 use Rattle.run_core.specs.Fits.{FitsPack, IsOfHost}
 use Rattle.spec_core.specs.Specialiser.{SpecialiserValue}
+use Rattle.tl_text.specs.declared.logical_lines.TheConstants.{MOST_BYTES}
+use Rattle.cmd_base.specs.KeepsFiles.{KeepsFiles}
 use Rattle.cmd_base.specs.Outside.{Outside, outside}
+use Rattle.cmd_base.specs.Writing.{writing_outcome}
 use Rattle.cmd_pack.specs.declared.bits.prepare.ReadyScript.{ReadyScript}
 use Rattle.cmd_stations.specs.Packs.{HasPack, IsPackSettled, pack_names}
 use Rattle.cmd_stations.specs.Script.{HasScript, IsScriptSettled}
-use Rattle.cmd_base.specs.Ends.{IsBegun}
-use Rattle.cmd_base.proofs.EndLemmas.{Rose_from}
+use Rattle.cmd_base.specs.Ends.{Told, IsBegun, IsBegunFrom, Ends}
+use Rattle.cmd_base.specs.declared.outcome.Outcome.{Outcome}
+use Rattle.cmd_base.proofs.EndLemmas.{Rose_from, only_read}
 use Rattle.cmd_stations.specs.Script.{IsSplit}
 use Rattle.cmd_pack.specs.Bits.Words.{BitsWords}
 use Rattle.cmd_stations.specs.Host.{IsHostStep, AreHostSteps, none}
-use Rattle.cmd_pack.specs.Bits.Verdict.{pack_header, AreLinesCut, HasBits, bits_walk}
+use Rattle.cmd_pack.specs.Bits.Verdict.{pack_header, AreLinesPut, AreLinesCut, HasBits, bits_walk}
 use Rattle.cmd_pack.specs.Bits.Ready.{CanPlay, IsReady, IsReadyFor, AreAllStepped, AreCut, EventsEnd, PlayEnd}
 use Rattle.cmd_stations.proofs.EventLemmas.{put_then, one_line}
 use Rattle.cmd_stations.proofs.StepLemmas.{then_host_step}
@@ -148,14 +152,35 @@ play_end h events before headed after (Err e) header cut rose shelf ports =
     })
 
 -- a script that was cut off has the cause of its fault
-pub cut_cause : (h : SpecialiserValue) (events : List EventValue) (old new : Outside) → AreLinesCut h events old new → Rose old.put_faults new.put_faults
+cut_cause : (h : SpecialiserValue) (events : List EventValue) (old new : Outside) → AreLinesCut h events old new → Rose old.put_faults new.put_faults
 cut_cause h events old new (inl cut) = cut.cause
 cut_cause h events old new (inr cut) = cut.cause
 
 -- a job that was made ready is begun, and ends as its playing does
 module _ (files : Files) (words : BitsWords) (ready : ReadyScript) (is : IsReadyFor files words ready) where
-  pub ready_begun : IsBegun (bits_walk words) files
+  ready_begun : IsBegun (bits_walk words) files
   ready_begun = record { accepted = record { pack = is.pack; events = event_values ready.events.items; is = is.is_job }; settled = is.settled }
 
-  pub ready_bits : (Ends : SpecialiserValue → List EventValue → Type 0) → Ends ready.host (event_values ready.events.items) → HasBits files words Ends
+  ready_bits : (Ends : SpecialiserValue → List EventValue → Type 0) → Ends ready.host (event_values ready.events.items) → HasBits files words Ends
   ready_bits Ends ends = record { pack = is.pack; events = event_values ready.events.items; is_job = is.is_job; host = ready.host; start = is.start; ends = ends }
+
+-- so ends the job
+module _ (words : BitsWords) (ready : ReadyScript) {old new : ShelfSeen} (keeps : KeepsFiles old new) (given : new.given ≤ MOST_BYTES) (prepared : Told old.files (λ files. IsReadyFor files words ready)) (before after : SinkSeen) (ports : List PortSeen) where
+  begun_from : IsBegunFrom (bits_walk words) old new
+  begun_from = record { given = given; begun = λ files told. ready_begun files words ready (prepared files told) }
+
+  played_ends : {E : Type 0} (r : Result Unit E) → PlayEnd ready.host (event_values ready.events.items) (outside old before ports) (outside new after ports) r
+      → Ends (bits_walk words) old new (outside old before ports) (outside new after ports) (writing_outcome r)
+  played_ends (Ok done) all = (begun_from, λ files told. ready_bits files words ready (prepared files told) (λ h events. AreLinesPut h events (outside old before ports) (outside new after ports)) all, refl {a = ports})
+  played_ends (Err e) cut = (
+    begun_from,
+    λ files told. ready_bits files words ready (prepared files told) (λ h events. AreLinesCut h events (outside old before ports) (outside new after ports)) cut,
+    refl {a = ports},
+    inl (cut_cause ready.host (event_values ready.events.items) (outside old before ports) (outside new after ports) cut),
+  )
+
+  pub bits_ends : {E : Type 0} (r : Result Unit E) → PlayEnd ready.host (event_values ready.events.items) (outside old before ports) (outside old after ports) r → (o : Outcome) → o ≡ writing_outcome r
+      → Ends (bits_walk words) old new (outside old before ports) (outside new after ports) o
+  bits_ends r played o is =
+      subst (λ x. Ends (bits_walk words) old new (outside old before ports) (outside new after ports) x) (sym is)
+      (played_ends r (subst (λ w. PlayEnd ready.host (event_values ready.events.items) (outside old before ports) w r) (sym (only_read keeps after ports)) played))

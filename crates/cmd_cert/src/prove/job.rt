@@ -127,8 +127,5 @@ pub fn prove_job<S: Shelf, O: Sink>(
     };
     let written = write_out(&proof, words.cert, shelf, out);
     drop(proof);
-    match written {
-        Ok(()) => Outcome::Done,
-        Err(_) => Outcome::WriteFault,
-    }
+    Outcome::of_writing(written)
 }

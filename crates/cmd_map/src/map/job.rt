@@ -60,8 +60,5 @@ pub fn map_job<S: Shelf, O: Sink>(
     };
     let written = write_out(&mut draft, words.template, words.pack, shelf, out);
     drop(draft);
-    match written {
-        Ok(()) => Outcome::Done,
-        Err(_) => Outcome::WriteFault,
-    }
+    Outcome::of_writing(written)
 }

@@ -82,8 +82,5 @@ pub fn spec_job<S: Shelf, O: Sink>(
     };
     let written = write_out(&mut draft, &config, words.out, shelf, out);
     drop(draft);
-    match written {
-        Ok(()) => Outcome::Done,
-        Err(_) => Outcome::WriteFault,
-    }
+    Outcome::of_writing(written)
 }

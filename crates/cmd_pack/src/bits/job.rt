@@ -34,8 +34,5 @@ pub fn bits_job<S: Shelf, O: Sink, P: ConfigPort>(
     let played = play(&mut ready, out, &mut bank);
     drop(bank);
     drop(ready);
-    match played {
-        Ok(()) => Outcome::Done,
-        Err(_) => Outcome::WriteFault,
-    }
+    Outcome::of_writing(played)
 }

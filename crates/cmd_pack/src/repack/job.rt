@@ -56,8 +56,5 @@ pub fn repack_job<S: Shelf, O: Sink>(
     };
     let written = write_all(&pack, words.new, &mut buf, shelf, out);
     drop(pack);
-    match written {
-        Ok(()) => Outcome::Done,
-        Err(_) => Outcome::WriteFault,
-    }
+    Outcome::of_writing(written)
 }

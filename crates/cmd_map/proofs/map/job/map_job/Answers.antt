@@ -1,7 +1,7 @@
 use Rattle.cmd_map.specs.Map.Words.{map_seen}
 use Rattle.cmd_map.specs.Map.Verdict.{map_walk}
 use Rattle.cmd_base.proofs.EndLemmas.{only_read, unbegun_ends}
-use Rattle.cmd_map.proofs.MapLemmas.{map_done, map_cut}
+use Rattle.cmd_map.proofs.MapLemmas.{map_ends}
 use Rattle.cmd_map.proofs.SourceWalkLemmas.{map_laws}
 use Rattle.cmd_map.proofs.map.job.map_job.Goals as goal
 
@@ -9,21 +9,14 @@ pub returns-in-Err-clause-ends : goal.returns-in-Err-clause-ends
 returns-in-Err-clause-ends g c ports =
     unbegun_ends (map_walk (map_seen c.args.words.now)) c.read_draft.ensures.keeps (g.O.Sink.seen c.args.out.now) ports c.in-Err.outcome c.in-Err.ensures.err
 
-pub returns-in-Ok-written-clause-ends : goal.returns-in-Ok-written-clause-ends
-returns-in-Ok-written-clause-ends g c ports =
-    map_done c.in-Ok.draft.mapped c.in-Ok.ensures.draft.made c.write_out-written.ensures.means (map_seen c.args.words.now) (g.S.Shelf.seen c.args.shelf.now) (g.S.Shelf.seen c.read_draft.new.shelf) (g.S.Shelf.seen c.write_out-written.new.shelf)
-    (only_read c.read_draft.ensures.keeps) c.in-Ok.ensures.given c.write_out-written.ensures.given c.in-Ok.ensures.comes (g.O.Sink.seen c.args.out.now) (g.O.Sink.seen c.write_out-written.new.out) ports (c.in-Ok-written.ensures.ends ports)
-
-pub returns-in-Err-written-clause-ends : goal.returns-in-Err-written-clause-ends
-returns-in-Err-written-clause-ends g c ports =
-    map_cut c.in-Ok.draft.mapped c.in-Ok.ensures.draft.made c.write_out-written.ensures.means (map_seen c.args.words.now) (g.S.Shelf.seen c.args.shelf.now) (g.S.Shelf.seen c.read_draft.new.shelf) (g.S.Shelf.seen c.write_out-written.new.shelf)
-    (only_read c.read_draft.ensures.keeps) c.in-Ok.ensures.given c.write_out-written.ensures.given c.in-Ok.ensures.comes (g.O.Sink.seen c.args.out.now) (g.O.Sink.seen c.write_out-written.new.out) ports (c.in-Err-written.ensures.ends ports)
+pub returns-in-Ok-clause-ends : goal.returns-in-Ok-clause-ends
+returns-in-Ok-clause-ends g c ports =
+    map_ends c.in-Ok.draft.mapped c.in-Ok.ensures.draft.made c.write_out-written.ensures.means (map_seen c.args.words.now) (g.S.Shelf.seen c.args.shelf.now) (g.S.Shelf.seen c.read_draft.new.shelf) (g.S.Shelf.seen c.write_out-written.new.shelf)
+    (only_read c.read_draft.ensures.keeps) c.in-Ok.ensures.given c.write_out-written.ensures.given c.in-Ok.ensures.comes (g.O.Sink.seen c.args.out.now) (g.O.Sink.seen c.write_out-written.new.out) ports c.write_out-written.result
+    (c.write_out-written.ensures.ends ports) c.of_writing.result c.of_writing.ensures
 
 pub returns-in-Err-clause-laws : goal.returns-in-Err-clause-laws
 returns-in-Err-clause-laws g c = map_laws (map_seen c.args.words.now)
 
-pub returns-in-Ok-written-clause-laws : goal.returns-in-Ok-written-clause-laws
-returns-in-Ok-written-clause-laws g c = map_laws (map_seen c.args.words.now)
-
-pub returns-in-Err-written-clause-laws : goal.returns-in-Err-written-clause-laws
-returns-in-Err-written-clause-laws g c = map_laws (map_seen c.args.words.now)
+pub returns-in-Ok-clause-laws : goal.returns-in-Ok-clause-laws
+returns-in-Ok-clause-laws g c = map_laws (map_seen c.args.words.now)
