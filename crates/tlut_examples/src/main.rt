@@ -28,116 +28,38 @@ struct Example {
     taken: &'static [&'static str],
 }
 
-const EXAMPLES: [Example; 18] = [
-    Example {
-        rule: Rule::FewestLeaves,
-        words: "run 2 and2/and2.blif and2/none.par and2/one.scr 0 0",
-        printed: "and2/expected.txt",
-        taken: &[],
-    },
-    Example {
-        rule: Rule::FewestLeaves,
-        words: "run 6 and7/and7.blif and7/none.par and7/two.scr 0 0",
-        printed: "and7/expected.txt",
-        taken: &[],
-    },
-    Example {
-        rule: Rule::FewestLeaves,
-        words: "run 6 and7/and7.blif and7/tuned.par and7/tuned.scr 0 0",
-        printed: "and7/expected_tuned.txt",
-        taken: &[],
-    },
-    Example {
-        rule: Rule::FewestLeaves,
-        words: "run 2 mux/mux.blif mux/mux.par mux/events.scr 2 1",
-        printed: "mux/expected.txt",
-        taken: &["mux/expected_port0.bits", "mux/expected_port1.bits"],
-    },
-    Example {
-        rule: Rule::FewestLeaves,
-        words: "run 4 fir/fir.blif fir/fir.par fir/ten.scr 0 0",
-        printed: "fir/expected.txt",
-        taken: &[],
-    },
-    Example {
-        rule: Rule::FewestLeaves,
-        words: "run 4 fir/fir.blif fir/fir.par fir/changing.scr 0 0",
-        printed: "fir/expected_changing.txt",
-        taken: &[],
-    },
-    Example {
-        rule: Rule::FewestLeaves,
-        words: "run 4 matcher/matcher.blif matcher/matcher.par matcher/patterns.scr 0 0",
-        printed: "matcher/expected.txt",
-        taken: &[],
-    },
-    Example {
-        rule: Rule::FewestLeaves,
-        words: "run 4 matcher/matcher.blif matcher/none.par matcher/inputs.scr 0 0",
-        printed: "matcher/expected_inputs.txt",
-        taken: &[],
-    },
-    Example {
-        rule: Rule::FewestLeaves,
-        words: "run 4 coder/coder.blif coder/coder.par coder/keys.scr 0 0",
-        printed: "coder/expected.txt",
-        taken: &[],
-    },
-    Example {
-        rule: Rule::FewestLeaves,
-        words: "run 4 guard/guard.blif guard/none.par guard/four.scr 0 0",
-        printed: "guard/expected.txt",
-        taken: &[],
-    },
-    Example {
-        rule: Rule::FewestLeaves,
-        words: "run 4 vote/vote.aag vote/vote.par vote/votes.scr 0 0",
-        printed: "vote/expected.txt",
-        taken: &[],
-    },
-    Example {
-        rule: Rule::FewestLeaves,
-        words: "pace 4 fir/fir.blif fir/fir.par fir/pace.scr 1",
-        printed: "fir/expected_pace1.txt",
-        taken: &[],
-    },
-    Example {
-        rule: Rule::FewestLeaves,
-        words: "pace 4 fir/fir.blif fir/fir.par fir/pace.scr 4",
-        printed: "fir/expected_pace4.txt",
-        taken: &[],
-    },
-    Example {
-        rule: Rule::FewestLeaves,
-        words: "audit 2 xor/xor.blif xor/none.par xor/two.cert",
-        printed: "xor/expected.txt",
-        taken: &[],
-    },
-    Example {
-        rule: Rule::FewestLeaves,
-        words: "audit 4 fir/fir.blif fir/fir.par fir/depth.cert",
-        printed: "fir/expected_audit.txt",
-        taken: &[],
-    },
-    Example {
-        rule: Rule::LeastCost,
-        words: "run 4 fir/fir.blif fir/fir.par fir/ten.scr 0 0",
-        printed: "fir/expected_compact.txt",
-        taken: &[],
-    },
-    Example {
-        rule: Rule::LeastCost,
-        words: "run 4 matcher/matcher.blif matcher/matcher.par matcher/patterns.scr 0 0",
-        printed: "matcher/expected_compact.txt",
-        taken: &[],
-    },
-    Example {
-        rule: Rule::LeastCost,
-        words: "run 4 coder/coder.blif coder/coder.par coder/keys.scr 0 0",
-        printed: "coder/expected_compact.txt",
-        taken: &[],
-    },
-];
+// A table of examples, one a line: the rule and the arguments, and then the files.
+macro_rules! examples {
+    ($($rule:ident $words:literal => $printed:literal $($taken:literal)*;)*) => {
+        [$(Example {
+            rule: Rule::$rule,
+            words: $words,
+            printed: $printed,
+            taken: &[$($taken),*],
+        }),*]
+    };
+}
+
+const EXAMPLES: [Example; 18] = examples! {
+    FewestLeaves "run 2 and2/and2.blif and2/none.par and2/one.scr 0 0" => "and2/expected.txt";
+    FewestLeaves "run 6 and7/and7.blif and7/none.par and7/two.scr 0 0" => "and7/expected.txt";
+    FewestLeaves "run 6 and7/and7.blif and7/tuned.par and7/tuned.scr 0 0" => "and7/expected_tuned.txt";
+    FewestLeaves "run 2 mux/mux.blif mux/mux.par mux/events.scr 2 1" => "mux/expected.txt" "mux/expected_port0.bits" "mux/expected_port1.bits";
+    FewestLeaves "run 4 fir/fir.blif fir/fir.par fir/ten.scr 0 0" => "fir/expected.txt";
+    FewestLeaves "run 4 fir/fir.blif fir/fir.par fir/changing.scr 0 0" => "fir/expected_changing.txt";
+    FewestLeaves "run 4 matcher/matcher.blif matcher/matcher.par matcher/patterns.scr 0 0" => "matcher/expected.txt";
+    FewestLeaves "run 4 matcher/matcher.blif matcher/none.par matcher/inputs.scr 0 0" => "matcher/expected_inputs.txt";
+    FewestLeaves "run 4 coder/coder.blif coder/coder.par coder/keys.scr 0 0" => "coder/expected.txt";
+    FewestLeaves "run 4 guard/guard.blif guard/none.par guard/four.scr 0 0" => "guard/expected.txt";
+    FewestLeaves "run 4 vote/vote.aag vote/vote.par vote/votes.scr 0 0" => "vote/expected.txt";
+    FewestLeaves "pace 4 fir/fir.blif fir/fir.par fir/pace.scr 1" => "fir/expected_pace1.txt";
+    FewestLeaves "pace 4 fir/fir.blif fir/fir.par fir/pace.scr 4" => "fir/expected_pace4.txt";
+    FewestLeaves "audit 2 xor/xor.blif xor/none.par xor/two.cert" => "xor/expected.txt";
+    FewestLeaves "audit 4 fir/fir.blif fir/fir.par fir/depth.cert" => "fir/expected_audit.txt";
+    LeastCost "run 4 fir/fir.blif fir/fir.par fir/ten.scr 0 0" => "fir/expected_compact.txt";
+    LeastCost "run 4 matcher/matcher.blif matcher/matcher.par matcher/patterns.scr 0 0" => "matcher/expected_compact.txt";
+    LeastCost "run 4 coder/coder.blif coder/coder.par coder/keys.scr 0 0" => "coder/expected_compact.txt";
+};
 
 fn strings(alloc: Global, words: &str) -> Result<Vec<String>, AllocError> {
     let mut strings = Vec::new(alloc);
