@@ -1,6 +1,7 @@
 -- What a pointer that C keeps owns: the box behind it, if there is one.
 use Rattle.std.specs.Prelude.{Option, Some, None}
 use base.Fml.{Fml, ftrue}
+use denote.RattleType.{RattleType}
 use denote.RawPtr.{Ptr}
 use Rattle.std_heap.specs.declared.Global.{Global}
 use Rattle.std_heap.specs.contracts.GlobalAllocator.TheImpl.{ghosts}
@@ -14,11 +15,15 @@ use Rattle.tlut_host.specs.contracts.paced.PacedHost.{the_row as the_paced_row}
 abbrev pub heap : Global
 heap = record { memory = record { seal = tt } }
 
-abbrev pub held_by : Ptr → Option Host → Fml
-held_by p (Some x) = box_owns (ghosts.dealloc_token heap) the_row p x
-held_by p None = ftrue
+-- of a value of this type
+abbrev pub owns_boxed : (R : RattleType) → Ptr → Option R.Denot → Fml
+owns_boxed R p (Some x) = box_owns (ghosts.dealloc_token heap) R p x
+owns_boxed R p None = ftrue
 
--- the same of a host at a limited rate
+-- of a host
+abbrev pub held_by : Ptr → Option Host → Fml
+held_by = owns_boxed the_row
+
+-- of a host at a limited rate
 abbrev pub held_by_paced : Ptr → Option PacedHost → Fml
-held_by_paced p (Some x) = box_owns (ghosts.dealloc_token heap) the_paced_row p x
-held_by_paced p None = ftrue
+held_by_paced = owns_boxed the_paced_row

@@ -15,7 +15,7 @@ use denote.Steps.{nothing}
 use denote.Triple.Entry.{alive}
 use denote.Triple.Walked.{walk_of}
 use Rattle.std.proofs.raw_atomic.Walks.{proved, leaves}
-use Rattle.tlut_host.proofs.HeldValues.{held_val, PacedGrip, paced_made}
+use Rattle.tlut_host.proofs.HeldValues.{held_val, Grip, grip_made}
 use Rattle.tlut_host.specs.contracts.held_paced.HeldPaced as held
 use Rattle.tlut_host.specs.contracts.held_paced.HeldPaced.empty.{ended, clauses}
 use Rattle.tlut_host.specs.contracts.held_paced.HeldPaced.empty.Key.{name as #self}
@@ -33,5 +33,5 @@ empty_spec 𝓤 𝓛 𝓜 𝓡 wired =
     sets ! (agg ! (and_then ! (lit ! tt) (no_more !))) refl (tt, (record { fits = lit< tt }, tt)) $
     returns ! (look_at ! 0 refl) $ free_all ! refl $
     use0 𝓛 (raw (fact 𝓤 (r.value ≡ None))) (fact_i 𝓤 (r.value ≡ None) (emp 𝓤) refl) $ nothing ! $
-    use0 𝓛 (‵ (PacedGrip.own_val (null_ptr, tt) (held_val null_ptr ∷ []))) (paced_made 𝓛 null_ptr) $ fjoin ! $ nothing ! $
+    use0 𝓛 (‵ (Grip.own_val (null_ptr, tt) (held_val null_ptr ∷ []))) (grip_made 𝓛 null_ptr) $ fjoin ! $ nothing ! $
     keep ! (3 ∷ 0 ∷ 1 ∷ 2 ∷ []) $ by ! (leaves 𝓛 ended tt c y (held_val null_ptr) r tt tt)))

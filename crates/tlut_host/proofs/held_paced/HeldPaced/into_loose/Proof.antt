@@ -25,7 +25,7 @@ use Rattle.std_heap.specs.contracts.GlobalAllocator.TheImpl.{ghosts}
 use Rattle.std_heap.proofs.Global.TheLaws as heap_laws
 use Rattle.std_heap.proofs.Handle.{heap_val, heap_Tells}
 use Rattle.tlut_host.proofs.Values.{both, loose_in}
-use Rattle.tlut_host.proofs.HeldValues.{slot_at, held_val, paced_told, paced_full}
+use Rattle.tlut_host.proofs.HeldValues.{slot_at, held_val, grip_told, held_full}
 use Rattle.tlut_host.specs.contracts.paced.PacedHost as state
 use Rattle.tlut_host.specs.contracts.held_paced.HeldPaced.into_loose.{ended, clauses}
 use Rattle.tlut_host.specs.contracts.held_paced.HeldPaced.into_loose.Key.{name as #self}
@@ -44,9 +44,9 @@ into_loose_spec 𝓤 𝓛 𝓜 𝓡 wired =
     qed 𝓛 ((raw (alive 𝓛 ended.signature z.0.0 z.0.1) ⊛ ‵ (owns (types_at ended.signature.params z.0.0) z.0.3 z.0.4)) ∷ raw (fact 𝓤 (is_some v.value ≡ true)) ∷ []) ∵
     move ! (1 ∷ []) $ heard ! (is_some v.value ≡ true) (λ full. split ! $ move ! (1 ∷ []) $ fsplit ! $ fsplit ! $ keep ! (1 ∷ 2 ∷ 3 ∷ []) $
     -- [what the pointer owns; the allocator and nothing; alive]
-    paced_full ! v.at v.value full (λ x b o ev at. move ! (1 ∷ []) $ fsplit ! $ keep ! (2 ∷ 0 ∷ 3 ∷ []) $
+    held_full R ! v.at v.value full (λ x b o ev at. move ! (1 ∷ []) $ fsplit ! $ keep ! (2 ∷ 0 ∷ 3 ∷ []) $
     let told : us ≡ heap_val ∷ [] = heap_Tells a us are.1.0 in
-    let seen : vs ≡ held_val (block_ptr b o) ∷ [] = paced_told v.at vs are.0.0 ∙ ap (λ (p : Ptr). held_val p ∷ []) at in
+    let seen : vs ≡ held_val (block_ptr b o) ∷ [] = grip_told v.at vs are.0.0 ∙ ap (λ (p : Ptr). held_val p ∷ []) at in
     rewrite ! 1 (λ (ws : List Val). ‵ (Z.own_val a ws)) told refl $
     use1 𝓛 (‵ (box_owns (ghosts.dealloc_token a) R (block_ptr b o) x)) (id⊢ 𝓤 _) $
     loose_in R Z LZ ghosts ! b o heap_val a x $

@@ -22,7 +22,7 @@ use Rattle.std_heap.specs.contracts.Global as heap
 use Rattle.std_heap.specs.contracts.GlobalAllocator.TheImpl.{ghosts}
 use Rattle.std_heap.proofs.Global.TheLaws as heap_laws
 use Rattle.tlut_host.proofs.Values.{both, loose_good, loose_out}
-use Rattle.tlut_host.proofs.HeldValues.{slot_at, held_val, PacedGrip, paced_made}
+use Rattle.tlut_host.proofs.HeldValues.{slot_at, held_val, Grip, grip_made}
 use Rattle.tlut_host.specs.Owned.{held_by_paced}
 use Rattle.tlut_host.specs.contracts.paced.PacedHost as state
 use Rattle.tlut_host.specs.contracts.held_paced.HeldPaced as held
@@ -44,7 +44,7 @@ of_spec 𝓤 𝓛 𝓜 𝓡 wired =
     let r : (held.the_row).Denot = record { at = block_ptr b o; value = Some v.value } in
     -- [the box; the allocator; nothing; alive]
     keep ! (0 ∷ 3 ∷ []) $ use1 𝓛 (‵ (held_by_paced (block_ptr b o) (Some v.value))) (id⊢ 𝓤 _) $
-    use0 𝓛 (‵ (PacedGrip.own_val (block_ptr b o, tt) (held_val (block_ptr b o) ∷ []))) (paced_made 𝓛 (block_ptr b o)) $ fjoin ! $
+    use0 𝓛 (‵ (Grip.own_val (block_ptr b o, tt) (held_val (block_ptr b o) ∷ []))) (grip_made 𝓛 (block_ptr b o)) $ fjoin ! $
     suffices ! (Run (w ∷ [])) (subst (λ (us : List Val). ent 𝓤 (Run (w ∷ [])) (Run us)) (sym (λ i. ws i ++ [])) (id⊢ 𝓤 (Run (w ∷ [])))) $
     enter ! 𝓣.C 𝓣.Λ fn (w ∷ []) Post $ alloc_all ! (λ l. pass_all ! refl (typed, tt) $
     sets ! (of_opd ! (get_in ! (fld ! refl (stop !)) (sub ! 0 refl (whole !)))) refl (tt, tt) $
