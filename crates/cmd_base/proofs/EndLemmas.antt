@@ -57,7 +57,6 @@ keeps_past {old = old} {mid = mid} {new = new} first next = record {
   later = at_most_past old.read_faults mid.read_faults new.read_faults first.later next.later;
   files = next.files ∙ first.files;
   write_faults = next.write_faults ∙ first.write_faults;
-  not_writing = next.not_writing;
 }
 
 -- Where a shelf was read alone, what is outside is as it was.
@@ -79,9 +78,9 @@ module _ (walk : Walk) (old new : ShelfSeen) (before after : Outside) (same : af
   explained_ends outcome.PortFault h = absurd h
 
 -- so does one whose files were only read
-module _ (walk : Walk) {old new : ShelfSeen} (keeps : KeepsFiles old new) (out : SinkSeen) (ports : List PortSeen) where
+module _ (walk : Walk) {old new : ShelfSeen} (keeps : KeepsFiles old new) (not_writing : walk.WritesFiles → new.is_writing ≡ false) (out : SinkSeen) (ports : List PortSeen) where
   pub unbegun_ends : (o : Outcome) → Explains walk.reading old new o → Ends walk old new (outside old out ports) (outside new out ports) o
-  unbegun_ends o h = explained_ends walk old new (outside old out ports) (outside new out ports) (only_read keeps out ports) (λ _. keeps.not_writing) o h
+  unbegun_ends o h = explained_ends walk old new (outside old out ports) (outside new out ports) (only_read keeps out ports) not_writing o h
 
   pub memory_ends : Ends walk old new (outside old out ports) (outside new out ports) outcome.Memory
   memory_ends = unbegun_ends outcome.Memory tt

@@ -1,5 +1,5 @@
 //! A mapped source circuit that is ready to be written.
-ghost use Rattle.std.specs.Prelude.{◌≡◌, ◌≤◌, IfOk, IfErr, OnOk};
+ghost use Rattle.std.specs.Prelude.{◌≡◌, ◌≤◌, false, IfOk, IfErr, OnOk};
 ghost use Rattle.tl_text.specs.declared.logical_lines.TheConstants.{MOST_BYTES};
 ghost use Rattle.cut_enum.specs.declared.limits.TheConstants.{MOST_LEAVES};
 ghost use Rattle.blif_write.specs.Writable.{CanBeNamed};
@@ -79,6 +79,7 @@ pub fn read_draft<S: Shelf>(
     ensures given { OnOk result ((S.seen shelf.new).given ≤ MOST_BYTES) }
     ensures err { IfErr result (Explains (source_reading ToTables (source_seen words.now)) (S.seen shelf.old) (S.seen shelf.new)) }
     ensures keeps { KeepsFiles (S.seen shelf.old) (S.seen shelf.new) }
+    ensures not_writing { (S.seen shelf.new).is_writing ≡ false }
 {
     let mapped = match read_mapped(alloc, words, shelf) {
         Ok(mapped) => mapped,

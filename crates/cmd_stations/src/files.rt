@@ -1,5 +1,5 @@
 //! Reading the files of a command.
-ghost use Rattle.std.specs.Prelude.{◌≡◌, ◌≤◌, length, IfOk, IfErr, OnOk};
+ghost use Rattle.std.specs.Prelude.{◌≡◌, ◌≤◌, false, length, IfOk, IfErr, OnOk};
 ghost use Rattle.tl_io.specs.Shelf.{Files};
 ghost use Rattle.cmd_base.specs.Ends.{Told};
 ghost use Rattle.cmd_base.specs.Refusals.{most_bytes};
@@ -45,6 +45,7 @@ pub fn read_file<S: Shelf>(
     ensures given { OnOk result ((S.seen shelf.new).given ≤ most_bytes file) }
     ensures err { IfErr result (IsUnread name.now file (S.seen shelf.old) (S.seen shelf.new)) }
     ensures keeps { KeepsFiles (S.seen shelf.old) (S.seen shelf.new) }
+    ensures not_writing { (S.seen shelf.new).is_writing ≡ false }
 {
     match slurp(alloc, shelf, name, limit(file)) {
         Ok(text) => Ok(text),

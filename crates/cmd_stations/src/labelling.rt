@@ -1,5 +1,5 @@
 //! The labels of the nodes of a source circuit's graph.
-ghost use Rattle.std.specs.Prelude.{◌≤◌, IfOk, IfErr, OnOk, MatchResult};
+ghost use Rattle.std.specs.Prelude.{◌≡◌, ◌≤◌, false, IfOk, IfErr, OnOk, MatchResult};
 ghost use Rattle.tl_text.specs.declared.logical_lines.TheConstants.{MOST_BYTES};
 ghost use Rattle.cut_enum.specs.declared.limits.TheConstants.{MOST_LEAVES};
 ghost use Rattle.cmd_base.specs.Ends.{Told, Explains};
@@ -84,6 +84,7 @@ pub fn read_labelled<S: Shelf>(
     ensures given { OnOk result ((S.seen shelf.new).given ≤ MOST_BYTES) }
     ensures err { IfErr result (Explains (source_reading ToLabels (source_seen words.now)) (S.seen shelf.old) (S.seen shelf.new)) }
     ensures keeps { KeepsFiles (S.seen shelf.old) (S.seen shelf.new) }
+    ensures not_writing { (S.seen shelf.new).is_writing ≡ false }
 {
     let source = match read_source(alloc, words, shelf) {
         Ok(source) => source,

@@ -1,5 +1,5 @@
 //! Reading a source circuit and mapping it to LUTs.
-ghost use Rattle.std.specs.Prelude.{◌≤◌, IfOk, IfErr, OnOk};
+ghost use Rattle.std.specs.Prelude.{◌≡◌, ◌≤◌, false, IfOk, IfErr, OnOk};
 ghost use Rattle.tl_text.specs.declared.logical_lines.TheConstants.{MOST_BYTES};
 ghost use Rattle.tl_io.specs.Shelf.{Files};
 ghost use Rattle.cut_enum.specs.declared.limits.TheConstants.{MOST_LEAVES};
@@ -43,6 +43,7 @@ pub fn read_mapped<S: Shelf>(
     ensures given { OnOk result ((S.seen shelf.new).given ≤ MOST_BYTES) }
     ensures err { IfErr result (Explains (source_reading ToTables (source_seen words.now)) (S.seen shelf.old) (S.seen shelf.new)) }
     ensures keeps { KeepsFiles (S.seen shelf.old) (S.seen shelf.new) }
+    ensures not_writing { (S.seen shelf.new).is_writing ≡ false }
 {
     let source = match read_source(alloc, words, shelf) {
         Ok(source) => source,

@@ -1,5 +1,5 @@
 //! Reading a pack, and what its scripts may name.
-ghost use Rattle.std.specs.Prelude.{◌≡◌, ◌≤◌, length, map, IfOk, IfErr, OnOk};
+ghost use Rattle.std.specs.Prelude.{◌≡◌, ◌≤◌, false, length, map, IfOk, IfErr, OnOk};
 ghost use Rattle.ppc_pack.specs.Pack.{IsPack};
 ghost use Rattle.ppc_pack.specs.declared.pack.PackParam.{PackParam as PackParamValue};
 ghost use Rattle.ppc_file.specs.PackFile.{IsPackFile, HasOneReading};
@@ -40,6 +40,7 @@ pub fn read_pack<S: Shelf>(alloc: Global, name: &str, shelf: &mut S) -> Result<P
     ensures given { OnOk result ((S.seen shelf.new).given ≤ most_bytes File.Pack) }
     ensures err { IfErr result (Explains (pack_reading name.now) (S.seen shelf.old) (S.seen shelf.new)) }
     ensures keeps { KeepsFiles (S.seen shelf.old) (S.seen shelf.new) }
+    ensures not_writing { (S.seen shelf.new).is_writing ≡ false }
 {
     let bytes = match read_file(alloc, name, File::Pack, shelf) {
         Ok(bytes) => bytes,

@@ -1,5 +1,5 @@
 //! Reading a source circuit: the netlist and the parameters.
-ghost use Rattle.std.specs.Prelude.{◌≤◌, length, IfOk, IfErr, OnOk};
+ghost use Rattle.std.specs.Prelude.{◌≡◌, ◌≤◌, false, length, IfOk, IfErr, OnOk};
 ghost use Rattle.tl_text.specs.declared.logical_lines.TheConstants.{MOST_BYTES};
 ghost use Rattle.tl_io.specs.Shelf.{Files};
 ghost use Rattle.param_list.specs.Parameters.{AreParameters};
@@ -37,6 +37,7 @@ fn read_netlist_file<S: Shelf>(
     ensures given { OnOk result ((S.seen shelf.new).given ≤ MOST_BYTES) }
     ensures err { IfErr result (λ o. (aim : Aim) → Explains (source_reading aim (source_seen words.now)) (S.seen shelf.old) (S.seen shelf.new) o) }
     ensures keeps { KeepsFiles (S.seen shelf.old) (S.seen shelf.new) }
+    ensures not_writing { (S.seen shelf.new).is_writing ≡ false }
 {
     let text = match read_file(alloc, words.netlist, File::Netlist, shelf) {
         Ok(text) => text,
@@ -79,6 +80,7 @@ fn read_params_file<S: Shelf>(
     ensures given { OnOk result ((S.seen shelf.new).given ≤ MOST_BYTES) }
     ensures err { IfErr result (λ o. (aim : Aim) → Explains (source_reading aim (source_seen words.now)) (S.seen shelf.old) (S.seen shelf.new) o) }
     ensures keeps { KeepsFiles (S.seen shelf.old) (S.seen shelf.new) }
+    ensures not_writing { (S.seen shelf.new).is_writing ≡ false }
 {
     let text = match read_file(alloc, words.params, File::Params, shelf) {
         Ok(text) => text,
@@ -104,6 +106,7 @@ pub fn read_source<S: Shelf>(
     ensures given { OnOk result ((S.seen shelf.new).given ≤ MOST_BYTES) }
     ensures err { IfErr result (λ o. (aim : Aim) → Explains (source_reading aim (source_seen words.now)) (S.seen shelf.old) (S.seen shelf.new) o) }
     ensures keeps { KeepsFiles (S.seen shelf.old) (S.seen shelf.new) }
+    ensures not_writing { (S.seen shelf.new).is_writing ≡ false }
 {
     let netlist = match read_netlist_file(alloc, words, shelf) {
         Ok(netlist) => netlist,

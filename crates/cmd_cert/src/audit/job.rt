@@ -1,5 +1,5 @@
 //! The command `audit`.
-ghost use Rattle.std.specs.Prelude.{◌≡◌, ◌≤◌, List, [], string_bytes, IfOk, IfErr, OnOk};
+ghost use Rattle.std.specs.Prelude.{◌≡◌, ◌≤◌, List, [], false, string_bytes, IfOk, IfErr, OnOk};
 ghost use Rattle.tl_text.specs.declared.logical_lines.TheConstants.{MOST_BYTES};
 ghost use Rattle.tl_io.specs.Port.{PortSeen};
 ghost use Rattle.aig_core.specs.Roots.{roots_of};
@@ -42,6 +42,7 @@ fn read_audited<S: Shelf>(
     ensures given { OnOk result ((S.seen shelf.new).given ≤ MOST_BYTES) }
     ensures err { IfErr result (Explains (audit_reading (cert_seen words.now)) (S.seen shelf.old) (S.seen shelf.new)) }
     ensures keeps { KeepsFiles (S.seen shelf.old) (S.seen shelf.new) }
+    ensures not_writing { (S.seen shelf.new).is_writing ≡ false }
 {
     let built = match read_graph(alloc, &words.source, shelf) {
         Ok(built) => built,

@@ -12,7 +12,7 @@ use Rattle.cmd_pace.proofs.job.pace_job.Goals as goal
 
 pub returns-in-Err-clause-ends : goal.returns-in-Err-clause-ends
 returns-in-Err-clause-ends g c ports =
-    unbegun_ends (pace_walk (pace_seen c.args.words.now)) c.prepare.ensures.keeps (g.O.Sink.seen c.args.out.now) ports c.in-Err.outcome c.in-Err.ensures.err
+    unbegun_ends (pace_walk (pace_seen c.args.words.now)) c.prepare.ensures.keeps (λ none. absurd none) (g.O.Sink.seen c.args.out.now) ports c.in-Err.outcome c.in-Err.ensures.err
 
 pub returns-in-Ok-played-clause-ends : goal.returns-in-Ok-played-clause-ends
 returns-in-Ok-played-clause-ends g c ports =

@@ -11,10 +11,10 @@ use Rattle.cmd_cert.proofs.audit.job.audit_job.Goals as goal
 
 pub returns-in-Err-clause-ends : goal.returns-in-Err-clause-ends
 returns-in-Err-clause-ends g c ports =
-    unbegun_ends (audit_walk (cert_seen c.args.words.now)) c.read_audited.ensures.keeps (g.O.Sink.seen c.args.out.now) ports c.in-Err.outcome c.in-Err.ensures.err
+    unbegun_ends (audit_walk (cert_seen c.args.words.now)) c.read_audited.ensures.keeps (λ none. absurd none) (g.O.Sink.seen c.args.out.now) ports c.in-Err.outcome c.in-Err.ensures.err
 
 pub returns-in-Err-line-clause-ends : goal.returns-in-Err-line-clause-ends
-returns-in-Err-line-clause-ends g c ports = memory_ends (audit_walk (cert_seen c.args.words.now)) c.read_audited.ensures.keeps (g.O.Sink.seen c.args.out.now) ports
+returns-in-Err-line-clause-ends g c ports = memory_ends (audit_walk (cert_seen c.args.words.now)) c.read_audited.ensures.keeps (λ none. absurd none) (g.O.Sink.seen c.args.out.now) ports
 
 pub returns-in-Ok-put_line-clause-ends : goal.returns-in-Ok-put_line-clause-ends
 returns-in-Ok-put_line-clause-ends g c ports =

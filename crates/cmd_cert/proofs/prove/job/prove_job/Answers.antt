@@ -6,7 +6,7 @@ use Rattle.cmd_cert.proofs.prove.job.prove_job.Goals as goal
 
 pub returns-in-Err-clause-ends : goal.returns-in-Err-clause-ends
 returns-in-Err-clause-ends g c ports =
-    unbegun_ends (prove_walk (cert_seen c.args.words.now)) c.read_proof.ensures.keeps (g.O.Sink.seen c.args.out.now) ports c.in-Err.outcome c.in-Err.ensures.err
+    unbegun_ends (prove_walk (cert_seen c.args.words.now)) c.read_proof.ensures.keeps (λ _. c.read_proof.ensures.not_writing) (g.O.Sink.seen c.args.out.now) ports c.in-Err.outcome c.in-Err.ensures.err
 
 pub returns-in-Ok-clause-ends : goal.returns-in-Ok-clause-ends
 returns-in-Ok-clause-ends g c ports =

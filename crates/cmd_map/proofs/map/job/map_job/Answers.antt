@@ -7,7 +7,7 @@ use Rattle.cmd_map.proofs.map.job.map_job.Goals as goal
 
 pub returns-in-Err-clause-ends : goal.returns-in-Err-clause-ends
 returns-in-Err-clause-ends g c ports =
-    unbegun_ends (map_walk (map_seen c.args.words.now)) c.read_draft.ensures.keeps (g.O.Sink.seen c.args.out.now) ports c.in-Err.outcome c.in-Err.ensures.err
+    unbegun_ends (map_walk (map_seen c.args.words.now)) c.read_draft.ensures.keeps (λ _. c.read_draft.ensures.not_writing) (g.O.Sink.seen c.args.out.now) ports c.in-Err.outcome c.in-Err.ensures.err
 
 pub returns-in-Ok-clause-ends : goal.returns-in-Ok-clause-ends
 returns-in-Ok-clause-ends g c ports =

@@ -10,10 +10,10 @@ use Rattle.cmd_map.proofs.spec.job.spec_job.Goals as goal
 
 pub returns-in-Err-clause-ends : goal.returns-in-Err-clause-ends
 returns-in-Err-clause-ends g c ports =
-    unbegun_ends (spec_walk (spec_seen c.args.words.now)) c.read_draft.ensures.keeps (g.O.Sink.seen c.args.out.now) ports c.in-Err.outcome c.in-Err.ensures.err
+    unbegun_ends (spec_walk (spec_seen c.args.words.now)) c.read_draft.ensures.keeps (λ _. c.read_draft.ensures.not_writing) (g.O.Sink.seen c.args.out.now) ports c.in-Err.outcome c.in-Err.ensures.err
 
 pub returns-in-Err-listed_config-clause-ends : goal.returns-in-Err-listed_config-clause-ends
-returns-in-Err-listed_config-clause-ends g c ports = memory_ends (spec_walk (spec_seen c.args.words.now)) c.read_draft.ensures.keeps (g.O.Sink.seen c.args.out.now) ports
+returns-in-Err-listed_config-clause-ends g c ports = memory_ends (spec_walk (spec_seen c.args.words.now)) c.read_draft.ensures.keeps (λ _. c.read_draft.ensures.not_writing) (g.O.Sink.seen c.args.out.now) ports
 
 pub returns-clause-ends : goal.returns-clause-ends
 returns-clause-ends g c ports =

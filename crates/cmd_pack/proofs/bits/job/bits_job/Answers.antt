@@ -7,7 +7,7 @@ use Rattle.cmd_pack.proofs.bits.job.bits_job.Goals as goal
 
 pub returns-in-Err-clause-ends : goal.returns-in-Err-clause-ends
 returns-in-Err-clause-ends g c ports =
-    unbegun_ends (bits_walk (bits_seen c.args.words.now)) c.prepare.ensures.keeps (g.O.Sink.seen c.args.out.now) ports c.in-Err.outcome c.in-Err.ensures.err
+    unbegun_ends (bits_walk (bits_seen c.args.words.now)) c.prepare.ensures.keeps (λ none. absurd none) (g.O.Sink.seen c.args.out.now) ports c.in-Err.outcome c.in-Err.ensures.err
 
 pub returns-in-Ok-clause-ends : goal.returns-in-Ok-clause-ends
 returns-in-Ok-clause-ends g c ports =

@@ -7,10 +7,10 @@ use Rattle.cmd_pack.proofs.repack.job.repack_job.Goals as goal
 
 pub returns-in-Err-clause-ends : goal.returns-in-Err-clause-ends
 returns-in-Err-clause-ends g c ports =
-    unbegun_ends (repack_walk (repack_seen c.args.words.now)) c.read_pack.ensures.keeps (g.O.Sink.seen c.args.out.now) ports c.in-Err.outcome c.in-Err.ensures.err
+    unbegun_ends (repack_walk (repack_seen c.args.words.now)) c.read_pack.ensures.keeps (λ _. c.read_pack.ensures.not_writing) (g.O.Sink.seen c.args.out.now) ports c.in-Err.outcome c.in-Err.ensures.err
 
 pub returns-in-Err-make-clause-ends : goal.returns-in-Err-make-clause-ends
-returns-in-Err-make-clause-ends g c ports = memory_ends (repack_walk (repack_seen c.args.words.now)) c.read_pack.ensures.keeps (g.O.Sink.seen c.args.out.now) ports
+returns-in-Err-make-clause-ends g c ports = memory_ends (repack_walk (repack_seen c.args.words.now)) c.read_pack.ensures.keeps (λ _. c.read_pack.ensures.not_writing) (g.O.Sink.seen c.args.out.now) ports
 
 pub returns-clause-ends : goal.returns-clause-ends
 returns-clause-ends g c ports =

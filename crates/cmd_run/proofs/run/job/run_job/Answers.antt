@@ -27,7 +27,7 @@ returns-in-Ok-clause-laws g c = run_laws (run_seen c.args.words.now)
 
 pub returns-in-Err-clause-ends : goal.returns-in-Err-clause-ends
 returns-in-Err-clause-ends g c =
-    unbegun_ends (run_walk (run_seen c.args.words.now)) c.prepare.ensures.keeps (g.O.Sink.seen c.args.out.now) (map g.P.ConfigPort.port_seen c.args.ports.now.items) c.in-Err.outcome c.in-Err.ensures.err
+    unbegun_ends (run_walk (run_seen c.args.words.now)) c.prepare.ensures.keeps (λ none. absurd none) (g.O.Sink.seen c.args.out.now) (map g.P.ConfigPort.port_seen c.args.ports.now.items) c.in-Err.outcome c.in-Err.ensures.err
 
 pub returns-in-Err-clause-laws : goal.returns-in-Err-clause-laws
 returns-in-Err-clause-laws g c = run_laws (run_seen c.args.words.now)
