@@ -1,5 +1,6 @@
 pub mod CopyLemmas
 pub mod HeldValues
+mod HostExample
 pub mod PacedLemmas
 pub mod SettingLemmas
 pub mod Values
