@@ -29,28 +29,42 @@ MOST_ROUNDS = 12
 
 @dataclass(frozen=True)
 class Preparation:
-    """A preparation: its name, its commands, and what is repeated before `last` as long as the graph gets fewer levels."""
+    """A preparation: its name, its steps, and what is repeated before `last` as long as the graph gets fewer levels. A step is a sequence of
+    commands that starts from an AND-inverter graph and leaves one; the first step starts from a netlist. Preparations share the steps with
+    which they begin."""
 
     name: str
-    commands: str
+    steps: tuple[str, ...]
     repeated: str = ""
     last: str = ""
 
     @property
+    def commands(self) -> str:
+        """The commands of the steps in one line."""
+        return "; ".join(self.steps)
+
+    @property
     def cost(self) -> int:
-        """About how long it takes beside others: how often it looks for choices or balances sums of products."""
-        return sum((self.commands + self.repeated * MOST_ROUNDS).count(word) for word in ("dch", "if -g"))
+        """About how long it takes beside others."""
+        return cost_of(self.commands) + cost_of(self.repeated) * MOST_ROUNDS + cost_of(self.last)
 
     @property
     def shown(self) -> str:
-        """The commands in one line."""
+        """All commands in one line."""
         return self.commands + (f"; until the depth stays: {self.repeated}; then {self.last}" if self.repeated else "")
 
 
+def cost_of(commands: str) -> int:
+    """About how long commands take: how often they look for choices or balance sums of products."""
+    return sum(commands.count(word) for word in ("dch", "if -g"))
+
+
+START = "strash"
 CHOICE = "dch; map -B 0.9; strash"
 SOP = "if -g -K 6; strash"
+CHOICE_SOP = f"dch; {SOP}"
 SOP_4 = "if -g -K 4; strash"
-DEFAULT = "strash; dch; map -B 0.9; topo; strash"
+QUICK = "dch; map -B 0.9; topo; strash"
 RESYN2 = "balance; rewrite; refactor; balance; rewrite; rewrite -z; balance; refactor -z; rewrite -z; balance"
 RESUB = (
     "balance -l; resub -K 6 -l; rewrite -l; resub -K 6 -N 2 -l; refactor -l; resub -K 8 -l; balance -l; resub -K 8 -N 2 -l; rewrite -l; "
@@ -58,27 +72,27 @@ RESUB = (
 )
 
 PREPARATIONS = [
-    Preparation("raw", "strash"),
-    Preparation("map", DEFAULT),
-    Preparation("dc2", "strash; dc2; dc2; balance"),
-    Preparation("resyn2", f"strash; {RESYN2}"),
-    Preparation("bm", "strash; dch; map; strash"),
-    Preparation("g1", f"strash; {SOP}; {CHOICE}"),
-    Preparation("g1n", f"strash; {SOP}"),
-    Preparation("g1d", f"strash; {SOP}; dch; if -K 6; strash; {CHOICE}"),
-    Preparation("g2", f"strash; {SOP}; {SOP}; {CHOICE}"),
-    Preparation("g2n", f"strash; {SOP}; {SOP}; balance"),
-    Preparation("dg1", f"strash; dch; {SOP}; {CHOICE}"),
-    Preparation("dg2", f"strash; dch; {SOP}; dch; {SOP}; {CHOICE}"),
-    Preparation("g4", f"strash; {'; '.join([SOP] * 4)}; {CHOICE}"),
-    Preparation("dg4", f"strash; {'; '.join(['dch; ' + SOP] * 4)}; {CHOICE}"),
-    Preparation("dg2k4", f"strash; dch; {SOP_4}; dch; {SOP_4}; {CHOICE}"),
-    Preparation("gstay", "strash", SOP, CHOICE),
-    Preparation("dgstay", "strash", f"dch; {SOP}", CHOICE),
-    Preparation("syn2", "strash; &get -n; &syn2; &put; strash"),
-    Preparation("syn4", "strash; &get -n; &syn4; &put; strash"),
-    Preparation("rs", f"strash; {RESUB}"),
-    Preparation("rsg", f"strash; {RESUB}; {SOP}; {SOP}; {CHOICE}"),
+    Preparation("raw", (START,)),
+    Preparation("map", (START, QUICK)),
+    Preparation("dc2", (START, "dc2; dc2; balance")),
+    Preparation("resyn2", (START, RESYN2)),
+    Preparation("bm", (START, "dch; map; strash")),
+    Preparation("g1", (START, SOP, CHOICE)),
+    Preparation("g1n", (START, SOP)),
+    Preparation("g1d", (START, SOP, "dch; if -K 6; strash", CHOICE)),
+    Preparation("g2", (START, SOP, SOP, CHOICE)),
+    Preparation("g2n", (START, SOP, SOP, "balance")),
+    Preparation("dg1", (START, CHOICE_SOP, CHOICE)),
+    Preparation("dg2", (START, CHOICE_SOP, CHOICE_SOP, CHOICE)),
+    Preparation("g4", (START, *[SOP] * 4, CHOICE)),
+    Preparation("dg4", (START, *[CHOICE_SOP] * 4, CHOICE)),
+    Preparation("dg2k4", (START, f"dch; {SOP_4}", f"dch; {SOP_4}", CHOICE)),
+    Preparation("gstay", (START,), SOP, CHOICE),
+    Preparation("dgstay", (START,), CHOICE_SOP, CHOICE),
+    Preparation("syn2", (START, "&get -n; &syn2; &put; strash")),
+    Preparation("syn4", (START, "&get -n; &syn4; &put; strash")),
+    Preparation("rs", (START, RESUB)),
+    Preparation("rsg", (START, RESUB, SOP, SOP, CHOICE)),
 ]
 
 
@@ -91,7 +105,7 @@ def further(words: list[str], known: list[Preparation]) -> list[Preparation]:
             raise Fault(f"--try {word}: it isn't NAME=COMMANDS, as short='dc2; balance'")
         if name in [it.name for it in [*known, *found]]:
             raise Fault(f"--try {word}: there is a preparation {name} already")
-        found.append(Preparation(name, f"strash; {commands.strip().rstrip(';')}; strash"))
+        found.append(Preparation(name, (f"strash; {commands.strip().rstrip(';')}; strash",)))
     return found
 
 

@@ -7,7 +7,11 @@ import os
 import shutil
 import subprocess
 import sys
-from typing import Optional
+import tempfile
+import threading
+import time
+from dataclasses import dataclass
+from typing import IO, Optional
 
 from tlutflow.faults import Fault
 
@@ -77,14 +81,70 @@ def run(
         raise Fault(f"{words[0]}: {error.strerror or error}") from None
 
 
-def run_abc(abc: str, commands: str, folder: str, seconds: float) -> subprocess.CompletedProcess[str]:
+@dataclass(frozen=True)
+class AbcRun:
+    """A run of ABC: its status, what it printed, and the seconds that it took by the processor and by the clock."""
+
+    status: int
+    told: str
+    processor: float
+    seconds: float
+
+
+def run_abc(abc: str, commands: str, folder: str, seconds: float) -> AbcRun:
     """Runs ABC. Its processor time is limited, so that other work on the machine doesn't change what is found; by the clock it may take
     many times as long."""
-    limit = max(1, math.ceil(seconds))
-    ran = run([*LIMITED, str(limit), abc, "-q", commands], folder, 60 + 20 * seconds)
-    if ran.returncode in STOPPED:
-        raise Fault(f"ABC was stopped after {limit} seconds of processor time")
-    return ran
+    begun = time.monotonic()
+    with tempfile.TemporaryFile() as out, tempfile.TemporaryFile() as err:
+        words = [*LIMITED, str(limit_of(seconds)), abc, "-q", commands]
+        status, processor = measured(words, folder, 60 + 20 * seconds, out, err)
+        told = "".join(text_of(file) for file in (out, err))
+    if status in STOPPED:
+        raise Fault(stopped(seconds))
+    return AbcRun(status, told, processor, time.monotonic() - begun)
+
+
+def limit_of(seconds: float) -> int:
+    """A limit of processor time in whole seconds, as the shell takes it."""
+    return max(1, math.ceil(seconds))
+
+
+def stopped(seconds: float) -> str:
+    """What is said of ABC when it takes longer than a limit of processor time."""
+    return f"ABC was stopped after {limit_of(seconds)} seconds of processor time"
+
+
+def measured(words: list[str], folder: str, seconds: float, out: IO[bytes], err: IO[bytes]) -> tuple[int, float]:
+    """Runs a program to its end, its outputs into files, and returns its status and the processor time that it took."""
+    late = threading.Event()
+    try:
+        process = subprocess.Popen(words, cwd=folder, stdin=subprocess.DEVNULL, stdout=out, stderr=err)
+    except OSError as error:
+        raise Fault(f"{words[0]}: {error.strerror or error}") from None
+
+    def stop() -> None:
+        late.set()
+        process.kill()
+
+    timer = threading.Timer(seconds, stop)
+    timer.start()
+    try:
+        _, status, usage = os.wait4(process.pid, 0)
+    except BaseException:
+        process.kill()
+        raise
+    finally:
+        timer.cancel()
+    process.returncode = os.waitstatus_to_exitcode(status)
+    if late.is_set():
+        raise Fault(f"{os.path.basename(words[0])} was stopped after {seconds:g} seconds")
+    return process.returncode, usage.ru_utime + usage.ru_stime
+
+
+def text_of(file: IO[bytes]) -> str:
+    """The text of a file that a program wrote."""
+    file.seek(0)
+    return file.read().decode(errors="surrogateescape")
 
 
 def tlut(given: Optional[str]) -> str:

@@ -5,8 +5,7 @@ from __future__ import annotations
 import os
 import shutil
 import time
-from concurrent.futures import FIRST_COMPLETED, Future, ThreadPoolExecutor, wait
-from dataclasses import dataclass, field
+from dataclasses import dataclass, field, replace
 from typing import Callable, Optional
 
 from tlutflow import tools
@@ -15,10 +14,12 @@ from tlutflow.changes import median_rewritten
 from tlutflow.combinational import Logic, compared_texts, interface_difference, logic_of, logic_text, netlist_text
 from tlutflow.faults import Fault
 from tlutflow.flat import read_flat
+from tlutflow.graphs import Bench
 from tlutflow.mappings import Sizes, sizes_by_abc, sizes_by_tlut
 from tlutflow.netlist import Model
 from tlutflow.parameters import read_parameters
-from tlutflow.preparations import GENLIB, MOST_ROUNDS, PREPARATIONS, Preparation
+from tlutflow.pieces import Job, Jobs, Piece
+from tlutflow.preparations import PREPARATIONS, Preparation
 from tlutflow.text import read_text, write_text
 
 # What is looked for first, then next where that is the same, by the names of a result's fields.
@@ -33,6 +34,8 @@ RULE_NAMES = {"tlut": "tlut", "compact": "tlut --compact"}
 AS_READ = "as read"
 # Changes that are drawn for the median.
 CHANGES = 500
+# About how long checking and mapping a netlist takes, as `cost` of a preparation.
+MEASURING = 1
 
 
 @dataclass(frozen=True)
@@ -122,6 +125,26 @@ class Found:
         return min(found, key=key) if found else None
 
 
+@dataclass(frozen=True)
+class Start:
+    """Logic that preparations start from, and what the names of their trials begin with."""
+
+    name: str
+    logic: Logic
+
+    def text(self) -> str:
+        """The logic in BLIF."""
+        return logic_text(self.logic.model, self.logic.inputs, self.logic.roots)
+
+
+@dataclass(frozen=True)
+class Prepared:
+    """A netlist that is to be tried, and the seconds by the clock that ABC took for it."""
+
+    text: str
+    seconds: float
+
+
 Report = Callable[[int, int, Trial, Optional[Result]], None]
 
 
@@ -140,6 +163,7 @@ class Workshop:
         self.nets = list(read_parameters(task.parameters))
         self.program = tools.tlut(task.program)
         self.abc = tools.need(tools.ABC, "trying preparations")
+        self.bench = Bench(self.abc, f"{folder}/graphs", task.seconds)
 
     def room(self, name: str) -> str:
         """The folder of a trial."""
@@ -150,42 +174,21 @@ class Workshop:
     def call(self, commands: str, room: str) -> str:
         """Runs ABC with the limit of a preparation, and returns what it says."""
         ran = tools.run_abc(self.abc, commands, room, self.task.seconds)
-        if ran.returncode:
-            raise Fault(f"ABC ended with status {ran.returncode}")
-        return ran.stdout + ran.stderr
+        if ran.status:
+            raise Fault(f"ABC ended with status {ran.status}")
+        return ran.told
 
-    def prepare(self, logic: Logic, preparation: Preparation, room: str) -> str:
-        """The netlist that a preparation makes of some logic."""
-        write_text(f"{room}/logic.blif", logic_text(logic.model, logic.inputs, logic.roots))
-        write_text(f"{room}/gates.genlib", GENLIB)
-        self.step("logic.blif", preparation.commands, "made.blif", room)
-        if preparation.repeated:
-            self.repeat(preparation.repeated, room)
-            self.step("made.blif", f"strash; {preparation.last}", "made.blif", room)
-        return netlist_text(logic, read_text(f"{room}/made.blif"), preparation.name)
+    def prepared(self, name: str, start: Start, preparation: Preparation) -> Job[Prepared]:
+        """Makes the netlist of a preparation from some logic."""
+        source = yield Piece(("source", start.name), lambda: self.bench.source(start.text()), preparation.cost)
+        graph = yield from self.bench.prepared(source, preparation)
+        text = yield Piece(("netlist", name), lambda: netlist_text(start.logic, self.bench.text(graph), preparation.name), MEASURING)
+        return Prepared(text, graph.seconds)
 
-    def maker(self, logic: Logic, preparation: Preparation) -> Callable[[str], str]:
-        """What makes the netlist of a preparation in a folder."""
-        return lambda room: self.prepare(logic, preparation, room)
-
-    def step(self, source: str, commands: str, target: str, room: str) -> int:
-        """Runs commands of ABC on a file, writes a file, and returns the levels that its graph has."""
-        told = self.call(f"read_library gates.genlib; read_blif {source}; {commands}; print_stats; write_blif {target}.new", room)
-        if not os.path.exists(f"{room}/{target}.new"):
-            lines = [line.strip() for line in told.splitlines() if line.strip()]
-            raise Fault(f"ABC: {lines[-1] if lines else 'it wrote nothing'}")
-        os.replace(f"{room}/{target}.new", f"{room}/{target}")
-        return int(told.rsplit("lev", 1)[-1].split("=", 1)[-1].split()[0].replace("\x1b[0m", "")) if "lev" in told else 0
-
-    def repeat(self, commands: str, room: str) -> None:
-        """Repeats commands as long as the graph gets fewer levels; what made no fewer is dropped."""
-        least = self.step("made.blif", "strash", "made.blif", room)
-        for _ in range(MOST_ROUNDS):
-            levels = self.step("made.blif", f"strash; {commands}", "next.blif", room)
-            if levels >= least:
-                return
-            least = levels
-            os.replace(f"{room}/next.blif", f"{room}/made.blif")
+    def ready(self, name: str, path: str) -> Job[Prepared]:
+        """Reads a netlist that is there."""
+        text = yield Piece(("netlist", name), lambda: read_text(path), MEASURING)
+        return Prepared(text, 0)
 
     def check(self, made: Model, room: str) -> None:
         """Refuses a netlist that isn't shown to be the source, output by output and next state by next state."""
@@ -221,19 +224,22 @@ class Workshop:
         write_text(f"{room}/inputs.blif", logic_text(made, logic.inputs, logic.roots))
         return {words: sizes_by_abc(self.abc, self.task.k, "inputs.blif", words[2:], room) for words in ("if", "if -a")}
 
-    def finish(self, name: str, text: str, begun: float, room: str) -> Trial:
+    def finish(self, name: str, text: str) -> Trial:
         """Checks and maps what a preparation made."""
+        room = self.room(name)
         file = f"{room}/prepared.blif"
         write_text(file, text)
-        took, made = time.monotonic() - begun, read_flat(file)
+        made = read_flat(file)
         self.check(made, room)
-        return Trial(name, self.measure(name, file, took, room), self.beside(made, room))
+        return Trial(name, self.measure(name, file, 0, room), self.beside(made, room))
 
-    def attempt(self, name: str, make: Callable[[str], str]) -> Trial:
-        """A trial; one that fails says why."""
-        room, begun = self.room(name), time.monotonic()
+    def attempt(self, name: str, making: Job[Prepared]) -> Job[Trial]:
+        """A trial; one that fails says why. Preparations that make the same netlist share what comes after."""
         try:
-            return self.finish(name, make(room), begun, room)
+            prepared = yield from making
+            trial = yield Piece(("finish", prepared.text), lambda: self.finish(name, prepared.text), MEASURING)
+            results = [replace(it, name=name, seconds=prepared.seconds + it.seconds) for it in trial.results]
+            return Trial(name, results, trial.by_abc)
         except Fault as fault:
             return Trial(name, [], {}, str(fault))
 
@@ -258,7 +264,7 @@ def prepare(task: Task, folder: str, report: Report = silent) -> Found:
     shop = Workshop(task, folder)
     trials = [shop.as_read()]
     for number in range(task.rounds):
-        starts = [("", shop.logic)] if number == 0 else better_starts(trials, task.aim)
+        starts = [Start("", shop.logic)] if number == 0 else better_starts(trials, task.aim)
         trials += run_round(shop, starts, trials, number == 0, report)
     results = [it for trial in trials for it in trial.results]
     best = best_of(results, task.aim)
@@ -272,39 +278,26 @@ def best_of(results: list[Result], aim: str) -> Optional[Result]:
     return min(results, key=lambda it: it.key(aim)) if results else None
 
 
-def better_starts(trials: list[Trial], aim: str) -> list[tuple[str, Logic]]:
+def better_starts(trials: list[Trial], aim: str) -> list[Start]:
     """The two best preparations so far, from which a further round starts."""
     results = sorted((it for trial in trials for it in trial.results if it.name != AS_READ), key=lambda it: it.key(aim))
     files = list(dict.fromkeys((it.name, it.file) for it in results))[:2]
-    return [(f"{name}+", logic_of(read_flat(file))) for name, file in files]
+    return [Start(f"{name}+", logic_of(read_flat(file))) for name, file in files]
 
 
-def ready(path: str) -> Callable[[str], str]:
-    """What makes a netlist that is there."""
-    return lambda room: read_text(path)
-
-
-def run_round(shop: Workshop, starts: list[tuple[str, Logic]], before: list[Trial], is_first: bool, report: Report) -> list[Trial]:
-    """Tries each preparation from each start, several at a time. Those that take long begin first, so that none is left alone at the end."""
-    jobs: list[tuple[str, Callable[[str], str]]] = []
+def run_round(shop: Workshop, starts: list[Start], before: list[Trial], is_first: bool, report: Report) -> list[Trial]:
+    """Tries each preparation from each start, several at a time."""
+    named: list[tuple[str, Job[Prepared]]] = []
     if is_first:
-        jobs += [(name, ready(path)) for name, path in shop.task.ready.items()]
-    jobs += [(start + it.name, shop.maker(logic, it)) for start, logic in starts for it in shop.task.preparations]
-    trials: list[Trial] = []
-    pool = ThreadPoolExecutor(shop.task.jobs or os.cpu_count() or 1)
-    try:
-        costs = {start + it.name: it.cost for start, _ in starts for it in shop.task.preparations}
-        waiting: set[Future[Trial]] = {pool.submit(shop.attempt, *job) for job in sorted(jobs, key=lambda job: -costs.get(job[0], 0))}
-        while waiting:
-            ended, waiting = wait(waiting, return_when=FIRST_COMPLETED)
-            for it in ended:
-                trials.append(it.result())
-                results = [found for trial in [*before, *trials] for found in trial.results]
-                report(len(trials), len(jobs), trials[-1], best_of(results, shop.task.aim))
-    finally:
-        pool.shutdown(wait=True, cancel_futures=True)
-    order = {name: place for place, (name, _) in enumerate(jobs)}
-    return sorted(trials, key=lambda trial: order[trial.name])
+        named += [(name, shop.ready(name, path)) for name, path in shop.task.ready.items()]
+    named += [(start.name + it.name, shop.prepared(start.name + it.name, start, it)) for start in starts for it in shop.task.preparations]
+    jobs = Jobs([shop.attempt(*it) for it in named], shop.task.jobs or os.cpu_count() or 1)
+    trials: dict[int, Trial] = {}
+    for place, trial in jobs.run():
+        trials[place] = trial
+        results = [found for it in [*before, *trials.values()] for found in it.results]
+        report(len(trials), len(named), trial, best_of(results, shop.task.aim))
+    return [trials[place] for place in range(len(named))]
 
 
 def keep(result: Result, path: str) -> None:

@@ -125,7 +125,7 @@ def run(given: argparse.Namespace) -> int:
         write_text(f"{folder}/source.blif", left)
         write_text(f"{folder}/written.blif", right)
         ran = tools.run_abc(abc, f"{method} source.blif written.blif", folder, given.seconds)
-    told = [line.strip() for line in (ran.stdout + ran.stderr).splitlines() if line.strip()]
+    told = [line.strip() for line in ran.told.splitlines() if line.strip()]
     outcome = verdict("\n".join(told))
     if outcome == "equal":
         print(f"equal{extent(given)} (ABC {method})")

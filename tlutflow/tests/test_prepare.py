@@ -11,13 +11,16 @@ from tlutflow.faults import Fault
 from tlutflow.flat import flat_model
 from tlutflow.netlist import parse_library, read_library
 from tlutflow.trials import AIMS, Result, Task, prepare
-from tlutflow.preparations import PREPARATIONS, chosen, further
+from tlutflow.preparations import PREPARATIONS, Preparation, chosen, further
 from tlutflow.tests.helpers import EXAMPLES, MUX, TOP, InFolder, flow, needs
+from tlutflow.text import read_text
 from tlutflow.tools import ABC, BUILT, YOSYS
 
 NEEDS_TLUT = unittest.skipUnless(any(os.path.exists(f"{TOP}/{it}") for it in BUILT), "tlut isn't built")
 # Few and quick ones, of which none is the best for all designs.
 SHORT = chosen(["raw", "map", "dc2", "dg1", "g2n"], PREPARATIONS)
+# These have steps in common.
+LIKE = chosen(["g1", "g2n", "dg1", "dg2", "gstay", "dgstay"], PREPARATIONS)
 # A counter with names that need care: an output that is an input, a flip-flop that starts at 1, one without a start, and a clock.
 COUNTER = """.model top
 .inputs clk a p
@@ -111,6 +114,20 @@ class Choices(InFolder):
             alone = [self.found(*files, aim=aim, preparations=[it]).best.key(aim) for it in SHORT[:4]]
             self.assertEqual(best.key(aim), min(alone), (name, aim, AIMS[aim]))
             self.assertEqual(flow("check", files[0], best.file).stdout, "equal (ABC dsec)\n")
+
+    @needs(ABC)
+    @NEEDS_TLUT
+    def test_alike_alone(self):
+        """Preparations that share steps make the netlists, byte by byte, that each one makes alone."""
+        files = f"{EXAMPLES}/fir/fir.blif", f"{EXAMPLES}/fir/fir.par"
+        together, alone = (self.texts(*files, parts) for parts in ([LIKE], [[it] for it in LIKE]))
+        self.assertEqual(together, alone)
+        self.assertEqual(len(together), len(LIKE))
+
+    def texts(self, netlist: str, parameters: str, parts: list[list[Preparation]]) -> dict[str, str]:
+        """The netlists that preparations make which are tried part by part, by their names."""
+        trials = [trial for part in parts for trial in self.found(netlist, parameters, preparations=part).trials[1:]]
+        return {trial.name: read_text(trial.results[0].file) for trial in trials}
 
     @needs(ABC)
     @NEEDS_TLUT
