@@ -7,6 +7,8 @@ independent crates side by side, gives idle processors to those that others wait
 later gate, or a later call, proves none of it again.
 """
 
+from __future__ import annotations
+
 import os
 import re
 import shutil
@@ -15,6 +17,7 @@ import sys
 import tempfile
 import threading
 import time
+from typing import Iterable, TextIO
 
 import shared
 from shared import TOP
@@ -29,32 +32,32 @@ SILENCE = 25
 class Voice:
     """Reports progress on stderr: each crate that is proved, and that the work continues if that takes long."""
 
-    def __init__(self, count, silence=SILENCE):
+    def __init__(self, count: int, silence: float = SILENCE) -> None:
         self.count, self.silence, self.done = count, silence, 0
         self.begun = self.told = time.monotonic()
         self.lock, self.ended = threading.Lock(), threading.Event()
         self.watch = threading.Thread(target=self.beat, daemon=True)
 
-    def __enter__(self):
+    def __enter__(self) -> Voice:
         self.watch.start()
         return self
 
-    def __exit__(self, *_):
+    def __exit__(self, *_: object) -> None:
         self.ended.set()
         self.watch.join()
 
-    def say(self, text):
+    def say(self, text: str) -> None:
         """Puts a line."""
         with self.lock:
             self.told = time.monotonic()
             print(f"tlut: {text}", file=sys.stderr, flush=True)
 
-    def step(self, name):
+    def step(self, name: str) -> None:
         """A crate is proved."""
         self.done += 1
         self.say(f"{name} ({self.done} of {self.count})")
 
-    def beat(self):
+    def beat(self) -> None:
         """Says that the work continues, whenever there was silence, until it has ended."""
         while not self.ended.wait(self.silence / 10):
             if time.monotonic() - self.told >= self.silence:
@@ -62,14 +65,14 @@ class Voice:
                 self.say(f"at work for {minutes} min {seconds:02} s, {self.done} of {self.count} crates are proved")
 
 
-def read_lines():
+def read_lines() -> tuple[dict[str, str], dict[str, list[str]]]:
     """Returns the line of crates.txt of each crate, and the crates of this repository that it uses."""
     with open(f"{TOP}/crates.txt", encoding="utf-8") as file:
         lines = {line.split(":")[0].split()[0]: line for line in file if ":" in line and not line.startswith("#")}
     return lines, {name: [it for it in line.split(":")[1].split() if it in lines] for name, line in lines.items()}
 
 
-def below(uses, names):
+def below(uses: dict[str, list[str]], names: Iterable[str]) -> set[str]:
     """Returns these crates and those that they depend on."""
     found, left = set(), list(names)
     while left:
@@ -80,7 +83,7 @@ def below(uses, names):
     return found
 
 
-def copy_crates(room):
+def copy_crates(room: str) -> int:
     """Copies what the programs are made from, and returns how many crates that are."""
     lines, uses = read_lines()
     names = below(uses, PROGRAMS)
@@ -97,12 +100,12 @@ def copy_crates(room):
     return len(names)
 
 
-def prove(room, voice, log):
+def prove(room: str, voice: Voice, log: TextIO) -> bool:
     """Runs the gate in the room, reports each crate that is proved, and returns whether all were."""
     with subprocess.Popen(
         ["rt", "ci"], cwd=room, stdin=subprocess.DEVNULL, stdout=subprocess.PIPE, stderr=subprocess.STDOUT, text=True
     ) as gate:
-        for line in gate.stdout:
+        for line in gate.stdout or ():
             log.write(line)
             found = re.match(r"rt: (\w+) (proved$|is kept)", line)
             if found:
@@ -110,7 +113,7 @@ def prove(room, voice, log):
     return gate.returncode == 0
 
 
-def place(room, name, begun):
+def place(room: str, name: str, begun: float) -> None:
     """Moves a built program to its path in one step, with the time of the copy of the sources, so that a later edit is newer."""
     folder = f"{TOP}/crates/{name}/out"
     os.makedirs(folder, exist_ok=True)
@@ -120,7 +123,7 @@ def place(room, name, begun):
     os.replace(new, f"{folder}/{name}")
 
 
-def main():
+def main() -> int:
     parser = shared.words(__doc__)
     parser.add_argument("log", metavar="LOG", help="the file for what the check prints")
     path = parser.parse_args().log

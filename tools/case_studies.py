@@ -25,7 +25,8 @@ sys.path.insert(0, TOP)
 
 from tlutflow import tools
 from tlutflow.abc_form import abc_text
-from tlutflow.buses import Bus, buses_of
+from tlutflow.bus import Bus
+from tlutflow.buses import buses_of
 from tlutflow.changes import EXHAUSTIVE, Random, changes_of, rewritten, set_line, spread
 from tlutflow.faults import Fault
 from tlutflow.mappings import Sizes, sizes_by_abc, sizes_by_tlut
@@ -84,8 +85,8 @@ def studies(room: str, names: list[str]) -> list[Study]:
         ran = tools.run([f"{TOP}/flow", "verilog", "examples/fir8/fir8.v", "--top", top, "--quick", "--out", room], TOP)
         if ran.returncode:
             raise Fault(ran.stderr.strip())
-        files = [f"{room}/{top}{end}" for end in (".blif", ".par")]
-        found.append(Study(top, *files, "coefficients", "a coefficient gets another value", "a bit of one flips", drawings))
+        netlist, parameters = (f"{room}/{top}{end}" for end in (".blif", ".par"))
+        found.append(Study(top, netlist, parameters, "coefficients", "a coefficient gets another value", "a bit of one flips", drawings))
     return [study for study in found if not names or study.name in names]
 
 
@@ -100,7 +101,7 @@ def must(words: list[str], folder: Optional[str] = None) -> str:
 class Mapped:
     """A study mapped at some K: the files of its template and its pack."""
 
-    def __init__(self, study: Study, k: int, room: str):
+    def __init__(self, study: Study, k: int, room: str) -> None:
         self.study, self.k, self.room = study, k, room
         self.template, self.pack = (f"{room}/{study.name}_{k}{end}" for end in (".t.blif", ".ppc"))
         must([f"{TOP}/tlut", "map", str(k), study.netlist, study.parameters, self.template, self.pack])

@@ -14,6 +14,8 @@ change as a line, follows what changes, and prints each write. The library does 
 number of writes.
 """
 
+from __future__ import annotations
+
 import os
 import resource
 import subprocess
@@ -28,7 +30,7 @@ import designs
 import shared
 from tlutflow import tools
 from tlutflow.faults import Fault
-from tlutflow.pack import read_pack
+from tlutflow.pack import Pack, read_pack
 from tlutflow.text import write_text
 
 CHANGES = 10_000
@@ -102,7 +104,7 @@ int main(int argc, char **argv) {
 """
 
 
-def reach(pack):
+def reach(pack: Pack) -> list[tuple[list[int], list[int]]]:
     """For each parameter the nodes and the bits that it reaches, in order."""
     count = len(pack.parameters)
     read = [0, *(1 << place for place in range(count))]
@@ -115,7 +117,7 @@ def reach(pack):
     return found
 
 
-def drawn(count):
+def drawn(count: int) -> list[int]:
     """The parameter that each change turns: a linear congruence, the high digits of it."""
     state, found = 1, []
     for _ in range(CHANGES):
@@ -124,12 +126,12 @@ def drawn(count):
     return found
 
 
-def used():
+def used() -> float:
     took = resource.getrusage(resource.RUSAGE_CHILDREN)
     return took.ru_utime + took.ru_stime
 
 
-def timed(words, room):
+def timed(words: list[str], room: str) -> tuple[float, str]:
     """The least processor time of some runs of a command, and what the last one printed."""
     took = []
     for _ in range(RUNS):
@@ -139,7 +141,7 @@ def timed(words, room):
     return min(took), ran.stdout
 
 
-def by_loop(pack, turned, room):
+def by_loop(pack: Pack, turned: list[int], room: str) -> tuple[int, float, float]:
     """The writes and the seconds a change by the loop in C."""
     parts = reach(pack)
     with open(f"{room}/pack.txt", "w", encoding="ascii") as file:
@@ -151,11 +153,11 @@ def by_loop(pack, turned, room):
     write_text(f"{room}/loop.c", LOOP)
     subprocess.run(["cc", "-O2", "-o", f"{room}/loop", f"{room}/loop.c"], check=True)
     found = [subprocess.run([f"{room}/loop", f"{room}/pack.txt"], capture_output=True, text=True, check=True).stdout.split() for _ in range(RUNS)]
-    nodes = sum(len(it[0]) for it in parts) / len(parts)
-    return int(found[0][0]), min(float(it[1]) for it in found), nodes
+    reached = sum(len(it[0]) for it in parts) / len(parts)
+    return int(found[0][0]), min(float(it[1]) for it in found), reached
 
 
-def by_bits(pack, turned, room):
+def by_bits(pack: Pack, turned: list[int], room: str) -> tuple[int, float]:
     """The writes and the seconds a change by `tlut bits`."""
     names, values, lines = list(pack.parameters), list(pack.parameters.values()), []
     for place in turned:
@@ -169,7 +171,7 @@ def by_bits(pack, turned, room):
     return sum(int(line.split()[1]) for line in printed.splitlines()[1:]), (some - none) / len(turned)
 
 
-def by_library(turned, room):
+def by_library(turned: list[int], room: str) -> tuple[int, float]:
     """The writes and the seconds a change by the library."""
     write_text(f"{room}/host.c", HOST)
     write_text(f"{room}/turned.txt", " ".join(map(str, [len(turned), *turned])))
@@ -180,7 +182,7 @@ def by_library(turned, room):
     return int(found[0][0]), min(float(it[1]) for it in found)
 
 
-def main():
+def main() -> None:
     parser = shared.words(__doc__)
     parser.add_argument("netlist", metavar="NETLIST", nargs="?", help="a netlist (default: the filter)")
     parser.add_argument("params", metavar="PARAMS", nargs="?", help="its parameter list")

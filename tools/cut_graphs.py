@@ -6,16 +6,19 @@
 The first is an array multiplier, the second a Benes network whose switches are parameters. The first line has the numbers of sources
 and of AND nodes; then come a 0 or 1 for each source (1: a parameter) and two literals for each AND node.
 """
+
+from __future__ import annotations
+
 import shared
 
 
 class Graph:
-    def __init__(self, kinds):
+    def __init__(self, kinds: list[int]) -> None:
         self.kinds = kinds
-        self.pairs = []
-        self.places = {}
+        self.pairs: list[tuple[int, int]] = []
+        self.places: dict[tuple[int, int], int] = {}
 
-    def conjunction(self, a, b):
+    def conjunction(self, a: int, b: int) -> int:
         a, b = min(a, b), max(a, b)
         if a == 0 or a ^ b == 1:
             return 0
@@ -26,17 +29,17 @@ class Graph:
             self.pairs.append((a, b))
         return 2 * (1 + len(self.kinds) + self.places[a, b])
 
-    def choice(self, bit, no, yes):
+    def choice(self, bit: int, no: int, yes: int) -> int:
         return self.conjunction(self.conjunction(bit, yes) ^ 1, self.conjunction(bit ^ 1, no) ^ 1) ^ 1
 
-    def write(self):
+    def write(self) -> None:
         print(len(self.kinds), len(self.pairs))
         print(*self.kinds)
         for a, b in self.pairs:
             print(a, b)
 
 
-def full_adder(graph, a, b, c):
+def full_adder(graph: Graph, a: int, b: int, c: int) -> tuple[int, int]:
     both = graph.conjunction(a, b)
     none = graph.conjunction(a ^ 1, b ^ 1)
     odd = graph.conjunction(both ^ 1, none ^ 1)
@@ -45,9 +48,12 @@ def full_adder(graph, a, b, c):
     return graph.conjunction(carried ^ 1, even ^ 1), graph.conjunction(both ^ 1, carried ^ 1) ^ 1
 
 
-def multiplier(size):
+def multiplier(size: int) -> Graph:
     graph = Graph([0] * (2 * size))
-    product = lambda i, j: graph.conjunction(2 * (1 + i), 2 * (1 + size + j))
+
+    def product(i: int, j: int) -> int:
+        return graph.conjunction(2 * (1 + i), 2 * (1 + size + j))
+
     row = [product(i, 0) for i in range(size)] + [0]
     for j in range(1, size):
         carry, sums = 0, []
@@ -58,16 +64,16 @@ def multiplier(size):
     return graph
 
 
-def benes(size):
+def benes(size: int) -> Graph:
     switches = (size // 2) * (2 * (size.bit_length() - 1) - 1)
     graph = Graph([0] * size + [1] * switches)
     bits = iter(range(2 * (1 + size), 2 * (1 + size + switches), 2))
 
-    def switch(a, b):
+    def switch(a: int, b: int) -> tuple[int, int]:
         bit = next(bits)
         return graph.choice(bit, a, b), graph.choice(bit, b, a)
 
-    def route(lines):
+    def route(lines: list[int]) -> list[int]:
         if len(lines) == 2:
             return list(switch(*lines))
         first = [switch(a, b) for a, b in zip(lines[::2], lines[1::2])]
@@ -78,7 +84,7 @@ def benes(size):
     return graph
 
 
-def main():
+def main() -> None:
     kinds = {"multiplier": multiplier, "benes": benes}
     parser = shared.words(__doc__)
     parser.add_argument("kind", metavar="KIND", choices=kinds, help=", ".join(kinds))

@@ -12,12 +12,16 @@ Outside the gate. The multiplier has two factors of 16 bits and no parameters. T
 parameters. The coder takes 8 bits a cycle into a remainder of 32 bits, whose polynomial is the parameters. The Benes network has 16
 lines, and its 56 switches are the parameters. Each is written as covers of two or three inputs.
 """
+
+from __future__ import annotations
+
 import os
 import re
 import resource
 import subprocess
 import sys
 import tempfile
+from typing import Callable, Optional
 
 TOP = os.path.dirname(os.path.dirname(os.path.abspath(__file__)))
 sys.path.insert(0, TOP)
@@ -44,25 +48,29 @@ CHOICE = ["01- 1", "1-1 1"]
 class Netlist:
     """The lines of a model, and its parameters."""
 
-    def __init__(self, name):
-        self.name, self.inputs, self.params, self.outputs = name, [], [], []
-        self.latches, self.covers = [], []
+    def __init__(self, name: str) -> None:
+        self.name = name
+        self.inputs: list[str] = []
+        self.params: list[str] = []
+        self.outputs: list[str] = []
+        self.latches: list[tuple[str, str]] = []
+        self.covers: list[tuple[tuple[str, ...], str, list[str]]] = []
 
-    def more(self, names, prefix, count):
+    def more(self, names: list[str], prefix: str, count: int) -> list[str]:
         added = [f"{prefix}{i}" for i in range(count)]
         names.extend(added)
         return added
 
-    def cover(self, rows, *nets):
+    def cover(self, rows: list[str], *nets: str) -> str:
         net = f"n{len(self.covers)}"
         self.covers.append((nets, net, rows))
         return net
 
-    def output(self, name, net):
+    def output(self, name: str, net: str) -> None:
         self.outputs.append(name)
         self.covers.append(((net,), name, ["1 1"]))
 
-    def text(self):
+    def text(self) -> str:
         lines = [f".model {self.name}", ".inputs " + " ".join(self.inputs + self.params), ".outputs " + " ".join(self.outputs)]
         lines += [f".latch {d} {q} 0" for d, q in self.latches]
         for nets, net, rows in self.covers:
@@ -70,35 +78,37 @@ class Netlist:
         return "\n".join([*lines, ".end", ""])
 
 
-def full_add(netlist, a, b, c):
+def full_add(netlist: Netlist, a: Optional[str], b: Optional[str], c: Optional[str]) -> tuple[Optional[str], Optional[str]]:
     """The sum and the carry of three nets, of which some may be none."""
     nets = [net for net in (a, b, c) if net]
     if len(nets) < 2:
-        return (nets or [None])[0], None
+        return nets[0] if nets else None, None
     if len(nets) == 2:
         return netlist.cover(XOR, *nets), netlist.cover(AND, *nets)
     return netlist.cover(XOR3, *nets), netlist.cover(MAJORITY, *nets)
 
 
-def add(netlist, a, b):
+def add(netlist: Netlist, a: list[str], b: list[str]) -> list[str]:
     """The sum of two numbers, lowest bit first."""
-    carry, total = None, []
+    carry: Optional[str] = None
+    total: list[str] = []
     for i in range(max(len(a), len(b))):
         bit, carry = full_add(netlist, a[i] if i < len(a) else None, b[i] if i < len(b) else None, carry)
+        assert bit
         total.append(bit)
     return total + ([carry] if carry else [])
 
 
-def product(netlist, a, b):
+def product(netlist: Netlist, a: list[str], b: list[str]) -> list[str]:
     """The product of two numbers, one row of an array after another."""
-    total = []
+    total: list[str] = []
     for j, bit in enumerate(b):
         row = [netlist.cover(AND, net, bit) for net in a]
         total = total[:j] + add(netlist, total[j:], row)
     return total
 
 
-def multiplier(size=16):
+def multiplier(size: int = 16) -> Netlist:
     netlist = Netlist("multiplier")
     a, b = netlist.more(netlist.inputs, "a", size), netlist.more(netlist.inputs, "b", size)
     for i, net in enumerate(product(netlist, a, b)):
@@ -106,10 +116,10 @@ def multiplier(size=16):
     return netlist
 
 
-def filter_of(taps=8, width=8):
+def filter_of(taps: int = 8, width: int = 8) -> Netlist:
     netlist = Netlist("filter")
     sample = netlist.more(netlist.inputs, "x", width)
-    total = []
+    total: list[str] = []
     for tap in range(taps):
         coefficient = netlist.more(netlist.params, f"c{tap}_", width)
         total = add(netlist, total, product(netlist, sample, coefficient))
@@ -122,7 +132,7 @@ def filter_of(taps=8, width=8):
     return netlist
 
 
-def coder(width=32, bits=8):
+def coder(width: int = 32, bits: int = 8) -> Netlist:
     netlist = Netlist("coder")
     data = netlist.more(netlist.inputs, "d", bits)
     polynomial = netlist.more(netlist.params, "g", width)
@@ -137,15 +147,15 @@ def coder(width=32, bits=8):
     return netlist
 
 
-def benes(size=16):
+def benes(size: int = 16) -> Netlist:
     netlist = Netlist("benes")
     lines = netlist.more(netlist.inputs, "x", size)
 
-    def switch(a, b):
+    def switch(a: str, b: str) -> tuple[str, str]:
         bit = netlist.more(netlist.params, f"w{len(netlist.params)}_", 1)[0]
         return netlist.cover(CHOICE, bit, a, b), netlist.cover(CHOICE, bit, b, a)
 
-    def route(nets):
+    def route(nets: list[str]) -> list[str]:
         if len(nets) == 2:
             return list(switch(*nets))
         pairs = [switch(a, b) for a, b in zip(nets[::2], nets[1::2])]
@@ -157,7 +167,7 @@ def benes(size=16):
     return netlist
 
 
-DESIGNS = {"multiplier": multiplier, "filter": filter_of, "coder": coder, "benes": benes}
+DESIGNS: dict[str, Callable[[], Netlist]] = {"multiplier": multiplier, "filter": filter_of, "coder": coder, "benes": benes}
 LISTED = {
     "fir (example)": ("fir/fir.blif", "fir/fir.par"),
     "matcher (example)": ("matcher/matcher.blif", "matcher/matcher.par"),
@@ -166,7 +176,7 @@ LISTED = {
 }
 
 
-def write(room):
+def write(room: str) -> dict[str, list[str]]:
     """Writes the designs, and answers the files of each, those of the examples first."""
     files = {name: [f"{EXAMPLES}/{file}" for file in pair] for name, pair in LISTED.items()}
     for name, make in DESIGNS.items():
@@ -178,9 +188,9 @@ def write(room):
     return files
 
 
-def stages(program, k, files, times=RUNS):
+def stages(program: str, k: int, files: list[str], times: int = RUNS) -> dict[str, tuple[str, int]]:
     """The counts of each stage, and the least of its times in some runs, in microseconds."""
-    least = {}
+    least: dict[str, tuple[str, int]] = {}
     for _ in range(times):
         words = [program, "stages", str(k), *files, str(EVENTS), str(EVENTS)]
         ran = subprocess.run(words, capture_output=True, text=True, check=True)
@@ -192,17 +202,17 @@ def stages(program, k, files, times=RUNS):
     return least
 
 
-def used():
+def used() -> float:
     """The processor time of all processes that were started and have ended, in microseconds."""
     times = resource.getrusage(resource.RUSAGE_CHILDREN)
     return 1e6 * (times.ru_utime + times.ru_stime)
 
 
-def abc_time(abc, k, file, room):
+def abc_time(abc: str, k: int, file: str, room: str) -> tuple[float, str]:
     """The processor time of a mapping by ABC, as the least mean of many in one call, and what it prints before and after one."""
     graph = f"{room}/graph.aig"
 
-    def run(commands):
+    def run(commands: str) -> tuple[float, str]:
         before = used()
         ran = subprocess.run([abc, "-q", commands], capture_output=True, text=True, check=True)
         return used() - before, ran.stdout
@@ -214,7 +224,7 @@ def abc_time(abc, k, file, room):
     return max(0, with_it - without) / ABC_TIMES, " / ".join(lines)
 
 
-def show(program, k):
+def show(program: str, k: int) -> None:
     """Prints what came of each stage, and then a table of all times in milliseconds."""
     abc = tools.find(tools.ABC)
     rows = [["Netlist", *STAGES, "ABC"], ["---"] * (len(STAGES) + 2)]
@@ -234,7 +244,7 @@ def show(program, k):
         print("| " + " | ".join(row) + " |")
 
 
-def compare(programs):
+def compare(programs: list[str]) -> None:
     """Prints how long each program takes for the cuts, run in turn, and ABC for its mapping, in milliseconds."""
     abc = tools.find(tools.ABC)
     with tempfile.TemporaryDirectory() as room:
@@ -247,14 +257,14 @@ def compare(programs):
                 print("| " + " | ".join(row) + " |", flush=True)
 
 
-def main():
+def main() -> None:
     parser = shared.words(__doc__)
     kinds = parser.add_subparsers(dest="word", metavar="write|time|cuts", required=True, help="what is done")
     kinds.add_parser("write").add_argument("room", metavar="ROOM", help="the folder of the netlists")
     timed = kinds.add_parser("time")
-    timed.add_argument("program", metavar="PROGRAM", nargs="?", type=os.path.abspath, default=shared.MEASURED, help="a built bench_mapping")
+    timed.add_argument("program", metavar="PROGRAM", nargs="?", type=shared.path_of, default=shared.MEASURED, help="a built bench_mapping")
     timed.add_argument("k", metavar="K", nargs="?", type=int, choices=range(2, 7), default=4, help="the inputs of a LUT (default: 4)")
-    kinds.add_parser("cuts").add_argument("programs", metavar="PROGRAM", nargs="+", type=os.path.abspath, help="a built bench_mapping")
+    kinds.add_parser("cuts").add_argument("programs", metavar="PROGRAM", nargs="+", type=shared.path_of, help="a built bench_mapping")
     given = parser.parse_args()
     if given.word == "write":
         os.makedirs(given.room, exist_ok=True)

@@ -12,12 +12,15 @@ in a text that an example only expects.
 The last line says how many commands and blocks there were, and the exit status is 0 if all are as shown.
 """
 
+from __future__ import annotations
+
 import os
 import re
 import shutil
 import subprocess
 import sys
 import tempfile
+from typing import Iterator, Optional
 
 import shared
 from shared import TOP
@@ -36,7 +39,7 @@ TOOLS = [
 BLOCK = re.compile(r"^```(\w*)\n(.*?)^```$", re.MULTILINE | re.DOTALL)
 
 
-def blocks_of(page):
+def blocks_of(page: str) -> Iterator[tuple[int, str, list[str]]]:
     """The blocks of a page: the number of the first line, the kind, and the lines."""
     with open(f"{TOP}/{page}", encoding="utf-8") as file:
         text = file.read()
@@ -44,7 +47,7 @@ def blocks_of(page):
         yield text.count("\n", 0, found.start()) + 1, found[1], found[2].splitlines()
 
 
-def texts_in(folder):
+def texts_in(folder: str) -> Iterator[list[str]]:
     """The lines of each file in a folder and below it that is text, and is no expected text of an example."""
     for at, _, names in os.walk(folder):
         for name in names:
@@ -57,12 +60,12 @@ def texts_in(folder):
                 pass
 
 
-def stands_in(block, lines):
+def stands_in(block: list[str], lines: list[str]) -> bool:
     """Whether the lines of a block are consecutive lines of these."""
     return any(lines[i : i + len(block)] == block for i in range(len(lines) - len(block) + 1))
 
 
-def missing_tool(lines):
+def missing_tool(lines: list[str]) -> Optional[str]:
     """The first tool that some lines call for and that isn't there, or None."""
     for part, names in TOOLS:
         if any(part in line for line in lines) and not any(shutil.which(name) for name in names):
@@ -73,30 +76,31 @@ def missing_tool(lines):
 class Page:
     """A page while its blocks are looked at: the folder where its commands run, and what the last of them printed, if there was one."""
 
-    def __init__(self, name, folder):
-        self.name, self.folder, self.printed, self.failed = name, folder, None, 0
+    def __init__(self, name: str, folder: str) -> None:
+        self.name, self.folder, self.failed = name, folder, 0
+        self.printed: Optional[list[str]] = None
         os.symlink(f"{TOP}/examples", f"{folder}/examples")
         for program in ("tlut", "flow"):
             with open(f"{folder}/{program}", "w", encoding="utf-8") as file:
                 file.write(f'#!/bin/sh\nexec "{TOP}/{program}" "$@"\n')
             os.chmod(f"{folder}/{program}", 0o755)
 
-    def say(self, line, what):
+    def say(self, line: int, what: str) -> None:
         print(f"{self.name}:{line}: {what}")
         self.failed += 1
 
-    def run(self, line, commands):
+    def run(self, line: int, commands: list[str]) -> None:
         ran = subprocess.run(["bash", "-e"], input="\n".join(commands), cwd=self.folder, capture_output=True, text=True)
         self.printed = ran.stdout.splitlines()
         if ran.returncode:
             self.say(line, f"the command ended with status {ran.returncode}: {ran.stderr[-300:]}")
 
-    def is_shown(self, block):
+    def is_shown(self, block: list[str]) -> bool:
         places = [self.printed or [], *texts_in(self.folder), *texts_in(f"{TOP}/examples/")]
         return any(stands_in(block, lines) for lines in places)
 
 
-def look_at(name, page):
+def look_at(name: str, page: Page) -> tuple[int, int]:
     """Runs the commands of a page and looks for its blocks. Returns how many commands and blocks there were."""
     commands = blocks = 0
     missing = None
@@ -115,7 +119,7 @@ def look_at(name, page):
     return commands, blocks
 
 
-def main():
+def main() -> int:
     shared.words(__doc__).parse_args()
     pages = ["README.md", *sorted(f"docs/{name}" for name in os.listdir(f"{TOP}/docs") if name.endswith(".md"))]
     commands = blocks = failed = 0

@@ -18,11 +18,14 @@ It checks that
 The last line is `N facts, M wrong`, and the exit status is 1 if M isn't 0.
 """
 
+from __future__ import annotations
+
 import functools
 import glob
 import os
 import re
 import sys
+from typing import Iterable, Iterator, Optional
 
 import shared
 from shared import TOP
@@ -38,26 +41,33 @@ PROMISES = ("docs/theorems.md", "docs/calls.md")
 COMMANDS = {"run", "spec", "map", "bits", "gen", "repack", "prove", "audit", "graph", "pace"}
 
 
-def read(path):
+def read(path: str) -> str:
     with open(f"{TOP}/{path}", encoding="utf-8") as file:
         return file.read()
 
 
-def code_files(*kinds):
+def place_of(pattern: str, text: str, flags: int = 0) -> re.Match[str]:
+    """Where a text has a pattern first; it must have it."""
+    found = re.search(pattern, text, flags)
+    assert found, pattern
+    return found
+
+
+def code_files(*kinds: str) -> Iterator[str]:
     """The paths of all files of these kinds in the crates."""
     for at, folders, names in os.walk(f"{TOP}/crates"):
         folders[:] = [name for name in folders if name != "out"]
         yield from (f"{at}/{name}" for name in names if name.endswith(kinds))
 
 
-def number_of(word):
+def number_of(word: str) -> Optional[int]:
     """The number that a word writes, or None."""
     if word.lower() in NUMBERS:
         return NUMBERS.index(word.lower()) + 1
     return int(word.replace(",", "")) if re.fullmatch(r"\d[\d,]*", word) else None
 
 
-def written_like(word, number):
+def written_like(word: str, number: int) -> str:
     """The number, as the word wrote its own."""
     if not word[0].isdigit() and number <= len(NUMBERS):
         return NUMBERS[number - 1]
@@ -67,7 +77,7 @@ def written_like(word, number):
 class Tree:
     """What the repository has: its crates and their sizes, the words of its code, its clauses and its calls."""
 
-    def __init__(self):
+    def __init__(self) -> None:
         lines = [line for line in read("crates.txt").splitlines() if line.strip() and not line.startswith("#")]
         self.crates = [line.split(":")[0].split()[0] for line in lines]
         self.sizes = {name: self.sizes_of(name) for name in self.crates}
@@ -87,13 +97,12 @@ class Tree:
         self.tests = len(re.findall(r"#\[test\]", whole))
         self.fields = set(re.findall(r"^ *(\w+) :", whole, re.MULTILINE))
         self.contracts = {name: contracts_of(text) for name, text in self.code.items()}
-        usage = re.search(r"usage: (.*?)`", read("docs/formats.md"))[1]
-        self.commands = usage.split(", ")
+        self.commands = place_of(r"usage: (.*?)`", read("docs/formats.md"))[1].split(", ")
         self.wide = list(wide_functions(self))
         self.calls = list(self.public_calls())
 
     @staticmethod
-    def sizes_of(name):
+    def sizes_of(name: str) -> tuple[int, ...]:
         """The lines of source, definitions and proofs, and the wrong bodies in the gate and on demand."""
         sizes = []
         for folder, kind in (("src", ".rt"), ("specs", ".antt"), ("proofs", ".antt")):
@@ -103,18 +112,18 @@ class Tree:
         return (*sizes, *edits)
 
     @staticmethod
-    def text_of(name):
+    def text_of(name: str) -> str:
         """All code, definitions and proofs of a crate."""
         paths = [it for kind in ("rt", "antt") for it in sorted(glob.glob(f"{TOP}/crates/{name}/**/*.{kind}", recursive=True))]
         return "\n".join(open(path, encoding="utf-8").read() for path in paths if "/out/" not in path)
 
-    def sum(self, place, names=None):
+    def sum(self, place: int, names: Optional[set[str]] = None) -> int:
         return sum(sizes[place] for name, sizes in self.sizes.items() if names is None or name in names)
 
-    def with_edits(self, place):
+    def with_edits(self, place: int) -> int:
         return sum(1 for sizes in self.sizes.values() if sizes[place])
 
-    def public_calls(self):
+    def public_calls(self) -> Iterator[tuple[str, str]]:
         """The public functions of each library, and those of its public types, as `crate` and `name` or `Type::name`."""
         for crate in self.crates:
             if crate in TESTS:
@@ -130,13 +139,13 @@ class Tree:
 
 
 @functools.lru_cache(maxsize=None)
-def is_there(pattern):
+def is_there(pattern: str) -> bool:
     """Whether some path is of this pattern."""
     return bool(glob.glob(pattern, recursive=True))
 
 
 @functools.lru_cache(maxsize=None)
-def words_of(path):
+def words_of(path: str) -> set[str]:
     """The words of a file of the crates, without those of the names that it takes from other files."""
     words = set()
     for found in glob.glob(f"{TOP}/crates/{path}") or glob.glob(f"{TOP}/crates/*/{path}"):
@@ -145,15 +154,15 @@ def words_of(path):
     return words
 
 
-def contracts_of(text):
+def contracts_of(text: str) -> dict[str, set[str]]:
     """The names of the clauses of each function that a crate declares."""
-    found = {}
+    found: dict[str, set[str]] = {}
     for head in re.finditer(r"^ *(?:pub )?(?:extern \"C\" )?fn (\w+)((?:.|\n)*?)^ *(?:\{|\}|pub fn |fn |///)", text, re.MULTILINE):
         found.setdefault(head[1], set()).update(re.findall(r"\bensures (\w+)", head[2]))
     return found
 
 
-def declared(text):
+def declared(text: str) -> Iterator[tuple[Optional[str], str, bool]]:
     """The functions that a file of code declares: each with its type or trait, if it has one, and whether others see it."""
     owner, is_trait = None, False
     for line in text.splitlines():
@@ -171,19 +180,19 @@ def declared(text):
             yield owner, own[2], own[1] is not None or is_trait
 
 
-def members_of(text):
+def members_of(text: str) -> set[str]:
     """The functions of types and traits, as `Type::name`."""
     return {f"{owner}::{name}" for owner, name, _ in declared(text) if owner}
 
 
-def calls_of(text, public):
+def calls_of(text: str, public: set[str]) -> Iterator[str]:
     """The public calls that a file of code declares, if these names are public."""
     for owner, name, is_seen in declared(text):
         if is_seen and (owner or name) in public:
             yield f"{owner}::{name}" if owner else name
 
 
-def wide_functions(tree):
+def wide_functions(tree: Tree) -> Iterator[tuple[str, str]]:
     """The functions with more than six arguments, each with its crate."""
     for crate in tree.crates:
         for path in glob.glob(f"{TOP}/crates/{crate}/src/**/*.rt", recursive=True):
@@ -194,7 +203,7 @@ def wide_functions(tree):
                     yield crate, found[1]
 
 
-def arguments_after(text, at):
+def arguments_after(text: str, at: int) -> int:
     """How many arguments a list has that begins there, after its parenthesis."""
     depth, count, is_empty = 0, 0, True
     for place in range(at, len(text)):
@@ -214,7 +223,7 @@ def arguments_after(text, at):
 
 
 @functools.lru_cache(maxsize=None)
-def anchors_of(text):
+def anchors_of(text: str) -> set[str]:
     """The names by which links reach the headings of a page."""
     names = set()
     for line in re.sub(r"^```.*?^```$", "", text, flags=re.MULTILINE | re.DOTALL).splitlines():
@@ -225,7 +234,7 @@ def anchors_of(text):
     return names
 
 
-def entries_of(text):
+def entries_of(text: str) -> Iterator[str]:
     """The calls that a page names in backticks. In a cell of a table a name that follows `Type::name` may be of the same type."""
     for cell in re.split(r"[|\n]", text):
         owner = None
@@ -239,15 +248,16 @@ def entries_of(text):
 class Checks:
     """The facts that were looked at, and those that are wrong."""
 
-    def __init__(self, texts, tree):
-        self.texts, self.tree, self.facts, self.wrong = texts, tree, 0, []
+    def __init__(self, texts: dict[str, str], tree: Tree) -> None:
+        self.texts, self.tree, self.facts = texts, tree, 0
+        self.wrong: list[str] = []
 
-    def ask(self, is_right, page, line, what):
+    def ask(self, is_right: bool, page: str, line: int, what: str) -> None:
         self.facts += 1
         if not is_right:
             self.wrong.append(f"{page}:{line}: {what}")
 
-    def prose(self, page):
+    def prose(self, page: str) -> Iterator[tuple[int, str]]:
         """The lines of a page outside its blocks, by their numbers."""
         is_block = False
         for number, line in enumerate(self.texts[page].splitlines(), 1):
@@ -256,7 +266,7 @@ class Checks:
             elif not is_block:
                 yield number, line
 
-    def links(self, page):
+    def links(self, page: str) -> None:
         for number, line in self.prose(page):
             for target in re.findall(r"\]\(([^)\s]+)\)", line):
                 if re.match(r"[a-z]+:", target):
@@ -268,7 +278,7 @@ class Checks:
                     text = self.texts.get(at) or read(at)
                     self.ask(anchor in anchors_of(text), page, number, f"no heading #{anchor} in {at}")
 
-    def names(self, page):
+    def names(self, page: str) -> None:
         for number, line in self.prose(page):
             crates = [name for name in re.findall(r"`(\w+)", line) if name in self.tree.crates]
             for name in re.findall(r"`([^`]+)`", line):
@@ -279,14 +289,14 @@ class Checks:
                     is_there = name in self.tree.members if is_member else set(re.findall(r"\w+", name)) <= self.tree.words
                     self.ask(is_there, page, number, f"no `{name}` in the code")
 
-    def places(self, page):
+    def places(self, page: str) -> None:
         """Each name that the page says to be of a file."""
         for number, line in self.prose(page):
             for names, path in re.findall(r"((?:`\w+`(?:, | and ))*`\w+`) of `([\w/]+\.(?:antt|rt))`", line):
                 for name in re.findall(r"`(\w+)`", names):
                     self.ask(name in words_of(path), page, number, f"no `{name}` in {path}")
 
-    def is_path(self, name):
+    def is_path(self, name: str) -> bool:
         """Whether a name in backticks is meant as a path of the repository."""
         if name.startswith("..") or "/out/" in name or re.search(r"[ =<>|(){}$'\"]", name) or re.search(r"\b(NAME|SUBJECT)\b", name) or "//" in name:
             return False
@@ -294,19 +304,19 @@ class Checks:
         tops = {"crates", "docs", "tools", "examples", "tlutflow", ".ci", "specs", "src", "proofs"}
         return "/" in name and (first in tops or first in self.tree.crates) or name.endswith((".antt", ".rt"))
 
-    def has_path(self, name, crates):
+    def has_path(self, name: str, crates: list[str]) -> bool:
         """Whether the tree has the path: from the top, from crates/, in a crate that the line names, or in any crate."""
         places = ["", "crates/", *(f"crates/{crate}/" for crate in crates), "crates/*/", "crates/*/**/"]
         return any(is_there(f"{TOP}/{place}{name.rstrip('/')}") for place in places)
 
     @staticmethod
-    def is_item(name):
+    def is_item(name: str) -> bool:
         """Whether a name in backticks is meant as an item of the code."""
         if not re.fullmatch(r"\w+(::\w+)*", name):
             return False
         return "::" in name or "_" in name or re.search(r"[a-z][A-Z]", name) is not None
 
-    def clauses(self, page):
+    def clauses(self, page: str) -> None:
         """Each clause that a row of a page gives: of a call that the row names, or else of the section's crates."""
         section = []
         for number, line in self.prose(page):
@@ -321,7 +331,7 @@ class Checks:
                 if known and name not in COMMANDS and name not in self.tree.crates and not name[0].isupper():
                     self.ask(name in known or name in self.tree.fields, page, number, f"no clause `{name}` of {head.strip('| ')}")
 
-    def clauses_of(self, head, crates):
+    def clauses_of(self, head: str, crates: Iterable[str]) -> set[str]:
         """The clauses of the calls that the first cell of a row names, or else all clauses and calls of these crates."""
         calls = [name.split("::")[-1] for name in re.findall(r"`([\w:]+)`", head)]
         contracts = [self.tree.contracts[name] for name in crates]
@@ -330,30 +340,30 @@ class Checks:
             return own | set(calls)
         return set().union(*(it.keys() for it in contracts), *(names for it in contracts for names in it.values()))
 
-    def calls(self):
+    def calls(self) -> None:
         named = {name for page in PROMISES for name in entries_of(self.texts[page])}
         for crate, name in self.tree.calls:
             self.ask(name in named, "docs/calls.md", 1, f"no entry for `{name}` of {crate}")
 
-    def arguments(self):
+    def arguments(self) -> None:
         page = "docs/DECISIONS.md"
         lines = [(number, line) for number, line in self.prose(page) if "at most six arguments" in line]
         number, line = lines[0] if lines else (1, "")
         for crate, name in self.tree.wide:
             self.ask(f"`{name}`" in line and f"`{crate}`" in line, page, number, f"`{name}` of `{crate}` has more than six arguments")
 
-    def commands(self):
+    def commands(self) -> None:
         rows = re.findall(r"^\| `([a-z]+ [^`]+)` \|", self.texts["README.md"], re.MULTILINE)
         self.ask(rows == self.tree.commands, "README.md", 1, f"the commands are {self.tree.commands}")
         block = re.search(r"## Commands and arguments\n\n```\n(.*?)```", self.texts["docs/formats.md"], re.DOTALL)
-        self.ask(block and block[1].splitlines() == self.tree.commands, "docs/formats.md", 1, "the commands differ from the usage line")
+        self.ask(block is not None and block[1].splitlines() == self.tree.commands, "docs/formats.md", 1, "the commands differ from the usage line")
         listed = [line.strip() for line in read("tools/help.txt").splitlines() if line.strip() in self.tree.commands]
         self.ask(listed == self.tree.commands, "tools/help.txt", 1, "the commands differ from the usage line")
         code = self.tree.code["tlut_cli"]
         for command in self.tree.commands:
             self.ask(command in code, "docs/formats.md", 1, f"`{command}` isn't in the code of tlut_cli")
 
-    def counts(self):
+    def counts(self) -> None:
         for page, pattern, values in counts(self.tree):
             found = re.search(pattern, self.texts[page])
             self.ask(found is not None, page, 1, f"no text of the form {pattern}")
@@ -366,12 +376,12 @@ class Checks:
         self.ask(set(crate_rows(self.texts["docs/testing.md"])) == {*self.tree.crates, "all"}, "docs/testing.md", 1, "the table of crates has others")
         self.crate_lists()
 
-    def cells(self, crate):
+    def cells(self, crate: str) -> list[str]:
         """What the row of a crate in testing.md must begin with; `all` is their sum."""
         sizes = self.tree.sizes.get(crate) or [self.tree.sum(place) for place in range(5)]
         return [f"{number:,}" for number in sizes[:3]] + [str(number) if number else "" for number in sizes[3:]]
 
-    def crate_lists(self):
+    def crate_lists(self) -> None:
         """That architecture.md has a row for each crate, and testing.md one for each crate with wrong bodies in the gate."""
         rows = re.findall(r"^\| ((?:`\w+`(?:, )?)+) \|", self.texts["docs/architecture.md"], re.MULTILINE)
         listed = [name for row in rows for name in re.findall(r"`(\w+)`", row)]
@@ -382,7 +392,7 @@ class Checks:
         wanted = [name for name in self.tree.crates if self.tree.sizes[name][3]]
         self.ask(sorted(listed) == sorted(wanted), "docs/testing.md", 1, f"the gate has wrong bodies of {wanted}")
 
-    def all(self):
+    def all(self) -> list[str]:
         for page in self.texts:
             self.links(page)
             self.names(page)
@@ -396,14 +406,14 @@ class Checks:
         return self.wrong
 
 
-def counts(tree):
+def counts(tree: Tree) -> list[tuple[str, str, list[int]]]:
     """Where a page states a count: the page, a pattern, and what each of its groups must be."""
     lines = [tree.sum(place) for place in range(3)]
     players = tree.sum(0, {"test_player", "test_rows"})
     tests = tree.sum(0, {"test_player", "test_rows", "test_texts"})
     commands = len(tree.commands)
     families = sum(1 for name in tree.crates if name.startswith("cmd_") and name not in ("cmd_base", "cmd_stations"))
-    refused = len(re.search(r"CALLS = \[\n(.*?)^\]", read("tools/refused_memory.py"), re.MULTILINE | re.DOTALL)[1].splitlines())
+    refused = len(place_of(r"CALLS = \[\n(.*?)^\]", read("tools/refused_memory.py"), re.MULTILINE | re.DOTALL)[1].splitlines())
     page = "docs/testing.md"
     return [
         (page, r"\| crates \| (\d+) \|", [len(tree.crates)]),
@@ -423,12 +433,12 @@ def counts(tree):
 class Row:
     """A row of the table of crates: its line, its cells of counts, and all of it."""
 
-    def __init__(self, line, text):
+    def __init__(self, line: int, text: str) -> None:
         cells = [cell.strip() for cell in text.strip("|").split("|")]
         self.line, self.name, self.cells, self.rest = line, cells[0].strip("`"), cells[1:6], cells[6:]
 
 
-def crate_rows(text):
+def crate_rows(text: str) -> dict[str, Row]:
     """The rows of the table of crates in testing.md, by their crates."""
     before, _, section = text.partition("## Lines and minutes")
     start = before.count("\n") + 1
@@ -436,7 +446,7 @@ def crate_rows(text):
     return {row.name: row for row in rows}
 
 
-def update(tree):
+def update(tree: Tree) -> None:
     """Writes the counts into docs/testing.md."""
     page = "docs/testing.md"
     text = read(page)
@@ -453,7 +463,7 @@ def update(tree):
         file.write("\n".join(lines) + "\n")
 
 
-def filled(found, values):
+def filled(found: re.Match[str], values: list[int]) -> str:
     """A text with its groups replaced by these numbers."""
     text, shift = found[0], found.start()
     for place in range(len(values), 0, -1):
@@ -484,7 +494,7 @@ PLANTS = [
 ]
 
 
-def self_test(texts, tree):
+def self_test(texts: dict[str, str], tree: Tree) -> int:
     """Plants each wrong fact in a copy of the pages. Returns how many were not found."""
     missed = 0
     for page, old, new, what in PLANTS:
@@ -497,7 +507,7 @@ def self_test(texts, tree):
     return missed
 
 
-def main():
+def main() -> int:
     parser = shared.words(__doc__)
     one = parser.add_mutually_exclusive_group()
     one.add_argument("--update", action="store_true", help="write the counts into docs/testing.md first")

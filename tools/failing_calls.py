@@ -9,6 +9,9 @@ each N; and once more, if it writes, it takes half of the bytes and the next cal
 the complete call and from what failed, as docs/formats.md describes it. The last line is `N passed, M failed`, and the exit status is 1
 if M isn't 0.
 """
+
+from __future__ import annotations
+
 import os
 import subprocess
 import sys
@@ -107,7 +110,7 @@ FILES = {
 }
 
 # Each call with the files that it writes, in their order, and how many ports may fail.
-CALLS = [
+CALLS: list[tuple[str, list[str], int]] = [
     ("run 2 mux.blif mux.par mux.scr 0 0", [], 0),
     ("run 2 mux.blif mux.par mux.scr 1 0", [], 0),
     ("run 2 mux.blif mux.par mux.scr 2 1", [], 1),
@@ -131,7 +134,7 @@ CALLS = [
 class Left:
     """What a call leaves, how many calls it made, and what failed: `read`, `write` or `sync`, and a file, `out` or `err`."""
 
-    def __init__(self, program, shim, words, failing, is_half):
+    def __init__(self, program: str, shim: str, words: str, failing: int, is_half: bool) -> None:
         with tempfile.TemporaryDirectory() as folder:
             for name, content in FILES.items():
                 with open(f"{folder}/{name}", "wb") as file:
@@ -150,12 +153,12 @@ class Left:
             os.remove(told)
             self.count, self.kind, self.name = int(count), what[0], what[-1]
 
-    def ends(self, status, out, err):
+    def ends(self, status: int, out: bytes, err: bytes) -> bool:
         """Whether the call ended so."""
         return (self.status, self.out, self.err) == (status, out, err)
 
 
-def is_cut(left, whole, outputs, name):
+def is_cut(left: Left, whole: Left, outputs: list[str], name: str) -> bool:
     """Whether the files before one are whole, it has a prefix or is as before, and all others are as before."""
     at = outputs.index(name)
     for other, content in {**FILES, **left.files}.items():
@@ -172,12 +175,13 @@ def is_cut(left, whole, outputs, name):
     return True
 
 
-def image(files, names):
+def image(files: dict[str, bytes], names: list[str]) -> dict[bytes, bytes]:
     """The value written last at each address by these ports."""
-    return dict(line.split(b"=") for name in names for line in files.get(name, b"").splitlines())
+    written = (line.split(b"=") for name in names for line in files.get(name, b"").splitlines())
+    return {address: value for address, value in written}
 
 
-def has_ports(left, whole, spares):
+def has_ports(left: Left, whole: Left, spares: int) -> bool:
     """Whether a run continued after a port that failed, or ended when no spare was left."""
     ports = sorted(name for name in {**left.files, **whole.files} if name.startswith("port"))
     if not whole.files.get(left.name, left.files.get(left.name, b"")).startswith(left.files.get(left.name, b"")):
@@ -188,7 +192,7 @@ def has_ports(left, whole, spares):
     return left.ends(0, whole.out, b"") and image(left.files, serving) == image(whole.files, ports)
 
 
-def is_right(left, whole, outputs, spares):
+def is_right(left: Left, whole: Left, outputs: list[str], spares: int) -> bool:
     """Whether what is left is what has to be, after what failed."""
     if left.name == "err":
         return left.status == whole.status and whole.err.startswith(left.err) and left.out == whole.out and left.files == whole.files
@@ -205,7 +209,7 @@ def is_right(left, whole, outputs, spares):
     return has_ports(left, whole, spares)
 
 
-def try_call(program, shim, words, outputs, spares):
+def try_call(program: str, shim: str, words: str, outputs: list[str], spares: int) -> tuple[int, int]:
     """Fails each call of one command in turn. Returns how many runs left what they have to, and how many did not."""
     passed = failed = 0
     whole = Left(program, shim, words, 0, False)
@@ -216,12 +220,12 @@ def try_call(program, shim, words, outputs, spares):
                 passed += 1
             else:
                 failed += 1
-                print(f"{words}: call {failing}, {left.kind} {left.name}: {left.status} {left.out} {left.err} {left.files}")
+                print(f"{words}: call {failing}, {left.kind} {left.name}: {left.status} {left.out!r} {left.err!r} {left.files}")
     print(f"{os.path.basename(program)} {words}: {whole.count} calls, each of which failed")
     return passed, failed
 
 
-def main():
+def main() -> int:
     programs = shared.some_programs(__doc__, shared.PROGRAMS)
     if not shared.has_compiler():
         print("left out, since cc isn't there")

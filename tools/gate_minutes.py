@@ -15,6 +15,9 @@ The prover prints a line as each function is checked. What it used between two l
 file of lemmas counts for the first function that cites it, and the start, which reads the crates below, for none. Of a small crate it
 prints no such lines, and all counts for none.
 """
+
+from __future__ import annotations
+
 import os
 import re
 import signal
@@ -22,6 +25,7 @@ import subprocess
 import sys
 import tempfile
 import time
+from typing import Callable, Optional
 
 import shared
 
@@ -29,9 +33,13 @@ TOP = os.path.dirname(os.path.dirname(os.path.abspath(__file__)))
 KINDS = ("proof", "tests", "edits")
 TICKS = os.sysconf("SC_CLK_TCK")
 DEAREST = 20
+# By the number of a process and when it began: its parent, its CPU seconds, its arguments and its folder.
+Processes = dict[tuple[int, str], tuple[int, float, list[str], str]]
+# A crate and a kind of work.
+Kind = tuple[str, str]
 
 
-def processes():
+def processes() -> Processes:
     """The parent, the CPU seconds and the arguments of each process, by its number and when it began."""
     found = {}
     for name in os.listdir("/proc"):
@@ -49,11 +57,11 @@ def processes():
     return found
 
 
-def below(found, root):
+def below(found: Processes, root: int) -> Processes:
     """The processes that descend from one."""
     parents = {number: parent for (number, _), (parent, *_) in found.items()}
 
-    def descends(number):
+    def descends(number: int) -> bool:
         for _ in range(64):
             if number == root:
                 return True
@@ -65,7 +73,7 @@ def below(found, root):
     return {key: value for key, value in found.items() if key[0] != root and descends(key[0])}
 
 
-def kind_of(words, folder):
+def kind_of(words: list[str], folder: str) -> Optional[Kind]:
     """The crate and the kind of work, or none for what is not a check."""
     if "--crate-name" not in words:
         return None
@@ -75,9 +83,11 @@ def kind_of(words, folder):
     return name, "tests" if "--test" in words else "proof"
 
 
-def watch(root, is_running):
+def watch(root: int, is_running: Callable[[], bool]) -> tuple[dict[Kind, float], float, float]:
     """The seconds of each crate and kind until the run has ended."""
-    seen, kinds, started = {}, {}, time.monotonic()
+    seen: dict[tuple[int, str], float] = {}
+    kinds: dict[tuple[int, str], Optional[Kind]] = {}
+    started = time.monotonic()
     try:
         while is_running():
             for key, (_, seconds, words, folder) in below(processes(), root).items():
@@ -86,16 +96,18 @@ def watch(root, is_running):
             time.sleep(0.5)
     except KeyboardInterrupt:
         pass
-    totals, other = {}, 0
+    totals: dict[Kind, float] = {}
+    other = 0.0
     for key, seconds in seen.items():
-        if kinds[key]:
-            totals[kinds[key]] = totals.get(kinds[key], 0) + seconds
+        kind = kinds[key]
+        if kind:
+            totals[kind] = totals.get(kind, 0) + seconds
         else:
             other += seconds
     return totals, other, time.monotonic() - started
 
 
-def show(totals, other, wall):
+def show(totals: dict[Kind, float], other: float, wall: float) -> None:
     """Prints the table, the dearest crate first."""
     crates = sorted({name for name, _ in totals}, key=lambda name: -sum(totals.get((name, kind), 0) for kind in KINDS))
     print("| Crate | Proof | Tests | Edits | Together |\n|---|---|---|---|---|")
@@ -105,21 +117,21 @@ def show(totals, other, wall):
     print(f"other work: {other / 60:.1f} processor minutes; the run took {wall / 60:.0f} minutes")
 
 
-def crates_below():
+def crates_below() -> dict[str, list[str]]:
     """The crates that crates.txt names below each of this repository's, by its name."""
     with open(f"{TOP}/crates.txt", encoding="utf-8") as file:
         lines = [line.split(":") for line in file if ":" in line and not line.startswith("#")]
     return {name.split()[0]: names.split() for name, names in lines}
 
 
-def all_below(crates, name):
+def all_below(crates: dict[str, list[str]], name: str) -> list[str]:
     found = []
     for below in crates.get(name, []):
         found += [it for it in [*all_below(crates, below), below] if it not in found]
     return found
 
 
-def check_words(kit, crates, name, kept):
+def check_words(kit: str, crates: dict[str, list[str]], name: str, kept: str) -> list[str]:
     """The prover's call that checks a crate, one function after another, over the built crates below it."""
     root = "main" if os.path.isfile(f"{TOP}/crates/{name}/src/main.rt") else "lib"
     words = [f"{kit}/bin/rattle", "check", "--crate-name", name, f"src/{root}.rt", "--extern", f"std={kit}/rlibs/std.rlib"]
@@ -130,32 +142,33 @@ def check_words(kit, crates, name, kept):
     return [*words, "--logic-built", f"{kit}/logic_built", "--incremental", kept, "--jobs", "1"]
 
 
-def seconds_of(pid):
+def seconds_of(pid: int) -> float:
     """The processor seconds of a process and of those that it started and that have ended."""
     with open(f"/proc/{pid}/stat", encoding="utf-8", errors="replace") as file:
         return sum(map(int, file.read().rpartition(")")[2].split()[11:15])) / TICKS
 
 
-def functions(name):
+def functions(name: str) -> bool:
     """Proves a crate, and prints its dearest functions."""
     kit = os.path.dirname(subprocess.run(["rt", "doc"], capture_output=True, text=True, check=True).stdout.strip())
-    took, last, printed = {}, 0.0, ""
+    took: dict[str, float] = {}
+    last, printed = 0.0, ""
     with tempfile.TemporaryDirectory() as kept:
         words = check_words(kit, crates_below(), name, kept)
         with subprocess.Popen(words, cwd=f"{TOP}/crates/{name}", stdout=subprocess.PIPE, stderr=subprocess.STDOUT, text=True) as run:
-            for line in run.stdout:
+            for line in run.stdout or ():
                 now, printed = seconds_of(run.pid), line.strip()
                 found = re.match(r"checked (\S+), \d+ of \d+", line)
                 took[found[1] if found else ""] = took.get(found[1] if found else "", 0) + now - last
                 last = now
     rest = took.pop("", 0)
     print(f"{name}: {last:.0f} processor seconds, of which {rest:.0f} for its start and its verdict: {printed}")
-    for function in sorted(took, key=took.get, reverse=True)[:DEAREST]:
+    for function in sorted(took, key=lambda name: took[name], reverse=True)[:DEAREST]:
         print(f"{took[function]:8.1f} {function}")
     return printed.startswith("logic=proved")
 
 
-def main():
+def main() -> int:
     signal.signal(signal.SIGINT, signal.default_int_handler)
     parser = shared.words(__doc__)
     parser.add_argument("--pid", metavar="N", type=int, help="the process of a run that has begun")

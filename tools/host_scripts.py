@@ -9,6 +9,8 @@ Each pack is also played at a limited rate: what the ticks write after each ask 
 configurations, which `tlut bits` prints. The last line is `N passed, M failed`, and the exit status is 1 if M isn't 0.
 """
 
+from __future__ import annotations
+
 import os
 import random
 import subprocess
@@ -20,28 +22,29 @@ import shared
 
 sys.path.insert(0, shared.TOP)
 
-from pack_bytes import encode
+from pack_bytes import Pack, encode
 from tlutflow.host import Host, PacedHost
 from tlutflow.host_player import played
-from tlutflow.script import parse_script
+from tlutflow.script import Event, parse_script
 
 COUNT = 5_000
 SEED = 20_000
 
 
-def pack_of(chosen):
+def pack_of(chosen: random.Random) -> Pack:
     """A random pack: names and values of parameters, pairs of nodes, literals of bits."""
     parameters = [(b"p%d" % place, chosen.randint(0, 1)) for place in range(chosen.randint(0, 12))]
-    first, pairs = 1 + len(parameters), []
+    first = 1 + len(parameters)
+    pairs: list[tuple[int, int]] = []
     for index in range(first, first + chosen.randint(0, 60)):
-        pair = tuple(sorted(chosen.randrange(2, 2 * index) for _ in range(2))) if index > 2 else (0, 0)
-        if pair[0] // 2 == pair[1] // 2 or pair in pairs:
+        low, high = sorted(chosen.randrange(2, 2 * index) for _ in range(2)) if index > 2 else (0, 0)
+        if low // 2 == high // 2 or (low, high) in pairs:
             break
-        pairs.append(pair)
+        pairs.append((low, high))
     return parameters, pairs, [chosen.randrange(2 * (first + len(pairs))) for _ in range(chosen.randint(0, 80))]
 
 
-def event_of(parameters, bits, chosen):
+def event_of(parameters: list[tuple[bytes, int]], bits: list[int], chosen: random.Random) -> str:
     """A random line of a script."""
     word = chosen.choice(("set", "set", "set", "set", "upset", "scrub", "image"))
     if word == "set" and parameters:
@@ -52,7 +55,7 @@ def event_of(parameters, bits, chosen):
     return "image" if word == "image" else "scrub"
 
 
-def paced(path, rate, events):
+def paced(path: str, rate: int, events: list[Event]) -> bool:
     """The configurations at which asks arrive, by ticks; each tick writes at most `rate` bits."""
     with PacedHost(path, rate) as device, Host(path) as host:
         config = host.image
@@ -73,7 +76,7 @@ def paced(path, rate, events):
     return True
 
 
-def is_same(seed, room):
+def is_same(seed: int, room: str) -> bool:
     """Whether the library prints what `tlut bits` prints, on the pack and the script of this number."""
     chosen = random.Random(seed)
     pack = pack_of(chosen)
@@ -94,10 +97,10 @@ def is_same(seed, room):
     return is_well
 
 
-def main():
+def main() -> bool:
     parser = shared.words(__doc__)
     parser.add_argument("count", metavar="COUNT", nargs="?", type=int, default=COUNT, help=f"how many packs (default: {COUNT})")
-    count = parser.parse_args().count
+    count: int = parser.parse_args().count
     with tempfile.TemporaryDirectory() as room, ThreadPoolExecutor(2) as pool:
         passed = sum(pool.map(lambda seed: is_same(seed, room), range(SEED, SEED + count)))
     print(f"{passed} passed, {count - passed} failed")

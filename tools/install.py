@@ -6,6 +6,8 @@ PREFIX/lib/tlut gets the files. PREFIX/bin gets links to `tlut`, to it as `tlut-
 PREFIX/share/man/man1/tlut.1 is the page, made from the text of `tlut --help`. What an earlier call left in PREFIX/lib/tlut is replaced.
 """
 
+from __future__ import annotations
+
 import os
 import shutil
 import sys
@@ -24,13 +26,13 @@ FILES = [
 LINKS = [("bin/tlut", "../lib/tlut/tlut"), ("bin/tlut-compact", "../lib/tlut/tlut"), ("bin/tlut-flow", "../lib/tlut/flow")]
 
 
-def escaped(line):
+def escaped(line: str) -> str:
     """A line as the language of man pages has it."""
     line = line.replace("\\", "\\e").replace("-", "\\-")
     return f"\\&{line}" if line.startswith((".", "'")) else line
 
 
-def man_page(text, version):
+def man_page(text: str, version: str) -> str:
     """The page with the sections of a help text: lines in capitals begin one."""
     first, rest = text.split("\n\n", 1)
     lines = ['.TH TLUT 1 "" "%s"' % version.replace('"', ""), ".SH NAME", "tlut \\- map netlists to lookup tables with tunable configuration bits"]
@@ -40,7 +42,7 @@ def man_page(text, version):
     return "\n".join([*lines, ".fi", ""])
 
 
-def companion_page(version):
+def companion_page(version: str) -> str:
     """The page of the companion, from the help of its subcommands."""
     sys.path.insert(0, TOP)
     sys.argv[0] = "tlut-flow"
@@ -55,7 +57,7 @@ def companion_page(version):
     return "\n".join([*lines, ".SH SEE ALSO", "tlut(1)", ""])
 
 
-def install(prefix, version):
+def install(prefix: str, version: str) -> None:
     """Writes all files and links."""
     room = f"{prefix}/lib/tlut"
     shutil.rmtree(room, ignore_errors=True)
@@ -72,16 +74,16 @@ def install(prefix, version):
         os.symlink(target, f"{prefix}/{place}")
     folder = f"{prefix}/share/man/man1"
     os.makedirs(folder, exist_ok=True)
-    with open(f"{TOP}/tools/help.txt", encoding="utf-8") as source:
-        pages = {"tlut.1": man_page(source.read(), version), "tlut-flow.1": companion_page(version)}
+    with open(f"{TOP}/tools/help.txt", encoding="utf-8") as help_text:
+        pages = {"tlut.1": man_page(help_text.read(), version), "tlut-flow.1": companion_page(version)}
     for name, text in pages.items():
         with open(f"{folder}/{name}", "w", encoding="utf-8") as file:
             file.write(text)
 
 
-def main():
+def main() -> int:
     parser = shared.words(__doc__)
-    parser.add_argument("prefix", metavar="PREFIX", type=os.path.abspath, help="where it is installed")
+    parser.add_argument("prefix", metavar="PREFIX", type=shared.path_of, help="where it is installed")
     parser.add_argument("version", metavar="VERSION", help="what `tlut --version` says there")
     given = parser.parse_args()
     prefix, version = given.prefix, given.version

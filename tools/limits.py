@@ -7,8 +7,12 @@ Outside the gate. Call `./tlut` once before, to build the program. Each line has
 a call, and whether the status, the outputs and the fault line are as expected. The last line is `N passed, M failed`, and the exit status
 is 1 if M isn't 0.
 """
+
+from __future__ import annotations
+
 import sys
 import tempfile
+from typing import Iterator
 
 import measured
 import shared
@@ -17,38 +21,40 @@ STACK = 256 * 1024
 
 WIRE = ".model m\n.inputs a\n.outputs a\n.end\n"
 NOTHING = "luts 0 bits 0 depth 0\n"
+# What a call leaves: its status and its outputs.
+Left = tuple[int, str, str]
 
 
-def names(letter, count, first=0):
+def names(letter: str, count: int, first: int = 0) -> str:
     """Names of a letter and a number, each after a blank."""
     return "".join(f" {letter}{i}" for i in range(first, first + count))
 
 
-def listed(letter, count, first=0):
+def listed(letter: str, count: int, first: int = 0) -> str:
     """A list of such parameters."""
     return "".join(f"{letter}{i} 0\n" for i in range(first, first + count))
 
 
-def instances(more):
+def instances(more: int) -> str:
     """64 instances of a model of the weight 65,535, and some covers: a weight of 4,194,241 and one more for each."""
     covers = "".join(f".names w{i}\n" for i in range(more))
     return ".model a\n" + ".subckt b\n" * 64 + covers + ".model b\n.names" + " y" * 65532 + " x\n.names y\n"
 
 
-def products(count):
+def products(count: int) -> str:
     """The ANDs of pairs of 600 inputs, each an output."""
     pairs = [(i, j) for i in range(600) for j in range(i)][:count]
     covers = "".join(f".names i{i} i{j} g{k}\n11 1\n" for k, (i, j) in enumerate(pairs))
     return f".model m\n.inputs{names('i', 600)}\n.outputs{names('g', count)}\n{covers}.end\n"
 
 
-def chain(count):
+def chain(count: int) -> str:
     """A chain of ANDs of parameters, each an output."""
     covers = "".join(f".names {f'c{i - 1}' if i > 1 else 'p0'} p{i} c{i}\n11 1\n" for i in range(1, count + 1))
     return f".model chain\n.inputs{names('p', count + 1)}\n.outputs{names('c', count, 1)}\n{covers}.end\n"
 
 
-def ladder(left, right, more=0):
+def ladder(left: int, right: int, more: int = 0) -> str:
     """Two chains over x and y with parameters, the AND n of their ends, and further ANDs of n with a parameter each."""
     lines = [".model ladder", f".inputs x y{names('p', max(left, right), 1)}{names('q', more)}", f".outputs n{names('g', more)}"]
     for letter, before, count in (("c", "x", left), ("d", "y", right)):
@@ -61,46 +67,46 @@ def ladder(left, right, more=0):
     return "\n".join([*lines, ".end", ""])
 
 
-def fullest():
+def fullest() -> int:
     """The first AND of that ladder at which there are more than 2^23 cuts: the chains' have 1 to 62 and 1 to 64, n has 4,095, and each further one has 4,096."""
     node = 1 + 2 + 64 + 2100 + 62 + 64
     return node - (-(2**23 + 1 - (62 * 63 // 2 + 64 * 65 // 2 + 4095)) // 4096)
 
 
-def row(count):
+def row(count: int) -> str:
     """Buffers in a row."""
     covers = "".join(f".names b{i} b{i + 1}\n1 1\n" for i in range(count))
     return f".model row\n.inputs b0\n.outputs b{count}\n{covers}.end\n"
 
 
-def nest(count):
+def nest(count: int) -> str:
     """Models inside one another."""
     head = ".inputs i\n.outputs o\n"
     inner = "".join(f".model m{i}\n{head}.subckt m{i + 1} i=i o=o\n.end\n" for i in range(count))
     return f"{inner}.model m{count}\n{head}.names i o\n1 1\n.end\n"
 
 
-def refused(word, line):
+def refused(word: str, line: str) -> Left:
     """What a limit leaves."""
     return 4, "", f"tlut: {word}: {line}\n"
 
 
-def refused_pack(line):
+def refused_pack(line: str) -> Left:
     """What a pack leaves that is refused."""
     return 3, "", f"tlut: k: {line}\n"
 
 
-def seven_bits(number):
+def seven_bits(number: int) -> bytes:
     """A number of a pack of version 2."""
     return bytes([number]) if number < 128 else bytes([128 + number % 128]) + seven_bits(number // 128)
 
 
-def done(out):
+def done(out: str) -> Left:
     """What a job leaves that is done."""
     return 0, out, ""
 
 
-def rows():
+def rows() -> Iterator[tuple[str, str, str, str, Left]]:
     """The title, the netlist, the list, the script and what is wanted."""
     full = "\n" * 2**26
     yield "L1 of a netlist", full + "\n", "", "", refused("n", "L1 FileTooLong")
@@ -131,13 +137,13 @@ def rows():
     yield "names of a million bytes", f".model {long}\n.inputs {long}\n.outputs {long}\n.end\n", "", "cycle 1\n", done(NOTHING + "cycle 1 -\n")
 
 
-def call(program, folder, words):
+def call(program: str, folder: str, words: list[str]) -> tuple[Left, float, int]:
     """What a call leaves, its time and its memory in MB."""
     took = measured.run(folder, [program, *words], STACK)
     return (took.status, open(f"{folder}/out").read(), open(f"{folder}/err").read()), took.clock, took.megabytes
 
 
-def calls():
+def calls() -> Iterator[tuple[str, list[str], dict[str, bytes], Left]]:
     """The title, the arguments, the files and the expected result of each call."""
     for title, netlist, params, script, wanted in rows():
         yield title, ["run", "2", "n", "p", "s", "0", "0"], {"n": netlist.encode(), "p": params.encode(), "s": script.encode()}, wanted
@@ -148,7 +154,7 @@ def calls():
     yield "K5: one more", ["bits", "k", "s"], {"k": pack[:13] + seven_bits(count + 1) + b"\x02\x02", "s": b""}, refused_pack("K5 BadNode byte 13")
 
 
-def main():
+def main() -> int:
     program, passed, failed = shared.one_program(__doc__), 0, 0
     for title, words, files, wanted in calls():
         with tempfile.TemporaryDirectory() as folder:

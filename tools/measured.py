@@ -6,6 +6,8 @@ The command runs in the folder, with a stack of STACK bytes (0: unchanged), and 
 Printed are its status, the seconds by the clock and of CPU time, and the greatest resident size in MB.
 """
 
+from __future__ import annotations
+
 import os
 import resource
 import subprocess
@@ -24,14 +26,14 @@ class Measured:
     megabytes: int
 
 
-def run(folder, words, stack=0):
+def run(folder: str, words: list[str], stack: int = 0) -> Measured:
     """Runs a command in a folder and returns what it took; its outputs are in the files `out` and `err` there."""
     inner = [sys.executable, os.path.abspath(__file__), str(stack), folder, *words]
     status, clock, processor, megabytes = subprocess.run(inner, stdout=subprocess.PIPE, text=True, check=True).stdout.split()
     return Measured(int(status), float(clock), float(processor), int(megabytes))
 
 
-def main(stack, folder, *words):
+def main(stack: str, folder: str, *words: str) -> None:
     begun = time.monotonic()
     process = os.fork()
     if process == 0:

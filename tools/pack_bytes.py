@@ -7,26 +7,33 @@ Outside the gate. Call `./tlut` once before, to build the program. The packs are
 each change of one byte to each other value, each byte removed, and each byte doubled. `repack` has to answer the same fault line, or to
 write the same pack in version 2. The last line is `N passed, M failed`, and the exit status is 1 if M isn't 0.
 """
+
+from __future__ import annotations
+
 import os
 import subprocess
 import sys
 import tempfile
 from concurrent.futures import ThreadPoolExecutor
 from functools import partial
+from typing import Optional
 
 import shared
 
 MOST = 2**25
-
 # The names and values of the parameters, the pairs of the nodes, the literals of the bits.
-PACKS = [
+Pack = tuple[list[tuple[bytes, int]], list[tuple[int, int]], list[int]]
+# What `repack` gives: the status, both outputs and the file NEW.
+Given = tuple[int, bytes, bytes, Optional[bytes]]
+
+PACKS: list[Pack] = [
     ([(b"p", 0)], [], [0, 2, 3, 1]),
     ([(b"p", 0), (b"q", 0)], [(2, 4)], [6]),
     ([(b"a", 1), (b"key[0]", 0), (b"z", 1)], [(2, 4), (3, 6), (5, 9), (8, 12)], [14, 0, 11, 1]),
 ]
 
 # Its length takes two bytes in version 2.
-LONG_NAME = ([(b"n" * 128, 1)], [], [2])
+LONG_NAME: Pack = ([(b"n" * 128, 1)], [], [2])
 
 
 class Refused(Exception):
@@ -36,10 +43,10 @@ class Refused(Exception):
 class Reader:
     """The bytes of a pack file, read field by field."""
 
-    def __init__(self, data):
+    def __init__(self, data: bytes) -> None:
         self.data, self.at, self.version = data, 0, 1
 
-    def take(self, count):
+    def take(self, count: int) -> tuple[bytes, int]:
         """The bytes of a field and its offset."""
         start = self.at
         if start + count > len(self.data):
@@ -47,7 +54,7 @@ class Reader:
         self.at += count
         return self.data[start : start + count], start
 
-    def number(self, count):
+    def number(self, count: int) -> tuple[int, int]:
         """A number: count bytes in version 1, groups of seven digits in version 2."""
         if self.version == 1:
             field, start = self.take(count)
@@ -66,17 +73,17 @@ class Reader:
         raise Refused("K8 BadNumber", start)
 
 
-def check(is_well, code, offset):
+def check(is_well: bool, code: str, offset: int) -> None:
     """Refuses a field that isn't well formed."""
     if not is_well:
         raise Refused(code, offset)
 
 
-def parameters_of(reader):
+def parameters_of(reader: Reader) -> list[tuple[bytes, int]]:
     """The parameters."""
     count, start = reader.number(2)
     check(count <= 65535, "K8 BadNumber", start)
-    found = []
+    found: list[tuple[bytes, int]] = []
     for _ in range(count):
         length, start = reader.number(2)
         check(0 < length <= 65535, "K4 BadName", start)
@@ -89,7 +96,7 @@ def parameters_of(reader):
     return found
 
 
-def pair_of(reader, index):
+def pair_of(reader: Reader, index: int) -> tuple[int, int, int]:
     """The literals of the fan-ins of the node of this index, and the pair's offset."""
     if reader.version == 1:
         field, start = reader.take(8)
@@ -99,7 +106,7 @@ def pair_of(reader, index):
     return 2 * index - first - second, 2 * index - first, start
 
 
-def decode(data):
+def decode(data: bytes) -> Pack:
     """The pack of a file."""
     reader = Reader(data)
     magic, _ = reader.take(4)
@@ -125,10 +132,10 @@ def decode(data):
     return parameters, pairs, bits
 
 
-def encode(pack, version):
+def encode(pack: Pack, version: int) -> bytes:
     """The file of a pack."""
 
-    def number(value, count):
+    def number(value: int, count: int) -> bytes:
         if version == 1:
             return value.to_bytes(count, "big")
         groups = [value % 128]
@@ -149,7 +156,7 @@ def encode(pack, version):
     return b"".join(parts + [number(len(bits), 4)] + [number(literal, 4) for literal in bits])
 
 
-def wanted(data):
+def wanted(data: bytes) -> Given:
     """The status, both outputs and the file NEW that `repack` has to give."""
     try:
         pack = decode(data)
@@ -159,7 +166,7 @@ def wanted(data):
     return 0, f"bits {len(pack[2])}\n".encode(), b"", encode(pack, 2)
 
 
-def spoilt(data):
+def spoilt(data: bytes) -> list[bytes]:
     """The file itself, its prefixes, and it with one byte changed, taken out or doubled."""
     found = {data} | {data[:n] for n in range(len(data))}
     for at in range(len(data)):
@@ -168,7 +175,7 @@ def spoilt(data):
     return sorted(found)
 
 
-def answer(program, data):
+def answer(program: str, data: bytes) -> Given:
     """What the program gives."""
     with tempfile.TemporaryDirectory() as folder:
         with open(f"{folder}/old.ppc", "wb") as file:
@@ -181,7 +188,7 @@ def answer(program, data):
         return ran.returncode, ran.stdout, ran.stderr, new
 
 
-def main():
+def main() -> int:
     program = shared.one_program(__doc__)
     whole = [encode(pack, version) for pack in PACKS for version in (1, 2)] + [encode(LONG_NAME, 2)]
     files = [data for file in whole for data in spoilt(file)]

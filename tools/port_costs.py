@@ -8,6 +8,8 @@ device of series 7 (synth_xilinx, without its multipliers). Beside it stands the
 counted by Yosys's stat: LUTs of every size (SRLC32E among them), flip-flops, and CFGLUT5. The program is that of the variable TLUT, or ./tlut.
 """
 
+from __future__ import annotations
+
 import argparse
 import concurrent.futures
 import json
@@ -23,7 +25,7 @@ sys.path.insert(0, TOP)
 from tlutflow.circuit import read_circuit  # noqa: E402
 from tlutflow.store import store_of  # noqa: E402
 
-DESIGNS = {
+DESIGNS: dict[str, tuple[str, dict[str, int]]] = {
     "fir": ("examples/fir/fir.v", {"c0": 5, "c1": 3, "c2": 6}),
     "vote8": ("tlutflow/tests/designs/vote8.v", {}),
     "fir8": ("examples/fir8/fir8.v", {}),
@@ -42,9 +44,13 @@ WAYS = [
 COMMANDS = {"generic": "synth_ice40 -top {top} -flatten", "xilinx": "synth_xilinx -top {top} -flatten -noiopad -noclkbuf -nodsp"}
 FLIP_FLOPS = re.compile(r"SB_DFF\w*|FD[RSCP]E")
 LUTS = re.compile(r"SB_LUT4|LUT[1-6]|SRL\w+")
+# A port of a design: its name, width and direction, and whether it is a parameter.
+Port = tuple[str, int, str, bool]
+# What is synthesised: the words of the row, the file, the module and the target.
+Job = tuple[tuple[str, str, str, str, str], str, str, str]
 
 
-def run(words, folder):
+def run(words: list[str], folder: str) -> str:
     """Runs a command, and returns what it printed."""
     ran = subprocess.run(words, cwd=folder, capture_output=True, text=True, check=False)
     if ran.returncode:
@@ -52,26 +58,30 @@ def run(words, folder):
     return ran.stdout
 
 
-def cells(file, top, target, folder):
+def cells(file: str, top: str, target: str, folder: str) -> dict[str, int]:
     """The cells of a synthesised module by their kinds."""
     stat = f"{file}.{target}.stat"
     command = f"read_verilog {file}; {COMMANDS[target].format(top=top)}; tee -q -o {stat} stat -json"
     run(["nice", "yosys", "-q", "-p", command], folder)
     with open(f"{folder}/{stat}", encoding="utf-8") as opened:
         modules = json.load(opened)["modules"]
-    return modules["\\" + top]["num_cells_by_type"]
+    kinds: dict[str, int] = modules["\\" + top]["num_cells_by_type"]
+    return kinds
 
 
-def counts(kinds):
+def counts(kinds: dict[str, int]) -> tuple[int, int, int, int]:
     """How many LUTs, carry cells, flip-flops and CFGLUT5 there are."""
     carries = sum(number for kind, number in kinds.items() if "CARRY" in kind)
     luts = sum(number for kind, number in kinds.items() if LUTS.fullmatch(kind))
     return luts, carries, sum(number for kind, number in kinds.items() if FLIP_FLOPS.fullmatch(kind)), kinds.get("CFGLUT5", 0)
 
 
-def with_registers(source, top, ports):
+def with_registers(source: str, top: str, ports: list[Port]) -> str:
     """The source with a module around it that holds the parameters in one chain of flip-flops."""
-    inputs, outputs, wires, values = [], [], [], []
+    inputs: list[str] = []
+    outputs: list[str] = []
+    wires: list[str] = []
+    values: list[tuple[str, int]] = []
     for name, width, direction, is_parameter in ports:
         span = f"[{width - 1}:0] " if width > 1 else ""
         if is_parameter:
@@ -93,7 +103,7 @@ def with_registers(source, top, ports):
     return source + "\n" + "\n".join(lines) + "\n"
 
 
-def ports_of(folder, top, parameters):
+def ports_of(folder: str, top: str, parameters: list[str]) -> list[Port]:
     """The ports of a design: name, width, direction, and whether it is a parameter."""
     with open(f"{folder}/{top}.ports.json", encoding="utf-8") as file:
         given = json.load(file)["ports"]
@@ -101,7 +111,7 @@ def ports_of(folder, top, parameters):
     return [(it["name"], len(it["bits"]), it["direction"], it["name"] in held) for it in given]
 
 
-def prepare(name, sizes, folder):
+def prepare(name: str, sizes: list[int], folder: str) -> list[Job]:
     """Writes all files of a design. Returns its jobs: the row's words, the file, the module and the target."""
     source, values = DESIGNS[name]
     words = [f"--param={port}={value}" for port, value in values.items()]
@@ -110,7 +120,7 @@ def prepare(name, sizes, folder):
         parameters = [line.split()[0] for line in file]
     with open(f"{TOP}/{source}", encoding="utf-8") as file, open(f"{folder}/{name}_held.v", "w", encoding="utf-8") as out:
         out.write(with_registers(file.read(), name, ports_of(folder, name, parameters)))
-    jobs = [((name, "-", "registers", target, f"{len(parameters)} parameters"), f"{name}_held.v", "held", target) for target in COMMANDS]
+    jobs: list[Job] = [((name, "-", "registers", target, f"{len(parameters)} parameters"), f"{name}_held.v", "held", target) for target in COMMANDS]
     for size in sizes:
         files = f"{folder}/{name}_t{size}.blif", f"{folder}/{name}{size}.ppc"
         run([os.environ.get("TLUT", f"{TOP}/tlut"), "map", str(size), f"{name}.blif", f"{name}.par", *files], folder)
@@ -127,7 +137,7 @@ def prepare(name, sizes, folder):
     return jobs
 
 
-def main():
+def main() -> int:
     parser = argparse.ArgumentParser(description=__doc__, formatter_class=argparse.RawDescriptionHelpFormatter)
     parser.add_argument("designs", nargs="*", default=list(DESIGNS), metavar="DESIGN", help=f"what is measured, of {', '.join(DESIGNS)}; all without")
     parser.add_argument("--k", type=int, nargs="+", default=[4, 6], choices=range(2, 7), help="the inputs of a LUT (default: 4 and 6)")
@@ -141,7 +151,7 @@ def main():
     with tempfile.TemporaryDirectory(prefix="port-costs-") as folder, concurrent.futures.ThreadPoolExecutor(given.jobs) as pool:
         jobs = [job for name in given.designs for job in prepare(name, given.k, folder) if job[0][2] in given.port]
         print("| Design | K | Port | Device | LUTs | carries | flip-flops | CFGLUT5 | of |\n|---|---|---|---|---|---|---|---|---|", flush=True)
-        for (name, size, title, target, about), kinds in zip((job[0] for job in jobs), pool.map(lambda job: cells(*job[1:], folder), jobs)):
+        for (name, size, title, target, about), kinds in zip((job[0] for job in jobs), pool.map(lambda job: cells(job[1], job[2], job[3], folder), jobs)):
             luts, carries, flip_flops, rings = counts(kinds)
             device = "iCE40" if target == "generic" else "Xilinx 7"
             print(f"| {name} | {size} | {title} | {device} | {luts:,} | {carries or ''} | {flip_flops:,} | {rings or ''} | {about} |", flush=True)

@@ -11,10 +11,13 @@ of a netlist and writes the outputs' graph; ABC reads it, and `strash` creates i
 runs, and the greatest resident memory.
 """
 
+from __future__ import annotations
+
 import os
 import random
 import sys
 import tempfile
+from typing import Sequence
 
 TOP = os.path.dirname(os.path.dirname(os.path.abspath(__file__)))
 sys.path.insert(0, TOP)
@@ -27,13 +30,13 @@ ABC = tools.find(tools.ABC)
 INPUTS = 64
 RUNS = 5
 # The title, what the names of the covers begin with, how many there are, and which ones are outputs.
-NETLISTS = [
+NETLISTS: list[tuple[str, str, int, Sequence[int]]] = [
     ("short names", "n", 1_100_000, [110_000]),
     ("long names", f"top.core0.stage.{'x' * 100}.n", 100_000, range(99_936, 100_000)),
 ]
 
 
-def netlist(stem, count, outputs):
+def netlist(stem: str, count: int, outputs: Sequence[int]) -> str:
     """Returns a netlist, the same at each call."""
     draw = random.Random(1)
     names = [f"i{i}" for i in range(INPUTS)]
@@ -46,14 +49,14 @@ def netlist(stem, count, outputs):
     return f".model made\n{ports}{''.join(covers)}.end\n"
 
 
-def main():
+def main() -> None:
     programs = shared.some_programs(__doc__, [shared.PROGRAM])
     commands = [(it, [it, "graph", "n.blif", "none.par", "n.aag"]) for it in programs]
     if ABC:
         commands.append(("ABC", [ABC, "-q", "read_blif n.blif; strash; write_aiger n.aig"]))
     with tempfile.TemporaryDirectory() as folder:
-        for title, *made in NETLISTS:
-            text = netlist(*made)
+        for title, stem, count, outputs in NETLISTS:
+            text = netlist(stem, count, outputs)
             for name, content in ("n.blif", text), ("none.par", ""):
                 with open(f"{folder}/{name}", "w", encoding="ascii") as file:
                     file.write(content)

@@ -8,6 +8,9 @@ and refuses the Nth allocation. For each command N rises until the call ends as 
 with status 8, with nothing printed on stdout and no file written, or be complete. The last line is `N passed, M failed`, and the exit
 status is 1 if M isn't 0.
 """
+
+from __future__ import annotations
+
 import os
 import subprocess
 import sys
@@ -57,6 +60,9 @@ __attribute__((destructor)) static void tell(void) {
 }
 """
 
+# What a call leaves: its status, its outputs and the files after it.
+Left = tuple[int, bytes, bytes, dict[str, bytes]]
+
 FILES = {
     "one.aag": b"aag 6 3 0 1 3\n2\n4\n6\n13\n8 6 2\n10 7 4\n12 11 9\ni0 a\ni1 b\ni2 p\no0 y\n",
     "mux.blif": b".model mux\n.inputs a b p\n.outputs y\n.names p a b y\n11- 1\n0-1 1\n.end\n",
@@ -84,7 +90,7 @@ CALLS = [
 ]
 
 
-def call(program, shim, words, refused):
+def call(program: str, shim: str, words: str, refused: int) -> tuple[Left, int]:
     """What a call leaves: status, outputs and files; and how many allocations it made."""
     with tempfile.TemporaryDirectory() as folder:
         for name, content in FILES.items():
@@ -100,7 +106,7 @@ def call(program, shim, words, refused):
         return (done.returncode, done.stdout, done.stderr, files), count
 
 
-def main():
+def main() -> int:
     program, passed, failed = shared.one_program(__doc__), 0, 0
     if not shared.has_compiler():
         print("left out, since cc isn't there")

@@ -8,6 +8,8 @@ all three, otherwise for ABC alone, which has no parameters. The designs are the
 cover that is a buffer isn't counted as a LUT.
 """
 
+from __future__ import annotations
+
 import os
 import sys
 import tempfile
@@ -29,7 +31,7 @@ LARGER = {"multiplier": "multiplier, 16 by 16", "filter": "filter, 8 taps of 8 b
 SIZES = [4, 6]
 
 
-def row(title, netlist, parameters, abc, room):
+def row(title: str, netlist: str, parameters: str, abc: str, room: str) -> None:
     """A line of the table for each number of inputs of a table."""
     write_text(f"{room}/source.blif", abc_text(read_library(netlist), {}))
     for size in SIZES:
@@ -39,7 +41,7 @@ def row(title, netlist, parameters, abc, room):
         print(f"| {title} | {size} | " + " | ".join(cells) + " |", flush=True)
 
 
-def main():
+def main() -> None:
     parser = shared.words(__doc__)
     parser.add_argument("--inputs", action="store_true", help="take the parameters as ordinary inputs")
     given = parser.parse_args()

@@ -7,6 +7,9 @@ By default it runs both programs; call `./tlut` once before, to build them. It t
 an output that is a file which the command writes, a folder instead of a file, a file without rights, a FIFO, and arguments that aren't
 UTF-8. The last line is `N passed, M failed`, and the exit status is 1 if M isn't 0.
 """
+
+from __future__ import annotations
+
 import os
 import resource
 import shutil
@@ -14,6 +17,7 @@ import subprocess
 import sys
 import tempfile
 import threading
+from typing import Callable, Iterator, Optional, Sequence, TextIO, Union
 
 import shared
 
@@ -33,7 +37,7 @@ FILES = {
     "mux.ppc": PACK,
 }
 # A call of each command: its arguments, what it prints, and the files that it writes.
-COMMANDS = [
+COMMANDS: list[tuple[list[str], str, dict[str, bytes]]] = [
     (RUN, HEADER + "set 2 1=1 2=0\n", {}),
     (["spec", "2", "mux.blif", "mux.par", "new.blif"], HEADER, {"new.blif": SPEC.encode()}),
     (["map", "2", "mux.blif", "mux.par", "new.blif", "new.ppc"], HEADER, {"new.ppc": PACK}),
@@ -47,6 +51,8 @@ COMMANDS = [
 ]
 FAILED = "tlut: write failed\n"
 NOBODY = 65534
+# The title of each call, and whether it ended as it has to.
+Outcomes = Iterator[tuple[str, bool]]
 
 
 class Ran:
@@ -54,7 +60,7 @@ class Ran:
 
     program = shared.PROGRAM
 
-    def __init__(self, words, prepare=None, stdout=subprocess.PIPE, small_stack=False, as_nobody=False, closed=(), onto=None):
+    def __init__(self, words: Sequence[Union[str, bytes]], prepare: Optional[Callable[[str], object]] = None, stdout: Union[int, TextIO] = subprocess.PIPE, small_stack: bool = False, as_nobody: bool = False, closed: tuple[int, ...] = (), onto: Optional[str] = None) -> None:
         """`closed` has the descriptors of streams that are closed, and `onto` the file that standard output is."""
         with tempfile.TemporaryDirectory() as folder:
             os.chmod(folder, 0o777)
@@ -66,7 +72,7 @@ class Ran:
             if prepare:
                 prepare(folder)
 
-            def limits():
+            def limits() -> None:
                 if small_stack:
                     resource.setrlimit(resource.RLIMIT_STACK, (256 * 1024, 256 * 1024))
                 if onto:
@@ -83,37 +89,37 @@ class Ran:
             self.files = {name: self.bytes_of(f"{folder}/{name}") for name in os.listdir(folder) if name != "tlut"}
 
     @staticmethod
-    def bytes_of(path):
+    def bytes_of(path: str) -> Optional[bytes]:
         """A file's bytes, or nothing where it is no plain file or may not be read."""
         if not os.path.isfile(path):
             return None
         with open(path, "rb") as file:
             return file.read()
 
-    def is_so(self, status, out, err):
+    def is_so(self, status: int, out: str, err: str) -> bool:
         """Whether the call ended like this."""
         return (self.status, self.out, self.err) == (status, out, err)
 
-    def has(self, written):
+    def has(self, written: dict[str, bytes]) -> bool:
         """Whether the files are those that were there before, with these that were written."""
         return {name: content for name, content in self.files.items() if name in written} == written
 
-    def is_as_before(self):
+    def is_as_before(self) -> bool:
         """Whether no file was written or changed."""
         return self.files == FILES
 
 
-def unread_pipe():
+def unread_pipe() -> int:
     """The end of a pipe that nobody reads."""
     reading, writing = os.pipe()
     os.close(reading)
     return writing
 
 
-def folder_at(name):
+def folder_at(name: str) -> Callable[[str], None]:
     """Replaces a file by a folder."""
 
-    def put(folder):
+    def put(folder: str) -> None:
         if os.path.exists(f"{folder}/{name}"):
             os.remove(f"{folder}/{name}")
         os.mkdir(f"{folder}/{name}")
@@ -121,20 +127,20 @@ def folder_at(name):
     return put
 
 
-def fifo(folder):
+def fifo(folder: str) -> None:
     """Replaces the netlist by a FIFO into which its text is written."""
     path = f"{folder}/mux.blif"
     os.remove(path)
     os.mkfifo(path)
 
-    def write():
+    def write() -> None:
         with open(path, "w") as file:
             file.write(MUX)
 
     threading.Thread(target=write, daemon=True).start()
 
 
-def single_calls():
+def single_calls() -> Outcomes:
     """The title and the outcome of calls of single commands."""
     full = open("/dev/full", "w", encoding="utf-8")
     yield "a sound call", Ran(RUN).is_so(0, HEADER + "set 2 1=1 2=0\n", "")
@@ -162,7 +168,7 @@ def single_calls():
     ran = Ran(["spec", "2", "mux.blif", "mux.scr", "out.blif"])
     yield "a refused list leaves no file", ran.is_so(3, "", "tlut: mux.scr: P1 Malformed line 1\n") and "out.blif" not in ran.files
     ran = Ran(["map", "2", "mux.blif", "mux.par", "t.blif", "pack"], folder_at("pack"))
-    yield "TEMPLATE is whole where PACK fails", ran.is_so(6, "", FAILED) and ran.files["t.blif"].endswith(b".end\n")
+    yield "TEMPLATE is whole where PACK fails", ran.is_so(6, "", FAILED) and (ran.files["t.blif"] or b"").endswith(b".end\n")
     ran = Ran(["map", "2", "mux.blif", "mux.par", "t", "m.ppc"], folder_at("t"))
     yield "no PACK where TEMPLATE fails", ran.is_so(6, "", FAILED) and "m.ppc" not in ran.files
     ran = Ran(["map", "2", "mux.blif", "mux.par", "t.blif", "m.ppc"])
@@ -171,7 +177,7 @@ def single_calls():
     yield "a generated case, and nobody reads", Ran(["gen", "1", "0"], stdout=unread_pipe()).is_so(6, "", FAILED)
 
 
-def stream_calls():
+def stream_calls() -> Outcomes:
     """The title and the outcome of a call of each command with streams that are closed, full or unread."""
     for words, out, written in COMMANDS:
         title = " ".join(words)
@@ -190,7 +196,7 @@ def stream_calls():
             yield f"{title}: the output is {name}", ran.is_so(6, "", FAILED) and ran.files == {**FILES, name: b""}
 
 
-def shared_calls():
+def shared_calls() -> Outcomes:
     """The title and the outcome of calls whose output is a file that they write under another name."""
     spec = ["spec", "2", "mux.blif", "mux.par"]
     ran = Ran([*spec, "/dev/stdout"], onto="new.blif")
@@ -206,7 +212,7 @@ def shared_calls():
     yield "a fault line goes into no file", ran.is_so(3, "", "") and ran.is_as_before()
 
 
-def main():
+def main() -> int:
     passed = failed = 0
     for program in shared.some_programs(__doc__, shared.PROGRAMS):
         Ran.program = program

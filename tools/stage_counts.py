@@ -6,23 +6,31 @@
 Outside the gate. Build the program before, with `rt run` in crates/bench_mapping. Its netlists are the designs of tools/designs.py and the
 examples, with LUTs of 2 and of 4 inputs. The last line is `N passed, M failed`, and the exit status is 1 if M isn't 0.
 """
+
+from __future__ import annotations
+
 import subprocess
 import sys
 import tempfile
+from typing import Iterator
 
 import shared
 from designs import write
 
 EVENTS = 100
+# The leaves of a cut.
+Cut = frozenset[int]
 
 
 class Graph:
     """ANDs of two literals, each once, over sources. A literal is twice a node, and one more for its complement."""
 
-    def __init__(self, sources):
-        self.sources, self.pairs, self.places = sources, [], {}
+    def __init__(self, sources: int) -> None:
+        self.sources = sources
+        self.pairs: list[tuple[int, int]] = []
+        self.places: dict[tuple[int, int], int] = {}
 
-    def product(self, a, b):
+    def product(self, a: int, b: int) -> int:
         x, y = min(a, b), max(a, b)
         if x == 0 or x ^ 1 == y:
             return 0
@@ -33,14 +41,14 @@ class Graph:
             self.pairs.append((x, y))
         return self.places[x, y]
 
-    def product_of(self, lits):
+    def product_of(self, lits: list[int]) -> int:
         """The product of some literals: that of the products of their halves, of which the first is not the smaller."""
         if len(lits) < 2:
             return lits[0] if lits else 1
         half = (len(lits) + 1) // 2
         return self.product(self.product_of(lits[:half]), self.product_of(lits[half:]))
 
-    def values(self, sources, lits):
+    def values(self, sources: list[int], lits: list[int]) -> list[int]:
         nodes = [0, *sources]
         for x, y in self.pairs:
             nodes.append((nodes[x // 2] ^ x & 1) & (nodes[y // 2] ^ y & 1))
@@ -50,9 +58,13 @@ class Graph:
 class Netlist:
     """A netlist of one model, and its graph."""
 
-    def __init__(self, text, listed):
-        self.inputs, self.outputs, self.latches, self.covers = [], [], [], {}
-        rows, clocks = None, set()
+    def __init__(self, text: str, listed: str) -> None:
+        self.inputs: list[str] = []
+        self.outputs: list[str] = []
+        self.latches: list[tuple[str, str, int]] = []
+        self.covers: dict[str, tuple[list[str], list[list[str]]]] = {}
+        rows: list[list[str]] = []
+        clocks: set[str] = set()
         for line in text.replace("\\\n", " ").splitlines():
             words = line.split("#")[0].split()
             if not words:
@@ -78,7 +90,7 @@ class Netlist:
         self.lits = {name: 2 * (1 + i) for i, name in enumerate(sources)}
         self.roots = [self.lit(name) for name in self.outputs + [after for after, _, _ in self.latches]]
 
-    def lit(self, name):
+    def lit(self, name: str) -> int:
         if name not in self.lits:
             nets, rows = self.covers[name]
             lits = [self.lit(net) for net in nets]
@@ -87,19 +99,20 @@ class Netlist:
             self.lits[name] = off if rows and rows[0][-1] == "0" else off ^ 1
         return self.lits[name]
 
-    def is_free(self, node):
+    def is_free(self, node: int) -> bool:
         """Is it the constant, or a parameter?"""
         return node == 0 or len(self.regular) < node <= len(self.regular) + len(self.params)
 
-    def is_source(self, node):
+    def is_source(self, node: int) -> bool:
         return node <= self.graph.sources
 
 
-def minimal_cuts(netlist, k):
+def minimal_cuts(netlist: Netlist, k: int) -> list[list[Cut]]:
     """The minimal cuts of at most k leaves of each node, none for sources."""
-    cuts, fronts = [], []
+    cuts: list[list[Cut]] = []
+    fronts: list[list[Cut]] = []
     for node in range(1 + netlist.graph.sources + len(netlist.graph.pairs)):
-        kept = []
+        kept: list[Cut] = []
         if not netlist.is_source(node):
             x, y = netlist.graph.pairs[node - 1 - netlist.graph.sources]
             joined = {a | b for a in fronts[x // 2] for b in fronts[y // 2]}
@@ -112,32 +125,33 @@ def minimal_cuts(netlist, k):
     return cuts
 
 
-def labels_of(cuts):
+def labels_of(cuts: list[list[Cut]]) -> list[int]:
     """The least depth that each node can have."""
-    labels = []
+    labels: list[int] = []
     for kept in cuts:
         labels.append(min((max((labels[leaf] + 1 for leaf in cut), default=0) for cut in kept), default=0))
     return labels
 
 
-def tables_of(netlist, cuts, labels):
+def tables_of(netlist: Netlist, cuts: list[list[Cut]], labels: list[int]) -> tuple[dict[int, list[int]], int]:
     """The leaves of each literal that has a table, and their depth."""
-    def height(cut):
+    def height(cut: Cut) -> int:
         return max((labels[leaf] + 1 for leaf in cut), default=0)
 
-    def level(lit):
+    def level(lit: int) -> int:
         return labels[lit // 2] if netlist.is_free(lit // 2) or not netlist.is_source(lit // 2) else lit & 1
 
     depth = max(map(level, netlist.roots), default=0)
     required = {lit // 2: depth for lit in netlist.roots}
-    tables = {lit: [] for lit in netlist.roots if netlist.is_free(lit // 2)}
+    tables: dict[int, list[int]] = {lit: [] for lit in netlist.roots if netlist.is_free(lit // 2)}
     tables |= {lit: [lit // 2] for lit in netlist.roots if lit & 1 and lit not in tables and netlist.is_source(lit // 2)}
     wanted = {lit for lit in netlist.roots if not netlist.is_source(lit // 2)}
     for node in range(len(cuts) - 1, netlist.graph.sources, -1):
         phases = [lit for lit in (2 * node, 2 * node + 1) if lit in wanted]
         if phases:
             low = [cut for cut in cuts[node] if height(cut) <= required[node]]
-            cut = sorted(min(low, key=lambda cut: (len(cut), height(cut), sorted(cut))))
+            least = min(low, key=lambda it: (len(it), height(it), sorted(it)))
+            cut = sorted(least)
             tables |= {lit: cut for lit in phases}
             for leaf in cut:
                 required[leaf] = min(required[node] - 1, required.get(leaf, depth))
@@ -145,12 +159,12 @@ def tables_of(netlist, cuts, labels):
     return tables, depth
 
 
-def functions_of(netlist, tables):
+def functions_of(netlist: Netlist, tables: dict[int, list[int]]) -> tuple[Graph, list[int]]:
     """The bits of all tables as literals of one graph over the parameters."""
     pack = Graph(len(netlist.params))
     bits = []
 
-    def value(node, values):
+    def value(node: int, values: dict[int, int]) -> int:
         if node not in values:
             if netlist.is_free(node):
                 values[node] = 2 * (node - len(netlist.regular)) if node else 0
@@ -166,7 +180,7 @@ def functions_of(netlist, tables):
     return pack, bits
 
 
-def numbers():
+def numbers() -> Iterator[int]:
     """Numbers that look random: Knuth's MMIX generator."""
     state = 1
     while True:
@@ -174,7 +188,7 @@ def numbers():
         yield (state >> 33) % 2 ** 32
 
 
-def count_ones(netlist):
+def count_ones(netlist: Netlist) -> int:
     """How many outputs are 1 in all cycles."""
     states, ones, drawn = [init for _, _, init in netlist.latches], 0, numbers()
     for _ in range(EVENTS):
@@ -184,7 +198,7 @@ def count_ones(netlist):
     return ones
 
 
-def count_writes(netlist, pack, bits):
+def count_writes(netlist: Netlist, pack: Graph, bits: list[int]) -> int:
     """How many bits all changes turn."""
     params, writes, drawn = [*netlist.params.values()], 0, numbers()
     before = pack.values(params, bits)
@@ -195,7 +209,7 @@ def count_writes(netlist, pack, bits):
     return writes
 
 
-def expected(files, k):
+def expected(files: list[str], k: int) -> str:
     """What the program has to print."""
     netlist = Netlist(*(open(file, encoding="ascii").read() for file in files))
     cuts = minimal_cuts(netlist, k)
@@ -216,7 +230,7 @@ def expected(files, k):
     return "\n".join([*lines, ""])
 
 
-def main():
+def main() -> int:
     program = shared.one_program(__doc__, shared.MEASURED)
     passed = failed = 0
     with tempfile.TemporaryDirectory() as room:

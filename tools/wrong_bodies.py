@@ -9,6 +9,8 @@ isn't tried again while its crate is unchanged. Each one that isn't refused is r
 exit status is 0 if M is 0.
 """
 
+from __future__ import annotations
+
 import os
 import re
 import shutil
@@ -22,7 +24,7 @@ from shared import TOP
 TIER = "wrong-bodies"
 
 
-def copy_into(room, names):
+def copy_into(room: str, names: list[str]) -> None:
     """Copies what a check reads, with the wrong bodies of these crates instead of the gate's edits."""
     for file in ("HANDLES", "crates.txt"):
         shutil.copy(f"{TOP}/{file}", room)
@@ -33,18 +35,18 @@ def copy_into(room, names):
             shutil.copytree(f"{source}/{TIER}", f"{target}/must-fail")
 
 
-def crates_with_wrong_bodies():
+def crates_with_wrong_bodies() -> list[str]:
     """The crates that have wrong bodies of this tier, by name."""
     return sorted(name for name in os.listdir(f"{TOP}/crates") if os.path.isdir(f"{TOP}/crates/{name}/{TIER}"))
 
 
-def run(room, names):
+def run(room: str, names: list[str]) -> list[str]:
     """Runs the gate over the crates, and returns its lines on each wrong body."""
     told = []
     with subprocess.Popen(
         ["rt", "ci", *names], cwd=room, stdin=subprocess.DEVNULL, stdout=subprocess.PIPE, stderr=subprocess.STDOUT, text=True
     ) as gate:
-        for line in gate.stdout:
+        for line in gate.stdout or ():
             if re.match(r"(rt: )?must-fail \w+/", line):
                 told.append(line.rstrip("\n"))
                 if ": refused" not in line:
@@ -52,7 +54,7 @@ def run(room, names):
     return told
 
 
-def main():
+def main() -> int:
     every = crates_with_wrong_bodies()
     parser = shared.words(__doc__)
     parser.add_argument("names", metavar="NAME", nargs="*", help="a crate (default: all that have wrong bodies)")
