@@ -90,7 +90,7 @@ def check_kept(source: str, found: Found) -> None:
 def check_alone(task: Task, found: Found, room: str) -> None:
     """Stops if a preparation that is run alone has less depth, or fewer LUTs at the same depth, than the best of the list."""
     for it in task.preparations:
-        best = prepare(replace(task, preparations=[it]), f"{room}/{it.name}").best
+        best = prepare(replace(task, preparations=[it], ready={}), f"{room}/{it.name}").best
         if best.key("depth") < found.best.key("depth"):
             sys.exit(f"{it.name} alone: depth {best.depth}, {best.tables} LUTs; of the list {found.best.depth}, {found.best.tables}")
 
