@@ -1,26 +1,11 @@
 -- Each name in a library that a text denotes is clean.
-use Rattle.std.proofs.Common.{◌≡◌, ℕ, ◌-◌, ◌<◌, eqb, List, [], ◌∷◌, ◌++◌, length, map, get_or, codes, Some, None, refl, sym, ap, ◌∙◌, subst, inl, inr, arith}
-use Rattle.std.proofs.lemmas.Option.{none-some, same_Some}
-use Rattle.list_laws.specs.Members.{In}
-use Rattle.list_laws.proofs.Members.{In-append, In-left, In-right, from_map}
+use Rattle.blif_read.proofs.Common.{◌≡◌, ℕ, ◌-◌, ◌<◌, eqb, List, [], ◌∷◌, ◌++◌, length, map, get_or, codes, Some, None, refl, sym, ap, ◌∙◌, subst, inl, inr, arith, none-some, same_Some, In, In-append, In-left, In-right, from_map, LineValue, token_bytes, words_line, Keyword, Cover, Latch, Subckt, Command, Pair, CoverValue, SubcktValue, ModelValue, LibraryValue, Ports, input_ports, output_ports, clock_ports, StatementValue, arguments_of, keyword_of, statement_at, statement_of, statements, IsLatch, plain, with_init, with_control, whole, Controls, nil, net, connection_token, IsConnection, IsSubckt, port_names, names_in, IsCoverLine, AreCommands, IsModel, AreModels, Denotes}
 use Rattle.tl_text.specs.declared.token.Token.{Token}
-use Rattle.tl_text.specs.LineValue.{LineValue, token_bytes, words_line}
 use Rattle.tl_text.specs.Clean.{IsClean, AreCleanIn}
 use Rattle.tl_text.proofs.PlaceLemmas.{lines_clean}
 use Rattle.tl_text.proofs.WrittenLineLemmas.{last_later}
-use Rattle.blif_read.specs.declared.keyword.Keyword.{Keyword}
 use Rattle.blif_read.specs.declared.keyword.Keyword.TheVariants as keyword
-use Rattle.netlist.specs.declared.command.Body.TheVariants.{Cover, Latch, Subckt}
-use Rattle.netlist.specs.declared.command.Command.{Command}
 use Rattle.netlist.specs.declared.latch.Latch.{Latch as LatchValue}
-use Rattle.netlist.specs.declared.subckt.Pair.{Pair}
-use Rattle.netlist.specs.CoverValue.{CoverValue}
-use Rattle.netlist.specs.SubcktValue.{SubcktValue}
-use Rattle.netlist.specs.LibraryValue.{ModelValue, LibraryValue, Ports, input_ports, output_ports, clock_ports}
-use Rattle.blif_read.specs.Statement.{StatementValue, arguments_of, keyword_of, statement_at, statement_of, statements}
-use Rattle.blif_read.specs.Latches.{IsLatch, plain, with_init, with_control, whole, Controls, nil, net}
-use Rattle.blif_read.specs.Connections.{connection_token, IsConnection, IsSubckt}
-use Rattle.blif_read.specs.Denotes.{port_names, names_in, IsCoverLine, AreCommands, IsModel, AreModels, Denotes}
 use Rattle.blif_read.specs.Denotes as denotes
 use Rattle.netlist.specs.HasCleanNames.{AreClean, IsCleanPair, IsCleanBody, IsCleanModel, HasCleanNames}
 
@@ -49,13 +34,7 @@ statements_clean text lines clean s i =
 -- the ports of lines
 port_in : (p : Ports) (k : Keyword) (names : List (List ℕ)) (name : List ℕ) → In (port_names p k names) name → In names name
 port_in input_ports keyword.Inputs names name i = i
-port_in input_ports keyword.Outputs names name i = absurd i
-port_in input_ports keyword.Clock names name i = absurd i
-port_in output_ports keyword.Inputs names name i = absurd i
 port_in output_ports keyword.Outputs names name i = i
-port_in output_ports keyword.Clock names name i = absurd i
-port_in clock_ports keyword.Inputs names name i = absurd i
-port_in clock_ports keyword.Outputs names name i = absurd i
 port_in clock_ports keyword.Clock names name i = i
 port_in p k names name i = absurd i
 

@@ -1,26 +1,10 @@
 -- What a text denotes, the reader reads.
-use Rattle.std.proofs.Common.{◌≡◌, ℕ, ◌<◌, Bool, true, List, [], ◌∷◌, ◌++◌, length, map, Some, None, Result, Ok, refl, sym, ap, ◌∙◌, subst, arith, append_assoc}
-use Rattle.std.proofs.lemmas.List.{append-nil}
-use Rattle.std.proofs.lemmas.Bool.{cond-false}
-use Rattle.blif_read.specs.declared.blif_err.BlifErr.{BlifErr}
-use Rattle.blif_read.specs.declared.blif_err.BlifErr.TheVariants.{DuplicateModel}
+use Rattle.blif_read.proofs.Common.{◌≡◌, ℕ, ◌<◌, Bool, true, List, [], ◌∷◌, ◌++◌, length, map, Some, None, Result, Ok, refl, sym, ap, ◌∙◌, subst, arith, append_assoc, append-nil, cond-false, BlifErr, DuplicateModel, Body, Cover, Latch, Subckt, Command, CoverValue, RowValue, ModelValue, LibraryValue, Ports, input_ports, output_ports, clock_ports, ports_of, StatementValue, AreOnce, AreRows, port_names, names_in, IsCoverLine, AreCommands, IsModel, AreModels, Denotes, has, model_fault, ports_fault, fault_by, State, ModelRead, with_command, flushed, ended, context, with_ports, ports_read, body_read, next_by, or_fault, steps, library_at_end, finished, lines_read, text_read, fresh}
 use Rattle.blif_read.specs.declared.keyword.Keyword.TheVariants as keyword
-use Rattle.netlist.specs.declared.command.Body.{Body}
-use Rattle.netlist.specs.declared.command.Body.TheVariants.{Cover, Latch, Subckt}
-use Rattle.netlist.specs.declared.command.Command.{Command}
-use Rattle.netlist.specs.CoverValue.{CoverValue, RowValue}
-use Rattle.netlist.specs.LibraryValue.{ModelValue, LibraryValue, Ports, input_ports, output_ports, clock_ports, ports_of}
-use Rattle.blif_read.specs.Statement.{StatementValue}
-use Rattle.tl_text.specs.Once.{AreOnce}
-use Rattle.blif_read.specs.Rows.{AreRows}
-use Rattle.blif_read.specs.Denotes.{port_names, names_in, IsCoverLine, AreCommands, IsModel, AreModels, Denotes}
 use Rattle.blif_read.specs.Denotes as denotes
-use Rattle.blif_read.specs.LineFault.{has, model_fault, ports_fault, fault_by}
-use Rattle.blif_read.specs.Reading.{State, ModelRead, with_command, flushed, ended, context, with_ports, ports_read, body_read, next_by, or_fault, steps, library_at_end, finished, lines_read, text_read, fresh}
 use Rattle.blif_read.proofs.FitsLemmas.{once_has, ports_fit, latch_fits, subckt_fits, cover_fits, names_fit}
 use Rattle.blif_read.proofs.StepLemmas.{step_over, within, between, value_after, with_last, cover_with, rows_steps}
-use Rattle.blif_read.proofs.PortLemmas.{ports_grown, ports_keep, ports_commanded, ports_flushed}
-use Rattle.blif_read.proofs.BodyPortLemmas.{keyword_for, ports_line, which_ports, own_names, names_none, latch_none, subckt_none, end_none, skipped, rows_skipped}
+use Rattle.blif_read.proofs.PortLemmas.{keyword_for, ports_line, which_ports, own_names, names_ports, skipped, rows_skipped, ports_grown, ports_keep, ports_commanded, ports_flushed}
 
 -- what follows the lines of a model: nothing, or a `.model` line
 data BeginsModel : List StatementValue → Type 0 where
@@ -86,13 +70,11 @@ becomes_ports q m t s ss commands k b = record {
 ports_no_fault : (q : Ports) (names : List (List ℕ)) (done : List ModelValue) (r : ModelRead) (number : ℕ) (words : List (List ℕ)) → ports_fault number (ports_of q r.model) words ≡ None
     → fault_by (keyword_for q) (context (within names done r)) number words ≡ None
 ports_no_fault input_ports names done r number words h = h
-ports_no_fault output_ports names done r number words h = h
-ports_no_fault clock_ports names done r number words h = h
+ports_no_fault q names done r number words h = h
 
 ports_next : (q : Ports) (names : List (List ℕ)) (done : List ModelValue) (r : ModelRead) (number : ℕ) (words : List (List ℕ)) → next_by (keyword_for q) (within names done r) number words ≡ within names done (ports_read q words r)
 ports_next input_ports names done r number words = refl
-ports_next output_ports names done r number words = refl
-ports_next clock_ports names done r number words = refl
+ports_next q names done r number words = refl
 
 value_last : (value : Bool) (rows : List RowValue) → (rows ≡ [] → value ≡ true) → value_after true value rows ≡ value
 value_last value [] none = sym (none refl)
@@ -125,14 +107,14 @@ lines_steps names done t once rest follows denotes.none r b =
     same_rest (within names done r) (between names (done ++ t ∷ [])) refl (ap (λ m. done ++ m ∷ []) (becomes_itself (flushed r) t [] (λ p. refl) b)) follows
 lines_steps names done t once rest follows (denotes.end s k a) r b =
     ap finished (step_over (within names done r) s keyword.End [] rest k a refl)
-    ∙ ap (λ m. finished (steps (between names (done ++ m ∷ [])) rest)) (becomes_itself (flushed r) t (s ∷ []) (λ p. skipped s [] keyword.End k end_none p) b)
+    ∙ ap (λ m. finished (steps (between names (done ++ m ∷ [])) rest)) (becomes_itself (flushed r) t (s ∷ []) (λ p. skipped s [] (ap names_ports k) p) b)
 lines_steps names done t once rest follows (denotes.ports s ss commands which are) r b = elim (which_ports s.keyword which) [
   | ports_line q k ↦ ap finished (ports_step names done t r q s ss (ss ++ rest) commands k (once q) b) ∙ lines_steps names done t once rest follows are (ports_read q s.arguments r) (becomes_ports q (flushed r) t s ss commands k b)
 ]
 lines_steps names done t once rest follows (denotes.cover s rows later ss c commands is rows_are split are) r b =
     let all : ss ++ rest ≡ rows ++ (later ++ rest) = ap (λ xs. xs ++ rest) split ∙ append_assoc rows later rest in
     let same : (p : Ports) → names_in p (s ∷ ss) ≡ names_in p later =
-    λ p. skipped s ss keyword.Names is.is names_none p ∙ ap (names_in p) split ∙ rows_skipped (length c.inputs) c.value later p rows_are in
+    λ p. skipped s ss (ap names_ports is.is) p ∙ ap (names_in p) split ∙ rows_skipped (length c.inputs) c.value later p rows_are in
     ap (λ xs. finished (steps (within names done r) (s ∷ xs))) all
     ∙ ap finished (cover_steps names done r s rows (later ++ rest) c is rows_are)
     ∙ lines_steps names done t once rest follows are (with_last (flushed r) s.number c) (becomes_command (flushed r) t s.number (Cover c) (s ∷ ss) later commands same b)
@@ -140,12 +122,12 @@ lines_steps names done t once rest follows (denotes.latch s ss l commands k is a
     let f = latch_fits s.number s.arguments l is in
     ap finished (step_over (within names done r) s keyword.Latch s.arguments (ss ++ rest) k refl f.0)
     ∙ ap (λ x. finished (steps (within names done (body_read s.number (Latch x) r)) (ss ++ rest))) f.1
-    ∙ lines_steps names done t once rest follows are (body_read s.number (Latch l) r) (becomes_command (flushed r) t s.number (Latch l) (s ∷ ss) ss commands (skipped s ss keyword.Latch k latch_none) b)
+    ∙ lines_steps names done t once rest follows are (body_read s.number (Latch l) r) (becomes_command (flushed r) t s.number (Latch l) (s ∷ ss) ss commands (skipped s ss (ap names_ports k)) b)
 lines_steps names done t once rest follows (denotes.subckt s ss l commands k is are) r b =
     let f = subckt_fits s.number s.arguments l is in
     ap finished (step_over (within names done r) s keyword.Subckt s.arguments (ss ++ rest) k refl f.0)
     ∙ ap (λ x. finished (steps (within names done (body_read s.number (Subckt x) r)) (ss ++ rest))) f.1
-    ∙ lines_steps names done t once rest follows are (body_read s.number (Subckt l) r) (becomes_command (flushed r) t s.number (Subckt l) (s ∷ ss) ss commands (skipped s ss keyword.Subckt k subckt_none) b)
+    ∙ lines_steps names done t once rest follows are (body_read s.number (Subckt l) r) (becomes_command (flushed r) t s.number (Subckt l) (s ∷ ss) ss commands (skipped s ss (ap names_ports k)) b)
 
 -- the lines of models
 begins : {ss : List StatementValue} {ms : List ModelValue} → AreModels ss ms → BeginsModel ss
@@ -157,8 +139,7 @@ begun s body m is = record { name = refl; line = is.line; ports = own; commands 
   where
     own : (p : Ports) → ports_of p m ≡ ports_of p (flushed (fresh (m.name ∷ []) s.number)) ++ names_in p body
     own input_ports = is.ports input_ports
-    own output_ports = is.ports output_ports
-    own clock_ports = is.ports clock_ports
+    own q = is.ports q
 
 models_steps : {ss : List StatementValue} {ms : List ModelValue} → AreModels ss ms → (names : List (List ℕ)) (done : List ModelValue) → AreOnce (names ++ map (λ (m : ModelValue). m.name) ms)
     → finished (steps (between names done) ss) ≡ library_at_end (done ++ ms)

@@ -1,23 +1,9 @@
 -- What the reader makes of lines without a refusal is what they denote.
-use Rattle.std.proofs.Common.{◌≡◌, ℕ, ◌<◌, List, [], ◌∷◌, ◌++◌, length, Some, None, Result, Ok, Err, refl, sym, ap, ◌∙◌, subst, arith}
+use Rattle.blif_read.proofs.Common.{◌≡◌, ℕ, ◌<◌, List, [], ◌∷◌, ◌++◌, length, Some, None, Result, Ok, Err, refl, sym, ap, ◌∙◌, subst, arith, none-some, LineValue, lines_of, TextErr, BlifErr, Keyword, Body, ModelValue, LibraryValue, input_ports, output_ports, clock_ports, ports_of, StatementValue, statements, AreOnce, none, row_of, end_fault, fault_by, line_fault, CoverRead, State, start, with_command, ended, context, fresh, with_ports, cover_of, with_row, latch_of, subckt_of, next_by, next, steps, library_at_end, library_read, lines_read, text_read}
 use Rattle.std.proofs.lemmas.List.{append-nil, append_assoc}
-use Rattle.std.proofs.lemmas.Option.{none-some}
-use Rattle.tl_text.specs.LineValue.{LineValue}
-use Rattle.tl_text.specs.Lines.{lines_of}
-use Rattle.tl_text.specs.declared.text_err.TextErr.{TextErr}
-use Rattle.blif_read.specs.declared.blif_err.BlifErr.{BlifErr}
-use Rattle.blif_read.specs.declared.keyword.Keyword.{Keyword}
 use Rattle.blif_read.specs.declared.keyword.Keyword.TheVariants.{Model, Inputs, Outputs, Clock, Names, Latch, Subckt, End, Unknown, Plain}
-use Rattle.netlist.specs.declared.command.Body.{Body}
 use Rattle.netlist.specs.declared.command.Body.TheVariants as body
-use Rattle.netlist.specs.LibraryValue.{ModelValue, LibraryValue, input_ports, output_ports, clock_ports, ports_of}
-use Rattle.blif_read.specs.Statement.{StatementValue, statements}
-use Rattle.tl_text.specs.Once.{AreOnce}
-use Rattle.blif_read.specs.Rows.{none}
 use Rattle.blif_read.specs.Denotes.{AreModels, AreLibrary, Denotes, none, end as end_line, latch as latch_line, subckt as subckt_line}
-use Rattle.blif_read.specs.Context.{row_of}
-use Rattle.blif_read.specs.LineFault.{end_fault, fault_by, line_fault}
-use Rattle.blif_read.specs.Reading.{CoverRead, State, start, with_command, ended, context, fresh, with_ports, cover_of, with_row, latch_of, subckt_of, next_by, next, steps, library_at_end, library_read, lines_read, text_read}
 use Rattle.blif_read.proofs.FaultLemmas.{state_of, or_fault_ok, finished_ok}
 use Rattle.blif_read.proofs.OnceLemmas.{model_new}
 use Rattle.blif_read.proofs.FormedLemmas.{latch_is, names_are, subckt_is}

@@ -1,24 +1,12 @@
 -- The models that lines end with, from the open model and its last cover, and how a line before them changes that.
-use Rattle.std.proofs.Common.{◌≡◌, ℕ, ◌<◌, Bool, List, [], ◌∷◌, ◌++◌, length, Option, Some, None, refl, sym, ap, ◌∙◌, subst, arith}
+use Rattle.blif_read.proofs.Common.{◌≡◌, ℕ, ◌<◌, Bool, List, [], ◌∷◌, ◌++◌, length, Option, Some, None, refl, sym, ap, ◌∙◌, subst, arith, none-some, Model, Names, Plain, Body, Command, CoverValue, RowValue, ModelValue, Ports, input_ports, ports_of, StatementValue, IsRow, AreRows, none, more, RowRead, row_of, mixed_fault, row_read_fault, CoverRead, State, with_command, ended, value_so_far, first_word, fresh, with_ports, cover_of, with_row}
 use Rattle.std.proofs.lemmas.List.{append-nil, append_assoc}
-use Rattle.std.proofs.lemmas.Option.{none-some}
-use Rattle.blif_read.specs.declared.keyword.Keyword.TheVariants.{Model, Names, Plain}
-use Rattle.netlist.specs.declared.command.Body.{Body}
 use Rattle.netlist.specs.declared.command.Body.TheVariants as body
-use Rattle.netlist.specs.declared.command.Command.{Command}
-use Rattle.netlist.specs.CoverValue.{CoverValue, RowValue}
-use Rattle.netlist.specs.LibraryValue.{ModelValue, Ports, input_ports, output_ports, clock_ports, ports_of}
-use Rattle.blif_read.specs.Statement.{StatementValue}
-use Rattle.blif_read.specs.Rows.{IsRow, AreRows, none, more}
 use Rattle.blif_read.specs.Denotes.{port_names, names_in, AreCommands, AreModels, none, ports as ports_line, cover as cover_lines, model as model_lines}
-use Rattle.blif_read.specs.Context.{RowRead, row_of}
-use Rattle.blif_read.specs.LineFault.{mixed_fault, row_read_fault}
-use Rattle.blif_read.specs.Reading.{CoverRead, State, with_command, ended, value_so_far, first_word, fresh, with_ports, cover_of, with_row}
 use Rattle.blif_read.proofs.FaultLemmas.{same_value, value_there, some_push}
 use Rattle.blif_read.proofs.OnceLemmas.{IsNewName}
 use Rattle.blif_read.proofs.FormedLemmas.{row_is}
-use Rattle.blif_read.proofs.BodyPortLemmas.{keyword_for}
-use Rattle.blif_read.proofs.PortLemmas.{line_of, command_of, names_in-append, names_in-rows, is_port, ports_grown, HasOnce, ports_keep, ports_commanded, quiet_line}
+use Rattle.blif_read.proofs.PortLemmas.{keyword_for, line_of, command_of, names_in-append, names_in-rows, is_port, ports_grown, HasOnce, ports_keep, ports_commanded, quiet_line}
 
 -- The end that the lines lead to, where no model is open: models that the lines denote.
 pub record EndsClosed (done : List ModelValue) (ss : List StatementValue) (t : State) : Type 0 where
@@ -79,13 +67,11 @@ open_more done m grown front later ss new t split name line ports commands comma
 -- a model without ports so far, from its header
 pub header_once : (words : List (List ℕ)) (n : ℕ) → HasOnce (fresh words n).model
 header_once words n input_ports = tt
-header_once words n output_ports = tt
-header_once words n clock_ports = tt
+header_once words n q = tt
 
 header_ports : (p : Ports) (words : List (List ℕ)) (n : ℕ) (names : List (List ℕ)) → ports_of p (fresh words n).model ++ names ≡ names
 header_ports input_ports words n names = refl
-header_ports output_ports words n names = refl
-header_ports clock_ports words n names = refl
+header_ports q words n names = refl
 
 pub header_denoted : (models words : List (List ℕ)) (n : ℕ) (done : List ModelValue) (ss : List StatementValue) (t : State) → IsNewName models words → (e : EndsOpen done (fresh words n).model ss t)
     → AreModels (line_of Model n words ∷ ss) (e.whole ∷ e.made)

@@ -1,24 +1,7 @@
 -- The reader's state has the place that the earlier lines say, so its refusal is the text's.
-use Rattle.std.proofs.Common.{◌≡◌, ℕ, ◌+◌, ◌-◌, ◌<◌, Bool, true, false, ◌||◌, cond, eqb, List, [], ◌∷◌, ◌++◌, length, Option, Some, None, Result, Ok, Err, refl, sym, ap, ◌∙◌, subst, inl, inr, ◌⊎◌, arith}
-use Rattle.std.specs.Option.{option_map}
-use Rattle.std.proofs.lemmas.List.{append-nil, length-take-le, length_push}
-use Rattle.std.proofs.lemmas.Bool.{cond-false, ne_eqb}
-use Rattle.std.proofs.lemmas.Option.{none-some}
-use Rattle.tl_text.specs.LineValue.{LineValue}
-use Rattle.tl_text.specs.declared.text_err.TextErr.{TextErr}
-use Rattle.tl_text.specs.Lines.{lines_of}
-use Rattle.blif_read.specs.declared.blif_err.BlifErr.{BlifErr}
-use Rattle.blif_read.specs.declared.blif_err.BlifErr.TheVariants.{NoModel}
-use Rattle.blif_read.specs.declared.keyword.Keyword.{Keyword}
-use Rattle.blif_read.specs.declared.keyword.Keyword.TheVariants.{Model, Inputs, Outputs, Clock, Names, Latch, Subckt, End, Unknown, Plain}
-use Rattle.netlist.specs.CoverValue.{CoverValue, RowValue}
-use Rattle.netlist.specs.LibraryValue.{ModelValue, LibraryValue, Ports, input_ports, output_ports, clock_ports, ports_of}
-use Rattle.blif_read.specs.Statement.{StatementValue, statements}
-use Rattle.blif_read.specs.Context.{Context, CoverPlace, RowRead, row_of, first_value, row_place, place_after, open_after, models_after, ports_after, context_of}
-use Rattle.blif_read.specs.LineFault.{or_later, mixed_fault, row_read_fault, row_fault, fault_by, line_fault}
-use Rattle.blif_read.specs.ReadFault.{first_fault, is_model_keyword, has_model, statements_fault, blif_err, lines_fault, read_fault}
+use Rattle.blif_read.proofs.Common.{◌≡◌, ℕ, ◌+◌, ◌-◌, ◌<◌, Bool, true, false, ◌||◌, cond, eqb, List, [], ◌∷◌, ◌++◌, length, Option, Some, None, Result, Ok, Err, refl, sym, ap, ◌∙◌, subst, inl, inr, ◌⊎◌, arith, option_map, append-nil, length-take-le, length_push, cond-false, ne_eqb, none-some, LineValue, TextErr, lines_of, BlifErr, NoModel, Keyword, CoverValue, RowValue, ModelValue, LibraryValue, Ports, input_ports, output_ports, clock_ports, ports_of, StatementValue, statements, Context, CoverPlace, RowRead, row_of, first_value, row_place, place_after, open_after, models_after, ports_after, context_of, or_later, mixed_fault, row_read_fault, row_fault, fault_by, line_fault, first_fault, is_model_keyword, has_model, statements_fault, blif_err, lines_fault, read_fault, CoverRead, ModelRead, State, start, with_cover, ended, value_so_far, place_of_cover, context, cover_of, with_row, with_row_words, next_by, next, or_fault, steps, library_at_end, finished, library_read, lines_read, text_read}
+use Rattle.blif_read.specs.declared.keyword.Keyword.TheVariants.{Model, Inputs, Outputs, Clock, Names, End, Unknown, Plain}
 use Rattle.blif_read.proofs.PortLemmas.{ports_flushed}
-use Rattle.blif_read.specs.Reading.{CoverRead, ModelRead, State, start, with_cover, ended, value_so_far, place_of_cover, context, cover_of, with_row, with_row_words, next_by, next, or_fault, steps, library_at_end, finished, library_read, lines_read, text_read}
 
 -- contexts with the same parts are the same
 same_context : (a b : Context) → a.is_open ≡ b.is_open → a.models ≡ b.models → a.inputs ≡ b.inputs → a.outputs ≡ b.outputs → a.clocks ≡ b.clocks → a.cover ≡ b.cover → a ≡ b
@@ -89,21 +72,14 @@ next_place : (k : Keyword) (names : List (List ℕ)) (done : List ModelValue) (c
 next_place Model names done current n words h = refl
 next_place End names done current n words h = refl
 next_place Unknown names done current n words h = absurd (none-some _ (sym h))
-next_place Inputs names done None n words h = absurd (none-some _ (sym h))
+next_place k names done None n words h = absurd (none-some _ (sym h))
 next_place Inputs names done (Some r) n words h = same_context _ _ refl refl (ports_added input_ports r.model r.cover words) (ports_kept output_ports r.model r.cover) (ports_kept clock_ports r.model r.cover) refl
-next_place Outputs names done None n words h = absurd (none-some _ (sym h))
 next_place Outputs names done (Some r) n words h = same_context _ _ refl refl (ports_kept input_ports r.model r.cover) (ports_added output_ports r.model r.cover words) (ports_kept clock_ports r.model r.cover) refl
-next_place Clock names done None n words h = absurd (none-some _ (sym h))
 next_place Clock names done (Some r) n words h = same_context _ _ refl refl (ports_kept input_ports r.model r.cover) (ports_kept output_ports r.model r.cover) (ports_added clock_ports r.model r.cover words) refl
-next_place Names names done None n words h = absurd (none-some _ (sym h))
 next_place Names names done (Some r) n words h = same_context _ _ refl refl (ports_kept input_ports r.model r.cover) (ports_kept output_ports r.model r.cover) (ports_kept clock_ports r.model r.cover) (names_place words)
-next_place Latch names done None n words h = absurd (none-some _ (sym h))
-next_place Latch names done (Some r) n words h = same_context _ _ refl refl (ports_kept input_ports r.model r.cover) (ports_kept output_ports r.model r.cover) (ports_kept clock_ports r.model r.cover) refl
-next_place Subckt names done None n words h = absurd (none-some _ (sym h))
-next_place Subckt names done (Some r) n words h = same_context _ _ refl refl (ports_kept input_ports r.model r.cover) (ports_kept output_ports r.model r.cover) (ports_kept clock_ports r.model r.cover) refl
-next_place Plain names done None n words h = absurd (none-some _ (sym h))
 next_place Plain names done (Some r) n words h =
     same_context _ _ refl refl (sym (append-nil r.model.inputs)) (sym (append-nil r.model.outputs)) (sym (append-nil r.model.clocks)) (plain_place n r.cover words h)
+next_place k names done (Some r) n words h = same_context _ _ refl refl (ports_kept input_ports r.model r.cover) (ports_kept output_ports r.model r.cover) (ports_kept clock_ports r.model r.cover) refl
 
 -- the reader's place behind a line is what the lines up to it say
 pub context_next : (s : State) (l : StatementValue) (earlier : List StatementValue) → context s ≡ context_of earlier → line_fault (context s) l ≡ None → context (next s l) ≡ context_of (l ∷ earlier)
@@ -139,15 +115,7 @@ steps_fault_err (l ∷ ls) s earlier e same h =
 -- the first line without a refusal is a `.model` line
 begins_model : (k : Keyword) (n : ℕ) (words : List (List ℕ)) → fault_by k (context start) n words ≡ None → is_model_keyword k ≡ true
 begins_model Model n words h = refl
-begins_model Inputs n words h = absurd (none-some _ (sym h))
-begins_model Outputs n words h = absurd (none-some _ (sym h))
-begins_model Clock n words h = absurd (none-some _ (sym h))
-begins_model Names n words h = absurd (none-some _ (sym h))
-begins_model Latch n words h = absurd (none-some _ (sym h))
-begins_model Subckt n words h = absurd (none-some _ (sym h))
-begins_model End n words h = absurd (none-some _ (sym h))
-begins_model Unknown n words h = absurd (none-some _ (sym h))
-begins_model Plain n words h = absurd (none-some _ (sym h))
+begins_model k n words h = absurd (none-some _ (sym h))
 
 has_model_first : (l : StatementValue) (ls : List StatementValue) (t : State) → steps start (l ∷ ls) ≡ Ok t → has_model (l ∷ ls) ≡ true
 has_model_first l ls t h =
@@ -169,15 +137,7 @@ steps_some (l ∷ ls) s t some h =
 
 begins_some : (k : Keyword) (n : ℕ) (words : List (List ℕ)) → fault_by k (context start) n words ≡ None → 0 < length (ended (next_by k start n words))
 begins_some Model n words h = omega arith
-begins_some Inputs n words h = absurd (none-some _ (sym h))
-begins_some Outputs n words h = absurd (none-some _ (sym h))
-begins_some Clock n words h = absurd (none-some _ (sym h))
-begins_some Names n words h = absurd (none-some _ (sym h))
-begins_some Latch n words h = absurd (none-some _ (sym h))
-begins_some Subckt n words h = absurd (none-some _ (sym h))
-begins_some End n words h = absurd (none-some _ (sym h))
-begins_some Unknown n words h = absurd (none-some _ (sym h))
-begins_some Plain n words h = absurd (none-some _ (sym h))
+begins_some k n words h = absurd (none-some _ (sym h))
 
 -- so without a model there was no line
 no_lines : (ss : List StatementValue) (t : State) → steps start ss ≡ Ok t → ended t ≡ [] → ss ≡ []

@@ -1,48 +1,16 @@
 -- A line of the right form has no fault and is read as it is.
-use Rattle.std.proofs.Common.{◌≡◌, ℕ, suc, ◌+◌, ◌-◌, ◌<◌, Bool, true, false, not, ◌||◌, ◌&&◌, cond, eqb, ltb, List, [], ◌∷◌, ◌++◌, length, map, take, drop, get_or, bytes_eq, codes, Option, Some, None, refl, sym, ap, ◌∙◌, subst, inl, inr, arith, append_assoc, length-append}
-use Rattle.std.specs.List.{position, position_or_len}
-use Rattle.std.proofs.lemmas.Bool.{cases_Bool, cond-true, cond-false, lt-ltb, ne_eqb, eq-eqb, and_from, or_from, not_from_false, false_from_ne_true}
-use Rattle.std.proofs.lemmas.Slice.Eq.{bytes_eq-Decides}
+use Rattle.blif_read.proofs.Common.{◌≡◌, ℕ, suc, ◌+◌, ◌-◌, ◌<◌, Bool, true, false, not, ◌||◌, ◌&&◌, cond, eqb, ltb, List, [], ◌∷◌, ◌++◌, length, map, take, drop, get_or, bytes_eq, codes, Option, Some, None, refl, sym, ap, ◌∙◌, subst, inl, inr, arith, append_assoc, length-append, position, position_or_len, cond-true, cond-false, lt-ltb, ne_eqb, eq-eqb, and_from, or_from, not_from_false, false_from_ne_true, bytes_eq-Decides, In, bit_of, length-map, BadConnection, Cell, Zero, One, Any, Pair, RowValue, SubcktValue, StatementValue, AreOnce, IsRow, alone, behind, cell_character, output_token, IsLatch, plain, with_init, with_control, whole, Starts, one, zero_, Controls, nil, net, connection_token, IsConnection, IsSubckt, formals, cells_of, row_of, row_with, has, ports_fault, init_fault, latch_fault, connection_of, connections_fault, subckt_fault, split_at, names_fault, repeats_formal, with_formal, cover_of, control_of, init_of, latch_of, put_pair, pairs_of, subckt_of}
 use Rattle.std.proofs.Math.Seq.{take-append_seam, drop-append-add, get_or-append_seam}
-use Rattle.list_laws.specs.Members.{In}
-use Rattle.tl_text.specs.Decimal.{bit_of}
-use Rattle.std.proofs.lemmas.List.{length-map}
-use Rattle.blif_read.specs.declared.blif_err.BlifErr.TheVariants.{BadConnection}
-use Rattle.netlist.specs.declared.cell.Cell.{Cell}
-use Rattle.netlist.specs.declared.cell.Cell.TheVariants.{Zero, One, Any}
+use Rattle.list_laws.proofs.Apart.{not_in_both}
+use Rattle.tl_text.proofs.NameSetLemmas.{has_in}
 use Rattle.netlist.specs.declared.latch.Latch.{Latch}
-use Rattle.netlist.specs.declared.subckt.Pair.{Pair}
-use Rattle.netlist.specs.CoverValue.{RowValue}
-use Rattle.netlist.specs.SubcktValue.{SubcktValue}
-use Rattle.blif_read.specs.Statement.{StatementValue}
-use Rattle.tl_text.specs.Once.{AreOnce}
-use Rattle.blif_read.specs.Rows.{IsRow, alone, behind, cell_character, output_token}
-use Rattle.blif_read.specs.Latches.{IsLatch, plain, with_init, with_control, whole, Starts, one, zero_, Controls, nil, net}
-use Rattle.blif_read.specs.Connections.{connection_token, IsConnection, IsSubckt}
-use Rattle.netlist.specs.SubcktValue.{formals}
-use Rattle.blif_read.specs.Context.{cells_of, row_of, row_with}
-use Rattle.blif_read.specs.LineFault.{has, ports_fault, init_fault, latch_fault, connection_of, connections_fault, subckt_fault, split_at, names_fault, repeats_formal, with_formal}
-use Rattle.blif_read.specs.Reading.{cover_of, control_of, init_of, latch_of, put_pair, pairs_of, subckt_of}
 
 -- names without repeats
-In-middle : (xs : List (List ℕ)) (name : List ℕ) (more : List (List ℕ)) → In (xs ++ name ∷ more) name
-In-middle [] name more = inl refl
-In-middle (x ∷ xs) name more = inr (In-middle xs name more)
-
-once_apart : (xs : List (List ℕ)) (name : List ℕ) (more : List (List ℕ)) → AreOnce (xs ++ name ∷ more) → In xs name → ⊥
-once_apart [] name more once i = i
-once_apart (x ∷ xs) name more once (inl e) = once.0 (subst (λ y. In (xs ++ name ∷ more) y) e (In-middle xs name more))
-once_apart (x ∷ xs) name more once (inr i) = once_apart xs name more once.1 i
-
 pub has_none : (names : List (List ℕ)) (name : List ℕ) → (In names name → ⊥) → has names name ≡ false
-has_none [] name apart = refl
-has_none (x ∷ xs) name apart = elim (cases_Bool (bytes_eq name x)) [
-  | inl t ↦ absurd (apart (inl ((bytes_eq-Decides name x).0 t)))
-  | inr f ↦ ap (λ b. b || has xs name) f ∙ has_none xs name (λ i. apart (inr i))
-]
+has_none names name apart = false_from_ne_true (has names name) (λ t. apart (has_in names name t))
 
 pub once_has : (names : List (List ℕ)) (name : List ℕ) (more : List (List ℕ)) → AreOnce (names ++ name ∷ more) → has names name ≡ false
-once_has names name more once = has_none names name (once_apart names name more once)
+once_has names name more once = has_none names name (λ i. not_in_both names (name ∷ more) name once i (inl refl))
 
 pub ports_fit : (number : ℕ) (seen names more : List (List ℕ)) → AreOnce (seen ++ (names ++ more)) → ports_fault number seen names ≡ None
 ports_fit number seen [] more once = refl

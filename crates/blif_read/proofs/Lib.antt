@@ -1,3 +1,4 @@
+mod Common
 mod FaultLemmas
 mod OnceLemmas
 mod FormedLemmas
@@ -6,7 +7,6 @@ pub mod PortLemmas
 mod EndsLemmas
 mod DenotedLemmas
 mod FitsLemmas
-mod BodyPortLemmas
 mod StepLemmas
 mod CompleteLemmas
 mod WellFormedLemmas

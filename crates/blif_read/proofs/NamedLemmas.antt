@@ -1,14 +1,5 @@
 -- The names of the models that were read are those that began, and none stands twice.
-use Rattle.std.proofs.Common.{◌≡◌, ℕ, List, [], ◌∷◌, ◌++◌, map, Option, Some, None, Ok, refl, sym, ap, ◌∙◌, subst}
-use Rattle.std.proofs.lemmas.List.{map_push}
-use Rattle.blif_read.specs.declared.keyword.Keyword.{Keyword}
-use Rattle.blif_read.specs.declared.keyword.Keyword.TheVariants.{Model, End, Plain}
-use Rattle.list_laws.proofs.Apart.{pushed_apart}
-use Rattle.netlist.specs.LibraryValue.{ModelValue}
-use Rattle.blif_read.specs.Statement.{StatementValue}
-use Rattle.blif_read.specs.LineFault.{fault_by, line_fault}
-use Rattle.tl_text.specs.Once.{AreOnce}
-use Rattle.blif_read.specs.Reading.{CoverRead, ModelRead, State, with_cover, flushed, ended, context, first_word, fresh, model_after, next_by, next, steps}
+use Rattle.blif_read.proofs.Common.{◌≡◌, ℕ, List, [], ◌∷◌, ◌++◌, map, Option, Some, None, Ok, refl, sym, ap, ◌∙◌, subst, map_push, Keyword, Model, End, Plain, pushed_apart, ModelValue, StatementValue, fault_by, line_fault, AreOnce, CoverRead, ModelRead, State, with_cover, flushed, ended, context, first_word, fresh, model_after, next_by, next, steps}
 use Rattle.blif_read.proofs.FaultLemmas.{state_of, or_fault_ok}
 use Rattle.blif_read.proofs.OnceLemmas.{IsNewName, model_new}
 

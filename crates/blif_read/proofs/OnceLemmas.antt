@@ -1,13 +1,6 @@
 -- Lists of names in which none stands twice, and what lines without a refusal put behind them.
-use Rattle.std.proofs.Common.{◌≡◌, ℕ, List, [], ◌∷◌, ◌++◌, None, refl, sym, subst}
+use Rattle.blif_read.proofs.Common.{◌≡◌, ℕ, List, [], ◌∷◌, ◌++◌, None, refl, sym, subst, none-some, pushed_apart, In, DuplicateModel, DuplicatePort, has, model_fault, ports_fault, AreOnce, none_both}
 use Rattle.std.proofs.lemmas.List.{append-nil, append_assoc}
-use Rattle.std.proofs.lemmas.Option.{none-some}
-use Rattle.list_laws.proofs.Apart.{pushed_apart}
-use Rattle.list_laws.specs.Members.{In}
-use Rattle.blif_read.specs.declared.blif_err.BlifErr.TheVariants.{DuplicateModel, DuplicatePort}
-use Rattle.blif_read.specs.LineFault.{has, model_fault, ports_fault}
-use Rattle.tl_text.specs.Once.{AreOnce}
-use Rattle.list_laws.proofs.Choice.{none_both}
 pub use Rattle.list_laws.proofs.Members.{In-append}
 pub use Rattle.tl_text.proofs.NameLemmas.{not_there}
 

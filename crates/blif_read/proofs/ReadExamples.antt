@@ -1,15 +1,5 @@
 -- Worked examples: rows of the wrong length, connections and latches as they are written, an off-set row without inputs, and short names of ports.
-use Rattle.std.proofs.Common.{◌≡◌, ℕ, ◌<◌, ◌^◌, true, false, List, [], ◌∷◌, ◌++◌, length, codes, Some, None, refl, sym, ap, subst, inl, inr, arith}
-use Rattle.std.proofs.lemmas.Option.{same_Some}
-use Rattle.list_laws.specs.Members.{In}
-use Rattle.blif_read.specs.declared.blif_err.BlifErr.TheVariants.{BadLatch, LatchKind}
-use Rattle.netlist.specs.declared.cell.Cell.TheVariants.{Zero, One, Any}
-use Rattle.netlist.specs.CoverValue.{CoverValue, matches, cover_value}
-use Rattle.blif_read.specs.Context.{row_of}
-use Rattle.blif_read.specs.LineFault.{connection_of, latch_fault}
-use Rattle.netlist.specs.LibraryValue.{ModelValue}
-use Rattle.blif_read.specs.ReadFault.{read_fault}
-use Rattle.netlist.specs.ShortPorts.{HasShortPorts}
+use Rattle.blif_read.proofs.Common.{◌≡◌, ℕ, ◌<◌, ◌^◌, true, false, List, [], ◌∷◌, ◌++◌, length, codes, Some, None, refl, sym, ap, subst, inl, inr, arith, same_Some, In, BadLatch, LatchKind, Zero, One, Any, CoverValue, matches, cover_value, row_of, connection_of, latch_fault, ModelValue, read_fault, HasShortPorts}
 
 -- a row matches values of its length, and none of another
 as_long : matches (One ∷ Any ∷ Zero ∷ []) (true ∷ false ∷ false ∷ []) ≡ true

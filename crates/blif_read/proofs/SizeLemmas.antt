@@ -1,23 +1,10 @@
 -- A library holds no more than the bytes of its text.
-use Rattle.std.proofs.Common.{◌≡◌, ℕ, suc, ◌+◌, ◌≤◌, List, [], ◌∷◌, ◌++◌, length, map, Option, refl, ap, ◌∙◌, arith, length-append}
-use Rattle.tl_text.specs.LineValue.{LineValue, words_line}
+use Rattle.blif_read.proofs.Common.{◌≡◌, ℕ, suc, ◌+◌, ◌≤◌, List, [], ◌∷◌, ◌++◌, length, map, Option, refl, ap, ◌∙◌, arith, length-append, LineValue, words_line, Cover, Latch, Subckt, Command, Keyword, Pair, CoverValue, SubcktValue, ModelValue, LibraryValue, Ports, input_ports, output_ports, clock_ports, StatementValue, keyword_of, arguments_of, statement_at, statement_of, statements, IsLatch, plain, with_init, with_control, whole, Controls, nil, net, connection_token, IsSubckt, port_names, names_in, IsCoverLine, AreCommands, IsModel, AreModels, Denotes, name_size, names_size, pairs_size, control_size, body_size, commands_size, model_size, models_size, library_size}
 use Rattle.tl_text.proofs.SizeLemmas.{words_size, lines_size, lines_small}
-use Rattle.netlist.specs.declared.command.Body.TheVariants.{Cover, Latch, Subckt}
-use Rattle.netlist.specs.declared.command.Command.{Command}
-use Rattle.blif_read.specs.declared.keyword.Keyword.{Keyword}
 use Rattle.blif_read.specs.declared.keyword.Keyword.TheVariants as keyword
 use Rattle.netlist.specs.declared.latch.Latch.{Latch as LatchValue}
-use Rattle.netlist.specs.declared.subckt.Pair.{Pair}
-use Rattle.netlist.specs.CoverValue.{CoverValue}
-use Rattle.netlist.specs.SubcktValue.{SubcktValue}
-use Rattle.netlist.specs.LibraryValue.{ModelValue, LibraryValue, Ports, input_ports, output_ports, clock_ports}
-use Rattle.blif_read.specs.Statement.{StatementValue, keyword_of, arguments_of, statement_at, statement_of, statements}
-use Rattle.blif_read.specs.Latches.{IsLatch, plain, with_init, with_control, whole, Controls, nil, net}
-use Rattle.blif_read.specs.Connections.{connection_token, IsSubckt}
-use Rattle.blif_read.specs.Denotes.{port_names, names_in, IsCoverLine, AreCommands, IsModel, AreModels, Denotes}
 use Rattle.blif_read.specs.Denotes as denotes
-use Rattle.blif_read.specs.Size.{name_size, names_size, pairs_size, control_size, body_size, commands_size, model_size, models_size, library_size}
-use Rattle.blif_read.proofs.BodyPortLemmas.{keyword_for, ports_line, which_ports, names_none, latch_none, subckt_none, end_none, skipped, rows_skipped}
+use Rattle.blif_read.proofs.PortLemmas.{keyword_for, ports_line, which_ports, names_ports, skipped, rows_skipped}
 
 -- A statement: its words, and 1 for the keyword
 abbrev charge : Keyword → ℕ
@@ -37,15 +24,7 @@ words_names (word ∷ words) = let r : words_size words ≡ names_size words = w
 
 arguments_small : (k : Keyword) (word : List ℕ) (rest : List (List ℕ)) → charge k + names_size (arguments_of k word rest) ≤ name_size word + names_size rest
 arguments_small keyword.Plain word rest = omega arith
-arguments_small keyword.Model word rest = omega arith
-arguments_small keyword.Inputs word rest = omega arith
-arguments_small keyword.Outputs word rest = omega arith
-arguments_small keyword.Clock word rest = omega arith
-arguments_small keyword.Names word rest = omega arith
-arguments_small keyword.Latch word rest = omega arith
-arguments_small keyword.Subckt word rest = omega arith
-arguments_small keyword.End word rest = omega arith
-arguments_small keyword.Unknown word rest = omega arith
+arguments_small k word rest = omega arith
 
 statement_small : (number : ℕ) (words : List (List ℕ)) → statement_size (statement_at number words) ≤ names_size words
 statement_small number [] = omega arith
@@ -118,8 +97,7 @@ line_size k names ss =
 
 list_size : (q : Ports) (names : List (List ℕ)) (ss : List StatementValue) → line_size (keyword_for q) names ss ≡ names_size names + ports_size ss
 list_size input_ports names ss = let a : names_size (names ++ names_in input_ports ss) ≡ names_size names + names_size (names_in input_ports ss) = names-append names (names_in input_ports ss) in omega arith
-list_size output_ports names ss = let a : names_size (names ++ names_in output_ports ss) ≡ names_size names + names_size (names_in output_ports ss) = names-append names (names_in output_ports ss) in omega arith
-list_size clock_ports names ss = let a : names_size (names ++ names_in clock_ports ss) ≡ names_size names + names_size (names_in clock_ports ss) = names-append names (names_in clock_ports ss) in omega arith
+list_size q names ss = let a : names_size (names ++ names_in q ss) ≡ names_size names + names_size (names_in q ss) = names-append names (names_in q ss) in omega arith
 
 -- a command's line pays for it, and a line of ports for its names
 paid : (s : StatementValue) (k : Keyword) → s.keyword ≡ k → charge k ≡ 1 → statement_size s ≡ 1 + names_size s.arguments
@@ -127,7 +105,7 @@ paid s k e c = ap (λ n. n + names_size s.arguments) (ap charge e ∙ c)
 
 commands_small : {ss : List StatementValue} {commands : List Command} → AreCommands ss commands → ports_size ss + commands_size commands ≤ statements_size ss
 commands_small denotes.none = omega arith
-commands_small (denotes.end s k a) = let e : ports_size (s ∷ []) ≡ 0 = skipped_size (s ∷ []) [] (skipped s [] keyword.End k end_none) in omega arith
+commands_small (denotes.end s k a) = let e : ports_size (s ∷ []) ≡ 0 = skipped_size (s ∷ []) [] (skipped s [] (ap names_ports k)) in omega arith
 commands_small (denotes.ports s ss commands which are) = elim (which_ports s.keyword which) [
   | ports_line q k ↦
       let r : ports_size ss + commands_size commands ≤ statements_size ss = commands_small are in
@@ -136,18 +114,18 @@ commands_small (denotes.ports s ss commands which are) = elim (which_ports s.key
 commands_small (denotes.cover s rows rest ss c commands is rows_are split are) =
     let r : ports_size rest + commands_size commands ≤ statements_size rest = commands_small are in
     let e : ports_size (s ∷ ss) ≡ ports_size rest =
-    skipped_size (s ∷ ss) rest (λ p. skipped s ss keyword.Names is.is names_none p ∙ ap (names_in p) split ∙ rows_skipped (length c.inputs) c.value rest p rows_are) in
+    skipped_size (s ∷ ss) rest (λ p. skipped s ss (ap names_ports is.is) p ∙ ap (names_in p) split ∙ rows_skipped (length c.inputs) c.value rest p rows_are) in
     let a : statements_size ss ≡ statements_size rows + statements_size rest = ap statements_size split ∙ statements-append rows rest in
     let b : body_size (Cover c) ≡ names_size s.arguments = cover_size s c is in
     let h : statement_size s ≡ 1 + names_size s.arguments = paid s keyword.Names is.is refl in omega arith
 commands_small (denotes.latch s ss l commands k is are) =
     let r : ports_size ss + commands_size commands ≤ statements_size ss = commands_small are in
-    let e : ports_size (s ∷ ss) ≡ ports_size ss = skipped_size (s ∷ ss) ss (skipped s ss keyword.Latch k latch_none) in
+    let e : ports_size (s ∷ ss) ≡ ports_size ss = skipped_size (s ∷ ss) ss (skipped s ss (ap names_ports k)) in
     let b : body_size (Latch l) ≤ names_size s.arguments = latch_small s.arguments l is in
     let h : statement_size s ≡ 1 + names_size s.arguments = paid s keyword.Latch k refl in omega arith
 commands_small (denotes.subckt s ss l commands k is are) =
     let r : ports_size ss + commands_size commands ≤ statements_size ss = commands_small are in
-    let e : ports_size (s ∷ ss) ≡ ports_size ss = skipped_size (s ∷ ss) ss (skipped s ss keyword.Subckt k subckt_none) in
+    let e : ports_size (s ∷ ss) ≡ ports_size ss = skipped_size (s ∷ ss) ss (skipped s ss (ap names_ports k)) in
     let b : body_size (Subckt l) ≡ names_size s.arguments = subckt_size s.arguments l is in
     let h : statement_size s ≡ 1 + names_size s.arguments = paid s keyword.Subckt k refl in omega arith
 

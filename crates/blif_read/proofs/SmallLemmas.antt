@@ -1,14 +1,6 @@
 -- A library that a text denotes has few models, and the names of its main model's ports are short.
-use Rattle.std.proofs.Common.{◌≡◌, ℕ, ◌+◌, ◌<◌, ◌≤◌, ◌^◌, List, [], ◌∷◌, ◌++◌, length, Some, inl, inr, ap, subst, arith}
-use Rattle.std.specs.List.{slice_get}
-use Rattle.std.proofs.lemmas.Option.{same_Some, none-some}
-use Rattle.list_laws.specs.Members.{In}
-use Rattle.list_laws.proofs.Members.{In-append}
+use Rattle.blif_read.proofs.Common.{◌≡◌, ℕ, ◌+◌, ◌<◌, ◌≤◌, ◌^◌, List, [], ◌∷◌, ◌++◌, length, Some, inl, inr, ap, subst, arith, slice_get, same_Some, none-some, In, In-append, Denotes, ModelValue, LibraryValue, HasShortPorts, names_size, model_size, models_size, library_size}
 use Rattle.tl_text.specs.declared.logical_lines.TheConstants.{MOST_BYTES}
-use Rattle.blif_read.specs.Denotes.{Denotes}
-use Rattle.netlist.specs.LibraryValue.{ModelValue, LibraryValue}
-use Rattle.netlist.specs.ShortPorts.{HasShortPorts}
-use Rattle.blif_read.specs.Size.{names_size, model_size, models_size, library_size}
 use Rattle.blif_read.proofs.SizeLemmas.{denotes_small}
 
 -- there are no more models than they hold

@@ -1,19 +1,8 @@
 -- The reader's steps over a line without a fault, and over the rows of a cover.
-use Rattle.std.proofs.Common.{◌≡◌, ℕ, ◌<◌, Bool, true, false, cond, eqb, List, [], ◌∷◌, ◌++◌, length, Some, None, refl, sym, ap, ◌∙◌, subst, arith, append_assoc}
-use Rattle.std.proofs.lemmas.List.{append-nil}
-use Rattle.std.proofs.lemmas.Bool.{eqb-false}
-use Rattle.list_laws.proofs.Choice.{choose}
-use Rattle.blif_read.specs.declared.keyword.Keyword.{Keyword}
+use Rattle.blif_read.proofs.Common.{◌≡◌, ℕ, ◌<◌, Bool, true, false, cond, eqb, List, [], ◌∷◌, ◌++◌, length, Some, None, refl, sym, ap, ◌∙◌, subst, arith, append_assoc, append-nil, eqb-false, choose, Keyword, CoverValue, RowValue, ModelValue, StatementValue, IsRow, AreRows, row_of, fault_by, line_fault, mixed_fault, row_read_fault, State, ModelRead, context, value_so_far, with_row, next_by, next, or_fault, steps}
 use Rattle.blif_read.specs.declared.keyword.Keyword.TheVariants as keyword
-use Rattle.netlist.specs.CoverValue.{CoverValue, RowValue}
-use Rattle.netlist.specs.LibraryValue.{ModelValue}
-use Rattle.blif_read.specs.Statement.{StatementValue}
-use Rattle.blif_read.specs.Rows.{IsRow, AreRows}
 use Rattle.blif_read.specs.Rows as lines_rows
-use Rattle.blif_read.specs.Context.{row_of}
-use Rattle.blif_read.specs.LineFault.{fault_by, line_fault, mixed_fault, row_read_fault}
-use Rattle.blif_read.specs.Reading.{State, ModelRead, context, value_so_far, with_row, next_by, next, or_fault, steps}
-use Rattle.blif_read.proofs.BodyPortLemmas.{row_keyword}
+use Rattle.blif_read.proofs.PortLemmas.{row_keyword}
 use Rattle.blif_read.proofs.FitsLemmas.{row_fits}
 
 -- a line that has no fault

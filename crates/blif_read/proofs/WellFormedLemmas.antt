@@ -1,13 +1,6 @@
 -- Every library that a text denotes is well formed.
-use Rattle.std.proofs.Common.{◌≡◌, ℕ, Bool, List, length, sym, ap, ◌∙◌, subst, inl, inr}
-use Rattle.list_laws.specs.Members.{In}
-use Rattle.netlist.specs.declared.command.Command.{Command}
-use Rattle.netlist.specs.CoverValue.{RowValue}
-use Rattle.netlist.specs.LibraryValue.{ModelValue, LibraryValue}
-use Rattle.blif_read.specs.Statement.{StatementValue}
-use Rattle.blif_read.specs.Rows.{IsRow, alone, behind, AreRows}
+use Rattle.blif_read.proofs.Common.{◌≡◌, ℕ, Bool, List, length, sym, ap, ◌∙◌, subst, inl, inr, In, Command, RowValue, ModelValue, LibraryValue, StatementValue, IsRow, alone, behind, AreRows, AreCommands, AreModels, Denotes}
 use Rattle.blif_read.specs.Rows as lines_rows
-use Rattle.blif_read.specs.Denotes.{AreCommands, AreModels, Denotes}
 use Rattle.blif_read.specs.Denotes as denotes
 use Rattle.netlist.specs.WellFormed.{IsWellFormedBody, IsWellFormedModel, IsWellFormed}
 

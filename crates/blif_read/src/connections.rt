@@ -1,9 +1,10 @@
 //! The `.subckt` lines.
-ghost use Rattle.std.specs.Prelude.{◌≡◌, ◌==◌, ◌<◌, [], length, None, Some, MatchResult, IfOk, position};
-ghost use Rattle.blif_read.specs.LineFault.{connection_of, split_at, connections_fault, subckt_fault};
+ghost use Rattle.std.specs.Prelude.{◌≡◌, ◌==◌, ◌<◌, ◌++◌, [], length, true, false, None, Some, MatchResult, IfOk, position};
+ghost use Rattle.blif_read.specs.declared.blif_err.BlifErr.TheVariants.{BadConnection};
+ghost use Rattle.blif_read.specs.LineFault.{connection_of, split_at, repeats_formal, with_formal, connections_fault, subckt_fault};
 ghost use Rattle.blif_read.specs.Refusals.{refusal_of};
 ghost use Rattle.tl_fault.specs.OrMemory.{OrMemory};
-ghost use Rattle.blif_read.specs.Reading.{pairs_of, subckt_of};
+ghost use Rattle.blif_read.specs.Reading.{put_pair, pairs_of, subckt_of};
 
 use crate::blif_err::BlifErr;
 use netlist::{Pair, Subckt};
@@ -48,6 +49,29 @@ fn connection(alloc: Global, word: &[u8]) -> Result<Option<Pair>, AllocError>
     }
 }
 
+// Adds the connection that a word is, and its formal.
+fn add_pair(
+    alloc: Global,
+    number: u32,
+    formals: &mut NameIndex,
+    pairs: &mut Vec<Pair>,
+    word: &[u8],
+) -> Result<(), BlifErr>
+    ensures { MatchResult result
+        (λ _. (repeats_formal formals.old (connection_of word.now) ≡ false) × (formals.new ≡ with_formal formals.old (connection_of word.now)) × (pairs.new.items ≡ pairs.old.items ++ put_pair (connection_of word.now) []))
+        (OrMemory refusal_of (λ e. (repeats_formal formals.old (connection_of word.now) ≡ true) × (e ≡ BadConnection number))) }
+{
+    let Some(pair) = connection(alloc, word)? else {
+        return Err(BlifErr::BadConnection(number));
+    };
+    if formals.place(pair.formal.bytes()).is_some() {
+        return Err(BlifErr::BadConnection(number));
+    }
+    formals.add(alloc, pair.formal.bytes())?;
+    pairs.push(pair)?;
+    Ok(())
+}
+
 // The connections that words are.
 fn pairs(alloc: Global, number: u32, words: &[Name]) -> Result<Vec<Pair>, BlifErr>
     ensures { MatchResult result
@@ -57,14 +81,7 @@ fn pairs(alloc: Global, number: u32, words: &[Name]) -> Result<Vec<Pair>, BlifEr
     let mut formals = NameIndex::new(alloc);
     let mut pairs = Vec::new(alloc);
     for word in words {
-        let Some(pair) = connection(alloc, word.bytes())? else {
-            return Err(BlifErr::BadConnection(number));
-        };
-        if formals.place(pair.formal.bytes()).is_some() {
-            return Err(BlifErr::BadConnection(number));
-        }
-        formals.add(alloc, pair.formal.bytes())?;
-        pairs.push(pair)?;
+        add_pair(alloc, number, &mut formals, &mut pairs, word.bytes())?;
     }
     Ok(pairs)
 }

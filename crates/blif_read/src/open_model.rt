@@ -1,11 +1,10 @@
 //! A model whose lines are being read.
-ghost use Rattle.std.specs.Prelude.{◌≡◌, Some, ◌∷◌, [], None, MatchResult, IfOk};
+ghost use Rattle.std.specs.Prelude.{◌≡◌, ◌++◌, Some, ◌∷◌, [], None, MatchResult, IfOk, OnOk};
 ghost use Rattle.netlist.specs.declared.command.Body.TheVariants.{Latch as LatchBody, Subckt as SubcktBody};
-ghost use Rattle.netlist.specs.LibraryValue.{input_ports, output_ports, clock_ports};
 ghost use Rattle.blif_read.specs.LineFault.{latch_fault, names_fault, ports_fault, row_fault, subckt_fault};
 ghost use Rattle.blif_read.specs.Refusals.{refusal_of};
 ghost use Rattle.tl_fault.specs.OrMemory.{OrMemory};
-ghost use Rattle.blif_read.specs.Reading.{body_read, flushed, fresh, latch_of, names_read, place_of_cover, ports_read, row_read, subckt_of};
+ghost use Rattle.blif_read.specs.Reading.{body_read, flushed, fresh, latch_of, names_read, place_of_cover, row_read, subckt_of};
 ghost use Rattle.blif_read.specs.Reading.{model_after as after};
 ghost use Rattle.blif_read.specs.Inside.{commands_with, model_line_fault};
 
@@ -40,175 +39,143 @@ impl Model for OpenModel {
     ghost view = { λ m. record { model = record { name = m.name; line = m.line; inputs = m.inputs; outputs = m.outputs; clocks = m.clocks; commands = m.commands.items }; cover = m.cover } };
 }
 
-// The commands with the cover of whose rows none follow any more.
-fn with_cover(
-    mut commands: Vec<Command>,
-    cover: Option<OpenCover>,
-) -> Result<Vec<Command>, AllocError>
-    ensures { IfOk result (λ made. made.items ≡ commands_with commands.items cover) }
+// Appends the cover of whose rows none follow any more.
+fn add_cover(commands: &mut Vec<Command>, cover: Option<OpenCover>) -> Result<(), AllocError>
+    ensures { OnOk result (commands.new.items ≡ commands_with commands.old.items cover) }
 {
     match cover {
-        None => Ok(commands),
+        None => Ok(()),
         Some(OpenCover { line, mut cover }) => {
             cover.rows.shrink_to_fit();
             commands.push(Command {
                 line,
                 body: Body::Cover(cover),
             })?;
-            Ok(commands)
+            Ok(())
         }
     }
 }
 
-// The model with its last cover among its commands: no row of it follows any more.
-fn with_last_cover(model: OpenModel) -> Result<OpenModel, AllocError>
-    ensures { IfOk result (λ m. m ≡ record { model = record model.model { commands = commands_with model.model.commands model.cover }; cover = None }) }
+// Puts the last cover among the commands: no row of it follows any more.
+fn end_cover(model: &mut OpenModel) -> Result<(), AllocError>
+    ensures { OnOk result (model.new ≡ record { model = record model.old.model { commands = commands_with model.old.model.commands model.old.cover }; cover = None }) }
 {
-    let commands = with_cover(model.commands, model.cover)?;
-    Ok(OpenModel {
-        commands,
-        cover: None,
-        ..model
-    })
+    let cover = model.cover.take();
+    add_cover(&mut model.commands, cover)
 }
 
-// The model with the ports of a line.
-fn with_inputs(
+// Appends the names of a line to ports.
+fn add_ports(
     alloc: Global,
-    model: OpenModel,
+    ports: &mut PortList,
     number: u32,
     names: Vec<Name>,
-) -> Result<OpenModel, BlifErr>
+) -> Result<(), BlifErr>
     ensures { MatchResult result
-        (λ m. (ports_fault number model.model.inputs names.items ≡ None) × (m ≡ ports_read input_ports names.items model))
-        (OrMemory refusal_of (λ e. ports_fault number model.model.inputs names.items ≡ Some e)) }
+        (λ _. (ports_fault number ports.old names.items ≡ None) × (ports.new ≡ ports.old ++ names.items))
+        (OrMemory refusal_of (λ e. ports_fault number ports.old names.items ≡ Some e)) }
 {
-    let model = with_last_cover(model)?;
-    let inputs = model.inputs.with(alloc, number, names)?;
-    Ok(OpenModel { inputs, ..model })
+    let before = std::mem::replace(ports, PortList::new(alloc));
+    *ports = before.with(alloc, number, names)?;
+    Ok(())
 }
 
-fn with_outputs(
+// Begins the cover of a `.names` line.
+fn begin_cover(
     alloc: Global,
-    model: OpenModel,
+    model: &mut OpenModel,
     number: u32,
     names: Vec<Name>,
-) -> Result<OpenModel, BlifErr>
+) -> Result<(), BlifErr>
     ensures { MatchResult result
-        (λ m. (ports_fault number model.model.outputs names.items ≡ None) × (m ≡ ports_read output_ports names.items model))
-        (OrMemory refusal_of (λ e. ports_fault number model.model.outputs names.items ≡ Some e)) }
-{
-    let model = with_last_cover(model)?;
-    let outputs = model.outputs.with(alloc, number, names)?;
-    Ok(OpenModel { outputs, ..model })
-}
-
-fn with_clocks(
-    alloc: Global,
-    model: OpenModel,
-    number: u32,
-    names: Vec<Name>,
-) -> Result<OpenModel, BlifErr>
-    ensures { MatchResult result
-        (λ m. (ports_fault number model.model.clocks names.items ≡ None) × (m ≡ ports_read clock_ports names.items model))
-        (OrMemory refusal_of (λ e. ports_fault number model.model.clocks names.items ≡ Some e)) }
-{
-    let model = with_last_cover(model)?;
-    let clocks = model.clocks.with(alloc, number, names)?;
-    Ok(OpenModel { clocks, ..model })
-}
-
-// The model with a command.
-fn with_body(model: OpenModel, line: u32, body: Body) -> Result<OpenModel, AllocError>
-    ensures { IfOk result (λ m. m ≡ body_read line body model) }
-{
-    let mut model = with_last_cover(model)?;
-    model.commands.push(Command { line, body })?;
-    Ok(model)
-}
-
-// The model with the cover of a `.names` line.
-fn with_names(
-    alloc: Global,
-    model: OpenModel,
-    number: u32,
-    names: Vec<Name>,
-) -> Result<OpenModel, BlifErr>
-    ensures { MatchResult result
-        (λ m. (names_fault number names.items ≡ None) × (m ≡ names_read number names.items model))
+        (λ _. (names_fault number names.items ≡ None) × (model.new ≡ names_read number names.items model.old))
         (OrMemory refusal_of (λ e. names_fault number names.items ≡ Some e)) }
 {
-    let Some(next) = open_cover(alloc, number, names) else {
-        return Err(BlifErr::Arity(number));
-    };
-    let model = with_last_cover(model)?;
-    Ok(OpenModel {
-        cover: Some(next),
-        ..model
-    })
+    end_cover(model)?;
+    match open_cover(alloc, number, names) {
+        None => Err(BlifErr::Arity(number)),
+        Some(next) => {
+            model.cover = Some(next);
+            Ok(())
+        }
+    }
 }
 
-// The model with the row that a line's words are.
-fn with_row_line(
-    alloc: Global,
-    model: OpenModel,
-    number: u32,
-    words: &[Name],
-) -> Result<OpenModel, BlifErr>
+// Adds the row that a line's words are.
+fn add_row(alloc: Global, model: &mut OpenModel, number: u32, words: &[Name]) -> Result<(), BlifErr>
     ensures { MatchResult result
-        (λ m. (row_fault number (place_of_cover model.cover) words.now ≡ None) × (m ≡ row_read words.now model))
-        (OrMemory refusal_of (λ e. row_fault number (place_of_cover model.cover) words.now ≡ Some e)) }
+        (λ _. (row_fault number (place_of_cover model.old.cover) words.now ≡ None) × (model.new ≡ row_read words.now model.old))
+        (OrMemory refusal_of (λ e. row_fault number (place_of_cover model.old.cover) words.now ≡ Some e)) }
 {
-    let cover = read_cover_row(alloc, number, model.cover, words)?;
-    Ok(OpenModel { cover, ..model })
+    model.cover = read_cover_row(alloc, number, model.cover.take(), words)?;
+    Ok(())
 }
 
-// The model with the latch that a line's words are.
-fn with_latch(model: OpenModel, number: u32, words: Vec<Name>) -> Result<OpenModel, BlifErr>
+// Adds the latch that a line's words are.
+fn add_latch(model: &mut OpenModel, number: u32, words: Vec<Name>) -> Result<(), BlifErr>
     ensures { MatchResult result
-        (λ m. (latch_fault number words.items ≡ None) × (m ≡ body_read number (LatchBody (latch_of words.items)) model))
+        (λ _. (latch_fault number words.items ≡ None) × (model.new ≡ body_read number (LatchBody (latch_of words.items)) model.old))
         (OrMemory refusal_of (λ e. latch_fault number words.items ≡ Some e)) }
 {
+    end_cover(model)?;
     let latch = latch_line(number, words)?;
-    Ok(with_body(model, number, Body::Latch(latch))?)
+    model.commands.push(Command {
+        line: number,
+        body: Body::Latch(latch),
+    })?;
+    Ok(())
 }
 
-// The model with the subcircuit that a line's words are.
-fn with_subckt(
+// Adds the subcircuit that a line's words are.
+fn add_subckt(
     alloc: Global,
-    model: OpenModel,
+    model: &mut OpenModel,
     number: u32,
     words: Vec<Name>,
-) -> Result<OpenModel, BlifErr>
+) -> Result<(), BlifErr>
     ensures { MatchResult result
-        (λ m. (subckt_fault number words.items ≡ None) × (m ≡ body_read number (SubcktBody (subckt_of words.items)) model))
+        (λ _. (subckt_fault number words.items ≡ None) × (model.new ≡ body_read number (SubcktBody (subckt_of words.items)) model.old))
         (OrMemory refusal_of (λ e. subckt_fault number words.items ≡ Some e)) }
 {
+    end_cover(model)?;
     let subckt = subckt_line(alloc, number, words)?;
-    Ok(with_body(model, number, Body::Subckt(subckt))?)
+    model.commands.push(Command {
+        line: number,
+        body: Body::Subckt(subckt),
+    })?;
+    Ok(())
 }
 
-/// The model with one more line, which doesn't begin or end a model.
-pub(crate) fn model_after(
+/// Adds a line, which doesn't begin or end a model.
+pub(crate) fn add_line(
     alloc: Global,
-    model: OpenModel,
+    model: &mut OpenModel,
     keyword: Keyword,
     number: u32,
     words: Vec<Name>,
-) -> Result<OpenModel, BlifErr>
+) -> Result<(), BlifErr>
     ensures { MatchResult result
-        (λ m. (model_line_fault keyword model number words.items ≡ None) × (m ≡ after keyword number words.items model))
-        (OrMemory refusal_of (λ e. model_line_fault keyword model number words.items ≡ Some e)) }
+        (λ _. (model_line_fault keyword model.old number words.items ≡ None) × (model.new ≡ after keyword number words.items model.old))
+        (OrMemory refusal_of (λ e. model_line_fault keyword model.old number words.items ≡ Some e)) }
 {
     match keyword {
-        Keyword::Plain => with_row_line(alloc, model, number, &words),
-        Keyword::Inputs => with_inputs(alloc, model, number, words),
-        Keyword::Outputs => with_outputs(alloc, model, number, words),
-        Keyword::Clock => with_clocks(alloc, model, number, words),
-        Keyword::Names => with_names(alloc, model, number, words),
-        Keyword::Latch => with_latch(model, number, words),
-        Keyword::Subckt => with_subckt(alloc, model, number, words),
-        Keyword::Model | Keyword::End | Keyword::Unknown => Ok(model),
+        Keyword::Plain => add_row(alloc, model, number, &words),
+        Keyword::Inputs => {
+            end_cover(model)?;
+            add_ports(alloc, &mut model.inputs, number, words)
+        }
+        Keyword::Outputs => {
+            end_cover(model)?;
+            add_ports(alloc, &mut model.outputs, number, words)
+        }
+        Keyword::Clock => {
+            end_cover(model)?;
+            add_ports(alloc, &mut model.clocks, number, words)
+        }
+        Keyword::Names => begin_cover(alloc, model, number, words),
+        Keyword::Latch => add_latch(model, number, words),
+        Keyword::Subckt => add_subckt(alloc, model, number, words),
+        Keyword::Model | Keyword::End | Keyword::Unknown => Ok(()),
     }
 }
 
@@ -237,10 +204,10 @@ pub(crate) fn closed(model: OpenModel) -> Result<BlifModel, AllocError>
         inputs,
         outputs,
         clocks,
-        commands,
+        mut commands,
         cover,
     } = model;
-    let commands = with_cover(commands, cover)?;
+    add_cover(&mut commands, cover)?;
     Ok(BlifModel {
         name,
         line,

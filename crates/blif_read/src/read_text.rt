@@ -74,6 +74,5 @@ pub fn read(alloc: Global, text: &[u8]) -> Result<Library, BlifErr>
     ensures always_few { (library : LibraryValue) → Denotes text.now library → length library.models < 2 ^ 32 }
     ensures always_short { (library : LibraryValue) → Denotes text.now library → HasShortPorts library }
 {
-    let library = read_once(alloc, text)?;
-    Ok(library)
+    read_once(alloc, text)
 }

@@ -12,7 +12,7 @@ ghost use Rattle.blif_read.specs.Inside.{end_line_fault, inside_fault};
 
 use crate::blif_err::BlifErr;
 use crate::keyword::Keyword;
-use crate::open_model::{OpenModel, begun, closed, model_after};
+use crate::open_model::{OpenModel, add_line, begun, closed};
 use crate::statement::{Statement, line_statement};
 use netlist::{BlifModel, Library};
 use std::alloc::{AllocError, Global};
@@ -120,11 +120,12 @@ fn inside(
         (λ _. (inside_fault keyword reader.old.current number words.items ≡ None) × (reader.new ≡ record { names = reader.old.names; done = reader.old.done; current = option_map (after keyword number words.items) reader.old.current }))
         (OrMemory refusal_of (λ e. inside_fault keyword reader.old.current number words.items ≡ Some e)) }
 {
-    let Some(model) = reader.current.take() else {
+    let Some(mut model) = reader.current.take() else {
         return Err(BlifErr::OutsideModel(number));
     };
-    let model = model_after(alloc, model, keyword, number, words)?;
+    let added = add_line(alloc, &mut model, keyword, number, words);
     reader.current = Some(model);
+    added?;
     Ok(())
 }
 

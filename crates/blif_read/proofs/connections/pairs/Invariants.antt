@@ -1,6 +1,4 @@
-use Rattle.std.proofs.Common.{◌≡◌, [], ◌++◌, drop}
-use Rattle.blif_read.specs.LineFault.{connections_fault}
-use Rattle.blif_read.specs.Reading.{pairs_of}
+use Rattle.blif_read.proofs.Common.{◌≡◌, [], ◌++◌, drop, connections_fault, pairs_of}
 use Rattle.blif_read.proofs.connections.pairs.Given as goal
 
 abbrev pub invariant-loop-word : goal.invariant-loop-word

@@ -1,6 +1,4 @@
-use Rattle.std.proofs.Common.{◌≡◌, ◌∙◌, ap, cond, Bool, true, false, Some, None}
-use Rattle.blif_read.specs.declared.blif_err.BlifErr.TheVariants.{DuplicatePort}
-use Rattle.blif_read.specs.LineFault.{has}
+use Rattle.blif_read.proofs.Common.{◌≡◌, ◌∙◌, ap, cond, Bool, true, false, Some, None, DuplicatePort, has}
 use Rattle.blif_read.proofs.ReaderLemmas.{has_from}
 use Rattle.blif_read.proofs.port_list.add.Goals as goal
 

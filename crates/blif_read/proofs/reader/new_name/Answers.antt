@@ -1,6 +1,4 @@
-use Rattle.std.proofs.Common.{◌≡◌, ◌∙◌, ap, sym, refl, cond, Bool, true, false, ℕ, List, [], ◌∷◌, ◌++◌, Some, None}
-use Rattle.blif_read.specs.declared.blif_err.BlifErr.TheVariants.{DuplicateModel}
-use Rattle.blif_read.specs.LineFault.{has, model_fault}
+use Rattle.blif_read.proofs.Common.{◌≡◌, ◌∙◌, ap, sym, refl, cond, Bool, true, false, ℕ, List, [], ◌∷◌, ◌++◌, Some, None, DuplicateModel, has, model_fault}
 use Rattle.blif_read.proofs.ReaderLemmas.{has_from}
 use Rattle.blif_read.proofs.reader.new_name.Goals as goal
 

@@ -1,9 +1,4 @@
-use Rattle.std.proofs.Common.{◌≡◌, ◌∷◌, ◌∙◌, sym, ap, subst, inr, rules, List}
-use Rattle.std.specs.Vec.Iter.{into_iter_items}
-use Rattle.list_laws.specs.Members.{In}
-use Rattle.tl_text.specs.LineValue.{LineValue}
-use Rattle.blif_read.specs.Statement.{statements}
-use Rattle.blif_read.specs.Reading.{steps}
+use Rattle.blif_read.proofs.Common.{◌≡◌, ◌∷◌, ◌∙◌, sym, ap, subst, inr, rules, List, into_iter_items, In, LineValue, statements, steps}
 use Rattle.blif_read.proofs.reader.read_each.Goals as goal
 
 pub loop-line-preserved : goal.loop-line-preserved

@@ -1,8 +1,4 @@
-use Rattle.std.proofs.Common.{◌≡◌}
-use Rattle.std.specs.Vec.Iter.{into_iter_items}
-use Rattle.tl_text.specs.LineValue.{AreLinesIn}
-use Rattle.blif_read.specs.Statement.{statements}
-use Rattle.blif_read.specs.Reading.{steps}
+use Rattle.blif_read.proofs.Common.{◌≡◌, into_iter_items, AreLinesIn, statements, steps}
 use Rattle.blif_read.proofs.reader.read_each.Given as goal
 
 abbrev pub invariant-loop-line : goal.invariant-loop-line

@@ -1,9 +1,4 @@
-use Rattle.std.proofs.Common.{◌≡◌, subst, None, Some, MatchResult}
-use Rattle.blif_read.specs.Statement.{StatementValue}
-use Rattle.blif_read.specs.LineFault.{line_fault}
-use Rattle.tl_fault.specs.OrMemory.{OrMemory}
-use Rattle.blif_read.specs.Refusals.{refusal_of}
-use Rattle.blif_read.specs.Reading.{context, next}
+use Rattle.blif_read.proofs.Common.{◌≡◌, subst, None, Some, MatchResult, StatementValue, line_fault, OrMemory, refusal_of, context, next}
 use Rattle.blif_read.proofs.ReaderLemmas.{step_inside}
 use Rattle.blif_read.proofs.reader.step.Goals as goal
 

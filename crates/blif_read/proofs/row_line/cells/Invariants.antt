@@ -1,6 +1,4 @@
-use Rattle.std.proofs.Common.{◌≡◌, ◌++◌, drop}
-use Rattle.std.specs.Option.{option_map}
-use Rattle.blif_read.specs.Context.{cells_of}
+use Rattle.blif_read.proofs.Common.{◌≡◌, ◌++◌, drop, option_map, cells_of}
 use Rattle.blif_read.proofs.row_line.cells.Given as goal
 
 abbrev pub invariant-loop-byte : goal.invariant-loop-byte

@@ -1,5 +1,4 @@
-use Rattle.std.proofs.Common.{◌≡◌, map, take}
-use Rattle.tl_text.specs.LineValue.{token_bytes}
+use Rattle.blif_read.proofs.Common.{◌≡◌, map, take, token_bytes}
 use Rattle.blif_read.proofs.statement.words.Given as goal
 
 abbrev pub invariant-loop-token : goal.invariant-loop-token

@@ -1,6 +1,4 @@
-use Rattle.std.proofs.Common.{◌≡◌, ◌++◌}
-use Rattle.std.specs.Vec.Iter.{into_iter_items}
-use Rattle.blif_read.specs.LineFault.{ports_fault}
+use Rattle.blif_read.proofs.Common.{◌≡◌, ◌++◌, into_iter_items, ports_fault}
 use Rattle.blif_read.proofs.port_list.PortList.with.Given as goal
 
 abbrev pub invariant-loop-name : goal.invariant-loop-name
