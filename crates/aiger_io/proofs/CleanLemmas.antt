@@ -1,61 +1,112 @@
--- The names in the library of a text are clean, and those of its ports short.
-use Rattle.std.proofs.Common.{◌≡◌, lit<, ℕ, ◌+◌, ◌-◌, ◌*◌, ◌/◌, ◌^◌, ◌<◌, ◌≤◌, Bool, true, false, ◌&&◌, ◌⊎◌, List, [], ◌∷◌, ◌++◌, length, drop, Ok, decimal, codes, inl, inr, refl, sym, ap, subst, arith, length-append, length-drop}
-use Rattle.std.specs.Str.Lines.{lines}
-use Rattle.std.proofs.lemmas.Bool.{and_parts}
-use Rattle.std.proofs.lemmas.Fmt.{length-decimal-le}
-use Rattle.std.proofs.lemmas.Option.{slice_get_within}
-use Rattle.list_laws.specs.Members.{In}
-use Rattle.list_laws.proofs.Members.{In-get_or, In-left, In-right}
-use Rattle.netlist.specs.Flat.{most_underscores}
-use Rattle.netlist.specs.HasCleanNames.{AreClean, IsCleanBody, IsCleanModel, HasCleanNames}
-use Rattle.netlist.specs.LibraryValue.{ModelValue, LibraryValue, Ports, ports_of, input_ports, output_ports, clock_ports}
+-- The library of a text is well formed, its names are clean, and those of its ports short.
+use Rattle.aiger_io.proofs.Common.{◌≡◌, lit<, ℕ, zero, suc, ◌+◌, ◌-◌, ◌/◌, ◌<◌, ◌≤◌, List, [], ◌∷◌, ◌++◌, length, drop, Some, Ok, inl, inr, refl, sym, ap, ◌∙◌, subst, arith, length-drop, slice_get, lines, length-replicate, same_Some, In, In-append, In-left, In-right, RowValue, LibraryValue, Ports, ports_of, input_ports, output_ports, clock_ports, Cell, One, Command, AreOnce, named_count, Circuit, circuit_of, IsLibraryIn, mark_of, variable_name, next_name, cell_of, cover_command, port_name, item_commands, commands_from, commands_of, model_of, library_of, item_count, no_name, no_symbols, Header, Item, Input, Latch, Output, And, left_apart, right_apart, ◌*◌, ◌^◌, true, false, ◌&&◌, ◌⊎◌, decimal, codes, length-append, and_parts, length-decimal-le, slice_get_within, In-get_or, most_underscores, AreClean, IsCleanBody, IsCleanModel, HasCleanNames, ModelValue, IsClean, is_special, ordinary_clean, word_clean, one_clean, more_clean, byte_ordinary, decimal_ordinary, marked_ordinary, own_name, default_name, is_literal, is_variable, SymbolsValue}
+use Rattle.netlist.specs.WellFormed.{IsWellFormedBody, IsWellFormedModel, IsWellFormed}
+use Rattle.aiger_io.proofs.PortLemmas.{AreNamed, symbols_named, ports_once, IsPortName, by_symbol, by_default, port_name_of, inputs_length, outputs_length}
+use Rattle.aiger_io.proofs.ReadLemmas.{IsCircuitOf, circuit_read}
+use Rattle.aiger_io.proofs.RowLemmas.{lines_few, lines_short, In-drop}
+use Rattle.aiger_io.proofs.LineLemmas.{symbols_sized, header_small}
 use Rattle.netlist.specs.ShortPorts.{HasShortPorts}
-use Rattle.netlist.specs.declared.cell.Cell.{Cell}
-use Rattle.netlist.specs.declared.cell.Cell.TheVariants.{One}
-use Rattle.netlist.specs.declared.command.Command.{Command}
-use Rattle.tl_text.specs.Clean.{IsClean}
-use Rattle.tl_text.proofs.WordLemmas.{is_special, ordinary_clean, word_clean, one_clean, more_clean, byte_ordinary, decimal_ordinary, marked_ordinary}
-use Rattle.aiger_io.specs.Bodies.{named_count}
-use Rattle.aiger_io.specs.Circuit.{Circuit}
-use Rattle.aiger_io.specs.Reader.{circuit_of, IsLibraryIn}
-use Rattle.aiger_io.specs.CircuitLibrary.{mark_of, own_name, variable_name, next_name, cell_of, cover_command, zero_command, latch_command, port_name, item_commands, commands_of, model_of, library_of}
-use Rattle.aiger_io.specs.PortNames.{default_name}
-use Rattle.aiger_io.specs.Items.{item_count, is_literal, is_variable}
-use Rattle.aiger_io.specs.Symbols.{SymbolsValue}
-use Rattle.aiger_io.specs.declared.header.Header.{Header}
-use Rattle.aiger_io.specs.declared.item.Item.{Item}
-use Rattle.aiger_io.specs.declared.item.Item.TheVariants.{Input, Latch, Output, And}
-use Rattle.aiger_io.proofs.FormedLemmas.{all_commands, small_names, said_size, said_named}
-use Rattle.aiger_io.proofs.NamedLemmas.{AreNamed}
 use Rattle.aiger_io.proofs.PlaceLemmas.{AreItems, IsItemAt, of_input, of_output, literal_low, variable_low, items_known}
-use Rattle.aiger_io.proofs.PortLemmas.{IsPortName, by_symbol, by_default, port_name_of, inputs_length, outputs_length}
-use Rattle.aiger_io.proofs.ReadLemmas.{circuit_read}
-use Rattle.aiger_io.proofs.CappedLemmas.{header_small}
-use Rattle.aiger_io.proofs.RowLemmas.{lines_few}
+
+-- what holds of the commands of each line holds of all
+module _ (P : Command → Type 0) (mark : List ℕ) (h : Header) (inputs outputs : List (List ℕ)) where
+  pub all_commands : (place : ℕ) (items : List Item) → ((q : ℕ) (item : Item) (c : Command) → slice_get items q ≡ Some item → In (item_commands mark h inputs outputs (place + q) item) c → P c) → (c : Command) → In (commands_from mark h inputs outputs place items) c → P c
+  all_commands place [] each c i = absurd i
+  all_commands place (item ∷ items) each c i = elim (In-append (item_commands mark h inputs outputs place item) (commands_from mark h inputs outputs (place + 1) items) c i) [
+    | inl j ↦ (let z : place ≡ place + 0 = omega arith in each zero item c refl (subst (λ p. In (item_commands mark h inputs outputs p item) c) z j))
+    | inr j ↦ all_commands (place + 1) items
+        (λ q it d at k. let z : place + 1 + q ≡ place + suc q = omega arith in each (suc q) it d at (subst (λ p. In (item_commands mark h inputs outputs p it) d) z k)) c j
+  ]
+
+-- one row for as many inputs
+one_row : (inputs : List (List ℕ)) (cells : List Cell) → length cells ≡ length inputs → (row : RowValue) → In (record { cells = cells } ∷ []) row → length row.cells ≡ length inputs
+one_row inputs cells e row (inl same) = ap (λ (r : RowValue). length r.cells) same ∙ e
+one_row inputs cells e row (inr i) = absurd i
+
+cover_formed : (line : ℕ) (inputs : List (List ℕ)) (output : List ℕ) (cells : List Cell) (c : Command) → length cells ≡ length inputs → c ≡ cover_command line inputs output cells → IsWellFormedBody c.body
+cover_formed line inputs output cells c e same = subst (λ (d : Command). IsWellFormedBody d.body) (sym same) (one_row inputs cells e)
+
+item_formed : (mark : List ℕ) (h : Header) (inputs outputs : List (List ℕ)) (p : ℕ) (item : Item) (c : Command) → In (item_commands mark h inputs outputs p item) c → IsWellFormedBody c.body
+item_formed mark h inputs outputs p (Input own) c (inl same) = cover_formed (p + 2) (port_name inputs p ∷ []) (variable_name mark (own / 2)) (One ∷ []) c refl same
+item_formed mark h inputs outputs p (Input own) c (inr i) = absurd i
+item_formed mark h inputs outputs p (Latch own next init) c (inl same) = cover_formed (p + 2) (variable_name mark (next / 2) ∷ []) (next_name mark (p - h.inputs)) (cell_of next ∷ []) c refl same
+item_formed mark h inputs outputs p (Latch own next init) c (inr (inl same)) = subst (λ (d : Command). IsWellFormedBody d.body) (sym same) tt
+item_formed mark h inputs outputs p (Latch own next init) c (inr (inr i)) = absurd i
+item_formed mark h inputs outputs p (Output l) c (inl same) = cover_formed (p + 2) (variable_name mark (l / 2) ∷ []) (port_name outputs (p - (h.inputs + h.latches))) (cell_of l ∷ []) c refl same
+item_formed mark h inputs outputs p (Output l) c (inr i) = absurd i
+item_formed mark h inputs outputs p (And own left right) c (inl same) =
+    cover_formed (p + 2) (variable_name mark (right / 2) ∷ variable_name mark (left / 2) ∷ []) (variable_name mark (own / 2)) (cell_of right ∷ cell_of left ∷ []) c refl same
+item_formed mark h inputs outputs p (And own left right) c (inr i) = absurd i
+
+commands_formed : (mark : List ℕ) (c : Circuit) (command : Command) → In (commands_of mark c) command → IsWellFormedBody command.body
+commands_formed mark c command (inl same) = subst (λ (d : Command). IsWellFormedBody d.body) (sym same) (λ row i. absurd i)
+commands_formed mark c command (inr i) =
+    all_commands (λ (d : Command). IsWellFormedBody d.body) mark c.header c.inputs c.outputs 0 c.items (λ q item d at j. item_formed mark c.header c.inputs c.outputs (0 + q) item d j) command i
+
+circuit_ports : (c : Circuit) → AreOnce c.inputs → AreOnce c.outputs → (p : Ports) → AreOnce (ports_of p (model_of c))
+circuit_ports c i o input_ports = i
+circuit_ports c i o output_ports = o
+circuit_ports c i o clock_ports = tt
+
+pub circuit_formed : (c : Circuit) → AreOnce c.inputs → AreOnce c.outputs → IsWellFormed (library_of c)
+circuit_formed c i o = record {
+  some = lit< tt;
+  once = ((λ j. j), tt);
+  each = λ m j. elim j [
+    | inl same ↦ subst IsWellFormedModel (sym same) (record { ports = circuit_ports c i o; commands = commands_formed (mark_of (c.inputs ++ c.outputs)) c })
+    | inr k ↦ absurd k
+  ];
+}
+
+-- what was read has few names
+pub small_names : (text : List ℕ) (c : Circuit) (r : IsCircuitOf text c) → length text ≤ 67108864 → named_count r.header < 4294967296
+small_names text c r l =
+    let n : length r.items ≡ item_count r.header = r.all.count in
+    let w : length r.items ≤ 0 + length (drop 1 (lines text)) = r.all.within in
+    omega (arith, length-drop 1 (lines text), lines_few text)
+
+pub said_size : (text : List ℕ) (c : Circuit) (r : IsCircuitOf text c) → length r.said.names ≡ named_count r.header
+said_size text c r = (symbols_sized r.header (item_count r.header + 2) (no_symbols r.header) r.said (drop (item_count r.header) (drop 1 (lines text))) r.said_are).names ∙ length-replicate (named_count r.header) no_name
+
+pub said_named : (text : List ℕ) (c : Circuit) (r : IsCircuitOf text c) → AreNamed (length text) r.said
+said_named text c r = symbols_named (length text) r.header (item_count r.header + 2) r.said (drop (item_count r.header) (drop 1 (lines text)))
+    (λ row i. lines_short text row (In-drop 1 (lines text) row (In-drop (item_count r.header) (drop 1 (lines text)) row i))) r.said_are
+
+pub text_ports_once : (text : List ℕ) (c : Circuit) → length text ≤ 67108864 → circuit_of text ≡ Ok c → AreOnce (c.inputs ++ c.outputs)
+text_ports_once text c l is =
+    let r = circuit_read text c is in
+    subst (λ (d : Circuit). AreOnce (d.inputs ++ d.outputs)) (sym r.is)
+    (ports_once r.header r.said (length text) (item_count r.header + 2) (said_size text c r) (small_names text c r l) (said_named text c r) r.none_twice)
+
+pub text_formed : (text : List ℕ) → length text ≤ 67108864 → (library : LibraryValue) → IsLibraryIn (circuit_of text) library → IsWellFormed library
+text_formed text l library made =
+    let once = text_ports_once text made.circuit l made.is in
+    subst IsWellFormed (sym made.made) (circuit_formed made.circuit (left_apart made.circuit.inputs made.circuit.outputs once) (right_apart made.circuit.inputs made.circuit.outputs once))
+
+-- the commands of each line are among all
+pub of_item : (mark : List ℕ) (h : Header) (inputs outputs : List (List ℕ)) (p : ℕ) (items : List Item) (q : ℕ) (item : Item) (d : Command) → slice_get items q ≡ Some item → In (item_commands mark h inputs outputs (p + q) item) d → In (commands_from mark h inputs outputs p items) d
+of_item mark h inputs outputs p [] q item d e i = absurd (cc)
+of_item mark h inputs outputs p (first ∷ items) zero item d e i =
+    let same : first ≡ item = same_Some first item e in
+    let z : p + zero ≡ p = omega arith in
+    In-left (item_commands mark h inputs outputs p first) (commands_from mark h inputs outputs (p + 1) items) d (subst (λ n. In (item_commands mark h inputs outputs n first) d) z (subst (λ t. In (item_commands mark h inputs outputs (p + zero) t) d) (sym same) i))
+of_item mark h inputs outputs p (first ∷ items) (suc q) item d e i =
+    let z : p + suc q ≡ p + 1 + q = omega arith in
+    In-right (item_commands mark h inputs outputs p first) (commands_from mark h inputs outputs (p + 1) items) d (of_item mark h inputs outputs (p + 1) items q item d e (subst (λ n. In (item_commands mark h inputs outputs n item) d) z i))
 
 -- letters and digits, behind marks
 letter_ordinary : (b : ℕ) → 93 ≤ b → b < 123 → is_special b ≡ false
-letter_ordinary b low high = byte_ordinary b (omega arith) high (λ e. let q : b ≡ 92 = e in omega arith)
-
-default_by : (letter k : ℕ) → 93 ≤ letter → letter < 123 → k < 2 ^ 64 → IsClean (default_name letter k)
-default_by letter k low high l = ordinary_clean (default_name letter k) (omega arith) (marked_ordinary 0 letter (decimal k) (letter_ordinary letter low high) (decimal_ordinary k l))
+letter_ordinary b low high = byte_ordinary b (omega arith) high (λ e. omega arith)
 
 pub default_clean : (letter k : ℕ) → (letter ≡ 105) ⊎ (letter ≡ 111) → k < 2 ^ 64 → IsClean (default_name letter k)
-default_clean letter k (inl e) l = let q : letter ≡ 105 = e in default_by letter k (omega arith) (omega arith) l
-default_clean letter k (inr e) l = let q : letter ≡ 111 = e in default_by letter k (omega arith) (omega arith) l
+default_clean letter k which l =
+    let low : 93 ≤ letter = grind arith in
+    let high : letter < 123 = grind arith in
+    ordinary_clean (default_name letter k) (omega arith) (marked_ordinary 0 letter (decimal k) (letter_ordinary letter low high) (decimal_ordinary k l))
 
 -- names of commands
 cover_clean : (line : ℕ) (inputs : List (List ℕ)) (output : List ℕ) (cells : List Cell) (c : Command) → AreClean inputs → IsClean output → c ≡ cover_command line inputs output cells → IsCleanBody c.body
 cover_clean line inputs output cells c i o same = subst (λ (d : Command). IsCleanBody d.body) (sym same) (i, o)
-
-zero_clean : (line : ℕ) (output : List ℕ) (c : Command) → IsClean output → c ≡ zero_command line output → IsCleanBody c.body
-zero_clean line output c o same = subst (λ (d : Command). IsCleanBody d.body) (sym same) ((λ x i. absurd i), o)
-
-latch_clean : (line : ℕ) (input output : List ℕ) (init : Bool) (c : Command) → IsClean input → IsClean output → c ≡ latch_command line input output init → IsCleanBody c.body
-latch_clean line input output init c i o same = subst (λ (d : Command). IsCleanBody d.body) (sym same) (i, o, (λ control e. absurd (cc)))
-
-pub aag_word : IsClean (codes "aag")
-aag_word = word_clean (codes "aag") (lit< tt) refl
 
 -- what a circuit that was read keeps
 pub record IsKept (c : Circuit) : Type 0 where
@@ -97,8 +148,7 @@ module _ (c : Circuit) (kept : IsKept c) where
       (one_clean (variable_name (mark_of (c.inputs ++ c.outputs)) (next / 2)) (read_clean next r.1)) (name_clean 120 (0 + q - c.header.inputs) (omega arith) (omega arith) (omega arith)) same
   item_clean q (Latch own next init) d l at (inr (inl same)) =
       let r = and_parts (is_variable c.header.variables own) (is_literal c.header.variables next) at.range in
-      latch_clean (0 + q + 2) (next_name (mark_of (c.inputs ++ c.outputs)) (0 + q - c.header.inputs)) (variable_name (mark_of (c.inputs ++ c.outputs)) (own / 2)) init d
-      (name_clean 120 (0 + q - c.header.inputs) (omega arith) (omega arith) (omega arith)) (own_variable own r.0) same
+      subst (λ (e : Command). IsCleanBody e.body) (sym same) (name_clean 120 (0 + q - c.header.inputs) (omega arith) (omega arith) (omega arith), own_variable own r.0, (λ control e. absurd (cc)))
   item_clean q (Latch own next init) d l at (inr (inr i)) = absurd i
   item_clean q (Output o) d l at (inl same) =
       let w = of_output c.header q at.kind in
@@ -115,7 +165,7 @@ module _ (c : Circuit) (kept : IsKept c) where
   item_clean q (And own left right) d l at (inr i) = absurd i
 
   commands_clean : (d : Command) → In (commands_of (mark_of (c.inputs ++ c.outputs)) c) d → IsCleanBody d.body
-  commands_clean d (inl same) = zero_clean 1 (variable_name (mark_of (c.inputs ++ c.outputs)) 0) d (name_clean 118 0 (omega arith) (omega arith) (lit< tt)) same
+  commands_clean d (inl same) = subst (λ (e : Command). IsCleanBody e.body) (sym same) ((λ x i. absurd i), name_clean 118 0 (omega arith) (omega arith) (lit< tt))
   commands_clean d (inr i) = all_commands (λ (e : Command). IsCleanBody e.body) (mark_of (c.inputs ++ c.outputs)) c.header c.inputs c.outputs 0 c.items
       (λ q item e at j. item_clean q item e (let w : q < length c.items = slice_get_within c.items q item at in let n : length c.items < 4294967296 = kept.count in omega arith) (kept.items q item at) j) d i
 
@@ -127,7 +177,7 @@ module _ (c : Circuit) (kept : IsKept c) where
   pub circuit_clean : HasCleanNames (library_of c)
   circuit_clean = record {
     each = λ m i. elim i [
-      | inl same ↦ subst IsCleanModel (sym same) (record { name = aag_word; ports = ports_clean; commands = commands_clean })
+      | inl same ↦ subst IsCleanModel (sym same) (record { name = word_clean (codes "aag") (lit< tt) refl; ports = ports_clean; commands = commands_clean })
       | inr k ↦ absurd k
     ];
   }
@@ -145,9 +195,6 @@ port_short said most x are few small (by_default letter k p o which low at is) =
     let d : length (decimal k) ≤ 10 = length-decimal-le 10 k (lit< tt) (omega arith) (omega arith) in
     let n : length x ≡ length (letter ∷ decimal k) = ap length is in omega arith
 
-no_items : (h : Header) → AreItems h []
-no_items h p item e = absurd (cc)
-
 pub text_kept : (text : List ℕ) (c : Circuit) → length text ≤ 67108864 → circuit_of text ≡ Ok c → IsKept c
 text_kept text c l is =
     let r = circuit_read text c is in
@@ -157,7 +204,7 @@ text_kept text c l is =
     let w : length r.items ≤ 0 + length (drop 1 (lines text)) = r.all.within in
     subst IsKept (sym r.is) (record {
       most = (header_small r.header r.whole).most;
-      items = items_known r.header [] r.items (drop 1 (lines text)) (no_items r.header) r.items_are;
+      items = items_known r.header [] r.items (drop 1 (lines text)) (λ p item e. absurd (cc)) r.items_are;
       inputs = inputs_length r.header r.said size;
       outputs = outputs_length r.header r.said size;
       count = omega (arith, length-drop 1 (lines text), lines_few text);

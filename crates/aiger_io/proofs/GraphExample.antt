@@ -1,16 +1,8 @@
 -- A worked example: the circuit of a graph, and its text line by line.
-use Rattle.std.proofs.Common.{◌≡◌, List, [], ◌∷◌, None, codes, false, refl, sym, subst}
+use Rattle.aiger_io.proofs.Common.{◌≡◌, List, [], ◌∷◌, None, codes, false, refl, sym, subst, RootsValue, FlatValue, Param, IsAigerText, Circuit, graph_circuit, circuit_text, Input, Output, And}
 use Rattle.std.specs.Fmt.{digits}
-use Rattle.aig_core.specs.Roots.{RootsValue}
 use Rattle.aig_core.proofs.ValueExample.{multiplexer}
-use Rattle.netlist.specs.FlatValue.{FlatValue}
 use Rattle.netlist.specs.declared.flat.Net.TheVariants as net
-use Rattle.param_list.specs.declared.params.Param.{Param}
-use Rattle.aiger_io.specs.AigerText.{IsAigerText}
-use Rattle.aiger_io.specs.Circuit.{Circuit}
-use Rattle.aiger_io.specs.GraphCircuit.{graph_circuit}
-use Rattle.aiger_io.specs.WrittenText.{circuit_text}
-use Rattle.aiger_io.specs.declared.item.Item.TheVariants.{Input, Output, And}
 use Rattle.aiger_io.proofs.Format.SettledLemmas.{is_text}
 
 -- the multiplexer's netlist: the inputs a, b and p, and the output y, which is one cover

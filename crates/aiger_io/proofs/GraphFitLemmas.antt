@@ -1,38 +1,15 @@
 -- Values that fit the lines of a graph's circuit are those of the graph's nodes: from the one to the other, and that there is one fit.
-use Rattle.std.proofs.Common.{◌≡◌, ℕ, ◌+◌, ◌-◌, ◌*◌, ◌/◌, ◌%◌, ◌<◌, ◌≤◌, Bool, true, false, cond, not, ◌&&◌, eqb, List, ◌++◌, length, map, Some, inl, inr, refl, sym, ap, ◌∙◌, subst, arith, length-append}
-use Rattle.std.specs.Prelude.{slice_get}
-use Rattle.std.specs.List.{range_with_len}
-use Rattle.std.proofs.lemmas.Bool.{cases_lt, and_parts}
-use Rattle.std.proofs.lemmas.List.FromFn.{length-map-range_with_len, get_or-map-range_with_len}
-use Rattle.std.proofs.lemmas.Option.{same_Some, slice_get_within, get_or_from_slice_get}
+use Rattle.aiger_io.proofs.Common.{◌≡◌, ℕ, ◌+◌, ◌-◌, ◌*◌, ◌/◌, ◌%◌, ◌<◌, ◌≤◌, Bool, true, false, cond, not, ◌&&◌, eqb, List, ◌++◌, length, map, Some, inl, inr, refl, sym, ap, ◌∙◌, subst, arith, length-append, slice_get, range_with_len, cases_lt, and_parts, length-map-range_with_len, get_or-map-range_with_len, same_Some, slice_get_within, get_or_from_slice_get, map_agree, place_in, at_within, get_left, same_list, get_right, Aig, first_and, node_count, pair_of, AreNormal, RootsValue, xor, node_value, value_of, FitsGraph, HasOneFit, Pair, FlatValue, Param, Circuit, input_count, lit_at, graph_circuit, IsWrittenFrom, is_literal, is_variable, literal_value, FitsLines, IsDefined, zero_variable, input, latch, gate, Item, Input, Latch, And}
 use Rattle.std.proofs.Math.Bool.{and_comm}
-use Rattle.list_laws.proofs.Members.{map_agree, place_in}
-use Rattle.list_laws.proofs.Places.{at_within, get_left, same_list}
 use Rattle.list_laws.proofs.Ranges.{of_range}
-use Rattle.list_laws.proofs.TwoLists.{get_right}
-use Rattle.aig_core.specs.Aig.{Aig, first_and, node_count, pair_of, AreNormal}
-use Rattle.aig_core.specs.Roots.{RootsValue}
-use Rattle.aig_core.specs.Value.{xor, node_value, value_of, FitsGraph, HasOneFit}
-use Rattle.aig_core.specs.declared.lit.Pair.{Pair}
-use Rattle.netlist.specs.FlatValue.{FlatValue}
-use Rattle.param_list.specs.declared.params.Param.{Param}
-use Rattle.aiger_io.specs.Circuit.{Circuit}
-use Rattle.aiger_io.specs.GraphCircuit.{input_count, lit_at, graph_circuit, IsWrittenFrom}
-use Rattle.aiger_io.specs.Items.{is_literal, is_variable}
-use Rattle.aiger_io.specs.Run.{literal_value, FitsLines, IsDefined, zero_variable, input, latch, gate}
 use Rattle.aiger_io.specs.Run as run
-use Rattle.aiger_io.specs.declared.item.Item.{Item}
-use Rattle.aiger_io.specs.declared.item.Item.TheVariants.{Input, Latch, And}
-use Rattle.aiger_io.proofs.GraphItemLemmas.{IsGraphItem, an_input, a_latch, an_output, a_gate, item_is, input_there, latch_there, gate_there}
+use Rattle.aiger_io.proofs.GraphItemLemmas.{IsGraphItem, an_input, an_output, a_latch, a_gate, item_is, input_there, latch_there, gate_there}
 use Rattle.aiger_io.proofs.PlaceLemmas.{variable_low}
 use Rattle.aiger_io.proofs.RoundTripLemmas.{IsFormed}
 
 -- a complement as a choice and as a sum
 phase_is : (b t : Bool) → xor b t ≡ cond t (not b) b
-phase_is true true = refl
-phase_is true false = refl
-phase_is false true = refl
-phase_is false false = refl
+phase_is b t = grind arith
 
 -- the value of a literal, where its node and its variable have one value
 pub literal_same : (values : List Bool) (value : ℕ → Bool) (l : ℕ) → node_value values (l / 2) ≡ value (l / 2) → value_of values l ≡ literal_value value l

@@ -1,22 +1,5 @@
 -- The circuit of a graph goes together: its header does, and its items stand at their places, in range.
-use Rattle.std.proofs.Common.{◌≡◌, ℕ, ◌+◌, ◌*◌, ◌/◌, ◌^◌, ◌<◌, ◌≤◌, true, ◌&&◌, leb, List, length, map, Some, sym, ◌∙◌, subst, arith, length-append}
-use Rattle.std.specs.Prelude.{slice_get}
-use Rattle.std.proofs.lemmas.Bool.{and_from, le-leb}
-use Rattle.std.proofs.lemmas.List.{length-map}
-use Rattle.std.proofs.lemmas.Option.{slice_get_within}
-use Rattle.list_laws.specs.Members.{In}
-use Rattle.list_laws.proofs.Members.{In-get, In-left, In-map, In-right}
-use Rattle.list_laws.proofs.Places.{at_within}
-use Rattle.aig_core.specs.Aig.{Aig, first_and, node_count, IsLit, AreNormal}
-use Rattle.aig_core.specs.Roots.{RootsValue, lits_of}
-use Rattle.aig_core.specs.declared.lit.Lit.{Lit}
-use Rattle.netlist.specs.FlatValue.{FlatValue}
-use Rattle.netlist.specs.declared.flat.OutPort.{OutPort}
-use Rattle.param_list.specs.declared.params.Param.{Param}
-use Rattle.aiger_io.specs.Circuit.{Circuit}
-use Rattle.aiger_io.specs.GraphCircuit.{input_count, lit_at, input_at, graph_circuit, IsWrittenFrom}
-use Rattle.aiger_io.specs.Items.{is_literal, is_variable}
-use Rattle.aiger_io.specs.declared.item.Item.{Item}
+use Rattle.aiger_io.proofs.Common.{◌≡◌, ℕ, ◌+◌, ◌*◌, ◌/◌, ◌^◌, ◌<◌, ◌≤◌, true, ◌&&◌, leb, List, length, map, Some, sym, ◌∙◌, subst, arith, length-append, slice_get, and_from, le-leb, length-map, slice_get_within, In, In-get, In-left, In-map, In-right, at_within, Aig, first_and, node_count, IsLit, AreNormal, RootsValue, lits_of, Lit, FlatValue, OutPort, Param, Circuit, input_count, lit_at, input_at, graph_circuit, IsWrittenFrom, is_literal, is_variable, Item}
 use Rattle.aiger_io.proofs.GraphItemLemmas.{lit_at-is, IsGraphItem, an_input, a_latch, an_output, a_gate, items_count, item_is}
 use Rattle.aiger_io.proofs.PlaceLemmas.{IsItemAt, input_here, latch_here, output_here, gate_here, variable_in, literal_in}
 use Rattle.aiger_io.proofs.RoundTripLemmas.{IsFormed}

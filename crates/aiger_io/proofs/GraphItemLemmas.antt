@@ -1,26 +1,7 @@
 -- The items of a graph's circuit: which one stands at each place, and what is picked from them.
-use Rattle.std.proofs.Common.{◌≡◌, ℕ, zero, suc, ◌+◌, ◌<◌, List, [], ◌∷◌, ◌++◌, length, map, drop, drop-cons, Some, inl, inr, refl, sym, ap, ◌∙◌, subst, arith, length-append, append-nil}
-use Rattle.std.specs.Prelude.{slice_get}
-use Rattle.std.specs.List.{flat_map, range_with_len}
-use Rattle.std.specs.Option.{option_map}
-use Rattle.std.proofs.lemmas.List.{length-map}
-use Rattle.std.proofs.lemmas.List.Concat.{flat_map-append}
-use Rattle.std.proofs.lemmas.List.FromFn.{length-range_with_len, get_or-range_with_len}
-use Rattle.std.proofs.lemmas.Option.{none-some, same_Some, slice_get-map, slice_get-get_or, slice_get_within, get_or_from_slice_get}
-use Rattle.list_laws.specs.Members.{In}
-use Rattle.list_laws.proofs.Members.{In-get, In-right}
-use Rattle.list_laws.proofs.Places.{get_left, drop_past, mapped_at}
-use Rattle.list_laws.proofs.TwoLists.{get_right}
-use Rattle.aig_core.specs.Aig.{Aig, first_and}
-use Rattle.aig_core.specs.Roots.{RootsValue, lits_of}
-use Rattle.aig_core.specs.declared.lit.Lit.{Lit}
-use Rattle.aig_core.specs.declared.lit.Pair.{Pair}
-use Rattle.netlist.specs.declared.flat.FlatLatch.{FlatLatch}
-use Rattle.aiger_io.specs.GraphCircuit.{lit_at, input_item, latch_item, output_item, gate_item, graph_items}
-use Rattle.aiger_io.specs.Run.{output_literal, next_literal, init_bit, output_literals, next_literals, init_bits}
-use Rattle.aiger_io.specs.WrittenText.{numbered}
-use Rattle.aiger_io.specs.declared.item.Item.{Item}
+use Rattle.aiger_io.proofs.Common.{◌≡◌, ℕ, zero, suc, ◌+◌, ◌<◌, List, [], ◌∷◌, ◌++◌, length, map, drop, drop-cons, Some, inl, inr, refl, sym, ap, ◌∙◌, subst, arith, length-append, append-nil, slice_get, flat_map, range_with_len, option_map, length-map, flat_map-append, length-range_with_len, get_or-range_with_len, none-some, same_Some, slice_get-map, slice_get-get_or, slice_get_within, get_or_from_slice_get, In, In-get, In-right, get_left, drop_past, mapped_at, get_right, Aig, first_and, RootsValue, lits_of, Lit, Pair, FlatLatch, lit_at, input_item, latch_item, output_item, gate_item, graph_items, output_literal, next_literal, init_bit, output_literals, next_literals, init_bits, numbered, Item}
 use Rattle.aiger_io.proofs.PortLemmas.{append_at}
+use Rattle.aiger_io.proofs.PlaceLemmas.{of_gate}
 
 -- of things by numbers
 numbered_from : {X Y : Type 0} (f : ℕ → X → Y) (n : ℕ) (xs : List X) (k : ℕ) (y : Y) → slice_get (numbered f n xs) k ≡ Some y → (x : X) × (slice_get xs k ≡ Some x) × (y ≡ f (n + k) x)

@@ -1,29 +1,11 @@
 -- The circuit of a graph keeps what is said of it: its text is of the format and is read back, its lines have one fit, and its cycles and runs are those of
 -- the library whose graph it is.
-use Rattle.std.proofs.Common.{◌≡◌, ℕ, ◌+◌, ◌*◌, ◌/◌, ◌^◌, ◌<◌, ◌≤◌, Bool, false, List, [], ◌∷◌, ◌++◌, length, map, get_or, replicate, Some, refl, sym, ap, ◌∙◌, subst, arith, length-append}
-use Rattle.std.specs.Prelude.{slice_get}
-use Rattle.std.proofs.lemmas.List.{length-map, length-replicate}
-use Rattle.std.proofs.lemmas.Option.{same_Some, get_or_from_slice_get}
-use Rattle.list_laws.specs.Members.{In}
-use Rattle.list_laws.proofs.Members.{In-left, In-right, map_agree}
-use Rattle.aig_core.specs.Aig.{Aig, first_and, node_count, IsLit, AreNormal}
-use Rattle.aig_core.specs.Roots.{RootsValue, lits_of}
-use Rattle.aig_core.specs.Value.{node_value, value_of, FitsGraph, HasOneFit}
+use Rattle.aiger_io.proofs.Common.{◌≡◌, ℕ, ◌+◌, ◌*◌, ◌/◌, ◌^◌, ◌<◌, ◌≤◌, Bool, false, List, [], ◌∷◌, ◌++◌, length, map, get_or, replicate, Some, refl, sym, ap, ◌∙◌, subst, arith, length-append, slice_get, length-map, length-replicate, same_Some, get_or_from_slice_get, In, In-left, In-right, map_agree, Aig, first_and, node_count, IsLit, AreNormal, RootsValue, lits_of, node_value, value_of, FitsGraph, HasOneFit, FlatValue, LibraryValue, Place, is_latch, FlatOrder, IsCycle, IsRun, FlatLatch, Param, regular_names, param_names, Circuit, input_count, input_at, graph_circuit, IsWrittenFrom, IsGraphsCircuit, literal_value, output_literals, next_literals, init_bits, IsCircuitCycle, CircuitRuns, HasSameRuns}
 use Rattle.aig_build.specs.NetlistCycle.{source_values, literal_values, HasSourceCycles}
 use Rattle.aig_build.specs.NetlistGraph.{input_names}
 use Rattle.netlist.specs.Evaluation.{net_value, flat_values}
 use Rattle.netlist.specs.FlatCycle.{flat_outputs, flat_next, flat_inits, run_outputs, run_states, input_values, HasCycles}
-use Rattle.netlist.specs.FlatValue.{FlatValue}
-use Rattle.netlist.specs.LibraryValue.{LibraryValue}
-use Rattle.netlist.specs.Places.{Place, is_latch, FlatOrder}
-use Rattle.netlist.specs.Runs.{IsCycle, IsRun}
-use Rattle.netlist.specs.declared.flat.FlatLatch.{FlatLatch}
 use Rattle.netlist.proofs.OrderLemmas.{order_once}
-use Rattle.param_list.specs.declared.params.Param.{Param}
-use Rattle.param_list.specs.Parameters.{regular_names, param_names}
-use Rattle.aiger_io.specs.Circuit.{Circuit}
-use Rattle.aiger_io.specs.GraphCircuit.{input_count, input_at, graph_circuit, IsWrittenFrom, IsGraphsCircuit}
-use Rattle.aiger_io.specs.Run.{literal_value, output_literals, next_literals, init_bits, IsCircuitCycle, CircuitRuns, HasSameRuns}
 use Rattle.aiger_io.proofs.GraphFitLemmas.{literal_same, node_list, node_at, lines_fit, nodes_fit, given_list, written_fit}
 use Rattle.aiger_io.proofs.GraphFormLemmas.{written_formed}
 use Rattle.aiger_io.proofs.GraphItemLemmas.{output_literals_are, next_literals_are, init_bits_are}
@@ -34,12 +16,11 @@ use Rattle.aiger_io.proofs.WrittenFormLemmas.{text_format, text_is, alike_refuse
 -- names by their places
 names_at : (names : List (List ℕ)) (places : List ℕ) (all : List (List ℕ)) → map (slice_get names) places ≡ map (λ name. Some name) all → map (λ i. get_or names i []) places ≡ all
 names_at names [] [] e = refl
-names_at names [] (name ∷ all) e = absurd (cc)
-names_at names (i ∷ places) [] e = absurd (cc)
 names_at names (i ∷ places) (name ∷ all) e =
     let here : slice_get names i ≡ Some name = cc in
     let rest : map (slice_get names) places ≡ map (λ (n : List ℕ). Some n) all = cc in
     ap (λ n. n ∷ map (λ j. get_or names j []) places) (get_or_from_slice_get names i name [] here) ∙ ap (λ ns. name ∷ ns) (names_at names places all rest)
+names_at names places all e = absurd (cc)
 
 -- all cycles of a library have as many states
 states_once : (library : LibraryValue) (x y : List ℕ → Bool) (s t outputs next others more : List Bool) → IsCycle library x s outputs next → IsCycle library y t others more → length s ≡ length t
@@ -120,10 +101,6 @@ module _ (flat : FlatValue) (params : List Param) (regular : List ℕ) (g : Aig)
     runs_are : (s : List Bool) (xs : List (List ℕ → Bool)) (outputs states : List (List Bool)) → CircuitRuns written s (all_inputs written xs) outputs states
         → (outputs ≡ run_outputs library flat s (map (input_values flat) xs)) × (states ≡ run_states library flat s (map (input_values flat) xs))
     runs_are s [] [] [] r = (refl, refl)
-    runs_are s [] [] (n ∷ ns) r = absurd r
-    runs_are s [] (o ∷ os) ns r = absurd r
-    runs_are s (x ∷ xs) [] ns r = absurd r
-    runs_are s (x ∷ xs) (o ∷ os) [] r = absurd r
     runs_are s (x ∷ xs) (o ∷ os) (n ∷ ns) r =
         let cycle = library_cycle x s o n r.0 in
         let first : o ≡ flat_outputs library flat (input_values flat x) s = cycles.outputs x s o n cycle in
@@ -132,6 +109,7 @@ module _ (flat : FlatValue) (params : List Param) (regular : List ℕ) (g : Aig)
           ap (λ l. l ∷ os) first ∙ ap (λ ls. flat_outputs library flat (input_values flat x) s ∷ ls) (later.0 ∙ ap (λ t. run_outputs library flat t (map (input_values flat) xs)) next),
           ap (λ l. l ∷ ns) next ∙ ap (λ ls. flat_next library flat (input_values flat x) s ∷ ls) (later.1 ∙ ap (λ t. run_states library flat t (map (input_values flat) xs)) next),
         )
+    runs_are s xs outputs states r = absurd r
 
     -- and the flat circuit's is the circuit's
     flat_runs : (s : List Bool) (xs : List (List ℕ → Bool)) → length s ≡ length flat.latches → CircuitRuns written s (all_inputs written xs) (run_outputs library flat s (map (input_values flat) xs)) (run_states library flat s (map (input_values flat) xs))

@@ -1,50 +1,31 @@
 -- The latches among the commands of a circuit's library, in flat order.
-use Rattle.std.proofs.Common.{◌≡◌, ℕ, zero, suc, ◌+◌, ◌-◌, ◌/◌, ◌<◌, ◌≤◌, max, Bool, false, ◌&&◌, eqb, List, [], ◌∷◌, map, Some, None, refl, sym, ap, ◌∙◌, subst, arith}
-use Rattle.std.specs.Prelude.{slice_get, bytes_eq}
+use Rattle.aiger_io.proofs.Common.{◌≡◌, ℕ, zero, suc, ◌+◌, ◌-◌, ◌/◌, ◌<◌, ◌≤◌, max, Bool, false, ◌&&◌, eqb, List, [], ◌∷◌, map, Some, None, refl, sym, ap, ◌∙◌, subst, arith, slice_get, bytes_eq, Place, is_latch, own_places, state_of, Command, variable_name, next_name, latch_command, commands_from, Header, Item, Latch, kind_at, same_Some, CoverValue, Kind, nat_tests}
 use Rattle.std.proofs.lemmas.Bool.{cond-true, cond-false, ne_eqb, eq-eqb}
-use Rattle.netlist.specs.Places.{Place, is_latch, own_places}
-use Rattle.netlist.specs.Runs.{state_of}
 use Rattle.netlist.specs.declared.command.Body.TheVariants as body
-use Rattle.netlist.specs.declared.command.Command.{Command}
 use Rattle.netlist.specs.declared.latch.Latch.{Latch as LatchValue}
-use Rattle.aiger_io.specs.CircuitLibrary.{variable_name, next_name, latch_command, commands_from}
-use Rattle.aiger_io.specs.declared.header.Header.{Header}
-use Rattle.aiger_io.specs.declared.item.Item.{Item}
-use Rattle.aiger_io.specs.declared.item.Item.TheVariants.{Input, Latch, Output, And}
 use Rattle.aiger_io.specs.declared.item.Kind.TheVariants as kind
-use Rattle.aiger_io.specs.Items.{kind_at}
-use Rattle.aiger_io.proofs.PickLemmas.{AreKinds}
-use Rattle.std.proofs.lemmas.Option.{same_Some}
-use Rattle.netlist.specs.CoverValue.{CoverValue}
-use Rattle.aiger_io.specs.declared.item.Kind.{Kind}
-use Rattle.aiger_io.proofs.PlaceLemmas.{of_latch, kind_of_item, place_kind, input_place, latch_place, output_place, and_place}
+use Rattle.aiger_io.proofs.PlaceLemmas.{AreKinds, of_latch, kind_of_item}
 
 -- the places of the latch commands among the commands of items, where the first command stands at a place
 abbrev pub latch_indices : ℕ → List Item → List ℕ
 latch_indices j [] = []
-latch_indices j (Input own ∷ items) = latch_indices (suc j) items
 latch_indices j (Latch own next init ∷ items) = suc j ∷ latch_indices (suc (suc j)) items
-latch_indices j (Output l ∷ items) = latch_indices (suc j) items
-latch_indices j (And own left right ∷ items) = latch_indices (suc j) items
+latch_indices j (item ∷ items) = latch_indices (suc j) items
 
 abbrev pub top_place : ℕ → Place
 top_place i = record { path = []; command = i }
 
 pub own_latches : (mark : List ℕ) (h : Header) (inputs outputs : List (List ℕ)) (j p : ℕ) (items : List Item) → own_places is_latch [] j (commands_from mark h inputs outputs p items) ≡ map top_place (latch_indices j items)
 own_latches mark h inputs outputs j p [] = refl
-own_latches mark h inputs outputs j p (Input own ∷ items) = own_latches mark h inputs outputs (suc j) (p + 1) items
 own_latches mark h inputs outputs j p (Latch own next init ∷ items) = ap (λ l. top_place (suc j) ∷ l) (own_latches mark h inputs outputs (suc (suc j)) (p + 1) items)
-own_latches mark h inputs outputs j p (Output l ∷ items) = own_latches mark h inputs outputs (suc j) (p + 1) items
-own_latches mark h inputs outputs j p (And own left right ∷ items) = own_latches mark h inputs outputs (suc j) (p + 1) items
+own_latches mark h inputs outputs j p (item ∷ items) = own_latches mark h inputs outputs (suc j) (p + 1) items
 
 -- each of them is behind the first place
 indices_behind : (j : ℕ) (items : List Item) (k i : ℕ) → slice_get (latch_indices j items) k ≡ Some i → j < i
 indices_behind j [] k i e = absurd (cc)
-indices_behind j (Input own ∷ items) k i e = let l : suc j < i = indices_behind (suc j) items k i e in omega arith
 indices_behind j (Latch own next init ∷ items) zero i e = let q : suc j ≡ i = cc in omega arith
 indices_behind j (Latch own next init ∷ items) (suc k) i e = let l : suc (suc j) < i = indices_behind (suc (suc j)) items k i e in omega arith
-indices_behind j (Output o ∷ items) k i e = let l : suc j < i = indices_behind (suc j) items k i e in omega arith
-indices_behind j (And own left right ∷ items) k i e = let l : suc j < i = indices_behind (suc j) items k i e in omega arith
+indices_behind j (item ∷ items) k i e = let l : suc j < i = indices_behind (suc j) items k i e in omega arith
 
 -- so the state of the latch of an ordinal is that of the ordinal
 other_place : (i j : ℕ) → (i ≡ j → ⊥) → (bytes_eq [] [] && eqb i j) ≡ false
@@ -52,7 +33,6 @@ other_place i j d = ne_eqb i j d
 
 pub state_at : (j : ℕ) (items : List Item) (states : List Bool) (k i : ℕ) (b : Bool) → slice_get (latch_indices j items) k ≡ Some i → slice_get states k ≡ Some b → state_of (map top_place (latch_indices j items)) states [] i ≡ b
 state_at j [] states k i b e s = absurd (cc)
-state_at j (Input own ∷ items) states k i b e s = state_at (suc j) items states k i b e s
 state_at j (Latch own next init ∷ items) [] k i b e s = absurd (cc)
 state_at j (Latch own next init ∷ items) (t ∷ states) zero i b e s =
     let q : suc j ≡ i = cc in let r : t ≡ b = cc in
@@ -61,8 +41,7 @@ state_at j (Latch own next init ∷ items) (t ∷ states) (suc k) i b e s =
     let l : suc (suc j) < i = indices_behind (suc (suc j)) items k i e in
     cond-false (bytes_eq [] [] && eqb i (suc j)) t (state_of (map top_place (latch_indices (suc (suc j)) items)) states [] i) (other_place i (suc j) (λ q. let z : i ≡ suc j = q in omega arith))
     ∙ state_at (suc (suc j)) items states k i b e s
-state_at j (Output o ∷ items) states k i b e s = state_at (suc j) items states k i b e s
-state_at j (And own left right ∷ items) states k i b e s = state_at (suc j) items states k i b e s
+state_at j (item ∷ items) states k i b e s = state_at (suc j) items states k i b e s
 
 -- a latch command and its item
 pub record IsLatchOf (mark : List ℕ) (h : Header) (j p : ℕ) (items : List Item) (n : ℕ) (l : LatchValue) : Type 0 where
@@ -81,15 +60,7 @@ kind_there h p (first ∷ items) kinds (suc q) item e = let z : p + 1 + q ≡ p 
 
 -- an item before a latch is an input or a latch
 before_latch : (h : Header) (p : ℕ) (k : Kind) → k ≡ kind_at h p → (kind.Latch ≡ k → ⊥) → (r : ℕ) → p ≤ r → kind_at h r ≡ kind.Latch → p < h.inputs
-before_latch h p k e other r le later =
-    let w = of_latch h r (sym later) in
-    let u : r < h.inputs + h.latches = w.1 in
-    elim (place_kind h p) [
-      | input_place a l ↦ l
-      | latch_place a l m ↦ absurd (other (sym (e ∙ a)))
-      | output_place a l m ↦ (let v : h.inputs + h.latches ≤ p = l in absurd (omega arith))
-      | and_place a l ↦ (let v : h.inputs + h.latches + h.outputs ≤ p = l in absurd (omega arith))
-    ]
+before_latch h p k e other r le later = grind (arith, nat_tests)
 
 -- a latch item and its command
 pub record HasCommand (mark : List ℕ) (h : Header) (inputs outputs : List (List ℕ)) (j p : ℕ) (items : List Item) (place own next : ℕ) (init : Bool) : Type 0 where
@@ -125,8 +96,6 @@ module _ (mark : List ℕ) (h : Header) (inputs outputs : List (List ℕ)) where
 
   pub latch_of : (j p : ℕ) (items : List Item) → AreKinds h p items → (n : ℕ) (d : Command) (l : LatchValue) → slice_get (commands_from mark h inputs outputs p items) n ≡ Some d → d.body ≡ body.Latch l → IsLatchOf mark h j p items n l
   latch_of j p [] kinds n d l e is = absurd (cc)
-  latch_of j p (Input own ∷ items) kinds zero d l e is = absurd (cover_no_latch _ d (p + 2) l e is)
-  latch_of j p (Input own ∷ items) kinds (suc n) d l e is = latch_after j p (Input own) items n l kinds (latch_of (suc j) (p + 1) items kinds.1 n d l e is) refl (λ q. cc)
   latch_of j p (Latch own next init ∷ items) kinds zero d l e is = absurd (cover_no_latch _ d (p + 2) l e is)
   latch_of j p (Latch own next init ∷ items) kinds (suc zero) d l e is =
       let w = of_latch h p kinds.0 in let low : h.inputs ≤ p = w.0 in
@@ -160,10 +129,8 @@ module _ (mark : List ℕ) (h : Header) (inputs outputs : List (List ℕ)) where
         is = f.is ∙ ap (λ (k : ℕ). record { input = next_name mark k; output = variable_name mark (f.own / 2); control = None; init = f.init }) a;
         index = subst (λ m. slice_get (suc j ∷ latch_indices (suc (suc j)) items) m ≡ Some (j + suc (suc n))) b (f.index ∙ ap (λ m. Some m) z);
       }
-  latch_of j p (Output o ∷ items) kinds zero d l e is = absurd (cover_no_latch _ d (p + 2) l e is)
-  latch_of j p (Output o ∷ items) kinds (suc n) d l e is = latch_after j p (Output o) items n l kinds (latch_of (suc j) (p + 1) items kinds.1 n d l e is) refl (λ q. cc)
-  latch_of j p (And own left right ∷ items) kinds zero d l e is = absurd (cover_no_latch _ d (p + 2) l e is)
-  latch_of j p (And own left right ∷ items) kinds (suc n) d l e is = latch_after j p (And own left right) items n l kinds (latch_of (suc j) (p + 1) items kinds.1 n d l e is) refl (λ q. cc)
+  latch_of j p (item ∷ items) kinds zero d l e is = absurd (cover_no_latch _ d (p + 2) l e is)
+  latch_of j p (item ∷ items) kinds (suc n) d l e is = latch_after j p item items n l kinds (latch_of (suc j) (p + 1) items kinds.1 n d l e is) refl (λ q. cc)
 
   command_after : (j p : ℕ) (first : Item) (items : List Item) (first_command : Command) (q own next : ℕ) (init : Bool) → AreKinds h p (first ∷ items) → slice_get items q ≡ Some (Latch own next init) → HasCommand mark h inputs outputs (suc j) (p + 1) items q own next init
       → latch_indices j (first ∷ items) ≡ latch_indices (suc j) items → (kind.Latch ≡ kind_of_item first → ⊥) → commands_from mark h inputs outputs p (first ∷ items) ≡ first_command ∷ commands_from mark h inputs outputs (p + 1) items
@@ -182,8 +149,6 @@ module _ (mark : List ℕ) (h : Header) (inputs outputs : List (List ℕ)) where
 
   pub command_of_latch : (j p : ℕ) (items : List Item) → AreKinds h p items → (q own next : ℕ) (init : Bool) → slice_get items q ≡ Some (Latch own next init) → HasCommand mark h inputs outputs j p items q own next init
   command_of_latch j p [] kinds q own next init e = absurd (cc)
-  command_of_latch j p (Input x ∷ items) kinds zero own next init e = absurd (cc)
-  command_of_latch j p (Input x ∷ items) kinds (suc q) own next init e = command_after j p (Input x) items _ q own next init kinds e (command_of_latch (suc j) (p + 1) items kinds.1 q own next init e) refl (λ r. cc) refl
   command_of_latch j p (Latch x y z ∷ items) kinds zero own next init e =
       let w = of_latch h p kinds.0 in let low : h.inputs ≤ p = w.0 in
       let same : Latch x y z ≡ Latch own next init = same_Some (Latch x y z) (Latch own next init) e in
@@ -210,7 +175,5 @@ module _ (mark : List ℕ) (h : Header) (inputs outputs : List (List ℕ)) where
         at = f.at ∙ ap (λ (k : ℕ). Some (latch_command f.line (next_name mark k) (variable_name mark (own / 2)) init)) a;
         index = subst (λ m. slice_get (suc j ∷ latch_indices (suc (suc j)) items) m ≡ Some (j + suc (suc f.number))) b (f.index ∙ ap (λ m. Some m) u);
       }
-  command_of_latch j p (Output x ∷ items) kinds zero own next init e = absurd (cc)
-  command_of_latch j p (Output x ∷ items) kinds (suc q) own next init e = command_after j p (Output x) items _ q own next init kinds e (command_of_latch (suc j) (p + 1) items kinds.1 q own next init e) refl (λ r. cc) refl
-  command_of_latch j p (And x y z ∷ items) kinds zero own next init e = absurd (cc)
-  command_of_latch j p (And x y z ∷ items) kinds (suc q) own next init e = command_after j p (And x y z) items _ q own next init kinds e (command_of_latch (suc j) (p + 1) items kinds.1 q own next init e) refl (λ r. cc) refl
+  command_of_latch j p (item ∷ items) kinds zero own next init e = absurd (cc)
+  command_of_latch j p (item ∷ items) kinds (suc q) own next init e = command_after j p item items _ q own next init kinds e (command_of_latch (suc j) (p + 1) items kinds.1 q own next init e) refl (λ r. cc) refl

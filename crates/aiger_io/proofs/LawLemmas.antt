@@ -1,43 +1,15 @@
 -- The law of a circuit and its library: fitting values exist and agree, and cycles and runs are the same.
-use Rattle.std.proofs.Common.{◌≡◌, ℕ, zero, suc, ◌+◌, ◌-◌, ◌*◌, ◌/◌, ◌^◌, ◌<◌, ◌≤◌, min, max, Bool, false, ◌&&◌, get_or, List, [], ◌∷◌, ◌++◌, length, map, Option, Some, None, inl, inr, refl, sym, ap, ◌∙◌, subst, arith, append-nil}
-use Rattle.std.specs.Prelude.{slice_get}
-use Rattle.std.specs.Option.{option_map, option_and_then}
-use Rattle.std.proofs.lemmas.Bool.{and_parts}
-use Rattle.std.proofs.lemmas.List.{length-map}
-use Rattle.std.proofs.lemmas.Option.{same_Some, slice_get-map, slice_get-get_or, slice_get_within}
-use Rattle.list_laws.specs.Members.{In}
-use Rattle.list_laws.proofs.Members.{place_in}
-use Rattle.list_laws.proofs.Places.{at_within, same_list}
-use Rattle.netlist.specs.CoverValue.{CoverValue}
-use Rattle.netlist.specs.Cycle.{Fits}
+use Rattle.aiger_io.proofs.Common.{◌≡◌, ℕ, zero, suc, ◌+◌, ◌-◌, ◌*◌, ◌/◌, ◌^◌, ◌<◌, ◌≤◌, min, max, Bool, false, ◌&&◌, get_or, List, [], ◌∷◌, ◌++◌, length, map, Option, Some, None, inl, inr, refl, sym, ap, ◌∙◌, subst, arith, append-nil, slice_get, option_map, option_and_then, and_parts, length-map, same_Some, slice_get-map, slice_get-get_or, slice_get_within, In, place_in, at_within, same_list, CoverValue, Fits, ModelValue, LibraryValue, Path, subckts_of, Net, Drives, cover_output, latch_output, latch_net, cover_net, Place, is_latch, own_of, FlatOrder, FlatUnder, flat, none, more, latch_at, latch_in, AreLatches, IsCycle, Runs, stops, steps, init_state, inits_of, state_of, next_state, next_states, One, Command, AreOnce, Circuit, mark_of, variable_name, next_name, cell_of, cover_command, zero_command, latch_command, port_name, commands_from, model_of, library_of, is_literal, is_variable, Item, Input, Latch, Output, And, circuit_of, IsLibraryIn, left_apart, nat_tests, true}
 use Rattle.netlist.specs.Law.{HasOneCycle}
-use Rattle.netlist.specs.LibraryValue.{ModelValue, LibraryValue}
-use Rattle.netlist.specs.Models.{Path, subckts_of}
-use Rattle.netlist.specs.Nets.{Net, Drives, cover_output, latch_output, latch_net, cover_net}
-use Rattle.netlist.specs.Places.{Place, is_latch, own_of, FlatOrder, FlatUnder, flat, none, more, latch_at, latch_in}
-use Rattle.netlist.specs.Runs.{AreLatches, IsCycle, Runs, stops, steps, init_state, inits_of, state_of, next_state, next_states}
 use Rattle.netlist.specs.Sound.{IsSound}
 use Rattle.netlist.specs.SubcktValue.{SubcktValue}
-use Rattle.netlist.specs.declared.cell.Cell.TheVariants.{One}
 use Rattle.netlist.specs.declared.command.Body.TheVariants as body
-use Rattle.netlist.specs.declared.command.Command.{Command}
 use Rattle.netlist.proofs.LawLemmas.{sound_law}
-use Rattle.tl_text.specs.Once.{AreOnce}
-use Rattle.aiger_io.specs.Circuit.{Circuit}
-use Rattle.aiger_io.specs.CircuitLibrary.{mark_of, variable_name, next_name, cell_of, cover_command, zero_command, latch_command, port_name, commands_from, model_of, library_of}
-use Rattle.aiger_io.specs.Items.{is_literal, is_variable}
 use Rattle.aiger_io.specs.Run.{literal_value, FitsLines, IsDefined, zero_variable, input, latch, gate, HasOneFit, output_literal, next_literal, output_literals, next_literals, init_bits, IsCircuitCycle, CircuitRuns, HasSameRuns}
-use Rattle.aiger_io.specs.declared.item.Item.{Item}
-use Rattle.aiger_io.specs.declared.item.Item.TheVariants.{Input, Latch, Output, And}
-use Rattle.aiger_io.specs.Reader.{circuit_of, IsLibraryIn}
-use Rattle.aiger_io.proofs.BuiltLemmas.{built, place_among, place_once, variable_built, next_built, output_built, nexts_picked, outputs_picked, fits_library}
-use Rattle.aiger_io.proofs.CleanLemmas.{IsKept, text_kept}
-use Rattle.aiger_io.proofs.FitLemmas.{latches_of, no_subckts, are_latches, cover_in_place, command_in, item_in, circuit_kinds, literal_is, fits_lines}
-use Rattle.aiger_io.proofs.FormedLemmas.{text_ports_once}
+use Rattle.aiger_io.proofs.FitLemmas.{built, place_among, place_once, variable_built, next_built, output_built, nexts_picked, outputs_picked, fits_library, latches_of, no_subckts, are_latches, cover_in_place, command_in, item_in, circuit_kinds, literal_is, fits_lines}
+use Rattle.aiger_io.proofs.CleanLemmas.{IsKept, text_kept, text_ports_once}
 use Rattle.aiger_io.proofs.LatchLemmas.{latch_indices, top_place, own_latches}
-use Rattle.aiger_io.proofs.PickLemmas.{picked_length, picked_at, picked_from}
-use Rattle.aiger_io.proofs.PlaceLemmas.{of_input, variable_low}
-use Rattle.list_laws.proofs.Apart.{left_apart}
+use Rattle.aiger_io.proofs.PlaceLemmas.{picked_length, picked_at, picked_from, of_input}
 
 -- bits by the names of their places
 abbrev by_name : List (List ℕ) → List Bool → List ℕ → Bool
@@ -105,19 +77,18 @@ module _ (c : Circuit) (kept : IsKept c) (once : AreOnce (c.inputs ++ c.outputs)
       (item_in c p.0 (And own left right) _ p.1 (inl refl)) refl (ap (variable_name (mark_of (c.inputs ++ c.outputs))) (sym e))
 
   -- and its number is small
+  small_half : (v own : ℕ) → v ≡ own / 2 → is_variable c.header.variables own ≡ true → v < 2 ^ 64
+  small_half v own e t = let m : c.header.variables ≤ 1073741824 = kept.most in grind (arith, nat_tests)
+
   defined_small : (v : ℕ) → IsDefined c v → v < 2 ^ 64
   defined_small v (zero_variable e) = let q : v ≡ 0 = e in omega arith
-  defined_small v (input own i e) =
-      let p = place_in c.items (Input own) i in let k = kept.items p.0 (Input own) p.1 in let m : c.header.variables ≤ 1073741824 = kept.most in
-      let u : own ≤ 2 * c.header.variables = (variable_low c.header.variables own k.range).1 in let q : v ≡ own / 2 = e in omega arith
+  defined_small v (input own i e) = let p = place_in c.items (Input own) i in small_half v own e (kept.items p.0 (Input own) p.1).range
   defined_small v (latch own next init i e) =
-      let p = place_in c.items (Latch own next init) i in let k = kept.items p.0 (Latch own next init) p.1 in let m : c.header.variables ≤ 1073741824 = kept.most in
-      let r = and_parts (is_variable c.header.variables own) (is_literal c.header.variables next) k.range in
-      let u : own ≤ 2 * c.header.variables = (variable_low c.header.variables own r.0).1 in let q : v ≡ own / 2 = e in omega arith
+      let p = place_in c.items (Latch own next init) i in
+      small_half v own e (and_parts (is_variable c.header.variables own) (is_literal c.header.variables next) (kept.items p.0 (Latch own next init) p.1).range).0
   defined_small v (gate own left right i e) =
-      let p = place_in c.items (And own left right) i in let k = kept.items p.0 (And own left right) p.1 in let m : c.header.variables ≤ 1073741824 = kept.most in
-      let r = and_parts (is_variable c.header.variables own) (is_literal c.header.variables left && is_literal c.header.variables right) k.range in
-      let u : own ≤ 2 * c.header.variables = (variable_low c.header.variables own r.0).1 in let q : v ≡ own / 2 = e in omega arith
+      let p = place_in c.items (And own left right) i in
+      small_half v own e (and_parts (is_variable c.header.variables own) (is_literal c.header.variables left && is_literal c.header.variables right) (kept.items p.0 (And own left right) p.1).range).0
 
   -- fitting values exist, and agree on what the lines define
   pub one_fit : HasOneCycle (library_of c) → HasOneFit c
@@ -162,7 +133,6 @@ module _ (c : Circuit) where
   nexts_same : (value : Path → List ℕ → Bool) (f : ℕ → Bool) (j p : ℕ) (items : List Item) → AreThere j p items → GivesNext value f p items
       → map (λ (pl : Place). next_state (value pl.path) (latch_at (library_of c) pl)) (map top_place (latch_indices j items)) ≡ map (literal_value f) (next_literals items)
   nexts_same value f j p [] there gives = refl
-  nexts_same value f j p (Input own ∷ items) there gives = nexts_same value f (suc j) (p + 1) items (one_there j p items _ _ there) (later_gives value f p (Input own) items gives)
   nexts_same value f j p (Latch own next init ∷ items) there gives =
       let at = there 1 (latch_command (p + 2) (next_name (mark_of (c.inputs ++ c.outputs)) (p - c.header.inputs)) (variable_name (mark_of (c.inputs ++ c.outputs)) (own / 2)) init) refl in
       let z : j + 1 ≡ suc j = omega arith in
@@ -173,12 +143,10 @@ module _ (c : Circuit) where
       ap (next_state (value [])) l ∙ subst (λ m. value [] (next_name (mark_of (c.inputs ++ c.outputs)) m) ≡ literal_value f next) y (gives zero own next init refl) in
       ap (λ b. b ∷ map (λ (pl : Place). next_state (value pl.path) (latch_at (library_of c) pl)) (map top_place (latch_indices (suc (suc j)) items))) first
       ∙ ap (λ bs. literal_value f next ∷ bs) (nexts_same value f (suc (suc j)) (p + 1) items (two_there j p own next init items there) (later_gives value f p (Latch own next init) items gives))
-  nexts_same value f j p (Output l ∷ items) there gives = nexts_same value f (suc j) (p + 1) items (one_there j p items _ _ there) (later_gives value f p (Output l) items gives)
-  nexts_same value f j p (And own left right ∷ items) there gives = nexts_same value f (suc j) (p + 1) items (one_there j p items _ _ there) (later_gives value f p (And own left right) items gives)
+  nexts_same value f j p (item ∷ items) there gives = nexts_same value f (suc j) (p + 1) items (one_there j p items _ _ there) (later_gives value f p item items gives)
 
   inits_same : (j p : ℕ) (items : List Item) → AreThere j p items → map (λ (pl : Place). init_state (latch_at (library_of c) pl)) (map top_place (latch_indices j items)) ≡ init_bits items
   inits_same j p [] there = refl
-  inits_same j p (Input own ∷ items) there = inits_same (suc j) (p + 1) items (one_there j p items _ _ there)
   inits_same j p (Latch own next init ∷ items) there =
       let at = there 1 (latch_command (p + 2) (next_name (mark_of (c.inputs ++ c.outputs)) (p - c.header.inputs)) (variable_name (mark_of (c.inputs ++ c.outputs)) (own / 2)) init) refl in
       let z : j + 1 ≡ suc j = omega arith in
@@ -186,8 +154,7 @@ module _ (c : Circuit) where
       (subst (λ m. slice_get (model_of c).commands m ≡ Some (latch_command (p + 2) (next_name (mark_of (c.inputs ++ c.outputs)) (p - c.header.inputs)) (variable_name (mark_of (c.inputs ++ c.outputs)) (own / 2)) init)) z at) in
       ap (λ b. b ∷ map (λ (pl : Place). init_state (latch_at (library_of c) pl)) (map top_place (latch_indices (suc (suc j)) items))) (ap init_state l)
       ∙ ap (λ bs. init ∷ bs) (inits_same (suc (suc j)) (p + 1) items (two_there j p own next init items there))
-  inits_same j p (Output l ∷ items) there = inits_same (suc j) (p + 1) items (one_there j p items _ _ there)
-  inits_same j p (And own left right ∷ items) there = inits_same (suc j) (p + 1) items (one_there j p items _ _ there)
+  inits_same j p (item ∷ items) there = inits_same (suc j) (p + 1) items (one_there j p items _ _ there)
 
   all_there : AreThere 1 0 c.items
   all_there n d e = let z : suc n ≡ 1 + n = omega arith in subst (λ m. slice_get (model_of c).commands m ≡ Some d) z e
@@ -197,10 +164,8 @@ module _ (c : Circuit) where
 
 indices_length : (j : ℕ) (items : List Item) → length (latch_indices j items) ≡ length (next_literals items)
 indices_length j [] = refl
-indices_length j (Input own ∷ items) = indices_length (suc j) items
 indices_length j (Latch own next init ∷ items) = ap (λ n. suc n) (indices_length (suc (suc j)) items)
-indices_length j (Output l ∷ items) = indices_length (suc j) items
-indices_length j (And own left right ∷ items) = indices_length (suc j) items
+indices_length j (item ∷ items) = indices_length (suc j) items
 
 latches_length : (c : Circuit) → IsKept c → length (latches_of c) ≡ c.header.latches
 latches_length c kept =
@@ -269,9 +234,6 @@ module _ (c : Circuit) (kept : IsKept c) (once : AreOnce (c.inputs ++ c.outputs)
     own_values v = value [] (variable_name (mark_of (c.inputs ++ c.outputs)) v)
 
     output_here : (j : ℕ) (name : List ℕ) (l : ℕ) → slice_get c.outputs j ≡ Some name → (q : ℕ) (item : Item) → slice_get c.items q ≡ Some item → output_literal item ≡ l ∷ [] → j ≡ 0 + q - max 0 (c.header.inputs + c.header.latches) → value [] name ≡ literal_value own_values l
-    output_here j name l a q (Input own) at is e = absurd (cc)
-    output_here j name l a q (Latch own next init) at is e = absurd (cc)
-    output_here j name l a q (And own left right) at is e = absurd (cc)
     output_here j name l a q (Output o) at is e =
         let same : o ≡ l = cc in
         let z : 0 + q - (c.header.inputs + c.header.latches) ≡ j = omega arith in
@@ -279,6 +241,7 @@ module _ (c : Circuit) (kept : IsKept c) (once : AreOnce (c.inputs ++ c.outputs)
         let n : port_name c.outputs (0 + q - (c.header.inputs + c.header.latches)) ≡ name = ap (port_name c.outputs) z ∙ same_Some (port_name c.outputs j) name (sym (slice_get-get_or c.outputs j [] w) ∙ a) in
         subst (λ k. value [] k ≡ literal_value own_values l) n
         (literal_is c kept x s count value fits (0 + q + 2) o (port_name c.outputs (0 + q - (c.header.inputs + c.header.latches))) (item_in c q (Output o) _ at (inl refl)) ∙ ap (literal_value own_values) same)
+    output_here j name l a q item at is e = absurd (cc)
 
     line_outputs : map (value []) c.outputs ≡ map (literal_value own_values) (output_literals c.items)
     line_outputs = values_same (value []) (literal_value own_values) c.outputs (output_literals c.items) (sym (outputs_length c kept)) (λ j name l a b.
@@ -309,11 +272,8 @@ module _ (c : Circuit) (kept : IsKept c) (once : AreOnce (c.inputs ++ c.outputs)
   -- runs, cycle by cycle
   runs_of_lines : (s : List Bool) (xs : List (List ℕ → Bool)) (outputs states : List (List Bool)) → CircuitRuns c s (map (λ (x : List ℕ → Bool). map x c.inputs) xs) outputs states → Runs (library_of c) s xs outputs states
   runs_of_lines s [] [] [] r = stops
-  runs_of_lines s [] [] (n ∷ ns) r = absurd r
-  runs_of_lines s [] (o ∷ os) ns r = absurd r
-  runs_of_lines s (x ∷ xs) [] ns r = absurd r
-  runs_of_lines s (x ∷ xs) (o ∷ os) [] r = absurd r
   runs_of_lines s (x ∷ xs) (o ∷ os) (n ∷ ns) r = steps x xs o n os ns (cycle_of_lines x s o n r.0) (runs_of_lines n xs os ns r.1)
+  runs_of_lines s xs outputs states r = absurd r
 
   lines_of_runs : (s : List Bool) (xs : List (List ℕ → Bool)) (outputs states : List (List Bool)) → Runs (library_of c) s xs outputs states → CircuitRuns c s (map (λ (x : List ℕ → Bool). map x c.inputs) xs) outputs states
   lines_of_runs s xs outputs states stops = tt

@@ -1,24 +1,145 @@
--- No two inputs or outputs have the same name.
-use Rattle.std.proofs.Common.{◌≡◌, lit<, ℕ, zero, suc, ◌+◌, ◌^◌, ◌<◌, ◌≤◌, true, false, ◌&&◌, ◌⊎◌, ltb, leb, List, [], ◌∷◌, ◌++◌, length, take, drop, Option, Some, None, decimal, inl, inr, refl, sym, ap, ◌∙◌, subst, arith, length-take, length-drop, unwrap_or, get_or}
-use Rattle.std.specs.Prelude.{bytes_eq, slice_get}
-use Rattle.std.specs.Cmp.Lexicographic.{bytes_decides}
-use Rattle.std.proofs.lemmas.Bool.{and_parts, and_from, or_cases, or_left, or_right, lt-ltb, le-leb, true≢false}
-use Rattle.std.proofs.lemmas.Option.{slice_get-get_or, same_Some, slice_get_within}
-use Rattle.std.proofs.lemmas.Fmt.{decimal_is_IsNumeral}
-use Rattle.std.specs.Str.Parse.{digits_value}
-use Rattle.list_laws.specs.Members.{In}
-use Rattle.list_laws.proofs.Members.{place_in}
-use Rattle.list_laws.proofs.Choice.{none_both}
-use Rattle.tl_text.specs.NameSets.{has_name}
-use Rattle.tl_text.specs.Once.{AreOnce}
-use Rattle.tl_text.proofs.NameSetLemmas.{has_in, in_has}
-use Rattle.aiger_io.specs.Bodies.{named_count}
-use Rattle.aiger_io.specs.PortNames.{default_name, names_from, input_names, output_names, port_names, is_twice, is_port, name_at, first_twice}
-use Rattle.aiger_io.specs.Refused.{StandsTwice}
-use Rattle.aiger_io.specs.Symbols.{SymbolsValue, no_name}
-use Rattle.aiger_io.specs.declared.aag_err.AagErr.TheVariants.{BadSymbol}
-use Rattle.aiger_io.specs.declared.header.Header.{Header}
-use Rattle.aiger_io.proofs.NamedLemmas.{AreNamed}
+-- Symbols and ports: each name that stands is that of a line, is clean and no longer than the line, and no two inputs or outputs have the same name.
+use Rattle.aiger_io.proofs.Common.{◌≡◌, ℕ, zero, suc, ◌+◌, ◌<◌, ◌≤◌, Bool, false, not, ◌&&◌, ◌||◌, eqb, ltb, List, [], ◌∷◌, ◌++◌, length, Option, Some, None, Ok, inl, inr, refl, sym, ap, ◌∙◌, subst, arith, length-drop, bytes_eq, codes, slice_get, slice_set, replicate, slice_index_or, list_any, before_first, after_first, position_or_len, is_some, and_parts, not-true, cases_Bool, cases_lt, or_parts, slice_get_within, In, In-left, In-pushed, set_here, set_other, set_length, same_or, IsClean, is_bad, ends_in, is_blank, number_of, and_then, BadSymbol, Header, Kind, true, bytes_decides, has_name, with_name, has_with_names, twice_from, seen_from, is_twice, lit<, ◌^◌, ◌⊎◌, take, drop, decimal, length-take, unwrap_or, get_or, slice_get-get_or, same_Some, decimal_is_IsNumeral, digits_value, place_in, none_both, AreOnce, has_in, in_has, named_count, default_name, names_from, input_names, output_names, port_names, is_port, name_at, first_twice, StandsTwice, SymbolsValue, no_name, nat_tests}
+use Rattle.aiger_io.specs.Symbols.{Symbol, no_symbols, kind_of, symbol_by, symbol_with, symbol_of, is_bad_byte, is_bad_name, place_of, may_stand, with_symbol, symbol_at, symbols_from}
+use Rattle.aiger_io.proofs.LineLemmas.{same_answer, behind_of, chosen, ok_then}
+use Rattle.std.proofs.lemmas.Bool.{true≢false, and_from, or_cases, or_left, or_right}
+
+-- a name of a line of at most so many bytes
+pub record IsGoodName (most : ℕ) (name : List ℕ) : Type 0 where
+  pub clean : IsClean name
+  pub short : length name ≤ most
+
+none_of : (test : ℕ → Bool) (xs : List ℕ) → list_any test xs ≡ false → (x : ℕ) → In xs x → test x ≡ false
+none_of test [] e x i = absurd i
+none_of test (y ∷ ys) e x (inl q) = subst (λ z. test z ≡ false) (sym q) (or_parts (test y) (list_any test ys) e).0
+none_of test (y ∷ ys) e x (inr i) = none_of test ys (or_parts (test y) (list_any test ys) e).1 x i
+
+not_blank : (b : ℕ) → is_bad_byte b ≡ false → is_blank b ≡ false
+not_blank b good = grind (arith, nat_tests)
+
+not_bad : (b : ℕ) → is_bad_byte b ≡ false → is_bad b ≡ false
+not_bad b good = grind (arith, nat_tests)
+
+not_comment : (b : ℕ) → is_bad_byte b ≡ false → b ≡ 35 → ⊥
+not_comment b good e = grind (arith, nat_tests)
+
+clean_name : (name : List ℕ) → 0 < length name → is_bad_name name ≡ false → IsClean name
+clean_name name some e =
+    let p = or_parts (list_any is_bad_byte name) (ends_in 92 name) e in
+    let good : (b : ℕ) → In name b → is_bad_byte b ≡ false = none_of is_bad_byte name p.0 in
+    record { bytes = record { some = some; no_blank = λ b i. not_blank b (good b i); no_bad = λ b i. not_bad b (good b i); no_comment = λ b i. not_comment b (good b i) }; no_slash = p.1 }
+
+-- the name of a symbol's line
+record IsNameIn (row name : List ℕ) : Type 0 where
+  some : 0 < length name
+  within : length name ≤ length row
+
+by_name : (name : List ℕ) (ordinal : Option ℕ) (kind : Option Kind) (s : Symbol) → symbol_by name ordinal kind ≡ Some s → s.name ≡ name
+by_name name (Some n) (Some k) s e = let q : record { kind = k; ordinal = n; name = name } ≡ s = cc in sym (ap (λ (t : Symbol). t.name) q)
+by_name name ordinal kind s e = absurd (cc)
+
+name_in : (key name : List ℕ) (s : Symbol) → symbol_with key name ≡ Some s → (s.name ≡ name) × (0 < length name)
+name_in (letter ∷ digits) (b ∷ bs) s e = (by_name (b ∷ bs) (number_of digits) (kind_of letter) s e, omega arith)
+name_in key name s e = absurd (cc)
+
+symbol_name : (row : List ℕ) (s : Symbol) → symbol_of row ≡ Some s → IsNameIn row s.name
+symbol_name row s e =
+    let p = name_in (before_first (λ b. eqb b 32) row) (after_first (λ b. eqb b 32) row) s e in
+    let n : length s.name ≡ length (after_first (λ b. eqb b 32) row) = ap length p.0 in
+    let some : 0 < length (after_first (λ b. eqb b 32) row) = p.1 in
+    record { some = omega arith; within = omega (arith, length-drop (position_or_len (λ b. eqb b 32) row + 1) row) }
+
+-- what stands so far
+pub record AreNamed (most : ℕ) (said : SymbolsValue) : Type 0 where
+  pub placed : (p : ℕ) (name : List ℕ) → slice_get said.names p ≡ Some (Some name) → In said.places p
+  pub good : (p : ℕ) (name : List ℕ) → slice_get said.names p ≡ Some (Some name) → IsGoodName most name
+
+pub none_at : (n p : ℕ) (name : List ℕ) → slice_get (replicate n no_name) p ≡ Some (Some name) → ⊥
+none_at zero p name e = absurd (cc)
+none_at (suc n) zero name e = absurd (cc)
+none_at (suc n) (suc p) name e = none_at n p name e
+
+nothing_named : (most : ℕ) (h : Header) → AreNamed most (no_symbols h)
+nothing_named most h = record {
+  placed = λ p name e. absurd (none_at (h.inputs + h.latches + h.outputs) p name e);
+  good = λ p name e. absurd (none_at (h.inputs + h.latches + h.outputs) p name e);
+}
+
+module _ (most : ℕ) (h : Header) (said : SymbolsValue) (are : AreNamed most said) (s : Symbol) (good : IsGoodName most s.name) where
+  set_named : (p : ℕ) (name : List ℕ) → slice_get (slice_set said.names (place_of h s) (Some s.name)) p ≡ Some (Some name) → (IsGoodName most name) × (In (said.places ++ place_of h s ∷ []) p)
+  set_named p name e = elim (same_or p (place_of h s)) [
+    | inl q ↦ elim (cases_lt (place_of h s) (length said.names)) [
+      | inl l ↦ (
+          let here : slice_get (slice_set said.names (place_of h s) (Some s.name)) (place_of h s) ≡ Some (Some s.name) = set_here said.names (place_of h s) (Some s.name) l in
+          let there : slice_get (slice_set said.names (place_of h s) (Some s.name)) (place_of h s) ≡ Some (Some name) = subst (λ i. slice_get (slice_set said.names (place_of h s) (Some s.name)) i ≡ Some (Some name)) q e in
+          let same : s.name ≡ name = cc in
+          (subst (IsGoodName most) same good, subst (λ i. In (said.places ++ place_of h s ∷ []) i) (sym q) (In-pushed said.places (place_of h s))))
+      | inr l ↦ absurd (
+          let t : p < length (slice_set said.names (place_of h s) (Some s.name)) = slice_get_within (slice_set said.names (place_of h s) (Some s.name)) p (Some name) e in
+          let n : length (slice_set said.names (place_of h s) (Some s.name)) ≡ length said.names = set_length said.names (place_of h s) (Some s.name) in
+          let z : p ≡ place_of h s = q in omega arith)
+    ]
+    | inr d ↦ (
+        let old : slice_get said.names p ≡ Some (Some name) = sym (set_other said.names (place_of h s) p (Some s.name) d) ∙ e in
+        (are.good p name old, In-left said.places (place_of h s ∷ []) p (are.placed p name old)))
+  ]
+
+  pub one_named : AreNamed most (with_symbol h s said)
+  one_named = record { placed = λ p name e. (set_named p name e).1; good = λ p name e. (set_named p name e).0 }
+
+-- and all of them
+taken : (most : ℕ) (h : Header) (line : ℕ) (said more : SymbolsValue) (o : Option Symbol) → AreNamed most said → ((s : Symbol) → o ≡ Some s → (0 < length s.name) × (length s.name ≤ most)) → symbol_at h line said o ≡ Ok more → AreNamed most more
+taken most h line said more None are good e = absurd (cc)
+taken most h line said more (Some s) are good e =
+    let c = ok_then (may_stand h said s) (Ok (with_symbol h s said)) (BadSymbol line s.name) more e in
+    let p = and_parts (ltb s.ordinal _) _ c.0 in
+    let q = and_parts (not (is_some (slice_index_or said.names (place_of h s) None))) (not (is_bad_name s.name)) p.1 in
+    let g = good s refl in
+    let name : IsGoodName most s.name = record { clean = clean_name s.name g.0 (not-true (is_bad_name s.name) q.1); short = g.1 } in
+    let same : with_symbol h s said ≡ more = cc in subst (AreNamed most) same (one_named most h said are s name)
+
+named_by : (most : ℕ) (h : Header) (line : ℕ) (said all : SymbolsValue) (rows : List (List ℕ)) → ((row : List ℕ) → In rows row → length row ≤ most) → AreNamed most said → symbols_from h line said rows ≡ Ok all → AreNamed most all
+named_by most h line said all [] short are e = subst (AreNamed most) (same_answer (Ok said) said all refl e) are
+named_by most h line said all (row ∷ rows) short are e = elim (chosen (bytes_eq row (codes "c")) (Ok said) (and_then (λ (more : SymbolsValue). symbols_from h (line + 1) more rows) (symbol_at h line said (symbol_of row))) (Ok all) e) [
+  | inl t ↦ subst (AreNamed most) (same_answer (Ok said) said all refl t.1) are
+  | inr t ↦ (
+      let d = behind_of (λ (more : SymbolsValue). symbols_from h (line + 1) more rows) (symbol_at h line said (symbol_of row)) all t.1 in
+      let u : length row ≤ most = short row (inl refl) in
+      named_by most h (line + 1) d.first all rows (λ r i. short r (inr i)) (taken most h line said d.first (symbol_of row) are (λ s q. let n = symbol_name row s q in let w : length s.name ≤ length row = n.within in (n.some, omega arith)) d.is) d.then_is)
+]
+
+pub symbols_named : (most : ℕ) (h : Header) (line : ℕ) (all : SymbolsValue) (rows : List (List ℕ)) → ((row : List ℕ) → In rows row → length row ≤ most) → symbols_from h line (no_symbols h) rows ≡ Ok all → AreNamed most all
+symbols_named most h line all rows short e = named_by most h line (no_symbols h) all rows short (nothing_named most h) e
+
+hit : (f s e m t : Bool) → (e ≡ true → s ≡ true) → ((f || (e || false)) || (s && m)) || t ≡ (f || (s && (e || m))) || ((e && m) || t)
+hit f s e m t h = grind arith
+
+miss : (f s e m t : Bool) → (e ≡ true → s ≡ false) → (f || ((s || (e || false)) && m)) || t ≡ (f || (s && (e || m))) || ((e && m) || t)
+miss f s e m t h = grind arith
+
+nothing : (f s : Bool) → f ≡ (f || (s && false)) || false
+nothing f s = grind arith
+
+has_more : (names : List (List ℕ)) (n x : List ℕ) → has_name (with_name names n) x ≡ has_name names x || (bytes_eq x n || false)
+has_more names n x = has_with_names names (n ∷ []) x
+
+same_has : (names : List (List ℕ)) (n x : List ℕ) (b : Bool) → has_name names n ≡ b → bytes_eq x n ≡ true → has_name names x ≡ b
+same_has names n x b h e = subst (λ z. has_name names z ≡ b) (sym ((bytes_decides x n).0 e)) h
+
+found_twice : (names seen found : List (List ℕ)) (x : List ℕ) → has_name (twice_from seen found names) x ≡ (has_name found x || (has_name seen x && has_name names x)) || is_twice names x
+found_twice [] seen found x = nothing (has_name found x) (has_name seen x)
+found_twice (n ∷ ns) seen found x = elim (cases_Bool (has_name seen n)) [
+  | inl t ↦ cc (found_twice ns seen (with_name found n) x, has_more found n x, hit (has_name found x) (has_name seen x) (bytes_eq x n) (has_name ns x) (is_twice ns x) (same_has seen n x true t))
+  | inr f ↦ cc (found_twice ns (with_name seen n) found x, has_more seen n x, miss (has_name found x) (has_name seen x) (bytes_eq x n) (has_name ns x) (is_twice ns x) (same_has seen n x false f))
+]
+
+pub twice_joined : (xs ys seen found : List (List ℕ)) → twice_from seen found (xs ++ ys) ≡ twice_from (seen_from seen xs) (twice_from seen found xs) ys
+twice_joined [] ys seen found = refl
+twice_joined (x ∷ xs) ys seen found = elim (cases_Bool (has_name seen x)) [ inl t ↦ cc (twice_joined xs ys seen (with_name found x)) | inr f ↦ cc (twice_joined xs ys (with_name seen x) found) ]
+
+-- those among two lists, one after the other
+pub all_found : (xs ys : List (List ℕ)) (found : List (List ℕ)) → found ≡ twice_from (seen_from [] xs) (twice_from [] [] xs) ys → (x : List ℕ) → has_name found x ≡ is_twice (xs ++ ys) x
+all_found xs ys found is x = ap (λ l. has_name l x) (is ∙ sym (twice_joined xs ys [] [])) ∙ found_twice (xs ++ ys) [] [] x
 
 -- names none of which stands twice are apart
 behind_twice : (names : List (List ℕ)) (n x : List ℕ) → is_twice names x ≡ true → is_twice (n ∷ names) x ≡ true
@@ -131,10 +252,10 @@ module _ (h : Header) (said : SymbolsValue) (most line : ℕ) (size : length sai
       true≢false (sym (and_from (is_port h p) (is_twice (port_names h said) (name_at said p)) port (ap (is_twice (port_names h said)) n ∙ t)) ∙ f)
 
   input_port : (i : ℕ) → i < h.inputs → is_port h i ≡ true
-  input_port i l = or_left (ltb i h.inputs) (leb (h.inputs + h.latches) i) (lt-ltb i h.inputs l)
+  input_port i l = grind (arith, nat_tests)
 
   output_port : (k : ℕ) → is_port h (h.inputs + h.latches + k) ≡ true
-  output_port k = or_right (ltb (h.inputs + h.latches + k) h.inputs) (leb (h.inputs + h.latches) (h.inputs + h.latches + k)) (le-leb (h.inputs + h.latches) (h.inputs + h.latches + k) (omega arith))
+  output_port k = grind (arith, nat_tests)
 
   -- a name that stands twice is no symbol's, so it is one by default
   default_input : (i : ℕ) (o : Option (List ℕ)) (x : List ℕ) → i < h.inputs → slice_get said.names i ≡ Some o → x ≡ unwrap_or o (default_name 105 i) → is_twice (port_names h said) x ≡ true → x ≡ default_name 105 i

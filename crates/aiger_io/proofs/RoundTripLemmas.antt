@@ -1,36 +1,13 @@
 -- A circuit's text: where its names are clean it is read, part by part, as the circuit that was written.
-use Rattle.std.proofs.Common.{◌≡◌, ℕ, suc, ◌+◌, ◌^◌, ◌<◌, ◌≤◌, true, false, ◌&&◌, ◌||◌, not, eqb, ltb, List, [], ◌∷◌, ◌++◌, length, map, Some, None, decimal, codes, inl, inr, refl, sym, ap, ◌∙◌, subst, arith, append_assoc, append-nil}
-use Rattle.std.specs.Prelude.{bytes_eq}
-use Rattle.std.specs.Cmp.Lexicographic.{bytes_decides}
-use Rattle.std.specs.List.{list_any}
-use Rattle.std.specs.Str.Lines.{lines}
-use Rattle.std.proofs.lemmas.Bool.{and_from, and_parts, or_from, or_left, or_right, and_right, not_from_false, true≢false, lt-ltb, le-ltb, cases_lt, eq-eqb, ne_eqb, cond-false, cases_eq, cases_Bool}
-use Rattle.list_laws.specs.Members.{In}
-use Rattle.list_laws.proofs.Members.{In-left, In-right, place_in}
-use Rattle.tl_text.specs.Clean.{IsClean}
-use Rattle.tl_text.specs.Lines.{is_bad, ends_in}
-use Rattle.tl_text.specs.Tokens.{is_blank}
-use Rattle.tl_text.specs.NameSets.{has_name}
-use Rattle.tl_text.specs.Once.{AreOnce}
-use Rattle.tl_text.proofs.NameSetLemmas.{has_in}
-use Rattle.netlist.specs.HasCleanNames.{AreClean}
-use Rattle.aiger_io.specs.Circuit.{Circuit}
-use Rattle.aiger_io.specs.Header.{is_header}
-use Rattle.aiger_io.specs.Items.{item_count, is_in_range}
-use Rattle.aiger_io.specs.PortNames.{port_names, is_twice, is_port, name_at, first_twice}
-use Rattle.aiger_io.specs.Symbols.{SymbolsValue, kind_of, symbol_by, symbol_with, symbol_of, is_bad_byte, is_bad_name}
-use Rattle.aiger_io.specs.WrittenText.{numbered, numbered_text, header_words, item_words, symbol_text, circuit_text}
+use Rattle.aiger_io.proofs.Common.{◌≡◌, ℕ, suc, ◌+◌, ◌^◌, ◌<◌, ◌≤◌, true, false, ◌&&◌, ◌||◌, eqb, List, [], ◌∷◌, ◌++◌, length, map, Some, None, decimal, codes, inl, inr, refl, sym, ap, ◌∙◌, subst, arith, append_assoc, append-nil, bytes_eq, bytes_decides, list_any, lines, In, In-left, In-right, place_in, IsClean, is_bad, ends_in, is_blank, has_name, AreOnce, has_in, AreClean, Circuit, is_header, item_count, is_in_range, port_names, is_twice, is_port, name_at, first_twice, SymbolsValue, kind_of, symbol_by, symbol_with, symbol_of, is_bad_byte, is_bad_name, numbered, numbered_text, header_words, item_words, symbol_text, circuit_text, Header, Item, Kind, AllClean, one_clean, more_clean, nat_tests}
+use Rattle.std.proofs.lemmas.Bool.{and_parts, or_from, and_right, cond-false, cases_Bool}
 use Rattle.aiger_io.specs.declared.aag_err.AagErr.TheVariants as aag_err
-use Rattle.aiger_io.specs.declared.header.Header.{Header}
-use Rattle.aiger_io.specs.declared.item.Item.{Item}
-use Rattle.aiger_io.specs.declared.item.Kind.{Kind}
 use Rattle.aiger_io.specs.declared.item.Kind.TheVariants as kind
 use Rattle.aiger_io.proofs.CleanLemmas.{default_clean}
-use Rattle.aiger_io.proofs.CappedLemmas.{header_small}
-use Rattle.aiger_io.proofs.Format.SymbolRowLemmas.{symbol_split}
+use Rattle.aiger_io.proofs.LineLemmas.{header_small}
+use Rattle.aiger_io.proofs.Format.RowLemmas.{symbol_split}
 use Rattle.aiger_io.proofs.PlaceLemmas.{AreItems}
-use Rattle.tl_text.proofs.WordLemmas.{AllClean, one_clean, more_clean}
-use Rattle.aiger_io.proofs.RowBackLemmas.{number_back, word_byte, row_of, line_back, item_lines, header_clean}
+use Rattle.aiger_io.proofs.RowLemmas.{number_back, word_byte, row_of, line_back, item_lines, header_clean}
 
 abbrev pub symbol_row : ℕ → ℕ → List ℕ → List ℕ
 symbol_row letter k name = row_of ((letter ∷ decimal k) ∷ name ∷ [])
@@ -47,19 +24,7 @@ symbol_back letter k name kd e l key clean =
 
 -- a clean name may stand
 no_byte : (b : ℕ) → is_blank b ≡ false → is_bad b ≡ false → (b ≡ 35 → ⊥) → is_bad_byte b ≡ false
-no_byte b blank bad comment =
-    let low : 33 ≤ b = elim (cases_lt b 33) [
-      | inl l ↦ elim (cases_eq b 9) [
-        | inl n ↦ absurd (true≢false (sym (or_right (eqb b 32) (eqb b 9) (eq-eqb b 9 n)) ∙ blank))
-        | inr n ↦ elim (cases_eq b 32) [
-          | inl m ↦ absurd (true≢false (sym (or_left (eqb b 32) (eqb b 9) (eq-eqb b 32 m)) ∙ blank))
-          | inr m ↦ absurd (true≢false (sym (or_left (ltb b 32 && not (eqb b 9)) (eqb b 127) (and_from (ltb b 32) (not (eqb b 9)) (lt-ltb b 32 (omega (arith, m))) (not_from_false (eqb b 9) (ne_eqb b 9 n)))) ∙ bad))
-        ]
-      ]
-      | inr l ↦ l
-    ] in
-    or_from (ltb b 33) (eqb b 35 || eqb b 127) (le-ltb b 33 low) (or_from (eqb b 35) (eqb b 127) (ne_eqb b 35 comment)
-    (elim (cases_Bool (eqb b 127)) [ inl t ↦ absurd (true≢false (sym (or_right (ltb b 32 && not (eqb b 9)) (eqb b 127) t) ∙ bad)) | inr f ↦ f ]))
+no_byte b blank bad comment = grind (arith, nat_tests)
 
 none_bad : (name : List ℕ) → ((b : ℕ) → In name b → is_bad_byte b ≡ false) → list_any is_bad_byte name ≡ false
 none_bad [] h = refl

@@ -1,18 +1,7 @@
 -- Worked examples: texts and their circuits, libraries and runs, and texts that are refused. Those of the format's own pages are among them.
-use Rattle.std.proofs.Common.{◌≡◌, ℕ, zero, suc, ◌+◌, ◌/◌, lit<, Bool, true, false, List, [], ◌∷◌, ◌++◌, Some, None, codes, inl, inr, refl, ap, subst, arith}
-use Rattle.std.specs.Prelude.{slice_get}
-use Rattle.std.proofs.lemmas.Fmt.{decimal_digit}
-use Rattle.netlist.specs.LibraryValue.{LibraryValue}
-use Rattle.netlist.specs.declared.cell.Cell.TheVariants.{Zero, One}
+use Rattle.aiger_io.proofs.Common.{◌≡◌, ℕ, zero, suc, ◌+◌, ◌/◌, lit<, Bool, true, false, List, [], ◌∷◌, ◌++◌, Some, None, codes, inl, inr, refl, ap, subst, arith, slice_get, decimal_digit, LibraryValue, Zero, One, IsAigerText, Circuit, variable_name, next_name, library_of, default_name, IsRefused, IsCircuitCycle, Input, Latch, Output, And, Header}
 use Rattle.netlist.specs.declared.command.Body.TheVariants as body
-use Rattle.aiger_io.specs.AigerText.{IsAigerText}
-use Rattle.aiger_io.specs.Circuit.{Circuit}
-use Rattle.aiger_io.specs.CircuitLibrary.{variable_name, next_name, library_of}
-use Rattle.aiger_io.specs.PortNames.{default_name}
-use Rattle.aiger_io.specs.Refused.{IsRefused}
-use Rattle.aiger_io.specs.Run.{IsCircuitCycle}
 use Rattle.aiger_io.specs.declared.aag_err.AagErr.TheVariants as aag_err
-use Rattle.aiger_io.specs.declared.item.Item.TheVariants.{Input, Latch, Output, And}
 use Rattle.aiger_io.proofs.Format.SettledLemmas.{is_text, is_told}
 
 -- a latch that toggles, and an output that is its complement

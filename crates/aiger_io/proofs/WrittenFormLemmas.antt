@@ -1,37 +1,14 @@
 -- The text of a circuit that goes together and has clean names is of the format: each of its lines spells what it says.
-use Rattle.std.proofs.Common.{◌≡◌, ℕ, zero, suc, ◌+◌, ◌^◌, ◌<◌, ◌≤◌, true, List, [], ◌∷◌, ◌++◌, length, map, Some, decimal, inl, inr, refl, sym, ap, ◌∙◌, subst, arith, append_assoc, append-nil}
-use Rattle.std.specs.Prelude.{slice_get}
-use Rattle.std.proofs.lemmas.Option.{slice_get_within}
-use Rattle.list_laws.specs.Members.{In}
-use Rattle.list_laws.proofs.Members.{In-push, In-left, In-right, place_in}
-use Rattle.list_laws.proofs.Places.{get_left}
-use Rattle.list_laws.proofs.TwoLists.{get_right}
-use Rattle.netlist.specs.HasCleanNames.{AreClean}
-use Rattle.tl_text.specs.Clean.{IsClean}
-use Rattle.tl_text.specs.Once.{AreOnce}
-use Rattle.tl_text.proofs.WordLemmas.{AllClean}
-use Rattle.aiger_io.specs.AigerText.{IsOfFormat, IsOfFormatWith, IsAigerText}
-use Rattle.aiger_io.specs.Circuit.{Circuit}
+use Rattle.aiger_io.proofs.Common.{◌≡◌, ℕ, zero, suc, ◌+◌, ◌^◌, ◌<◌, ◌≤◌, true, List, [], ◌∷◌, ◌++◌, length, map, Some, decimal, inl, inr, refl, sym, ap, ◌∙◌, subst, arith, append_assoc, append-nil, slice_get, slice_get_within, In, In-push, In-left, In-right, place_in, get_left, get_right, AreClean, IsClean, AreOnce, AllClean, IsOfFormat, IsOfFormatWith, IsAigerText, Circuit, by_symbol, StandsTwice, IsNameRefused, alike, Symbol, AreSymbolRows, AllStand, count_of, kind_of, numbered, header_words, item_words, circuit_text, Header, Item, Kind}
 use Rattle.aiger_io.specs.ItemRow.{AreItemRows, item_count, is_in_range}
-use Rattle.aiger_io.specs.PortName.{by_symbol}
-use Rattle.aiger_io.specs.Refused.{StandsTwice, IsNameRefused, alike}
-use Rattle.aiger_io.specs.SymbolRow.{Symbol, AreSymbolRows, AllStand, count_of}
-use Rattle.aiger_io.specs.Symbols.{kind_of}
-use Rattle.aiger_io.specs.WrittenText.{numbered, header_words, item_words, circuit_text}
-use Rattle.aiger_io.specs.declared.header.Header.{Header}
-use Rattle.aiger_io.specs.declared.item.Item.{Item}
-use Rattle.aiger_io.specs.declared.item.Kind.{Kind}
 use Rattle.aiger_io.specs.declared.item.Kind.TheVariants as kind
-use Rattle.aiger_io.proofs.Format.AigerTextLemmas.{format_parsed}
-use Rattle.aiger_io.proofs.Format.HeaderRowLemmas.{is_header_row}
-use Rattle.aiger_io.proofs.Format.ItemRowLemmas.{item_spelled}
+use Rattle.aiger_io.proofs.Format.AigerTextLemmas.{format_parsed, ports_of}
+use Rattle.aiger_io.proofs.Format.RowLemmas.{is_header_row, item_spelled, symbol_spelled}
 use Rattle.aiger_io.proofs.PlaceLemmas.{kind_of_item}
-use Rattle.aiger_io.proofs.Format.PortNameLemmas.{never, first, twice_end}
-use Rattle.aiger_io.proofs.Format.RefusedLemmas.{ports_of}
+use Rattle.aiger_io.proofs.Format.SaidLemmas.{never, first, twice_end}
 use Rattle.aiger_io.proofs.RoundTripLemmas.{IsFormed, symbol_row, symbol_back, good_name, input_keys, output_keys, most, few_inputs, range_of, text_rows}
-use Rattle.aiger_io.proofs.RowBackLemmas.{row_of, header_back, item_read_back}
+use Rattle.aiger_io.proofs.RowLemmas.{row_of, header_back, item_read_back}
 use Rattle.aiger_io.proofs.Format.SectionLemmas.{in_sections}
-use Rattle.aiger_io.proofs.Format.SymbolRowLemmas.{symbol_spelled}
 
 -- the symbols of names
 abbrev pub symbol_by : Kind → ℕ → List ℕ → Symbol
@@ -81,9 +58,8 @@ rows_by letter k n (x ∷ xs) is keys few clean = (
 
 both_rows : (rows more : List (List ℕ)) (xs ys : List Symbol) → AreSymbolRows rows xs → AreSymbolRows more ys → AreSymbolRows (rows ++ more) (xs ++ ys)
 both_rows [] more [] ys a b = b
-both_rows [] more (x ∷ xs) ys a b = absurd a
-both_rows (row ∷ rows) more [] ys a b = absurd a
 both_rows (row ∷ rows) more (x ∷ xs) ys a b = (a.0, both_rows rows more xs ys a.1 b)
+both_rows rows more xs ys a b = absurd a
 
 module _ (h : Header) (small : h.variables ≤ 1073741824) where
   item_rows_are : (items : List Item) → ((item : Item) → In items item → is_in_range h.variables item ≡ true) → AreItemRows (map (λ (item : Item). row_of (item_words item)) items) items

@@ -1,26 +1,9 @@
 -- The parts of a text that is written.
-use Rattle.std.proofs.Common.{◌≡◌, ℕ, zero, suc, ◌+◌, Bool, List, [], ◌∷◌, ◌++◌, length, map, take, codes, Some, refl, sym, ap, ◌∙◌, arith, append_assoc, append-nil}
-use Rattle.std.specs.Prelude.{slice_get}
-use Rattle.std.specs.List.{flat_map, range_with_len}
-use Rattle.std.proofs.lemmas.List.{length-map}
-use Rattle.std.proofs.lemmas.List.Concat.{flat_map-append}
+use Rattle.aiger_io.proofs.Common.{◌≡◌, ℕ, zero, suc, ◌+◌, Bool, List, [], ◌∷◌, ◌++◌, length, map, take, codes, Some, refl, sym, ap, ◌∙◌, arith, append_assoc, append-nil, slice_get, flat_map, range_with_len, length-map, flat_map-append, same_Some, Aig, first_and, RootsValue, FlatValue, FlatLatch, OutPort, Param, IsAdded, added_to, line_text, words_text, input_count, input_item, latch_item, output_item, gate_item, graph_items, graph_header, input_at, graph_circuit, numbered, numbered_text, header_words, init_words, item_text, symbol_text, circuit_text, Item}
 use Rattle.std.proofs.lemmas.List.Folds.{flat_map-map}
-use Rattle.std.proofs.lemmas.Option.{same_Some}
-use Rattle.aig_core.specs.Aig.{Aig, first_and}
-use Rattle.aig_core.specs.Roots.{RootsValue}
-use Rattle.netlist.specs.FlatValue.{FlatValue}
-use Rattle.netlist.specs.declared.flat.FlatLatch.{FlatLatch}
-use Rattle.netlist.specs.declared.flat.OutPort.{OutPort}
-use Rattle.param_list.specs.declared.params.Param.{Param}
 use Rattle.tl_io.specs.Sink.{SinkSeen}
-use Rattle.tl_piece.specs.Added.{IsAdded}
 use Rattle.tl_piece.specs.declared.writer.Writer.{Writer}
-use Rattle.tl_piece.proofs.AddedLemmas.{added_to}
-use Rattle.tl_text.specs.WrittenText.{line_text, words_text}
-use Rattle.aiger_io.specs.GraphCircuit.{input_count, input_item, latch_item, output_item, gate_item, graph_items, graph_header, input_at, graph_circuit}
-use Rattle.aiger_io.specs.WrittenText.{numbered, numbered_text, header_words, init_words, item_text, symbol_text, circuit_text}
 use Rattle.aiger_io.specs.Writing.{lines_text, symbols_text}
-use Rattle.aiger_io.specs.declared.item.Item.{Item}
 
 -- one more of those by numbers
 pub numbered_more : {X : Type 0} (f : ℕ → X → List ℕ) (n : ℕ) (xs : List X) (i : ℕ) (x : X) → slice_get xs i ≡ Some x → numbered_text f n (take i xs) ++ f (n + i) x ≡ numbered_text f n (take (i + 1) xs)

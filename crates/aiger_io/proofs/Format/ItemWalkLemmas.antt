@@ -1,16 +1,10 @@
 -- The lines of items one by one: as far as they are well formed they are read, and then there are all, or the next one is refused.
-use Rattle.std.proofs.Common.{◌≡◌, ℕ, zero, suc, ◌+◌, ◌<◌, ◌≤◌, true, false, List, [], ◌∷◌, ◌++◌, length, Option, Some, None, Ok, Err, inl, inr, refl, sym, ap, ◌∙◌, subst, arith, append_assoc, append-nil, length-append}
-use Rattle.std.specs.Prelude.{slice_get}
-use Rattle.std.proofs.lemmas.Bool.{cond-true, cases_lt, cases_Bool}
-use Rattle.list_laws.specs.Members.{In}
+use Rattle.aiger_io.proofs.Common.{◌≡◌, ℕ, zero, suc, ◌+◌, ◌<◌, ◌≤◌, true, false, List, [], ◌∷◌, ◌++◌, length, Option, Some, None, Ok, Err, inl, inr, refl, sym, ap, ◌∙◌, subst, arith, append_assoc, append-nil, length-append, slice_get, cond-true, cases_lt, cases_Bool, In, item_of, item_with, item_at, items_from, words_of, Header, Item}
 use Rattle.aiger_io.specs.ItemRow.{kind_of_item, IsItemRow, AreItemRows, item_count, kind_at, is_in_range}
-use Rattle.aiger_io.specs.Items.{item_of, item_with, item_at, items_from}
-use Rattle.aiger_io.specs.Numbers.{words_of}
 use Rattle.aiger_io.specs.declared.aag_err.AagErr.TheVariants as aag_err
-use Rattle.aiger_io.specs.declared.header.Header.{Header}
-use Rattle.aiger_io.specs.declared.item.Item.{Item}
-use Rattle.aiger_io.proofs.ItemLemmas.{items_next}
-use Rattle.aiger_io.proofs.Format.ItemRowLemmas.{item_read, item_spelled, item_kind}
+use Rattle.aiger_io.proofs.LineLemmas.{items_next}
+use Rattle.aiger_io.proofs.Format.RowLemmas.{item_read, item_spelled}
+use Rattle.aiger_io.proofs.PlaceLemmas.{form_kind}
 
 -- lines that say items, the first of which stands at a place
 pub record IsStretch (h : Header) (from : ℕ) (rows : List (List ℕ)) (items : List Item) : Type 0 where
@@ -49,8 +43,6 @@ item_at_is h place row item is of within =
 pub items_read : (h : Header) (before : List Item) (rows : List (List ℕ)) (items : List Item) (rest : List (List ℕ)) → IsStretch h (length before) rows items → length before + length items ≤ item_count h
     → items_from h before (rows ++ rest) ≡ items_from h (before ++ items) rest
 items_read h before [] [] rest s few = ap (λ b. items_from h b rest) (sym (append-nil before))
-items_read h before [] (item ∷ items) rest s few = absurd s.are
-items_read h before (row ∷ rows) [] rest s few = absurd s.are
 items_read h before (row ∷ rows) (item ∷ items) rest s few =
     let z : length before + 0 ≡ length before = omega arith in
     let of : kind_of_item item ≡ kind_at h (length before) = subst (λ n. kind_of_item item ≡ kind_at h n) z (s.kinds 0 item refl) in
@@ -59,6 +51,7 @@ items_read h before (row ∷ rows) (item ∷ items) rest s few =
     items_next h before row (rows ++ rest) item (omega arith) (item_at_is h (length before) row item s.are.0 of (s.range item (inl refl)))
     ∙ items_read h (before ++ item ∷ []) rows items rest (subst (λ m. IsStretch h m rows items) y (stretch_tail h (length before) row rows item items s)) (omega arith)
     ∙ ap (λ b. items_from h b rest) (append_assoc before (item ∷ []) items)
+items_read h before rows items rest s few = absurd s.are
 
 -- where it ends: all are there, or the next line isn't, isn't of its form, or isn't in range
 pub data IsItemsEnd (h : Header) (items : List Item) (rest : List (List ℕ)) : Type 0 where
@@ -102,7 +95,7 @@ walk_step h before row rows (Some item) low is later = elim (cases_Bool (is_in_r
         items = item ∷ w.items;
         rest = w.rest;
         rows_are = ap (λ l. row ∷ l) w.rows_are;
-        stretch = stretch_more h (length before) row w.item_rows item w.items (item_spelled row (kind_at h (length before)) item is) (item_kind row (kind_at h (length before)) item is) t
+        stretch = stretch_more h (length before) row w.item_rows item w.items (item_spelled row (kind_at h (length before)) item is) (form_kind (kind_at h (length before)) (words_of row) item is) t
             (subst (λ k. IsStretch h k w.item_rows w.items) y w.stretch);
         few = omega arith;
         ends = subst (λ b. IsItemsEnd h b w.rest) (append_assoc before (item ∷ []) w.items) w.ends;

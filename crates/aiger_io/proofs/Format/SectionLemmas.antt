@@ -1,11 +1,6 @@
 -- Sections of items: items stand in the sections of a header exactly where each is of its place's kind and they are as many as the header says.
-use Rattle.std.proofs.Common.{◌≡◌, ℕ, ◌+◌, ◌<◌, ◌≤◌, List, ◌++◌, length, take, drop, Some, inl, inr, sym, ap, ◌∙◌, subst, arith, length-take, length-drop, length-append, take-append-drop, drop-drop, take_all}
-use Rattle.std.specs.Prelude.{slice_get}
-use Rattle.list_laws.proofs.Members.{In-get, place_in}
+use Rattle.aiger_io.proofs.Common.{◌≡◌, ℕ, ◌+◌, ◌<◌, ◌≤◌, List, ◌++◌, length, take, drop, Some, inl, inr, sym, ap, ◌∙◌, subst, arith, length-take, length-drop, length-append, take-append-drop, drop-drop, take_all, slice_get, In-get, place_in, Header, Item, Kind}
 use Rattle.aiger_io.specs.ItemRow.{kind_of_item, IsSection, AreInSections, item_count, kind_at}
-use Rattle.aiger_io.specs.declared.header.Header.{Header}
-use Rattle.aiger_io.specs.declared.item.Item.{Item}
-use Rattle.aiger_io.specs.declared.item.Kind.{Kind}
 use Rattle.aiger_io.specs.declared.item.Kind.TheVariants as kind
 use Rattle.aiger_io.proofs.PlaceLemmas.{input_here, latch_here, output_here, gate_here}
 use Rattle.aiger_io.proofs.PortLemmas.{take_at, drop_at, append_at}
@@ -19,11 +14,7 @@ module _ (h : Header) (items : List Item) (s : AreInSections h items) where
 
   pub sections_count : length items ≡ item_count h
   sections_count =
-      let i : length s.inputs ≡ h.inputs = (s.inputs_are).count_is in
-      let l : length s.latches ≡ h.latches = (s.latches_are).count_is in
-      let o : length s.outputs ≡ h.outputs = (s.outputs_are).count_is in
-      let a : length s.ands ≡ h.ands = (s.ands_are).count_is in
-      ap length s.are ∙ omega (arith, length-append s.inputs (s.latches ++ (s.outputs ++ s.ands)), length-append s.latches (s.outputs ++ s.ands), length-append s.outputs s.ands)
+      ap length s.are ∙ omega (arith, (s.inputs_are).count_is, (s.latches_are).count_is, (s.outputs_are).count_is, (s.ands_are).count_is, length-append {A = Item})
 
   pub sections_kinds : HaveKinds h items
   sections_kinds p item e =

@@ -1,41 +1,19 @@
 -- Every text is a circuit or is refused, as it is read; so it has one reading.
-use Rattle.std.proofs.Common.{◌≡◌, ◌⊎◌, ℕ, ◌+◌, ◌≤◌, true, leb, leb-true, List, [], ◌∷◌, ◌++◌, length, Some, None, Result, Ok, Err, inl, inr, refl, sym, ap, ◌∙◌, subst, arith}
-use Rattle.std.specs.Prelude.{IfOk, IfErr}
-use Rattle.std.specs.Str.Lines.{lines}
-use Rattle.netlist.specs.LibraryValue.{LibraryValue}
-use Rattle.tl_fault.specs.OrMemory.{OrMemory}
-use Rattle.tl_fault.proofs.OrMemoryLemmas.{OrMemory-map}
-use Rattle.aiger_io.specs.AigerText.{IsOfFormatWith, IsAigerText}
-use Rattle.aiger_io.specs.Circuit.{Circuit}
-use Rattle.aiger_io.specs.Header.{header_of}
-use Rattle.aiger_io.specs.HeaderRow.{IsHeaderRow}
+use Rattle.aiger_io.proofs.Common.{◌≡◌, ◌⊎◌, ℕ, ◌+◌, ◌≤◌, true, leb, leb-true, List, [], ◌∷◌, ◌++◌, length, Some, None, Result, Ok, Err, inl, inr, refl, sym, ap, ◌∙◌, subst, arith, IfOk, IfErr, lines, LibraryValue, OrMemory, OrMemory-map, IsOfFormatWith, IsAigerText, Circuit, header_of, IsHeaderRow, words_of, first_twice, circuit_with, circuit_of, IsLibraryIn, refusal_of, Begins, BeginsWithSymbols, IsRefused, later, bad_header, missing, malformed, out_of_range, malformed_symbol, bad_symbol, alike, Symbol, IsComment, no_symbols, AagErr, Header, Item}
 use Rattle.aiger_io.specs.ItemRow.{kind_of_item, item_count, kind_at}
-use Rattle.aiger_io.specs.Numbers.{words_of}
-use Rattle.aiger_io.specs.PortNames.{first_twice}
-use Rattle.aiger_io.specs.Reader.{circuit_with, circuit_of, IsLibraryIn}
 use Rattle.aiger_io.specs.Reading.{IsLibraryOf, HasOneReading, HasCircuit, HasRefusal, HasRunsOf}
-use Rattle.aiger_io.specs.Refusals.{refusal_of}
-use Rattle.aiger_io.specs.Refused.{Begins, BeginsWithSymbols, IsRefused, later, bad_header, missing, malformed, out_of_range, malformed_symbol, bad_symbol, alike}
-use Rattle.aiger_io.specs.SymbolRow.{Symbol, IsComment}
-use Rattle.aiger_io.specs.Symbols.{no_symbols}
-use Rattle.aiger_io.specs.declared.aag_err.AagErr.{AagErr}
 use Rattle.aiger_io.specs.declared.aag_err.AagErr.TheVariants as aag_err
-use Rattle.aiger_io.specs.declared.header.Header.{Header}
-use Rattle.aiger_io.specs.declared.item.Item.{Item}
-use Rattle.aiger_io.proofs.Format.AigerTextLemmas.{format_parsed, parsed_read, text_read}
-use Rattle.aiger_io.proofs.FormedLemmas.{text_ports_once}
-use Rattle.aiger_io.proofs.Format.HeaderRowLemmas.{header_row_is, later_row_is, is_header_row, header_error}
-use Rattle.aiger_io.proofs.ItemLemmas.{same_answer, one_error, no_answer}
-use Rattle.aiger_io.proofs.Format.ItemRowLemmas.{item_spelled, item_kind}
+use Rattle.aiger_io.proofs.Format.AigerTextLemmas.{format_parsed, parsed_read, text_read, item_here, ports_of, refused_read}
+use Rattle.aiger_io.proofs.CleanLemmas.{text_ports_once}
+use Rattle.aiger_io.proofs.Format.RowLemmas.{header_row_is, later_row_is, is_header_row, header_error, item_spelled, symbol_read, symbol_spelled}
+use Rattle.aiger_io.proofs.LineLemmas.{same_answer, one_error, no_answer}
 use Rattle.aiger_io.proofs.Format.ItemWalkLemmas.{IsItemsWalk, IsItemsEnd, whole, gone, formless, out, items_walk}
 use Rattle.aiger_io.proofs.LawLemmas.{text_fit, text_runs}
-use Rattle.aiger_io.proofs.Format.PortNameLemmas.{never, first, twice_end, inputs_named, outputs_named}
-use Rattle.aiger_io.proofs.Format.RefusedLemmas.{item_here, ports_of, refused_read}
-use Rattle.aiger_io.proofs.Format.SaidLemmas.{nothing_said}
+use Rattle.aiger_io.proofs.Format.SaidLemmas.{never, first, twice_end, inputs_named, outputs_named, nothing_said}
 use Rattle.aiger_io.proofs.Format.SectionLemmas.{HaveKinds, in_sections}
-use Rattle.aiger_io.proofs.Format.SymbolRowLemmas.{symbol_read, symbol_spelled}
 use Rattle.aiger_io.proofs.Format.SymbolWalkLemmas.{IsSymbolsWalk, IsSymbolsEnd, symbols_walk}
 use Rattle.aiger_io.proofs.Format.SymbolWalkLemmas as symbol
+use Rattle.aiger_io.proofs.PlaceLemmas.{form_kind}
 
 pub data IsSettled (text : List ℕ) : Type 0 where
   is_circuit : (c : Circuit) → IsAigerText text c → circuit_of text ≡ Ok c → IsSettled text
@@ -139,7 +117,7 @@ module _ (text row : List ℕ) (rest : List (List ℕ)) (are : lines text ≡ ro
   items_settled l (formless r more low at is) = refused text (aag_err.Malformed (length w.items + 2)) (malformed h w.items r more (subst (Begins text h w.items) at begins) low
       (λ item here. let q : None ≡ Some item = sym is ∙ item_here h (length w.items) r item here in cc) refl)
   items_settled l (out r more item low at is f) = refused text (aag_err.Range (length w.items + 2)) (out_of_range h w.items r more item (subst (Begins text h w.items) at begins) low
-      (record { is = item_spelled r (kind_at h (length w.items)) item is; of_kind = item_kind r (kind_at h (length w.items)) item is }) f refl)
+      (record { is = item_spelled r (kind_at h (length w.items)) item is; of_kind = form_kind (kind_at h (length w.items)) (words_of r) item is }) f refl)
 
 header_settled : (text row : List ℕ) (rest : List (List ℕ)) (r : Result Header AagErr) → length text ≤ 67108864 → lines text ≡ row ∷ rest → header_of (words_of row) ≡ r → IsSettled text
 header_settled text row rest (Err e) l are is = no_first text row rest e are is

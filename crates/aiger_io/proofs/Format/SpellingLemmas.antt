@@ -1,13 +1,6 @@
 -- Words as they are spelled: the number that a word is read as is the one that it spells, and a line's words are those that one blank joins.
-use Rattle.std.proofs.Common.{◌≡◌, ℕ, ◌+◌, ◌-◌, ◌*◌, ◌<◌, ◌≤◌, true, false, ◌||◌, not, eqb, leb, get_or, List, [], ◌∷◌, ◌++◌, length, Option, Some, None, inl, inr, refl, sym, ap, ◌∙◌, subst, arith, append_assoc, append-nil}
-use Rattle.std.specs.List.{list_all, join_with_byte}
-use Rattle.std.proofs.lemmas.Bool.{and_from, and_parts, or_cases, or_left, or_right, not-true, not_from_false, le-leb, leb-true, eqb-true, eqb-false, ne_eqb, cond-true, cond-false, cases_Bool}
-use Rattle.std.proofs.lemmas.List.Splits.{slice_split_none, slice_split_at, join_with_byte-slice_split}
-use Rattle.list_laws.specs.Members.{In}
-use Rattle.list_laws.proofs.Members.{In-get_or}
-use Rattle.tl_text.specs.Decimal.{is_digit, is_decimal, number_from}
-use Rattle.tl_text.proofs.WordLemmas.{number_from-push}
-use Rattle.aiger_io.specs.Numbers.{words_of, number_of, numbers_of, in_front}
+use Rattle.aiger_io.proofs.Common.{◌≡◌, ℕ, ◌+◌, ◌-◌, ◌*◌, ◌<◌, ◌≤◌, true, false, ◌||◌, not, eqb, leb, get_or, List, [], ◌∷◌, ◌++◌, length, Option, Some, None, inl, inr, refl, sym, ap, ◌∙◌, subst, arith, append_assoc, append-nil, list_all, join_with_byte, slice_split_none, slice_split_at, join_with_byte-slice_split, In, In-get_or, is_digit, is_decimal, number_from, number_from-push, words_of, number_of, numbers_of, in_front, nat_tests, some_then}
+use Rattle.std.proofs.lemmas.Bool.{and_from, and_parts, or_cases, or_left, or_right, not-true, not_from_false, leb-true, eqb-true, eqb-false, ne_eqb, cond-true}
 use Rattle.aiger_io.specs.Spelling.{IsNumber, digit, more, AreNumbers}
 
 digits_pushed : (ds : List ℕ) (d : ℕ) → list_all is_digit ds ≡ true → is_digit d ≡ true → list_all is_digit (ds ++ d ∷ []) ≡ true
@@ -15,7 +8,7 @@ digits_pushed [] d all one = and_from (is_digit d) true one refl
 digits_pushed (b ∷ bs) d all one = let p = and_parts (is_digit b) (list_all is_digit bs) all in and_from (is_digit b) (list_all is_digit (bs ++ d ∷ [])) p.0 (digits_pushed bs d p.1 one)
 
 digit_here : (n : ℕ) → n < 10 → is_digit (48 + n) ≡ true
-digit_here n l = and_from (leb 48 (48 + n)) (leb (48 + n) 57) (le-leb 48 (48 + n) (omega arith)) (le-leb (48 + n) 57 (omega arith))
+digit_here n l = grind (arith, nat_tests)
 
 -- what is known of a word that spells a number
 record IsRead (word : List ℕ) (n : ℕ) : Type 0 where
@@ -84,23 +77,19 @@ spelled (b ∷ bs) e =
     ]
 
 pub number_spells : (word : List ℕ) (n : ℕ) → number_of word ≡ Some n → IsNumber word n
-number_spells word n e = elim (cases_Bool (is_decimal word)) [
-  | inl t ↦ (let q : Some (number_from 0 word) ≡ Some n = sym (cond-true (is_decimal word) (Some (number_from 0 word)) None t) ∙ e in
-      let same : number_from 0 word ≡ n = cc in subst (IsNumber word) same (spelled word t))
-  | inr f ↦ absurd (let q : None ≡ Some n = sym (cond-false (is_decimal word) (Some (number_from 0 word)) None f) ∙ e in cc)
-]
+number_spells word n e =
+    let t = some_then (is_decimal word) (Some (number_from 0 word)) n e in
+    let same : number_from 0 word ≡ n = cc in subst (IsNumber word) same (spelled word t.0)
 
 -- numbers, one by one
 pub numbers_are : (words : List (List ℕ)) (numbers : List ℕ) → AreNumbers words numbers → numbers_of words ≡ Some numbers
 numbers_are [] [] are = refl
-numbers_are [] (n ∷ ns) are = absurd are
-numbers_are (w ∷ ws) [] are = absurd are
 numbers_are (w ∷ ws) (n ∷ ns) are = ap (λ o. in_front o (numbers_of ws)) (number_is w n are.0) ∙ ap (in_front (Some n)) (numbers_are ws ns are.1)
+numbers_are words numbers are = absurd are
 
 front_spells : (w : List ℕ) (ws : List (List ℕ)) (o : Option ℕ) (os : Option (List ℕ)) (numbers : List ℕ) → number_of w ≡ o → ((ns : List ℕ) → os ≡ Some ns → AreNumbers ws ns) → in_front o os ≡ Some numbers → AreNumbers (w ∷ ws) numbers
-front_spells w ws None os numbers is later e = absurd (cc)
-front_spells w ws (Some n) None numbers is later e = absurd (cc)
 front_spells w ws (Some n) (Some ns) numbers is later e = let q : n ∷ ns ≡ numbers = cc in subst (AreNumbers (w ∷ ws)) q (number_spells w n is, later ns refl)
+front_spells w ws o os numbers is later e = absurd (cc)
 
 pub numbers_spell : (words : List (List ℕ)) (numbers : List ℕ) → numbers_of words ≡ Some numbers → AreNumbers words numbers
 numbers_spell [] [] e = tt

@@ -1,24 +1,13 @@
 -- The lines of symbols one by one: as far as they are well formed they are read, and then a comment or the end stands, or the next one is refused.
-use Rattle.std.proofs.Common.{◌≡◌, ℕ, ◌+◌, true, false, List, [], ◌∷◌, ◌++◌, length, Option, Some, None, Ok, Err, codes, inl, inr, refl, sym, ap, ◌∙◌, subst, arith, append_assoc, append-nil, true≢false}
-use Rattle.std.specs.Prelude.{bytes_eq}
-use Rattle.std.specs.Cmp.Lexicographic.{bytes_decides}
-use Rattle.std.proofs.lemmas.Bool.{cond-true, false_from_ne_true, cases_Bool}
-use Rattle.aiger_io.specs.SymbolRow.{Symbol, IsLetterOf, IsSymbolRow, AreSymbolRows, MayStand, AllStand, IsComment}
-use Rattle.aiger_io.specs.Symbols.{SymbolsValue, may_stand, with_symbol, symbol_of, symbol_at, symbols_from}
+use Rattle.aiger_io.proofs.Common.{◌≡◌, ℕ, ◌+◌, true, false, List, [], ◌∷◌, ◌++◌, length, Option, Some, None, Ok, Err, codes, inl, inr, refl, sym, ap, ◌∙◌, subst, arith, append_assoc, append-nil, true≢false, bytes_eq, bytes_decides, cond-true, false_from_ne_true, cases_Bool, Symbol, IsLetterOf, IsSymbolRow, AreSymbolRows, MayStand, AllStand, IsComment, SymbolsValue, may_stand, with_symbol, symbol_of, symbol_at, symbols_from, Header, Kind}
 use Rattle.aiger_io.specs.declared.aag_err.AagErr.TheVariants as aag_err
-use Rattle.aiger_io.specs.declared.header.Header.{Header}
-use Rattle.aiger_io.specs.declared.item.Kind.{Kind}
-use Rattle.aiger_io.specs.declared.item.Kind.TheVariants.{Input, Latch, Output, And}
 use Rattle.aiger_io.proofs.Format.SaidLemmas.{Says, may_read, read_may, says_more}
-use Rattle.aiger_io.proofs.SymbolLemmas.{symbols_next}
-use Rattle.aiger_io.proofs.Format.SymbolRowLemmas.{symbol_read, symbol_spelled}
+use Rattle.aiger_io.proofs.LineLemmas.{symbols_next}
+use Rattle.aiger_io.proofs.Format.RowLemmas.{symbol_read, symbol_spelled}
 
 -- a symbol is no comment
 letter_c : (k : Kind) (letter : ℕ) → IsLetterOf k letter → letter ≡ 99 → ⊥
-letter_c Input letter e c = let d : letter ≡ 105 = e in omega arith
-letter_c Latch letter e c = let d : letter ≡ 108 = e in omega arith
-letter_c Output letter e c = let d : letter ≡ 111 = e in omega arith
-letter_c And letter e c = absurd e
+letter_c k letter e c = grind arith
 
 pub no_comment : (row : List ℕ) (s : Symbol) → IsSymbolRow row s → row ≡ codes "c" → ⊥
 no_comment row s r e = let q : r.letter ∷ (r.digits ++ 32 ∷ s.name) ≡ codes "c" = sym r.row_is ∙ e in let c : r.letter ≡ 99 = cc in letter_c s.kind r.letter r.letter_is c
@@ -40,8 +29,6 @@ symbols_read h line said earlier [] [] rest are stand says = record {
   says = subst (λ e. Says h e said) (sym (append-nil earlier)) says;
   same = (let z : line ≡ line + length {A = Symbol} [] = omega arith in ap (λ n. symbols_from h n said rest) z);
 }
-symbols_read h line said earlier [] (s ∷ symbols) rest are stand says = absurd are
-symbols_read h line said earlier (row ∷ rows) [] rest are stand says = absurd are
 symbols_read h line said earlier (row ∷ rows) (s ∷ symbols) rest are stand says =
     let t : may_stand h said s ≡ true = may_read h earlier said says s stand.0 in
     let w = symbols_read h (line + 1) (with_symbol h s said) (earlier ++ s ∷ []) rows symbols rest are.1 stand.1 (says_more h earlier said says s stand.0) in
@@ -53,6 +40,7 @@ symbols_read h line said earlier (row ∷ rows) (s ∷ symbols) rest are stand s
           (ap (symbol_at h line said) (symbol_read row s are.0) ∙ cond-true (may_stand h said s) (Ok (with_symbol h s said)) (Err (aag_err.BadSymbol line s.name)) t)
           ∙ w.same ∙ ap (λ n. symbols_from h n w.more rest) z;
     }
+symbols_read h line said earlier rows symbols rest are stand says = absurd are
 
 -- where it ends: a comment or nothing follows, or a line that isn't of its form, or a symbol that may not stand
 pub data IsSymbolsEnd (h : Header) (symbols : List Symbol) (rest : List (List ℕ)) : Type 0 where

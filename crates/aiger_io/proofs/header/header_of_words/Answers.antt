@@ -1,13 +1,6 @@
-use Rattle.std.proofs.Common.{◌≡◌, ℕ, List, true, map, drop, codes, Bor, Some, sym, ◌∙◌, ap, subst}
-use Rattle.std.specs.Cmp.Lexicographic.{bytes_decides}
-use Rattle.std.specs.Prelude.{bytes_eq, Vec}
+use Rattle.aiger_io.proofs.Common.{◌≡◌, ℕ, List, true, map, drop, codes, Bor, Some, sym, ◌∙◌, ap, subst, bytes_decides, bytes_eq, Vec, option_map, not-false, drop_get, capped_numbers, header_by}
 use Rattle.std.specs.Global.{Global}
-use Rattle.std.specs.Option.{option_map}
-use Rattle.std.proofs.lemmas.Bool.{not-false}
-use Rattle.list_laws.proofs.Places.{drop_get}
-use Rattle.aiger_io.specs.Bodies.{capped_numbers}
-use Rattle.aiger_io.specs.Header.{header_by}
-use Rattle.aiger_io.proofs.TextLemmas.{words_capped, answer_is}
+use Rattle.aiger_io.proofs.ReadLemmas.{words_capped, answer_is}
 use Rattle.aiger_io.proofs.header.header_of_words.Goals as goal
 
 pub returns-in-None : goal.returns-in-None

@@ -1,6 +1,5 @@
-use Rattle.std.proofs.Common.{ℕ, ◌+◌, List, map, drop, Bor, sym, ◌∙◌, ap}
-use Rattle.aiger_io.specs.Bodies.{capped_numbers}
-use Rattle.aiger_io.proofs.NumberLemmas.{behind, number_next, number_stop}
+use Rattle.aiger_io.proofs.Common.{ℕ, ◌+◌, List, map, drop, Bor, sym, ◌∙◌, ap, capped_numbers, true}
+use Rattle.aiger_io.proofs.LineLemmas.{behind, number_next, number_stop}
 use Rattle.aiger_io.proofs.RowLemmas.{row_at}
 use Rattle.aiger_io.proofs.header.numbers.Goals as goal
 

@@ -1,6 +1,5 @@
-use Rattle.std.proofs.Common.{◌≡◌, ℕ, List, map, drop, Bor}
-use Rattle.aiger_io.specs.Bodies.{capped_numbers}
-use Rattle.aiger_io.proofs.NumberLemmas.{behind}
+use Rattle.aiger_io.proofs.Common.{◌≡◌, ℕ, List, map, drop, Bor, capped_numbers}
+use Rattle.aiger_io.proofs.LineLemmas.{behind}
 use Rattle.aiger_io.proofs.header.numbers.Given as goal
 
 abbrev pub invariant-loop-word : goal.invariant-loop-word

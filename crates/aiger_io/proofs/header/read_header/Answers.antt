@@ -1,11 +1,5 @@
-use Rattle.std.proofs.Common.{◌≡◌, ℕ, List, Err, map, drop, Bor, ◌∙◌, ap}
-use Rattle.tl_fault.proofs.OrMemoryLemmas.{OrMemory-map}
-use Rattle.tl_fault.proofs.PassedOn.{passed_on}
-use Rattle.list_laws.proofs.Places.{drop_get}
-use Rattle.aiger_io.specs.Bodies.{capped_result}
-use Rattle.aiger_io.specs.Header.{header_of, header_in}
-use Rattle.aiger_io.specs.Refusals.{refusal_of}
-use Rattle.aiger_io.proofs.TextLemmas.{header_got, header_error}
+use Rattle.aiger_io.proofs.Common.{◌≡◌, ℕ, List, Err, map, drop, Bor, ◌∙◌, ap, OrMemory-map, passed_on, drop_get, capped_result, header_of, header_in, refusal_of}
+use Rattle.aiger_io.proofs.ReadLemmas.{header_got, header_error}
 use Rattle.aiger_io.proofs.header.read_header.Goals as goal
 
 pub returns-clause-read : goal.returns-clause-read

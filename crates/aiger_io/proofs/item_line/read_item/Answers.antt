@@ -1,9 +1,5 @@
-use Rattle.std.proofs.Common.{◌≡◌, ℕ, List, map, Bor, Some, sym, ◌∙◌, ap}
-use Rattle.std.specs.Option.{option_map}
-use Rattle.aiger_io.specs.Bodies.{capped_item}
-use Rattle.aiger_io.specs.Items.{item_of, kind_at}
-use Rattle.aiger_io.specs.Numbers.{words_of}
-use Rattle.aiger_io.proofs.ItemLemmas.{item_good, item_out}
+use Rattle.aiger_io.proofs.Common.{◌≡◌, ℕ, List, map, Bor, Some, sym, ◌∙◌, ap, option_map, capped_item, item_of, kind_at, words_of}
+use Rattle.aiger_io.proofs.LineLemmas.{item_good, item_out}
 use Rattle.aiger_io.proofs.item_line.read_item.Goals as goal
 
 pub returns : goal.returns

@@ -1,5 +1,4 @@
-use Rattle.std.proofs.Common.{◌≡◌, ◌≤◌, ℕ, List, [], length, map, drop, Bor}
-use Rattle.aiger_io.specs.Items.{item_count, items_from}
+use Rattle.aiger_io.proofs.Common.{◌≡◌, ◌≤◌, ℕ, List, [], length, map, drop, Bor, item_count, items_from}
 use Rattle.aiger_io.proofs.items.read_items.Given as goal
 
 abbrev pub invariant-loop-row : goal.invariant-loop-row

@@ -1,7 +1,4 @@
-use Rattle.std.proofs.Common.{◌≡◌, ℕ, ap, ◌+◌, ◌++◌, ◌∙◌, arith}
-use Rattle.std.specs.Prelude.{replicate}
-use Rattle.netlist.specs.Flat.{most_underscores}
-use Rattle.netlist.proofs.UnderscoreLemmas.{most-append}
+use Rattle.aiger_io.proofs.Common.{◌≡◌, ℕ, ap, ◌+◌, ◌++◌, ◌∙◌, arith, replicate, most_underscores, most-append}
 use Rattle.aiger_io.proofs.own_name.mark.Goals as goal
 
 pub returns : goal.returns

@@ -1,5 +1,4 @@
-use Rattle.std.proofs.Common.{◌≡◌, drop, max}
-use Rattle.netlist.specs.Flat.{most_underscores}
+use Rattle.aiger_io.proofs.Common.{◌≡◌, drop, max, most_underscores}
 use Rattle.aiger_io.proofs.own_name.most_of.Given as goal
 
 abbrev pub invariant-loop-name : goal.invariant-loop-name

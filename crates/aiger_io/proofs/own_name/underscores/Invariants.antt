@@ -1,5 +1,4 @@
-use Rattle.std.proofs.Common.{◌≡◌, ◌+◌, ◌≤◌, drop}
-use Rattle.netlist.specs.Flat.{underscores}
+use Rattle.aiger_io.proofs.Common.{◌≡◌, ◌+◌, ◌≤◌, drop, underscores}
 use Rattle.aiger_io.proofs.own_name.underscores.Given as goal
 
 abbrev pub invariant-loop-byte : goal.invariant-loop-byte

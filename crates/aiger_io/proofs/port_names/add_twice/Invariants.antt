@@ -1,5 +1,4 @@
-use Rattle.std.proofs.Common.{◌≡◌, drop}
-use Rattle.aiger_io.specs.Bodies.{twice_from, seen_from}
+use Rattle.aiger_io.proofs.Common.{◌≡◌, drop, twice_from, seen_from}
 use Rattle.aiger_io.proofs.port_names.add_twice.Given as goal
 
 abbrev pub invariant-loop-name : goal.invariant-loop-name

@@ -1,5 +1,4 @@
-use Rattle.std.proofs.Common.{◌≡◌, ◌++◌, drop}
-use Rattle.aiger_io.specs.PortNames.{names_from}
+use Rattle.aiger_io.proofs.Common.{◌≡◌, ◌++◌, drop, names_from}
 use Rattle.aiger_io.proofs.port_names.all_names.Given as goal
 
 abbrev pub invariant-loop-name : goal.invariant-loop-name

@@ -1,5 +1,4 @@
-use Rattle.std.proofs.Common.{◌≡◌, ◌+◌, drop}
-use Rattle.aiger_io.specs.PortNames.{first_twice}
+use Rattle.aiger_io.proofs.Common.{◌≡◌, ◌+◌, drop, first_twice}
 use Rattle.aiger_io.proofs.port_names.look_for.Given as goal
 
 abbrev pub invariant-loop-place : goal.invariant-loop-place

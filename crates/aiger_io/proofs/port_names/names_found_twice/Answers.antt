@@ -1,6 +1,5 @@
-use Rattle.std.proofs.Common.{[], ap, ◌∙◌}
-use Rattle.aiger_io.specs.Bodies.{twice_from, seen_from}
-use Rattle.aiger_io.proofs.TwiceLemmas.{all_found}
+use Rattle.aiger_io.proofs.Common.{[], ap, ◌∙◌, twice_from, seen_from}
+use Rattle.aiger_io.proofs.PortLemmas.{all_found}
 use Rattle.aiger_io.proofs.port_names.names_found_twice.Goals as goal
 
 pub returns : goal.returns

@@ -1,11 +1,5 @@
-use Rattle.std.proofs.Common.{◌≡◌, ℕ, ◌+◌, List, Ok, Err, length, map, Bor, sym, ◌∙◌, subst}
-use Rattle.tl_fault.proofs.OrMemoryLemmas.{OrMemory-map}
-use Rattle.tl_fault.proofs.PassedOn.{passed_on}
-use Rattle.aiger_io.specs.Reader.{named_circuit, named_behind, IsLibraryIn}
-use Rattle.aiger_io.specs.Items.{item_count}
-use Rattle.aiger_io.specs.Refusals.{refusal_of}
-use Rattle.aiger_io.specs.Symbols.{no_symbols, symbols_from}
-use Rattle.aiger_io.proofs.TextLemmas.{behind_is, behind_refused}
+use Rattle.aiger_io.proofs.Common.{◌≡◌, ap, ℕ, ◌+◌, List, Ok, Err, length, map, Bor, sym, ◌∙◌, subst, OrMemory-map, passed_on, named_circuit, named_behind, IsLibraryIn, item_count, refusal_of, no_symbols, symbols_from, and_then}
+use Rattle.aiger_io.proofs.ReadLemmas.{behind_is}
 use Rattle.aiger_io.proofs.read_text.library_behind.Goals as goal
 
 pub returns : goal.returns
@@ -20,7 +14,7 @@ returns-in_err-said c =
     let rows : List (List ℕ) = map (λ (r : Bor (List ℕ)). r.now) c.args.rows.now in
     passed_on c.from_residual.result c.in_err-said.field-0.0 _ _ c.from_residual.ensures.1
     (OrMemory-map refusal_of (λ e. symbols_from c.args.header.now (length c.args.items.now + 2) (no_symbols c.args.header.now) rows ≡ Err e) (λ e. named_behind c.args.header.now c.args.items.now rows ≡ Err e) c.in_err-said.field-0.0
-    (λ e is. behind_refused c.args.header.now c.args.items.now rows e (subst (λ n. symbols_from c.args.header.now (n + 2) (no_symbols c.args.header.now) rows ≡ Err e) c.requires.count is)) c.in_err-said.ensures.symbols)
+    (λ e is. ap (and_then (named_circuit c.args.header.now c.args.items.now)) (subst (λ n. symbols_from c.args.header.now (n + 2) (no_symbols c.args.header.now) rows ≡ Err e) c.requires.count is)) c.in_err-said.ensures.symbols)
 
 pub returns-in_err-made : goal.returns-in_err-made
 returns-in_err-made c =

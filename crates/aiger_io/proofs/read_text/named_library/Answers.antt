@@ -1,11 +1,5 @@
-use Rattle.std.proofs.Common.{◌≡◌, ℕ, List, None, Some, Err, ap, ◌∙◌, subst}
-use Rattle.tl_fault.proofs.OrMemoryLemmas.{OrMemory-map}
-use Rattle.tl_fault.proofs.PassedOn.{passed_on}
-use Rattle.aiger_io.specs.Reader.{named_circuit}
-use Rattle.aiger_io.specs.CircuitLibrary.{library_of}
-use Rattle.aiger_io.specs.PortNames.{input_names, first_twice}
-use Rattle.aiger_io.specs.Refusals.{refusal_of}
-use Rattle.aiger_io.proofs.TextLemmas.{circuit_made, circuit_twice}
+use Rattle.aiger_io.proofs.Common.{◌≡◌, ℕ, List, None, Some, Err, ap, ◌∙◌, subst, OrMemory-map, passed_on, named_circuit, library_of, input_names, first_twice, refusal_of, circuit_with, unless}
+use Rattle.aiger_io.proofs.ReadLemmas.{circuit_made}
 use Rattle.aiger_io.proofs.read_text.named_library.Goals as goal
 
 pub returns : goal.returns
@@ -20,4 +14,4 @@ pub returns-in_err-check_names : goal.returns-in_err-check_names
 returns-in_err-check_names c =
     passed_on c.from_residual-in_err-check_names.result c.in_err-check_names.field-0.0 _ _ c.from_residual-in_err-check_names.ensures.1
     (OrMemory-map refusal_of (λ e. first_twice c.args.header.now c.args.said.now c.args.line c.args.said.now.places ≡ Some e) (λ e. named_circuit c.args.header.now c.args.items.now c.args.said.now ≡ Err e) c.in_err-check_names.field-0.0
-    (λ e is. circuit_twice c.args.header.now c.args.items.now c.args.said.now e (subst (λ n. first_twice c.args.header.now c.args.said.now n c.args.said.now.places ≡ Some e) c.requires.line is)) c.in_err-check_names.ensures)
+    (λ e is. ap (λ o. unless o (circuit_with c.args.header.now c.args.items.now c.args.said.now)) (subst (λ n. first_twice c.args.header.now c.args.said.now n c.args.said.now.places ≡ Some e) c.requires.line is)) c.in_err-check_names.ensures)

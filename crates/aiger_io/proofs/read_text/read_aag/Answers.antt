@@ -1,5 +1,4 @@
-use Rattle.aiger_io.proofs.CleanLemmas.{text_clean, text_short, text_few}
-use Rattle.aiger_io.proofs.FormedLemmas.{text_formed}
+use Rattle.aiger_io.proofs.CleanLemmas.{text_clean, text_short, text_few, text_formed}
 use Rattle.aiger_io.proofs.Format.SettledLemmas.{answer_library, answer_refusal, one_reading, library_read, text_runs_of}
 use Rattle.aiger_io.proofs.read_text.read_aag.Goals as goal
 

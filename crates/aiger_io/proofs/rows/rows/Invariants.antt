@@ -1,5 +1,4 @@
-use Rattle.std.proofs.Common.{◌≡◌, ◌≤◌, ℕ, List, ◌++◌, length, map, drop, Bor}
-use Rattle.std.specs.Str.Lines.{lines_of_parts}
+use Rattle.aiger_io.proofs.Common.{◌≡◌, ◌≤◌, ℕ, List, ◌++◌, length, map, drop, Bor, lines_of_parts}
 use Rattle.aiger_io.proofs.rows.rows.Given as goal
 
 abbrev pub invariant-loop-i : goal.invariant-loop-i

@@ -1,6 +1,4 @@
-use Rattle.std.proofs.Common.{◌≡◌, ◌≤◌, ◌+◌, ℕ, List, length, map, drop, Bor}
-use Rattle.aiger_io.specs.Bodies.{named_count}
-use Rattle.aiger_io.specs.Symbols.{no_symbols, symbols_from}
+use Rattle.aiger_io.proofs.Common.{◌≡◌, ◌≤◌, ◌+◌, ℕ, List, length, map, drop, Bor, named_count, no_symbols, symbols_from}
 use Rattle.aiger_io.proofs.symbols.read_symbols.Given as goal
 
 abbrev pub invariant-loop-row : goal.invariant-loop-row

@@ -1,5 +1,4 @@
-use Rattle.std.proofs.Common.{decimal}
-use Rattle.tl_piece.proofs.AddedLemmas.{added_as, added_twice}
+use Rattle.aiger_io.proofs.Common.{decimal, added_as, added_twice}
 use Rattle.aiger_io.proofs.WrittenLemmas.{latch_line}
 use Rattle.aiger_io.proofs.written_line.add_latch.Goals as goal
 

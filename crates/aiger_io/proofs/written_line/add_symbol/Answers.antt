@@ -1,5 +1,4 @@
-use Rattle.std.proofs.Common.{decimal}
-use Rattle.tl_piece.proofs.AddedLemmas.{added_as, added_twice}
+use Rattle.aiger_io.proofs.Common.{decimal, added_as, added_twice}
 use Rattle.aiger_io.proofs.WrittenLemmas.{symbol_line}
 use Rattle.aiger_io.proofs.written_line.add_symbol.Goals as goal
 

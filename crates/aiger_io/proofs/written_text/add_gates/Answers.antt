@@ -1,9 +1,4 @@
-use Rattle.std.proofs.Common.{◌≡◌, ◌+◌, ◌-◌, Some, subst, arith}
-use Rattle.std.specs.Prelude.{slice_get}
-use Rattle.aig_core.specs.Aig.{first_and}
-use Rattle.aig_core.specs.declared.lit.Pair.{Pair}
-use Rattle.aiger_io.specs.GraphCircuit.{gate_item}
-use Rattle.aiger_io.specs.WrittenText.{item_text}
+use Rattle.aiger_io.proofs.Common.{◌≡◌, ◌+◌, ◌-◌, Some, subst, arith, slice_get, first_and, Pair, gate_item, item_text}
 use Rattle.aiger_io.proofs.WrittenLemmas.{added_numbered}
 use Rattle.aiger_io.proofs.written_text.add_gates.Goals as goal
 

@@ -1,7 +1,4 @@
-use Rattle.std.proofs.Common.{ℕ, ◌+◌, refl}
-use Rattle.tl_piece.proofs.PartLemmas.{added_next}
-use Rattle.aiger_io.specs.GraphCircuit.{input_item}
-use Rattle.aiger_io.specs.WrittenText.{item_text}
+use Rattle.aiger_io.proofs.Common.{ℕ, ◌+◌, refl, added_next, input_item, item_text}
 use Rattle.aiger_io.proofs.written_text.add_inputs.Goals as goal
 
 pub loop-i-preserved : goal.loop-i-preserved

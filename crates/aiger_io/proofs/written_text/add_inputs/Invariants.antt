@@ -1,8 +1,4 @@
-use Rattle.std.proofs.Common.{ℕ}
-use Rattle.std.specs.List.{flat_map, range_with_len}
-use Rattle.tl_piece.specs.Added.{IsAdded}
-use Rattle.aiger_io.specs.GraphCircuit.{input_item}
-use Rattle.aiger_io.specs.WrittenText.{item_text}
+use Rattle.aiger_io.proofs.Common.{ℕ, flat_map, range_with_len, IsAdded, input_item, item_text}
 use Rattle.aiger_io.proofs.written_text.add_inputs.Given as goal
 
 abbrev pub invariant-loop-i : goal.invariant-loop-i

@@ -1,8 +1,4 @@
-use Rattle.std.proofs.Common.{arith}
-use Rattle.std.proofs.lemmas.Option.{slice_get-get_or}
-use Rattle.netlist.specs.declared.flat.FlatLatch.{FlatLatch}
-use Rattle.aiger_io.specs.GraphCircuit.{latch_item}
-use Rattle.aiger_io.specs.WrittenText.{item_text}
+use Rattle.aiger_io.proofs.Common.{arith, slice_get-get_or, FlatLatch, latch_item, item_text, true}
 use Rattle.aiger_io.proofs.WrittenLemmas.{added_numbered}
 use Rattle.aiger_io.proofs.written_text.add_latches.Goals as goal
 

@@ -1,7 +1,4 @@
-use Rattle.std.proofs.Common.{take}
-use Rattle.tl_piece.specs.Added.{IsAdded}
-use Rattle.aiger_io.specs.GraphCircuit.{latch_item}
-use Rattle.aiger_io.specs.WrittenText.{numbered_text, item_text}
+use Rattle.aiger_io.proofs.Common.{take, IsAdded, latch_item, numbered_text, item_text}
 use Rattle.aiger_io.proofs.written_text.add_latches.Given as goal
 
 abbrev pub invariant-loop-k : goal.invariant-loop-k

@@ -1,13 +1,4 @@
-use Rattle.std.proofs.Common.{◌≡◌, ℕ, ◌+◌, ◌-◌, List, length, ap, ◌∙◌, arith}
-use Rattle.std.specs.List.{flat_map}
-use Rattle.aig_core.specs.Roots.{RootsValue}
-use Rattle.aig_core.specs.declared.lit.Lit.{Lit}
-use Rattle.netlist.specs.FlatValue.{FlatValue}
-use Rattle.netlist.specs.declared.flat.FlatLatch.{FlatLatch}
-use Rattle.tl_piece.proofs.AddedLemmas.{added_as, added_twice}
-use Rattle.tl_text.specs.WrittenText.{line_text}
-use Rattle.aiger_io.specs.GraphCircuit.{latch_item, output_item}
-use Rattle.aiger_io.specs.WrittenText.{numbered_text, header_words, item_text}
+use Rattle.aiger_io.proofs.Common.{◌≡◌, ℕ, ◌+◌, ◌-◌, List, length, ap, ◌∙◌, arith, flat_map, RootsValue, Lit, FlatValue, FlatLatch, added_as, added_twice, line_text, latch_item, output_item, numbered_text, header_words, item_text}
 use Rattle.aiger_io.proofs.written_text.add_lines.Goals as goal
 
 pub add_latches-requires-clause-few : goal.add_latches-requires-clause-few

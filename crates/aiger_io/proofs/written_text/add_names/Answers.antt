@@ -1,10 +1,5 @@
-use Rattle.std.proofs.Common.{◌≡◌, Some, sym, ap, ◌∙◌, arith}
-use Rattle.std.specs.Prelude.{slice_get}
-use Rattle.std.proofs.lemmas.Option.{slice_get-get_or}
-use Rattle.tl_piece.proofs.AddedLemmas.{added_as}
-use Rattle.aiger_io.specs.WrittenText.{symbol_text}
+use Rattle.aiger_io.proofs.Common.{◌≡◌, Some, sym, ap, ◌∙◌, arith, slice_get, slice_get-get_or, added_as, symbol_text, OutPort, true}
 use Rattle.aiger_io.proofs.WrittenLemmas.{added_numbered}
-use Rattle.netlist.specs.declared.flat.OutPort.{OutPort}
 use Rattle.aiger_io.proofs.written_text.add_names.Goals as goal
 
 pub loop-k-preserved : goal.loop-k-preserved

@@ -1,7 +1,4 @@
-use Rattle.std.proofs.Common.{take}
-use Rattle.tl_piece.specs.Added.{IsAdded}
-use Rattle.netlist.specs.declared.flat.OutPort.{OutPort}
-use Rattle.aiger_io.specs.WrittenText.{numbered_text, symbol_text}
+use Rattle.aiger_io.proofs.Common.{take, IsAdded, OutPort, numbered_text, symbol_text}
 use Rattle.aiger_io.proofs.written_text.add_names.Given as goal
 
 abbrev pub invariant-loop-k : goal.invariant-loop-k

@@ -1,7 +1,4 @@
-use Rattle.tl_piece.proofs.PartLemmas.{added_part}
-use Rattle.aig_core.specs.declared.lit.Lit.{Lit}
-use Rattle.aiger_io.specs.GraphCircuit.{output_item}
-use Rattle.aiger_io.specs.WrittenText.{item_text}
+use Rattle.aiger_io.proofs.Common.{added_part, Lit, output_item, item_text, true}
 use Rattle.aiger_io.proofs.written_text.add_outputs.Goals as goal
 
 pub loop-l-preserved : goal.loop-l-preserved

@@ -1,10 +1,5 @@
-use Rattle.std.proofs.Common.{◌≡◌, ◌+◌, Some, sym, ap, refl, ◌∙◌}
-use Rattle.std.specs.Prelude.{slice_get}
-use Rattle.std.proofs.lemmas.Option.{slice_get-get_or}
-use Rattle.tl_piece.proofs.AddedLemmas.{added_as}
-use Rattle.aiger_io.specs.WrittenText.{symbol_text}
+use Rattle.aiger_io.proofs.Common.{◌≡◌, ◌+◌, Some, sym, ap, refl, ◌∙◌, slice_get, slice_get-get_or, added_as, symbol_text, Param, true}
 use Rattle.aiger_io.proofs.WrittenLemmas.{added_numbered}
-use Rattle.param_list.specs.declared.params.Param.{Param}
 use Rattle.aiger_io.proofs.written_text.add_params.Goals as goal
 
 pub loop-k-preserved : goal.loop-k-preserved

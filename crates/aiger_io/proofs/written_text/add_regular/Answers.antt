@@ -1,8 +1,4 @@
-use Rattle.std.proofs.Common.{ℕ, [], arith, ap}
-use Rattle.std.specs.Prelude.{slice_index_or}
-use Rattle.std.proofs.lemmas.Option.{slice_get-get_or}
-use Rattle.tl_piece.proofs.AddedLemmas.{added_as}
-use Rattle.aiger_io.specs.WrittenText.{symbol_text}
+use Rattle.aiger_io.proofs.Common.{ℕ, [], arith, ap, slice_index_or, slice_get-get_or, added_as, symbol_text, true}
 use Rattle.aiger_io.proofs.WrittenLemmas.{added_numbered}
 use Rattle.aiger_io.proofs.written_text.add_regular.Goals as goal
 

@@ -1,7 +1,4 @@
-use Rattle.std.proofs.Common.{take}
-use Rattle.tl_piece.specs.Added.{IsAdded}
-use Rattle.std.specs.Prelude.{slice_index_or, []}
-use Rattle.aiger_io.specs.WrittenText.{numbered_text, symbol_text}
+use Rattle.aiger_io.proofs.Common.{take, IsAdded, slice_index_or, [], numbered_text, symbol_text}
 use Rattle.aiger_io.proofs.written_text.add_regular.Given as goal
 
 abbrev pub invariant-loop-k : goal.invariant-loop-k

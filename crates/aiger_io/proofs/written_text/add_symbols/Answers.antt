@@ -1,11 +1,4 @@
-use Rattle.std.proofs.Common.{◌≡◌, ℕ, List, length, [], ap, ◌∙◌}
-use Rattle.std.specs.Prelude.{slice_index_or}
-use Rattle.netlist.specs.FlatValue.{FlatValue}
-use Rattle.netlist.specs.declared.flat.OutPort.{OutPort}
-use Rattle.param_list.specs.Parameters.{ParamsValue}
-use Rattle.param_list.specs.declared.params.Param.{Param}
-use Rattle.tl_piece.proofs.AddedLemmas.{added_as, added_twice}
-use Rattle.aiger_io.specs.WrittenText.{numbered_text, symbol_text}
+use Rattle.aiger_io.proofs.Common.{◌≡◌, ℕ, List, length, [], ap, ◌∙◌, slice_index_or, FlatValue, OutPort, ParamsValue, Param, added_as, added_twice, numbered_text, symbol_text}
 use Rattle.aiger_io.proofs.written_text.add_symbols.Goals as goal
 
 pub returns : goal.returns

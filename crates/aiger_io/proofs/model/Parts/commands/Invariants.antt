@@ -1,5 +1,4 @@
-use Rattle.std.proofs.Common.{◌≡◌, ◌∷◌, ◌++◌, drop}
-use Rattle.aiger_io.specs.CircuitLibrary.{variable_name, zero_command, commands_from}
+use Rattle.aiger_io.proofs.Common.{◌≡◌, ◌∷◌, ◌++◌, drop, variable_name, zero_command, commands_from}
 use Rattle.aiger_io.proofs.model.Parts.commands.Given as goal
 
 abbrev pub invariant-loop-item : goal.invariant-loop-item
