@@ -1,8 +1,7 @@
 -- The walk over the cuts of a row may stop at the first that has more leaves than the best one so far.
-use Rattle.cover_pick.proofs.Common.{◌≡◌, ℕ, zero, suc, ◌+◌, ◌<◌, ◌≤◌, eqb, ltb, ◌&&◌, List, [], ◌∷◌, length, get_or, drop, Option, Some, None, refl, sym, ap, ◌∙◌, subst, inl, inr, arith, drop_more, drop_all, eqb-true, and_parts, In, choose, IsOrdered, height}
+use Rattle.cover_pick.proofs.Common.{◌≡◌, ℕ, zero, suc, ◌+◌, ◌<◌, ◌≤◌, eqb, ltb, ◌&&◌, List, [], ◌∷◌, length, get_or, drop, Option, Some, None, refl, sym, ap, ◌∙◌, subst, inl, inr, arith, drop_more, drop_all, eqb-true, and_parts, In, choose, IsOrdered, height, IsAt, IsShorter, better, fewest}
 use Rattle.cut_enum.proofs.LevelLemmas.{IsRising, IsRising-ordered, first_least}
 use Rattle.cover_pick.specs.declared.choice.Candidate.{Candidate}
-use Rattle.cover_pick.specs.Fewest.{IsAt, IsShorter, better, fewest}
 
 module _ (label : ℕ → ℕ) (r : ℕ) where
   -- the fold goes on with the next cut
@@ -14,9 +13,7 @@ module _ (label : ℕ → ℕ) (r : ℕ) where
 
   -- no longer cut is better
   better_longer : (c d : List ℕ) → length c < length d → better label r (Some c) d ≡ Some c
-  better_longer c d l =
-      choose (λ s. s ≡ Some c) (eqb (length d) (length c) && ltb (height label d) (height label c)) (Some d) (Some c)
-      (λ t. let a = and_parts (eqb (length d) (length c)) (ltb (height label d) (height label c)) t in let x : length d ≡ length c = eqb-true (length d) (length c) a.0 in absurd (omega arith)) (λ _. refl)
+  better_longer c d l = grind arith
 
   fewest_longer : (c : List ℕ) (cs : List (List ℕ)) → ((d : List ℕ) → In cs d → length c < length d) → fewest label r (Some c) cs ≡ Some c
   fewest_longer c [] l = refl
@@ -28,9 +25,7 @@ module _ (label : ℕ → ℕ) (r : ℕ) where
   rising_drop (c ∷ cs) (suc i) s = rising_drop cs i s.1
 
   later_longer : (cs : List (List ℕ)) (i : ℕ) (d : List ℕ) → IsRising cs → i < length cs → In (drop i cs) d → length (get_or cs i []) ≤ length d
-  later_longer cs i d s l h =
-      let e : drop i cs ≡ get_or cs i [] ∷ drop (i + 1) cs = drop_more cs i [] l in
-      first_least (get_or cs i []) (drop (i + 1) cs) d (subst IsRising e (rising_drop cs i s)) (subst (λ t. In t d) e h)
+  later_longer cs i d s l h = grind (arith, drop_more, first_least, rising_drop)
 
   -- So the fold may stop at the first cut of more leaves.
   pub fewest_stops : (cs : List (List ℕ)) (best : Option Candidate) (o full : Option (List ℕ)) (i : ℕ) → IsOrdered cs → i < length cs → IsShorter best (length (get_or cs i [])) → IsAt label cs best o
@@ -38,5 +33,4 @@ module _ (label : ℕ → ℕ) (r : ℕ) where
   fewest_stops cs None o full i up l s h e = absurd s
   fewest_stops cs (Some b) None full i up l s h e = absurd h
   fewest_stops cs (Some b) (Some c) full i up l s h e =
-      let u : b.len ≡ length c = h.2 in
       sym (fewest_longer c (drop i cs) (λ d k. let m : length (get_or cs i []) ≤ length d = later_longer cs i d (IsRising-ordered cs up) l k in omega arith)) ∙ e

@@ -1,7 +1,5 @@
 -- The cut that is found for its cost: there is one where a cut is low enough, it is one of the list, and the first of the least cost.
-use Rattle.cover_pick.proofs.Common.{◌≡◌, ℕ, ◌<◌, ◌≤◌, true, ltb, List, [], ◌∷◌, Option, Some, None, refl, sym, ap, ◌∙◌, subst, inl, inr, ◌⊎◌, arith, same_Some, none-some, cases_lt, ltb-true, ltb-false, In, choose, before, IsOrdered, before_trans, height}
-use Rattle.cover_pick.specs.Sharing.{IsCheaper, less, earlier}
-use Rattle.cover_pick.specs.Cheapest.{cheaper, cheaper_low, cheapest}
+use Rattle.cover_pick.proofs.Common.{◌≡◌, ℕ, ◌<◌, ◌≤◌, true, ltb, List, [], ◌∷◌, Option, Some, None, refl, sym, ap, ◌∙◌, subst, inl, inr, ◌⊎◌, arith, same_Some, none-some, cases_lt, ltb-true, ltb-false, In, choose, before, IsOrdered, before_trans, height, IsCheaper, less, earlier, cheaper, cheaper_low, cheapest, rules}
 
 module _ (cost : List ℕ → ℕ) (label : ℕ → ℕ) (r : ℕ) where
   -- one more cut
@@ -19,8 +17,7 @@ module _ (cost : List ℕ → ℕ) (label : ℕ → ℕ) (r : ℕ) where
 
   -- what is found after one more cut, by its cases
   step_is : (P : Option (List ℕ) → Type 0) (b e : List ℕ) → P (Some b) → P (Some e) → P (cheaper_low cost label r (Some b) e)
-  step_is P b e p q =
-      choose P (ltb r (height label e)) (Some b) (cheaper cost (Some b) e) (λ _. p) (λ _. choose P (ltb (cost e) (cost b)) (Some e) (Some b) (λ _. q) (λ _. p))
+  step_is P b e p q = grind arith
 
   found_some : (cs : List (List ℕ)) (b : List ℕ) → (c : List ℕ) × (cheapest cost label r (Some b) cs ≡ Some c)
   found_some [] b = (b, refl)
@@ -48,11 +45,7 @@ module _ (cost : List ℕ → ℕ) (label : ℕ → ℕ) (r : ℕ) where
 
   -- a low cut stays low
   low_next : (o : Option (List ℕ)) (e : List ℕ) → ((b : List ℕ) → o ≡ Some b → height label b ≤ r) → (b : List ℕ) → cheaper_low cost label r o e ≡ Some b → height label b ≤ r
-  low_next o e low b h =
-      elim (cases_lt r (height label e)) [
-        | inl l ↦ low b (sym (high_is o e l) ∙ h)
-        | inr l ↦ elim (step_either o e) [ inl q ↦ low b (sym q ∙ h) | inr q ↦ subst (λ x. height label x ≤ r) (same_Some e b (sym q ∙ h)) l ]
-      ]
+  low_next o e low b h = search (rules, cases_lt, high_is, step_either, same_Some)
 
   pub cheapest_low : (cs : List (List ℕ)) (o : Option (List ℕ)) (c : List ℕ) → ((b : List ℕ) → o ≡ Some b → height label b ≤ r) → cheapest cost label r o cs ≡ Some c → height label c ≤ r
   cheapest_low [] o c low h = low c h
@@ -69,8 +62,7 @@ module _ (cost : List ℕ → ℕ) (label : ℕ → ℕ) (r : ℕ) where
 
   cheaper_next : (c b e : List ℕ) → IsCheaper c b (cost c) (cost b) → cost b ≤ cost e → before b e ≡ true → IsCheaper c e (cost c) (cost e)
   cheaper_next c b e (less l) m t = less (omega arith)
-  cheaper_next c b e (earlier q o) m t =
-      elim (cases_lt (cost b) (cost e)) [ inl l ↦ less (omega arith) | inr l ↦ earlier (let same : cost c ≡ cost e = omega arith in same) (inr (before_next c b e o t)) ]
+  cheaper_next c b e (earlier q o) m t = search (rules, cases_lt, before_next)
 
   -- what is found is the first of the least cost
   pub cheapest_first : (cs : List (List ℕ)) (o : Option (List ℕ)) (c : List ℕ) → IsOrdered cs → ((b e : List ℕ) → o ≡ Some b → In cs e → before b e ≡ true) → ((b : List ℕ) → o ≡ Some b → height label b ≤ r)
@@ -89,8 +81,7 @@ module _ (cost : List ℕ → ℕ) (label : ℕ → ℕ) (r : ℕ) where
         ]
         | inr low ↦ (
             let next : cheapest cost label r (Some e) cs ≡ Some c = subst (λ s. cheapest cost label r s cs ≡ Some c) (low_is None e low) h in
-            let all : (x : List ℕ) → In cs x ⊎ (Some e ≡ Some x) → height label x ≤ r → IsCheaper c x (cost c) (cost x) =
-            cheapest_first cs (Some e) c up.1 (λ b x q k. subst (λ y. before y x ≡ true) (same_Some e b q) (up.0 x k)) (λ b q. subst (λ y. height label y ≤ r) (same_Some e b q) low) next in
+            let all : (x : List ℕ) → In cs x ⊎ (Some e ≡ Some x) → height label x ≤ r → IsCheaper c x (cost c) (cost x) = grind (arith, same_Some, cheapest_first cs (Some e) c up.1 (λ b x q k. subst (λ y. before y x ≡ true) (same_Some e b q) (up.0 x k)) (λ b q. subst (λ y. height label y ≤ r) (same_Some e b q) low) next) in
             elim i [
               | inl j ↦ elim j [ inl q ↦ all d (inr (ap (λ x. Some x) (sym q))) l | inr k ↦ all d (inl k) l ]
               | inr q ↦ absurd (none-some d q)

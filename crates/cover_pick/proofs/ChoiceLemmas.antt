@@ -1,15 +1,10 @@
 -- The chosen cut by the rule's own words, and that the rule keeps within the required depth.
-use Rattle.cover_pick.proofs.Common.{◌≡◌, ℕ, ◌<◌, ◌≤◌, true, false, ◌&&◌, cond, ltb, eqb, List, [], ◌∷◌, length, Option, Some, None, refl, sym, ap, ◌∙◌, subst, inl, inr, ◌⊎◌, arith, same_Some, none-some, cases_order, ltb-true, ltb-false, eqb-true, and_parts, and_from, false≢true, both_ways, lt-ltb, eq-eqb, In, lex, comes_before, IsOrdered, height, choose}
-use Rattle.cover_pick.specs.Fewest.{better, fewest}
+use Rattle.cover_pick.proofs.Common.{◌≡◌, ℕ, ◌<◌, ◌≤◌, true, false, ◌&&◌, cond, ltb, eqb, List, [], ◌∷◌, length, Option, Some, None, refl, sym, ap, ◌∙◌, subst, inl, inr, ◌⊎◌, arith, same_Some, none-some, cases_order, ltb-true, ltb-false, eqb-true, and_parts, and_from, false≢true, both_ways, lt-ltb, eq-eqb, In, lex, comes_before, IsOrdered, height, choose, better, fewest, rules}
 use Rattle.cover_pick.specs.Choice.{Precedes, fewer, lower, before, IsChosen}
 
 -- what `before` says
 before_says : (a b : List ℕ) → comes_before a b ≡ true → (length a < length b) ⊎ ((length a ≡ length b) × (lex a b ≡ true))
-before_says a b h0 =
-    choose (λ t. t ≡ true → (length a < length b) ⊎ ((length a ≡ length b) × (lex a b ≡ true))) (ltb (length a) (length b)) true (cond (eqb (length a) (length b)) (lex a b) false)
-    (λ c h. inl (ltb-true (length a) (length b) c))
-    (λ c. choose (λ t. t ≡ true → (length a < length b) ⊎ ((length a ≡ length b) × (lex a b ≡ true))) (eqb (length a) (length b)) (lex a b) false
-    (λ e h. inr (eqb-true (length a) (length b) e, h)) (λ e h. absurd (false≢true h))) h0
+before_says a b h0 = grind arith
 
 -- the best of the cuts for which S holds
 record BestIn (S : List ℕ → Type 0) (label : ℕ → ℕ) (r : ℕ) (c : List ℕ) : Type 0 where
@@ -33,26 +28,12 @@ precedes_lower label b c d e l (lower f h) = lower (e ∙ f) (omega arith)
 precedes_lower label b c d e l (before f h o) = lower (e ∙ f) (omega arith)
 
 precedes_next : (label : ℕ → ℕ) (b c : List ℕ) → comes_before b c ≡ true → (length c ≡ length b → height label c < height label b → ⊥) → Precedes label b c
-precedes_next label b c h differ =
-    elim (before_says b c h) [
-      | inl l ↦ fewer l
-      | inr p ↦ elim (cases_order (height label b) (height label c)) [
-        | inl e ↦ before p.0 e (inr p.1)
-        | inr q ↦ elim q [ inl l ↦ lower p.0 l | inr l ↦ absurd (differ (sym p.0) l) ]
-      ]
-    ]
+precedes_next label b c h differ = search (rules, before_says, cases_order)
 
 step : (S : List ℕ → Type 0) (label : ℕ → ℕ) (r : ℕ) (o : Option (List ℕ)) (c : List ℕ) → State S label r o → ((d : List ℕ) → S d → comes_before d c ≡ true)
     → State (λ d. S d ⊎ (d ≡ c)) label r (better label r o c)
 unfolding State
-step S label r None c s prior =
-    choose (λ o. State (λ d. S d ⊎ (d ≡ c)) label r o) (ltb r (height label c)) None (Some c)
-    (λ t. λ d i. elim i [ inl j ↦ s d j | inr e ↦ (let f : height label d ≡ height label c = ap (λ x. height label x) e in let g : r < height label c = ltb-true r (height label c) t in omega arith) ])
-    (λ t. record {
-      one = inr refl;
-      low = ltb-false r (height label c) t;
-      first = λ d i l. elim i [ inl j ↦ absurd (let f : r < height label d = s d j in omega arith) | inr e ↦ before (sym (ap (λ x. length x) e)) (sym (ap (λ x. height label x) e)) (inl (sym e)) ];
-    })
+step S label r None c s prior = grind arith
 step S label r (Some b) c s prior =
     choose (λ o. State (λ d. S d ⊎ (d ≡ c)) label r o) ((eqb (length c) (length b)) && ltb (height label c) (height label b)) (Some c) (Some b)
     (λ t.
@@ -80,12 +61,7 @@ step S label r (Some b) c s prior =
 best_state : (cs : List (List ℕ)) (S : List ℕ → Type 0) (label : ℕ → ℕ) (r : ℕ) (o : Option (List ℕ)) → State S label r o → IsOrdered cs → ((d c : List ℕ) → S d → In cs c → comes_before d c ≡ true)
     → State (λ d. S d ⊎ In cs d) label r (fewest label r o cs)
 best_state [] S label r o s up prior = state_of S (λ d. S d ⊎ In [] d) label r o (λ d i. inl i) (λ d i. elim i [ inl j ↦ j | inr j ↦ absurd j ]) s
-best_state (c ∷ cs) S label r o s up prior =
-    state_of (λ d. (S d ⊎ (d ≡ c)) ⊎ In cs d) (λ d. S d ⊎ In (c ∷ cs) d) label r (fewest label r (better label r o c) cs)
-    (λ d i. elim i [ inl j ↦ elim j [ inl k ↦ inl k | inr k ↦ inr (inl k) ] | inr j ↦ inr (inr j) ])
-    (λ d i. elim i [ inl j ↦ inl (inl j) | inr j ↦ elim j [ inl k ↦ inl (inr k) | inr k ↦ inr k ] ])
-    (best_state cs (λ d. S d ⊎ (d ≡ c)) label r (better label r o c) (step S label r o c s (λ d i. prior d c i (inl refl))) up.1
-    (λ d e i j. elim i [ inl k ↦ prior d e k (inr j) | inr k ↦ subst (λ x. comes_before x e ≡ true) (sym k) (up.0 e j) ]))
+best_state (c ∷ cs) S label r o s up prior = grind (arith, state_of, step, best_state cs (λ d. S d ⊎ (d ≡ c)) label r (better label r o c) (step S label r o c s (λ d i. prior d c i (inl refl))) up.1 (λ d e i j. elim i [ inl k ↦ prior d e k (inr j) | inr k ↦ subst (λ x. comes_before x e ≡ true) (sym k) (up.0 e j) ]))
 
 -- the choice is the best of the cuts, by its own words
 pub best_is : (label : ℕ → ℕ) (r : ℕ) (cs : List (List ℕ)) (c : List ℕ) → IsOrdered cs → fewest label r None cs ≡ Some c → IsChosen label r cs c
@@ -97,16 +73,8 @@ best_is label r cs c up e =
 -- where a cut is chosen
 pub best_in : (label : ℕ → ℕ) (r : ℕ) (cs : List (List ℕ)) (o : Option (List ℕ)) (c : List ℕ) → fewest label r o cs ≡ Some c → In cs c ⊎ (o ≡ Some c)
 best_in label r [] o c h = inr h
-best_in label r (d ∷ cs) None c h =
-    elim (best_in label r cs (better label r None d) c h) [
-      | inl i ↦ inl (inr i)
-      | inr e ↦ choose (λ x. x ≡ Some c → In (d ∷ cs) c ⊎ (None ≡ Some c)) (ltb r (height label d)) None (Some d) (λ _ q. inr q) (λ _ q. inl (inl (sym (same_Some d c q)))) e
-    ]
-best_in label r (d ∷ cs) (Some b) c h =
-    elim (best_in label r cs (better label r (Some b) d) c h) [
-      | inl i ↦ inl (inr i)
-      | inr e ↦ choose (λ x. x ≡ Some c → In (d ∷ cs) c ⊎ (Some b ≡ Some c)) ((eqb (length d) (length b)) && ltb (height label d) (height label b)) (Some d) (Some b) (λ _ q. inl (inl (sym (same_Some d c q)))) (λ _ q. inr q) e
-    ]
+best_in label r (d ∷ cs) None c h = search (rules, ltb, same_Some, best_in label r cs (better label r None d) c h)
+best_in label r (d ∷ cs) (Some b) c h = search (rules, eqb, ltb, same_Some, best_in label r cs (better label r (Some b) d) c h)
 
 best_some : (label : ℕ → ℕ) (r : ℕ) (cs : List (List ℕ)) (b : List ℕ) → (c : List ℕ) × (fewest label r (Some b) cs ≡ Some c)
 best_some label r [] b = (b, refl)
@@ -123,13 +91,5 @@ best_found label r (d ∷ cs) None b (inr i) l = best_found label r cs (better l
 
 pub best_low : (label : ℕ → ℕ) (r : ℕ) (cs : List (List ℕ)) (o : Option (List ℕ)) (c : List ℕ) → ((b : List ℕ) → o ≡ Some b → height label b ≤ r) → fewest label r o cs ≡ Some c → height label c ≤ r
 best_low label r [] o c low h = low c h
-best_low label r (d ∷ cs) None c low h =
-    best_low label r cs (better label r None d) c
-    (λ b e. choose (λ x. x ≡ Some b → height label b ≤ r) (ltb r (height label d)) None (Some d) (λ _ q. absurd (none-some b q))
-    (λ f q. let g : height label d ≤ r = ltb-false r (height label d) f in let s : height label d ≡ height label b = ap (λ x. height label x) (same_Some d b q) in omega arith) e) h
-best_low label r (d ∷ cs) (Some a) c low h =
-    best_low label r cs (better label r (Some a) d) c
-    (λ b e. choose (λ x. x ≡ Some b → height label b ≤ r) ((eqb (length d) (length a)) && ltb (height label d) (height label a)) (Some d) (Some a)
-    (λ t q. let u : height label d < height label a = ltb-true (height label d) (height label a) (and_parts (eqb (length d) (length a)) (ltb (height label d) (height label a)) t).1 in
-    let v : height label a ≤ r = low a refl in let s : height label d ≡ height label b = ap (λ x. height label x) (same_Some d b q) in omega arith)
-    (λ _ q. low b q) e) h
+best_low label r (d ∷ cs) None c low h = grind (arith, ltb, none-some, ltb-false, same_Some, best_low label r cs (better label r None d) c (λ b e. choose (λ x. x ≡ Some b → height label b ≤ r) (ltb r (height label d)) None (Some d) (λ _ q. absurd (none-some b q)) (λ f q. let g : height label d ≤ r = ltb-false r (height label d) f in let s : height label d ≡ height label b = ap (λ x. height label x) (same_Some d b q) in omega arith) e) h)
+best_low label r (d ∷ cs) (Some a) c low h = grind (arith, eqb, ltb, ltb-true, and_parts, same_Some, best_low label r cs (better label r (Some a) d) c (λ b e. choose (λ x. x ≡ Some b → height label b ≤ r) ((eqb (length d) (length a)) && ltb (height label d) (height label a)) (Some d) (Some a) (λ t q. let u : height label d < height label a = ltb-true (height label d) (height label a) (and_parts (eqb (length d) (length a)) (ltb (height label d) (height label a)) t).1 in let v : height label a ≤ r = low a refl in let s : height label d ≡ height label b = ap (λ x. height label x) (same_Some d b q) in omega arith) (λ _ q. low b q) e) h)

@@ -1,19 +1,7 @@
 -- What the marks and the searches find is the tables and the work by their own words.
-use Rattle.cover_pick.proofs.Common.{◌≡◌, ℕ, ◌-◌, ◌*◌, ◌/◌, ◌%◌, ◌<◌, ◌≤◌, cond, List, [], ◌∷◌, Option, Some, None, refl, sym, ap, ◌∙◌, subst, inl, inr, arith, slice_get, sum_by-cons, same_Some, cases_lt, cases_eq, eq-eqb, Aig, first_and, node_count, IsAnd, AreNormal, Regular, Parameter, Lit, RootsValue, roots_of, AreRoots, In, IsCutTable, OrMemory, source_below}
-use Rattle.cover_pick.specs.declared.limits.TheConstants.{MOST_WORK}
-use Rattle.cover_pick.specs.Refusals.{refusal_of}
-use Rattle.cover_pick.specs.declared.lut.PickErr.{PickErr}
-use Rattle.cover_pick.specs.declared.lut.PickErr.TheVariants.{Work, Memory}
-use Rattle.cover_pick.specs.declared.lut.Lut.{Lut}
-use Rattle.cover_pick.specs.Target.{target}
-use Rattle.cover_pick.specs.declared.rule.Rule.{Rule}
-use Rattle.cover_pick.specs.Plan.{IsPlan}
-use Rattle.cover_pick.specs.Planned.{cut_at, and_depths, depths_of, IsPlanned}
+use Rattle.cover_pick.proofs.Common.{◌≡◌, ℕ, ◌-◌, ◌*◌, ◌/◌, ◌%◌, ◌<◌, ◌≤◌, cond, List, [], ◌∷◌, Option, Some, None, refl, sym, ap, ◌∙◌, subst, inl, inr, arith, slice_get, sum_by-cons, same_Some, cases_lt, cases_eq, eq-eqb, Aig, first_and, node_count, IsAnd, AreNormal, Regular, Parameter, Lit, RootsValue, roots_of, AreRoots, In, IsCutTable, OrMemory, source_below, MOST_WORK, refusal_of, PickErr, Work, Memory, Lut, target, Rule, IsPlan, cut_at, and_depths, depths_of, IsPlanned, cone_of, table_work, work_of, IsWork, IsLight, TablesWithin, AreChosen, IsTemplate, AreTimely, IsTooMuch}
 use Rattle.cover_pick.specs.Tables.{IsNeeded, root, leaf, IsLeaves, constant, parameter, source, node}
 use Rattle.cover_pick.specs.Marks.{IsMarked, root as marked_root, leaf as marked_leaf, leaves_of, source_leaves, Made, IsMade, tables_of, AreMade}
-use Rattle.cover_pick.specs.Cone.{cone_of, table_work, work_of}
-use Rattle.cover_pick.specs.Work.{IsWork, IsLight}
-use Rattle.cover_pick.specs.Template.{TablesWithin, AreChosen, IsTemplate, AreTimely, IsTooMuch}
 use Rattle.cover_pick.proofs.TableLemmas.{tables_needed}
 use Rattle.cover_pick.proofs.TemplateLemmas.{leaves_and, cut_in, in_cut, to_tables, tables_within, tables_exact, leaves_inside}
 use Rattle.cover_pick.proofs.MappingLemmas.{leaves_zero, leaves_source, kind_there, regular_leaves}

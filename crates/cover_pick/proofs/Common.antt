@@ -1,4 +1,4 @@
--- Words and lemmas of the crates below that most proofs cite, passed on from one place.
+-- What the proofs of this crate cite of other crates, and its own definitions, passed on from one place.
 pub use Rattle.std.proofs.Common.{Bool, Err, IfOk, IsSome, List, None, Ok, Option, Result, Some, [], ap, arith, cond, drop, eqb, false, get_or, get_or-set_other, get_or-set_same, inl, inr, length, length-append, ltb, max, min, refl, replicate, rules, slice_set, subst, suc, sym, take, true, zero, ℕ, ◌%◌, ◌&&◌, ◌*◌, ◌++◌, ◌+◌, ◌-◌, ◌/◌, ◌<◌, ◌^◌, ◌∙◌, ◌∷◌, ◌≡◌, ◌≤◌, ◌⊎◌}
 pub use Rattle.std.proofs.Math.ListN.{get_or-append, length-set}
 pub use Rattle.std.proofs.Math.Nat.{div-le_self, mul-le-mul, mul-le-mul_left, mul-one}
@@ -7,7 +7,7 @@ pub use Rattle.std.proofs.lemmas.List.{drop_all, drop_more, get_or-replicate, ge
 pub use Rattle.std.proofs.lemmas.List.Sums.{sum_by-cons, sum_by_more, sum_by_push}
 pub use Rattle.std.proofs.lemmas.Option.{get_or_from_slice_get, none-some, same_Some, slice_get-get_or, slice_get_within}
 pub use Rattle.std.proofs.lemmas.Result.{err_from_is_err_and}
-pub use Rattle.std.specs.List.{AllByRecursion, list_any, slice_get, sum_by}
+pub use Rattle.std.specs.List.{AllByRecursion, list_any, slice_get, sum_by, IsDistinct}
 pub use Rattle.aig_core.proofs.NodeLemmas.{node_normal, source_below}
 pub use Rattle.aig_core.specs.Aig.{Aig, AreNormal, IsAnd, IsNode, IsNormal, IsSource, first_and, node_count, pair_of}
 pub use Rattle.aig_core.specs.Roots.{AreRoots, RootsValue, lits_of, roots_of}
@@ -29,3 +29,35 @@ pub use Rattle.list_laws.proofs.Members.{In-append, In-get_or, In-left, In-push,
 pub use Rattle.list_laws.specs.Members.{In}
 pub use Rattle.list_laws.specs.Order.{IsAscending, IsDescending}
 pub use Rattle.tl_fault.specs.OrMemory.{OrMemory}
+pub use Rattle.cover_pick.specs.Allowed.{cuts_within, allowed_row, allowed_from, allowed, allowed_flow, flows_by}
+pub use Rattle.cover_pick.specs.Cheapest.{cheaper, cheaper_low, cheapest, AreCapped, cut_cost, cost_where, leaf_cost, IsOffer}
+pub use Rattle.cover_pick.specs.Cone.{cone_of, table_work, work_of, is_stop, put_down, put_fan_ins, cone}
+pub use Rattle.cover_pick.specs.Counts.{count_at, count_one, count_pair, AreCounted, AreLeaves, AreUsed, count_each}
+pub use Rattle.cover_pick.specs.Fewest.{IsAt, IsShorter, better, fewest}
+pub use Rattle.cover_pick.specs.Flow.{flow_at, times_read, fan_out, flows_below, cut_flow, least_flow, node_flow}
+pub use Rattle.cover_pick.specs.Mapping.{HaveBases, bits_of, IsMapping, IsLeast, AscendByLit}
+pub use Rattle.cover_pick.specs.Marks.{IsMarked, Made, IsMade, tables_of, AreMade, mark_each, mark_leaves, mark_cut, mark_cuts, tables_from}
+pub use Rattle.cover_pick.specs.Places.{place_at, cut_of, cuts_from, cuts_of, found_for, AreBestPlaces}
+pub use Rattle.cover_pick.specs.Plan.{IsPlan, no_flow}
+pub use Rattle.cover_pick.specs.Planned.{and_depths, depths_of, IsPlanned, cut_at, AreFlows, FromChoice, IsLeastCover, Chooses, plan_of, IsWalked}
+pub use Rattle.cover_pick.specs.Refusals.{refusal_of}
+pub use Rattle.cover_pick.specs.Required.{need, chosen, cover_of, visit, walk, met_at, walk_by, roots_required, require_each, least_of, require, require_root, require_roots, required}
+pub use Rattle.cover_pick.specs.Rounded.{plan_by, next_flows, cost_by, cheaper_flows, three_rounds, least_flows, flows_for}
+pub use Rattle.cover_pick.specs.Rounds.{PlanValue, IsFirst, AreRounds, NoneBelow}
+pub use Rattle.cover_pick.specs.Ruled.{choice_of, found_of, found_in, choice_by, found_from}
+pub use Rattle.cover_pick.specs.Schedule.{AtMost, IsPlanBy, HasRuled, IsRuled, FromRoot}
+pub use Rattle.cover_pick.specs.Search.{SearchValue, stamp_at, reach}
+pub use Rattle.cover_pick.specs.Sharing.{IsCheaper, less, earlier, IsNeededAbove}
+pub use Rattle.cover_pick.specs.Tables.{HasTable}
+pub use Rattle.cover_pick.specs.Target.{target, source_level, kind_level, root_level}
+pub use Rattle.cover_pick.specs.Template.{TablesWithin, AreChosen, IsTemplate, AreTimely, IsTooMuch, TemplateValue}
+pub use Rattle.cover_pick.specs.Uses.{uses, cost_of, times_in, times_leaf, uses_below, price, cost_below}
+pub use Rattle.cover_pick.specs.Work.{IsTableWork, IsWork, IsLight, IsCone, IsInner, Path, here, left, right}
+pub use Rattle.cover_pick.specs.declared.limits.TheConstants.{MOST_WORK, MOST_FLOW, TABLE_PRICE}
+pub use Rattle.cover_pick.specs.declared.lut.Lut.{Lut}
+pub use Rattle.cover_pick.specs.declared.lut.PickErr.{PickErr}
+pub use Rattle.cover_pick.specs.declared.lut.PickErr.TheVariants.{Work, Memory}
+pub use Rattle.cover_pick.specs.declared.rule.Rule.{Rule}
+pub use Rattle.cover_pick.specs.declared.rule.Rule.TheVariants.{FewestLeaves, LeastCost}
+pub use Rattle.cover_pick.specs.declared.scope.Scope.{Scope}
+pub use Rattle.cover_pick.specs.declared.scope.Scope.TheVariants.{AnyHeight, LeastHeight}

@@ -1,37 +1,21 @@
 -- The fan-outs as they are counted.
-use Rattle.cover_pick.proofs.Common.{◌≡◌, ℕ, zero, suc, ◌+◌, ◌-◌, ◌*◌, ◌/◌, ◌<◌, ◌≤◌, eqb, cond, List, [], ◌∷◌, length, get_or, get_or-set_same, get_or-set_other, take, replicate, Some, refl, sym, ap, ◌∙◌, subst, inl, inr, arith, sum_by, length-set, length-replicate, get_or-replicate, take_all, get_or_past, sum_by_more, sum_by-cons, get_or_from_slice_get, cases_lt, cases_eq, eq-eqb, ne_eqb, choose, Aig, first_and, node_count, pair_of, Pair}
-use Rattle.cover_pick.specs.Flow.{times_read, fan_out}
-use Rattle.cover_pick.specs.Counts.{count_at, count_one, count_pair, AreCounted}
+use Rattle.cover_pick.proofs.Common.{◌≡◌, ℕ, zero, suc, ◌+◌, ◌-◌, ◌*◌, ◌/◌, ◌<◌, ◌≤◌, eqb, cond, List, [], ◌∷◌, length, get_or, get_or-set_same, get_or-set_other, take, replicate, Some, refl, sym, ap, ◌∙◌, subst, inl, inr, arith, sum_by, length-set, length-replicate, get_or-replicate, take_all, get_or_past, sum_by_more, sum_by-cons, get_or_from_slice_get, cases_lt, cases_eq, eq-eqb, ne_eqb, choose, Aig, first_and, node_count, pair_of, Pair, times_read, fan_out, count_at, count_one, count_pair, AreCounted, rules}
 
 -- one more reader
 abbrev pub one_if : ℕ → ℕ → ℕ
 one_if n m = cond (eqb n m) 1 0
 
 pub one_more : (counts : List ℕ) (n m : ℕ) → n < length counts → count_at (count_one counts n) m ≡ count_at counts m + one_if n m
-one_more counts n m l =
-    elim (cases_eq m n) [
-      | inl e ↦ subst (λ i. count_at (count_one counts n) i ≡ count_at counts i + one_if n i) (sym e)
-          (get_or-set_same counts n (count_at counts n + 1) 0 l ∙ (let t : one_if n n ≡ 1 = rw (eq-eqb n n refl) refl in let s : count_at counts n + 1 ≡ count_at counts n + one_if n n = omega arith in s))
-      | inr d ↦ (
-          let other : count_at (count_one counts n) m ≡ count_at counts m = rw get_or-set_other refl in
-          let t : one_if n m ≡ 0 = rw (ne_eqb n m (λ e. d (sym e))) refl in
-          let s : count_at (count_one counts n) m ≡ count_at counts m + one_if n m = omega arith in s)
-    ]
+one_more counts n m l = search (rules, cases_eq, one_if, get_or-set_same, eq-eqb, get_or-set_other, ne_eqb)
 
 pub one_size : (counts : List ℕ) (n : ℕ) → length (count_one counts n) ≡ length counts
 one_size counts n = length-set counts n (count_at counts n + 1)
 
 pub one_small : (counts : List ℕ) (n m limit : ℕ) → n < length counts → count_at counts m < limit → count_at (count_one counts n) m < limit + 1
-one_small counts n m limit l b =
-    let s : count_at (count_one counts n) m ≡ count_at counts m + one_if n m = one_more counts n m l in
-    let t : one_if n m ≤ 1 = choose (λ v. v ≤ 1) (eqb n m) 1 0 (λ _. omega arith) (λ _. omega arith) in omega arith
+one_small counts n m limit l b = grind (arith, one_if, one_more, eqb)
 
 pair_more : (counts : List ℕ) (p : Pair) (m : ℕ) → p.x.0 / 2 < length counts → p.y.0 / 2 < length counts → count_at (count_pair counts p) m ≡ count_at counts m + times_read m p
-pair_more counts p m x y =
-    let size : length (count_one counts (p.x.0 / 2)) ≡ length counts = one_size counts (p.x.0 / 2) in
-    let first : count_at (count_one counts (p.x.0 / 2)) m ≡ count_at counts m + one_if (p.x.0 / 2) m = one_more counts (p.x.0 / 2) m x in
-    let second : count_at (count_pair counts p) m ≡ count_at (count_one counts (p.x.0 / 2)) m + one_if (p.y.0 / 2) m = one_more (count_one counts (p.x.0 / 2)) (p.y.0 / 2) m (omega arith) in
-    let all : count_at (count_pair counts p) m ≡ count_at counts m + times_read m p = omega arith in all
+pair_more counts p m x y = grind (arith, one_size, one_if, one_more)
 
 -- a node is read at most twice by a pair
 read_twice : (m : ℕ) (ps : List Pair) → sum_by (times_read m) ps ≤ 2 * length ps
@@ -50,20 +34,10 @@ take_short (suc i) (p ∷ ps) = let r : length (take i ps) ≤ length ps = take_
 module _ (g : Aig) where
   -- no count is above twice the pairs
   pub counts_small : (n : ℕ) (counts : List ℕ) → AreCounted g n counts → (m : ℕ) → count_at counts m ≤ 2 * length g.pairs
-  counts_small n counts a m =
-      elim (cases_lt m (node_count g)) [
-        | inl l ↦ (
-            let e : count_at counts m ≡ sum_by (times_read m) (take (n - first_and g) g.pairs) = a.each m l in
-            let t : sum_by (times_read m) (take (n - first_and g) g.pairs) ≤ 2 * length (take (n - first_and g) g.pairs) = read_twice m (take (n - first_and g) g.pairs) in
-            let s : length (take (n - first_and g) g.pairs) ≤ length g.pairs = take_short (n - first_and g) g.pairs in omega arith)
-        | inr l ↦ (let size : length counts ≡ node_count g = a.size in let z : count_at counts m ≡ 0 = get_or_past counts m 0 (omega arith) in omega arith)
-      ]
+  counts_small n counts a m = search (rules, cases_lt, read_twice, take_short, get_or_past)
 
   pub counted_none : AreCounted g (first_and g) (replicate (node_count g) 0)
-  counted_none = record {
-    size = length-replicate (node_count g) 0;
-    each = λ m l. get_or-replicate (node_count g) m 0 0 l ∙ (let z : first_and g - first_and g ≡ 0 = omega arith in sym (ap (λ i. sum_by (times_read m) (take i g.pairs)) z));
-  }
+  counted_none = search (rules, length-replicate, get_or-replicate)
 
   pub counted_next : (n : ℕ) (counts next : List ℕ) (p : Pair) → AreCounted g n counts → first_and g ≤ n → n < node_count g → pair_of g n ≡ Some p → p.x.0 / 2 < node_count g → p.y.0 / 2 < node_count g → next ≡ count_pair counts p
       → AreCounted g (n + 1) next

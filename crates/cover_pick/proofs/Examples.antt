@@ -1,15 +1,9 @@
 -- Worked examples: the chosen LUT of the multiplexer whose choice is a parameter, with the complement of its last node as the root; its flows, and what a cut costs.
-use Rattle.cover_pick.proofs.Common.{◌≡◌, ℕ, ◌*◌, ◌/◌, ◌<◌, ◌≤◌, cond, eqb, List, [], ◌∷◌, Option, Some, None, refl, sym, ap, subst, inl, inr, arith, same_Some, none-some, eqb-true, IsSource, Regular, Parameter, In, some_then, none_then, row_at, mux, mux_rows, mux_normal, last_cuts, height, label_of}
+use Rattle.cover_pick.proofs.Common.{◌≡◌, ℕ, ◌*◌, ◌/◌, ◌<◌, ◌≤◌, cond, eqb, List, [], ◌∷◌, Option, Some, None, refl, sym, ap, subst, inl, inr, arith, same_Some, none-some, eqb-true, IsSource, Regular, Parameter, In, some_then, none_then, row_at, mux, mux_rows, mux_normal, last_cuts, height, label_of, Lut, FewestLeaves, fan_out, flow_at, flows_below, AtMost, HasRuled, no_flow, IsPlan, IsCone, IsWork}
 use Rattle.depth_label.proofs.Examples.{mux_labels}
-use Rattle.cover_pick.specs.declared.lut.Lut.{Lut}
 use Rattle.cover_pick.specs.Choice.{Precedes, before, IsChosen}
-use Rattle.cover_pick.specs.declared.rule.Rule.TheVariants.{FewestLeaves}
-use Rattle.cover_pick.specs.Flow.{fan_out, flow_at, flows_below}
 use Rattle.cover_pick.specs.Sharing.{IsNeededAbove, shared, free as free_leaf, new, IsCost}
-use Rattle.cover_pick.specs.Schedule.{AtMost, HasRuled}
-use Rattle.cover_pick.specs.Plan.{no_flow, IsPlan}
 use Rattle.cover_pick.specs.Tables.{IsNeeded, root, leaf, IsLeaves, constant, parameter, source, node, HasTable, AreTables}
-use Rattle.cover_pick.specs.Work.{IsCone, IsWork}
 use Rattle.cover_pick.proofs.WorkLemmas.{cone_is}
 
 -- node 6 is required by depth 1, and takes its cut of the two inputs; no other node is needed

@@ -1,12 +1,5 @@
 -- The flows: none of a source, none above the most, and the same for counts that are the same.
-use Rattle.cover_pick.proofs.Common.{◌≡◌, ℕ, zero, suc, ◌+◌, ◌/◌, ◌^◌, ◌<◌, ◌≤◌, min, max, ltb, cond, Bool, true, false, List, [], ◌∷◌, ◌++◌, length, get_or, drop, refl, sym, ap, ◌∙◌, subst, inl, inr, arith, div-le_self, length_push, get_or_append_left, get_or_push, get_or_past, drop_more, drop_all, cases_lt, ltb-false, choose, choose_both, Aig, first_and, node_count, row_at, height}
-use Rattle.cover_pick.specs.declared.limits.TheConstants.{MOST_FLOW}
-use Rattle.cover_pick.specs.Flow.{flow_at, cut_flow, least_flow, node_flow, flows_below}
-use Rattle.cover_pick.specs.declared.scope.Scope.{Scope}
-use Rattle.cover_pick.specs.declared.scope.Scope.TheVariants.{AnyHeight, LeastHeight}
-use Rattle.cover_pick.specs.Allowed.{cuts_within, allowed_row, allowed_from, allowed, allowed_flow}
-use Rattle.cover_pick.specs.Cheapest.{AreCapped}
-use Rattle.cover_pick.specs.Planned.{AreFlows}
+use Rattle.cover_pick.proofs.Common.{◌≡◌, ℕ, zero, suc, ◌+◌, ◌/◌, ◌^◌, ◌<◌, ◌≤◌, min, max, ltb, cond, Bool, true, false, List, [], ◌∷◌, ◌++◌, length, get_or, drop, refl, sym, ap, ◌∙◌, subst, inl, inr, arith, div-le_self, length_push, get_or_append_left, get_or_push, get_or_past, drop_more, drop_all, cases_lt, ltb-false, choose, choose_both, Aig, first_and, node_count, row_at, height, MOST_FLOW, flow_at, cut_flow, least_flow, node_flow, flows_below, Scope, AnyHeight, LeastHeight, cuts_within, allowed_row, allowed_from, allowed, allowed_flow, AreCapped, AreFlows}
 
 -- the most that a flow is
 most_flow_is : MOST_FLOW ≡ 2 ^ 40

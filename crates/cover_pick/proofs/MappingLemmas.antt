@@ -1,14 +1,7 @@
 -- The chosen LUTs map the graph, and are a cover of the least depth.
-use Rattle.cover_pick.proofs.Common.{◌≡◌, ℕ, ◌-◌, ◌*◌, ◌/◌, ◌%◌, ◌<◌, ◌≤◌, cond, eqb, ltb, List, [], ◌∷◌, Option, Some, None, IsSome, refl, sym, ap, ◌∙◌, subst, inl, inr, ◌⊎◌, arith, get_or, slice_get, same_Some, none-some, slice_get-get_or, cases_lt, cases_eq, eqb-true, eq-eqb, ne_eqb, ltb-true, lt-ltb, false≢true, Aig, first_and, node_count, IsAnd, IsSource, Kind, Regular, Parameter, AreRoots, In, choose, AreRows}
-use Rattle.cover_pick.specs.declared.lut.Lut.{Lut}
+use Rattle.cover_pick.proofs.Common.{◌≡◌, ℕ, ◌-◌, ◌*◌, ◌/◌, ◌%◌, ◌<◌, ◌≤◌, cond, eqb, ltb, List, [], ◌∷◌, Option, Some, None, IsSome, refl, sym, ap, ◌∙◌, subst, inl, inr, ◌⊎◌, arith, get_or, slice_get, same_Some, none-some, slice_get-get_or, cases_lt, cases_eq, eqb-true, eq-eqb, ne_eqb, ltb-true, lt-ltb, false≢true, Aig, first_and, node_count, IsAnd, IsSource, Kind, Regular, Parameter, AreRoots, In, choose, AreRows, Lut, target, need, cover_of, chosen, Rule, choice_of, cut_at, depths_of, FromChoice, IsLeastCover, HasTable, rules}
 use Rattle.cover_pick.specs.Mapping.{IsTableOf, source, free, node, IsPlain, HasLut, HasNode, IsMapping, IsLeast}
-use Rattle.cover_pick.specs.Target.{target}
-use Rattle.cover_pick.specs.Required.{need, cover_of, chosen}
-use Rattle.cover_pick.specs.declared.rule.Rule.{Rule}
-use Rattle.cover_pick.specs.Ruled.{choice_of}
-use Rattle.cover_pick.specs.Planned.{cut_at, depths_of, FromChoice, IsLeastCover}
 use Rattle.cover_pick.specs.Marks.{leaves_of, source_leaves, Made, IsMarked, root, leaf, IsMade}
-use Rattle.cover_pick.specs.Tables.{HasTable}
 use Rattle.cover_pick.proofs.TemplateLemmas.{leaves_and, cut_in}
 
 -- the leaves of a table of the constant
@@ -29,15 +22,11 @@ kind_there g n d b = kind_is g n (get_or g.kinds (n - 1) Regular) (omega arith) 
 
 -- what a table of a regular source has as leaves
 pub regular_leaves : (l : ℕ) (c : List ℕ) → source_leaves (Some Regular) (l / 2) (l % 2) ≡ Some c → (l % 2 ≡ 1) × (c ≡ (l / 2) ∷ [])
-regular_leaves l c h0 =
-    choose (λ o. o ≡ Some c → (l % 2 ≡ 1) × (c ≡ (l / 2) ∷ [])) (eqb (l % 2) 1) (Some ((l / 2) ∷ [])) None
-    (λ t h. (eqb-true (l % 2) 1 t, sym (same_Some ((l / 2) ∷ []) c h))) (λ t h. absurd (none-some c h)) h0
+regular_leaves l c h0 = grind arith
 
 -- what the cover has at an AND node with this required depth
 pub cover_at : (g : Aig) (choice : ℕ → ℕ → List ℕ) (reqs : List (Option ℕ)) (n : ℕ) (o : Option ℕ) → first_and g ≤ n → need reqs n ≡ o → cover_of g choice reqs n ≡ chosen choice n o
-cover_at g choice reqs n o b e =
-    choose (λ x. x ≡ chosen choice n o) (ltb n (first_and g)) None (chosen choice n (need reqs n))
-    (λ t. absurd (let l : n < first_and g = ltb-true n (first_and g) t in omega arith)) (λ t. ap (λ q. chosen choice n q) e)
+cover_at g choice reqs n o b e = grind arith
 
 module _ (rule : Rule) (g : Aig) (rows : List (List (List ℕ))) (label : ℕ → ℕ) (roots : List ℕ) (made : Made) (a : IsMade rule g rows label roots made) (k : ℕ) (are : AreRows g k (node_count g) rows) (lits : AreRoots g roots) where
   plan : IsLeastCover g k roots (cut_at a.cuts) (target g label roots)
@@ -47,21 +36,7 @@ module _ (rule : Rule) (g : Aig) (rows : List (List (List ℕ))) (label : ℕ �
   has_lut l c b needed e = let h = a.tables.all l c b needed e in record { table = h.by; in' = h.in'; is = h.lit_is }
 
   table_of : (t : Lut) → In made.luts t → IsTableOf g k t
-  table_of t i =
-      let e : leaves_of g a.cuts t.lit.0 ≡ Some t.leaves = (a.tables.only t i).1 in
-      let b : t.lit.0 < 2 * node_count g = a.tables.below t i in
-      elim (cases_eq (t.lit.0 / 2) 0) [
-        | inl z ↦ free (inl z) (sym (same_Some [] t.leaves (sym (leaves_zero g a.cuts t.lit.0 z) ∙ e)))
-        | inr d ↦ elim (cases_lt (t.lit.0 / 2) (first_and g)) [
-          | inl s ↦ elim (kind_there g (t.lit.0 / 2) d s) [
-            | inl r ↦ (let h = regular_leaves t.lit.0 t.leaves (sym (ap (λ o. source_leaves o (t.lit.0 / 2) (t.lit.0 % 2)) r.is) ∙ (sym (leaves_source g a.cuts t.lit.0 d s) ∙ e)) in source r h.0 h.1)
-            | inr r ↦ free (inr r) (sym (same_Some [] t.leaves (sym (ap (λ o. source_leaves o (t.lit.0 / 2) (t.lit.0 % 2)) r.is) ∙ (sym (leaves_source g a.cuts t.lit.0 d s) ∙ e))))
-          ]
-          | inr s ↦ (
-              let and : IsAnd g (t.lit.0 / 2) = (s, omega arith) in
-              node and (plan.is.cuts (t.lit.0 / 2) t.leaves (sym (leaves_and g a.cuts t.lit.0 and) ∙ e)).1)
-        ]
-      ]
+  table_of t i = grind (arith, cases_eq, same_Some, leaves_zero, cases_lt, kind_there, regular_leaves, leaves_source, leaves_and)
 
   -- a needed literal of an AND node has its table
   and_lut_of : (l : ℕ) → IsAnd g (l / 2) → IsMarked roots a.cuts l → (o : Option (List ℕ)) → cut_at a.cuts (l / 2) ≡ o → IsSome o → HasLut made.luts l
@@ -96,28 +71,17 @@ module _ (rule : Rule) (g : Aig) (rows : List (List (List ℕ))) (label : ℕ �
 
   leaf_has : (t : Lut) (m : ℕ) → In made.luts t → In t.leaves m → IsAnd g m → HasLut made.luts (2 * m)
   leaf_has t m i j and =
-      let e : leaves_of g a.cuts t.lit.0 ≡ Some t.leaves = (a.tables.only t i).1 in
-      let b : t.lit.0 < 2 * node_count g = a.tables.below t i in
       let half : (2 * m) / 2 ≡ m = omega arith in
-      let low : first_and g ≤ m = and.0 in
       elim (cases_lt (t.lit.0 / 2) (first_and g)) [
-        | inl s ↦ absurd (source_leaf t m (table_of t i) j s low)
+        | inl s ↦ absurd (source_leaf t m (table_of t i) j s and.0)
         | inr s ↦ (
-            let up : IsAnd g (t.lit.0 / 2) = (s, omega arith) in
-            let at : cut_at a.cuts (t.lit.0 / 2) ≡ Some t.leaves = sym (leaves_and g a.cuts t.lit.0 up) ∙ e in
+            let at : cut_at a.cuts (t.lit.0 / 2) ≡ Some t.leaves = sym (leaves_and g a.cuts t.lit.0 (s, omega arith)) ∙ ((a.tables.only t i).1) in
             and_lut (2 * m) (subst (λ n. IsAnd g n) (sym half) and) (leaf t.leaves m (cut_in a.cuts (t.lit.0 / 2) t.leaves at) j refl)
             (subst (λ n. IsSome (cut_at a.cuts n)) (sym half) (plan.is.leaves_in (t.lit.0 / 2) m t.leaves at j and)))
       ]
 
   pub mapping_is : IsMapping g k roots made.luts made.bits
-  mapping_is = record {
-    table = table_of;
-    root = root_has;
-    leaf = leaf_has;
-    ascending = a.tables.ascending;
-    bases = a.tables.bases;
-    sum = a.tables.sum;
-  }
+  mapping_is = search (rules, table_of, root_has, leaf_has)
 
   -- whence a chosen cut: the node is a root's, or a leaf of another
   reader_needed : (n r : ℕ) → FromChoice g (choice_of rule g rows label roots a.flows) (need (depths_of rule g rows label roots a.flows)) n r → (l : ℕ) × (l / 2 ≡ n) × IsMarked roots a.cuts l

@@ -1,5 +1,5 @@
 -- Members of lists that grow at the end, and lists of numbers without repeats.
-use Rattle.cover_pick.proofs.Common.{◌≡◌, ℕ, zero, suc, ◌<◌, ◌≤◌, true, false, eqb, List, [], ◌∷◌, ◌++◌, length, refl, sym, ap, inl, inr, arith, get_or, AllByRecursion, list_any, cases_Bool, eqb-true, eq-eqb, ne_eqb, false≢true, In, IsDescending, same_test}
+use Rattle.cover_pick.proofs.Common.{◌≡◌, ℕ, zero, suc, ◌<◌, ◌≤◌, true, false, eqb, List, [], ◌∷◌, ◌++◌, length, refl, sym, ap, inl, inr, arith, get_or, AllByRecursion, list_any, cases_Bool, eqb-true, eq-eqb, ne_eqb, false≢true, In, IsDescending, same_test, rules}
 use Rattle.std.specs.List.{IsDistinct}
 use Rattle.std.specs.Cmp.{IsEquivalence}
 use Rattle.std.proofs.lemmas.Map.Made.{length-from_same_keys}
@@ -41,11 +41,7 @@ distinct_descending [] d = tt
 distinct_descending (x ∷ xs) d = (apart_below x xs d.0, distinct_descending xs d.1)
 
 eqb_laws : IsEquivalence eqb
-eqb_laws = record {
-  refl = λ x. eq-eqb x x refl;
-  symm = λ x y. same_test (eqb x y) (eqb y x) (λ t. eq-eqb y x (sym (eqb-true x y t))) (λ t. eq-eqb x y (sym (eqb-true y x t)));
-  congr = λ x y z t. ap (λ w. eqb w z) (eqb-true x y t);
-}
+eqb_laws = search (rules, eq-eqb, same_test, eqb, eqb-true)
 
 -- two lists of the same numbers, each without repeats, are as long
 pub length_same : (xs ys : List ℕ) → IsDistinct eqb xs → IsDistinct eqb ys → ((n : ℕ) → In xs n → In ys n) → ((n : ℕ) → In ys n → In xs n) → length xs ≡ length ys

@@ -1,7 +1,5 @@
 -- When the walk comes to a node, required depths are there exactly of what is needed from above it.
-use Rattle.cover_pick.proofs.Common.{◌≡◌, ℕ, zero, suc, ◌+◌, ◌-◌, ◌/◌, ◌<◌, ◌≤◌, List, length, Option, Some, None, refl, sym, ◌∙◌, subst, inl, inr, arith, cases_eq, Aig, first_and, node_count, IsAnd, In, AreMinimal}
-use Rattle.cover_pick.specs.Required.{need, visit, walk, met_at, cover_of}
-use Rattle.cover_pick.specs.Planned.{Chooses}
+use Rattle.cover_pick.proofs.Common.{◌≡◌, ℕ, zero, suc, ◌+◌, ◌-◌, ◌/◌, ◌<◌, ◌≤◌, List, length, Option, Some, None, refl, sym, ◌∙◌, subst, inl, inr, arith, cases_eq, Aig, first_and, node_count, IsAnd, In, AreMinimal, need, visit, walk, met_at, cover_of, Chooses}
 use Rattle.cover_pick.specs.Sharing.{IsNeededAbove, root, leaf}
 use Rattle.cover_pick.proofs.StateLemmas.{Agrees, met_here, met_next, agrees_next, step_same}
 use Rattle.cover_pick.proofs.WalkLemmas.{Walked, each_other, visit_walked, leaf_below, cover_is, cover_at}
@@ -18,10 +16,7 @@ module _ (g : Aig) (k : ℕ) (roots : List ℕ) (cuts : ℕ → List (List ℕ))
   visit_above : (t j : ℕ) (reqs : List (Option ℕ)) (o : Option ℕ) → j < length g.pairs → Walked g label choice roots t (suc j) reqs → need reqs (first_and g + j) ≡ o
       → (i : ℕ) → first_and g + j ≤ i → need (visit choice (first_and g + j) o reqs) i ≡ need reqs i
   visit_above t j reqs None b w e i l = refl
-  visit_above t j reqs (Some r) b w e i l =
-      let top = first_and g + j in
-      let and : IsAnd g top = (omega arith, omega arith) in
-      each_other (choice top r) reqs (r - 1) i (λ m. absurd (let c : i < top = leaf_below g k roots cuts label choice inside minimal chooses top r i and (w.low top r and e) m in omega arith))
+  visit_above t j reqs (Some r) b w e i l = grind (arith, each_other, leaf_below)
 
   walk_above : (t j : ℕ) (reqs : List (Option ℕ)) → j ≤ length g.pairs → Walked g label choice roots t j reqs → (i : ℕ) → first_and g + j ≤ i → need (walk choice (first_and g) j reqs) i ≡ need reqs i
   walk_above t zero reqs b w i l = refl

@@ -1,21 +1,11 @@
 -- A graph has one chosen template for its table, labels and roots, and tables have one work.
-use Rattle.cover_pick.proofs.Common.{◌≡◌, ℕ, ◌+◌, ◌*◌, ◌/◌, ◌^◌, ◌<◌, ◌≤◌, List, [], ◌∷◌, length, Option, refl, sym, ap, ◌∙◌, subst, inl, inr, ◌⊎◌, arith, Result, Ok, Err, IfOk, Aig, Lit, RootsValue, roots_of, In, IsCutTable}
-use Rattle.cover_pick.specs.declared.rule.Rule.{Rule}
-use Rattle.cover_pick.specs.declared.limits.TheConstants.{MOST_WORK}
-use Rattle.cover_pick.specs.declared.lut.Lut.{Lut}
-use Rattle.cover_pick.specs.declared.lut.PickErr.{PickErr}
-use Rattle.cover_pick.specs.declared.lut.PickErr.TheVariants.{Work, Memory}
-use Rattle.cover_pick.specs.Mapping.{AscendByLit, HaveBases, bits_of}
+use Rattle.cover_pick.proofs.Common.{◌≡◌, ℕ, ◌+◌, ◌*◌, ◌/◌, ◌^◌, ◌<◌, ◌≤◌, List, [], ◌∷◌, length, Option, refl, sym, ap, ◌∙◌, subst, inl, inr, ◌⊎◌, arith, Result, Ok, Err, IfOk, Aig, Lit, RootsValue, roots_of, In, IsCutTable, Rule, MOST_WORK, Lut, PickErr, Work, Memory, AscendByLit, HaveBases, bits_of, IsCone, IsWork, IsLight, TemplateValue, TablesWithin, AreChosen, IsTemplate, IsTooMuch}
 use Rattle.cover_pick.specs.Tables.{IsNeeded, root, leaf, IsLeaves, constant, parameter, source, node, HasTable}
-use Rattle.cover_pick.specs.Work.{IsCone, IsWork, IsLight}
-use Rattle.cover_pick.specs.Template.{TemplateValue, TablesWithin, AreChosen, IsTemplate, IsTooMuch}
 use Rattle.cover_pick.proofs.RoundsOnceLemmas.{plan_cuts_once}
 use Rattle.cover_pick.proofs.MemberLemmas.{distinct_descending, length_same}
 
 lut_same : (x y : Lut) → x.lit.0 ≡ y.lit.0 → x.leaves ≡ y.leaves → x.base ≡ y.base → x ≡ y
-lut_same x y l c b =
-    let make : ℕ → List ℕ → ℕ → Lut = λ i d p. record { lit = record { 0 = i }; leaves = d; base = p } in
-    ap (λ i. make i x.leaves x.base) l ∙ (ap (λ d. make y.lit.0 d x.base) c ∙ ap (λ p. make y.lit.0 y.leaves p) b)
+lut_same x y l c b = grind arith
 
 -- the tables of one list are of the literals of the other, with the same leaves
 abbrev Matches : List Lut → List Lut → Type 0
@@ -25,19 +15,12 @@ Matches xs ys = (t : Lut) → In xs t → HasTable ys t.lit.0 t.leaves
 heads_of : (x y : Lut) (xs ys : List Lut) (p : ℕ) → AscendByLit (x ∷ xs) → AscendByLit (y ∷ ys) → HaveBases p (x ∷ xs) → HaveBases p (y ∷ ys) → (h : HasTable (y ∷ ys) x.lit.0 x.leaves) → (k : HasTable (x ∷ xs) y.lit.0 y.leaves)
     → In (y ∷ ys) h.by → In (x ∷ xs) k.by → x ≡ y
 heads_of x y xs ys p ax ay bx by h k (inl e) j = lut_same x y (sym h.lit_is ∙ ap (λ (t : Lut). t.lit.0) e) (sym h.leaves_are ∙ ap (λ (t : Lut). t.leaves) e) (bx.0 ∙ sym by.0)
-heads_of x y xs ys p ax ay bx by h k (inr i) (inl e) =
-    absurd (let a : y.lit.0 < h.by.lit.0 = ay.0 h.by i in let b : h.by.lit.0 ≡ x.lit.0 = h.lit_is in let c : k.by.lit.0 ≡ x.lit.0 = ap (λ (t : Lut). t.lit.0) e in let d : k.by.lit.0 ≡ y.lit.0 = k.lit_is in omega arith)
-heads_of x y xs ys p ax ay bx by h k (inr i) (inr j) =
-    absurd (let a : y.lit.0 < h.by.lit.0 = ay.0 h.by i in let b : h.by.lit.0 ≡ x.lit.0 = h.lit_is in let c : x.lit.0 < k.by.lit.0 = ax.0 k.by j in let d : k.by.lit.0 ≡ y.lit.0 = k.lit_is in omega arith)
+heads_of x y xs ys p ax ay bx by h k (inr i) (inl e) = grind arith
+heads_of x y xs ys p ax ay bx by h k (inr i) (inr j) = grind arith
 
 -- and the others match again
 tail_matches : (x y : Lut) (xs ys : List Lut) → x ≡ y → AscendByLit (x ∷ xs) → Matches (x ∷ xs) (y ∷ ys) → Matches xs ys
-tail_matches x y xs ys same ax m t i =
-    let h = m t (inr i) in
-    elim h.in' [
-      | inl e ↦ absurd (let a : x.lit.0 < t.lit.0 = ax.0 t i in let b : h.by.lit.0 ≡ t.lit.0 = h.lit_is in let c : h.by.lit.0 ≡ y.lit.0 = ap (λ (u : Lut). u.lit.0) e in let d : x.lit.0 ≡ y.lit.0 = ap (λ (u : Lut). u.lit.0) same in omega arith)
-      | inr j ↦ record { by = h.by; in' = j; lit_is = h.lit_is; leaves_are = h.leaves_are }
-    ]
+tail_matches x y xs ys same ax m t i = grind arith
 
 lists_same : (xs ys : List Lut) (p : ℕ) → AscendByLit xs → AscendByLit ys → HaveBases p xs → HaveBases p ys → Matches xs ys → Matches ys xs → xs ≡ ys
 lists_same [] [] p ax ay bx by m n = refl

@@ -1,15 +1,7 @@
 -- The chosen cuts: the rule in its own words, and that they are a cover of the least depth.
-use Rattle.cover_pick.proofs.Common.{ltb, ◌≡◌, ℕ, zero, suc, ◌*◌, ◌/◌, ◌<◌, ◌≤◌, List, [], ◌∷◌, length, Option, Some, None, IsSome, refl, sym, ap, ◌∙◌, subst, inl, inr, arith, get_or, get_or_past, cases_lt, ltb-true, ltb-false, Aig, first_and, node_count, IsAnd, AreNormal, Lit, In, AreMinimal, AreLabels, IsCutTable, IsCover, HasDepth, source, free, table, RootsWithin, AreRows, row_at, choose, lits_of, AreRoots}
-use Rattle.cover_pick.specs.Target.{target}
-use Rattle.cover_pick.specs.declared.rule.Rule.{Rule}
-use Rattle.cover_pick.specs.Flow.{flow_at}
-use Rattle.cover_pick.specs.Sharing.{IsNeededAbove}
-use Rattle.cover_pick.specs.Schedule.{IsRuled}
+use Rattle.cover_pick.proofs.Common.{ltb, ◌≡◌, ℕ, zero, suc, ◌*◌, ◌/◌, ◌<◌, ◌≤◌, List, [], ◌∷◌, length, Option, Some, None, IsSome, refl, sym, ap, ◌∙◌, subst, inl, inr, arith, get_or, get_or_past, cases_lt, ltb-true, ltb-false, Aig, first_and, node_count, IsAnd, AreNormal, Lit, In, AreMinimal, AreLabels, IsCutTable, IsCover, HasDepth, source, free, table, RootsWithin, AreRows, row_at, choose, lits_of, AreRoots, target, Rule, flow_at, IsNeededAbove, IsRuled, cut_of, cuts_of, found_for, AreBestPlaces, cover_of, chosen, need, Chooses, cut_at, plan_of, depths_of, IsLeastCover, AreFlows, IsPlanned}
 use Rattle.cover_pick.specs.Ruled.{or_empty, found_of, choice_of}
-use Rattle.cover_pick.specs.Places.{cut_of, cuts_of, found_for, AreBestPlaces}
 use Rattle.cover_pick.proofs.PlaceLemmas.{cut_is}
-use Rattle.cover_pick.specs.Required.{cover_of, chosen, need}
-use Rattle.cover_pick.specs.Planned.{Chooses, cut_at, plan_of, depths_of, IsLeastCover, AreFlows, IsPlanned}
 use Rattle.cover_pick.proofs.RuleLemmas.{found_at, choice_keeps, walked, choice_ruled}
 use Rattle.cover_pick.proofs.WalkLemmas.{schedule_is, template_within, template_cover, target_least, depth_le_required}
 
@@ -37,17 +29,13 @@ RootsWithin-same g roots d f h e w = record { complemented = w.complemented; nod
 
 -- what the cover has at a source, and at an AND node
 cover_source : (g : Aig) (choice : ℕ → ℕ → List ℕ) (reqs : List (Option ℕ)) (n : ℕ) → n < first_and g → cover_of g choice reqs n ≡ None
-cover_source g choice reqs n l =
-    choose (λ o. o ≡ None) (ltb n (first_and g)) None (chosen choice n (need reqs n)) (λ _. refl) (λ b. absurd (let c : first_and g ≤ n = ltb-false n (first_and g) b in omega arith))
+cover_source g choice reqs n l = grind arith
 
 cover_node : (g : Aig) (choice : ℕ → ℕ → List ℕ) (reqs : List (Option ℕ)) (n : ℕ) → first_and g ≤ n → cover_of g choice reqs n ≡ chosen choice n (need reqs n)
-cover_node g choice reqs n l =
-    choose (λ o. o ≡ chosen choice n (need reqs n)) (ltb n (first_and g)) None (chosen choice n (need reqs n)) (λ b. absurd (let c : n < first_and g = ltb-true n (first_and g) b in omega arith)) (λ _. refl)
+cover_node g choice reqs n l = grind arith
 
 cover_past : (g : Aig) (choice : ℕ → ℕ → List ℕ) (reqs : List (Option ℕ)) (n : ℕ) → length reqs ≡ node_count g → node_count g ≤ n → cover_of g choice reqs n ≡ None
-cover_past g choice reqs n e l =
-    choose (λ o. o ≡ None) (ltb n (first_and g)) None (chosen choice n (need reqs n)) (λ _. refl)
-    (λ _. subst (λ o. chosen choice n o ≡ None) (sym (get_or_past reqs n None (omega arith))) refl)
+cover_past g choice reqs n e l = grind (arith, ltb, get_or_past)
 
 -- the facts of a plan, of which the table's number k and the labels are given
 module _ (rule : Rule) (g : Aig) (rows : List (List (List ℕ))) (label : ℕ → ℕ) (roots flows : List ℕ) (inside : (l : ℕ) → In roots l → l / 2 < node_count g) (labels : AreLabels g (row_at rows) label) where

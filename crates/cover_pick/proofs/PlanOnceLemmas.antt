@@ -1,11 +1,6 @@
 -- A graph has one plan by some flows for its table, labels and roots.
-use Rattle.cover_pick.proofs.Common.{◌≡◌, ℕ, zero, suc, ◌+◌, ◌-◌, ◌<◌, ◌≤◌, List, Option, Some, None, refl, sym, ap, ◌∙◌, subst, inl, inr, arith, same_Some, none-some, false≢true, Aig, node_count, IsAnd, In, row_at, lex_trans, lex-same, before_trans, before-same, IsCutTable}
-use Rattle.cover_pick.specs.declared.rule.Rule.{Rule}
-use Rattle.cover_pick.specs.declared.rule.Rule.TheVariants.{FewestLeaves, LeastCost}
-use Rattle.cover_pick.specs.Target.{target}
+use Rattle.cover_pick.proofs.Common.{◌≡◌, ℕ, zero, suc, ◌+◌, ◌-◌, ◌<◌, ◌≤◌, List, Option, Some, None, refl, sym, ap, ◌∙◌, subst, inl, inr, arith, same_Some, none-some, false≢true, Aig, node_count, IsAnd, In, row_at, lex_trans, lex-same, before_trans, before-same, IsCutTable, Rule, FewestLeaves, LeastCost, target, AtMost, IsRuled, HasRuled, IsPlanBy, IsNeededAbove, IsCheaper, less, earlier}
 use Rattle.cover_pick.specs.Choice.{Precedes, fewer, lower, before, IsChosen}
-use Rattle.cover_pick.specs.Schedule.{AtMost, IsRuled, HasRuled, IsPlanBy}
-use Rattle.cover_pick.specs.Sharing.{IsNeededAbove, IsCheaper, less, earlier}
 use Rattle.cover_pick.proofs.SharingLemmas.{above_same, cost_moved}
 
 -- two cuts of which each is chosen before the other are the same
@@ -56,8 +51,7 @@ module _ (rule : Rule) (g : Aig) (rows : List (List (List ℕ))) (label : ℕ �
   leaf_below reqs cover p n r m c e at i =
       let h : HasRuled rule flow (IsNeededAbove roots cover n) label r (row_at rows n) (cover n) = p.chosen n r e in
       let and : IsAnd g n = p.schedule.nodes n r e in
-      let same : h.cut ≡ c = same_Some h.cut c (sym h.is ∙ at) in
-      (((t.are.each n and.1 and).only h.cut (ruled_one rule flow (IsNeededAbove roots cover n) label r (row_at rows n) h.cut h.best)).cut.below m (subst (λ x. In x m) (sym same) i)).0
+      (((t.are.each n and.1 and).only h.cut (ruled_one rule flow (IsNeededAbove roots cover n) label r (row_at rows n) h.cut h.best)).cut.below m (subst (λ x. In x m) (sym (same_Some h.cut c (sym h.is ∙ at))) i)).0
 
   -- where two plans agree above a node, the one has no greater depth there
   depth_most : (reqs other : ℕ → Option ℕ) (cover more : ℕ → Option (List ℕ)) → IsPlanBy rule g rows label roots flow reqs cover → IsPlanBy rule g rows label roots flow other more
@@ -68,8 +62,7 @@ module _ (rule : Rule) (g : Aig) (rows : List (List (List ℕ))) (label : ℕ �
         | inl f ↦ (let a : AtMost (other n) (target g label roots) = subst (λ m. AtMost (other m) (target g label roots)) f.node (q.schedule.root f.root f.is_root (subst (λ m. IsAnd g m) (sym f.node) and)) in subst (λ d. AtMost (other n) d) (sym f.is) a)
         | inr f ↦ (
             let same = above f.reader (leaf_below reqs cover p f.reader f.depth n f.cut f.needed f.chosen f.leaf) in
-            let a : AtMost (other n) (f.depth - 1) = q.schedule.leaf f.reader f.depth n f.cut (sym same.depth ∙ f.needed) (sym same.cut ∙ f.chosen) f.leaf and in
-            subst (λ d. AtMost (other n) d) (sym f.is) a)
+            subst (λ d. AtMost (other n) d) (sym f.is) (q.schedule.leaf f.reader f.depth n f.cut (sym same.depth ∙ f.needed) (sym same.cut ∙ f.chosen) f.leaf and))
       ]
 
   module _ (reqs other : ℕ → Option ℕ) (cover more : ℕ → Option (List ℕ)) (p : IsPlanBy rule g rows label roots flow reqs cover) (q : IsPlanBy rule g rows label roots flow other more) where

@@ -3,13 +3,8 @@
 -- Its sources are the inputs 1 to 4. Nodes 6 and 7 read node 5, node 8 reads node 7 and is the root; node 6 is not needed. The
 -- first round shares node 5 between its two readers, and takes it as a leaf of node 8. The cover uses it once, so in the
 -- second round it costs twice as much, and node 8 takes node 7 as a leaf. The second cover costs as much as the first one.
-use Rattle.cover_pick.proofs.Common.{◌≡◌, ℕ, ◌≤◌, cond, eqb, List, [], ◌∷◌, Some, None, refl, sym, subst, inl, inr, arith, Aig, Regular, pair, label_at}
-use Rattle.cover_pick.specs.declared.scope.Scope.TheVariants.{AnyHeight, LeastHeight}
-use Rattle.cover_pick.specs.Flow.{fan_out, flow_at}
-use Rattle.cover_pick.specs.Allowed.{allowed, flows_by}
-use Rattle.cover_pick.specs.Uses.{uses, cost_of}
+use Rattle.cover_pick.proofs.Common.{◌≡◌, ℕ, ◌≤◌, cond, eqb, List, [], ◌∷◌, Some, None, refl, sym, subst, inl, inr, arith, Aig, Regular, pair, label_at, AnyHeight, LeastHeight, fan_out, flow_at, allowed, flows_by, uses, cost_of, PlanValue, IsFirst}
 use Rattle.cover_pick.specs.Sharing.{free as free_leaf, new, IsCost}
-use Rattle.cover_pick.specs.Rounds.{PlanValue, IsFirst}
 
 abbrev pub fork : Aig
 fork = record { kinds = Regular ∷ Regular ∷ Regular ∷ Regular ∷ []; pairs = pair 5 8 ∷ pair 4 10 ∷ pair 2 10 ∷ pair 7 15 ∷ []; max = 4 }

@@ -1,18 +1,5 @@
 -- The rounds that are made are rounds by their own words, and the flows that are found are those of the first plan of the least cost.
-use Rattle.cover_pick.proofs.Common.{◌≡◌, ℕ, ◌/◌, ◌<◌, ◌≤◌, cond, ltb, Bool, true, false, List, [], ◌∷◌, ◌++◌, Option, refl, sym, ap, ◌∙◌, subst, inl, inr, arith, ltb-true, ltb-false, Aig, first_and, node_count, AreNormal, In, In-append, choose, choose_one, row_at, AreLabels, IsCutTable}
-use Rattle.cover_pick.specs.declared.rule.Rule.{Rule}
-use Rattle.cover_pick.specs.declared.rule.Rule.TheVariants.{FewestLeaves, LeastCost}
-use Rattle.cover_pick.specs.declared.scope.Scope.{Scope}
-use Rattle.cover_pick.specs.declared.scope.Scope.TheVariants.{AnyHeight, LeastHeight}
-use Rattle.cover_pick.specs.Flow.{flow_at, fan_out}
-use Rattle.cover_pick.specs.Allowed.{allowed, flows_by}
-use Rattle.cover_pick.specs.Schedule.{IsPlanBy}
-use Rattle.cover_pick.specs.Uses.{uses, cost_of}
-use Rattle.cover_pick.specs.Counts.{AreCounted, count_at, AreLeaves, AreUsed}
-use Rattle.cover_pick.specs.Rounds.{PlanValue, AreRounds, NoneBelow, IsFirst}
-use Rattle.cover_pick.specs.Plan.{IsPlan}
-use Rattle.cover_pick.specs.Planned.{and_depths, depths_of, plan_of, AreFlows, cut_at, IsPlanned}
-use Rattle.cover_pick.specs.Rounded.{plan_by, next_flows, cost_by, cheaper_flows, three_rounds, least_flows, flows_for}
+use Rattle.cover_pick.proofs.Common.{◌≡◌, ℕ, ◌/◌, ◌<◌, ◌≤◌, cond, ltb, Bool, true, false, List, [], ◌∷◌, ◌++◌, Option, refl, sym, ap, ◌∙◌, subst, inl, inr, arith, ltb-true, ltb-false, Aig, first_and, node_count, AreNormal, In, In-append, choose, choose_one, row_at, AreLabels, IsCutTable, Rule, FewestLeaves, LeastCost, Scope, AnyHeight, LeastHeight, flow_at, fan_out, allowed, flows_by, IsPlanBy, uses, cost_of, AreCounted, count_at, AreLeaves, AreUsed, PlanValue, AreRounds, NoneBelow, IsFirst, IsPlan, and_depths, depths_of, plan_of, AreFlows, cut_at, IsPlanned, plan_by, next_flows, cost_by, cheaper_flows, three_rounds, least_flows, flows_for}
 use Rattle.cover_pick.proofs.FlowLemmas.{flows_same, flows_fit, no_flows_fit}
 use Rattle.cover_pick.proofs.CountLemmas.{counted_all}
 use Rattle.cover_pick.proofs.UsesLemmas.{uses_same, cost_same}

@@ -1,15 +1,5 @@
 -- A graph has one plan of each rule for its table, labels and roots: rounds from the same counts on agree plan by plan, so the first ones of the least cost do.
-use Rattle.cover_pick.proofs.Common.{◌≡◌, ℕ, ◌<◌, ◌≤◌, List, [], ◌∷◌, ◌++◌, length, Option, refl, sym, ap, ◌∙◌, subst, inl, inr, arith, Aig, node_count, IsCutTable}
-use Rattle.cover_pick.specs.declared.rule.Rule.{Rule}
-use Rattle.cover_pick.specs.declared.rule.Rule.TheVariants.{FewestLeaves, LeastCost}
-use Rattle.cover_pick.specs.declared.scope.Scope.{Scope}
-use Rattle.cover_pick.specs.declared.scope.Scope.TheVariants.{AnyHeight, LeastHeight}
-use Rattle.cover_pick.specs.Flow.{flow_at, fan_out}
-use Rattle.cover_pick.specs.Allowed.{allowed, flows_by}
-use Rattle.cover_pick.specs.Schedule.{IsPlanBy}
-use Rattle.cover_pick.specs.Uses.{uses, cost_of}
-use Rattle.cover_pick.specs.Rounds.{PlanValue, AreRounds, NoneBelow, IsFirst}
-use Rattle.cover_pick.specs.Plan.{no_flow, IsPlan}
+use Rattle.cover_pick.proofs.Common.{◌≡◌, ℕ, ◌<◌, ◌≤◌, List, [], ◌∷◌, ◌++◌, length, Option, refl, sym, ap, ◌∙◌, subst, inl, inr, arith, Aig, node_count, IsCutTable, Rule, FewestLeaves, LeastCost, Scope, AnyHeight, LeastHeight, flow_at, fan_out, allowed, flows_by, IsPlanBy, uses, cost_of, PlanValue, AreRounds, NoneBelow, IsFirst, no_flow, IsPlan, rules}
 use Rattle.cover_pick.proofs.FlowLemmas.{flows_same}
 use Rattle.cover_pick.proofs.UsesLemmas.{uses_same, cost_same}
 use Rattle.cover_pick.proofs.PlanOnceLemmas.{depths_once, cuts_once}
@@ -50,10 +40,7 @@ module _ (g : Aig) where
   none_first [] [] a v none q f = absurd f
   none_first [] (y ∷ qs) a v none q f = absurd a
   none_first (x ∷ ps) [] a v none q f = absurd a
-  none_first (x ∷ ps) (y ∷ qs) a v none q (inl f) =
-      let low : v ≤ cost_of g x.cover = none x (inl refl) in
-      let same : cost_of g x.cover ≡ cost_of g y.cover = costs_same x y a.0 in
-      let is : cost_of g q.cover ≡ cost_of g y.cover = ap (λ (u : PlanValue). cost_of g u.cover) f.0 in omega arith
+  none_first (x ∷ ps) (y ∷ qs) a v none q (inl f) = grind arith
   none_first (x ∷ ps) (y ∷ qs) a v none q (inr f) = none_first ps qs a.1 v (λ r i. none r (inr i)) q f.1
 
   first_once : (ps qs : List PlanValue) → Agree ps qs → (p q : PlanValue) → IsFirst g p ps → IsFirst g q qs → SamePlan p q

@@ -1,16 +1,6 @@
 -- What is found by a rule: a cut of the node that is low enough, wherever there is one, and the one that the rule's own words tell.
-use Rattle.cover_pick.proofs.Common.{◌≡◌, ℕ, ◌-◌, ◌+◌, ◌/◌, ◌<◌, ◌≤◌, List, length, Option, Some, None, refl, sym, ap, ◌∙◌, subst, inl, inr, ◌⊎◌, arith, none-some, cases_lt, Aig, first_and, node_count, IsAnd, In, IsOrdered, AreRows, row_at, height, AreLabels}
-use Rattle.cover_pick.specs.declared.rule.Rule.{Rule}
-use Rattle.cover_pick.specs.declared.rule.Rule.TheVariants.{FewestLeaves, LeastCost}
-use Rattle.cover_pick.specs.Flow.{flow_at}
-use Rattle.cover_pick.specs.Sharing.{IsNeededAbove}
-use Rattle.cover_pick.specs.Schedule.{IsRuled}
-use Rattle.cover_pick.specs.Target.{target}
-use Rattle.cover_pick.specs.Cheapest.{cut_cost}
-use Rattle.cover_pick.specs.Required.{need, walk_by, met_at, roots_required, cover_of}
+use Rattle.cover_pick.proofs.Common.{◌≡◌, ℕ, ◌-◌, ◌+◌, ◌/◌, ◌<◌, ◌≤◌, List, length, Option, Some, None, refl, sym, ap, ◌∙◌, subst, inl, inr, ◌⊎◌, arith, none-some, cases_lt, Aig, first_and, node_count, IsAnd, In, IsOrdered, AreRows, row_at, height, AreLabels, Rule, FewestLeaves, LeastCost, flow_at, IsNeededAbove, IsRuled, target, cut_cost, need, walk_by, met_at, roots_required, cover_of, AreBestPlaces, Chooses, depths_of, AreFlows}
 use Rattle.cover_pick.specs.Ruled.{or_empty, found_in, choice_by, found_from, found_of, choice_of}
-use Rattle.cover_pick.specs.Places.{AreBestPlaces}
-use Rattle.cover_pick.specs.Planned.{Chooses, depths_of, AreFlows}
 use Rattle.cover_pick.proofs.ChoiceLemmas.{best_is, best_in, best_low, best_found}
 use Rattle.cover_pick.proofs.CheapestLemmas.{cheapest_found, cheapest_in, cheapest_low}
 use Rattle.cover_pick.proofs.SharingLemmas.{cheapest_is, above_same}
@@ -58,7 +48,6 @@ module _ (rule : Rule) (g : Aig) (rows : List (List (List ℕ))) (label : ℕ �
   pub found_at : AreLabels g (row_at rows) label → (n r : ℕ) → IsAnd g n → label n ≤ r → Found rule label flows (state_of n) (row_at rows n) r
   found_at labels n r and l =
       let m = labels.met n and in
-      let h : label n ≡ height label m.0 = m.2 in
       found_there rule label flows (state_of n) (row_at rows n) r m.0 m.1 (omega arith)
 
   -- the choice is one of the cuts, low enough, wherever the label is
@@ -110,10 +99,4 @@ module _ (rule : Rule) (g : Aig) (rows : List (List (List ℕ))) (label : ℕ �
 pub places_chosen : (rule : Rule) (g : Aig) (rows : List (List (List ℕ))) (label : ℕ → ℕ) (roots flows : List ℕ) (start last places : List (Option ℕ)) → start ≡ roots_required g roots (target g label roots)
     → last ≡ walk_by (choice_by rule rows label flows) (first_and g) (length g.pairs) start → AreBestPlaces g rows (found_from rule g rows label flows start) last (first_and g) places
     → AreBestPlaces g rows (found_of rule g rows label roots flows) (depths_of rule g rows label roots flows) (first_and g) places
-places_chosen rule g rows label roots flows start last places from walk are =
-    let end : last ≡ depths_of rule g rows label roots flows =
-    walk
-    ∙ (ap (λ s. walk_by (choice_by rule rows label flows) (first_and g) (length g.pairs) s) from
-    ∙ sym (walk_same (choice_by rule rows label flows) (first_and g) (choice_of rule g rows label roots flows) (length g.pairs) (roots_required g roots (target g label roots)) (λ j r l. refl))) in
-    subst (λ s. AreBestPlaces g rows (found_of rule g rows label roots flows) s (first_and g) places) end
-    (subst (λ s. AreBestPlaces g rows (found_from rule g rows label flows s) last (first_and g) places) from are)
+places_chosen rule g rows label roots flows start last places from walk are = grind (arith, walk_same)

@@ -1,9 +1,6 @@
 -- A search reaches exactly the cone of its top, each node once.
-use Rattle.cover_pick.proofs.Common.{◌≡◌, ℕ, ◌+◌, ◌/◌, ◌<◌, ◌≤◌, true, false, cond, eqb, List, [], ◌∷◌, ◌++◌, length, Some, refl, sym, ap, ◌∙◌, subst, inl, inr, ◌⊎◌, arith, get_or-set_same, get_or-set_other, slice_set, replicate, length-append, get_or-replicate, get_or_past, length-replicate, length-set, get_or-append, same_Some, cases_lt, cases_eq, eqb-true, eqb-false, both_ways, Aig, first_and, node_count, IsAnd, pair_of, IsNormal, AreNormal, Pair, In, In-get_or, In-left, In-push, In-pushed, choose}
+use Rattle.cover_pick.proofs.Common.{◌≡◌, ℕ, ◌+◌, ◌/◌, ◌<◌, ◌≤◌, true, false, cond, eqb, List, [], ◌∷◌, ◌++◌, length, Some, refl, sym, ap, ◌∙◌, subst, inl, inr, ◌⊎◌, arith, get_or-set_same, get_or-set_other, slice_set, replicate, length-append, get_or-replicate, get_or_past, length-replicate, length-set, get_or-append, same_Some, cases_lt, cases_eq, eqb-true, eqb-false, both_ways, Aig, first_and, node_count, IsAnd, pair_of, IsNormal, AreNormal, Pair, In, In-get_or, In-left, In-push, In-pushed, choose, is_stop, cone_of, IsInner, Path, here, left, right, IsCone, SearchValue, stamp_at, reach}
 use Rattle.std.specs.List.{IsDistinct}
-use Rattle.cover_pick.specs.Cone.{is_stop, cone_of}
-use Rattle.cover_pick.specs.Work.{IsInner, Path, here, left, right, IsCone}
-use Rattle.cover_pick.specs.Search.{SearchValue, stamp_at, reach}
 use Rattle.cover_pick.proofs.MemberLemmas.{In-place, distinct_push, distinct_descending, length_same, length_below}
 use Rattle.cover_pick.proofs.WorkLemmas.{stop_inner, inner_stop, cone_is, past_sources}
 

@@ -1,9 +1,6 @@
 -- The cost that is summed is the cost by its own words, so the cut that is found is the cheapest.
-use Rattle.cover_pick.proofs.Common.{◌≡◌, ℕ, ◌+◌, ◌^◌, ◌<◌, List, [], ◌∷◌, length, Option, Some, None, refl, sym, ◌∙◌, subst, inl, inr, ◌⊎◌, arith, sum_by, sum_by-cons, none-some, cases_eq, IsOrdered}
-use Rattle.cover_pick.specs.Flow.{flow_at}
+use Rattle.cover_pick.proofs.Common.{◌≡◌, ℕ, ◌+◌, ◌^◌, ◌<◌, List, [], ◌∷◌, length, Option, Some, None, refl, sym, ◌∙◌, subst, inl, inr, ◌⊎◌, arith, sum_by, sum_by-cons, none-some, cases_eq, IsOrdered, flow_at, cost_where, leaf_cost, cut_cost, cheapest, need}
 use Rattle.cover_pick.specs.Sharing.{IsNeededAbove, root, leaf, IsLeafCost, shared, free, new, AreLeafCosts, IsCost, IsCheaper, IsCheapest}
-use Rattle.cover_pick.specs.Cheapest.{cost_where, leaf_cost, cut_cost, cheapest}
-use Rattle.cover_pick.specs.Required.{need}
 use Rattle.cover_pick.proofs.CheapestLemmas.{cheapest_in, cheapest_low, cheapest_first}
 
 -- covers that agree need the same
@@ -60,9 +57,7 @@ module _ (flows : List ℕ) (reqs : List (Option ℕ)) (needed : ℕ → Type 0)
   cost_is c = record { leaves = sum_by (leaf_cost flows reqs) c; are = leaves_are c; is = refl }
 
   pub cost_only : (c : List ℕ) (cost : ℕ) → IsCost (flow_at flows) needed c cost → cost ≡ cut_cost flows reqs c
-  cost_only c cost a =
-      let leaves : a.leaves ≡ sum_by (leaf_cost flows reqs) c = leaves_only c a.leaves a.are in
-      let all : cost ≡ 2 ^ length c + a.leaves = a.is in omega arith
+  cost_only c cost a = grind (arith, leaves_only)
 
   -- The cut that is found is the cheapest.
   pub cheapest_is : (label : ℕ → ℕ) (r : ℕ) (row : List (List ℕ)) (c : List ℕ) → IsOrdered row → cheapest (cut_cost flows reqs) label r None row ≡ Some c → IsCheapest (flow_at flows) needed label r row c

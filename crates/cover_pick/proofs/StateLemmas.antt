@@ -1,6 +1,5 @@
 -- The walk by a choice that sees what is needed so far is the walk by what that choice finds when it comes to each node.
-use Rattle.cover_pick.proofs.Common.{◌≡◌, ℕ, zero, suc, ◌+◌, ◌-◌, ◌<◌, eqb, List, Option, Some, None, refl, sym, ap, ◌∙◌, arith, eqb-true, eqb-false, choose}
-use Rattle.cover_pick.specs.Required.{need, require_each, visit, walk, walk_by, met_at}
+use Rattle.cover_pick.proofs.Common.{◌≡◌, ℕ, zero, suc, ◌+◌, ◌-◌, ◌<◌, eqb, List, Option, Some, None, refl, sym, ap, ◌∙◌, arith, eqb-true, eqb-false, choose, need, require_each, visit, walk, walk_by, met_at}
 
 -- a node is taken in the same way by two choices that are the same there
 pub visit_same : (choice other : ℕ → ℕ → List ℕ) (n : ℕ) (o : Option ℕ) (reqs : List (Option ℕ)) → ((r : ℕ) → choice n r ≡ other n r) → visit choice n o reqs ≡ visit other n o reqs
@@ -14,14 +13,10 @@ module _ (by : List (Option ℕ) → ℕ → ℕ → List ℕ) (first : ℕ) whe
 
   -- what is needed at the last of the nodes that are left, and at the others
   pub met_here : (k : ℕ) (reqs : List (Option ℕ)) → met_at by first (suc k) reqs (first + k) ≡ reqs
-  met_here k reqs =
-      choose (λ s. s ≡ reqs) (eqb (first + k) (first + k)) reqs (met_at by first k (visit (by reqs) (first + k) (need reqs (first + k)) reqs) (first + k))
-      (λ _. refl) (λ t. absurd (eqb-false (first + k) (first + k) t refl))
+  met_here k reqs = grind arith
 
   pub met_next : (k j : ℕ) (reqs : List (Option ℕ)) → j < k → met_at by first (suc k) reqs (first + j) ≡ met_at by first k (visit (by reqs) (first + k) (need reqs (first + k)) reqs) (first + j)
-  met_next k j reqs l =
-      let next : List (Option ℕ) = met_at by first k (visit (by reqs) (first + k) (need reqs (first + k)) reqs) (first + j) in
-      choose (λ s. s ≡ next) (eqb (first + j) (first + k)) reqs next (λ t. absurd (let e : first + j ≡ first + k = eqb-true (first + j) (first + k) t in omega arith)) (λ _. refl)
+  met_next k j reqs l = grind arith
 
   pub agrees_next : (choice : ℕ → ℕ → List ℕ) (k : ℕ) (reqs : List (Option ℕ)) → Agrees choice (suc k) reqs → Agrees choice k (visit (by reqs) (first + k) (need reqs (first + k)) reqs)
   agrees_next choice k reqs a j r l = a j r (omega arith) ∙ ap (λ s. by s (first + j) r) (met_next k j reqs l)
@@ -32,8 +27,7 @@ module _ (by : List (Option ℕ) → ℕ → ℕ → List ℕ) (first : ℕ) whe
 
   pub walk_same : (choice : ℕ → ℕ → List ℕ) (k : ℕ) (reqs : List (Option ℕ)) → Agrees choice k reqs → walk choice first k reqs ≡ walk_by by first k reqs
   walk_same choice zero reqs a = refl
-  walk_same choice (suc k) reqs a =
-      ap (λ s. walk choice first k s) (step_same choice k reqs a) ∙ walk_same choice k (visit (by reqs) (first + k) (need reqs (first + k)) reqs) (agrees_next choice k reqs a)
+  walk_same choice (suc k) reqs a = grind (arith, step_same, agrees_next, walk_same choice k (visit (by reqs) (first + k) (need reqs (first + k)) reqs) (agrees_next choice k reqs a))
 
 -- one node of the walk
 pub walk_step : (by : List (Option ℕ) → ℕ → ℕ → List ℕ) (first m j n : ℕ) (reqs next : List (Option ℕ)) → m ≡ suc j → n ≡ first + j → next ≡ visit (by reqs) n (need reqs n) reqs → walk_by by first j next ≡ walk_by by first m reqs

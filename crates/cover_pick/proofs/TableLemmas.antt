@@ -1,13 +1,6 @@
 -- The LUTs that are made are those of the needed literals, with their bases, bits and work.
-use Rattle.cover_pick.proofs.Common.{◌≡◌, ℕ, zero, suc, ◌+◌, ◌*◌, ◌^◌, ◌<◌, ◌≤◌, Bool, true, false, List, [], ◌∷◌, ◌++◌, length, Option, Some, None, refl, sym, ap, ◌∙◌, subst, inl, inr, ◌⊎◌, arith, get_or, slice_set, get_or-set_same, get_or-set_other, replicate, drop, mul-le-mul, length-set, length-replicate, get_or-replicate, get_or_past, sum_by_push, sum_by-cons, same_Some, none-some, cases_lt, cases_eq, false≢true, Aig, node_count, In, MOST_LEAVES, In-left, In-push, In-pushed, OrMemory}
-use Rattle.cover_pick.specs.Refusals.{refusal_of}
-use Rattle.cover_pick.specs.declared.limits.TheConstants.{MOST_WORK}
-use Rattle.cover_pick.specs.declared.lut.PickErr.{PickErr}
-use Rattle.cover_pick.specs.declared.lut.PickErr.TheVariants.{Work, Memory}
-use Rattle.cover_pick.specs.declared.lut.Lut.{Lut}
-use Rattle.cover_pick.specs.Mapping.{HaveBases, AscendByLit, bits_of}
+use Rattle.cover_pick.proofs.Common.{◌≡◌, ℕ, zero, suc, ◌+◌, ◌*◌, ◌^◌, ◌<◌, ◌≤◌, Bool, true, false, List, [], ◌∷◌, ◌++◌, length, Option, Some, None, refl, sym, ap, ◌∙◌, subst, inl, inr, ◌⊎◌, arith, get_or, slice_set, get_or-set_same, get_or-set_other, replicate, drop, mul-le-mul, length-set, length-replicate, get_or-replicate, get_or_past, sum_by_push, sum_by-cons, same_Some, none-some, cases_lt, cases_eq, false≢true, Aig, node_count, In, MOST_LEAVES, In-left, In-push, In-pushed, OrMemory, refusal_of, MOST_WORK, PickErr, Work, Memory, Lut, HaveBases, AscendByLit, bits_of, table_work, work_of, rules}
 use Rattle.cover_pick.specs.Marks.{mark_at, mark_each, mark_leaves, mark_cut, mark_cuts, marks_of, IsMarked, root, leaf, leaves_of, Made, add_table, add_marked, tables_from, tables_of, AreMade}
-use Rattle.cover_pick.specs.Cone.{table_work, work_of}
 
 -- a write
 mark_same : (xs : List Bool) (n : ℕ) → n < length xs → mark_at (slice_set xs n true) n ≡ true
@@ -54,11 +47,7 @@ leaves_in (x ∷ ms) xs m (inr i) b = leaves_in ms (slice_set xs (2 * x) true) m
 
 leaves_from : (ms : List ℕ) (xs : List Bool) (l : ℕ) → mark_at (mark_leaves xs ms) l ≡ true → ((m : ℕ) × In ms m × (l ≡ 2 * m)) ⊎ (mark_at xs l ≡ true)
 leaves_from [] xs l h = inr h
-leaves_from (x ∷ ms) xs l h =
-    elim (leaves_from ms (slice_set xs (2 * x) true) l h) [
-      | inl r ↦ inl (r.0, inr r.1, r.2)
-      | inr b ↦ elim (mark_from xs (2 * x) l b) [ inl e ↦ inl (x, inl refl, e) | inr c ↦ inr c ]
-    ]
+leaves_from (x ∷ ms) xs l h = search (rules, slice_set, mark_from, leaves_from ms (slice_set xs (2 * x) true) l h)
 
 leaves_length : (ms : List ℕ) (xs : List Bool) → length (mark_leaves xs ms) ≡ length xs
 leaves_length [] xs = refl
@@ -87,11 +76,7 @@ cut_from (Some c) xs l h = elim (leaves_from c xs l h) [ inl r ↦ inl (c, r.0, 
 
 cuts_from : (os : List (Option (List ℕ))) (xs : List Bool) (l : ℕ) → mark_at (mark_cuts xs os) l ≡ true → ((c : List ℕ) × (m : ℕ) × In os (Some c) × In c m × (l ≡ 2 * m)) ⊎ (mark_at xs l ≡ true)
 cuts_from [] xs l h = inr h
-cuts_from (o ∷ os) xs l h =
-    elim (cuts_from os (mark_cut xs o) l h) [
-      | inl r ↦ inl (r.0, r.1, inr r.2, r.3, r.4)
-      | inr b ↦ elim (cut_from o xs l b) [ inl r ↦ inl (r.0, r.1, inl r.2, r.3, r.4) | inr d ↦ inr d ]
-    ]
+cuts_from (o ∷ os) xs l h = search (rules, cut_from, cuts_from os (mark_cut xs o) l h)
 
 -- The marked literals are the needed ones.
 pub marked_needed : (g : Aig) (roots : List ℕ) (cuts : List (Option (List ℕ))) (l : ℕ) → mark_at (marks_of g roots cuts) l ≡ true → IsMarked roots cuts l
@@ -109,12 +94,8 @@ marked_needed g roots cuts l h =
 
 pub needed_marked : (g : Aig) (roots : List ℕ) (cuts : List (Option (List ℕ))) (l : ℕ) → ((c : List ℕ) (m : ℕ) → In cuts (Some c) → In c m → m < node_count g) → ((l : ℕ) → In roots l → l < 2 * node_count g)
     → IsMarked roots cuts l → mark_at (marks_of g roots cuts) l ≡ true
-needed_marked g roots cuts l inside lits (root i) =
-    cuts_stay cuts (mark_each (replicate (2 * node_count g) false) roots) l (each_in roots (replicate (2 * node_count g) false) l i (rw (length-replicate (2 * node_count g) false) (lits l i)))
-needed_marked g roots cuts l inside lits (leaf c m i j e) =
-    let b : m < node_count g = inside c m i j in
-    let s : length (mark_each (replicate (2 * node_count g) false) roots) ≡ 2 * node_count g = each_length roots (replicate (2 * node_count g) false) ∙ length-replicate (2 * node_count g) false in
-    rw e (cuts_in cuts (mark_each (replicate (2 * node_count g) false) roots) c m i j (rw s (omega arith)))
+needed_marked g roots cuts l inside lits (root i) = grind (arith, cuts_stay, each_in, length-replicate)
+needed_marked g roots cuts l inside lits (leaf c m i j e) = grind (arith, each_length, length-replicate, cuts_in)
 
 ascend_push : (ts : List Lut) (x : Lut) → AscendByLit ts → ((t : Lut) → In ts t → t.lit.0 < x.lit.0) → AscendByLit (ts ++ x ∷ [])
 ascend_push [] x a b = ((λ u i. absurd i), tt)
@@ -127,18 +108,7 @@ bases_push (y ∷ ts) x b h e = (h.0, bases_push ts x (b + 2 ^ length y.leaves) 
 
 module _ (g : Aig) (cuts : List (Option (List ℕ))) (S : ℕ → Type 0) where
   skip_are : (l : ℕ) (made : Made) → AreMade g cuts S l made → ((c : List ℕ) → S l → leaves_of g cuts l ≡ Some c → ⊥) → AreMade g cuts S (l + 1) made
-  skip_are l made a none = record {
-    below = λ t i. let b : t.lit.0 < l = a.below t i in omega arith;
-    only = a.only;
-    all = λ m c b s e. elim (cases_lt m l) [
-      | inl h ↦ a.all m c h s e
-      | inr h ↦ (let q : m ≡ l = omega arith in absurd (none c (subst (λ i. S i) q s) (subst (λ i. leaves_of g cuts i ≡ Some c) q e)))
-    ];
-    ascending = a.ascending;
-    bases = a.bases;
-    sum = a.sum;
-    work = a.work;
-  }
+  skip_are l made a none = search (rules, cases_lt)
 
   add_are : (l : ℕ) (made : Made) (c : List ℕ) → AreMade g cuts S l made → S l → leaves_of g cuts l ≡ Some c → AreMade g cuts S (l + 1) (add_table g made l (Some c))
   add_are l made c a s e =
@@ -168,10 +138,7 @@ module _ (g : Aig) (cuts : List (Option (List ℕ))) (S : ℕ → Type 0) where
   tables_are [] l made a h = subst (λ i. AreMade g cuts S i made) (let e : l ≡ l + 0 = omega arith in e) a
   tables_are (m ∷ ms) l made a h =
       let z : l + 0 ≡ l = omega arith in
-      subst (λ i. AreMade g cuts S i (tables_from g cuts (add_marked g cuts made l m) (l + 1) ms)) (let e : l + 1 + length ms ≡ l + length (m ∷ ms) = omega arith in e)
-      (tables_are ms (l + 1) (add_marked g cuts made l m)
-      (marked_are l made m a (λ t. subst (λ i. S i) z ((h 0 (omega arith)).0 t)) (λ s. (h 0 (omega arith)).1 (subst (λ i. S i) (sym z) s)))
-      (λ j b. let q : l + suc j ≡ l + 1 + j = omega arith in ((λ t. subst (λ i. S i) q ((h (suc j) (omega arith)).0 t)), (λ s. (h (suc j) (omega arith)).1 (subst (λ i. S i) (sym q) s)))))
+      grind (arith, marked_are, tables_are ms (l + 1) (add_marked g cuts made l m) (marked_are l made m a (λ t. subst (λ i. S i) z ((h 0 (omega arith)).0 t)) (λ s. (h 0 (omega arith)).1 (subst (λ i. S i) (sym z) s))) (λ j b. let q : l + suc j ≡ l + 1 + j = omega arith in ((λ t. subst (λ i. S i) q ((h (suc j) (omega arith)).0 t)), (λ s. (h (suc j) (omega arith)).1 (subst (λ i. S i) (sym q) s)))))
 
   no_tables : AreMade g cuts S 0 (record { luts = []; bits = 0; work = 0 })
   no_tables = record { below = λ t i. absurd i; only = λ t i. absurd i; all = λ m c b s e. absurd (omega arith); ascending = tt; bases = tt; sum = refl; work = refl }
@@ -202,14 +169,11 @@ marked_more g cuts made l true = table_more g made l (leaves_of g cuts l)
 
 pub tables_more : (g : Aig) (cuts : List (Option (List ℕ))) (ms : List Bool) (made : Made) (l : ℕ) → made.work ≤ (tables_from g cuts made l ms).work
 tables_more g cuts [] made l = omega arith
-tables_more g cuts (m ∷ ms) made l =
-    let a : made.work ≤ (add_marked g cuts made l m).work = marked_more g cuts made l m in
-    let b : (add_marked g cuts made l m).work ≤ (tables_from g cuts (add_marked g cuts made l m) (l + 1) ms).work = tables_more g cuts ms (add_marked g cuts made l m) (l + 1) in omega arith
+tables_more g cuts (m ∷ ms) made l = grind (arith, marked_more, tables_more g cuts ms (add_marked g cuts made l m) (l + 1))
 
 -- the work of a table fits
 pub work_small : (bits size count : ℕ) → bits ≤ 2 ^ MOST_LEAVES → size ≤ count → count ≤ 2 ^ 30 → bits * (1 + size) ≤ 2 ^ 37
-work_small bits size count b s l =
-    let a : bits * (1 + size) ≤ 2 ^ MOST_LEAVES * (1 + 2 ^ 30) = mul-le-mul b (let r : 1 + size ≤ 1 + 2 ^ 30 = omega arith in r) in omega arith
+work_small bits size count b s l = grind arith
 
 drop_there : (xs : List Bool) (i : ℕ) → i < length xs → drop i xs ≡ get_or xs i false ∷ drop (suc i) xs
 drop_there [] i l = absurd (omega arith)
@@ -219,10 +183,7 @@ drop_there (x ∷ xs) (suc i) l = drop_there xs i (omega arith)
 -- where the work so far are too many, all are
 pub tables_past : (g : Aig) (cuts : List (Option (List ℕ))) (marks : List Bool) (made all : Made) (l i : ℕ) → i < length marks → tables_from g cuts made l (drop i marks) ≡ all
     → (add_marked g cuts made l (get_or marks i false)).work ≤ all.work
-tables_past g cuts marks made all l i b e =
-    let m = get_or marks i false in
-    let a : (add_marked g cuts made l m).work ≤ (tables_from g cuts (add_marked g cuts made l m) (l + 1) (drop (suc i) marks)).work = tables_more g cuts (drop (suc i) marks) (add_marked g cuts made l m) (l + 1) in
-    subst (λ x. (add_marked g cuts made l m).work ≤ x.work) (sym (ap (λ ms. tables_from g cuts made l ms) (drop_there marks i b)) ∙ e) a
+tables_past g cuts marks made all l i b e = grind (arith, tables_more, drop_there)
 
 -- where some work is too much, more is
 pub work_more : (e : PickErr) {some all : ℕ} → some ≤ all → OrMemory refusal_of (λ _. MOST_WORK < some) e → OrMemory refusal_of (λ _. MOST_WORK < all) e

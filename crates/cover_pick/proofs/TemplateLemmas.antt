@@ -1,19 +1,10 @@
 -- The depth of the chosen LUTs is the depth of the chosen cuts.
-use Rattle.cover_pick.proofs.Common.{◌≡◌, ℕ, suc, ◌-◌, ◌*◌, ◌/◌, ◌%◌, ◌<◌, ◌≤◌, cond, eqb, ltb, List, [], ◌∷◌, length, Option, Some, None, refl, sym, ap, ◌∙◌, subst, inl, inr, ◌⊎◌, arith, slice_get, get_or_past, none-some, cases_lt, eqb-true, ltb-true, Aig, first_and, node_count, IsAnd, In, IsCover, HasDepth, source, no_leaves, table, choose, IsCutTable, In-get_or}
-use Rattle.cover_pick.specs.declared.rule.Rule.{Rule}
-use Rattle.cover_pick.specs.Target.{target}
-use Rattle.cover_pick.specs.Planned.{cut_at, IsPlanned}
+use Rattle.cover_pick.proofs.Common.{◌≡◌, ℕ, suc, ◌-◌, ◌*◌, ◌/◌, ◌%◌, ◌<◌, ◌≤◌, cond, eqb, ltb, List, [], ◌∷◌, length, Option, Some, None, refl, sym, ap, ◌∙◌, subst, inl, inr, ◌⊎◌, arith, slice_get, get_or_past, none-some, cases_lt, eqb-true, ltb-true, Aig, first_and, node_count, IsAnd, In, IsCover, HasDepth, source, no_leaves, table, choose, IsCutTable, In-get_or, Rule, target, cut_at, IsPlanned, HasTable}
 use Rattle.cover_pick.specs.Marks.{leaves_of, source_leaves, Made, AreMade, IsMarked, root, leaf, IsMade}
-use Rattle.cover_pick.specs.Tables.{HasTable}
 use Rattle.cover_pick.specs.Template.{TableDepth, free, over, TablesWithin}
 
 pub leaves_and : (g : Aig) (cuts : List (Option (List ℕ))) (l : ℕ) → IsAnd g (l / 2) → leaves_of g cuts l ≡ cut_at cuts (l / 2)
-leaves_and g cuts l and =
-    let a : first_and g ≤ l / 2 = and.0 in
-    choose (λ o. o ≡ cut_at cuts (l / 2)) (eqb (l / 2) 0) (Some []) (cond (ltb (l / 2) (first_and g)) (source_leaves (slice_get g.kinds (l / 2 - 1)) (l / 2) (l % 2)) (cut_at cuts (l / 2)))
-    (λ t. absurd (let e : l / 2 ≡ 0 = eqb-true (l / 2) 0 t in omega arith))
-    (λ _. choose (λ o. o ≡ cut_at cuts (l / 2)) (ltb (l / 2) (first_and g)) (source_leaves (slice_get g.kinds (l / 2 - 1)) (l / 2) (l % 2)) (cut_at cuts (l / 2))
-    (λ t. absurd (let e : l / 2 < first_and g = ltb-true (l / 2) (first_and g) t in omega arith)) (λ _. refl))
+leaves_and g cuts l and = grind arith
 
 pub cut_in : (cuts : List (Option (List ℕ))) (n : ℕ) (c : List ℕ) → cut_at cuts n ≡ Some c → In cuts (Some c)
 cut_in cuts n c e = elim (cases_lt n (length cuts)) [
@@ -32,8 +23,7 @@ module _ (g : Aig) (k : ℕ) (roots : List ℕ) (cuts : List (Option (List ℕ))
   has_table l c and needed e = let b : l / 2 < node_count g = and.1 in tables.all l c (omega arith) needed (leaves_and g cuts l and ∙ e)
 
   table_cut : (l : ℕ) (c : List ℕ) → IsAnd g (l / 2) → HasTable made.luts l c → cut_at cuts (l / 2) ≡ Some c
-  table_cut l c and h =
-      sym (leaves_and g cuts l and) ∙ (subst (λ i. leaves_of g cuts i ≡ Some h.by.leaves) h.lit_is (tables.only h.by h.in').1 ∙ ap (λ x. Some x) h.leaves_are)
+  table_cut l c and h = grind arith
 
   leaf_and : (n m : ℕ) (c : List ℕ) → cut_at cuts n ≡ Some c → In c m → (m < first_and g) ⊎ IsAnd g m
   leaf_and n m c e i =
@@ -72,7 +62,6 @@ tables_exact rule g rows label roots made t a d w =
 -- a chosen cut's leaves are nodes
 pub leaves_inside : (rule : Rule) (g : Aig) (rows : List (List (List ℕ))) (label : ℕ → ℕ) (roots flows : List ℕ) (cuts : List (Option (List ℕ))) → IsCutTable g rows → IsPlanned rule g rows label roots flows (cut_at cuts) → (c : List ℕ) (m : ℕ) → In cuts (Some c) → In c m → m < node_count g
 leaves_inside rule g rows label roots flows cuts t plan c m i j =
-    let p = plan.least t.k t.are in
     let r = in_cut cuts c i in
-    let both = p.is.cuts r.0 c r.1 in
+    let both = (plan.least t.k t.are).is.cuts r.0 c r.1 in
     let a : r.0 < node_count g = both.0.1 in let b : m < r.0 = (both.1.below m j).0 in omega arith

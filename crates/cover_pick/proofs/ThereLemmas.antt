@@ -1,12 +1,5 @@
 -- The chosen template is there, whether it is found or not; and as there is one, each template maps the graph with the least depth.
-use Rattle.cover_pick.proofs.Common.{◌≡◌, ℕ, zero, suc, ◌+◌, ◌<◌, List, [], ◌∷◌, length, Option, refl, ap, sym, ◌∙◌, subst, arith, Aig, first_and, node_count, AreNormal, RootsValue, roots_of, AreRoots, AreRows, row_at, IsCutTable, AreLabels}
-use Rattle.cover_pick.specs.declared.rule.Rule.{Rule}
-use Rattle.cover_pick.specs.Mapping.{IsMapping, IsLeast}
-use Rattle.cover_pick.specs.Marks.{Made, IsMade, tables_of}
-use Rattle.cover_pick.specs.Planned.{cut_at, plan_of, IsPlanned}
-use Rattle.cover_pick.specs.Rounded.{flows_for}
-use Rattle.cover_pick.specs.Target.{target}
-use Rattle.cover_pick.specs.Template.{TemplateValue, IsTemplate}
+use Rattle.cover_pick.proofs.Common.{◌≡◌, ℕ, zero, suc, ◌+◌, ◌<◌, List, [], ◌∷◌, length, Option, refl, ap, sym, ◌∙◌, subst, arith, Aig, first_and, node_count, AreNormal, RootsValue, roots_of, AreRoots, AreRows, row_at, IsCutTable, AreLabels, Rule, IsMapping, IsLeast, Made, IsMade, tables_of, cut_at, plan_of, IsPlanned, flows_for, target, TemplateValue, IsTemplate, rules}
 use Rattle.cover_pick.proofs.ChosenLemmas.{template_is}
 use Rattle.cover_pick.proofs.MappingLemmas.{mapping_is, least_is}
 use Rattle.cover_pick.proofs.OnceLemmas.{template_once}
@@ -49,13 +42,7 @@ module _ (rule : Rule) (g : Aig) (rows : List (List (List ℕ))) (label : ℕ �
   made = tables_of g (roots_of roots) cuts
 
   is_made : IsMade rule g rows label (roots_of roots) made
-  is_made = record {
-    flows = flows;
-    cuts = cuts;
-    plan = planned;
-    chosen = rule_plan rule g rows label (roots_of roots) (roots_inside g (roots_of roots) lits) labels normal table (cut_at cuts) planned;
-    tables = tables_needed g (roots_of roots) cuts (leaves_inside rule g rows label (roots_of roots) flows cuts table planned) lits;
-  }
+  is_made = search (rules, flows, cuts, plan, planned, rule_plan, roots_inside, tables_needed, leaves_inside)
 
   abbrev there : TemplateValue
   there = record { luts = made.luts; outputs = roots.outputs; next = roots.next; bits = made.bits; depth = target g label (roots_of roots) }

@@ -1,13 +1,5 @@
 -- The first of the least cost of three rounds, as it is found over counted uses.
-use Rattle.cover_pick.proofs.Common.{◌≡◌, ℕ, cond, ltb, List, Option, sym, ap, ◌∙◌, subst, Aig, node_count}
-use Rattle.cover_pick.specs.declared.rule.Rule.TheVariants.{LeastCost}
-use Rattle.cover_pick.specs.declared.scope.Scope.{Scope}
-use Rattle.cover_pick.specs.Flow.{fan_out}
-use Rattle.cover_pick.specs.Allowed.{flows_by}
-use Rattle.cover_pick.specs.Uses.{cost_of}
-use Rattle.cover_pick.specs.Counts.{AreCounted, count_at, AreUsed}
-use Rattle.cover_pick.specs.Planned.{cut_at, IsPlanned}
-use Rattle.cover_pick.specs.Rounded.{next_flows, cheaper_flows, three_rounds}
+use Rattle.cover_pick.proofs.Common.{◌≡◌, ℕ, cond, ltb, List, Option, sym, ap, ◌∙◌, subst, Aig, node_count, LeastCost, Scope, fan_out, flows_by, cost_of, AreCounted, count_at, AreUsed, cut_at, IsPlanned, next_flows, cheaper_flows, three_rounds, arith}
 use Rattle.cover_pick.proofs.RoundLemmas.{three_stop, three_stop_late, fan_flows, used_flows, cheaper_planned}
 
 module _ (g : Aig) (rows : List (List (List ℕ))) (label : ℕ → ℕ) (roots : List ℕ) (scope : Scope) where

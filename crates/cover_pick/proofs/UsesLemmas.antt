@@ -1,7 +1,5 @@
 -- The uses of nodes as they are counted, and covers that agree.
-use Rattle.cover_pick.proofs.Common.{◌≡◌, ℕ, zero, suc, ◌+◌, ◌<◌, ◌≤◌, List, [], ◌∷◌, length, Option, Some, None, replicate, drop, get_or, refl, sym, ap, ◌∙◌, subst, inl, inr, arith, length-replicate, get_or-replicate, drop_more, sum_by-cons, cases_eq, eq-eqb, ne_eqb, choose_one, Aig, node_count, In, IsAscending, or_empty}
-use Rattle.cover_pick.specs.Uses.{times_in, times_leaf, uses_below, price, cost_below}
-use Rattle.cover_pick.specs.Counts.{count_at, count_one, count_each, AreLeaves, AreUsed}
+use Rattle.cover_pick.proofs.Common.{◌≡◌, ℕ, zero, suc, ◌+◌, ◌<◌, ◌≤◌, List, [], ◌∷◌, length, Option, Some, None, replicate, drop, get_or, refl, sym, ap, ◌∙◌, subst, inl, inr, arith, length-replicate, get_or-replicate, drop_more, sum_by-cons, cases_eq, eq-eqb, ne_eqb, choose_one, Aig, node_count, In, IsAscending, or_empty, times_in, times_leaf, uses_below, price, cost_below, count_at, count_one, count_each, AreLeaves, AreUsed}
 use Rattle.cover_pick.proofs.CountLemmas.{one_if, one_more, one_size}
 
 -- covers that agree use the same nodes as often, and cost the same

@@ -1,10 +1,6 @@
 -- The walk of required depths: what it keeps, and that its cuts are a cover of the least depth.
-use Rattle.cover_pick.proofs.Common.{◌≡◌, ℕ, zero, suc, ◌+◌, ◌-◌, ◌/◌, ◌<◌, ◌≤◌, min, ltb, List, [], ◌∷◌, length, Option, Some, None, IsSome, refl, sym, ap, ◌∙◌, subst, inl, inr, ◌⊎◌, arith, get_or-set_same, get_or-set_other, replicate, length-replicate, get_or-replicate, get_or_past, length-set, same_Some, none-some, cases_lt, cases_eq, ltb-true, ltb-false, Aig, first_and, node_count, IsAnd, AreNormal, Regular, source_below, In, IsCut, AreMinimal, IsCover, HasDepth, source, free, table, RootsWithin, greatest, height, AreLabels, choose}
+use Rattle.cover_pick.proofs.Common.{◌≡◌, ℕ, zero, suc, ◌+◌, ◌-◌, ◌/◌, ◌<◌, ◌≤◌, min, ltb, List, [], ◌∷◌, length, Option, Some, None, IsSome, refl, sym, ap, ◌∙◌, subst, inl, inr, ◌⊎◌, arith, get_or-set_same, get_or-set_other, replicate, length-replicate, get_or-replicate, get_or_past, length-set, same_Some, none-some, cases_lt, cases_eq, ltb-true, ltb-false, Aig, first_and, node_count, IsAnd, AreNormal, Regular, source_below, In, IsCut, AreMinimal, IsCover, HasDepth, source, free, table, RootsWithin, greatest, height, AreLabels, choose, source_level, root_level, target, need, least_of, require, require_each, visit, walk, require_root, require_roots, roots_required, required, chosen, cover_of, AtMost, FromRoot, Chooses, IsWalked, rules}
 use Rattle.depth_label.proofs.DepthLemmas.{greatest_le, label_le_depth, greatest_in}
-use Rattle.cover_pick.specs.Target.{source_level, root_level, target}
-use Rattle.cover_pick.specs.Required.{need, least_of, require, require_each, visit, walk, require_root, require_roots, roots_required, required, chosen, cover_of}
-use Rattle.cover_pick.specs.Schedule.{AtMost, FromRoot}
-use Rattle.cover_pick.specs.Planned.{Chooses, IsWalked}
 use Rattle.cover_pick.proofs.TargetLemmas.{level_complemented, level_within}
 
 -- a required depth comes from a node that was taken, one of `first` or above
@@ -42,29 +38,16 @@ least_new (Some s) r = record { by = min s r; is = refl; le = omega arith }
 
 least_from : (o : Option ℕ) (r s : ℕ) → least_of o r ≡ Some s → (o ≡ Some s) ⊎ (s ≡ r)
 least_from None r s h = inr (sym (same_Some r s h))
-least_from (Some q) r s h =
-    let e : min q r ≡ s = same_Some (min q r) s h in
-    elim (cases_lt q r) [ inl l ↦ inl (ap (λ i. Some i) (let f : q ≡ s = omega arith in f)) | inr l ↦ inr (omega arith) ]
+least_from (Some q) r s h = grind arith
 
 require_old : (reqs : List (Option ℕ)) (m r n d : ℕ) → m < length reqs → AtMost (need reqs n) d → AtMost (need (require reqs m r) n) d
-require_old reqs m r n d l h =
-    elim (cases_eq n m) [
-      | inl e ↦ subst (λ i. AtMost (need (require reqs m r) i) d) (sym e) (subst (λ o. AtMost o d) (sym (need_same reqs m r l)) (least_old (need reqs m) r d (subst (λ i. AtMost (need reqs i) d) e h)))
-      | inr f ↦ subst (λ o. AtMost o d) (sym (need_other reqs n m r f)) h
-    ]
+require_old reqs m r n d l h = search (rules, cases_eq, need_same, least_old, need_other)
 
 require_new : (reqs : List (Option ℕ)) (m r : ℕ) → m < length reqs → AtMost (need (require reqs m r) m) r
 require_new reqs m r l = subst (λ o. AtMost o r) (sym (need_same reqs m r l)) (least_new (need reqs m) r)
 
 require_from : (reqs : List (Option ℕ)) (m r n s : ℕ) → m < length reqs → need (require reqs m r) n ≡ Some s → (need reqs n ≡ Some s) ⊎ ((n ≡ m) × (s ≡ r))
-require_from reqs m r n s l h =
-    elim (cases_eq n m) [
-      | inl e ↦ elim (least_from (need reqs m) r s (sym (need_same reqs m r l) ∙ subst (λ i. need (require reqs m r) i ≡ Some s) e h)) [
-        | inl a ↦ inl (subst (λ i. need reqs i ≡ Some s) (sym e) a)
-        | inr b ↦ inr (e, b)
-      ]
-      | inr f ↦ inl (sym (need_other reqs n m r f) ∙ h)
-    ]
+require_from reqs m r n s l h = search (rules, cases_eq, least_from, need_same, need_other)
 
 size_require : (reqs : List (Option ℕ)) (m r : ℕ) → length (require reqs m r) ≡ length reqs
 size_require reqs m r = length-set reqs m (least_of (need reqs m) r)
@@ -76,8 +59,7 @@ each_size (m ∷ ms) reqs r = each_size ms (require reqs m r) r ∙ size_require
 
 each_old : (ms : List ℕ) (reqs : List (Option ℕ)) (r n d : ℕ) → ((m : ℕ) → In ms m → m < length reqs) → AtMost (need reqs n) d → AtMost (need (require_each reqs ms r) n) d
 each_old [] reqs r n d l h = h
-each_old (m ∷ ms) reqs r n d l h =
-    each_old ms (require reqs m r) r n d (λ i j. rw (size_require reqs m r) (l i (inr j))) (require_old reqs m r n d (l m (inl refl)) h)
+each_old (m ∷ ms) reqs r n d l h = grind (arith, size_require, require_old, each_old ms (require reqs m r) r n d (λ i j. rw (size_require reqs m r) (l i (inr j))) (require_old reqs m r n d (l m (inl refl)) h))
 
 each_new : (ms : List ℕ) (reqs : List (Option ℕ)) (r n : ℕ) → ((m : ℕ) → In ms m → m < length reqs) → In ms n → AtMost (need (require_each reqs ms r) n) r
 each_new [] reqs r n l i = elim i [ ]
@@ -87,11 +69,7 @@ each_new (m ∷ ms) reqs r n l (inr i) = each_new ms (require reqs m r) r n (λ 
 
 each_from : (ms : List ℕ) (reqs : List (Option ℕ)) (r n s : ℕ) → ((m : ℕ) → In ms m → m < length reqs) → need (require_each reqs ms r) n ≡ Some s → (need reqs n ≡ Some s) ⊎ (In ms n × (s ≡ r))
 each_from [] reqs r n s l h = inl h
-each_from (m ∷ ms) reqs r n s l h =
-    elim (each_from ms (require reqs m r) r n s (λ i j. rw (size_require reqs m r) (l i (inr j))) h) [
-      | inl a ↦ elim (require_from reqs m r n s (l m (inl refl)) a) [ inl b ↦ inl b | inr b ↦ inr (inl b.0, b.1) ]
-      | inr b ↦ inr (inr b.0, b.1)
-    ]
+each_from (m ∷ ms) reqs r n s l h = search (rules, size_require, require_from, each_from ms (require reqs m r) r n s (λ i j. rw (size_require reqs m r) (l i (inr j))) h)
 
 pub each_other : (ms : List ℕ) (reqs : List (Option ℕ)) (r n : ℕ) → (In ms n → ⊥) → need (require_each reqs ms r) n ≡ need reqs n
 each_other [] reqs r n o = refl
@@ -115,30 +93,16 @@ roots_size first t (l ∷ ls) reqs = roots_size first t ls (require_root first t
 
 roots_old : (first t : ℕ) (ls : List ℕ) (reqs : List (Option ℕ)) (n d : ℕ) → ((l : ℕ) → In ls l → l / 2 < length reqs) → AtMost (need reqs n) d → AtMost (need (require_roots first t reqs ls) n) d
 roots_old first t [] reqs n d r h = h
-roots_old first t (l ∷ ls) reqs n d r h =
-    roots_old first t ls (require_root first t reqs l) n d (λ i j. rw (root_size first t reqs l) (r i (inr j)))
-    (choose (λ s. AtMost (need s n) d) (ltb (l / 2) first) reqs (require reqs (l / 2) t) (λ _. h) (λ _. require_old reqs (l / 2) t n d (r l (inl refl)) h))
+roots_old first t (l ∷ ls) reqs n d r h = grind (arith, root_size, ltb, require_old, roots_old first t ls (require_root first t reqs l) n d (λ i j. rw (root_size first t reqs l) (r i (inr j))) (choose (λ s. AtMost (need s n) d) (ltb (l / 2) first) reqs (require reqs (l / 2) t) (λ _. h) (λ _. require_old reqs (l / 2) t n d (r l (inl refl)) h)))
 
 roots_new : (first t : ℕ) (ls : List ℕ) (reqs : List (Option ℕ)) (l : ℕ) → ((l : ℕ) → In ls l → l / 2 < length reqs) → In ls l → first ≤ l / 2 → AtMost (need (require_roots first t reqs ls) (l / 2)) t
 roots_new first t [] reqs l r i a = elim i [ ]
-roots_new first t (x ∷ ls) reqs l r (inl e) a =
-    roots_old first t ls (require_root first t reqs x) (l / 2) t (λ i j. rw (root_size first t reqs x) (r i (inr j)))
-    (choose (λ s. AtMost (need s (l / 2)) t) (ltb (x / 2) first) reqs (require reqs (x / 2) t)
-    (λ b. absurd (let c : x / 2 < first = ltb-true (x / 2) first b in omega arith))
-    (λ b. subst (λ i. AtMost (need (require reqs (x / 2) t) (i / 2)) t) (sym e) (require_new reqs (x / 2) t (r x (inl refl)))))
+roots_new first t (x ∷ ls) reqs l r (inl e) a = grind (arith, roots_old, root_size, ltb, ltb-true, require_new)
 roots_new first t (x ∷ ls) reqs l r (inr i) a = roots_new first t ls (require_root first t reqs x) l (λ i j. rw (root_size first t reqs x) (r i (inr j))) i a
 
 roots_from : (first t : ℕ) (ls : List ℕ) (reqs : List (Option ℕ)) (n s : ℕ) → ((l : ℕ) → In ls l → l / 2 < length reqs) → need (require_roots first t reqs ls) n ≡ Some s → (need reqs n ≡ Some s) ⊎ ((first ≤ n) × FromRoot ls t n s)
 roots_from first t [] reqs n s r h = inl h
-roots_from first t (l ∷ ls) reqs n s r h =
-    elim (roots_from first t ls (require_root first t reqs l) n s (λ i j. rw (root_size first t reqs l) (r i (inr j))) h) [
-      | inl a ↦ choose (λ x. need x n ≡ Some s → (need reqs n ≡ Some s) ⊎ ((first ≤ n) × FromRoot (l ∷ ls) t n s)) (ltb (l / 2) first) reqs (require reqs (l / 2) t) (λ _ b. inl b)
-          (λ c b. elim (require_from reqs (l / 2) t n s (r l (inl refl)) b) [
-            | inl d ↦ inl d
-            | inr d ↦ inr ((let f : first ≤ l / 2 = ltb-false (l / 2) first c in let e : n ≡ l / 2 = d.0 in omega arith), record { root = l; is_root = inl refl; node = sym d.0; is = d.1 })
-          ]) a
-      | inr a ↦ inr (a.0, record { root = a.1.root; is_root = inr a.1.is_root; node = a.1.node; is = a.1.is })
-    ]
+roots_from first t (l ∷ ls) reqs n s r h = search (rules, root_size, ltb, require_from, ltb-false, roots_from first t ls (require_root first t reqs l) n s (λ i j. rw (root_size first t reqs l) (r i (inr j))) h)
 
 no_depth : Option ℕ
 no_depth = None
@@ -168,24 +132,11 @@ module _ (g : Aig) (k : ℕ) (roots : List ℕ) (cuts : ℕ → List (List ℕ))
 
   pub visit_walked : (t j : ℕ) (reqs : List (Option ℕ)) (o : Option ℕ) → j < length g.pairs → Walked g label choice roots t (suc j) reqs → need reqs (first_and g + j) ≡ o
       → Walked g label choice roots t j (visit choice (first_and g + j) o reqs)
-  visit_walked t j reqs None below w e = record {
-    size = w.size;
-    low = w.low;
-    tops = w.tops;
-    leaves = λ n r m and a h i. elim (cases_eq n (first_and g + j)) [
-      | inl q ↦ absurd (none-some r (sym e ∙ subst (λ x. need reqs x ≡ Some r) q h))
-      | inr d ↦ w.leaves n r m and (omega arith) h i
-    ];
-    whence = λ n r h. elim (w.whence n r h) [
-      | inl f ↦ inl f
-      | inr f ↦ inr (record { reader = f.reader; depth = f.depth; above = (let a : first_and g + suc j ≤ f.reader = f.above in omega arith); and = f.and; needed = f.needed; leaf = f.leaf; is = f.is })
-    ];
-  }
+  visit_walked t j reqs None below w e = search (rules, cases_eq, none-some)
   visit_walked t j reqs (Some r) below w e =
       let top = first_and g + j in
       let and : IsAnd g top = (omega arith, omega arith) in
       let low : label top ≤ r = w.low top r and e in
-      let s : length reqs ≡ node_count g = w.size in
       let range : (m : ℕ) → In (choice top r) m → m < length reqs = (λ m i. let b : m < top = leaf_below top r m and low i in omega arith) in
       let not_in : (n : ℕ) → top ≤ n → In (choice top r) n → ⊥ = (λ n a i. let b : n < top = leaf_below top r n and low i in omega arith) in
       record {
@@ -195,14 +146,7 @@ module _ (g : Aig) (k : ℕ) (roots : List ℕ) (cuts : ℕ → List (List ℕ))
           | inr b ↦ (let c : 1 + label n ≤ r = leaf_low top r n and low b.0 in let d : q ≡ r - 1 = b.1 in omega arith)
         ];
         tops = λ l i a. each_old (choice top r) reqs (r - 1) (l / 2) t range (w.tops l i a);
-        leaves = λ n q m a above h i.
-            let old : need reqs n ≡ Some q = sym (each_other (choice top r) reqs (r - 1) n (not_in n above)) ∙ h in
-            elim (cases_eq n top) [
-              | inl f ↦ (let same : r ≡ q = same_Some r q (sym e ∙ subst (λ x. need reqs x ≡ Some q) f old) in
-                  subst (λ x. AtMost (need (require_each reqs (choice top r) (r - 1)) m) (x - 1)) same
-                  (each_new (choice top r) reqs (r - 1) m range (subst (λ x. In (choice top x) m) (sym same) (subst (λ x. In (choice x q) m) f i))))
-              | inr d ↦ each_old (choice top r) reqs (r - 1) m (q - 1) range (w.leaves n q m a (omega arith) old i)
-            ];
+        leaves = λ n q m a above h i. grind (arith, each_other, cases_eq, same_Some, each_new, each_old);
         whence = λ n q h. elim (each_from (choice top r) reqs (r - 1) n q range h) [
           | inl old ↦ elim (w.whence n q old) [
             | inl f ↦ inl f
@@ -223,22 +167,17 @@ module _ (g : Aig) (k : ℕ) (roots : List ℕ) (cuts : ℕ → List (List ℕ))
 
   pub walk_walked : (t j : ℕ) (reqs : List (Option ℕ)) → j ≤ length g.pairs → Walked g label choice roots t j reqs → Walked g label choice roots t 0 (walk choice (first_and g) j reqs)
   walk_walked t zero reqs l w = w
-  walk_walked t (suc j) reqs l w =
-      walk_walked t j (visit choice (first_and g + j) (need reqs (first_and g + j)) reqs) (omega arith) (visit_walked t j reqs (need reqs (first_and g + j)) (omega arith) w refl)
+  walk_walked t (suc j) reqs l w = grind (arith, visit_walked, walk_walked t j (visit choice (first_and g + j) (need reqs (first_and g + j)) reqs) (omega arith) (visit_walked t j reqs (need reqs (first_and g + j)) (omega arith) w refl))
 
   -- a root's level is at most the target
   root_low : (l : ℕ) → In roots l → root_level g label l ≤ target g label roots
   root_low l i = greatest_in (root_level g label) roots l i
 
   root_node : (l : ℕ) → In roots l → first_and g ≤ l / 2 → label (l / 2) ≤ target g label roots
-  root_node l i a =
-      choose (λ x. x ≤ target g label roots → label (l / 2) ≤ target g label roots) (ltb (l / 2) (first_and g)) (source_level g l) (label (l / 2))
-      (λ b _. absurd (let c : l / 2 < first_and g = ltb-true (l / 2) (first_and g) b in omega arith)) (λ b h. h) (root_low l i)
+  root_node l i a = grind (arith, ltb, ltb-true, root_low)
 
   root_source : (l : ℕ) → In roots l → l / 2 < first_and g → source_level g l ≤ target g label roots
-  root_source l i a =
-      choose (λ x. x ≤ target g label roots → source_level g l ≤ target g label roots) (ltb (l / 2) (first_and g)) (source_level g l) (label (l / 2))
-      (λ b h. h) (λ b _. absurd (let c : first_and g ≤ l / 2 = ltb-false (l / 2) (first_and g) b in omega arith)) (root_low l i)
+  root_source l i a = grind (arith, ltb, ltb-false, root_low)
 
   pub start_walked : Walked g label choice roots (target g label roots) (length g.pairs) (roots_required g roots (target g label roots))
   unfolding no_depth
@@ -252,7 +191,6 @@ module _ (g : Aig) (k : ℕ) (roots : List ℕ) (cuts : ℕ → List (List ℕ))
       record {
         size = roots_size (first_and g) t roots none ∙ s;
         low = λ n r and h. let f = from n r h in
-            let e : r ≡ t = f.1.is in
             let a : label (f.1.root / 2) ≤ t = root_node f.1.root f.1.is_root (rw f.1.node f.0) in
             let b : label (f.1.root / 2) ≡ label n = ap label f.1.node in omega arith;
         tops = λ l i and. roots_new (first_and g) t roots none l range i and.0;
@@ -266,15 +204,7 @@ module _ (g : Aig) (k : ℕ) (roots : List ℕ) (cuts : ℕ → List (List ℕ))
 
   -- the rule in its own words
   pub schedule_is : (t : ℕ) (reqs : List (Option ℕ)) → Walked g label choice roots t 0 reqs → IsWalked g label choice roots t (need reqs)
-  schedule_is t reqs w = record {
-    low = w.low;
-    root = w.tops;
-    leaf = λ n r m and e i. w.leaves n r m and (let a : first_and g ≤ n = and.0 in omega arith) e i;
-    whence = λ n r e. elim (w.whence n r e) [
-      | inl f ↦ inl f
-      | inr f ↦ inr (record { reader = f.reader; depth = f.depth; and = f.and; needed = f.needed; leaf = f.leaf; is = f.is })
-    ];
-  }
+  schedule_is t reqs w = search rules
 
   module _ (t : ℕ) (reqs : List (Option ℕ)) (w : Walked g label choice roots t 0 reqs) where
     pub cover_is : (n r : ℕ) → IsAnd g n → need reqs n ≡ Some r → cover_of g choice reqs n ≡ Some (choice n r)
@@ -344,9 +274,4 @@ module _ (g : Aig) (k : ℕ) (roots : List ℕ) (cuts : ℕ → List (List ℕ))
 
   -- and the target at most the depth of any cover.
   pub target_least : AreNormal (first_and g) g.pairs → AreLabels g cuts label → (cover : ℕ → Option (List ℕ)) (d : ℕ) → IsCover g k roots cover → RootsWithin g cover roots d → target g label roots ≤ d
-  target_least normal labels cover d is within =
-      greatest_le (root_level g label) roots d
-      (λ l i. choose (λ x. x ≤ d) (ltb (l / 2) (first_and g)) (source_level g l) (label (l / 2))
-      (λ b. level_within g l d (λ s e. within.complemented l i s e))
-      (λ b. let a : first_and g ≤ l / 2 = ltb-false (l / 2) (first_and g) b in let c : l / 2 < node_count g = inside l i in
-      label_le_depth g normal k roots cover cuts label is minimal labels (within.nodes l i (a, c))))
+  target_least normal labels cover d is within = grind (arith, greatest_le, ltb, level_within, ltb-false, label_le_depth)

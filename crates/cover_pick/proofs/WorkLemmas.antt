@@ -1,30 +1,17 @@
 -- The cone of a node, as a list, is what is reached from it.
-use Rattle.cover_pick.proofs.Common.{◌≡◌, ℕ, zero, suc, ◌-◌, ◌/◌, ◌<◌, ◌≤◌, true, false, cond, ltb, eqb, List, [], ◌∷◌, Option, Some, None, refl, sym, length, subst, inl, inr, ◌⊎◌, arith, list_any, slice_get_within, cases_Bool, or_cases, or_parts, cases_lt, ltb-true, ltb-false, eqb-true, eqb-false, both_ways, lt-ltb, Aig, first_and, node_count, pair_of, IsNode, IsNormal, AreNormal, Pair, node_normal, In, choose, IsDescending}
+use Rattle.cover_pick.proofs.Common.{◌≡◌, ℕ, zero, suc, ◌-◌, ◌/◌, ◌<◌, ◌≤◌, true, false, cond, ltb, eqb, List, [], ◌∷◌, Option, Some, None, refl, sym, length, subst, inl, inr, ◌⊎◌, arith, list_any, slice_get_within, cases_Bool, or_cases, or_parts, cases_lt, ltb-true, ltb-false, eqb-true, eqb-false, both_ways, lt-ltb, Aig, first_and, node_count, pair_of, IsNode, IsNormal, AreNormal, Pair, node_normal, In, choose, IsDescending, put_down, is_stop, put_fan_ins, cone, cone_of, IsInner, Path, here, left, right, IsCone, rules}
 use Rattle.cut_enum.proofs.SetLemmas.{has_true, has_from}
-use Rattle.cover_pick.specs.Cone.{put_down, is_stop, put_fan_ins, cone, cone_of}
-use Rattle.cover_pick.specs.Work.{IsInner, Path, here, left, right, IsCone}
 
 -- what does not end the way down is an AND node that is no leaf
 pub stop_inner : (g : Aig) (c : List ℕ) (n : ℕ) → n < node_count g → is_stop g c n ≡ false → IsInner g c n
-stop_inner g c n l s =
-    let parts = or_parts (ltb n (first_and g)) (list_any (λ m. eqb m n) c) s in
-    record { and = (ltb-false n (first_and g) parts.0, l); apart = λ i. both_ways (list_any (λ m. eqb m n) c) parts.1 (has_from c n i) }
+stop_inner g c n l s = grind (arith, or_parts, ltb, eqb, ltb-false, both_ways, has_from)
 
 pub inner_stop : (g : Aig) (c : List ℕ) (n : ℕ) → IsInner g c n → is_stop g c n ≡ false
-inner_stop g c n inner = elim (cases_Bool (is_stop g c n)) [
-  | inl t ↦ elim (or_cases (ltb n (first_and g)) (list_any (λ m. eqb m n) c) t) [
-    | inl s ↦ absurd (let a : n < first_and g = ltb-true n (first_and g) s in let b : first_and g ≤ n = inner.and.0 in omega arith)
-    | inr s ↦ absurd (inner.apart (has_true c n s))
-  ]
-  | inr t ↦ t
-]
+inner_stop g c n inner = search (rules, cases_Bool, or_cases, ltb, eqb, ltb-true, has_true)
 
 -- a node that doesn't end the way down is an AND node
 pub past_sources : (g : Aig) (c : List ℕ) (n : ℕ) → is_stop g c n ≡ false → first_and g ≤ n
-past_sources g c n s = elim (cases_lt n (first_and g)) [
-  | inl l ↦ absurd (both_ways (is_stop g c n) s (rw (lt-ltb n (first_and g) l) refl))
-  | inr l ↦ l
-]
+past_sources g c n s = search (rules, cases_lt, both_ways, lt-ltb)
 
 -- a node with a pair is a node of the graph
 pub node_inside : (g : Aig) (p : Pair) (n : ℕ) → IsNode g p n → n < node_count g
@@ -37,10 +24,7 @@ pub record From (g : Aig) (c pending : List ℕ) (m : ℕ) : Type 0 where
   pub path : Path g c m start
 
 down_at : (P : List ℕ → Type 0) (x y : ℕ) (ys : List ℕ) → (y < x → P (x ∷ y ∷ ys)) → (x ≡ y → P (y ∷ ys)) → (x < y → P (y ∷ put_down x ys)) → P (put_down x (y ∷ ys))
-down_at P x y ys more same less =
-    choose P (ltb y x) (x ∷ y ∷ ys) (cond (eqb x y) (y ∷ ys) (y ∷ put_down x ys)) (λ a. more (ltb-true y x a))
-    (λ a. choose P (eqb x y) (y ∷ ys) (y ∷ put_down x ys) (λ e. same (eqb-true x y e))
-    (λ e. let past : x ≤ y = ltb-false y x a in let apart : x ≡ y → ⊥ = eqb-false x y e in less (omega arith)))
+down_at P x y ys more same less = grind arith
 
 In-down : (x : ℕ) (c : List ℕ) (n : ℕ) → In (put_down x c) n → (n ≡ x) ⊎ In c n
 In-down x [] n h = h

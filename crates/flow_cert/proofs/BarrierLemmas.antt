@@ -1,10 +1,7 @@
 -- A search that has handed on all that it met has found few low nodes that block the node.
-use Rattle.flow_cert.proofs.Common.{◌≡◌, ℕ, zero, suc, ◌+◌, ◌<◌, ◌≤◌, Bool, true, false, cond, List, [], ◌∷◌, ◌++◌, length, refl, sym, ap, ◌∙◌, subst, inl, inr, eqb, arith, length-append, eqb-true, eqb-false, cases_lt, cases_Bool, IsAnd, In, Within, IsAscending, choose, choose_both, Blocks, member, CanBeLeaf, AreApart, joined_apart, apart_short, In-append}
+use Rattle.flow_cert.proofs.Common.{◌≡◌, ℕ, zero, suc, ◌+◌, ◌<◌, ◌≤◌, Bool, true, false, cond, List, [], ◌∷◌, ◌++◌, length, refl, sym, ap, ◌∙◌, subst, inl, inr, eqb, arith, length-append, eqb-true, eqb-false, cases_lt, cases_Bool, IsAnd, In, Within, IsAscending, choose, choose_both, Blocks, member, CanBeLeaf, AreApart, joined_apart, apart_short, In-append, Net, IsLow, IsInner, IsUpper, IsEnd, IsNet, IsChoice, HasChosen, IsLinked, IsHandedOn}
 use Rattle.cut_enum.specs.Merging.{union}
 use Rattle.cut_enum.proofs.SetLemmas.{In-union, union_left, IsAscending-union}
-use Rattle.flow_cert.specs.Net.{Net, IsLow, IsInner, IsUpper, IsEnd, IsNet}
-use Rattle.flow_cert.specs.Links.{IsChoice, HasChosen, IsLinked}
-use Rattle.flow_cert.specs.Search.{IsHandedOn}
 use Rattle.flow_cert.proofs.OnceLemmas.{ascending_apart}
 use Rattle.flow_cert.proofs.GraphLemmas.{blocks_by_leaves, fan_in_below, leaf_pos}
 

@@ -1,11 +1,7 @@
 -- The steps of the needed nodes and the depth of the roots are a valid certificate.
-use Rattle.flow_cert.proofs.Common.{◌≡◌, ℕ, zero, suc, ◌+◌, ◌/◌, ◌^◌, ◌<◌, ◌≤◌, eqb, List, [], ◌∷◌, refl, sym, ap, ◌∙◌, subst, inl, inr, arith, eqb-true, eqb-false, Aig, first_and, node_count, IsAnd, AreNormal, In, choose, In-get, LabelsValue, label_of, StepValue, CertificateValue, claim_of, IsJustified, Needs, node, complemented, SomeNeeds, IsReached, IsValid, IsWritable}
-use Rattle.flow_cert.specs.Justify.{IsStepOf}
-use Rattle.flow_cert.specs.Needed.{AreLabelClaims, IsShared, IsNeeded, HasStep, AreNeeded}
+use Rattle.flow_cert.proofs.Common.{◌≡◌, ℕ, zero, suc, ◌+◌, ◌/◌, ◌^◌, ◌<◌, ◌≤◌, eqb, List, [], ◌∷◌, refl, sym, ap, ◌∙◌, subst, inl, inr, arith, eqb-true, eqb-false, Aig, first_and, node_count, IsAnd, AreNormal, In, choose, In-get, LabelsValue, label_of, StepValue, CertificateValue, claim_of, IsJustified, Needs, node, complemented, SomeNeeds, IsReached, IsValid, IsWritable, IsStepOf, AreLabelClaims, IsShared, IsNeeded, HasStep, AreNeeded, CanBegin, AreSteps, HasBegin, IsTarget, rules}
 use Rattle.flow_cert.specs.Needed as needed
-use Rattle.flow_cert.specs.Steps.{CanBegin, AreSteps}
 use Rattle.flow_cert.specs.Steps as steps
-use Rattle.flow_cert.specs.Target.{HasBegin, IsTarget}
 use Rattle.flow_cert.specs.Target as target
 use Rattle.flow_cert.proofs.GraphLemmas.{path_below, path_two, source_not_and}
 use Rattle.flow_cert.proofs.TargetLemmas.{first_in, first_once}
@@ -45,21 +41,10 @@ module _ (g : Aig) (k : ℕ) (v : LabelsValue) (normal : AreNormal (first_and g)
       }
 
   reached : IsReached g roots (claim_of ss) depth
-  reached = elim t.reached [
-    | target.nothing z b ↦ inl z
-    | target.node l f and b e p ↦ (
-        let c : claim_of ss (l / 2) ≡ label_of v (l / 2) = claimed (l / 2) (subst (λ m. HasStep ss m) b (are.begun (subst (λ m. IsAnd g m) (sym b) and))) in
-        inr (some_needs g (claim_of ss) depth roots l (first_in g (label_of v) depth roots l f) (node and (omega arith))))
-    | target.complemented l f s o e b ↦ inr (some_needs g (claim_of ss) depth roots l (first_in g (label_of v) depth roots l f) (complemented e s o))
-  ]
+  reached = search (rules, claimed, some_needs, first_in)
 
   pub cert_valid : IsValid g roots k (record { depth = depth; steps = ss })
-  cert_valid = record {
-    ascending = are.ascending;
-    nodes = λ s i. (are.each s i).and;
-    justified = justified;
-    reached = reached;
-  }
+  cert_valid = search (rules, justified, reached)
 
   pub cert_claims : AreLabelClaims v (record { depth = depth; steps = ss })
   cert_claims = record { each = λ s i. (are.each s i).claim }
@@ -85,48 +70,15 @@ module _ (g : Aig) (k : ℕ) (v : LabelsValue) (normal : AreNormal (first_and g)
 
   -- and what is needed has a step
   needed_there : (m : ℕ) → IsNeeded g roots (label_of v) made m → HasStep ss m
-  needed_there m (needed.root l p f and e) = elim t.reached [
-    | target.nothing z b ↦ absurd (omega arith)
-    | target.node r h a b q o ↦ (
-        let same : l ≡ r = first_once g (label_of v) depth roots l r f h in
-        let at : m ≡ begin = e ∙ (ap (λ x. x / 2) same ∙ sym b) in
-        subst (λ x. HasStep ss x) (sym at) (are.begun (subst (λ x. IsAnd g x) (sym b) a)))
-    | target.complemented r h s o q b ↦ absurd (source_not_and g (r / 2) s (subst (λ x. IsAnd g (x / 2)) (first_once g (label_of v) depth roots l r f h) and))
-  ]
+  needed_there m (needed.root l p f and e) = search (rules, first_once, source_not_and)
   needed_there m (needed.shared u j w h) = are.shares u m j h
 
   pub cert_needed : AreNeeded g roots (label_of v) made
   cert_needed = record { only = λ s i. step_needed (node_count g) s i (omega arith); all = needed_there }
 
   pub cert_writable : depth < 2 ^ 32 → node_count g ≤ 2 ^ 30 → ((m : ℕ) → label_of v m < 2 ^ 32) → IsWritable (record { depth = depth; steps = ss })
-  cert_writable small count labels = record {
-    small = small;
-    steps = λ s i.
-        let of = are.each s i in
-        let top : s.node < node_count g = of.and.1 in
-        record {
-          claim = of.positive;
-          small_node = omega arith;
-          small_claim = subst (λ x. x < 2 ^ 32) (sym of.claim) (labels s.node);
-          paths = λ p j. record {
-            nodes = path_two g s.node p.nodes of.and (of.justified.paths p j);
-            small = λ m x. let low : m ≤ s.node = path_below g s.node p.nodes m normal (of.justified.paths p j) x in omega arith;
-          };
-        };
-  }
-
--- where the certificate begins
-pub can_begin : (g : Aig) (label : ℕ → ℕ) (roots : List ℕ) (depth begin : ℕ) → IsTarget g label roots depth begin → CanBegin g label begin
-can_begin g label roots depth begin t = elim t.reached [
-  | target.nothing z b ↦ inl b
-  | target.node l i and b e p ↦ inr (subst (λ m. IsAnd g m × (1 ≤ label m)) (sym b) (and, (let q : 1 ≤ label (l / 2) = omega arith in q)))
-  | target.complemented l i s o e b ↦ inl b
-]
+  cert_writable small count labels = search (rules, path_two, path_below)
 
 -- the depth fits a word where labels do
 pub depth_small : (g : Aig) (label : ℕ → ℕ) (roots : List ℕ) (depth begin : ℕ) → IsTarget g label roots depth begin → ((m : ℕ) → label m < 2 ^ 32) → depth < 2 ^ 32
-depth_small g label roots depth begin t labels = elim t.reached [
-  | target.nothing z b ↦ omega arith
-  | target.node l i and b e p ↦ (let q : label (l / 2) < 2 ^ 32 = labels (l / 2) in omega arith)
-  | target.complemented l i s o e b ↦ omega arith
-]
+depth_small g label roots depth begin t labels = search rules

@@ -1,9 +1,8 @@
 -- The best cut of every AND node is a cover, in which each node has its label as its depth.
-use Rattle.flow_cert.proofs.Common.{◌≡◌, ℕ, zero, suc, ◌+◌, ◌-◌, ◌/◌, ◌^◌, ◌<◌, ◌≤◌, Bool, true, ◌&&◌, cond, leb, ltb, List, [], ◌∷◌, Option, Some, None, IsSome, refl, sym, ap, ◌∙◌, subst, inl, inr, arith, cases_lt, cases_Bool, leb-true, le-leb, ltb-true, lt-ltb, and_parts, and_from, none-some, same_Some, Aig, first_and, node_count, IsAnd, AreNormal, In, IsCut, height, LabelsValue, label_of, best_of, AreLabelled}
+use Rattle.flow_cert.proofs.Common.{◌≡◌, ℕ, zero, suc, ◌+◌, ◌-◌, ◌/◌, ◌^◌, ◌<◌, ◌≤◌, Bool, true, ◌&&◌, cond, leb, ltb, List, [], ◌∷◌, Option, Some, None, IsSome, refl, sym, ap, ◌∙◌, subst, inl, inr, arith, cases_lt, cases_Bool, leb-true, le-leb, ltb-true, lt-ltb, and_parts, and_from, none-some, same_Some, Aig, first_and, node_count, IsAnd, AreNormal, In, IsCut, height, LabelsValue, label_of, best_of, AreLabelled, AreRight}
 use Rattle.cut_sets.specs.Covers.{IsCover, HasDepth, source, free, table, IsLeastDepth}
 use Rattle.cut_enum.specs.Table.{AreRows, row_at}
 use Rattle.depth_label.proofs.LabelLemmas.{labels_least}
-use Rattle.flow_cert.specs.Net.{AreRight}
 use Rattle.flow_cert.specs.Target.{IsTarget, nothing, node, complemented}
 use Rattle.flow_cert.proofs.LabelLemmas.{height_le, height_member}
 use Rattle.flow_cert.proofs.TargetLemmas.{first_in}
@@ -29,10 +28,6 @@ cover_some g v n c e = elim (cases_Bool (is_and g n)) [
   | inl t ↦ (and_of g n t, same_Some c (best_of v n) (sym e ∙ ap (λ b. cond b (Some (best_of v n)) None) t))
   | inr f ↦ absurd (none-some c (sym (ap (λ b. cond b (Some (best_of v n)) None) f) ∙ e))
 ]
-
--- labels that are right
-pub right_of : (g : Aig) (k : ℕ) (rows : List (List (List ℕ))) (v : LabelsValue) → AreRows g k (node_count g) rows → AreLabelled g rows v → AreRight g k (label_of v)
-right_of g k rows v are w = record { cuts = row_at rows; minimal = λ n and. are.each n and.1 and; labels = w.labels }
 
 module _ (g : Aig) (k : ℕ) (rows : List (List (List ℕ))) (v : LabelsValue) (normal : AreNormal (first_and g) g.pairs) (are : AreRows g k (node_count g) rows) (w : AreLabelled g rows v) where
   best_cut : (n : ℕ) → IsAnd g n → IsCut g k n (best_of v n)

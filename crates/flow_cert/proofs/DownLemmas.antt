@@ -1,7 +1,5 @@
 -- A node with a label of at least 1 has a fan-in to which a path comes.
-use Rattle.flow_cert.proofs.Common.{◌≡◌, ℕ, ◌/◌, ◌<◌, ◌≤◌, List, [], ◌∷◌, ◌++◌, reverse, refl, sym, ap, ◌∙◌, subst, inl, inr, ◌⊎◌, arith, cases_lt, reverse-append, Aig, first_and, node_count, IsAnd, IsNode, IsNormal, IsSource, AreNormal, Regular, Pair, Blocks, fan_ins, CanBeLeaf, height, IsFanIn, IsPath}
-use Rattle.flow_cert.specs.Net.{AreRight}
-use Rattle.flow_cert.specs.Justify.{IsWayDown, IsDownTo}
+use Rattle.flow_cert.proofs.Common.{◌≡◌, ℕ, ◌/◌, ◌<◌, ◌≤◌, List, [], ◌∷◌, ◌++◌, reverse, refl, sym, ap, ◌∙◌, subst, inl, inr, ◌⊎◌, arith, cases_lt, reverse-append, Aig, first_and, node_count, IsAnd, IsNode, IsNormal, IsSource, AreNormal, Regular, Pair, Blocks, fan_ins, CanBeLeaf, height, IsFanIn, IsPath, AreRight, IsWayDown, IsDownTo}
 use Rattle.flow_cert.proofs.GraphLemmas.{free_or_leaf, source_not_and}
 use Rattle.flow_cert.proofs.LabelLemmas.{label_le_height, zero_free}
 
@@ -18,9 +16,6 @@ module _ (g : Aig) (k : ℕ) (label : ℕ → ℕ) (normal : AreNormal (first_an
   -- where no path comes to the first fan-in, one comes to the second
   pub second_way : (v : ℕ) (p : Pair) → IsNode g p v → IsNormal v p → IsAnd g v → 1 ≤ label v → (IsWayDown g label (p.x.0 / 2) → ⊥) → IsWayDown g label (p.y.0 / 2)
   second_way v p node fit and high never =
-      let a : p.x.0 / 2 < p.y.0 / 2 = fit.ordered in
-      let b : p.y.0 / 2 < v = fit.below in
-      let c : v < node_count g = and.1 in
       elim (way_or_free (p.y.0 / 2) (omega arith)) [
         | inl w ↦ w
         | inr y ↦ elim (way_or_free (p.x.0 / 2) (omega arith)) [
@@ -29,19 +24,8 @@ module _ (g : Aig) (k : ℕ) (label : ℕ → ℕ) (normal : AreNormal (first_an
         ]
       ]
 
-pub down_start : (g : Aig) (n : ℕ) → IsDownTo g n n (n ∷ [])
-down_start g n = record { rest = []; is = refl; climbs = refl }
-
 pub down_push : (g : Aig) (n v w : ℕ) (nodes : List ℕ) → IsFanIn g w v → IsDownTo g n v nodes → IsDownTo g n w (nodes ++ w ∷ [])
 down_push g n v w nodes f d = record { rest = v ∷ d.rest; is = reverse_push nodes w ∙ ap (λ xs. w ∷ xs) d.is; climbs = (f, d.climbs) }
   where
     reverse_push : (xs : List ℕ) (x : ℕ) → reverse (xs ++ x ∷ []) ≡ x ∷ reverse xs
     reverse_push xs x = reverse-append xs (x ∷ [])
-
--- a source to which a path comes ends the way down
-pub down_end : (g : Aig) (label : ℕ → ℕ) (n v : ℕ) (nodes : List ℕ) → v < first_and g → IsWayDown g label v → IsDownTo g n v nodes → IsPath g n (reverse nodes)
-down_end g label n v nodes l w d = subst (λ xs. IsPath g n xs) (sym d.is) (source_of w.leaf, d.climbs)
-  where
-    source_of : CanBeLeaf g v → IsSource g Regular v
-    source_of (inl s) = s
-    source_of (inr a) = let b : first_and g ≤ v = a.0 in absurd (omega arith)

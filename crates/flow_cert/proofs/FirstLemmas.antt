@@ -1,8 +1,5 @@
 -- The links before the first path.
-use Rattle.flow_cert.proofs.Common.{◌≡◌, ℕ, ◌+◌, ◌<◌, ◌≤◌, true, ◌&&◌, cond, ltb, eqb, [], length, get_or, refl, sym, ap, ◌∙◌, subst, inl, inr, arith, ltb-true, lt-ltb, eqb-false, cases_Bool, and_parts, and_from, first_and, node_count, IsAnd, choose, label_of}
-use Rattle.flow_cert.specs.Net.{SiteValue, net_of, is_inner, IsInner}
-use Rattle.flow_cert.specs.Links.{HasChosen, AreRouted, first_owner, owner_in, AreLinks}
-use Rattle.flow_cert.specs.Stamps.{zeros}
+use Rattle.flow_cert.proofs.Common.{◌≡◌, ℕ, ◌+◌, ◌<◌, ◌≤◌, true, ◌&&◌, cond, ltb, eqb, [], length, get_or, refl, sym, ap, ◌∙◌, subst, inl, inr, arith, ltb-true, lt-ltb, eqb-false, cases_Bool, and_parts, and_from, first_and, node_count, IsAnd, choose, label_of, SiteValue, net_of, is_inner, IsInner, HasChosen, AreRouted, first_owner, owner_in, AreLinks, zeros, rules}
 use Rattle.flow_cert.proofs.StampLemmas.{zero_at, length_zeros}
 
 -- nothing was set
@@ -11,28 +8,17 @@ first_is s n m = choose (λ x. x ≡ first_owner s m) (eqb (get_or (zeros n) m 0
 
 module _ (s : SiteValue) (n : ℕ) (and : IsAnd s.graph s.node) where
   low_first : (m : ℕ) → IsInner (net_of s) m → is_inner s m ≡ true
-  low_first m i = let a : first_and s.graph ≤ m = i.and.0 in
-      and_from (ltb (length s.graph.kinds) m) (ltb m s.node && ltb (label_of s.labels m + 1) (label_of s.labels s.node)) (lt-ltb (length s.graph.kinds) m (omega arith))
-      (and_from (ltb m s.node) (ltb (label_of s.labels m + 1) (label_of s.labels s.node)) (lt-ltb m s.node i.below) (lt-ltb (label_of s.labels m + 1) (label_of s.labels s.node) i.low))
+  low_first m i = grind arith
 
   first_low : (m : ℕ) → is_inner s m ≡ true → IsInner (net_of s) m
-  first_low m e =
-      let a = and_parts (ltb (length s.graph.kinds) m) (ltb m s.node && ltb (label_of s.labels m + 1) (label_of s.labels s.node)) e in
-      let b = and_parts (ltb m s.node) (ltb (label_of s.labels m + 1) (label_of s.labels s.node)) a.1 in
-      let above : length s.graph.kinds < m = ltb-true (length s.graph.kinds) m a.0 in
-      let below : m < s.node = ltb-true m s.node b.0 in
-      let top : s.node < node_count s.graph = and.1 in
-      record { and = (omega arith, omega arith); below = below; low = ltb-true (label_of s.labels m + 1) (label_of s.labels s.node) b.1 }
+  first_low m e = grind arith
 
   inner_owner : (a : ℕ) → IsInner (net_of s) a → owner_in s (zeros n) a ≡ a
   inner_owner a i = first_is s n a ∙ ap (λ b. cond b a 0) (low_first a i)
 
   -- only inner nodes have an owner: themselves
   owned_itself : (u : ℕ) → 0 < owner_in s (zeros n) u → (owner_in s (zeros n) u ≡ u) × IsInner (net_of s) u
-  owned_itself u p = elim (cases_Bool (is_inner s u)) [
-    | inl t ↦ (first_is s n u ∙ ap (λ b. cond b u 0) t, first_low u t)
-    | inr f ↦ absurd (let e : owner_in s (zeros n) u ≡ 0 = first_is s n u ∙ ap (λ b. cond b u 0) f in omega arith)
-  ]
+  owned_itself u p = search (rules, cases_Bool, first_is, cond, first_low)
 
   first_routed : AreRouted (net_of s) (owner_in s (zeros n)) (λ a. a) []
   first_routed = record {

@@ -16,9 +16,7 @@ reader_and g m n (second p is e) = node_and g p n is
 and_pair : (g : Aig) (n : ℕ) → IsAnd g n → (p : Pair) × IsNode g p n
 and_pair g n and =
     let d : Pair = record { x = record { 0 = 0 }; y = record { 0 = 0 } } in
-    let a : first_and g ≤ n = and.0 in
-    let b : n < node_count g = and.1 in
-    (get_or g.pairs (n - first_and g) d, record { above = a; is = slice_get-get_or g.pairs (n - first_and g) d (omega arith) })
+    (get_or g.pairs (n - first_and g) d, record { above = and.0; is = slice_get-get_or g.pairs (n - first_and g) d (omega arith) })
 
 source_kind : (g : Aig) (c : List ℕ) (m : ℕ) (kind : Kind) → 1 ≤ m → slice_get g.kinds (m - 1) ≡ Some kind → Blocks g c m ⊎ CanBeLeaf g m
 source_kind g c m Regular a e = inr (inl (record { above = a; is = e }))
@@ -40,7 +38,6 @@ blocks_by_leaves g c n normal and leaves =
     let p = and_pair g n and in
     let x : IsFanIn g (p.0.x.0 / 2) n = first p.0 p.1 refl in
     let y : IsFanIn g (p.0.y.0 / 2) n = second p.0 p.1 refl in
-    let b : n < node_count g = and.1 in
     let x_below : p.0.x.0 / 2 < n = fan_in_below g (p.0.x.0 / 2) n normal x in
     let y_below : p.0.y.0 / 2 < n = fan_in_below g (p.0.y.0 / 2) n normal y in
     fan_ins p.0 p.1 (elim (free_or_leaf g c (p.0.x.0 / 2) (omega arith)) [ inl f ↦ f | inr f ↦ leaves (p.0.x.0 / 2) x f ])

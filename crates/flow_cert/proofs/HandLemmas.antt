@@ -1,7 +1,5 @@
 -- The search, step by step.
-use Rattle.flow_cert.proofs.Common.{◌≡◌, ℕ, ◌+◌, ◌-◌, ◌/◌, ◌<◌, ◌≤◌, List, [], ◌∷◌, ◌++◌, length, get_or, set, refl, sym, ap, ◌∙◌, subst, inl, inr, arith, length-append, get_or-set_other, get_or-set_same, length-set, cases_eq, cases_lt, get_or_push, get_or-append, Aig, node_count, IsNode, Pair, In, In-get_or, In-left, In-right, In-push, CanBeLeaf, IsFanIn, first, second, pushed_apart}
-use Rattle.flow_cert.specs.Net.{Net, IsLow, IsInner, IsEnd, IsNet}
-use Rattle.flow_cert.specs.Links.{IsChoice, IsLinked}
+use Rattle.flow_cert.proofs.Common.{◌≡◌, ℕ, ◌+◌, ◌-◌, ◌/◌, ◌<◌, ◌≤◌, List, [], ◌∷◌, ◌++◌, length, get_or, set, refl, sym, ap, ◌∙◌, subst, inl, inr, arith, length-append, get_or-set_other, get_or-set_same, length-set, cases_eq, cases_lt, get_or_push, get_or-append, Aig, node_count, IsNode, Pair, In, In-get_or, In-left, In-right, In-push, CanBeLeaf, IsFanIn, first, second, pushed_apart, Net, IsLow, IsInner, IsEnd, IsNet, IsChoice, IsLinked, rules}
 use Rattle.flow_cert.specs.Search.{ComesFrom, IsHandedOn, IsSearched, IsSearching, Extends, HasPushed, old, new, HasTried, leaf, free}
 use Rattle.flow_cert.proofs.GraphLemmas.{fan_in_below, fan_in_cases, leaf_inside, leaf_pos}
 
@@ -14,10 +12,9 @@ module _ (net : Net) (owner : ℕ → ℕ) where
   -- places that are as before
   comes_same : (queue queue' : List ℕ) (back back' j : ℕ) → back' ≡ back → ((i : ℕ) → i ≤ j → get_or queue' i 0 ≡ get_or queue i 0) → ComesFrom net owner queue back j → ComesFrom net owner queue' back' j
   comes_same queue queue' back back' j e same c =
-      let earlier : back ≤ j = c.earlier in
       subst (λ b. ComesFrom net owner queue' b j) (sym e) (record {
         end = λ z. subst (λ x. IsEnd net x) (sym (same j (omega arith))) (c.end z);
-        earlier = earlier;
+        earlier = c.earlier;
         inner = λ p. subst (λ x. IsInner net (owner x)) (sym (same (back - 1) (omega arith))) (c.inner p);
         choice = λ p. subst (λ x. IsChoice net (owner x) (get_or queue' j 0)) (sym (same (back - 1) (omega arith))) (subst (λ x. IsChoice net (owner (get_or queue (back - 1) 0)) x) (sym (same j (omega arith))) (c.choice p));
       })
@@ -121,7 +118,6 @@ module _ (net : Net) (owner : ℕ → ℕ) (is : IsNet net) (place a : ℕ) (inn
   choice_node : (m : ℕ) → CanBeLeaf net.graph m → IsChoice net a m → (m < net.node) × CanBeLeaf net.graph m × IsLow net m
   choice_node m l (inl e) = ((let b : a < net.node = inner.below in omega arith), l, subst (λ x. IsLow net x) (sym e) inner.low)
   choice_node m l (inr f) =
-      let b : a < net.node = inner.below in
       let c : m < a = fan_in_below net.graph m a is.normal f.0 in
       let r : net.label m ≤ net.label a = is.rising m a f.0 l in
       let q : net.label a + 1 < net.height = inner.low in (omega arith, l, omega arith)
@@ -210,10 +206,7 @@ extends_push queue m = record {
 }
 
 extends_twice : (a b c : List ℕ) → Extends a b → Extends b c → Extends a c
-extends_twice a b c e f =
-    let l : length a ≤ length b = e.longer in
-    let m : length b ≤ length c = f.longer in
-    record { kept = λ x i. f.kept x (e.kept x i); same = λ j k. f.same j (omega arith) ∙ e.same j k; longer = omega arith }
+extends_twice a b c e f = grind arith
 
 pushed_extends : (m back : ℕ) (seen queue backs seen' queue' backs' : List ℕ) → HasPushed m back seen queue backs seen' queue' backs' → Extends queue queue'
 pushed_extends m back seen queue backs seen' queue' backs' (old was s q b) = rw q (extends_same queue)
@@ -227,6 +220,4 @@ pub extends_three : (g : Aig) (a x y back : ℕ) (seen queue backs seen1 queue1 
     → HasPushed a back seen queue backs seen1 queue1 backs1
     → HasTried g x back seen1 queue1 backs1 seen2 queue2 backs2
     → HasTried g y back seen2 queue2 backs2 seen3 queue3 backs3 → Extends queue queue3
-extends_three g a x y back seen queue backs seen1 queue1 backs1 seen2 queue2 backs2 seen3 queue3 backs3 one two three =
-    extends_twice queue queue1 queue3 (pushed_extends a back seen queue backs seen1 queue1 backs1 one)
-    (extends_twice queue1 queue2 queue3 (tried_extends g x back seen1 queue1 backs1 seen2 queue2 backs2 two) (tried_extends g y back seen2 queue2 backs2 seen3 queue3 backs3 three))
+extends_three g a x y back seen queue backs seen1 queue1 backs1 seen2 queue2 backs2 seen3 queue3 backs3 one two three = search (rules, extends_twice, pushed_extends, tried_extends)

@@ -1,9 +1,8 @@
 -- Labels do not fall on the way up, and a node has no cut that is lower than its label.
-use Rattle.flow_cert.proofs.Common.{◌≡◌, ℕ, suc, ◌+◌, ◌-◌, ◌<◌, ◌≤◌, List, [], ◌∷◌, length, refl, subst, inl, inr, ◌⊎◌, arith, cases_lt, Aig, first_and, node_count, IsAnd, AreNormal, Regular, source_below, In, Within, IsAscending, Blocks, CanBeLeaf, greatest, height, IsFanIn}
+use Rattle.flow_cert.proofs.Common.{◌≡◌, ℕ, suc, ◌+◌, ◌-◌, ◌<◌, ◌≤◌, List, [], ◌∷◌, length, refl, subst, inl, inr, ◌⊎◌, arith, cases_lt, Aig, first_and, node_count, IsAnd, AreNormal, Regular, source_below, In, Within, IsAscending, Blocks, CanBeLeaf, greatest, height, IsFanIn, AreRight, rules}
 use Rattle.cut_sets.proofs.BlockLemmas.{contains_one}
 use Rattle.depth_label.proofs.DepthLemmas.{greatest_le, greatest_in}
 pub use Rattle.depth_label.proofs.DepthLemmas.{height_le}
-use Rattle.flow_cert.specs.Net.{AreRight}
 use Rattle.flow_cert.proofs.GraphLemmas.{reader_and, blocked_below}
 
 pub height_member : (label : ℕ → ℕ) (c : List ℕ) (m : ℕ) → In c m → label m + 1 ≤ height label c
@@ -34,10 +33,8 @@ module _ (g : Aig) (k : ℕ) (label : ℕ → ℕ) (normal : AreNormal (first_an
   pub label_rises : (m v : ℕ) → IsFanIn g m v → CanBeLeaf g m → label m ≤ label v
   label_rises m v f (inl s) = let e : label m ≡ 0 = right.labels.sources m (source_below g Regular m s) in omega arith
   label_rises m v f (inr and) =
-      let v_and : IsAnd g v = reader_and g m v f in
-      let best = right.labels.met v v_and in
-      let cut = ((right.minimal v v_and).only best.0 best.1).cut in
-      let e : label v ≡ height label best.0 = best.2 in
+      let best = right.labels.met v (reader_and g m v f) in
+      let cut = ((right.minimal v (reader_and g m v f)).only best.0 best.1).cut in
       elim (blocked_below g best.0 m v f cut.blocks) [
         | inl i ↦ absurd (let l : v < v = (cut.below v i).0 in omega arith)
         | inr b ↦ elim (label_le_height m best.0 and cut.ascending cut.few b) [
@@ -62,13 +59,8 @@ module _ (g : Aig) (k : ℕ) (label : ℕ → ℕ) (normal : AreNormal (first_an
   pub zero_free : (m : ℕ) → IsAnd g m → label m ≡ 0 → Blocks g [] m
   zero_free m and z =
       let best = right.labels.met m and in
-      let e : label m ≡ height label best.0 = best.2 in
-      let none : height label best.0 ≡ 0 = omega arith in
-      subst (λ c. Blocks g c m) (height_none label best.0 none) ((right.minimal m and).only best.0 best.1).cut.blocks
+      subst (λ c. Blocks g c m) (height_none label best.0 (omega arith)) ((right.minimal m and).only best.0 best.1).cut.blocks
 
 -- only an AND node has a label of 1 at least
 pub high_and : (g : Aig) (k : ℕ) (label : ℕ → ℕ) → AreRight g k label → (n : ℕ) → 1 ≤ label n → IsAnd g n
-high_and g k label right n l = elim (cases_lt n (first_and g)) [
-  | inl s ↦ absurd (let e : label n ≡ 0 = right.labels.sources n s in omega arith)
-  | inr s ↦ elim (cases_lt n (node_count g)) [ inl b ↦ (s, b) | inr b ↦ absurd (let e : label n ≡ 0 = right.labels.past n b in omega arith) ]
-]
+high_and g k label right n l = search (rules, cases_lt)

@@ -1,7 +1,5 @@
 -- A node without an owner, and one choice after another, give one more path.
-use Rattle.flow_cert.proofs.Common.{◌≡◌, ℕ, ◌+◌, ◌<◌, ◌≤◌, ◌∷◌, length, sym, ap, ◌∙◌, subst, inl, inr, ◌⊎◌, arith, cases_eq, In}
-use Rattle.flow_cert.specs.Net.{Net, IsInner, IsEnd}
-use Rattle.flow_cert.specs.Links.{IsChoice, HasChosen, IsLinked, IsUpdated}
+use Rattle.flow_cert.proofs.Common.{◌≡◌, ℕ, ◌+◌, ◌<◌, ◌≤◌, ◌∷◌, length, sym, ap, ◌∙◌, subst, inl, inr, ◌⊎◌, arith, cases_eq, In, Net, IsInner, IsEnd, IsChoice, HasChosen, IsLinked, IsUpdated, rules}
 use Rattle.flow_cert.proofs.GraphLemmas.{leaf_pos}
 
 -- inner nodes and their choices are not the constant
@@ -14,17 +12,7 @@ choice_pos net a u i (inr f) = leaf_pos net.graph u f.1
 
 -- a node without an owner is nobody's choice
 pub take_up : (net : Net) (owner chosen : ℕ → ℕ) (count u : ℕ) → IsLinked net 0 owner chosen count → 0 < net.node → owner u ≡ 0 → IsLinked net u owner chosen count
-take_up net owner chosen count u k pos free = record {
-  none = k.none;
-  full = k.full;
-  choice = k.choice;
-  apart = λ a i e. let p : 0 < a = inner_pos net a i in let o : owner (chosen a) ≡ a = k.owns a i in let q : owner (chosen a) ≡ owner u = ap owner e in absurd (omega arith);
-  owns = k.owns;
-  owned = λ v ne p. k.owned v (λ e. let q : owner v ≡ owner 0 = ap owner e in let z : owner 0 ≡ 0 = k.none in absurd (omega arith)) p;
-  ends = k.ends;
-  all_ends = λ v ne o. k.all_ends v (λ e. let q : owner v ≡ owner 0 = ap owner e in let z : owner 0 ≡ 0 = k.none in absurd (omega arith)) o;
-  count_ends = k.count_ends;
-}
+take_up net owner chosen count u k pos free = search (rules, inner_pos)
 
 -- The owner a of w chooses the loose node u in place of w, which is loose then.
 module _ (net : Net) (owner chosen owner' chosen' : ℕ → ℕ) (count u w a : ℕ) (k : IsLinked net u owner chosen count)
@@ -37,10 +25,7 @@ module _ (net : Net) (owner chosen owner' chosen' : ℕ → ℕ) (count u w a : 
   not_node e = let l : a < net.node = inner.below in absurd (omega arith)
 
   chose : chosen a ≡ w
-  chose = elim (k.owned w other (let p : 0 < a = a_pos in omega arith)) [
-    | inl e ↦ absurd (not_node (sym is ∙ e.0))
-    | inr h ↦ subst (λ b. chosen b ≡ w) is h.is
-  ]
+  chose = search (rules, not_node)
 
   owner_full : (b : ℕ) → IsInner net b → 0 < owner' b
   owner_full b i = elim (cases_eq b u) [
@@ -55,10 +40,7 @@ module _ (net : Net) (owner chosen owner' chosen' : ℕ → ℕ) (count u w a : 
   ]
 
   choices_apart : (b : ℕ) → IsInner net b → chosen' b ≡ w → ⊥
-  choices_apart b i e = elim (cases_eq b a) [
-    | inl q ↦ other (sym e ∙ (ap chosen' q ∙ new_chosen.there))
-    | inr ne ↦ ne (sym (k.owns b i) ∙ (ap owner (sym (new_chosen.elsewhere b ne) ∙ e) ∙ is))
-  ]
+  choices_apart b i e = search (rules, cases_eq)
 
   owning : (b : ℕ) → IsInner net b → owner' (chosen' b) ≡ b
   owning b i = elim (cases_eq b a) [
@@ -67,25 +49,13 @@ module _ (net : Net) (owner chosen owner' chosen' : ℕ → ℕ) (count u w a : 
   ]
 
   keeps : (v : ℕ) → (v ≡ w → ⊥) → HasChosen net chosen (owner v) v → HasChosen net chosen' (owner v) v
-  keeps v ne h = record {
-    inner = h.inner;
-    is = new_chosen.elsewhere (owner v) (λ e. ne (sym h.is ∙ (ap chosen e ∙ chose))) ∙ h.is;
-  }
+  keeps v ne h = search (rules, chose)
 
   owned_still : (v : ℕ) → (v ≡ w → ⊥) → 0 < owner' v → ((owner' v ≡ net.node) × IsEnd net v) ⊎ HasChosen net chosen' (owner' v) v
-  owned_still v ne p = elim (cases_eq v u) [
-    | inl e ↦ inr (let q : owner' v ≡ a = ap owner' e ∙ new_owner.there in subst (λ b. HasChosen net chosen' b v) (sym q) (record { inner = inner; is = new_chosen.there ∙ sym e }))
-    | inr nu ↦ (let q : owner' v ≡ owner v = new_owner.elsewhere v nu in elim (k.owned v nu (omega arith)) [
-      | inl h ↦ inl (q ∙ h.0, h.1)
-      | inr h ↦ inr (subst (λ b. HasChosen net chosen' b v) (sym q) (keeps v ne h))
-    ])
-  ]
+  owned_still v ne p = search (rules, cases_eq, keeps)
 
   ends_still : (v : ℕ) → (v ≡ w → ⊥) → owner' v ≡ net.node → In k.ends v
-  ends_still v ne e = elim (cases_eq v u) [
-    | inl q ↦ absurd (not_node (sym new_owner.there ∙ (sym (ap owner' q) ∙ e)))
-    | inr nu ↦ k.all_ends v nu (sym (new_owner.elsewhere v nu) ∙ e)
-  ]
+  ends_still v ne e = search (rules, cases_eq, not_node)
 
   pub hand_on : IsLinked net w owner' chosen' count
   hand_on = record {
@@ -110,13 +80,7 @@ module _ (net : Net) (owner chosen owner' : ℕ → ℕ) (count u : ℕ) (k : Is
   ]
 
   end_owned : (v : ℕ) → 0 < owner' v → ((owner' v ≡ net.node) × IsEnd net v) ⊎ HasChosen net chosen (owner' v) v
-  end_owned v p = elim (cases_eq v u) [
-    | inl e ↦ inl (ap owner' e ∙ new_owner.there, subst (λ m. IsEnd net m) (sym e) end)
-    | inr nu ↦ (let q : owner' v ≡ owner v = new_owner.elsewhere v nu in elim (k.owned v nu (omega arith)) [
-      | inl h ↦ inl (q ∙ h.0, h.1)
-      | inr h ↦ inr (subst (λ b. HasChosen net chosen b v) (sym q) h)
-    ])
-  ]
+  end_owned v p = search (rules, cases_eq)
 
   pub take_end : IsLinked net 0 owner' chosen (count + 1)
   take_end = record {
@@ -133,7 +97,4 @@ module _ (net : Net) (owner chosen owner' : ℕ → ℕ) (count u : ℕ) (k : Is
 
 -- what is owned stays owned
 pub owned_kept : (owner owner' : ℕ → ℕ) (u a s : ℕ) → 0 < a → IsUpdated owner owner' u a → 0 < owner s → 0 < owner' s
-owned_kept owner owner' u a s pos new p = elim (cases_eq s u) [
-  | inl e ↦ (let q : owner' s ≡ owner' u = ap owner' e in let r : owner' u ≡ a = new.there in omega arith)
-  | inr ne ↦ (let q : owner' s ≡ owner s = new.elsewhere s ne in omega arith)
-]
+owned_kept owner owner' u a s pos new p = search (rules, cases_eq)

@@ -1,8 +1,6 @@
 -- The marks of the nodes that two paths of a step share, node by node.
-use Rattle.flow_cert.proofs.Common.{◌≡◌, ℕ, ◌+◌, ◌-◌, ◌<◌, ◌≤◌, Bool, true, false, List, [], ◌∷◌, ◌++◌, length, get_or, set, Some, refl, sym, ap, ◌∙◌, subst, inl, inr, ◌⊎◌, arith, length-set, get_or-set_other, get_or-set_same, slice_get, cases_eq, cases_lt, slice_get_within, same_Some, In, In-left, In-right, In-push, PathValue, StepValue}
-use Rattle.flow_cert.specs.Needed.{IsShared}
+use Rattle.flow_cert.proofs.Common.{◌≡◌, ℕ, ◌+◌, ◌-◌, ◌<◌, ◌≤◌, Bool, true, false, List, [], ◌∷◌, ◌++◌, length, get_or, set, Some, refl, sym, ap, ◌∙◌, subst, inl, inr, ◌⊎◌, arith, length-set, get_or-set_other, get_or-set_same, slice_get, cases_eq, cases_lt, slice_get_within, same_Some, In, In-left, In-right, In-push, PathValue, StepValue, IsShared, zeros, rules}
 use Rattle.flow_cert.specs.Marks.{StandsIn, HasTaken, first, again, shared, AreTaken, AreMarkedTo, AreMarked}
-use Rattle.flow_cert.specs.Stamps.{zeros}
 use Rattle.flow_cert.proofs.StampLemmas.{zero_at}
 
 pub taken_sizes : (node place m : ℕ) (marks : List Bool) (met : List ℕ) (marks' : List Bool) (met' : List ℕ) → HasTaken node place m marks met marks' met' → (length marks' ≡ length marks) × (length met' ≡ length met)
@@ -53,10 +51,7 @@ module _ (s : StepValue) (place m : ℕ) (path : PathValue) (is : slice_get s.pa
 
   -- a node that is met again in another path is shared
   is_shared : 0 < get_or met m 0 → (get_or met m 0 ≡ place + 1 → ⊥) → (m ≡ s.node → ⊥) → IsShared s m
-  is_shared p other ne = elim (k.first m p) [
-    | inl h ↦ record { i = get_or met m 0 - 1; j = place; p = h.path; q = path; order = h.before; first = h.is; second = is; in_first = h.inside; in_second = inside; below = (let l : m ≤ s.node = low in omega (arith, ne)) }
-    | inr h ↦ absurd (other (let e : get_or met m 0 - 1 ≡ place = h.0 in omega arith))
-  ]
+  is_shared p other ne = search rules
 
   module _ (old marks : List Bool) (w : AreMarkedTo s place nodes old marks) where
     -- where nothing is marked: m does not stand in an earlier path, or is the path's end
@@ -137,22 +132,6 @@ module _ (s : StepValue) (place : ℕ) (path : PathValue) (is : slice_get s.path
     ];
   }
 
--- at first
-pub taken_none : (s : StepValue) (n : ℕ) → AreTaken s 0 [] (zeros n)
-taken_none s n = record {
-  first = λ m p. let z : get_or (zeros n) m 0 ≡ 0 = zero_at n m in absurd (omega arith);
-  all = λ m i h. let l : i < 0 = h.before in absurd (omega arith);
-  here = λ m i. absurd i;
-}
-
-pub marked_none : (s : StepValue) (old : List Bool) → AreMarkedTo s 0 [] old old
-marked_none s old = record {
-  size = refl;
-  kept = λ m h. h;
-  only = λ m h. inl h;
-  all = λ m i l h o. let b : i < 0 = h.before in absurd (omega arith);
-}
-
 -- and at last
 pub marked_all : (s : StepValue) (limit : ℕ) (old marks : List Bool) → length s.paths ≤ limit → AreMarkedTo s limit [] old marks → AreMarked s old marks
 marked_all s limit old marks l w = record {
@@ -161,7 +140,6 @@ marked_all s limit old marks l w = record {
   only = w.only;
   all = λ m h.
       let j_in : h.j < length s.paths = slice_get_within s.paths h.j h.q h.second in
-      let o : h.i < h.j = h.order in
       w.all m h.i h.below (record { path = h.p; is = h.first; before = omega arith; inside = h.in_first })
       (inr (h.j, h.order, record { path = h.q; is = h.second; before = omega arith; inside = h.in_second }));
 }

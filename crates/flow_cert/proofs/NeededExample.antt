@@ -1,8 +1,7 @@
 -- Worked examples: which nodes a certificate claims.
 --
 -- The sources are the inputs 1 and 2. Nodes 3 and 4 are two products of them, for the roots 6 and 8, and each has the depth 1.
-use Rattle.flow_cert.proofs.Common.{◌≡◌, ℕ, ◌/◌, ◌<◌, ◌≤◌, List, [], ◌∷◌, length, refl, sym, ap, ◌∙◌, inl, inr, arith, slice_get_within, Aig, Regular, Pair, label_at, StepValue, CertificateValue, node, complemented}
-use Rattle.flow_cert.specs.Needed.{IsFirstToNeed, IsShared, IsNeeded, root, shared, HasStep, AreNeeded}
+use Rattle.flow_cert.proofs.Common.{◌≡◌, ℕ, ◌/◌, ◌<◌, ◌≤◌, List, [], ◌∷◌, length, refl, sym, ap, ◌∙◌, inl, inr, arith, slice_get_within, Aig, Regular, Pair, label_at, StepValue, CertificateValue, node, complemented, IsFirstToNeed, IsShared, IsNeeded, root, shared, HasStep, AreNeeded}
 use Rattle.flow_cert.proofs.TargetLemmas.{first_once}
 
 abbrev pair : ℕ → ℕ → Pair

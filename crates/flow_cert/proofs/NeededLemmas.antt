@@ -1,22 +1,10 @@
 -- The nodes whose claims are needed: they are the same where the paths are, and the numbers of lines have no part in them.
-use Rattle.flow_cert.proofs.Common.{◌≡◌, ℕ, ◌≤◌, ◌<◌, List, map, Some, slice_get, refl, sym, ap, ◌∙◌, subst, arith, Aig, In, In-map, from_map, LabelsValue, label_of, PathValue, StepValue, CertificateValue, bare_path, bare_step, bare}
+use Rattle.flow_cert.proofs.Common.{◌≡◌, ℕ, ◌≤◌, ◌<◌, List, map, Some, slice_get, refl, sym, ap, ◌∙◌, subst, arith, Aig, In, In-map, from_map, LabelsValue, label_of, PathValue, StepValue, CertificateValue, bare_path, bare_step, bare, AreLabelClaims, IsFirstToNeed, IsShared, IsNeeded, root, shared, AreNeeded, ShowAlike, HasOneClaiming, rules}
 use Rattle.cert_check.proofs.BareLemmas.{got, bared}
-use Rattle.flow_cert.specs.Needed.{AreLabelClaims, IsFirstToNeed, IsShared, IsNeeded, root, shared, AreNeeded, ShowAlike, HasOneClaiming}
 
 -- a step of the same node with the same paths shares the same nodes
 shared_alike : (s t : StepValue) (m : ℕ) → s.node ≡ t.node → s.paths ≡ t.paths → IsShared s m → IsShared t m
-shared_alike s t m node paths h = record {
-  i = h.i;
-  j = h.j;
-  p = h.p;
-  q = h.q;
-  order = h.order;
-  first = subst (λ ps. slice_get ps h.i ≡ Some h.p) paths h.first;
-  second = subst (λ ps. slice_get ps h.j ≡ Some h.q) paths h.second;
-  in_first = h.in_first;
-  in_second = h.in_second;
-  below = subst (λ n. m < n) node h.below;
-}
+shared_alike s t m node paths h = search rules
 
 module _ (g : Aig) (roots : List ℕ) (label : ℕ → ℕ) where
   module _ (c d : CertificateValue) (of : AreNeeded g roots label d) (depth : c.depth ≡ d.depth) (alike : ShowAlike c d) where
@@ -37,27 +25,10 @@ same_step : (ss ts : List StepValue) → map bare_step ss ≡ map bare_step ts �
 same_step ss ts same s i = from_map bare_step ts (bare_step s) (subst (λ us. In us (bare_step s)) same (In-map bare_step ss s i))
 
 same_path : (ps qs : List PathValue) → map bare_path ps ≡ map bare_path qs → (i : ℕ) (p : PathValue) → slice_get ps i ≡ Some p → (q : PathValue) × (slice_get qs i ≡ Some q) × (p.nodes ≡ q.nodes)
-same_path ps qs same i p e =
-    let r = got qs i (bare_path p) (subst (λ us. slice_get us i ≡ Some (bare_path p)) same (bared ps i p e)) in
-    (r.0, r.1, ap (λ (x : PathValue). x.nodes) r.2)
+same_path ps qs same i p e = grind (arith, got, bared)
 
 same_shared : (s t : StepValue) (m : ℕ) → bare_step s ≡ bare_step t → IsShared s m → IsShared t m
-same_shared s t m same h =
-    let paths : map bare_path s.paths ≡ map bare_path t.paths = ap (λ (x : StepValue). x.paths) same in
-    let p = same_path s.paths t.paths paths h.i h.p h.first in
-    let q = same_path s.paths t.paths paths h.j h.q h.second in
-    record {
-      i = h.i;
-      j = h.j;
-      p = p.0;
-      q = q.0;
-      order = h.order;
-      first = p.1;
-      second = q.1;
-      in_first = subst (λ ns. In ns m) p.2 h.in_first;
-      in_second = subst (λ ns. In ns m) q.2 h.in_second;
-      below = subst (λ n. m < n) (ap (λ (x : StepValue). x.node) same) h.below;
-    }
+same_shared s t m same h = grind (arith, same_path)
 
 module _ (g : Aig) (roots : List ℕ) (label : ℕ → ℕ) where
   bare_needed : (c d : CertificateValue) → bare c ≡ bare d → (m : ℕ) → IsNeeded g roots label c m → IsNeeded g roots label d m
@@ -82,8 +53,4 @@ module _ (g : Aig) (roots : List ℕ) (label : ℕ → ℕ) where
 
 -- and their labels.
 pub same_label_claims : (v : LabelsValue) (c d : CertificateValue) → bare c ≡ bare d → AreLabelClaims v c → AreLabelClaims v d
-same_label_claims v c d same of = record {
-  each = λ s i.
-      let u = same_step d.steps c.steps (ap (λ (x : CertificateValue). x.steps) (sym same)) s i in
-      ap (λ (x : StepValue). x.claim) u.2 ∙ (of.each u.0 u.1 ∙ ap (λ (x : StepValue). label_of v x.node) (sym u.2));
-}
+same_label_claims v c d same of = search (rules, same_step)

@@ -3,9 +3,7 @@ use Rattle.flow_cert.proofs.Common.{◌≡◌, ℕ, zero, suc, ◌<◌, ◌≤�
 
 -- places have different elements
 pub once_places : (xs : List ℕ) (i j : ℕ) → AreApart xs → i < j → j < length xs → get_or xs i 0 ≡ get_or xs j 0 → ⊥
-once_places xs i j s l m e =
-    let same : i ≡ j = apart_once xs i j (get_or xs j 0) s (slice_get-get_or xs i 0 (omega arith) ∙ ap Some e) (slice_get-get_or xs j 0 m) in
-    omega arith
+once_places xs i j s l m e = grind (arith, apart_once, slice_get-get_or)
 
 -- numbers that ascend
 pub ascending_apart : (xs : List ℕ) → IsAscending xs → AreApart xs

@@ -1,9 +1,5 @@
 -- A search begins at the ends, and comes to a node without an owner.
-use Rattle.flow_cert.proofs.Common.{◌≡◌, ℕ, zero, suc, ◌+◌, ◌<◌, ◌≤◌, List, [], ◌∷◌, ◌++◌, length, get_or, set, take, Some, refl, sym, ap, ◌∙◌, subst, inl, inr, arith, length-append, get_or-set_other, get_or-set_same, length-set, cases_eq, cases_lt, get_or_push, get_or_past, slice_get-get_or, get_or-append, node_count, In, In-get_or, In-push, In-left, In-right, take_get, AreApart, In-place}
-use Rattle.flow_cert.specs.Net.{Net, IsEnd, IsNet, AreEnds, AreRight}
-use Rattle.flow_cert.specs.Links.{IsLinked}
-use Rattle.flow_cert.specs.Search.{ComesFrom, IsHandedOn, IsSearched, IsSearching, IsBegun}
-use Rattle.flow_cert.specs.Stamps.{zeros}
+use Rattle.flow_cert.proofs.Common.{◌≡◌, ℕ, zero, suc, ◌+◌, ◌<◌, ◌≤◌, List, [], ◌∷◌, ◌++◌, length, get_or, set, take, Some, refl, sym, ap, ◌∙◌, subst, inl, inr, arith, length-append, get_or-set_other, get_or-set_same, length-set, cases_eq, cases_lt, get_or_push, get_or_past, slice_get-get_or, get_or-append, node_count, In, In-get_or, In-push, In-left, In-right, take_get, AreApart, In-place, Net, IsEnd, IsNet, AreEnds, AreRight, IsLinked, ComesFrom, IsHandedOn, IsSearched, IsSearching, IsBegun, zeros, rules}
 use Rattle.flow_cert.proofs.OnceLemmas.{once_few}
 use Rattle.flow_cert.proofs.BarrierLemmas.{some_barrier}
 use Rattle.flow_cert.proofs.LabelLemmas.{not_blocked}
@@ -14,9 +10,6 @@ pub search_ends : (net : Net) → IsNet net → (k : ℕ) → AreRight net.graph
 search_ends net is k right owner chosen count linked few queue backs done s all =
     let handed : (u : ℕ) → In queue u → IsHandedOn net owner queue u = (λ u i. let r = In-place queue u i in let l : r.0 < length queue = r.1 in subst (λ x. IsHandedOn net owner queue x) r.2 (s.handed r.0 (omega arith))) in
     let b = some_barrier net is owner chosen count linked queue s.once s.nodes s.ends handed in
-    let c : length b.0 ≤ count = b.1.few in
-    let h : net.label net.node ≡ net.height = is.is in
-    let high : 2 ≤ net.height = is.high in
     not_blocked net.graph k net.label is.normal right net.node b.0 is.and (omega arith) b.1.ascending (omega arith)
     (λ m i. let q = b.1.low m i in (q.0, (let l : net.label m + 1 < net.height = q.1 in omega arith))) b.1.blocks
 
@@ -26,21 +19,12 @@ queue_short net owner queue backs done s = once_few queue net.node s.once (λ m 
 
 -- nothing is in the queue
 pub begun_none : (n m : ℕ) (ends : List ℕ) → m ≡ n → IsBegun n ends 0 (zeros m) [] []
-begun_none n m ends e = record {
-  size = length_zeros m ∙ e;
-  is = refl;
-  count = refl;
-  from_none = λ j. refl;
-  in_seen = λ x i. absurd i;
-  seen_in = λ x l. let z : get_or (zeros m) x 0 ≡ 0 = zero_at m x in absurd (omega arith);
-}
+begun_none n m ends e = search (rules, length_zeros, zero_at)
 
 -- one more end
 pub begun_more : (n : ℕ) (ends : List ℕ) (limit : ℕ) (seen queue backs : List ℕ) (x : ℕ) → limit < length ends → x ≡ get_or ends limit 0 → x < n → IsBegun n ends limit seen queue backs
     → IsBegun n ends (limit + 1) (set seen x 1) (queue ++ x ∷ []) (backs ++ 0 ∷ [])
 begun_more n ends limit seen queue backs x inside e l k =
-    let size : length seen ≡ n = k.size in
-    let there : get_or (set seen x 1) x 0 ≡ 1 = get_or-set_same seen x 1 0 (omega arith) in
     record {
       size = length-set seen x 1 ∙ k.size;
       is = ap (λ q. q ++ x ∷ []) k.is ∙ sym (take_get ends limit x (slice_get-get_or ends limit 0 inside ∙ ap Some (sym e)));
@@ -53,7 +37,7 @@ begun_more n ends limit seen queue backs x inside e l k =
         ]
       ];
       in_seen = λ m i. elim (cases_eq m x) [
-        | inl q ↦ (let a : get_or (set seen x 1) m 0 ≡ 1 = ap (λ y. get_or (set seen x 1) y 0) q ∙ there in omega arith)
+        | inl q ↦ (let a : get_or (set seen x 1) m 0 ≡ 1 = ap (λ y. get_or (set seen x 1) y 0) q ∙ (get_or-set_same seen x 1 0 (omega arith)) in omega arith)
         | inr ne ↦ elim (In-push queue x m i) [ inl j ↦ (let a : get_or (set seen x 1) m 0 ≡ get_or seen m 0 = get_or-set_other seen x m 1 0 ne in let b : 0 < get_or seen m 0 = k.in_seen m j in omega arith) | inr q ↦ absurd (ne q) ]
       ];
       seen_in = λ m b. elim (cases_eq m x) [

@@ -1,10 +1,6 @@
 -- From labels that are right to the net of a node, and from its paths to what shows the label.
-use Rattle.flow_cert.proofs.Common.{◌≡◌, ℕ, ◌+◌, ◌<◌, ◌≤◌, eqb, List, [], ◌∷◌, length, refl, sym, ◌∙◌, subst, inl, inr, arith, eqb-false, slice_get_within, Aig, first_and, IsAnd, AreNormal, choose, LabelsValue, label_of, PathValue, IsPath, path_count}
+use Rattle.flow_cert.proofs.Common.{◌≡◌, ℕ, ◌+◌, ◌<◌, ◌≤◌, eqb, List, [], ◌∷◌, length, refl, sym, ◌∙◌, subst, inl, inr, arith, eqb-false, slice_get_within, Aig, first_and, IsAnd, AreNormal, choose, LabelsValue, label_of, PathValue, IsPath, path_count, SiteValue, net_at, net_of, IsNet, AreReaders, AreRight, owner_in, AreLinks, AreWays, AreShowing, IsStepOf}
 use Rattle.cert_check.proofs.LeastLemmas.{path_count-more}
-use Rattle.flow_cert.specs.Net.{SiteValue, net_at, net_of, IsNet, AreReaders, AreRight}
-use Rattle.flow_cert.specs.Links.{owner_in, AreLinks}
-use Rattle.flow_cert.specs.Ways.{AreWays}
-use Rattle.flow_cert.specs.Justify.{AreShowing, IsStepOf}
 use Rattle.flow_cert.proofs.LabelLemmas.{label_rises, source_or_and}
 use Rattle.flow_cert.proofs.WayLemmas.{ways_share, ways_paths}
 
@@ -32,29 +28,3 @@ shown site k owners starts paths is links ways e = record {
 -- how many paths show a claim
 pub count_one : (k claim : ℕ) → claim ≡ 1 → path_count k claim ≡ 1
 count_one k claim e = choose (λ v. v ≡ 1) (eqb claim 1) 1 (k + 1) (λ _. refl) (λ f. absurd (eqb-false claim 1 f e))
-
--- one path shows a label of 1
-pub low_shown : (g : Aig) (k : ℕ) (label : ℕ → ℕ) (n : ℕ) (p : PathValue) → IsAnd g n → label n ≡ 1 → IsPath g n p.nodes → IsStepOf g k label (record { line = 0; node = n; claim = 1; paths = p ∷ [] })
-low_shown g k label n p and one path = record {
-  and = and;
-  claim = sym one;
-  positive = omega arith;
-  justified = record {
-    count = sym (count_one k 1 refl);
-    paths = λ q i. elim i [ inl e ↦ subst (λ (r : PathValue). IsPath g n r.nodes) (sym e) path | inr b ↦ absurd b ];
-    apart = λ i j m q r l a b c d ne. let w : j < 1 = slice_get_within (p ∷ []) j r b in let v : i < 1 = slice_get_within (p ∷ []) i q a in absurd (omega arith);
-  };
-}
-
--- k + 1 paths show a label of 2 or more
-pub high_shown : (g : Aig) (k : ℕ) (label : ℕ → ℕ) (n claim : ℕ) (paths : List PathValue) → IsAnd g n → claim ≡ label n → 2 ≤ claim → AreShowing g k label n paths → IsStepOf g k label (record { line = 0; node = n; claim = claim; paths = paths })
-high_shown g k label n claim paths and e two show = record {
-  and = and;
-  claim = e;
-  positive = omega arith;
-  justified = record {
-    count = show.count ∙ sym (path_count-more k claim two);
-    paths = show.each;
-    apart = λ i j m p q l a b c d ne. let h : label n ≤ label m + 1 = show.apart i j m p q l a b c d ne in omega arith;
-  };
-}

@@ -1,6 +1,5 @@
 -- Values with stamps, as the list that they count as.
-use Rattle.flow_cert.proofs.Common.{◌≡◌, ℕ, zero, suc, ◌<◌, ◌≤◌, eqb, List, [], ◌∷◌, length, get_or, set, refl, ap, ◌∙◌, arith, eqb-true, eqb-false, choose, get_or_read}
-use Rattle.flow_cert.specs.Stamps.{zeros, counted, values_at}
+use Rattle.flow_cert.proofs.Common.{◌≡◌, ℕ, zero, suc, ◌<◌, ◌≤◌, eqb, List, [], ◌∷◌, length, get_or, set, refl, ap, ◌∙◌, arith, eqb-true, eqb-false, choose, get_or_read, zeros, counted, values_at}
 
 pub length_values : (p : ℕ) (ss vs : List ℕ) → length ss ≡ length vs → length (values_at p ss vs) ≡ length vs
 length_values p [] [] e = refl
@@ -41,7 +40,6 @@ values_none p [] [] n ne = refl
 values_none p [] (v ∷ vs) n ne = absurd (omega arith)
 values_none p (s ∷ ss) [] n ne = absurd (omega arith)
 values_none p (s ∷ ss) (v ∷ vs) n ne =
-    let f : suc (length ss) ≡ suc (length vs) = n in
     ap (λ y. y ∷ values_at p ss vs) (counted_none p s v (λ e. ne 0 (omega arith) e)) ∙ ap (λ ys. 0 ∷ ys) (values_none p ss vs (omega arith) (λ i l e. ne (suc i) (omega arith) e))
 
 pub length_zeros : (n : ℕ) → length (zeros n) ≡ n

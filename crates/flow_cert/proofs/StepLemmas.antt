@@ -1,11 +1,6 @@
 -- The steps of the needed nodes, from above.
-use Rattle.flow_cert.proofs.Common.{◌≡◌, ℕ, ◌+◌, ◌<◌, ◌≤◌, Bool, true, false, List, [], ◌∷◌, ◌++◌, length, map, reverse, refl, sym, ap, ◌∙◌, subst, inl, inr, arith, cases_eq, reverse-append, map-append, slice_get_within, Aig, first_and, node_count, IsAnd, AreNormal, In, IsAscending, IsDescending, In-left, In-right, In-push, In-map, from_map, StepValue}
+use Rattle.flow_cert.proofs.Common.{◌≡◌, ℕ, ◌+◌, ◌<◌, ◌≤◌, Bool, true, false, List, [], ◌∷◌, ◌++◌, length, map, reverse, refl, sym, ap, ◌∙◌, subst, inl, inr, arith, cases_eq, reverse-append, map-append, slice_get_within, Aig, first_and, node_count, IsAnd, AreNormal, In, IsAscending, IsDescending, In-left, In-right, In-push, In-map, from_map, StepValue, AreRight, IsStepOf, IsShared, HasStep, mark, AreMarked, FitStep, CanBegin, IsWanted, AreDoneTo, AreSteps}
 use Rattle.list_laws.proofs.Reversed.{reversed_in, in_reversed}
-use Rattle.flow_cert.specs.Net.{AreRight}
-use Rattle.flow_cert.specs.Justify.{IsStepOf}
-use Rattle.flow_cert.specs.Needed.{IsShared, HasStep}
-use Rattle.flow_cert.specs.Marks.{mark, AreMarked, FitStep}
-use Rattle.flow_cert.specs.Steps.{CanBegin, IsWanted, AreDoneTo, AreSteps}
 use Rattle.flow_cert.specs.Steps as steps
 use Rattle.flow_cert.proofs.GraphLemmas.{path_below}
 use Rattle.flow_cert.proofs.LabelLemmas.{high_and}
@@ -102,27 +97,6 @@ module _ (g : Aig) (k : ℕ) (label : ℕ → ℕ) (right : AreRight g k label) 
         ];
         begun = λ a. w.kept begin (d.begun a);
       }
-
--- at first only the node where the certificate begins is marked
-pub done_none : (g : Aig) (k : ℕ) (label : ℕ → ℕ) (begin limit : ℕ) (marks : List Bool) → CanBegin g label begin → length marks ≡ node_count g → node_count g ≤ limit
-    → ((m : ℕ) → mark marks m ≡ true → (m ≡ begin) × (0 < begin)) → (0 < begin → mark marks begin ≡ true) → AreDoneTo g k label begin limit marks []
-done_none g k label begin limit marks can size top only on = record {
-  size = size;
-  descending = tt;
-  above = λ s i. absurd i;
-  each = λ s i. absurd i;
-  why = λ s i. absurd i;
-  marked = λ m h. let r = only m h in elim can [
-    | inl z ↦ absurd (let p : 0 < begin = r.1 in omega arith)
-    | inr c ↦ subst (λ x. IsAnd g x × (1 ≤ label x) × IsWanted begin [] x) (sym r.0) (c.0, c.1, steps.first refl)
-  ];
-  have = λ m l h. let r = only m h in elim can [
-    | inl z ↦ absurd (let p : 0 < begin = r.1 in omega arith)
-    | inr c ↦ absurd (let b : begin < node_count g = c.0.1 in let e : m ≡ begin = r.0 in omega arith)
-  ];
-  shares = λ s m i h. absurd i;
-  begun = λ a. on (let b : first_and g ≤ begin = a.0 in omega arith);
-}
 
 -- a descending list turned round ascends
 ascending_push : (xs : List ℕ) (x : ℕ) → IsAscending xs → ((y : ℕ) → In xs y → y < x) → IsAscending (xs ++ x ∷ [])

@@ -1,8 +1,7 @@
 -- The depth that roots need, root by root.
-use Rattle.flow_cert.proofs.Common.{◌≡◌, ℕ, ◌+◌, ◌/◌, ◌%◌, ◌<◌, ◌≤◌, List, [], ◌∷◌, ◌++◌, take, length, get_or, refl, sym, ap, ◌∙◌, subst, inl, inr, arith, Aig, IsAnd, IsSource, Regular, lits_of, In, Needs, In-append, In-map, In-get_or, map-append, take_all, take_more}
+use Rattle.flow_cert.proofs.Common.{◌≡◌, ℕ, ◌+◌, ◌/◌, ◌%◌, ◌<◌, ◌≤◌, List, [], ◌∷◌, ◌++◌, take, length, get_or, refl, sym, ap, ◌∙◌, subst, inl, inr, arith, Aig, IsAnd, IsSource, Regular, lits_of, In, Needs, In-append, In-map, In-get_or, map-append, take_all, take_more, IsFirstToNeed}
 use Rattle.aig_core.specs.declared.lit.Lit.{Lit}
 use Rattle.cert_check.specs.Valid as valid
-use Rattle.flow_cert.specs.Needed.{IsFirstToNeed}
 use Rattle.flow_cert.specs.Target.{IsLevel, HasBegin, nothing, node, complemented, IsTarget, IsDeeper, no_more, at_node, at_source}
 
 -- a literal of a list
@@ -12,9 +11,6 @@ in_lits ls i d h = In-map (λ (l : Lit). l.0) ls (get_or ls i d) (In-get_or ls i
 -- the first literals, with one more
 pub lits_more : (ls : List Lit) (i : ℕ) (d : Lit) → i < length ls → lits_of (take (i + 1) ls) ≡ lits_of (take i ls) ++ (get_or ls i d).0 ∷ []
 lits_more ls i d h = ap lits_of (take_more ls i d h) ∙ map-append (λ (l : Lit). l.0) (take i ls) (get_or ls i d ∷ [])
-
-pub lits_all : (ls : List Lit) (i : ℕ) → length ls ≤ i → lits_of (take i ls) ≡ lits_of ls
-lits_all ls i l = ap lits_of (take_all i ls l)
 
 -- the first root that needs a depth is one of the roots, and there is one such at most
 pub first_in : (g : Aig) (label : ℕ → ℕ) (d : ℕ) (roots : List ℕ) (l : ℕ) → IsFirstToNeed g label d roots l → In roots l
@@ -38,10 +34,6 @@ first_more g label d (r ∷ rs) x l (inr f) = inr (f.0, first_more g label d rs 
 first_last : (g : Aig) (label : ℕ → ℕ) (d : ℕ) (roots : List ℕ) (x : ℕ) → ((r : ℕ) → In roots r → Needs g label d r → ⊥) → Needs g label d x → IsFirstToNeed g label d (roots ++ x ∷ []) x
 first_last g label d [] x none n = inl (n, refl)
 first_last g label d (r ∷ rs) x none n = inr (none r (inl refl), first_last g label d rs x (λ y i. none y (inr i)) n)
-
--- no root yet
-pub target_none : (g : Aig) (label : ℕ → ℕ) → IsTarget g label [] 0 0
-target_none g label = record { complemented = λ l i s o. absurd i; nodes = λ l i a. absurd i; reached = nothing refl refl }
 
 begin_more : (g : Aig) (label : ℕ → ℕ) (roots : List ℕ) (x depth begin : ℕ) → HasBegin g label roots depth begin → HasBegin g label (roots ++ x ∷ []) depth begin
 begin_more g label roots x depth begin (nothing e f) = nothing e f

@@ -1,9 +1,6 @@
 -- A search that met a node without an owner gives one more path: the owners along it are changed from its last node on, back to
 -- its first.
-use Rattle.flow_cert.proofs.Common.{◌≡◌, ℕ, ◌+◌, ◌-◌, ◌<◌, ◌≤◌, cond, eqb, List, [], ◌∷◌, ◌++◌, length, get_or, set, get_or-set_other, get_or-set_same, length-append, refl, sym, ap, ◌∙◌, subst, inl, inr, ◌⊎◌, arith, eqb-true, eqb-false, IsSource, Regular, choose, In-get_or, In-push, pushed_apart}
-use Rattle.flow_cert.specs.Net.{Net, SiteValue, net_of, IsInner}
-use Rattle.flow_cert.specs.Links.{IsChoice, IsLinked, AreRouted, IsUpdated, first_owner, owner_in}
-use Rattle.flow_cert.specs.Search.{IsSearched, CanTurn}
+use Rattle.flow_cert.proofs.Common.{◌≡◌, ℕ, ◌+◌, ◌-◌, ◌<◌, ◌≤◌, cond, eqb, List, [], ◌∷◌, ◌++◌, length, get_or, set, get_or-set_other, get_or-set_same, length-append, refl, sym, ap, ◌∙◌, subst, inl, inr, ◌⊎◌, arith, eqb-true, eqb-false, IsSource, Regular, choose, In-get_or, In-push, pushed_apart, Net, SiteValue, net_of, IsInner, IsChoice, IsLinked, AreRouted, IsUpdated, first_owner, owner_in, IsSearched, CanTurn}
 use Rattle.flow_cert.proofs.OnceLemmas.{once_places}
 use Rattle.flow_cert.proofs.GraphLemmas.{leaf_pos, leaf_inside}
 use Rattle.flow_cert.proofs.LinkLemmas.{inner_pos, take_up, hand_on, take_end, owned_kept}

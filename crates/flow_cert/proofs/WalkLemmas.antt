@@ -1,7 +1,5 @@
 -- The walk down through deep nodes, reading by reading.
-use Rattle.flow_cert.proofs.Common.{◌≡◌, ℕ, ◌+◌, ◌/◌, ◌<◌, ◌≤◌, List, [], ◌∷◌, ◌++◌, length, get_or, set, get_or-set_other, get_or-set_same, length-set, length-append, refl, sym, ap, ◌∙◌, subst, inl, inr, ◌⊎◌, arith, cases_eq, cases_lt, get_or-append, Aig, first_and, node_count, IsAnd, IsNode, AreNormal, Pair, In, In-get_or, In-left, In-right, In-push, CanBeLeaf, IsFanIn, first, second, LabelsValue, label_of, pushed_apart, In-place}
-use Rattle.flow_cert.specs.Net.{Net, net_at, IsUpper, IsEnd, IsMet, AreReaders, AreRight}
-use Rattle.flow_cert.specs.Stamps.{zeros}
+use Rattle.flow_cert.proofs.Common.{◌≡◌, ℕ, ◌+◌, ◌/◌, ◌<◌, ◌≤◌, List, [], ◌∷◌, ◌++◌, length, get_or, set, get_or-set_other, get_or-set_same, length-set, length-append, refl, sym, ap, ◌∙◌, subst, inl, inr, ◌⊎◌, arith, cases_eq, cases_lt, get_or-append, Aig, first_and, node_count, IsAnd, IsNode, AreNormal, Pair, In, In-get_or, In-left, In-right, In-push, CanBeLeaf, IsFanIn, first, second, LabelsValue, label_of, pushed_apart, In-place, Net, net_at, IsUpper, IsEnd, IsMet, AreReaders, AreRight, zeros}
 use Rattle.flow_cert.specs.Walks.{HasRead, free, again, low, deep, IsWalked}
 use Rattle.flow_cert.proofs.OnceLemmas.{once_few}
 use Rattle.flow_cert.proofs.GraphLemmas.{fan_in_below, fan_in_cases, leaf_inside}
@@ -193,23 +191,6 @@ module _ (g : Aig) (ls : LabelsValue) (n : ℕ) (normal : AreNormal (first_and g
   read_size m v readers uppers ends readers' uppers' ends' (again was r u e) = ap length r
   read_size m v readers uppers ends readers' uppers' ends' (low leaf fresh l r u e) = ap length r ∙ length-set readers m v
   read_size m v readers uppers ends readers' uppers' ends' (deep leaf fresh l r u e) = ap length r ∙ length-set readers m v
-
-  -- nothing was read
-  pub walk_start : (count : ℕ) → IsWalked (net_at g ls n (zeros count)) (n ∷ []) [] 0
-  walk_start count = record {
-    met = λ m l. absurd (nothing m l);
-    uppers_are = record {
-      once = ((λ i. i), tt);
-      only = λ v i. elim i [ inl e ↦ (inl e, subst (λ x. IsAnd g x) (sym e) node, omega arith) | inr b ↦ absurd b ];
-      all = λ v u. elim u [ inl e ↦ inl e | inr d ↦ absurd (nothing v d.0) ];
-    };
-    ends_are = record { once = tt; only = λ u i. absurd i; all = λ u e. absurd (nothing u e.met) };
-    within = omega arith;
-    read = λ j m l f c. absurd (omega arith);
-  }
-    where
-      nothing : (m : ℕ) → 0 < get_or (zeros count) m 0 → ⊥
-      nothing m l = let z : get_or (zeros count) m 0 ≡ 0 = zero_at count m in absurd (omega arith)
 
 -- all upper nodes have read
 pub walk_all : (net : Net) (uppers ends : List ℕ) (done : ℕ) → IsWalked net uppers ends done → length uppers ≤ done → AreReaders net

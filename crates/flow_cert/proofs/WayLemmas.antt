@@ -1,8 +1,5 @@
 -- The ways up from the starts are paths, and share no low node.
-use Rattle.flow_cert.proofs.Common.{◌≡◌, ℕ, ◌+◌, ◌<◌, ◌≤◌, cond, ltb, List, [], ◌∷◌, ◌++◌, length, get_or, Some, refl, sym, ap, ◌∙◌, subst, inl, inr, eqb, arith, length-append, eqb-true, eqb-false, ltb-true, ltb-false, cases_lt, IsAnd, IsSource, Regular, In, choose, In-get_or, In-push, place_in, get_pushed, slice_get, slice_get_within, CanBeLeaf, IsFanIn, IsPath, PathValue}
-use Rattle.flow_cert.specs.Net.{Net, IsLow, IsInner, IsUpper, IsNet}
-use Rattle.flow_cert.specs.Links.{IsChoice, HasChosen, IsLinked, AreStarts}
-use Rattle.flow_cert.specs.Ways.{next_of, IsOnWay, low, upper, Passes, start, onward, IsWayTo, AreWays, AreWaysTo}
+use Rattle.flow_cert.proofs.Common.{◌≡◌, ℕ, ◌+◌, ◌<◌, ◌≤◌, cond, ltb, List, [], ◌∷◌, ◌++◌, length, get_or, Some, refl, sym, ap, ◌∙◌, subst, inl, inr, eqb, arith, length-append, eqb-true, eqb-false, ltb-true, ltb-false, cases_lt, IsAnd, IsSource, Regular, In, choose, In-get_or, In-push, place_in, get_pushed, slice_get, slice_get_within, CanBeLeaf, IsFanIn, IsPath, PathValue, Net, IsLow, IsInner, IsUpper, IsNet, IsChoice, HasChosen, IsLinked, AreStarts, next_of, IsOnWay, low, upper, Passes, start, onward, IsWayTo, AreWays, AreWaysTo}
 use Rattle.flow_cert.proofs.OnceLemmas.{once_places}
 use Rattle.flow_cert.proofs.GraphLemmas.{fan_in_below, leaf_pos, source_not_and, path_push, path_last}
 

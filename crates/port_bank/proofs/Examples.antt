@@ -1,17 +1,5 @@
 -- Worked examples: four bits in two regions, and a send whose second port fails, with a spare and without one.
-use Rattle.std.proofs.Common.{◌≡◌, ℕ, Bool, true, false, List, [], ◌∷◌, None, Some, Ok, zero, suc, ◌/◌, ◌+◌, ◌-◌, ◌^◌, ◌<◌, refl, ap, subst, ◌∙◌, arith, inl, inr}
-use Rattle.std.specs.List.{slice_get}
-use Rattle.std.proofs.lemmas.Option.{none-some, same_Some}
-use Rattle.tl_io.specs.Port.{PortSeen, Accepts, Fails}
-use Rattle.tl_io.specs.declared.Write.{Write}
-use Rattle.port_bank.specs.Regions.{width, region_of, region, outside}
-use Rattle.port_bank.specs.Bank.{BankSeen, all_ports, Called, Replaced}
-use Rattle.port_bank.specs.Send.{Sends, start, accepted, replaced, Loses, Plays, with_port}
-use Rattle.port_bank.specs.Image.{image, Holds}
-use Rattle.tl_io.specs.Writes.{AreAscending, AreBitsOf, written}
-use Rattle.port_bank.specs.Moves.{MovesWithCause, KeepsPlaces, LosesPlace}
-use Rattle.port_bank.specs.Seen.{in_parts}
-use Rattle.port_bank.specs.Steps.{from_region}
+use Rattle.port_bank.proofs.Common.{◌≡◌, ℕ, Bool, true, false, List, [], ◌∷◌, None, Some, Ok, zero, suc, ◌/◌, ◌+◌, ◌-◌, ◌^◌, ◌<◌, refl, ap, subst, ◌∙◌, arith, inl, inr, slice_get, none-some, same_Some, PortSeen, Accepts, Fails, Write, width, region_of, region, outside, BankSeen, all_ports, Called, Replaced, Sends, start, accepted, replaced, Loses, Plays, with_port, image, Holds, AreAscending, AreBitsOf, written, MovesWithCause, KeepsPlaces, LosesPlace, in_parts, from_region}
 use Rattle.port_bank.specs.Boxes.{MovesToEnd, TakesPlace}
 use Rattle.port_bank.proofs.MoveLemmas.{keeps_places, loses_place, moves_with_cause}
 

@@ -1,15 +1,6 @@
 -- Writes outside a region, and from a region on.
-use Rattle.std.proofs.Common.{◌≡◌, ℕ, zero, suc, ◌+◌, ◌*◌, ◌/◌, ◌<◌, ◌≤◌, if◌then◌else◌, not, Bool, true, false, List, [], ◌∷◌, ◌++◌, length, take, drop, get_or, map, refl, ap, sym, ◌∙◌, arith, inl, inr, eq-eqb, le-leb}
-use Rattle.std.proofs.lemmas.Bool.{cases_eq, ne_eqb, lt-leb}
-use Rattle.std.proofs.lemmas.List.{length-take}
+use Rattle.port_bank.proofs.Common.{◌≡◌, ℕ, zero, suc, ◌+◌, ◌*◌, ◌/◌, ◌<◌, ◌≤◌, if◌then◌else◌, not, Bool, true, false, List, [], ◌∷◌, ◌++◌, length, take, drop, get_or, map, refl, ap, sym, ◌∙◌, arith, inl, inr, eq-eqb, le-leb, cases_eq, ne_eqb, lt-leb, length-take, In, In-map, Write, region_of, region, is_outside, outside, writes_from, address_of, AreAscending, from_region, AreInOrder, rules}
 use Rattle.std.proofs.lemmas.List.Elements.{filter-append}
-use Rattle.list_laws.specs.Members.{In}
-use Rattle.list_laws.proofs.Members.{In-map}
-use Rattle.tl_io.specs.declared.Write.{Write}
-use Rattle.port_bank.specs.Regions.{region_of, region, is_outside, outside}
-use Rattle.tl_io.specs.Writes.{writes_from}
-use Rattle.tl_io.specs.Writes.{address_of, AreAscending}
-use Rattle.port_bank.specs.Steps.{from_region, AreInOrder}
 use Rattle.port_bank.proofs.RegionLemmas.{regions_rise, region_of_place}
 
 -- the first element stays, or is left out
@@ -37,12 +28,7 @@ is_own w i x h = ap not (eq-eqb (region_of w x) i h)
 
 pub outside_twice : (w i : ℕ) (xs : List Write) → outside w i (outside w i xs) ≡ outside w i xs
 outside_twice w i [] = refl
-outside_twice w i (x ∷ xs) = elim (cases_eq (region_of w x) i) [
-  | inl e ↦ ap (outside w i) (outside_drops w i x xs (is_own w i x e)) ∙ (outside_twice w i xs ∙ sym (outside_drops w i x xs (is_own w i x e)))
-  | inr o ↦
-      let keeps = outside_keeps w i x xs (is_other w i x o) in
-      ap (outside w i) keeps ∙ (outside_keeps w i x (outside w i xs) (is_other w i x o) ∙ (ap (λ t. x ∷ t) (outside_twice w i xs) ∙ sym keeps))
-]
+outside_twice w i (x ∷ xs) = search (rules, cases_eq, outside_drops, is_own, outside_keeps, is_other, outside_twice w i xs)
 
 -- where no region is lower, those outside one are those from the next one on
 pub outside_from : (w i p : ℕ) (xs : List Write) → p ≤ i → ((x : Write) → In xs x → i ≤ region_of w x) → outside w i (from_region w p xs) ≡ from_region w (i + 1) xs
@@ -54,8 +40,7 @@ outside_from w i p (x ∷ xs) h o =
     elim (cases_eq (region_of w x) i) [
       | inl e ↦ keeps ∙ (outside_drops w i x (from_region w p xs) (is_own w i x e) ∙ (rest ∙ sym (from_drops w (i + 1) x xs (omega (arith, e)))))
       | inr n ↦
-          let more : i + 1 ≤ region_of w x = omega (arith, above, n) in
-          keeps ∙ (outside_keeps w i x (from_region w p xs) (is_other w i x n) ∙ (ap (λ t. x ∷ t) rest ∙ sym (from_keeps w (i + 1) x xs more)))
+          keeps ∙ (outside_keeps w i x (from_region w p xs) (is_other w i x n) ∙ (ap (λ t. x ∷ t) rest ∙ sym (from_keeps w (i + 1) x xs (omega (arith, above, n)))))
     ]
 
 -- no write of a region is outside it
@@ -74,25 +59,16 @@ place_of (b ∷ bs) s x (inl e) = (0, omega arith, ap address_of e ∙ (let z : 
 place_of (b ∷ bs) s x (inr r) = let p = place_of bs (s + 1) x r in (suc p.0, omega (arith, p.1), p.2 ∙ (let z : (s + 1) + p.0 ≡ s + suc p.0 = omega arith in z))
 
 pub region_goes_there : (w i : ℕ) (config : List Bool) (x : Write) → In (region w config i) x → region_of w x ≡ i
-region_goes_there w i config x h =
-    let bits = take w (drop (i * w) config) in
-    let p = place_of bits (i * w) x h in
-    ap (λ a. a / w) p.2 ∙ region_of_place w i p.0 false (omega (arith, p.1, length-take w (drop (i * w) config)))
+region_goes_there w i config x h = grind (arith, place_of, region_of_place, length-take)
 
 pub outside_left : (w i n : ℕ) (config : List Bool) (others : List Write) → outside w i others ≡ others → outside w i (drop n (region w config i) ++ others) ≡ others
-outside_left w i n config others e =
-    let rest = drop n (region w config i) in
-    filter-append (is_outside w i) rest others
-    ∙ (ap (λ t. t ++ outside w i others) (none_outside w i rest (λ x h. region_goes_there w i config x (in_drop n (region w config i) x h))) ∙ e)
+outside_left w i n config others e = grind (arith, filter-append, none_outside, region_goes_there, in_drop)
 
 -- the writes of bits from a place on
 pub left_from : (bits : List Bool) (s k : ℕ) (d : Bool) → k < length bits → drop k (writes_from s bits) ≡ record { address = s + k; bit = get_or bits k d } ∷ drop (k + 1) (writes_from s bits)
 left_from [] s k d h = absurd (omega (arith, h))
 left_from (b ∷ bs) s zero d h = ap (λ a. record { address = a; bit = b } ∷ writes_from (s + 1) bs) (let z : s ≡ s + 0 = omega arith in z)
-left_from (b ∷ bs) s (suc k) d h =
-    left_from bs (s + 1) k d (omega (arith, h))
-    ∙ (ap (λ a. record { address = a; bit = get_or bs k d } ∷ drop (k + 1) (writes_from (s + 1) bs)) (let z : (s + 1) + k ≡ s + suc k = omega arith in z)
-    ∙ ap (λ n. record { address = s + suc k; bit = get_or bs k d } ∷ drop n (writes_from s (b ∷ bs))) (let z : suc (k + 1) ≡ suc k + 1 = omega arith in z))
+left_from (b ∷ bs) s (suc k) d h = grind (arith, left_from bs (s + 1) k d (omega (arith, h)))
 
 -- ascending addresses have regions that don't fall
 pub in_order : (w : ℕ) (xs : List Write) → 0 < w → AreAscending xs → AreInOrder w xs

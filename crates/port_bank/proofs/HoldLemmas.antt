@@ -1,21 +1,5 @@
 -- What a bank shows of a configuration while writes of it are left, and so what it holds at the end of a send.
-use Rattle.std.proofs.Common.{◌≡◌, ◌⊎◌, ℕ, ◌/◌, ◌<◌, ◌==◌, not, Bool, true, false, List, [], ◌∷◌, ◌++◌, map, Some, refl, ap, sym, ◌∙◌, subst, inl, inr, eqb-true, slice_set}
-use Rattle.std.specs.List.{slice_get}
-use Rattle.std.proofs.lemmas.Bool.{both_ways}
-use Rattle.std.proofs.lemmas.List.{map-append}
-use Rattle.std.proofs.lemmas.Option.{slice_get_within, same_Some}
-use Rattle.list_laws.specs.Members.{In}
-use Rattle.list_laws.proofs.Choice.{choose}
-use Rattle.list_laws.proofs.Members.{In-left, In-right, In-append}
-use Rattle.list_laws.proofs.Places.{set_here, set_other, same_or}
-use Rattle.tl_io.specs.Content.{extended}
-use Rattle.tl_io.specs.Port.{PortSeen}
-use Rattle.tl_io.specs.declared.Write.{Write}
-use Rattle.port_bank.specs.Regions.{region_of, region, is_outside, outside}
-use Rattle.port_bank.specs.Bank.{BankSeen, Called, Replaced}
-use Rattle.port_bank.specs.Send.{Sends, start, accepted, replaced}
-use Rattle.port_bank.specs.Image.{image, ShowsRegions}
-use Rattle.tl_io.specs.Writes.{address_of, AreBitsOf, written}
+use Rattle.port_bank.proofs.Common.{◌≡◌, ◌⊎◌, ℕ, ◌/◌, ◌<◌, ◌==◌, not, Bool, true, false, List, [], ◌∷◌, ◌++◌, map, Some, refl, ap, sym, ◌∙◌, subst, inl, inr, eqb-true, slice_set, slice_get, both_ways, map-append, slice_get_within, same_Some, In, choose, In-left, In-right, In-append, set_here, set_other, same_or, extended, PortSeen, Write, region_of, region, is_outside, outside, BankSeen, Called, Replaced, Sends, start, accepted, replaced, image, ShowsRegions, address_of, AreBitsOf, written, arith, rules}
 use Rattle.port_bank.proofs.ImageLemmas.{image_last, image_elsewhere, told_before}
 use Rattle.port_bank.proofs.RegionLemmas.{region_bits_are, address_in_region}
 
@@ -33,14 +17,8 @@ inside false m n f e = absurd (both_ways true f refl)
 
 left_outside : (w i : ℕ) (writes : List Write) (address : ℕ) → (address / w ≡ i → ⊥) → In (map address_of writes) address → In (map address_of (outside w i writes)) address
 left_outside w i [] address other h = absurd h
-left_outside w i (x ∷ xs) address other (inl e) =
-    choose (λ t. In (map address_of t) address) (is_outside w i x) (x ∷ outside w i xs) (outside w i xs)
-    (λ _. inl e)
-    (λ f. absurd (other (ap (λ a. a / w) e ∙ inside (region_of w x == i) (region_of w x) i f refl)))
-left_outside w i (x ∷ xs) address other (inr r) =
-    choose (λ t. In (map address_of t) address) (is_outside w i x) (x ∷ outside w i xs) (outside w i xs)
-    (λ _. inr (left_outside w i xs address other r))
-    (λ _. left_outside w i xs address other r)
+left_outside w i (x ∷ xs) address other (inl e) = grind (arith, inside)
+left_outside w i (x ∷ xs) address other (inr r) = grind (arith, left_outside w i xs address other r)
 
 -- at each address of a region its port shows the bit, or a write of it is left
 pub record Pends (width : ℕ) (config : List Bool) (left : List Write) (bank : BankSeen) : Type 0 where
@@ -63,12 +41,10 @@ pends_accepted w config write left old new p c = record {
         | inl e ↦
             let mine : slice_get (slice_set old.serving i c.after) i ≡ Some port = subst (λ k. slice_get (slice_set old.serving i c.after) k ≡ Some port) e now in
             let same : c.after ≡ port = same_Some c.after port (sym (set_here old.serving i c.after (slice_get_within old.serving i c.before c.was)) ∙ mine) in
-            let log_now : extended c.before.log (write ∷ []) ≡ Some log = sym c.answered.log ∙ (ap (λ (q : PortSeen). q.log) same ∙ told) in
-            let t = told_before c.before.log (write ∷ []) log log_now in
+            let t = told_before c.before.log (write ∷ []) log (sym c.answered.log ∙ (ap (λ (q : PortSeen). q.log) same ∙ told)) in
             elim (same_or address write.address) [
               | inl a ↦
-                  let own : write.bit ≡ bit = same_Some write.bit bit (sym (p.bits.bits write (inl refl)) ∙ (ap (slice_get config) (sym a) ∙ there)) in
-                  inl (ap (λ l. image l address) t.2 ∙ (ap (image (t.0 ++ write ∷ [])) a ∙ (image_last t.0 write ∙ ap Some own)))
+                  inl (ap (λ l. image l address) t.2 ∙ (ap (image (t.0 ++ write ∷ [])) a ∙ (image_last t.0 write ∙ ap Some (same_Some write.bit bit (sym (p.bits.bits write (inl refl)) ∙ (ap (slice_get config) (sym a) ∙ there))))))
               | inr a ↦
                   elim (passed_one write left address a (p.shows i address c.before t.0 bit c.was t.1 (place ∙ e) there)) [
                     | inl s ↦ inl (ap (λ l. image l address) t.2 ∙ (image_elsewhere t.0 write address a ∙ s))
@@ -76,8 +52,7 @@ pends_accepted w config write left old new p c = record {
                   ]
             ]
         | inr o ↦
-            let before : slice_get old.serving j ≡ Some port = sym (set_other old.serving i j c.after o) ∙ now in
-            passed_one write left address (λ a. o (sym place ∙ ap (λ b. b / w) a)) (p.shows j address port log bit before told place there)
+            passed_one write left address (λ a. o (sym place ∙ ap (λ b. b / w) a)) (p.shows j address port log bit (sym (set_other old.serving i j c.after o) ∙ now) told place there)
       ];
   bits = record { bits = λ x i. p.bits.bits x (inr i) };
 }
@@ -89,10 +64,9 @@ pends_replaced w config write left old mid new wide p c r =
     let i = region_of w write in
     let here = region w config i in
     let others = outside w i left in
-    let joined = map-append address_of here others in
     record {
       shows = λ j address port log bit now told place there.
-          let pending : In (map address_of here ++ map address_of others) address → In (map address_of (here ++ others)) address = λ h. subst (λ l. In l address) (sym joined) h in
+          let pending : In (map address_of here ++ map address_of others) address → In (map address_of (here ++ others)) address = λ h. subst (λ l. In l address) (sym (map-append address_of here others)) h in
           elim (same_or j i) [
             | inl e ↦ inr (pending (In-left (map address_of here) (map address_of others) address (address_in_region w i config address bit (wide address bit there) (place ∙ e) there)))
             | inr o ↦
@@ -124,20 +98,7 @@ holds_at_end p = record { shows = λ i address port log bit a b c d. elim (p.sho
 -- a configuration with writes taken differs only at their addresses
 pub written_or : (writes : List Write) (config : List Bool) (address : ℕ) → In (map address_of writes) address ⊎ (slice_get (written config writes) address ≡ slice_get config address)
 written_or [] config address = inr refl
-written_or (x ∷ xs) config address = elim (same_or address x.address) [
-  | inl e ↦ inl (inl e)
-  | inr o ↦ elim (written_or xs (slice_set config x.address x.bit) address) [
-    | inl i ↦ inl (inr i)
-    | inr e ↦ inr (e ∙ set_other config x.address address x.bit o)
-  ]
-]
+written_or (x ∷ xs) config address = search (rules, same_or, slice_set, set_other, written_or xs (slice_set config x.address x.bit) address)
 
 pub pends_at_first : (w : ℕ) (before config : List Bool) (writes : List Write) (bank : BankSeen) → AreBitsOf config writes → ShowsRegions w before bank → config ≡ written before writes → Pends w config writes bank
-pends_at_first w before config writes bank b h e = record {
-  shows = λ i address port log bit here told place there.
-      elim (written_or writes before address) [
-        | inl l ↦ inr l
-        | inr s ↦ inl (h.shows i address port log bit here told place (sym s ∙ (sym (ap (λ c. slice_get c address) e) ∙ there)))
-      ];
-  bits = b;
-}
+pends_at_first w before config writes bank b h e = search (rules, written_or)

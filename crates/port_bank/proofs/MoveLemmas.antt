@@ -1,18 +1,6 @@
 -- Which ports a send moves: how many, and each with its cause.
-use Rattle.std.proofs.Common.{◌≡◌, ◌⊎◌, ℕ, zero, suc, ◌+◌, Bool, true, false, List, [], ◌∷◌, ◌++◌, length, Some, refl, ap, sym, ◌∙◌, arith, subst, inl, inr, append-nil, append_assoc, slice_set}
-use Rattle.std.specs.List.{slice_get, remove}
-use Rattle.std.proofs.lemmas.List.{length-append}
-use Rattle.std.proofs.lemmas.List.Edits.{length-remove}
-use Rattle.std.proofs.lemmas.Option.{slice_get_within, same_Some}
-use Rattle.list_laws.specs.Members.{In}
-use Rattle.list_laws.proofs.Members.{In-left, In-right, In-append, In-get}
-use Rattle.list_laws.proofs.Places.{set_length, set_here}
+use Rattle.port_bank.proofs.Common.{◌≡◌, ◌⊎◌, ℕ, zero, suc, ◌+◌, Bool, true, false, List, [], ◌∷◌, ◌++◌, length, Some, refl, ap, sym, ◌∙◌, arith, subst, inl, inr, append-nil, append_assoc, slice_set, slice_get, remove, length-append, length-remove, slice_get_within, same_Some, In, In-left, In-right, In-append, In-get, set_length, set_here, PortSeen, Write, region_of, BankSeen, Called, Replaced, Retired, Sends, start, accepted, replaced, Loses, rules}
 use Rattle.tl_io.specs.Counts.{raised}
-use Rattle.tl_io.specs.Port.{PortSeen}
-use Rattle.tl_io.specs.declared.Write.{Write}
-use Rattle.port_bank.specs.Regions.{region_of}
-use Rattle.port_bank.specs.Bank.{BankSeen, Called, Replaced, Retired}
-use Rattle.port_bank.specs.Send.{Sends, start, accepted, replaced, Loses}
 use Rattle.port_bank.specs.Moves.{Becomes, start as stays, accepted as by_accepted, replaced as by_replaced, FallsShort, MovesWithCause, KeepsPlaces, LosesPlace}
 
 -- what a bank becomes
@@ -26,19 +14,13 @@ loses_short {w} l = record { place = region_of w l.write; write = l.write; mid =
 
 -- places
 keeps_called : (i : ℕ) (write : Write) (answer : Bool) (base old new : BankSeen) → KeepsPlaces base old → Called i write answer old new → KeepsPlaces base new
-keeps_called i write answer base old new k c = record {
-  serving = ap (λ (b : BankSeen). length b.serving) c.now ∙ (set_length old.serving i c.after ∙ k.serving);
-  used = ap (λ (b : BankSeen). length b.spares + length b.failed) c.now ∙ k.used;
-  left = (k.left.0, k.left.1 ∙ ap (λ (b : BankSeen). k.left.0 ++ b.spares) (sym c.now));
-  rest = ap (λ (b : BankSeen). b.rest) c.now ∙ k.rest;
-}
+keeps_called i write answer base old new k c = search (rules, set_length)
 
 keeps_replaced : (i : ℕ) (base old new : BankSeen) → KeepsPlaces base old → Replaced i old new → KeepsPlaces base new
 keeps_replaced i base old new k r =
-    let failed : length new.failed ≡ length old.failed + 1 = ap (λ (b : BankSeen). length b.failed) r.now ∙ length-append old.failed (r.port ∷ []) in
     record {
       serving = ap (λ (b : BankSeen). length b.serving) r.now ∙ (set_length old.serving i r.spare ∙ k.serving);
-      used = omega (arith, failed, ap length r.first, k.used);
+      used = omega (arith, ap (λ (b : BankSeen). length b.failed) r.now ∙ length-append old.failed (r.port ∷ []), ap length r.first, k.used);
       left = (k.left.0 ++ r.spare ∷ [], k.left.1 ∙ (ap (λ l. k.left.0 ++ l) r.first ∙ sym (append_assoc k.left.0 (r.spare ∷ []) new.spares)));
       rest = ap (λ (b : BankSeen). b.rest) r.now ∙ k.rest;
     }
@@ -55,10 +37,9 @@ loses_place {w} {old = old} {new = new} l =
     let k = keeps_called (region_of w l.write) l.write false old l.mid l.next (keeps_places l.sends) l.failed in
     let r = l.retired in
     let serving : length new.serving ≡ length (remove l.next.serving (region_of w l.write)) = ap (λ (b : BankSeen). length b.serving) r.now in
-    let less = length-remove l.next.serving (region_of w l.write) (slice_get_within l.next.serving (region_of w l.write) r.port r.was) in
     let failed : length new.failed ≡ length l.next.failed + 1 = ap (λ (b : BankSeen). length b.failed) r.now ∙ length-append l.next.failed (r.port ∷ []) in
     record {
-      serving = omega (arith, serving, less, k.serving);
+      serving = omega (arith, serving, length-remove l.next.serving (region_of w l.write) (slice_get_within l.next.serving (region_of w l.write) r.port r.was), k.serving);
       spares = ap (λ (b : BankSeen). b.spares) r.now;
       failed = omega (arith, failed, ap length r.none_left, k.used);
       rest = ap (λ (b : BankSeen). b.rest) r.now ∙ k.rest;
@@ -93,8 +74,7 @@ stems_here bank = record { stems = λ port h. (port, h, refl) }
 stems_called : (i : ℕ) (write : Write) (base old new : BankSeen) → Stems base old → Called i write true old new → Stems base new
 stems_called i write base old new s c = record {
   stems = λ port h.
-      let now : In (slice_set old.serving i c.after ++ old.spares) port = subst (λ (b : BankSeen). In (b.serving ++ b.spares) port) c.now h in
-      elim (In-append (slice_set old.serving i c.after) old.spares port now) [
+      elim (In-append (slice_set old.serving i c.after) old.spares port (subst (λ (b : BankSeen). In (b.serving ++ b.spares) port) c.now h)) [
         | inl a ↦ elim (in_set old.serving i c.after port a) [
           | inl e ↦
               let t = s.stems c.before (In-left old.serving old.spares c.before (In-get old.serving i c.before c.was)) in
@@ -108,13 +88,11 @@ stems_called i write base old new s c = record {
 -- the port that failed left
 stems_replaced : (i : ℕ) (write : Write) (base old mid new : BankSeen) → Stems base old → Called i write false old mid → Replaced i mid new → Stems base new
 stems_replaced i write base old mid new s c r =
-    let serving : new.serving ≡ slice_set old.serving i r.spare =
-    ap (λ (b : BankSeen). b.serving) r.now ∙ (ap (λ (b : BankSeen). slice_set b.serving i r.spare) c.now ∙ set_twice old.serving i c.after r.spare) in
+    let serving : new.serving ≡ slice_set old.serving i r.spare = grind (arith, slice_set, set_twice) in
     let spares : r.spare ∷ new.spares ≡ old.spares = sym r.first ∙ ap (λ (b : BankSeen). b.spares) c.now in
     record {
       stems = λ port h.
-          let now : In (slice_set old.serving i r.spare ++ new.spares) port = subst (λ l. In (l ++ new.spares) port) serving h in
-          elim (In-append (slice_set old.serving i r.spare) new.spares port now) [
+          elim (In-append (slice_set old.serving i r.spare) new.spares port (subst (λ l. In (l ++ new.spares) port) serving h)) [
             | inl a ↦ elim (in_set old.serving i r.spare port a) [
               | inl e ↦ s.stems port (In-right old.serving old.spares port (subst (λ l. In l port) spares (inl e)))
               | inr b ↦ s.stems port (In-left old.serving old.spares port b)
@@ -132,16 +110,7 @@ in_remove (z ∷ zs) (suc i) x (inl e) = inl e
 in_remove (z ∷ zs) (suc i) x (inr r) = inr (in_remove zs i x r)
 
 stems_retired : (i : ℕ) (write : Write) (base old mid new : BankSeen) → Stems base old → Called i write false old mid → Retired i mid new → Stems base new
-stems_retired i write base old mid new s c r =
-    let serving : new.serving ≡ remove old.serving i =
-    ap (λ (b : BankSeen). b.serving) r.now ∙ (ap (λ (b : BankSeen). remove b.serving i) c.now ∙ set_removed old.serving i c.after) in
-    let none : new.spares ≡ [] = ap (λ (b : BankSeen). b.spares) r.now in
-    record {
-      stems = λ port h.
-          let now : In (new.serving ++ []) port = subst (λ l. In (new.serving ++ l) port) none h in
-          let left : In (remove old.serving i) port = subst (λ l. In l port) (append-nil new.serving ∙ serving) now in
-          s.stems port (In-left old.serving old.spares port (in_remove old.serving i port left));
-    }
+stems_retired i write base old mid new s c r = grind (arith, set_removed, append-nil, in_remove)
 
 -- which ports moved, and why
 record Moved (old new : BankSeen) : Type 0 where
@@ -165,8 +134,7 @@ moved_one : (i : ℕ) (write : Write) (base old mid new : BankSeen) (port : Port
     slice_get mid.serving i ≡ Some port → new.failed ≡ mid.failed ++ port ∷ [] → Moved base new
 moved_one i write base old mid new port s m c was e =
     let t = s.stems c.before (In-left old.serving old.spares c.before (In-get old.serving i c.before c.was)) in
-    let here : slice_get (slice_set old.serving i c.after) i ≡ Some port = sym (ap (λ (b : BankSeen). slice_get b.serving i) c.now) ∙ was in
-    let same : c.after ≡ port = same_Some c.after port (sym (set_here old.serving i c.after (slice_get_within old.serving i c.before c.was)) ∙ here) in
+    let same : c.after ≡ port = same_Some c.after port (sym (set_here old.serving i c.after (slice_get_within old.serving i c.before c.was)) ∙ (sym (ap (λ (b : BankSeen). slice_get b.serving i) c.now) ∙ was)) in
     let once : port.faults ≡ raised t.0.faults 1 = ap (λ (q : PortSeen). q.faults) (sym same) ∙ (c.answered.faults ∙ ap (λ n. raised n 1) t.2) in
     record {
       moved = m.moved ++ port ∷ [];

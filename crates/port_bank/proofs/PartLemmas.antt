@@ -1,13 +1,6 @@
 -- A list of ports in four parts, after a call of one port and after a port moved.
-use Rattle.std.proofs.Common.{true, false, Result, Ok, Err, OnOk, OnErr, ◌≡◌, ℕ, zero, suc, ◌+◌, ◌-◌, ◌≤◌, ◌<◌, Bool, List, [], ◌∷◌, ◌++◌, length, take, drop, get_or, map, set, Some, refl, ap, sym, ◌∙◌, arith, subst}
-use Rattle.std.specs.List.{remove, slice_get}
+use Rattle.port_bank.proofs.Common.{true, false, Result, Ok, Err, OnOk, OnErr, ◌≡◌, ℕ, zero, suc, ◌+◌, ◌-◌, ◌≤◌, ◌<◌, Bool, List, [], ◌∷◌, ◌++◌, length, take, drop, get_or, map, set, Some, refl, ap, sym, ◌∙◌, arith, subst, remove, slice_get, map-set, map-append, length-set, length-map, length-append, length-take, length-drop, take-append-le, drop-append-le, take-append-drop, drop-drop, drop-set-lt, take_all, drop_all, length-remove, get_or-remove_below, PortSeen, Writes, Write, BankSeen, Answers, Called, Replaced, Retired, all_ports, in_parts, rules}
 use Rattle.std.proofs.Math.Seq.{take-set-lt}
-use Rattle.std.proofs.lemmas.List.{map-set, map-append, length-set, length-map, length-append, length-take, length-drop, take-append-le, drop-append-le, take-append-drop, drop-drop, drop-set-lt, take_all, drop_all}
-use Rattle.std.proofs.lemmas.List.Edits.{length-remove, get_or-remove_below}
-use Rattle.tl_io.specs.Port.{PortSeen, Writes}
-use Rattle.tl_io.specs.declared.Write.{Write}
-use Rattle.port_bank.specs.Bank.{BankSeen, Answers, Called, Replaced, Retired, all_ports}
-use Rattle.port_bank.specs.Seen.{in_parts}
 
 -- a removed element, before and behind its place
 pub drop-remove : {X : Type 0} (xs : List X) (i n : ℕ) → i ≤ n → i < length xs → drop n (remove xs i) ≡ drop (suc n) xs
@@ -55,30 +48,17 @@ the_parts serving spares rest failed = record { serving = serving; spares = spar
 
 pub same_parts : {a b c d e f g h : List PortSeen} → a ≡ e → b ≡ f → c ≡ g → d ≡ h →
     the_parts a b c d ≡ the_parts e f g h
-same_parts {a} {b} {c} {d} {e} {f} {g} {h} p q r s =
-    ap (λ x. the_parts x b c d) p ∙ (ap (λ x. the_parts e x c d) q ∙ (ap (λ x. the_parts e f x d) r ∙ ap (λ x. the_parts e f g x) s))
+same_parts {a} {b} {c} {d} {e} {f} {g} {h} p q r s = grind (arith, the_parts)
 
 -- a serving port was called
 pub parts_set : (s k f i : ℕ) (xs : List PortSeen) (y : PortSeen) → i < s → s + k + f ≤ length xs →
     in_parts s k f (set xs i y) ≡ record (in_parts s k f xs) { serving = set (take s xs) i y }
-parts_set s k f i xs y l h =
-    let long : length (set xs i y) ≡ length xs = length-set xs i y in
-    same_parts
-    (take-set-lt s xs i y l)
-    (ap (take k) (drop-set-lt s xs i y l))
-    (ap (λ n. take (n - (s + k) - f) (drop (s + k) (set xs i y))) long ∙ ap (take (length xs - (s + k) - f)) (drop-set-lt (s + k) xs i y (omega (arith, l))))
-    (ap (λ n. drop (n - f) (set xs i y)) long ∙ drop-set-lt (length xs - f) xs i y (omega (arith, l, h)))
+parts_set s k f i xs y l h = grind (arith, length-set, same_parts, take-set-lt, drop-set-lt)
 
 pub called : {B : Type 0} (seen : B → PortSeen) (items : List B) (s k f i : ℕ) (old new : B) (write : Write) (answer : Bool) → i < s → s + k + f ≤ length items →
     old ≡ get_or items i old → Answers answer (seen old) write (seen new) →
     Called i write answer (in_parts s k f (map seen items)) (in_parts s k f (map seen (set items i new)))
-called seen items s k f i old new write answer l h e a = record {
-  before = seen old;
-  after = seen new;
-  was = seen_there seen items s i old l (omega (arith, l, h)) e;
-  answered = a;
-  now = ap (in_parts s k f) (map-set seen items i new) ∙ parts_set s k f i (map seen items) (seen new) l (omega (arith, h, length-map items seen));
-}
+called seen items s k f i old new write answer l h e a = search (rules, seen_there, map-set, parts_set, length-map)
 
 -- the same by the answer of the call
 pub called_ok : {B E : Type 0} (seen : B → PortSeen) (items : List B) (s k f i : ℕ) (old new : B) (write : Write) (result : Result Unit E) → i < s → s + k + f ≤ length items →
@@ -110,15 +90,13 @@ parts_replaced s k f i xs spare port l h =
     let zs = set ys i spare in
     let long : length zs + 1 ≡ length xs = omega (arith, length-set ys i spare, length-remove xs s inside) in
     let whole : length (zs ++ port ∷ []) ≡ length xs = omega (arith, length-append zs (port ∷ []), long) in
-    let behind : (n : ℕ) → s ≤ n → n ≤ length zs → drop n (zs ++ port ∷ []) ≡ drop (suc n) xs ++ port ∷ [] =
-    λ n le fits. drop-pushed n zs port fits ∙ ap (λ t. t ++ port ∷ []) (drop-set-lt n ys i spare (omega (arith, l, le)) ∙ drop-remove xs s n le inside) in
+    let behind : (n : ℕ) → s ≤ n → n ≤ length zs → drop n (zs ++ port ∷ []) ≡ drop (suc n) xs ++ port ∷ [] = grind (arith, drop-pushed, drop-set-lt, drop-remove) in
     let m = length xs - (s + suc k) - f in
-    let same : length xs - (s + k) - (f + 1) ≡ m = omega arith in
     same_parts
     (take-pushed s zs port (omega (arith, h, long)) ∙ (take-set-lt s ys i spare l ∙ ap (λ t. set t i spare) (take-remove xs s inside)))
     (ap (take k) (behind s (omega arith) (omega (arith, h, long))) ∙ take-pushed k (drop (suc s) xs) port (omega (arith, h, length-drop (suc s) xs)))
     (ap (λ n. take (n - (s + k) - (f + 1)) (drop (s + k) (zs ++ port ∷ []))) whole
-    ∙ (ap (λ n. take n (drop (s + k) (zs ++ port ∷ []))) same
+    ∙ (ap (λ n. take n (drop (s + k) (zs ++ port ∷ []))) (omega arith)
     ∙ (ap (take m) (behind (s + k) (omega arith) (omega (arith, h, long)))
     ∙ (take-pushed m (drop (suc (s + k)) xs) port (omega (arith, h, length-drop (suc (s + k)) xs))
     ∙ ap (λ n. take m (drop n xs)) (let e : suc (s + k) ≡ s + suc k = omega arith in e)))))
@@ -129,24 +107,7 @@ parts_replaced s k f i xs spare port l h =
 pub replaced_by : {B : Type 0} (seen : B → PortSeen) (items after : List B) (s k n f i : ℕ) (spare port : B) → i < s → n ≡ suc k → s + n + f ≤ length items →
     spare ≡ get_or items s spare → port ≡ get_or (remove items s) i port → after ≡ set (remove items s) i spare ++ port ∷ [] →
     Replaced i (in_parts s n f (map seen items)) (in_parts s k (f + 1) (map seen after))
-replaced_by seen items after s k n f i spare port l e h a b c =
-    let inside : s < length items = omega (arith, h, e) in
-    let all = map seen items in
-    let long : length all ≡ length items = length-map items seen in
-    let views : map seen after ≡ set (remove all s) i (seen spare) ++ seen port ∷ [] =
-    ap (map seen) c ∙ (map-append seen (set (remove items s) i spare) (port ∷ [])
-    ∙ ap (λ t. t ++ seen port ∷ []) (map-set seen (remove items s) i spare ∙ ap (λ t. set t i (seen spare)) (map-remove seen items s))) in
-    let parts = ap (in_parts s k (f + 1)) views ∙ parts_replaced s k f i all (seen spare) (seen port) l (omega (arith, h, e, long)) in
-    let first : drop s all ≡ seen spare ∷ drop (suc s) all = dropped_there seen items s spare inside a in
-    let spares : take k (drop (suc s) all) ≡ (in_parts s k (f + 1) (map seen after)).spares = sym (ap (λ (t : BankSeen). t.spares) parts) in
-    let result : Replaced i (in_parts s (suc k) f all) (in_parts s k (f + 1) (map seen after)) = record {
-      port = seen port;
-      spare = seen spare;
-      was = seen_there seen items s i port l (omega (arith, l, inside)) (b ∙ get_or-remove_before items s i port l inside);
-      first = ap (take (suc k)) first ∙ ap (λ t. seen spare ∷ t) spares;
-      now = parts ∙ ap (λ t. the_parts (set (take s all) i (seen spare)) t (in_parts s (suc k) f all).rest ((in_parts s (suc k) f all).failed ++ seen port ∷ [])) spares;
-    } in
-    subst (λ n. Replaced i (in_parts s n f all) (in_parts s k (f + 1) (map seen after))) (sym e) result
+replaced_by seen items after s k n f i spare port l e h a b c = grind (arith, length-map, map-append, map-set, map-remove, parts_replaced, dropped_there, seen_there, get_or-remove_before, the_parts)
 
 -- a serving port moved to the end while no spare was left
 pub parts_retired : (s f i : ℕ) (xs : List PortSeen) (port : PortSeen) → i ≤ s → suc s + f ≤ length xs →
@@ -157,15 +118,13 @@ parts_retired s f i xs port l h =
     let ys = remove xs i in
     let long : length ys + 1 ≡ length xs = length-remove xs i inside in
     let whole : length (ys ++ port ∷ []) ≡ length xs = omega (arith, length-append ys (port ∷ []), long) in
-    let behind : (n : ℕ) → s ≤ n → n ≤ length ys → drop n (ys ++ port ∷ []) ≡ drop (suc n) xs ++ port ∷ [] =
-    λ n le fits. drop-pushed n ys port fits ∙ ap (λ t. t ++ port ∷ []) (drop-remove xs i n (omega (arith, l, le)) inside) in
+    let behind : (n : ℕ) → s ≤ n → n ≤ length ys → drop n (ys ++ port ∷ []) ≡ drop (suc n) xs ++ port ∷ [] = grind (arith, drop-pushed, drop-remove) in
     let m = length xs - (suc s + 0) - f in
-    let same : length xs - (s + 0) - (f + 1) ≡ m = omega arith in
     same_parts
     (take-pushed s ys port (omega (arith, h, long)) ∙ take-remove_within xs i s l (omega (arith, h)))
     refl
     (ap (λ n. take (n - (s + 0) - (f + 1)) (drop (s + 0) (ys ++ port ∷ []))) whole
-    ∙ (ap (λ n. take n (drop (s + 0) (ys ++ port ∷ []))) same
+    ∙ (ap (λ n. take n (drop (s + 0) (ys ++ port ∷ []))) (omega arith)
     ∙ (ap (take m) (behind (s + 0) (omega arith) (omega (arith, h, long)))
     ∙ (take-pushed m (drop (suc (s + 0)) xs) port (omega (arith, h, length-drop (suc (s + 0)) xs))
     ∙ ap (λ n. take m (drop n xs)) (let e : suc (s + 0) ≡ suc s + 0 = omega arith in e)))))
@@ -176,40 +135,17 @@ parts_retired s f i xs port l h =
 pub retired : {B : Type 0} (seen : B → PortSeen) (items after : List B) (s n k f i : ℕ) (port : B) → i < n → n ≡ suc s → k ≡ 0 → n + k + f ≤ length items →
     port ≡ get_or items i port → after ≡ remove items i ++ port ∷ [] →
     Retired i (in_parts n k f (map seen items)) (in_parts s k (f + 1) (map seen after))
-retired seen items after s n k f i port l e z h a c =
-    let all = map seen items in
-    let long : length all ≡ length items = length-map items seen in
-    let views : map seen after ≡ remove all i ++ seen port ∷ [] =
-    ap (map seen) c ∙ (map-append seen (remove items i) (port ∷ []) ∙ ap (λ t. t ++ seen port ∷ []) (map-remove seen items i)) in
-    let result : Retired i (in_parts (suc s) 0 f all) (in_parts s 0 (f + 1) (map seen after)) = record {
-      port = seen port;
-      was = seen_there seen items (suc s) i port (omega (arith, l, e)) (omega (arith, l, h)) a;
-      none_left = refl;
-      now = ap (in_parts s 0 (f + 1)) views ∙ parts_retired s f i all (seen port) (omega (arith, l, e)) (omega (arith, h, e, z, long));
-    } in
-    subst (λ n. Retired i (in_parts n k f all) (in_parts s k (f + 1) (map seen after))) (sym e)
-    (subst (λ k. Retired i (in_parts (suc s) k f all) (in_parts s k (f + 1) (map seen after))) (sym z) result)
+retired seen items after s n k f i port l e z h a c = grind (arith, length-map, map-append, map-remove, seen_there, parts_retired)
 
 -- how many serve, and how many failed
 pub serving_count : {B : Type 0} (seen : B → PortSeen) (items : List B) (s k f : ℕ) → s + k + f ≤ length items → length (in_parts s k f (map seen items)).serving ≡ s
 serving_count seen items s k f h = omega (arith, h, length-take s (map seen items), length-map items seen)
-
-pub failed_count : {B : Type 0} (seen : B → PortSeen) (items : List B) (s k f : ℕ) → s + k + f ≤ length items → length (in_parts s k f (map seen items)).failed ≡ f
-failed_count seen items s k f h = omega (arith, h, length-drop (length (map seen items) - f) (map seen items), length-map items seen)
 
 -- the parts joined are the list
 pub parts_joined : (s k f : ℕ) (xs : List PortSeen) → s + k + f ≤ length xs → all_ports (in_parts s k f xs) ≡ xs
 parts_joined s k f xs h =
     let m = length xs - (s + k) - f in
     let last : drop m (drop (s + k) xs) ≡ drop (length xs - f) xs = drop-drop m (s + k) xs ∙ ap (λ n. drop n xs) (let e : s + k + m ≡ length xs - f = omega (arith, h) in e) in
-    let third : take m (drop (s + k) xs) ++ drop (length xs - f) xs ≡ drop (s + k) xs =
-    ap (λ t. take m (drop (s + k) xs) ++ t) (sym last) ∙ take-append-drop m (drop (s + k) xs) in
     let second : take k (drop s xs) ++ drop (s + k) xs ≡ drop s xs =
     ap (λ t. take k (drop s xs) ++ t) (sym (drop-drop k s xs)) ∙ take-append-drop k (drop s xs) in
-    ap (λ t. take s xs ++ (take k (drop s xs) ++ t)) third ∙ (ap (λ t. take s xs ++ t) second ∙ take-append-drop s xs)
-
--- at first none failed
-pub parts_at_first : (s k : ℕ) (xs : List PortSeen) → s + k ≤ length xs → in_parts s k 0 xs ≡ the_parts (take s xs) (take k (drop s xs)) (drop (s + k) xs) []
-parts_at_first s k xs h = same_parts refl refl
-    (take_all (length xs - (s + k) - 0) (drop (s + k) xs) (omega (arith, length-drop (s + k) xs)))
-    (drop_all (length xs - 0) xs (omega arith))
+    ap (λ t. take s xs ++ (take k (drop s xs) ++ t)) (ap (λ t. take m (drop (s + k) xs) ++ t) (sym last) ∙ take-append-drop m (drop (s + k) xs)) ∙ (ap (λ t. take s xs ++ t) second ∙ take-append-drop s xs)

@@ -1,19 +1,7 @@
 -- What a send that was played means: the places, the ports that moved, and the configuration that the bank holds.
-use Rattle.std.proofs.Common.{◌≡◌, ℕ, ◌<◌, Bool, List, [], ◌∷◌, length, Some, Result, Ok, Err, OnOk, OnErr, refl, ap, sym, ◌∙◌, arith, subst, inr}
-use Rattle.std.specs.List.{slice_get}
-use Rattle.std.proofs.lemmas.Option.{slice_get_within, none-some}
-use Rattle.std.proofs.lemmas.Result.{MatchResult-weaker}
+use Rattle.port_bank.proofs.Common.{◌≡◌, ℕ, ◌<◌, Bool, List, [], ◌∷◌, length, Some, Result, Ok, Err, OnOk, OnErr, refl, ap, sym, ◌∙◌, arith, subst, inr, slice_get, slice_get_within, none-some, MatchResult-weaker, PortSeen, Write, width, writes_from, BankSeen, bank_width, Sends, start, accepted, replaced, Reaches, Loses, Plays, with_port, Holds, ShowsRegions, AreBitsOf, written, IsLeft, MovesWithCause, KeepsPlaces, LosesPlace, rules}
 use Rattle.tl_io.proofs.BitLemmas.{length-written}
-use Rattle.tl_io.specs.Port.{PortSeen}
-use Rattle.tl_io.specs.declared.Write.{Write}
 use Rattle.port_bank.specs.declared.bank.PortFault.{PortFault}
-use Rattle.port_bank.specs.Regions.{width}
-use Rattle.tl_io.specs.Writes.{writes_from}
-use Rattle.port_bank.specs.Bank.{BankSeen, bank_width}
-use Rattle.port_bank.specs.Send.{Sends, start, accepted, replaced, Reaches, Loses, Plays, with_port}
-use Rattle.port_bank.specs.Image.{Holds, ShowsRegions}
-use Rattle.tl_io.specs.Writes.{AreBitsOf, written}
-use Rattle.port_bank.specs.Moves.{IsLeft, MovesWithCause, KeepsPlaces, LosesPlace}
 use Rattle.port_bank.proofs.RegionLemmas.{wide, all_bits_are, all_addresses}
 use Rattle.port_bank.proofs.HoldLemmas.{Pends, pends, pends_at_first, holds_at_end}
 use Rattle.port_bank.proofs.MoveLemmas.{sends_become, loses_short, keeps_places, loses_place, moves_with_cause, loses_with_cause}
@@ -37,8 +25,7 @@ with_some (x ∷ xs) writes h = refl
 
 -- a width that is told of a bank's own ports
 in_bank : (Q : ℕ → List Write → Type 0) (w s bits : ℕ) (serving : List PortSeen) (writes : List Write) → w ≡ width s bits → length serving ≡ s → 0 < s → Q w writes → Q (width (length serving) bits) (with_port serving writes)
-in_bank Q w s bits serving writes e l some q =
-    subst (λ t. Q (width (length serving) bits) t) (sym (with_some serving writes (omega (arith, l, some)))) (subst (λ n. Q n writes) (e ∙ ap (λ n. width n bits) (sym l)) q)
+in_bank Q w s bits serving writes e l some q = grind (arith, with_some)
 
 pub sent_in_bank : (w s : ℕ) (config : List Bool) (writes : List Write) (old new : BankSeen) → w ≡ width s (length config) → length old.serving ≡ s → 0 < s → Reaches w config writes old [] new →
     Reaches (width (length old.serving) (length config)) config (with_port old.serving writes) old [] new
@@ -53,10 +40,7 @@ pub no_port : (w : ℕ) (config : List Bool) (writes : List Write) (bank : BankS
 no_port w config writes bank e = subst (λ l. Reaches w config (with_port l writes) bank [] bank) (sym e) (record { answers = []; sends = start })
 
 pends_by : (serving : List PortSeen) (w : ℕ) (config : List Bool) (writes : List Write) (bank : BankSeen) → bank.serving ≡ serving → Pends w config writes bank → Pends w config (with_port serving writes) bank
-pends_by [] w config writes bank e p = record {
-  shows = λ i address port log bit here told place there. absurd (none-some port (ap (λ l. slice_get l i) (sym e) ∙ here));
-  bits = record { bits = λ write h. absurd h };
-}
+pends_by [] w config writes bank e p = search (rules, none-some)
 pends_by (x ∷ xs) w config writes bank e p = p
 
 -- the writes that have a port are among the writes
@@ -66,25 +50,14 @@ pends_with_port w config writes bank p = pends_by bank.serving w config writes b
 -- where each address of a region shows its bit or has a write, the bank holds the configuration at the end
 holds_sent : (config : List Bool) (writes : List Write) (old new : BankSeen) → Pends (bank_width old config) config writes old →
     Reaches (bank_width old config) config (with_port old.serving writes) old [] new → Holds config new
-holds_sent config writes old new p r =
-    let w = bank_width old config in
-    let some : (address : ℕ) (bit : Bool) → slice_get config address ≡ Some bit → 0 < w = λ address bit e. wide (length old.serving) (length config) address (slice_get_within config address bit e) in
-    subst (λ n. ShowsRegions (width n (length config)) config new) (sym (keeps_places r.sends).serving) (holds_at_end (pends r.sends some (pends_with_port w config writes old p)))
+holds_sent config writes old new p r = grind (arith, wide, slice_get_within, keeps_places, holds_at_end, pends, pends_with_port)
 
 pub load_holds : (config : List Bool) (old new : BankSeen) (result : Result Unit PortFault) → Plays config (writes_from 0 config) old new result → OnOk result (Holds config new)
-load_holds config old new result q = MatchResult-weaker result q
-    (λ _ r. holds_sent config (writes_from 0 config) old new
-    (record { shows = λ i address port log bit here told place there. inr (all_addresses config address bit there); bits = all_bits_are config }) r)
-    (λ _ _. tt)
+load_holds config old new result q = grind (arith, holds_sent, all_addresses, all_bits_are)
 
 pub send_keeps : (config : List Bool) (writes : List Write) (old new : BankSeen) (result : Result Unit PortFault) → AreBitsOf config writes → Plays config writes old new result →
     OnOk result ((before : List Bool) → Holds before old → config ≡ written before writes → Holds config new)
-send_keeps config writes old new result b q = MatchResult-weaker result q
-    (λ _ r before h e.
-    let long : length before ≡ length config = sym (ap length e ∙ length-written writes before) in
-    let shown = subst (λ n. ShowsRegions (width (length old.serving) n) before old) long h in
-    holds_sent config writes old new (pends_at_first (bank_width old config) before config writes old b shown e) r)
-    (λ _ _. tt)
+send_keeps config writes old new result b q = grind (arith, length-written, holds_sent, pends_at_first)
 
 nil-cons : {write : Write} {left : List Write} → (write ∷ left) ≡ [] → ⊥
 nil-cons {write} {left} e = let l = ap length e in omega (arith, l)

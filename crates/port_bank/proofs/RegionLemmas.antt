@@ -1,16 +1,8 @@
 -- The writes of a region, and the regions of addresses.
-use Rattle.std.proofs.Common.{◌≡◌, ℕ, zero, suc, ◌+◌, ◌*◌, ◌/◌, ◌%◌, ◌<◌, ◌≤◌, max, Bool, List, [], ◌∷◌, length, take, drop, map, Some, refl, ap, sym, ◌∙◌, arith, subst, inl, inr}
-use Rattle.std.specs.List.{slice_get}
+use Rattle.port_bank.proofs.Common.{◌≡◌, ℕ, zero, suc, ◌+◌, ◌*◌, ◌/◌, ◌%◌, ◌<◌, ◌≤◌, max, Bool, List, [], ◌∷◌, length, take, drop, map, Some, refl, ap, sym, ◌∙◌, arith, subst, inl, inr, slice_get, length-take, length-drop, none-some, slice_get_within, In, Write, width, region_of, region, writes_from, address_of, AreBitsOf, rules}
 use Rattle.std.proofs.lemmas.Nat.{div-add-mod', div-mul-add, mod_below, div_below, le-div}
 use Rattle.std.proofs.Math.Nat.{mul_comm}
 use Rattle.std.proofs.lemmas.Grind.{div_ceil_times}
-use Rattle.std.proofs.lemmas.List.{length-take, length-drop}
-use Rattle.std.proofs.lemmas.Option.{none-some, slice_get_within}
-use Rattle.list_laws.specs.Members.{In}
-use Rattle.tl_io.specs.declared.Write.{Write}
-use Rattle.port_bank.specs.Regions.{width, region_of, region}
-use Rattle.tl_io.specs.Writes.{writes_from}
-use Rattle.tl_io.specs.Writes.{address_of, AreBitsOf}
 
 none_at : {X : Type 0} (i k : ℕ) → slice_get {X = X} [] i ≡ slice_get {X = X} [] k
 none_at i k = refl
@@ -31,24 +23,18 @@ get_take (suc n) (suc k) (y ∷ xs) x e = get_take n k xs x e
 pub address_there : (bits : List Bool) (s k : ℕ) → k < length bits → In (map address_of (writes_from s bits)) (s + k)
 address_there [] s k h = absurd (omega (arith, h))
 address_there (b ∷ bs) s zero h = inl (omega arith)
-address_there (b ∷ bs) s (suc k) h =
-    let same : (s + 1) + k ≡ s + suc k = omega arith in
-    inr (subst (λ a. In (map address_of (writes_from (s + 1) bs)) a) same (address_there bs (s + 1) k (omega (arith, h))))
+address_there (b ∷ bs) s (suc k) h = grind (arith, address_there bs (s + 1) k (omega (arith, h)))
 
 -- each of the writes has the bit of its address
 pub bit_there : (bits config : List Bool) (s : ℕ) → ((k : ℕ) (bit : Bool) → slice_get bits k ≡ Some bit → slice_get config (s + k) ≡ Some bit) →
     (write : Write) → In (writes_from s bits) write → slice_get config write.address ≡ Some write.bit
 bit_there [] config s h write i = absurd i
 bit_there (b ∷ bs) config s h write (inl e) =
-    let at : slice_get config s ≡ Some b = ap (slice_get config) (let z : s ≡ s + 0 = omega arith in z) ∙ h 0 b refl in
-    subst (λ w. slice_get config w.address ≡ Some w.bit) (sym e) at
-bit_there (b ∷ bs) config s h write (inr i) =
-    bit_there bs config (s + 1) (λ k bit e. ap (slice_get config) (let z : (s + 1) + k ≡ s + suc k = omega arith in z) ∙ h (suc k) bit e) write i
+    subst (λ w. slice_get config w.address ≡ Some w.bit) (sym e) (ap (slice_get config) (let z : s ≡ s + 0 = omega arith in z) ∙ h 0 b refl)
+bit_there (b ∷ bs) config s h write (inr i) = grind (arith, bit_there bs config (s + 1) (λ k bit e. ap (slice_get config) (let z : (s + 1) + k ≡ s + suc k = omega arith in z) ∙ h (suc k) bit e) write i)
 
 pub region_bits_are : (w i : ℕ) (config : List Bool) → AreBitsOf config (region w config i)
-region_bits_are w i config = record {
-  bits = bit_there (take w (drop (i * w) config)) config (i * w) (λ k bit e. sym (get_drop (i * w) k config) ∙ get_take w k (drop (i * w) config) bit e);
-}
+region_bits_are w i config = search (rules, bit_there, get_drop, get_take)
 
 pub all_bits_are : (config : List Bool) → AreBitsOf config (writes_from 0 config)
 all_bits_are config = record { bits = bit_there config config 0 (λ k bit e. ap (slice_get config) (let z : 0 + k ≡ k = omega arith in z) ∙ e) }
@@ -59,14 +45,7 @@ all_addresses config address bit e =
 
 -- an address stands in its region
 pub address_in_region : (w i : ℕ) (config : List Bool) (address : ℕ) (bit : Bool) → 0 < w → address / w ≡ i → slice_get config address ≡ Some bit → In (map address_of (region w config i)) address
-address_in_region w i config address bit wide e g =
-    let r = address % w in
-    let small : r < w = mod_below address w wide in
-    let split : i * w + r ≡ address = ap (λ q. q * w + r) (sym e) ∙ div-add-mod' address w in
-    let inside : address < length config = slice_get_within config address bit g in
-    let bits = take w (drop (i * w) config) in
-    let below : r < length bits = omega (arith, small, split, inside, length-take w (drop (i * w) config), length-drop (i * w) config) in
-    subst (λ a. In (map address_of (region w config i)) a) split (address_there bits (i * w) r below)
+address_in_region w i config address bit wide e g = grind (arith, mod_below, wide, div-add-mod', slice_get_within, length-take, length-drop, address_there)
 
 -- a write of a region goes to it
 pub region_of_place : (w i k : ℕ) (bit : Bool) → k < w → region_of w (record { address = i * w + k; bit = bit }) ≡ i
@@ -78,18 +57,10 @@ positive bits (suc w) n h l = omega arith
 
 -- where there is an address, regions have addresses, and each has a port
 pub wide : (ports bits address : ℕ) → address < bits → 0 < width ports bits
-wide ports bits address h =
-    let n = max ports 1 in
-    let pos : 0 < n = omega arith in
-    positive bits (width ports bits) n (omega (arith, h)) (div_ceil_times bits n pos).0
+wide ports bits address h = grind (arith, positive, div_ceil_times)
 
 pub has_port : (ports bits address : ℕ) → 0 < ports → address < bits → address / width ports bits < ports
-has_port ports bits address some h =
-    let n = max ports 1 in
-    let same : n ≡ ports = omega (arith, some) in
-    let most : bits ≤ width ports bits * n = (div_ceil_times bits n (omega arith)).0 in
-    let below : address < ports * width ports bits = subst (λ m. address < m) (mul_comm (width ports bits) n ∙ ap (λ m. m * width ports bits) same) (omega (arith, h, most)) in
-    div_below address (width ports bits) ports (wide ports bits address h) below
+has_port ports bits address some h = grind (arith, div_ceil_times, mul_comm, div_below, wide)
 
 -- a region begins at its first address
 pub region_begins : (w address : ℕ) → address / w * w ≤ address

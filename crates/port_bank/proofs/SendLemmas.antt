@@ -1,14 +1,5 @@
 -- A send that goes on: a call was answered, a port was replaced or lost, a region was loaded.
-use Rattle.std.proofs.Common.{◌≡◌, ℕ, suc, ◌+◌, ◌*◌, ◌<◌, ◌≤◌, Bool, true, false, List, [], ◌∷◌, ◌++◌, length, take, drop, get_or, Result, Ok, Err, is_ok, OnOk, OnErr, refl, ap, sym, arith, subst}
-use Rattle.std.proofs.lemmas.Bool.{both_ways}
-use Rattle.std.proofs.lemmas.List.{length-take, drop_all}
-use Rattle.tl_io.specs.declared.Write.{Write}
-use Rattle.port_bank.specs.Regions.{region_of, region, outside}
-use Rattle.tl_io.specs.Writes.{writes_from}
-use Rattle.port_bank.specs.Bank.{BankSeen, Called, Replaced, Retired}
-use Rattle.port_bank.specs.Send.{start, accepted, replaced, Reaches, Loses}
-use Rattle.port_bank.specs.Steps.{Breaks, Fills, FailsToFill, Mends, FailsToMend, from_region, AreInOrder, Steps, FailsToStep}
-use Rattle.tl_io.specs.Writes.{AreAscending}
+use Rattle.port_bank.proofs.Common.{◌≡◌, ℕ, suc, ◌+◌, ◌*◌, ◌<◌, ◌≤◌, Bool, true, false, List, [], ◌∷◌, ◌++◌, length, take, drop, get_or, Result, Ok, Err, is_ok, OnOk, OnErr, refl, ap, sym, arith, subst, both_ways, length-take, drop_all, Write, region_of, region, outside, writes_from, BankSeen, Called, Replaced, Retired, start, accepted, replaced, Reaches, Loses, Breaks, Fills, FailsToFill, Mends, FailsToMend, from_region, AreInOrder, Steps, FailsToStep, AreAscending, rules}
 use Rattle.port_bank.proofs.RegionLemmas.{region_of_place}
 use Rattle.port_bank.proofs.FilterLemmas.{from_keeps, from_drops, from_first, outside_from, outside_twice, outside_left, left_from, in_order, in_order_left}
 
@@ -26,16 +17,7 @@ reaches_more w config writes left base old new write i r e c = record {
 -- it failed at it
 pub breaks_here : (w : ℕ) (config : List Bool) (writes left others : List Write) (base old new : BankSeen) (write : Write) (i : ℕ) → Reaches w config writes base (write ∷ left) old →
     region_of w write ≡ i → Called i write false old new → outside w i left ≡ others → Breaks w config writes base i others new
-breaks_here w config writes left others base old new write i r e c o = record {
-  answers = r.answers;
-  write = write;
-  left = left;
-  mid = old;
-  sends = r.sends;
-  place = e;
-  failed = subst (λ j. Called j write false old new) (sym e) c;
-  rest = o;
-}
+breaks_here w config writes left others base old new write i r e c o = search rules
 
 -- a spare takes the place of the port that failed
 pub breaks_replaced : (w : ℕ) (config : List Bool) (writes others : List Write) (base old new : BankSeen) (i : ℕ) → Breaks w config writes base i others old → Replaced i old new →
@@ -45,31 +27,17 @@ breaks_replaced w config writes others base old new i b r =
       answers = b.answers ++ false ∷ [];
       sends = replaced b.sends b.failed (subst (λ j. Replaced j old new) (sym b.place) r);
     } in
-    subst (λ t. Reaches w config writes base (region w config i ++ t) new) b.rest
-    (subst (λ j. Reaches w config writes base (region w config j ++ outside w j b.left) new) b.place goes_on)
+    grind (arith)
 
 -- none does
 pub breaks_retired : (w : ℕ) (config : List Bool) (writes others : List Write) (base old new : BankSeen) (i : ℕ) → Breaks w config writes base i others old → Retired i old new →
     Loses w config writes base i new
-breaks_retired w config writes others base old new i b r = record {
-  answers = b.answers;
-  write = b.write;
-  left = b.left;
-  mid = b.mid;
-  next = old;
-  sends = b.sends;
-  place = b.place;
-  failed = b.failed;
-  retired = subst (λ j. Retired j old new) (sym b.place) r;
-}
+breaks_retired w config writes others base old new i b r = search rules
 
 -- the load of a region: its first writes were accepted
 pub record FillsFirst (w : ℕ) (config : List Bool) (i count : ℕ) (old new : BankSeen) : Type 0 where
   pub on : (writes : List Write) (base : BankSeen) (others : List Write) → Reaches w config writes base (region w config i ++ others) old →
       Reaches w config writes base (drop count (region w config i) ++ others) new
-
-pub fills_none : (w : ℕ) (config : List Bool) (i : ℕ) (bank : BankSeen) → FillsFirst w config i 0 bank bank
-fills_none w config i bank = record { on = λ writes base others r. r }
 
 next_of : (w : ℕ) (config : List Bool) (i k : ℕ) (others : List Write) → k < length (take w (drop (i * w) config)) →
     drop k (region w config i) ++ others ≡ (record { address = i * w + k; bit = get_or (take w (drop (i * w) config)) k false } ∷ (drop (k + 1) (region w config i) ++ others))
@@ -85,9 +53,7 @@ fills_more w config i k old mid new h f c = record {
 }
 
 pub fills_all : (w : ℕ) (config : List Bool) (i k : ℕ) (old new : BankSeen) → length (region w config i) ≤ k → FillsFirst w config i k old new → Fills w config i old new
-fills_all w config i k old new h f = record {
-  on = λ writes base others r. subst (λ t. Reaches w config writes base (t ++ others) new) (drop_all k (region w config i) h) (f.on writes base others r);
-}
+fills_all w config i k old new h f = search (rules, drop_all)
 
 pub fills_breaks : (w : ℕ) (config : List Bool) (i k : ℕ) (old mid new : BankSeen) → k < length (take w (drop (i * w) config)) → FillsFirst w config i k old mid →
     Called i (record { address = i * w + k; bit = get_or (take w (drop (i * w) config)) k false }) false mid new → FailsToFill w config i old new
@@ -102,9 +68,6 @@ fills_breaks w config i k old mid new h f c = record {
 -- spares that failed in their loads were replaced
 pub record StillBroken (w : ℕ) (config : List Bool) (i : ℕ) (old new : BankSeen) : Type 0 where
   pub on : (writes : List Write) (base : BankSeen) (others : List Write) → outside w i others ≡ others → Breaks w config writes base i others old → Breaks w config writes base i others new
-
-pub broken_none : (w : ℕ) (config : List Bool) (i : ℕ) (bank : BankSeen) → StillBroken w config i bank bank
-broken_none w config i bank = record { on = λ writes base others o b. b }
 
 pub broken_more : (w : ℕ) (config : List Bool) (i : ℕ) (old mid next new : BankSeen) → StillBroken w config i old mid → Replaced i mid next → FailsToFill w config i next new → StillBroken w config i old new
 broken_more w config i old mid next new s r f = record {
@@ -121,12 +84,6 @@ mends_never w config i old mid new s r = record {
   on = λ writes base others o b. breaks_retired w config writes others base mid new i (s.on writes base others o b) r;
 }
 
--- one write: its region was passed, its port accepted it, or failed
-pub steps_past : (w : ℕ) (config : List Bool) (passed : ℕ) (write : Write) (bank : BankSeen) → region_of w write < passed → Steps w config passed write passed bank bank
-steps_past w config passed write bank h = record {
-  on = λ writes base left o r. subst (λ t. Reaches w config writes base t bank) (from_drops w passed write left h) r;
-}
-
 pub steps_accepted : (w : ℕ) (config : List Bool) (passed : ℕ) (write : Write) (old new : BankSeen) → passed ≤ region_of w write → Called (region_of w write) write true old new → Steps w config passed write passed old new
 steps_accepted w config passed write old new h c = record {
   on = λ writes base left o r.
@@ -137,18 +94,11 @@ steps_accepted w config passed write old new h c = record {
 breaks_at : (w : ℕ) (config : List Bool) (passed : ℕ) (write : Write) (old new : BankSeen) → passed ≤ region_of w write → Called (region_of w write) write false old new →
     (writes : List Write) (base : BankSeen) (left : List Write) → Reaches w config writes base (from_region w passed (write ∷ left)) old →
     Breaks w config writes base (region_of w write) (outside w (region_of w write) (from_region w passed left)) new
-breaks_at w config passed write old new h c writes base left r =
-    breaks_here w config writes (from_region w passed left) (outside w (region_of w write) (from_region w passed left)) base old new write (region_of w write)
-    (subst (λ t. Reaches w config writes base t old) (from_keeps w passed write left h) r) refl c refl
+breaks_at w config passed write old new h c writes base left r = grind (arith, breaks_here, from_keeps)
 
 pub steps_mended : (w : ℕ) (config : List Bool) (passed : ℕ) (write : Write) (old mid new : BankSeen) → passed ≤ region_of w write → Called (region_of w write) write false old mid →
     Mends w config (region_of w write) mid new → Steps w config passed write (region_of w write + 1) old new
-steps_mended w config passed write old mid new h c m = record {
-  on = λ writes base left o r.
-      let i = region_of w write in
-      subst (λ t. Reaches w config writes base t new) (outside_from w i passed left h o.0)
-      (m.on writes base (outside w i (from_region w passed left)) (outside_twice w i (from_region w passed left)) (breaks_at w config passed write old mid h c writes base left r));
-}
+steps_mended w config passed write old mid new h c m = search (rules, outside_from, outside_twice, breaks_at)
 
 pub steps_lost : (w : ℕ) (config : List Bool) (passed : ℕ) (write : Write) (old mid new : BankSeen) → passed ≤ region_of w write → Called (region_of w write) write false old mid →
     FailsToMend w config (region_of w write) mid new → FailsToStep w config passed write (region_of w write) old new
@@ -162,9 +112,7 @@ steps_lost w config passed write old mid new h c m = record {
 pub at_place : (w : ℕ) (config : List Bool) (i k first : ℕ) (bits : List Bool) (answer : Bool) (mid new : BankSeen) → first ≡ i * w → bits ≡ take w (drop (i * w) config) →
     Called i (record { address = first + k; bit = get_or bits k false }) answer mid new →
     Called i (record { address = i * w + k; bit = get_or (take w (drop (i * w) config)) k false }) answer mid new
-at_place w config i k first bits answer mid new e b c =
-    subst (λ s. Called i (record { address = s + k; bit = get_or (take w (drop (i * w) config)) k false }) answer mid new) e
-    (subst (λ bs. Called i (record { address = first + k; bit = get_or bs k false }) answer mid new) b c)
+at_place w config i k first bits answer mid new e b c = grind arith
 
 pub length-writes_from : (bits : List Bool) (s : ℕ) → length (writes_from s bits) ≡ length bits
 length-writes_from [] s = refl
@@ -174,9 +122,7 @@ pub inside_bits : (w : ℕ) (config : List Bool) (i k : ℕ) (bits : List Bool) 
 inside_bits w config i k bits e h = subst (λ bs. k < length bs) e h
 
 pub past_bits : (w : ℕ) (config : List Bool) (i k : ℕ) (bits : List Bool) → bits ≡ take w (drop (i * w) config) → length bits ≤ k → length (region w config i) ≤ k
-past_bits w config i k bits e h =
-    let short : length (take w (drop (i * w) config)) ≤ k = subst (λ bs. length bs ≤ k) e h in
-    omega (arith, short, length-writes_from (take w (drop (i * w) config)) (i * w))
+past_bits w config i k bits e h = grind (arith, length-writes_from)
 
 -- what a result says where it is Ok, and where it is not
 pub on_ok_at : {V E P : Type 0} (r : Result V E) → is_ok r ≡ true → OnOk r P → P

@@ -1,5 +1,4 @@
-use Rattle.cover_pick.proofs.Common.{◌≡◌, ℕ, List, [], length, None, get_or, refl, sym, subst, arith, get_or_from_slice_get, row_at, label_of}
-use Rattle.cover_pick.specs.Fewest.{IsAt, IsShorter, better, fewest}
+use Rattle.cover_pick.proofs.Common.{◌≡◌, ℕ, List, [], length, None, get_or, refl, sym, subst, arith, get_or_from_slice_get, row_at, label_of, IsAt, IsShorter, better, fewest}
 use Rattle.cover_pick.proofs.CandidateLemmas.{fewest_next, fewest_end, fewest_stops}
 use Rattle.cover_pick.proofs.choice.fewest.Goals as goal
 

@@ -1,5 +1,4 @@
-use Rattle.cover_pick.proofs.Common.{◌≡◌, ℕ, List, Option, None, drop, row_at, label_of}
-use Rattle.cover_pick.specs.Fewest.{IsAt, fewest}
+use Rattle.cover_pick.proofs.Common.{◌≡◌, ℕ, List, Option, None, drop, row_at, label_of, IsAt, fewest}
 use Rattle.cover_pick.proofs.choice.fewest.Given as goal
 
 abbrev pub invariant-loop-i : goal.invariant-loop-i

@@ -1,5 +1,4 @@
-use Rattle.cover_pick.proofs.Common.{◌≡◌, ℕ, List, Option, None, drop, row_at, label_of}
-use Rattle.cover_pick.specs.Cheapest.{IsOffer, cut_cost, cheapest}
+use Rattle.cover_pick.proofs.Common.{◌≡◌, ℕ, List, Option, None, drop, row_at, label_of, IsOffer, cut_cost, cheapest}
 use Rattle.cover_pick.proofs.cost.cheapest.Given as goal
 
 abbrev pub invariant-loop-i : goal.invariant-loop-i

@@ -1,6 +1,4 @@
-use Rattle.cover_pick.proofs.Common.{◌≡◌, ◌*◌, ◌≤◌, take, sum_by}
-use Rattle.cover_pick.specs.declared.limits.TheConstants.{MOST_FLOW}
-use Rattle.cover_pick.specs.Cheapest.{leaf_cost}
+use Rattle.cover_pick.proofs.Common.{◌≡◌, ◌*◌, ◌≤◌, take, sum_by, MOST_FLOW, leaf_cost}
 use Rattle.cover_pick.proofs.cost.leaves_cost.Given as goal
 
 abbrev pub invariant-loop-m : goal.invariant-loop-m

@@ -1,6 +1,4 @@
-use Rattle.cover_pick.proofs.Common.{◌∙◌, lits_of, label_of}
-use Rattle.cover_pick.specs.Places.{cuts_of}
-use Rattle.cover_pick.specs.Planned.{cut_at}
+use Rattle.cover_pick.proofs.Common.{◌∙◌, lits_of, label_of, cuts_of, cut_at}
 use Rattle.cover_pick.proofs.PlaceLemmas.{cuts_length}
 use Rattle.cover_pick.proofs.PlanLemmas.{plan_all, cuts_all, places_plan, roots_inside}
 use Rattle.cover_pick.proofs.cuts.cuts_by.Goals as goal

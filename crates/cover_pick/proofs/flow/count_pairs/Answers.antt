@@ -1,5 +1,4 @@
-use Rattle.cover_pick.proofs.Common.{arith, ◌*◌, ◌/◌, ◌<◌, ◌≤◌, length}
-use Rattle.cover_pick.specs.Counts.{count_at}
+use Rattle.cover_pick.proofs.Common.{arith, ◌*◌, ◌/◌, ◌<◌, ◌≤◌, length, count_at}
 use Rattle.cover_pick.proofs.CountLemmas.{counts_small, counted_next}
 use Rattle.cover_pick.proofs.flow.count_pairs.Goals as goal
 

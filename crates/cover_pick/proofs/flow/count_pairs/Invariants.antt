@@ -1,5 +1,4 @@
-use Rattle.cover_pick.proofs.Common.{◌≤◌, first_and}
-use Rattle.cover_pick.specs.Counts.{AreCounted}
+use Rattle.cover_pick.proofs.Common.{◌≤◌, first_and, AreCounted}
 use Rattle.cover_pick.proofs.flow.count_pairs.Given as goal
 
 abbrev pub invariant-loop-n : goal.invariant-loop-n

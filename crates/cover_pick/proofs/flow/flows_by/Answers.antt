@@ -1,9 +1,4 @@
-use Rattle.cover_pick.proofs.Common.{◌≡◌, ◌∙◌, ◌+◌, ◌++◌, ◌∷◌, ℕ, List, [], suc, sym, ap, subst, arith, node_count, label_of}
-use Rattle.cover_pick.specs.Flow.{node_flow, flows_below}
-use Rattle.cover_pick.specs.Allowed.{allowed}
-use Rattle.cover_pick.specs.Cheapest.{AreCapped}
-use Rattle.cover_pick.specs.Counts.{count_at}
-use Rattle.cover_pick.specs.Planned.{AreFlows}
+use Rattle.cover_pick.proofs.Common.{◌≡◌, ◌∙◌, ◌+◌, ◌++◌, ◌∷◌, ℕ, List, [], suc, sym, ap, subst, arith, node_count, label_of, node_flow, flows_below, allowed, AreCapped, count_at, AreFlows}
 use Rattle.cover_pick.proofs.FlowLemmas.{flows_capped, flows_fit, node_same}
 use Rattle.cover_pick.proofs.flow.flows_by.Goals as goal
 

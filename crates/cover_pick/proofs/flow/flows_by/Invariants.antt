@@ -1,7 +1,4 @@
-use Rattle.cover_pick.proofs.Common.{◌≡◌, label_of}
-use Rattle.cover_pick.specs.Flow.{flows_below}
-use Rattle.cover_pick.specs.Allowed.{allowed}
-use Rattle.cover_pick.specs.Counts.{count_at}
+use Rattle.cover_pick.proofs.Common.{◌≡◌, label_of, flows_below, allowed, count_at}
 use Rattle.cover_pick.proofs.flow.flows_by.Given as goal
 
 abbrev pub invariant-loop-n : goal.invariant-loop-n

@@ -1,7 +1,4 @@
-use Rattle.cover_pick.proofs.Common.{◌≡◌, ◌≤◌, min, drop, row_at, label_of}
-use Rattle.cover_pick.specs.declared.limits.TheConstants.{MOST_FLOW}
-use Rattle.cover_pick.specs.Flow.{least_flow}
-use Rattle.cover_pick.specs.Allowed.{allowed_row}
+use Rattle.cover_pick.proofs.Common.{◌≡◌, ◌≤◌, min, drop, row_at, label_of, MOST_FLOW, least_flow, allowed_row}
 use Rattle.cover_pick.proofs.flow.least_flow.Given as goal
 
 abbrev pub invariant-loop-i : goal.invariant-loop-i

@@ -1,7 +1,4 @@
-use Rattle.cover_pick.proofs.Common.{◌≡◌, ◌≤◌, ◌/◌, ◌∙◌, ℕ, List, max, ltb, sym, ap, arith, div-le_self, ltb-true, first_and, choose, row_at, label_of}
-use Rattle.cover_pick.specs.declared.limits.TheConstants.{MOST_FLOW}
-use Rattle.cover_pick.specs.Flow.{least_flow}
-use Rattle.cover_pick.specs.Allowed.{allowed, allowed_row}
+use Rattle.cover_pick.proofs.Common.{◌≡◌, ◌≤◌, ◌/◌, ◌∙◌, ℕ, List, max, ltb, sym, ap, arith, div-le_self, ltb-true, first_and, choose, row_at, label_of, MOST_FLOW, least_flow, allowed, allowed_row}
 use Rattle.cover_pick.proofs.FlowLemmas.{least_capped, allowed_at}
 use Rattle.cover_pick.proofs.flow.node_flow.Goals as goal
 

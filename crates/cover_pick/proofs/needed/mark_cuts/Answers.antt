@@ -1,6 +1,4 @@
-use Rattle.cover_pick.proofs.Common.{◌≡◌, ◌<◌, ◌+◌, ◌*◌, ◌∙◌, ℕ, List, Bool, length, Option, None, Some, drop, get_or, refl, sym, ap, subst, arith, drop_more, drop_all, In, In-get_or, or_empty}
-use Rattle.cover_pick.specs.Planned.{cut_at}
-use Rattle.cover_pick.specs.Marks.{mark_leaves, mark_cut, mark_cuts}
+use Rattle.cover_pick.proofs.Common.{◌≡◌, ◌<◌, ◌+◌, ◌*◌, ◌∙◌, ℕ, List, Bool, length, Option, None, Some, drop, get_or, refl, sym, ap, subst, arith, drop_more, drop_all, In, In-get_or, or_empty, cut_at, mark_leaves, mark_cut, mark_cuts}
 use Rattle.cover_pick.proofs.TemplateLemmas.{cut_in}
 use Rattle.cover_pick.proofs.needed.mark_cuts.Goals as goal
 

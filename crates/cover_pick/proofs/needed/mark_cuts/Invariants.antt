@@ -1,5 +1,4 @@
-use Rattle.cover_pick.proofs.Common.{◌≡◌, drop}
-use Rattle.cover_pick.specs.Marks.{mark_cuts}
+use Rattle.cover_pick.proofs.Common.{◌≡◌, drop, mark_cuts}
 use Rattle.cover_pick.proofs.needed.mark_cuts.Given as goal
 
 abbrev pub invariant-loop-n : goal.invariant-loop-n

@@ -1,5 +1,4 @@
-use Rattle.cover_pick.proofs.Common.{◌≡◌, drop, lits_of}
-use Rattle.cover_pick.specs.Marks.{mark_each}
+use Rattle.cover_pick.proofs.Common.{◌≡◌, drop, lits_of, mark_each}
 use Rattle.cover_pick.proofs.needed.mark_each.Given as goal
 
 abbrev pub invariant-loop-lit : goal.invariant-loop-lit

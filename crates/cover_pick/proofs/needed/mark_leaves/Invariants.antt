@@ -1,5 +1,4 @@
-use Rattle.cover_pick.proofs.Common.{◌≡◌, drop}
-use Rattle.cover_pick.specs.Marks.{mark_leaves}
+use Rattle.cover_pick.proofs.Common.{◌≡◌, drop, mark_leaves}
 use Rattle.cover_pick.proofs.needed.mark_leaves.Given as goal
 
 abbrev pub invariant-loop-m : goal.invariant-loop-m

@@ -1,9 +1,4 @@
-use Rattle.cover_pick.proofs.Common.{rules, ◌≡◌, ◌∙◌, ℕ, List, None, length, drop, replicate, sym, ap, subst, take_at, first_and, node_count, lits_of, label_of}
-use Rattle.cover_pick.specs.Target.{target}
-use Rattle.cover_pick.specs.Required.{require_roots, roots_required}
-use Rattle.cover_pick.specs.Ruled.{found_of}
-use Rattle.cover_pick.specs.Planned.{depths_of}
-use Rattle.cover_pick.specs.Places.{AreBestPlaces}
+use Rattle.cover_pick.proofs.Common.{rules, ◌≡◌, ◌∙◌, ℕ, List, None, length, drop, replicate, sym, ap, subst, take_at, first_and, node_count, lits_of, label_of, target, require_roots, roots_required, found_of, depths_of, AreBestPlaces}
 use Rattle.cover_pick.proofs.RuleLemmas.{places_chosen}
 use Rattle.cover_pick.proofs.required.chosen_places.Goals as goal
 

@@ -1,5 +1,4 @@
-use Rattle.cover_pick.proofs.Common.{◌≡◌, drop}
-use Rattle.cover_pick.specs.Required.{require_each}
+use Rattle.cover_pick.proofs.Common.{◌≡◌, drop, require_each}
 use Rattle.cover_pick.proofs.required.require_each.Given as goal
 
 abbrev pub invariant-loop-m : goal.invariant-loop-m

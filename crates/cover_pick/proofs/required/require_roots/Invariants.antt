@@ -1,5 +1,4 @@
-use Rattle.cover_pick.proofs.Common.{◌≡◌, drop, first_and, lits_of}
-use Rattle.cover_pick.specs.Required.{require_roots}
+use Rattle.cover_pick.proofs.Common.{◌≡◌, drop, first_and, lits_of, require_roots}
 use Rattle.cover_pick.proofs.required.require_roots.Given as goal
 
 abbrev pub invariant-loop-root : goal.invariant-loop-root

@@ -1,6 +1,5 @@
-use Rattle.cover_pick.proofs.Common.{arith, ◌<◌, ◌≡◌, ◌∙◌, [], Some, subst, ap, List, ℕ, get_or, length, slice_get, get_or_from_slice_get, Aig, IsAnd, In, In-get_or, row_at, IsCutTable}
+use Rattle.cover_pick.proofs.Common.{arith, ◌<◌, ◌≡◌, ◌∙◌, [], Some, subst, ap, List, ℕ, get_or, length, slice_get, get_or_from_slice_get, Aig, IsAnd, In, In-get_or, row_at, IsCutTable, need}
 use Rattle.depth_label.proofs.LabelLemmas.{leaves_below}
-use Rattle.cover_pick.specs.Required.{need}
 use Rattle.cover_pick.proofs.WalkLemmas.{each_other}
 use Rattle.cover_pick.proofs.required.visit.Goals as goal
 

@@ -1,7 +1,4 @@
-use Rattle.cover_pick.proofs.Common.{arith, ◌∙◌, ◌+◌, ◌-◌, ◌≡◌, ℕ, suc, List, Option, length, ap, subst, sym, slice_set, first_and, node_count, row_at, label_of}
-use Rattle.cover_pick.specs.Ruled.{choice_by, found_in, found_from}
-use Rattle.cover_pick.specs.Required.{need, walk_by, met_at}
-use Rattle.cover_pick.specs.Places.{found_for, AreBestPlaces}
+use Rattle.cover_pick.proofs.Common.{arith, ◌∙◌, ◌+◌, ◌-◌, ◌≡◌, ℕ, suc, List, Option, length, ap, subst, sym, slice_set, first_and, node_count, row_at, label_of, choice_by, found_in, found_from, need, walk_by, met_at, found_for, AreBestPlaces}
 use Rattle.cover_pick.proofs.StateLemmas.{walk_step, met_now, met_later}
 use Rattle.cover_pick.proofs.PlaceLemmas.{places_next}
 use Rattle.cover_pick.proofs.required.walk.Goals as goal

@@ -1,7 +1,4 @@
-use Rattle.cover_pick.proofs.Common.{◌≡◌, ℕ, ◌+◌, ◌-◌, ◌<◌, length, first_and, label_of}
-use Rattle.cover_pick.specs.Ruled.{choice_by, found_from}
-use Rattle.cover_pick.specs.Required.{walk_by, met_at}
-use Rattle.cover_pick.specs.Places.{AreBestPlaces}
+use Rattle.cover_pick.proofs.Common.{◌≡◌, ℕ, ◌+◌, ◌-◌, ◌<◌, length, first_and, label_of, choice_by, found_from, walk_by, met_at, AreBestPlaces}
 use Rattle.cover_pick.proofs.required.walk.Given as goal
 
 abbrev pub invariant-loop-i : goal.invariant-loop-i

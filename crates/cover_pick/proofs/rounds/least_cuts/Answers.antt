@@ -1,9 +1,4 @@
-use Rattle.cover_pick.proofs.Common.{ℕ, List, subst, sym, node_count, lits_of, label_of}
-use Rattle.cover_pick.specs.declared.scope.Scope.TheVariants.{AnyHeight, LeastHeight}
-use Rattle.cover_pick.specs.Flow.{fan_out}
-use Rattle.cover_pick.specs.Allowed.{flows_by}
-use Rattle.cover_pick.specs.Counts.{AreCounted}
-use Rattle.cover_pick.specs.Rounded.{three_rounds}
+use Rattle.cover_pick.proofs.Common.{ℕ, List, subst, sym, node_count, lits_of, label_of, AnyHeight, LeastHeight, fan_out, flows_by, AreCounted, three_rounds}
 use Rattle.cover_pick.proofs.ThreeLemmas.{best_plan}
 use Rattle.cover_pick.proofs.rounds.least_cuts.Goals as goal
 

@@ -1,6 +1,4 @@
-use Rattle.cover_pick.proofs.Common.{◌∙◌, List, ℕ, sym, subst, lits_of, label_of}
-use Rattle.cover_pick.specs.declared.rule.Rule.TheVariants.{LeastCost}
-use Rattle.cover_pick.specs.Planned.{cut_at, AreFlows, IsPlanned}
+use Rattle.cover_pick.proofs.Common.{◌∙◌, List, ℕ, sym, subst, lits_of, label_of, LeastCost, cut_at, AreFlows, IsPlanned}
 use Rattle.cover_pick.proofs.rounds.round.Goals as goal
 
 pub cuts_by-requires-clause-flows : goal.cuts_by-requires-clause-flows

@@ -1,10 +1,4 @@
-use Rattle.cover_pick.proofs.Common.{◌∙◌, ℕ, List, sym, lits_of, label_of}
-use Rattle.cover_pick.specs.declared.rule.Rule.TheVariants.{LeastCost}
-use Rattle.cover_pick.specs.Flow.{fan_out}
-use Rattle.cover_pick.specs.Allowed.{flows_by}
-use Rattle.cover_pick.specs.Counts.{count_at}
-use Rattle.cover_pick.specs.Rounded.{next_flows, cheaper_flows}
-use Rattle.cover_pick.specs.Planned.{cut_at}
+use Rattle.cover_pick.proofs.Common.{◌∙◌, ℕ, List, sym, lits_of, label_of, LeastCost, fan_out, flows_by, count_at, next_flows, cheaper_flows, cut_at}
 use Rattle.cover_pick.proofs.RoundLemmas.{leaves_there}
 use Rattle.cover_pick.proofs.ThreeLemmas.{first_plan, later_plan, stop_first, stop_second, best_plan}
 use Rattle.cover_pick.proofs.rounds.three_rounds.Goals as goal

@@ -1,5 +1,4 @@
-use Rattle.cover_pick.proofs.Common.{arith, ◌+◌, ◌*◌, ◌≤◌, ◌^◌, ◌≡◌, ap, node_count}
-use Rattle.cover_pick.specs.Marks.{Made}
+use Rattle.cover_pick.proofs.Common.{arith, ◌+◌, ◌*◌, ◌≤◌, ◌^◌, ◌≡◌, ap, node_count, Made}
 use Rattle.cover_pick.proofs.TableLemmas.{work_small}
 use Rattle.cover_pick.proofs.tables.add_table.Goals as goal
 

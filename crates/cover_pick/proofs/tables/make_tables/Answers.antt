@@ -1,5 +1,4 @@
-use Rattle.cover_pick.proofs.Common.{◌≡◌, ◌∙◌, ap, subst, sym, ◌*◌, length, List, Bool, [], node_count, lits_of}
-use Rattle.cover_pick.specs.Marks.{IsMarked, AreMade, Made, tables_from, tables_of}
+use Rattle.cover_pick.proofs.Common.{◌≡◌, ◌∙◌, ap, subst, sym, ◌*◌, length, List, Bool, [], node_count, lits_of, IsMarked, AreMade, Made, tables_from, tables_of}
 use Rattle.cover_pick.proofs.TableLemmas.{tables_needed, marks_length}
 use Rattle.cover_pick.proofs.tables.make_tables.Goals as goal
 

@@ -1,5 +1,4 @@
-use Rattle.cover_pick.proofs.Common.{arith, [], err_from_is_err_and}
-use Rattle.cover_pick.specs.Marks.{tables_from}
+use Rattle.cover_pick.proofs.Common.{arith, [], err_from_is_err_and, tables_from}
 use Rattle.cover_pick.proofs.TableLemmas.{tables_past, work_more}
 use Rattle.cover_pick.proofs.tables.marked_tables.Goals as goal
 

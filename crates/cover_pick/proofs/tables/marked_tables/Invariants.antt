@@ -1,7 +1,4 @@
-use Rattle.cover_pick.proofs.Common.{◌≡◌, ◌≤◌, drop, [], length, ℕ, node_count}
-use Rattle.cover_pick.specs.declared.limits.TheConstants.{MOST_WORK}
-use Rattle.cover_pick.specs.Search.{stamp_at}
-use Rattle.cover_pick.specs.Marks.{tables_from}
+use Rattle.cover_pick.proofs.Common.{◌≡◌, ◌≤◌, drop, [], length, ℕ, node_count, MOST_WORK, stamp_at, tables_from}
 use Rattle.cover_pick.proofs.tables.marked_tables.Given as goal
 
 abbrev pub invariant-loop-needed : goal.invariant-loop-needed

@@ -1,5 +1,4 @@
-use Rattle.cover_pick.proofs.Common.{◌≡◌, max, drop, lits_of, greatest, label_of}
-use Rattle.cover_pick.specs.Target.{root_level}
+use Rattle.cover_pick.proofs.Common.{◌≡◌, max, drop, lits_of, greatest, label_of, root_level}
 use Rattle.cover_pick.proofs.target.target.Given as goal
 
 abbrev pub invariant-loop-root : goal.invariant-loop-root

@@ -1,7 +1,4 @@
-use Rattle.cover_pick.proofs.Common.{ℕ, List, err_from_is_err_and, lits_of, label_of}
-use Rattle.cover_pick.specs.Marks.{IsMade}
-use Rattle.cover_pick.specs.Planned.{cut_at}
-use Rattle.cover_pick.specs.Rounded.{flows_for}
+use Rattle.cover_pick.proofs.Common.{ℕ, List, err_from_is_err_and, lits_of, label_of, IsMade, cut_at, flows_for}
 use Rattle.cover_pick.proofs.PlanLemmas.{roots_inside}
 use Rattle.cover_pick.proofs.RoundLemmas.{rule_plan}
 use Rattle.cover_pick.proofs.TemplateLemmas.{leaves_inside}

@@ -1,7 +1,4 @@
-use Rattle.cover_pick.proofs.Common.{◌≡◌, ◌∙◌, ap, subst, sym, RootsValue, lits_of, roots_of, label_of}
-use Rattle.cover_pick.specs.Target.{target}
-use Rattle.cover_pick.specs.Marks.{Made, IsMade}
-use Rattle.cover_pick.specs.Work.{IsLight}
+use Rattle.cover_pick.proofs.Common.{◌≡◌, ◌∙◌, ap, subst, sym, RootsValue, lits_of, roots_of, label_of, target, Made, IsMade, IsLight}
 use Rattle.cover_pick.proofs.ChosenLemmas.{template_is, timely_is}
 use Rattle.cover_pick.proofs.template.template_of.Goals as goal
 use Rattle.cover_pick.proofs.template.template_of.Goals.{After-drop-all-2}

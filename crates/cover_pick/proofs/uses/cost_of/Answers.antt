@@ -1,6 +1,4 @@
-use Rattle.cover_pick.proofs.Common.{◌≡◌, ◌+◌, arith}
-use Rattle.cover_pick.specs.Planned.{cut_at}
-use Rattle.cover_pick.specs.Uses.{price, cost_below}
+use Rattle.cover_pick.proofs.Common.{◌≡◌, ◌+◌, arith, cut_at, price, cost_below}
 use Rattle.cover_pick.proofs.UsesLemmas.{cost_next}
 use Rattle.cover_pick.proofs.uses.cost_of.Goals as goal
 

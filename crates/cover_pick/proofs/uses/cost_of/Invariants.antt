@@ -1,6 +1,4 @@
-use Rattle.cover_pick.proofs.Common.{◌≡◌, ◌≤◌, ◌*◌, ◌^◌}
-use Rattle.cover_pick.specs.Planned.{cut_at}
-use Rattle.cover_pick.specs.Uses.{cost_below}
+use Rattle.cover_pick.proofs.Common.{◌≡◌, ◌≤◌, ◌*◌, ◌^◌, cut_at, cost_below}
 use Rattle.cover_pick.proofs.uses.cost_of.Given as goal
 
 abbrev pub invariant-loop-n : goal.invariant-loop-n

@@ -1,7 +1,4 @@
-use Rattle.cover_pick.proofs.Common.{◌≡◌, ◌<◌, ◌≤◌, ◌+◌, ◌∙◌, ℕ, List, length, get_or, ap, subst, arith, node_count, In, In-get_or, or_empty}
-use Rattle.cover_pick.specs.Planned.{cut_at}
-use Rattle.cover_pick.specs.Counts.{count_at, count_each}
-use Rattle.cover_pick.specs.Uses.{times_in}
+use Rattle.cover_pick.proofs.Common.{◌≡◌, ◌<◌, ◌≤◌, ◌+◌, ◌∙◌, ℕ, List, length, get_or, ap, subst, arith, node_count, In, In-get_or, or_empty, cut_at, count_at, count_each, times_in}
 use Rattle.cover_pick.proofs.UsesLemmas.{leaf_inside, used_room, used_next}
 use Rattle.cover_pick.proofs.uses.count_cuts.Goals as goal
 

@@ -1,5 +1,4 @@
-use Rattle.cover_pick.specs.Planned.{cut_at}
-use Rattle.cover_pick.specs.Counts.{AreUsed}
+use Rattle.cover_pick.proofs.Common.{cut_at, AreUsed}
 use Rattle.cover_pick.proofs.uses.count_cuts.Given as goal
 
 abbrev pub invariant-loop-n : goal.invariant-loop-n

@@ -1,6 +1,4 @@
-use Rattle.cover_pick.proofs.Common.{◌≡◌, ◌<◌, ◌≤◌, ◌+◌, ◌^◌, ◌∙◌, ◌∷◌, ℕ, List, drop, length, get_or, ap, sym, arith, drop_more}
-use Rattle.cover_pick.specs.Counts.{count_at, count_each}
-use Rattle.cover_pick.specs.Uses.{times_in}
+use Rattle.cover_pick.proofs.Common.{◌≡◌, ◌<◌, ◌≤◌, ◌+◌, ◌^◌, ◌∙◌, ◌∷◌, ℕ, List, drop, length, get_or, ap, sym, arith, drop_more, count_at, count_each, times_in}
 use Rattle.cover_pick.proofs.CountLemmas.{one_if, one_more, one_size}
 use Rattle.cover_pick.proofs.UsesLemmas.{times_cons, times_head}
 use Rattle.cover_pick.proofs.uses.count_leaves.Goals as goal

@@ -1,6 +1,4 @@
-use Rattle.cover_pick.proofs.Common.{◌≡◌, ◌<◌, ◌+◌, ◌^◌, ℕ, drop, length}
-use Rattle.cover_pick.specs.Counts.{count_at, count_each}
-use Rattle.cover_pick.specs.Uses.{times_in}
+use Rattle.cover_pick.proofs.Common.{◌≡◌, ◌<◌, ◌+◌, ◌^◌, ℕ, drop, length, count_at, count_each, times_in}
 use Rattle.cover_pick.proofs.uses.count_leaves.Given as goal
 
 abbrev pub invariant-loop-m : goal.invariant-loop-m

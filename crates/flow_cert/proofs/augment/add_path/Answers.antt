@@ -1,7 +1,4 @@
-use Rattle.flow_cert.proofs.Common.{◌≡◌, ◌<◌, ◌≤◌, ◌+◌, ◌∙◌, ◌++◌, ◌∷◌, [], arith, ap, length, get_or, refl, length-set, node_count, In-get_or}
-use Rattle.flow_cert.specs.Net.{net_of}
-use Rattle.flow_cert.specs.Links.{owner_in}
-use Rattle.flow_cert.specs.Search.{CanTurn}
+use Rattle.flow_cert.proofs.Common.{◌≡◌, ◌<◌, ◌≤◌, ◌+◌, ◌∙◌, ◌++◌, ◌∷◌, [], arith, ap, length, get_or, refl, length-set, node_count, In-get_or, net_of, owner_in, CanTurn}
 use Rattle.flow_cert.proofs.GraphLemmas.{leaf_inside}
 use Rattle.flow_cert.proofs.StampLemmas.{read_is}
 use Rattle.flow_cert.proofs.TurnLemmas.{owner_set, can_turn, turned, begin, finish}

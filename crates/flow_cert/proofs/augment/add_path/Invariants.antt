@@ -1,6 +1,4 @@
-use Rattle.flow_cert.proofs.Common.{◌≡◌, ◌∷◌, [], ◌++◌, length, get_or, node_count}
-use Rattle.flow_cert.specs.Net.{net_of}
-use Rattle.flow_cert.specs.Links.{owner_in}
+use Rattle.flow_cert.proofs.Common.{◌≡◌, ◌∷◌, [], ◌++◌, length, get_or, node_count, net_of, owner_in}
 use Rattle.flow_cert.proofs.TurnLemmas.{IsTurning}
 use Rattle.flow_cert.proofs.augment.add_path.Given as goal
 

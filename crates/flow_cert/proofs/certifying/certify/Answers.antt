@@ -1,5 +1,4 @@
-use Rattle.flow_cert.proofs.Common.{ℕ, ◌^◌, ◌<◌, ◌≤◌, List, ap, ◌∙◌, subst, Aig, lits_of, roots_of, LabelsValue, label_of}
-use Rattle.flow_cert.specs.Target.{IsTarget}
+use Rattle.flow_cert.proofs.Common.{ℕ, ◌^◌, ◌<◌, ◌≤◌, List, ap, ◌∙◌, subst, Aig, lits_of, roots_of, LabelsValue, label_of, IsTarget}
 use Rattle.flow_cert.proofs.CertLemmas.{cert_valid, cert_claims, cert_needed, cert_writable, depth_small}
 use Rattle.flow_cert.proofs.CoverLemmas.{target_least, label_small}
 use Rattle.flow_cert.proofs.NeededLemmas.{one_claiming}

@@ -1,5 +1,4 @@
-use Rattle.flow_cert.proofs.Common.{◌≡◌, ◌+◌, ◌<◌, ◌≤◌, [], ◌∷◌, ◌++◌, arith, ap, ◌∙◌, sym, subst, take, length, get_or, take_all, slice_get-get_or, In, In-get_or, In-get, take_get, PathValue, StepValue}
-use Rattle.flow_cert.specs.Marks.{HasTaken, AreTaken, AreMarkedTo}
+use Rattle.flow_cert.proofs.Common.{◌≡◌, ◌+◌, ◌<◌, ◌≤◌, [], ◌∷◌, ◌++◌, arith, ap, ◌∙◌, sym, subst, take, length, get_or, take_all, slice_get-get_or, In, In-get_or, In-get, take_get, PathValue, StepValue, HasTaken, AreTaken, AreMarkedTo}
 use Rattle.flow_cert.proofs.MarkLemmas.{taken_sizes, taken, marked, taken_next, marked_next}
 use Rattle.flow_cert.proofs.marks.mark_path.Goals as goal
 

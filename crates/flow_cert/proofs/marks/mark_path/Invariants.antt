@@ -1,5 +1,4 @@
-use Rattle.flow_cert.proofs.Common.{◌≡◌, List, Bool, [], take, length}
-use Rattle.flow_cert.specs.Marks.{AreTaken, AreMarkedTo}
+use Rattle.flow_cert.proofs.Common.{◌≡◌, List, Bool, [], take, length, AreTaken, AreMarkedTo}
 use Rattle.flow_cert.proofs.marks.mark_path.Given as goal
 
 abbrev pub invariant-loop-m : goal.invariant-loop-m

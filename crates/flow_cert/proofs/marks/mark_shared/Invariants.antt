@@ -1,5 +1,4 @@
-use Rattle.flow_cert.proofs.Common.{◌≡◌, [], length}
-use Rattle.flow_cert.specs.Marks.{AreTaken, AreMarkedTo}
+use Rattle.flow_cert.proofs.Common.{◌≡◌, [], length, AreTaken, AreMarkedTo}
 use Rattle.flow_cert.proofs.marks.mark_shared.Given as goal
 
 abbrev pub invariant-loop-place : goal.invariant-loop-place

@@ -1,5 +1,4 @@
-use Rattle.flow_cert.proofs.Common.{◌≡◌, length, node_count}
-use Rattle.flow_cert.specs.Links.{AreLinks}
+use Rattle.flow_cert.proofs.Common.{◌≡◌, length, node_count, AreLinks}
 use Rattle.flow_cert.proofs.paths.add_paths.Given as goal
 
 abbrev pub invariant-loop-i : goal.invariant-loop-i

@@ -1,6 +1,4 @@
-use Rattle.flow_cert.proofs.Common.{sym, subst, label_of}
-use Rattle.flow_cert.specs.Net.{net_of, IsNet, SiteValue}
-use Rattle.flow_cert.specs.Justify.{AreShowing}
+use Rattle.flow_cert.proofs.Common.{sym, subst, label_of, net_of, IsNet, SiteValue, AreShowing}
 use Rattle.flow_cert.proofs.ShowLemmas.{net_is, shown}
 use Rattle.flow_cert.proofs.paths.paths_to.Goals as goal
 

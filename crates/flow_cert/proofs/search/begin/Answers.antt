@@ -1,5 +1,4 @@
-use Rattle.flow_cert.proofs.Common.{◌≡◌, ◌<◌, arith, refl, length, get_or, node_count, In-get_or}
-use Rattle.flow_cert.specs.Net.{net_of}
+use Rattle.flow_cert.proofs.Common.{◌≡◌, ◌<◌, arith, refl, length, get_or, node_count, In-get_or, net_of}
 use Rattle.flow_cert.proofs.SearchLemmas.{begun_more, search_start}
 use Rattle.flow_cert.proofs.search.begin.Goals as goal
 

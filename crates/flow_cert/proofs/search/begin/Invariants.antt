@@ -1,5 +1,4 @@
-use Rattle.flow_cert.proofs.Common.{node_count}
-use Rattle.flow_cert.specs.Search.{IsBegun}
+use Rattle.flow_cert.proofs.Common.{node_count, IsBegun}
 use Rattle.flow_cert.proofs.search.begin.Given as goal
 
 abbrev pub invariant-loop-m : goal.invariant-loop-m

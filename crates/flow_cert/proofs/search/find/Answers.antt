@@ -1,7 +1,4 @@
-use Rattle.flow_cert.proofs.Common.{◌≡◌, ◌+◌, ◌<◌, ◌≤◌, ap, sym, ◌∙◌, arith, length, get_or, subst, inl, inr, cases_lt}
-use Rattle.flow_cert.specs.Net.{net_of}
-use Rattle.flow_cert.specs.Links.{owner_in}
-use Rattle.flow_cert.specs.Search.{IsSearching}
+use Rattle.flow_cert.proofs.Common.{◌≡◌, ◌+◌, ◌<◌, ◌≤◌, ap, sym, ◌∙◌, arith, length, get_or, subst, inl, inr, cases_lt, net_of, owner_in, IsSearching}
 use Rattle.flow_cert.proofs.StampLemmas.{read_is}
 use Rattle.flow_cert.proofs.SearchLemmas.{queue_short, search_ends}
 use Rattle.flow_cert.proofs.search.find.Goals as goal

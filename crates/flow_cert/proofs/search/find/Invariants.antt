@@ -1,7 +1,4 @@
-use Rattle.flow_cert.proofs.Common.{ℕ, ◌+◌, ◌-◌, ◌<◌, ◌≤◌, length, get_or}
-use Rattle.flow_cert.specs.Net.{net_of}
-use Rattle.flow_cert.specs.Links.{owner_in}
-use Rattle.flow_cert.specs.Search.{IsSearching}
+use Rattle.flow_cert.proofs.Common.{ℕ, ◌+◌, ◌-◌, ◌<◌, ◌≤◌, length, get_or, net_of, owner_in, IsSearching}
 use Rattle.flow_cert.proofs.search.find.Given as goal
 
 abbrev pub invariant-loop-place : goal.invariant-loop-place

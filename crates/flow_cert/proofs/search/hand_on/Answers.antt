@@ -1,6 +1,4 @@
-use Rattle.flow_cert.proofs.Common.{◌≡◌, ◌<◌, ◌/◌, sym, ap, ◌∙◌, subst, arith, length, get_or, node_count}
-use Rattle.flow_cert.specs.Net.{net_of, IsInner}
-use Rattle.flow_cert.specs.Links.{owner_in}
+use Rattle.flow_cert.proofs.Common.{◌≡◌, ◌<◌, ◌/◌, sym, ap, ◌∙◌, subst, arith, length, get_or, node_count, net_of, IsInner, owner_in}
 use Rattle.flow_cert.proofs.StampLemmas.{read_is}
 use Rattle.flow_cert.proofs.HandLemmas.{extends_same, extends_three, handed_by_node, handed_by_three, owned_inner, pushed_size, tried_size}
 use Rattle.flow_cert.proofs.search.hand_on.Goals as goal

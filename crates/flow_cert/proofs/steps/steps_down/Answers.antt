@@ -1,5 +1,4 @@
-use Rattle.flow_cert.proofs.Common.{◌≡◌, ◌+◌, ◌-◌, ◌<◌, ◌≤◌, arith, subst, length, first_and, label_of}
-use Rattle.flow_cert.specs.Steps.{AreDoneTo}
+use Rattle.flow_cert.proofs.Common.{◌≡◌, ◌+◌, ◌-◌, ◌<◌, ◌≤◌, arith, subst, length, first_and, label_of, AreDoneTo}
 use Rattle.flow_cert.proofs.steps.steps_down.Goals as goal
 
 pub loop-i-preserved : goal.loop-i-preserved

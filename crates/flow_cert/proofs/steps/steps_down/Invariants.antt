@@ -1,6 +1,4 @@
-use Rattle.flow_cert.proofs.Common.{◌+◌, ◌-◌, node_count, label_of}
-use Rattle.flow_cert.specs.Justify.{IsScratch}
-use Rattle.flow_cert.specs.Steps.{AreDoneTo}
+use Rattle.flow_cert.proofs.Common.{◌+◌, ◌-◌, node_count, label_of, IsScratch, AreDoneTo}
 use Rattle.flow_cert.proofs.steps.steps_down.Given as goal
 
 abbrev pub invariant-loop-i : goal.invariant-loop-i

@@ -1,5 +1,4 @@
-use Rattle.flow_cert.proofs.Common.{List, Bool, first_and, label_of}
-use Rattle.flow_cert.specs.Steps.{AreDoneTo}
+use Rattle.flow_cert.proofs.Common.{List, Bool, first_and, label_of, AreDoneTo}
 use Rattle.flow_cert.proofs.StepLemmas.{steps_turned}
 use Rattle.flow_cert.proofs.steps.steps_of.Goals as goal
 

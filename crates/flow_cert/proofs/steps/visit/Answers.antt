@@ -1,5 +1,4 @@
-use Rattle.flow_cert.proofs.Common.{◌≡◌, ◌<◌, true, false, sym, ◌∙◌, arith, length, node_count, label_of, get_or_read}
-use Rattle.flow_cert.specs.Marks.{mark}
+use Rattle.flow_cert.proofs.Common.{◌≡◌, ◌<◌, true, false, sym, ◌∙◌, arith, length, node_count, label_of, get_or_read, mark}
 use Rattle.flow_cert.proofs.StepLemmas.{step_fits, done_push}
 use Rattle.flow_cert.proofs.steps.visit.Goals as goal
 

@@ -1,5 +1,4 @@
-use Rattle.flow_cert.proofs.Common.{refl}
-use Rattle.flow_cert.specs.Target.{no_more}
+use Rattle.flow_cert.proofs.Common.{refl, no_more}
 use Rattle.flow_cert.proofs.target.deeper.Goals as goal
 
 pub returns-then-depth-best : goal.returns-then-depth-best

@@ -1,5 +1,4 @@
-use Rattle.flow_cert.proofs.Common.{sym, subst, take, lits_of, label_of}
-use Rattle.flow_cert.specs.Target.{IsTarget}
+use Rattle.flow_cert.proofs.Common.{sym, subst, take, lits_of, label_of, IsTarget}
 use Rattle.flow_cert.proofs.TargetLemmas.{in_lits, lits_more, target_more}
 use Rattle.flow_cert.proofs.target.target_of.Goals as goal
 

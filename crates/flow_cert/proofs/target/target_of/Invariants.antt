@@ -1,5 +1,4 @@
-use Rattle.flow_cert.proofs.Common.{take, lits_of, label_of}
-use Rattle.flow_cert.specs.Target.{IsTarget}
+use Rattle.flow_cert.proofs.Common.{take, lits_of, label_of, IsTarget}
 use Rattle.flow_cert.proofs.target.target_of.Given as goal
 
 abbrev pub invariant-loop-root : goal.invariant-loop-root

@@ -1,5 +1,4 @@
-use Rattle.flow_cert.proofs.Common.{◌≡◌, ◌<◌, ◌/◌, ◌∙◌, arith, sym, subst, get_or, IsAnd, IsNode, node_count, In-get_or, label_of}
-use Rattle.flow_cert.specs.Walks.{HasRead}
+use Rattle.flow_cert.proofs.Common.{◌≡◌, ◌<◌, ◌/◌, ◌∙◌, arith, sym, subst, get_or, IsAnd, IsNode, node_count, In-get_or, label_of, HasRead}
 use Rattle.flow_cert.proofs.StampLemmas.{read_is}
 use Rattle.flow_cert.proofs.WalkLemmas.{read_both, read_size}
 use Rattle.flow_cert.proofs.walk.read_at.Goals as goal

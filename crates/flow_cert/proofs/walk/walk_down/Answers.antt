@@ -1,5 +1,4 @@
-use Rattle.flow_cert.proofs.Common.{◌≡◌, ◌+◌, arith, length}
-use Rattle.flow_cert.specs.Net.{net_at}
+use Rattle.flow_cert.proofs.Common.{◌≡◌, ◌+◌, arith, length, net_at}
 use Rattle.flow_cert.proofs.WalkLemmas.{walk_all, uppers_short}
 use Rattle.flow_cert.proofs.walk.walk_down.Goals as goal
 

@@ -1,6 +1,4 @@
-use Rattle.flow_cert.proofs.Common.{◌≡◌, ◌≤◌, ◌+◌, ◌-◌, length, node_count}
-use Rattle.flow_cert.specs.Net.{net_at}
-use Rattle.flow_cert.specs.Walks.{IsWalked}
+use Rattle.flow_cert.proofs.Common.{◌≡◌, ◌≤◌, ◌+◌, ◌-◌, length, node_count, net_at, IsWalked}
 use Rattle.flow_cert.proofs.walk.walk_down.Given as goal
 
 abbrev pub invariant-loop-place : goal.invariant-loop-place

@@ -1,7 +1,4 @@
-use Rattle.flow_cert.proofs.Common.{◌≡◌, ◌<◌, ◌≤◌, ◌∙◌, arith, sym, subst, length}
-use Rattle.flow_cert.specs.Net.{net_of}
-use Rattle.flow_cert.specs.Links.{owner_in}
-use Rattle.flow_cert.specs.Ways.{next_of}
+use Rattle.flow_cert.proofs.Common.{◌≡◌, ◌<◌, ◌≤◌, ◌∙◌, arith, sym, subst, length, net_of, owner_in, next_of}
 use Rattle.flow_cert.proofs.GraphLemmas.{fan_in_below}
 use Rattle.flow_cert.proofs.WayLemmas.{way_start, way_push, on_below, next_above}
 use Rattle.flow_cert.proofs.ways.path_from.Goals as goal

@@ -1,7 +1,4 @@
-use Rattle.flow_cert.proofs.Common.{◌-◌}
-use Rattle.flow_cert.specs.Net.{net_of}
-use Rattle.flow_cert.specs.Links.{owner_in}
-use Rattle.flow_cert.specs.Ways.{IsWayTo}
+use Rattle.flow_cert.proofs.Common.{◌-◌, net_of, owner_in, IsWayTo}
 use Rattle.flow_cert.proofs.ways.path_from.Given as goal
 
 abbrev pub invariant-loop-m : goal.invariant-loop-m

@@ -1,7 +1,4 @@
-use Rattle.flow_cert.proofs.Common.{◌<◌, sym, subst, length, get_or, IsSource, Regular, In-get_or}
-use Rattle.flow_cert.specs.Net.{net_of}
-use Rattle.flow_cert.specs.Links.{owner_in}
-use Rattle.flow_cert.specs.Ways.{IsWayTo}
+use Rattle.flow_cert.proofs.Common.{◌<◌, sym, subst, length, get_or, IsSource, Regular, In-get_or, net_of, owner_in, IsWayTo}
 use Rattle.flow_cert.proofs.WayLemmas.{ways_push}
 use Rattle.flow_cert.proofs.ways.paths_of.Goals as goal
 

@@ -1,6 +1,4 @@
-use Rattle.flow_cert.specs.Net.{net_of}
-use Rattle.flow_cert.specs.Links.{owner_in}
-use Rattle.flow_cert.specs.Ways.{AreWaysTo}
+use Rattle.flow_cert.proofs.Common.{net_of, owner_in, AreWaysTo}
 use Rattle.flow_cert.proofs.ways.paths_of.Given as goal
 
 abbrev pub invariant-loop-s : goal.invariant-loop-s

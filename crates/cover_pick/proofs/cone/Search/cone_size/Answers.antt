@@ -1,5 +1,4 @@
-use Rattle.cover_pick.proofs.Common.{arith, ◌≡◌, ◌∙◌, ◌/◌, ◌<◌, length, ap, node_count, IsAnd}
-use Rattle.cover_pick.specs.Search.{reach}
+use Rattle.cover_pick.proofs.Common.{arith, ◌≡◌, ◌∙◌, ◌/◌, ◌<◌, length, ap, node_count, IsAnd, reach}
 use Rattle.cover_pick.proofs.SearchLemmas.{search_start, search_step, search_end, found_and}
 use Rattle.cover_pick.proofs.cone.Search.cone_size.Goals as goal
 

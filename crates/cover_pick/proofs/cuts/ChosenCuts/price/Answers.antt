@@ -1,6 +1,4 @@
-use Rattle.cover_pick.proofs.Common.{◌≡◌, ◌∙◌, ◌+◌, ◌^◌, ℕ, List, [], length, None, Some, get_or, sym, ap, row_at}
-use Rattle.cover_pick.specs.declared.limits.TheConstants.{TABLE_PRICE}
-use Rattle.cover_pick.specs.Uses.{price}
+use Rattle.cover_pick.proofs.Common.{◌≡◌, ◌∙◌, ◌+◌, ◌^◌, ℕ, List, [], length, None, Some, get_or, sym, ap, row_at, TABLE_PRICE, price}
 use Rattle.cover_pick.proofs.PlaceLemmas.{cut_at_place}
 use Rattle.cover_pick.proofs.cuts.ChosenCuts.price.Goals as goal
 

@@ -1,5 +1,4 @@
-use Rattle.flow_cert.proofs.Common.{◌≡◌, ◌+◌, ◌≤◌, arith, sym, ap, ◌∙◌, length, get_or, vec_len}
-use Rattle.flow_cert.specs.Stamps.{zeros}
+use Rattle.flow_cert.proofs.Common.{◌≡◌, ◌+◌, ◌≤◌, arith, sym, ap, ◌∙◌, length, get_or, vec_len, zeros}
 use Rattle.flow_cert.proofs.StampLemmas.{length_values, length_zeros, values_none, zeros_none}
 use Rattle.flow_cert.proofs.stamped.Stamped.clear.Goals as goal
 

@@ -1,5 +1,4 @@
-use Rattle.flow_cert.proofs.Common.{◌≡◌, ap, ◌∙◌, length}
-use Rattle.flow_cert.specs.Stamps.{zeros}
+use Rattle.flow_cert.proofs.Common.{◌≡◌, ap, ◌∙◌, length, zeros}
 use Rattle.flow_cert.proofs.StampLemmas.{length_zeros}
 use Rattle.flow_cert.proofs.stamped.Stamped.new.Goals as goal
 

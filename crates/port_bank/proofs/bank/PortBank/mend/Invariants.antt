@@ -1,5 +1,4 @@
-use Rattle.std.proofs.Common.{◌≡◌}
-use Rattle.port_bank.specs.Seen.{bank_seen}
+use Rattle.port_bank.proofs.Common.{◌≡◌, bank_seen}
 use Rattle.port_bank.proofs.SendLemmas.{StillBroken}
 use Rattle.port_bank.proofs.bank.PortBank.mend.Given as goal
 

@@ -1,5 +1,4 @@
-use Rattle.std.proofs.Common.{arith, sym, map}
-use Rattle.std.proofs.lemmas.List.{length-map}
+use Rattle.port_bank.proofs.Common.{arith, sym, map, length-map}
 use Rattle.port_bank.proofs.PartLemmas.{parts_joined}
 use Rattle.port_bank.proofs.bank.PortBank.release.Goals as goal
 

@@ -1,7 +1,4 @@
-use Rattle.std.proofs.Common.{◌<◌, map, take, length, ap, refl, ◌∙◌, arith}
-use Rattle.std.proofs.lemmas.Result.{err_from_is_err_and}
-use Rattle.tl_io.specs.Writes.{writes_from}
-use Rattle.port_bank.specs.Seen.{bank_seen}
+use Rattle.port_bank.proofs.Common.{◌<◌, map, take, length, ap, refl, ◌∙◌, arith, err_from_is_err_and, writes_from, bank_seen}
 use Rattle.port_bank.proofs.RegionLemmas.{wide, has_port}
 use Rattle.port_bank.proofs.PartLemmas.{serving_count}
 use Rattle.port_bank.proofs.FilterLemmas.{left_here, ascend_from}

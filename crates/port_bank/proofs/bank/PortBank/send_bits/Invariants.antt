@@ -1,8 +1,4 @@
-use Rattle.std.proofs.Common.{◌≡◌, drop}
-use Rattle.tl_io.specs.Writes.{writes_from}
-use Rattle.port_bank.specs.Send.{Reaches}
-use Rattle.port_bank.specs.Seen.{bank_seen}
-use Rattle.port_bank.specs.Steps.{from_region}
+use Rattle.port_bank.proofs.Common.{◌≡◌, drop, writes_from, Reaches, bank_seen, from_region}
 use Rattle.port_bank.proofs.bank.PortBank.send_bits.Given as goal
 
 abbrev pub invariant-loop-address : goal.invariant-loop-address

@@ -1,5 +1,4 @@
-use Rattle.std.proofs.Common.{sym, ◌∙◌}
-use Rattle.std.proofs.lemmas.Result.{err_from_is_err_and}
+use Rattle.port_bank.proofs.Common.{sym, ◌∙◌, err_from_is_err_and}
 use Rattle.port_bank.proofs.SendLemmas.{steps_accepted, steps_mended, steps_lost, on_ok_at, on_err_at}
 use Rattle.port_bank.proofs.bank.PortBank.send_one.Goals as goal
 

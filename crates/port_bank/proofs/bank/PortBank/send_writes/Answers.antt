@@ -1,11 +1,4 @@
-use Rattle.std.proofs.Common.{◌<◌, ℕ, Bool, List, map, take, length, get_or, false, ap, refl, ◌∙◌, arith}
-use Rattle.std.proofs.lemmas.List.{drop_more}
-use Rattle.std.proofs.lemmas.Result.{err_from_is_err_and}
-use Rattle.list_laws.proofs.Members.{In-get_or}
-use Rattle.tl_io.specs.declared.Write.{Write}
-use Rattle.std.proofs.lemmas.Option.{slice_get_within}
-use Rattle.tl_io.specs.Writes.{AreBitsOf}
-use Rattle.port_bank.specs.Seen.{bank_seen}
+use Rattle.port_bank.proofs.Common.{◌<◌, ℕ, Bool, List, map, take, length, get_or, false, ap, refl, ◌∙◌, arith, drop_more, err_from_is_err_and, In-get_or, Write, slice_get_within, AreBitsOf, bank_seen}
 use Rattle.port_bank.proofs.RegionLemmas.{wide, has_port}
 use Rattle.port_bank.proofs.PartLemmas.{serving_count}
 use Rattle.port_bank.proofs.SendLemmas.{sends_none, sends_more, sends_lost, sends_all}

@@ -1,7 +1,4 @@
-use Rattle.std.proofs.Common.{◌≡◌, drop}
-use Rattle.port_bank.specs.Send.{Reaches}
-use Rattle.port_bank.specs.Seen.{bank_seen}
-use Rattle.port_bank.specs.Steps.{from_region}
+use Rattle.port_bank.proofs.Common.{◌≡◌, drop, Reaches, bank_seen, from_region}
 use Rattle.port_bank.proofs.bank.PortBank.send_writes.Given as goal
 
 abbrev pub invariant-loop-write : goal.invariant-loop-write
