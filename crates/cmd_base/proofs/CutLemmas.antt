@@ -1,12 +1,8 @@
 -- What the clause on a file that was cut off refuses: examples, which nothing cites.
-use Rattle.std.proofs.Common.{◌≡◌, ℕ, ◌<◌, ◌≤◌, false, List, [], ◌∷◌, ◌++◌, length, get_or, take, Option, None, Some, inl, inr, sym, ap, subst, subst₂, ◌∙◌, arith, length-append}
-use Rattle.std.proofs.lemmas.List.{length-take-le}
+use Rattle.cmd_base.proofs.Common.{◌≡◌, ℕ, ◌<◌, ◌≤◌, false, List, [], ◌∷◌, ◌++◌, length, get_or, take, Option, None, Some, inl, inr, sym, ap, subst, subst₂, ◌∙◌, arith, length-append, length-take-le, Rose, Files, with_file, Outside}
 use Rattle.std.proofs.lemmas.Option.{none-some}
 use Rattle.std.specs.FinMap.{get, insert}
-use Rattle.tl_io.specs.Causes.{Rose}
-use Rattle.tl_io.specs.Shelf.{Files, with_file}
 use Rattle.tl_io.proofs.FilesLemmas.{is_same_name, get-inserted, get-inserted_other}
-use Rattle.cmd_base.specs.Outside.{Outside}
 use Rattle.cmd_base.specs.Writing.{FileText, with_texts, HasPrefix, IsCut}
 
 -- two texts that were put there under one name are the same

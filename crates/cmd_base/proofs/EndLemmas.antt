@@ -1,16 +1,10 @@
 -- Why a job was not begun, seen from an earlier state of the shelf, and from a reading of more files.
-use Rattle.std.proofs.Common.{◌≡◌, ℕ, ◌≤◌, false, take, List, Option, ap, sym, ◌∙◌, subst, arith}
+use Rattle.cmd_base.proofs.Common.{◌≡◌, ℕ, ◌≤◌, false, take, List, Option, ap, sym, ◌∙◌, subst, arith, Rose, Files, ShelfSeen, SinkSeen, Outside, outside, KeepsFiles}
 use Rattle.tl_fault.specs.RefusalValue.{RefusalValue}
-use Rattle.tl_io.specs.Causes.{Rose}
 use Rattle.tl_io.specs.Port.{PortSeen}
-use Rattle.tl_io.specs.Shelf.{Files, ShelfSeen}
-use Rattle.tl_io.specs.Sink.{SinkSeen}
 use Rattle.tl_io.specs.declared.told_name.TheConstants.{NAME_ROOM}
-use Rattle.cmd_base.specs.Outside.{Outside, outside}
-use Rattle.cmd_base.specs.Walk.{Reading, Walk}
+use Rattle.cmd_base.specs.Walk.{Reading, Walk, InFiles, IsTooLongAt, IsRefusedAt, IsFaultAt, Explains, Ends}
 use Rattle.cmd_base.specs.Refusals.{too_long}
-use Rattle.cmd_base.specs.KeepsFiles.{KeepsFiles}
-use Rattle.cmd_base.specs.Ends.{InFiles, IsTooLongAt, IsRefusedAt, IsFaultAt, Explains, Ends}
 use Rattle.cmd_base.specs.declared.outcome.File.{File}
 use Rattle.cmd_base.specs.declared.outcome.Outcome.{Outcome}
 use Rattle.cmd_base.specs.declared.outcome.Outcome.TheVariants as outcome
@@ -42,11 +36,7 @@ module _ (reading : Reading) (old mid new : ShelfSeen) (keeps : KeepsFiles old m
   Explains_from (outcome.TooLong f) h = long_from f h
   Explains_from (outcome.Refused f r) h = refused_from f r h
   Explains_from (outcome.ReadFault f) h = fault_from f h
-  Explains_from outcome.Memory h = h
-  Explains_from outcome.Done h = h
-  Explains_from outcome.Usage h = h
-  Explains_from outcome.WriteFault h = h
-  Explains_from outcome.PortFault h = h
+  Explains_from o h = h
 
 -- Files are kept by two calls where each keeps them.
 at_most_past : (first mid last : ℕ) → first ≤ mid → mid ≤ last → first ≤ last
@@ -72,10 +62,7 @@ module _ (walk : Walk) (old new : ShelfSeen) (before after : Outside) (same : af
   explained_ends (outcome.Refused f r) h = (h, same)
   explained_ends (outcome.ReadFault f) h = (h, same)
   explained_ends outcome.Memory h = (same, not_writing)
-  explained_ends outcome.Done h = absurd h
-  explained_ends outcome.Usage h = absurd h
-  explained_ends outcome.WriteFault h = absurd h
-  explained_ends outcome.PortFault h = absurd h
+  explained_ends o h = absurd h
 
 -- so does one whose files were only read
 module _ (walk : Walk) {old new : ShelfSeen} (keeps : KeepsFiles old new) (not_writing : walk.WritesFiles → new.is_writing ≡ false) (out : SinkSeen) (ports : List PortSeen) where
@@ -126,8 +113,4 @@ module _ (part whole : Reading) (old new : ShelfSeen) (is_part : IsPart part who
   Explains_lift (outcome.TooLong f) h = long_lift f h
   Explains_lift (outcome.Refused f r) h = refused_lift f r h
   Explains_lift (outcome.ReadFault f) h = fault_lift f h
-  Explains_lift outcome.Memory h = h
-  Explains_lift outcome.Done h = h
-  Explains_lift outcome.Usage h = h
-  Explains_lift outcome.WriteFault h = h
-  Explains_lift outcome.PortFault h = h
+  Explains_lift o h = h

@@ -1,4 +1,4 @@
+mod Common
 mod CutLemmas
 mod PutLemmas
-mod SpacedLemmas
 pub mod EndLemmas

@@ -3,7 +3,7 @@ use Rattle.std.specs.Prelude.{◌≡◌, ◌<◌, ◌⊎◌, ℕ, List, [], ◌�
 use Rattle.tl_io.specs.Causes.{Rose}
 use Rattle.tl_io.specs.Content.{extended}
 use Rattle.tl_io.specs.Shelf.{Files, with_file, emptied}
-use Rattle.cmd_base.specs.Outside.{Outside}
+use Rattle.cmd_base.specs.Walk.{Outside}
 use Rattle.cmd_base.specs.declared.outcome.Outcome.{Outcome}
 use Rattle.cmd_base.specs.declared.outcome.Outcome.TheVariants.{Done, WriteFault}
 

@@ -1,34 +1,8 @@
 -- The laws of the walk of `audit`: a certificate that is valid isn't refused, and one is refused for one reason; and how its job ends.
-use Rattle.std.proofs.Common.{◌≡◌, ◌≤◌, ℕ, List, Some, sym, ap, ◌∙◌, subst}
+use Rattle.cmd_cert.proofs.Common.{◌≡◌, ◌≤◌, ℕ, List, Some, sym, ap, ◌∙◌, subst, MOST_BYTES, RefusalValue, Files, ShelfSeen, Aig, RootsValue, roots_of, CertificateValue, IsCertText, IsFault, refusal_of, CertErr, Told, IsBegunFrom, HasLaws, File, Source, ToGraph, IsBuilt, HasGraph, IsSourceRefused, IsBuiltSource, ComesToGraph, refused_unmade, same_roots, settled_once, source_refused_once, Audited, CertWords, HasCert, IsCertFault, malformed, invalid, IsCertRefusal, IsCertSettled, audited_line, IsAudit, HasAudit, HasAuditJob, IsAuditRefused, source, long_cert, cert, IsAuditSettled, audit_walk, text_once, short_or_long}
 use Rattle.std.proofs.lemmas.Option.{same_Some}
-use Rattle.tl_text.specs.declared.logical_lines.TheConstants.{MOST_BYTES}
-use Rattle.tl_fault.specs.RefusalValue.{RefusalValue}
-use Rattle.tl_io.specs.Shelf.{Files, ShelfSeen}
-use Rattle.aig_core.specs.Aig.{Aig}
-use Rattle.aig_core.specs.Roots.{RootsValue, roots_of}
-use Rattle.cert_check.specs.CertificateValue.{CertificateValue}
-use Rattle.cert_check.specs.CertText.{IsCertText}
-use Rattle.cert_check.specs.Faults.{IsFault}
-use Rattle.cert_check.specs.Refusals.{refusal_of}
 use Rattle.cert_check.specs.Valid.{IsValid}
-use Rattle.cert_check.specs.declared.cert_err.CertErr.{CertErr}
 use Rattle.cert_check.proofs.LeastLemmas.{valid_bound}
-use Rattle.cmd_base.specs.Ends.{Told, IsBegunFrom}
-use Rattle.cmd_base.specs.WalkLaws.{HasLaws}
-use Rattle.cmd_base.specs.declared.outcome.File.{File}
-use Rattle.cmd_stations.specs.declared.source.Source.{Source}
-use Rattle.cmd_stations.specs.Aims.{ToGraph, IsBuilt}
-use Rattle.cmd_stations.specs.Source.{HasGraph, IsSourceRefused}
-use Rattle.cmd_stations.specs.Built.{IsBuiltSource, ComesToGraph}
-use Rattle.cmd_stations.proofs.ClashLemmas.{refused_unmade}
-use Rattle.cmd_stations.proofs.FileLemmas.{text_once, short_or_long}
-use Rattle.cmd_stations.proofs.GraphLemmas.{same_roots}
-use Rattle.cmd_stations.proofs.OnceLemmas.{settled_once}
-use Rattle.cmd_stations.proofs.RefusedLemmas.{source_refused_once}
-use Rattle.cmd_cert.specs.declared.audit.job.Audited.{Audited}
-use Rattle.cmd_cert.specs.Words.{CertWords}
-use Rattle.cmd_cert.specs.Certs.{HasCert, IsCertFault, malformed, invalid, IsCertRefusal, IsCertSettled, audited_line}
-use Rattle.cmd_cert.specs.Audit.{IsAudit, HasAudit, HasAuditJob, IsAuditRefused, source, long_cert, cert, IsAuditSettled, audit_walk}
 use Rattle.cmd_cert.proofs.GraphWalkLemmas.{graph_once, cert_settles}
 
 -- a text has one fault as a certificate, and none where its certificate is valid

@@ -1,24 +1,7 @@
 -- The reading of a source circuit up to its graph is part of that of `audit`; and after it the certificate is settled.
-use Rattle.std.proofs.Common.{◌≡◌, Option, refl, subst}
-use Rattle.tl_io.specs.Shelf.{Files, ShelfSeen}
-use Rattle.aig_core.specs.Aig.{Aig, first_and, AreNormal}
-use Rattle.aig_core.specs.Roots.{RootsValue, roots_of}
+use Rattle.cmd_cert.proofs.Common.{◌≡◌, Option, refl, subst, Files, ShelfSeen, Aig, first_and, AreNormal, RootsValue, roots_of, Explains, File, Outcome, IsPart, Explains_lift, Source, ToGraph, IsBuilt, HasGraph, ReachesSource, IsOfSource, source_word, source_reading, IsSourceSettled, refused_unmade, same_graph, settled_once, CertWords, cert_word, IsOfAudit, ReachesAudit, IsAuditSettled, audit_reading, of_source}
 use Rattle.cert_check.proofs.CheckLemmas.{one_verdict}
 use Rattle.cert_check.proofs.OnceLemmas.{one_reading}
-use Rattle.cmd_base.specs.Ends.{Explains}
-use Rattle.cmd_base.specs.declared.outcome.File.{File}
-use Rattle.cmd_base.specs.declared.outcome.Outcome.{Outcome}
-use Rattle.cmd_base.proofs.EndLemmas.{IsPart, Explains_lift}
-use Rattle.cmd_stations.specs.declared.source.Source.{Source}
-use Rattle.cmd_stations.specs.Aims.{ToGraph, IsBuilt}
-use Rattle.cmd_stations.specs.Source.{HasGraph, ReachesSource}
-use Rattle.cmd_stations.specs.Settled.{IsOfSource, source_word, source_reading, IsSourceSettled}
-use Rattle.cmd_stations.proofs.ClashLemmas.{refused_unmade}
-use Rattle.cmd_stations.proofs.GraphLemmas.{same_graph}
-use Rattle.cmd_stations.proofs.EachFileLemmas.{of_source}
-use Rattle.cmd_stations.proofs.OnceLemmas.{settled_once}
-use Rattle.cmd_cert.specs.Words.{CertWords, cert_word}
-use Rattle.cmd_cert.specs.Audit.{IsOfAudit, ReachesAudit, IsAuditSettled, audit_reading}
 use Rattle.cmd_cert.specs.Audit as audit
 
 module _ (files : Files) (words : CertWords) (settled : IsSourceSettled ToGraph files words.source) where

@@ -1,3 +1,4 @@
+mod Common
 mod ProveLemmas
 mod GraphWalkLemmas
 mod CertWalkLemmas

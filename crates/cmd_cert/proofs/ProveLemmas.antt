@@ -1,40 +1,15 @@
 -- A job of `prove`: a source circuit that is labelled is accepted, and its certificate is the verdict's, whole or cut off.
-use Rattle.std.proofs.Common.{◌≡◌, ◌≤◌, ℕ, List, [], ◌∷◌, Some, sym, ap, ◌∙◌, subst, Result}
-use Rattle.std.specs.Prelude.{string_bytes}
-use Rattle.tl_text.specs.declared.logical_lines.TheConstants.{MOST_BYTES}
-use Rattle.tl_fault.specs.RefusalValue.{RefusalValue}
+use Rattle.cmd_cert.proofs.Common.{◌≡◌, ◌≤◌, ℕ, List, [], ◌∷◌, Some, sym, ap, ◌∙◌, subst, Result, string_bytes, MOST_BYTES, RefusalValue, Files, ShelfSeen, roots_of, CertificateValue, IsCertText, cert_text, bare, outside, FileText, writing_outcome, Told, IsBegun, Ends, HasLaws, File, Outcome, ToLabels, IsSourceRefused, IsSourceSettled, ComesToLabels, refused_unmade, source_refused_once, CertWords, proved_line, HasProof, HasProveJob, prove_walk, IsProof, writing_ends}
 use Rattle.tl_io.specs.Port.{PortSeen}
-use Rattle.tl_io.specs.Shelf.{Files, ShelfSeen}
 use Rattle.tl_io.specs.Sink.{SinkSeen}
-use Rattle.aig_core.specs.Roots.{roots_of}
 use Rattle.cut_sets.specs.Covers.{IsLeastDepth}
-use Rattle.cert_check.specs.CertificateValue.{CertificateValue}
-use Rattle.cert_check.specs.CertText.{IsCertText}
-use Rattle.cert_check.specs.WrittenText.{cert_text, bare}
 use Rattle.cert_check.proofs.BareLemmas.{same_valid, same_text}
 use Rattle.cert_check.proofs.RoundTrip.{reads_back}
 use Rattle.depth_label.specs.Label.{label_of}
 use Rattle.flow_cert.proofs.NeededLemmas.{same_label_claims, same_needed}
-use Rattle.cmd_base.specs.Outside.{outside}
-use Rattle.cmd_base.specs.Writing.{FileText, writing_outcome}
-use Rattle.cmd_base.specs.Ends.{Told, IsBegun, Ends}
-use Rattle.cmd_base.specs.WalkLaws.{HasLaws}
-use Rattle.cmd_base.specs.declared.outcome.File.{File}
-use Rattle.cmd_base.specs.declared.outcome.Outcome.{Outcome}
 use Rattle.cmd_stations.specs.FileWrites.{WritesAll}
 use Rattle.cmd_stations.specs.declared.labelling.LabelledSource.{LabelledSource}
-use Rattle.cmd_stations.specs.Aims.{ToLabels}
-use Rattle.cmd_stations.specs.Source.{IsSourceRefused}
-use Rattle.cmd_stations.specs.Settled.{IsSourceSettled}
-use Rattle.cmd_stations.specs.Built.{ComesToLabels}
-use Rattle.cmd_stations.proofs.WritingWalkLemmas.{writing_ends}
-use Rattle.cmd_stations.proofs.ClashLemmas.{refused_unmade}
-use Rattle.cmd_stations.proofs.RefusedLemmas.{source_refused_once}
 use Rattle.cmd_cert.specs.declared.prove.job.Proof.{Proof}
-use Rattle.cmd_cert.specs.Words.{CertWords}
-use Rattle.cmd_cert.specs.Certs.{proved_line}
-use Rattle.cmd_cert.specs.Proofs.{IsProof}
-use Rattle.cmd_cert.specs.Prove.{HasProof, HasProveJob, prove_walk}
 
 prove_begun : (files : Files) (words : CertWords) (l : LabelledSource) → ComesToLabels files words.source l → IsBegun (prove_walk words) files
 prove_begun files words l past = record { accepted = record { source = l.built.source; graph = l.built.graph; roots = l.built.roots; has = past.has }; settled = past.settled }

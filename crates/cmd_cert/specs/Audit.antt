@@ -1,5 +1,5 @@
 -- The walk of `audit`: the graph of a source circuit is made, and a certificate is checked against it.
-use Rattle.std.specs.Prelude.{◌≡◌, ◌≤◌, ℕ, List, [], Some}
+use Rattle.std.specs.Prelude.{◌≡◌, ℕ, List, []}
 use Rattle.tl_fault.specs.RefusalValue.{RefusalValue}
 use Rattle.tl_io.specs.Shelf.{Files}
 use Rattle.aig_core.specs.Aig.{Aig}
@@ -8,18 +8,16 @@ use Rattle.netlist.specs.Sound.{IsSound}
 use Rattle.cert_check.specs.CertificateValue.{CertificateValue}
 use Rattle.cert_check.specs.Valid.{IsValid}
 use Rattle.cert_check.specs.LowerBound.{IsLowerBound}
-use Rattle.cmd_base.specs.Walk.{Reading, Walk}
+use Rattle.cmd_base.specs.Walk.{Reading, shelf_reading, Walk, portless_walk}
 use Rattle.cmd_base.specs.Writing.{AreWritten, IsCutInLine}
-use Rattle.cmd_base.specs.Refusals.{most_bytes, too_long}
+use Rattle.cmd_base.specs.Refusals.{too_long}
 use Rattle.cmd_base.specs.declared.outcome.File.{File}
 use Rattle.cmd_base.specs.declared.outcome.File.TheVariants.{Netlist, Params, Script, Pack, Cert}
 use Rattle.cmd_stations.specs.declared.source.Source.{Source}
 use Rattle.cmd_stations.specs.Texts.{HasText, IsLongText}
-use Rattle.cmd_stations.specs.Aims.{ToGraph}
-use Rattle.cmd_stations.specs.Source.{HasGraph, IsSourceRefused, ReachesSource}
-use Rattle.cmd_stations.specs.Settled.{IsSourceSettled}
-use Rattle.cmd_cert.specs.Words.{CertWords, cert_word}
-use Rattle.cmd_cert.specs.Certs.{HasCert, IsCertRefusal, IsCertSettled, audited_line}
+use Rattle.cmd_stations.specs.Mapped.{ToGraph}
+use Rattle.cmd_stations.specs.Source.{HasGraph, IsSourceRefused, ReachesSource, IsSourceSettled}
+use Rattle.cmd_cert.specs.Certs.{CertWords, cert_word, HasCert, IsCertRefusal, IsCertSettled, audited_line}
 
 -- the files hold a certificate that is valid for the graph of their source circuit
 pub record IsAudit (files : Files) (words : CertWords) (source : Source) (graph : Aig) (roots : RootsValue) (cert : CertificateValue) : Type 0 where
@@ -73,26 +71,9 @@ ReachesAudit files words file = ReachesSource files words.source file
 
 -- how they are read
 abbrev pub audit_reading : CertWords → Reading
-audit_reading words = record {
-  HasFiles = λ told files. told ≡ Some files;
-  IsRead = IsOfAudit;
-  word = cert_word words;
-  last = Cert;
-  HasGiven = λ file given. given ≤ most_bytes file;
-  Reaches = λ files file. ReachesAudit files words file;
-  IsRefused = λ files file refusal. IsAuditRefused files words file refusal;
-  IsSettled = λ files. IsAuditSettled files words;
-}
+audit_reading words = shelf_reading IsOfAudit (cert_word words) Cert (λ files. ReachesAudit files words) (λ files. IsAuditRefused files words) (λ files. IsAuditSettled files words)
 
 abbrev pub audit_walk : CertWords → Walk
-audit_walk words = record {
-  reading = audit_reading words;
-  IsAccepted = λ files. HasAuditJob files words;
-  IsDone = λ files old new. HasAudit files words (λ line. AreWritten [] line old new);
-  IsCutOff = λ files old new. HasAudit files words (λ line. IsCutInLine [] line old new);
-  IsLost = λ files old new. ⊥;
-  Shows = λ files old new. Unit {0};
-  WritesFiles = ⊥;
-  KeepsPorts = λ old new. new.ports ≡ old.ports;
-  HasPortFault = λ old new. ⊥;
-}
+audit_walk words =
+    portless_walk (audit_reading words) (λ files. HasAuditJob files words) (λ files old new. HasAudit files words (λ line. AreWritten [] line old new)) (λ files old new. HasAudit files words (λ line. IsCutInLine [] line old new))
+    (λ files old new. Unit {0}) ⊥

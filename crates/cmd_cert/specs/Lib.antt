@@ -1,10 +1,8 @@
 -- What public clauses say: of the arguments of both commands,
-pub mod Words
 -- of a certificate's file,
 pub mod Certs
 -- and of each walk.
 pub mod Prove
 pub mod Audit
 -- What only bodies are compared with.
-pub mod Ended
 pub mod Proofs

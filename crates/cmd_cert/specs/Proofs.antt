@@ -1,5 +1,5 @@
--- The certificate of a labelled source circuit, as the code makes it.
-use Rattle.std.specs.Prelude.{◌≡◌, ℕ, string_bytes}
+-- The certificate of a labelled source circuit, as the code makes it, and the outcome of a certificate's refusal; out of memory has none.
+use Rattle.std.specs.Prelude.{◌≡◌, ℕ, string_bytes, Option, Some, None}
 use Rattle.aig_core.specs.Roots.{roots_of}
 use Rattle.cut_sets.specs.Covers.{IsLeastDepth}
 use Rattle.depth_label.specs.Label.{label_of}
@@ -9,6 +9,10 @@ use Rattle.flow_cert.specs.Needed.{AreLabelClaims, AreNeeded}
 use Rattle.cmd_stations.specs.Mapped.{IsLabelled}
 use Rattle.cmd_cert.specs.declared.prove.job.Proof.{Proof}
 use Rattle.cmd_cert.specs.Certs.{proved_line}
+use Rattle.tl_fault.specs.RefusalValue.{RefusalValue}
+use Rattle.cmd_base.specs.declared.outcome.File.TheVariants.{Cert}
+use Rattle.cmd_base.specs.declared.outcome.Outcome.{Outcome}
+use Rattle.cmd_base.specs.declared.outcome.Outcome.TheVariants as outcome
 
 -- The labels are those of its graph. The certificate is valid and of the least depth, claims the labels of the needed nodes, can be written,
 -- and has its line.
@@ -20,3 +24,8 @@ pub record IsProof (k : ℕ) (p : Proof) : Type 0 where
   pub needed : AreNeeded p.labelled.built.graph (roots_of p.labelled.built.roots) (label_of p.labelled.labels) p.cert
   pub writable : IsWritable p.cert
   pub line : string_bytes p.line ≡ proved_line p.cert.depth
+
+-- The outcome of a certificate's refusal; out of memory has none.
+abbrev pub outcome_by : Option RefusalValue → Outcome
+outcome_by (Some refusal) = outcome.Refused Cert refusal
+outcome_by None = outcome.Memory

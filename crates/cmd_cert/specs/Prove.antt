@@ -14,12 +14,10 @@ use Rattle.flow_cert.specs.Needed.{AreLabelClaims, AreNeeded}
 use Rattle.cmd_base.specs.Walk.{Walk}
 use Rattle.cmd_base.specs.Writing.{FileText}
 use Rattle.cmd_stations.specs.declared.source.Source.{Source}
-use Rattle.cmd_stations.specs.Words.{SourceWords}
-use Rattle.cmd_stations.specs.Aims.{ToLabels}
-use Rattle.cmd_stations.specs.Source.{HasLabels}
+use Rattle.cmd_stations.specs.Source.{SourceWords, HasLabels}
+use Rattle.cmd_stations.specs.Mapped.{ToLabels}
 use Rattle.cmd_stations.specs.WritingWalk.{writing_walk}
-use Rattle.cmd_cert.specs.Words.{CertWords}
-use Rattle.cmd_cert.specs.Certs.{proved_line}
+use Rattle.cmd_cert.specs.Certs.{CertWords, proved_line}
 
 -- The source circuit that the files hold has this graph, with these labels. The file's bytes are those that a certificate is written as, and
 -- read as this certificate. It is valid for the graph, its depth is the least of all covers, each of its claims is the label of a node, and

@@ -8,13 +8,11 @@ ghost use Rattle.cert_check.specs.CertText.{IsCertText};
 ghost use Rattle.cert_check.specs.Refusals.{refusal_of};
 ghost use Rattle.cert_check.specs.Valid.{IsValid};
 ghost use Rattle.cert_check.specs.WrittenText.{cert_text};
-ghost use Rattle.cmd_base.specs.Ends.{Told, Explains};
-ghost use Rattle.cmd_base.specs.KeepsFiles.{KeepsFiles};
+ghost use Rattle.cmd_base.specs.Walk.{Told, Explains, KeepsFiles};
 ghost use Rattle.cmd_stations.specs.FileWrites.{WritesFile};
-ghost use Rattle.cmd_stations.specs.Built.{IsBuiltSource, ComesToGraph};
-ghost use Rattle.cmd_cert.specs.Words.{cert_seen};
-ghost use Rattle.cmd_cert.specs.Certs.{HasCert, IsCertFault};
-ghost use Rattle.cmd_cert.specs.Ended.{outcome_by};
+ghost use Rattle.cmd_stations.specs.Tables.{IsBuiltSource, ComesToGraph};
+ghost use Rattle.cmd_cert.specs.Certs.{cert_seen, HasCert, IsCertFault};
+ghost use Rattle.cmd_cert.specs.Proofs.{outcome_by};
 ghost use Rattle.cmd_cert.specs.Audit.{audit_reading};
 
 use crate::words::CertWords;

@@ -1,8 +1,8 @@
 //! The arguments of `prove` and `audit`.
 ghost use Rattle.std.specs.Prelude.{◌≡◌, map, string_bytes, codes, IfSome};
 ghost use Rattle.std.specs.Option.{option_map};
-ghost use Rattle.cmd_stations.specs.Words.{IsTableSize};
-ghost use Rattle.cmd_cert.specs.Words.{cert_words_of, cert_seen, cert_word};
+ghost use Rattle.cmd_stations.specs.Source.{IsTableSize};
+ghost use Rattle.cmd_cert.specs.Certs.{cert_words_of, cert_seen, cert_word};
 
 use cmd_base::File;
 use cmd_stations::{SourceWords, read_source_words, source_name};

@@ -1,6 +1,5 @@
 -- The graph of a source circuit can be written, and the circuit that is written is the source circuit's.
-use Rattle.std.proofs.Common.{◌≡◌, ℕ, ◌+◌, ◌≤◌, List, [], ◌∷◌, ◌++◌, length, map, Some, refl, sym, ap, ap₂, subst, inl, inr, arith}
-use Rattle.std.specs.Prelude.{slice_get, slice_index_or}
+use Rattle.cmd_graph.proofs.Common.{◌≡◌, ℕ, ◌+◌, ◌≤◌, List, [], ◌∷◌, ◌++◌, length, map, Some, refl, sym, ap, ap₂, subst, inl, inr, arith, slice_get, slice_index_or, Circuit, BuiltSource, IsBuiltSource, circuit_at, HasOtherNames, IsExported}
 use Rattle.std.proofs.lemmas.Option.{get_or_from_slice_get}
 use Rattle.list_laws.specs.Members.{In}
 use Rattle.list_laws.proofs.Members.{In-append, In-filter, In-get}
@@ -13,12 +12,8 @@ use Rattle.netlist.specs.LibraryValue.{ModelValue, LibraryValue, input_ports, ou
 use Rattle.param_list.specs.declared.params.Param.{Param}
 use Rattle.param_list.specs.Parameters.{param_names, regular_names, IsSplit}
 use Rattle.param_list.proofs.RegularLemmas.{is_split}
-use Rattle.aiger_io.specs.Circuit.{Circuit}
 use Rattle.aiger_io.specs.GraphCircuit.{IsWrittenFrom, IsGraphsCircuit}
-use Rattle.cmd_stations.specs.declared.graphs.BuiltSource.{BuiltSource}
-use Rattle.cmd_stations.specs.Built.{IsBuiltSource}
-use Rattle.cmd_stations.proofs.CountLemmas.{source_count, next_roots}
-use Rattle.cmd_graph.specs.Graph.{circuit_at, HasOtherNames, IsExported}
+use Rattle.cmd_stations.proofs.SourceLemmas.{source_count, next_roots}
 
 -- the names that stand at places
 names_at : (inputs : List (List ℕ)) (places : List ℕ) (names : List (List ℕ)) → map (slice_get inputs) places ≡ map (λ name. Some name) names → map (λ i. slice_index_or inputs i []) places ≡ names

@@ -1,32 +1,18 @@
 -- A job of `graph`: a source circuit that has a graph is accepted, and the circuit of its graph is the verdict's, whole or cut off.
-use Rattle.std.proofs.Common.{◌≡◌, ◌≤◌, ℕ, List, [], ◌∷◌, Some, subst, Result}
-use Rattle.std.specs.Prelude.{string_bytes}
+use Rattle.cmd_graph.proofs.Common.{◌≡◌, ◌≤◌, ℕ, List, [], ◌∷◌, Some, subst, Result, string_bytes, Files, ShelfSeen, Circuit, circuit_text, FileText, writing_outcome, WritesAll, BuiltSource, ComesToGraph, GraphWords, circuit_at, HasExport, HasGraphJob, graph_walk, writing_ends, ◌⊎◌, Option, Ok, Err, emptied, WritesFile, not_begun}
 use Rattle.tl_text.specs.declared.logical_lines.TheConstants.{MOST_BYTES}
 use Rattle.tl_fault.specs.RefusalValue.{RefusalValue}
 use Rattle.tl_io.specs.Port.{PortSeen}
-use Rattle.tl_io.specs.Shelf.{Files, ShelfSeen}
 use Rattle.tl_io.specs.Sink.{SinkSeen}
-use Rattle.aiger_io.specs.Circuit.{Circuit}
-use Rattle.aiger_io.specs.WrittenText.{circuit_text}
-use Rattle.cmd_base.specs.Outside.{outside}
-use Rattle.cmd_base.specs.Writing.{FileText, writing_outcome}
-use Rattle.cmd_base.specs.Ends.{Told, IsBegun, Ends}
-use Rattle.cmd_base.specs.WalkLaws.{HasLaws}
+use Rattle.cmd_base.specs.Walk.{outside, Told, IsBegun, Ends, HasLaws}
 use Rattle.cmd_base.specs.declared.outcome.File.{File}
 use Rattle.cmd_base.specs.declared.outcome.Outcome.{Outcome}
-use Rattle.cmd_stations.specs.FileWrites.{WritesAll}
-use Rattle.cmd_stations.specs.declared.graphs.BuiltSource.{BuiltSource}
-use Rattle.cmd_stations.specs.Aims.{ToGraph}
-use Rattle.cmd_stations.specs.Source.{IsSourceRefused}
-use Rattle.cmd_stations.specs.Settled.{IsSourceSettled}
-use Rattle.cmd_stations.specs.Built.{ComesToGraph}
-use Rattle.cmd_stations.proofs.WritingWalkLemmas.{writing_ends}
-use Rattle.cmd_stations.proofs.ClashLemmas.{refused_unmade}
-use Rattle.cmd_stations.proofs.RefusedLemmas.{source_refused_once}
+use Rattle.cmd_stations.specs.Mapped.{ToGraph}
+use Rattle.cmd_stations.specs.Source.{IsSourceRefused, IsSourceSettled}
+use Rattle.cmd_stations.proofs.RefusedLemmas.{refused_unmade, source_refused_once}
 use Rattle.cmd_graph.specs.declared.export.Export.{Export}
-use Rattle.cmd_graph.specs.Words.{GraphWords}
 use Rattle.cmd_graph.specs.Exports.{IsExport}
-use Rattle.cmd_graph.specs.Graph.{circuit_at, HasExport, HasGraphJob, graph_walk}
+use Rattle.std.specs.Result.{IsErr}
 
 -- a source circuit whose graph was made is accepted
 graph_begun : (files : Files) (words : GraphWords) (b : BuiltSource) → ComesToGraph files words.source b → IsBegun (graph_walk words) files
@@ -71,3 +57,8 @@ graph_laws words = record {
   one_refusal = λ files settled f e r s one other. source_refused_once files words.source settled f e r s one other;
   shows = λ files old new done. tt;
 }
+
+-- the answer is an error, and the file is as before or empty
+pub not_written : {E : Type 0} (text : FileText) (old new : Option Files) (r : Result Unit E) → IsErr r → (new ≡ old) ⊎ (new ≡ emptied old text.name) → WritesFile text old new r
+not_written text old new (Ok done) fails same = absurd (let wrong : ⊥ = cc in wrong)
+not_written text old new (Err e) is same = not_begun text old new same

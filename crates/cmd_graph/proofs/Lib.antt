@@ -1,3 +1,3 @@
+mod Common
 mod ExportLemmas
 mod GraphJobLemmas
-mod BeginLemmas

@@ -2,7 +2,7 @@
 use Rattle.std.specs.Prelude.{◌≡◌, string_bytes}
 use Rattle.aiger_io.specs.GraphCircuit.{IsWrittenFrom}
 use Rattle.param_list.specs.RegularPlaces.{AreRegularPlaces}
-use Rattle.cmd_stations.specs.Built.{IsBuiltSource}
+use Rattle.cmd_stations.specs.Tables.{IsBuiltSource}
 use Rattle.cmd_graph.specs.Graph.{graph_line, circuit_at, IsExported}
 use Rattle.cmd_graph.specs.declared.export.Export.{Export}
 

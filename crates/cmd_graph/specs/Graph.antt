@@ -1,5 +1,8 @@
 -- The walk of `graph`: a source circuit is read, and its graph is written as the text of its circuit.
-use Rattle.std.specs.Prelude.{ℕ, List, [], ◌∷◌, codes, decimal}
+use Rattle.std.specs.Prelude.{ℕ, if◌then◌else◌, List, [], ◌∷◌, bytes_eq, codes, Option, Some, None, decimal}
+use Rattle.cover_pick.specs.declared.rule.Rule.TheVariants.{FewestLeaves}
+use Rattle.cmd_graph.specs.declared.words.GraphWords.{GraphWords as GraphWordsRead}
+use Rattle.cmd_stations.specs.Source.{SourceWords, source_seen, HasGraph}
 use Rattle.std.specs.List.{concat}
 use Rattle.list_laws.specs.Members.{In}
 use Rattle.tl_io.specs.Shelf.{Files}
@@ -19,11 +22,23 @@ use Rattle.aiger_io.specs.declared.header.Header.{Header}
 use Rattle.cmd_base.specs.Walk.{Walk}
 use Rattle.cmd_base.specs.Writing.{FileText}
 use Rattle.cmd_stations.specs.declared.source.Source.{Source}
-use Rattle.cmd_stations.specs.Words.{SourceWords}
-use Rattle.cmd_stations.specs.Aims.{ToGraph}
-use Rattle.cmd_stations.specs.Source.{HasGraph}
+use Rattle.cmd_stations.specs.Mapped.{ToGraph}
 use Rattle.cmd_stations.specs.WritingWalk.{writing_walk}
-use Rattle.cmd_graph.specs.Words.{GraphWords}
+
+-- the source circuit, and the word that names the file that is written
+pub record GraphWords : Type 0 where
+  pub source : SourceWords
+  pub out : List ℕ
+
+-- the words graph NETLIST PARAMS OUT; no tables are made, so 0 stands for their size, and the fewest leaves for their rule
+abbrev pub graph_words_of : List (List ℕ) → Option GraphWords
+graph_words_of (command ∷ netlist ∷ params ∷ out ∷ []) =
+    if bytes_eq command (codes "graph") then Some (record { source = record { rule = FewestLeaves; k = 0; netlist = netlist; params = params }; out = out }) else None
+graph_words_of words = None
+
+-- words as they are read
+abbrev pub graph_seen : GraphWordsRead → GraphWords
+graph_seen words = record { source = source_seen words.source; out = words.out.now }
 
 -- the line that it prints
 abbrev pub graph_line : Header → List ℕ

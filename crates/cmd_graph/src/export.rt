@@ -4,7 +4,7 @@ ghost use Rattle.param_list.specs.RegularPlaces.{AreRegularPlaces};
 ghost use Rattle.aiger_io.specs.GraphCircuit.{IsWrittenFrom};
 ghost use Rattle.tl_io.specs.Causes.{HasCause};
 ghost use Rattle.aiger_io.specs.WrittenText.{circuit_text};
-ghost use Rattle.cmd_stations.specs.Built.{IsBuiltSource};
+ghost use Rattle.cmd_stations.specs.Tables.{IsBuiltSource};
 ghost use Rattle.cmd_stations.specs.FileWrites.{WritesFile};
 ghost use Rattle.cmd_graph.specs.Graph.{graph_line, circuit_at, IsExported};
 ghost use Rattle.cmd_graph.specs.Exports.{IsExport};

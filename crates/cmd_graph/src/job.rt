@@ -3,16 +3,12 @@ ghost use Rattle.std.specs.Prelude.{◌≡◌, ◌≤◌, List, [], ◌∷◌, f
 ghost use Rattle.tl_text.specs.declared.logical_lines.TheConstants.{MOST_BYTES};
 ghost use Rattle.tl_io.specs.Port.{PortSeen};
 ghost use Rattle.aiger_io.specs.WrittenText.{circuit_text};
-ghost use Rattle.cmd_base.specs.Outside.{outside};
-ghost use Rattle.cmd_base.specs.Ends.{Ends, Explains, Told};
-ghost use Rattle.cmd_base.specs.WalkLaws.{HasLaws};
-ghost use Rattle.cmd_base.specs.KeepsFiles.{KeepsFiles};
-ghost use Rattle.cmd_stations.specs.Aims.{ToGraph};
-ghost use Rattle.cmd_stations.specs.Settled.{source_reading};
-ghost use Rattle.cmd_stations.specs.Built.{ComesToGraph};
+ghost use Rattle.cmd_base.specs.Walk.{outside, KeepsFiles, Ends, Explains, Told, HasLaws};
+ghost use Rattle.cmd_stations.specs.Mapped.{ToGraph};
+ghost use Rattle.cmd_stations.specs.Source.{source_reading};
+ghost use Rattle.cmd_stations.specs.Tables.{ComesToGraph};
 ghost use Rattle.cmd_stations.specs.FileWrites.{WritesAll};
-ghost use Rattle.cmd_graph.specs.Words.{graph_seen};
-ghost use Rattle.cmd_graph.specs.Graph.{circuit_at, graph_walk};
+ghost use Rattle.cmd_graph.specs.Graph.{graph_seen, circuit_at, graph_walk};
 ghost use Rattle.cmd_graph.specs.Exports.{IsExport};
 
 use crate::export::{Export, make_export, write_export};

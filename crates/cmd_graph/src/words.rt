@@ -1,7 +1,7 @@
 //! The arguments of `graph`.
 ghost use Rattle.std.specs.Prelude.{◌≡◌, map, string_bytes};
 ghost use Rattle.std.specs.Option.{option_map};
-ghost use Rattle.cmd_graph.specs.Words.{graph_words_of, graph_seen};
+ghost use Rattle.cmd_graph.specs.Graph.{graph_words_of, graph_seen};
 
 use cmd_stations::SourceWords;
 use cover_pick::Rule;

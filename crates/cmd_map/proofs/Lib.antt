@@ -1,4 +1,4 @@
+mod Common
 mod MachineReplayLemmas
 mod SpecLemmas
 mod MapLemmas
-mod SourceWalkLemmas

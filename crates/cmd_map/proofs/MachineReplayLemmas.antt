@@ -1,31 +1,22 @@
 -- The pack of a source circuit's LUTs is played as their machine plays it.
-use Rattle.std.proofs.Common.{◌≡◌, ℕ, Bool, List, ◌∷◌, refl, sym, ap, ◌∙◌, subst, inl, inr}
+use Rattle.cmd_map.proofs.Common.{◌≡◌, ℕ, Bool, List, ◌∷◌, refl, sym, ap, ◌∙◌, subst, inl, inr, Aig, PackValue, IsConf, IsLeastMapping, IsMapped, Job, same_graph, present_bytes, ReplaysMachine}
 use Rattle.list_laws.specs.Members.{In}
-use Rattle.aig_core.specs.Aig.{Aig}
 use Rattle.aig_core.specs.Roots.{roots_of}
 use Rattle.cover_pick.specs.declared.rule.Rule.{Rule}
 use Rattle.cover_pick.specs.Template.{TemplateValue}
 use Rattle.cover_pick.specs.Mapping.{IsMapping}
-use Rattle.ppc_pack.specs.Pack.{PackValue, IsConf}
 use Rattle.ppc_file.specs.PackFile.{IsPackFile, AreSame}
 use Rattle.bit_fun.specs.PackOf.{BitsMade, IsPackOf}
 use Rattle.bit_fun.proofs.PackLemmas.{has_one_pack}
-use Rattle.run_text.specs.EventValue.{EventValue, Set, Cycle, Upset, Scrub, Image}
-use Rattle.run_core.specs.Events.{MachineValue}
-use Rattle.run_core.specs.EventLines.{event_line, host_line}
-use Rattle.run_core.specs.Fits.{IsOfHost}
+use Rattle.run_text.specs.EventValue.{EventValue, Cycle}
+use Rattle.run_core.specs.Events.{MachineValue, event_line, host_line, IsOfHost}
 use Rattle.spec_core.specs.Specialiser.{SpecialiserValue}
 use Rattle.cmd_stations.specs.declared.source.Source.{Source}
-use Rattle.cmd_stations.specs.Mapped.{IsLeastMapping, IsMapped}
 use Rattle.cmd_stations.specs.Tunable.{IsTunable}
-use Rattle.cmd_stations.specs.Machine.{Job}
 use Rattle.cmd_stations.specs.Machine.{IsStart, Stage, AreSteps, none as no_step, more as one_more}
 use Rattle.cmd_stations.specs.Host.{IsHostStart, AreHostSteps, none, more}
-use Rattle.cmd_map.specs.Map.Replay.{ReplaysMachine}
-use Rattle.cmd_stations.proofs.GraphLemmas.{same_graph}
 use Rattle.cmd_stations.proofs.ShowLemmas.{pack_inits}
 use Rattle.cmd_stations.proofs.ReplayLemmas.{same_packs_replay, same_both, file_same, pack_at}
-use Rattle.cmd_stations.specs.Packs.{present_bytes}
 
 -- the packs of a source circuit's tables are the same
 tunable_same : (rule : Rule) (source : Source) (k : ℕ) (template : TemplateValue) (p q : PackValue) (m : IsMapped rule source k template) → IsLeastMapping m.graph k m.roots template → IsTunable source template p → IsTunable source template q → AreSame p q
@@ -61,11 +52,8 @@ machine_host job m start =
 
 -- an event of the host has the host's line
 line_of_host : (event : EventValue) (m : MachineValue) → IsOfHost event → event_line event m ≡ host_line event m.host
-line_of_host (Set assigns) m of_host = refl
 line_of_host (Cycle values) m of_host = absurd of_host
-line_of_host (Upset address) m of_host = refl
-line_of_host Scrub m of_host = refl
-line_of_host Image m of_host = refl
+line_of_host event m of_host = refl
 
 -- so a machine plays such events as its host does
 host_steps : {old stage : Stage} {events : List EventValue} {lines : List (List ℕ)} → AreSteps old events lines stage → ((event : EventValue) → In events event → IsOfHost event) → AreHostSteps old.machine.host events lines stage.machine.host

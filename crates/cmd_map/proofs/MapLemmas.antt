@@ -1,27 +1,6 @@
 -- A job of `map`: a source circuit that is mapped is accepted, and its written template and pack are the verdict's, whole or cut off.
-use Rattle.std.proofs.Common.{◌≡◌, ◌≤◌, List, [], ◌∷◌, ℕ, Some, Result}
-use Rattle.tl_text.specs.declared.logical_lines.TheConstants.{MOST_BYTES}
-use Rattle.tl_io.specs.Port.{PortSeen}
-use Rattle.tl_io.specs.Shelf.{Files, ShelfSeen}
-use Rattle.tl_io.specs.Sink.{SinkSeen}
-use Rattle.blif_write.specs.PlainNetlist.{netlist_text}
-use Rattle.cmd_base.specs.Outside.{outside}
-use Rattle.cmd_base.specs.Writing.{FileText, writing_outcome}
-use Rattle.cmd_base.specs.Ends.{Told, IsBegun, Ends}
-use Rattle.cmd_base.specs.declared.outcome.Outcome.{Outcome}
-use Rattle.cmd_stations.specs.FileWrites.{WritesAll}
-use Rattle.cmd_stations.specs.declared.mapped.MappedSource.{MappedSource}
-use Rattle.cmd_stations.specs.Mapped.{template_header}
-use Rattle.cmd_stations.specs.Tables.{AreMade, ComesPast}
-use Rattle.cmd_stations.specs.Written.{IsTuned, template_of}
-use Rattle.cmd_stations.proofs.WritingWalkLemmas.{writing_ends}
-use Rattle.cmd_map.specs.Map.Words.{MapWords}
-use Rattle.cmd_map.specs.Map.Verdict.{HasMap, map_walk}
-use Rattle.cmd_stations.proofs.OnceLemmas.{least_mapped}
+use Rattle.cmd_map.proofs.Common.{◌≡◌, ◌≤◌, List, [], ◌∷◌, ℕ, Some, Result, MOST_BYTES, PortSeen, Files, ShelfSeen, SinkSeen, netlist_text, outside, FileText, writing_outcome, Told, IsBegun, Ends, Outcome, WritesAll, MappedSource, template_header, AreMade, ComesPast, IsTuned, template_of, writing_ends, MapWords, HasMap, map_walk, least_mapped, present_bytes, ToTables, IsMappedFrom}
 use Rattle.cmd_map.proofs.MachineReplayLemmas.{replays_machine}
-use Rattle.cmd_stations.specs.Packs.{present_bytes}
-use Rattle.cmd_stations.specs.Aims.{ToTables}
-use Rattle.cmd_stations.specs.Source.{IsMappedFrom}
 
 map_begun : (files : Files) (words : MapWords) (m : MappedSource) → ComesPast files words.source m → IsBegun (map_walk words) files
 map_begun files words m past = record { accepted = record { source = m.source; template = m.tables.template; has = past.has }; settled = past.settled }

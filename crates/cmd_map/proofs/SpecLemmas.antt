@@ -1,33 +1,10 @@
--- A job of `spec`: a source circuit that is mapped is accepted, and its written netlist is the verdict's, whole or cut off.
-use Rattle.std.proofs.Common.{◌≡◌, ◌≤◌, Bool, List, [], ◌∷◌, ℕ, length, Some, subst, Result}
+-- A job of `spec`: a source circuit that is mapped is accepted, and its written netlist is the verdict's, whole or cut off; and the laws of the walks of `spec` and `map`.
+use Rattle.cmd_map.proofs.Common.{◌≡◌, ◌≤◌, Bool, List, [], ◌∷◌, ℕ, length, Some, subst, Result, MOST_BYTES, PortSeen, Files, ShelfSeen, SinkSeen, Aig, param_inits, IsConf, netlist_text, outside, FileText, writing_outcome, Told, IsBegun, Ends, Outcome, WritesAll, MappedSource, template_header, AreMade, ComesPast, RunsAs, specialised_of, writing_ends, SpecWords, HasSpec, spec_walk, least_mapped, same_graph, ToTables, IsMappedFrom, MapWords, map_walk, source_or_not, source_refused_once}
 use Rattle.std.proofs.lemmas.List.{length-map}
-use Rattle.tl_text.specs.declared.logical_lines.TheConstants.{MOST_BYTES}
-use Rattle.tl_io.specs.Port.{PortSeen}
-use Rattle.tl_io.specs.Shelf.{Files, ShelfSeen}
-use Rattle.tl_io.specs.Sink.{SinkSeen}
-use Rattle.aig_core.specs.Aig.{Aig}
 use Rattle.param_list.specs.declared.params.Param.{Param}
-use Rattle.param_list.specs.Parameters.{param_inits}
-use Rattle.ppc_pack.specs.Pack.{IsConf}
 use Rattle.bit_fun.specs.Configuration.{IsConfiguration}
-use Rattle.blif_write.specs.PlainNetlist.{netlist_text}
-use Rattle.cmd_base.specs.Outside.{outside}
-use Rattle.cmd_base.specs.Writing.{FileText, writing_outcome}
-use Rattle.cmd_base.specs.Ends.{Told, IsBegun, Ends}
-use Rattle.cmd_base.specs.declared.outcome.Outcome.{Outcome}
-use Rattle.cmd_stations.specs.FileWrites.{WritesAll}
-use Rattle.cmd_stations.specs.declared.mapped.MappedSource.{MappedSource}
-use Rattle.cmd_stations.specs.Mapped.{template_header}
-use Rattle.cmd_stations.specs.Tables.{AreMade, ComesPast}
-use Rattle.cmd_stations.specs.Written.{RunsAs, specialised_of}
-use Rattle.cmd_stations.proofs.WritingWalkLemmas.{writing_ends}
-use Rattle.cmd_map.specs.Spec.Words.{SpecWords}
-use Rattle.cmd_map.specs.Spec.Verdict.{HasSpec, spec_walk}
-use Rattle.cmd_stations.proofs.OnceLemmas.{least_mapped}
-use Rattle.cmd_stations.proofs.GraphLemmas.{same_graph}
 use Rattle.cmd_stations.proofs.InitLemmas.{init_params}
-use Rattle.cmd_stations.specs.Aims.{ToTables}
-use Rattle.cmd_stations.specs.Source.{IsMappedFrom}
+use Rattle.cmd_base.specs.Walk.{HasLaws}
 
 spec_begun : (files : Files) (words : SpecWords) (m : MappedSource) → ComesPast files words.source m → IsBegun (spec_walk words) files
 spec_begun files words m past = record { accepted = record { source = m.source; template = m.tables.template; has = past.has }; settled = past.settled }
@@ -66,3 +43,18 @@ module _ (m : MappedSource) (made : AreMade m.source m.tables) (config : List Bo
         → Ends (spec_walk words) old new (outside old before ports) (outside new after ports) o
     spec_ends r all o is = writing_ends ToTables words.source (λ files. IsMappedFrom files words.source) (λ files P. HasSpec files words P) (texts words.out) (template_header m.tables.template) old mid new same few given
         (λ files told. spec_begun files words m (comes files told)) has_spec before after ports r all o is
+
+-- The laws of the walks of `spec` and `map`: where its files are settled, a source circuit that is mapped isn't refused, and one is refused for one reason.
+pub spec_laws : (words : SpecWords) → HasLaws (spec_walk words)
+spec_laws words = record {
+  not_both = λ files settled has f r refused. source_or_not files words.source settled has.source has.template f r has.has refused;
+  one_refusal = λ files settled f e r s one other. source_refused_once files words.source settled f e r s one other;
+  shows = λ files old new done. tt;
+}
+
+pub map_laws : (words : MapWords) → HasLaws (map_walk words)
+map_laws words = record {
+  not_both = λ files settled has f r refused. source_or_not files words.source settled has.source has.template f r has.has refused;
+  one_refusal = λ files settled f e r s one other. source_refused_once files words.source settled f e r s one other;
+  shows = λ files old new done. tt;
+}

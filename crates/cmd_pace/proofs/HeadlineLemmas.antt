@@ -1,24 +1,14 @@
--- A job that is done shows its source circuit, mapped with the least depth.
-use Rattle.std.proofs.Common.{◌≡◌, ℕ, ◌≤◌, ◌∷◌, map, refl, ap, ◌∙◌, subst}
-use Rattle.std.specs.List.{concat}
-use Rattle.tl_io.specs.Content.{extended}
-use Rattle.tl_io.specs.Shelf.{Files}
+-- A job that is done shows its source circuit, mapped with the least depth; and the laws of the walk of `pace`.
+use Rattle.cmd_pace.proofs.Common.{◌≡◌, ℕ, ◌≤◌, ◌∷◌, map, refl, ap, ◌∙◌, subst, concat, extended, Files, TemplateValue, param_inits, PacerValue, shown_line, Outside, init_count, init_params, IsAllPaced, HasPace, stage_of, IsFirst, ShowAll, HasPaceHeadline, PaceJob, IsPaceStart, PaceWords, pace_walk, scripted_of}
 use Rattle.aig_core.specs.Aig.{Aig}
-use Rattle.cover_pick.specs.Template.{TemplateValue}
 use Rattle.netlist.specs.Flat.{IsFlat}
-use Rattle.param_list.specs.Parameters.{param_inits}
-use Rattle.pace_core.specs.Pace.{PacerValue, shown_line}
-use Rattle.cmd_base.specs.Outside.{Outside}
 use Rattle.cmd_stations.specs.Mapped.{template_header}
 use Rattle.cmd_stations.proofs.GraphLemmas.{same_graph}
-use Rattle.cmd_stations.proofs.InitLemmas.{init_count, init_params}
-use Rattle.cmd_pace.specs.Ends.{IsAllPaced, HasPace}
-use Rattle.cmd_pace.specs.Headline.{stage_of, IsFirst, ShowAll, HasPaceHeadline}
-use Rattle.cmd_pace.specs.Job.{PaceJob, IsPaceStart}
-use Rattle.cmd_pace.specs.Words.{PaceWords}
-use Rattle.cmd_pace.proofs.FitLemmas.{script_fits}
+use Rattle.cmd_pace.proofs.StartLemmas.{script_fits}
 use Rattle.cmd_pace.proofs.ShownLemmas.{IsKept, all_shown}
 use Rattle.cmd_pace.proofs.SteadyLemmas.{start_steady, stalls_anywhere}
+use Rattle.cmd_base.specs.Walk.{HasLaws}
+use Rattle.cmd_stations.proofs.ScriptedLemmas.{scripted_or_not, scripted_refused_once}
 
 -- a machine at the start
 start_kept : (job : PaceJob) (rate : ℕ) (p : PacerValue) → IsFlat job.source.netlist.library job.source.netlist.flat → (s : IsPaceStart job rate p) → IsKept job.source job.template rate p.pack s.pack p
@@ -70,3 +60,11 @@ pace_headline files words old new takes done =
       end_is = refl;
       stalls = stalls_anywhere done.pacer.pack words.rate done.pacer takes start.one_config kept.steady;
     }
+
+-- The laws of the walk of `pace`.
+pub pace_laws : (words : PaceWords) → 1 ≤ words.rate → HasLaws (pace_walk words)
+pace_laws words takes = record {
+  not_both = λ files settled has f r refused. scripted_or_not files (scripted_of words) settled has.job.source has.job.template has.is.read f r has.is.is refused;
+  one_refusal = λ files settled f e r s one other. scripted_refused_once files (scripted_of words) settled f e r s one other;
+  shows = λ files old new done. pace_headline files words old new takes done;
+}

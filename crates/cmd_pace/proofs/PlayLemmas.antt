@@ -1,21 +1,9 @@
--- The playing of events: what stands behind some of them, and how it ends at the next one.
-use Rattle.std.proofs.Common.{◌≡◌, ◌⊎◌, ℕ, ◌<◌, List, [], ◌∷◌, ◌++◌, length, map, take, Option, refl, sym, ap, ◌∙◌, subst, inl, inr, append_assoc}
-use Rattle.std.specs.List.{concat}
-use Rattle.std.proofs.lemmas.List.{map-append}
+-- The playing of events: what stands behind some of them, and how it ends at the next one; and a job that was made ready is begun, and ends so.
+use Rattle.cmd_pace.proofs.Common.{◌≡◌, ◌⊎◌, ℕ, ◌<◌, List, [], ◌∷◌, ◌++◌, length, map, take, Option, refl, sym, ap, ◌∙◌, subst, inl, inr, append_assoc, concat, map-append, extended, Shape, PackValue, PaceValue, Ask, Tick, PacerValue, Shown, shown_line, IsTicked, steps, waits, IsPaced, ArePaced, FitsPacer, Outside, IsSplit, put_then, one_line, IsAllPaced, IsPaceCut, pacer_header, AreAllPaced, AreCut, IsCutFirst, IsHeaded, Files, IsBegun, pace_values, Ready, HasPace, IsReadyFor, pace_walk, PaceWords}
 use Rattle.tl_io.specs.Causes.{Rose}
-use Rattle.tl_io.specs.Content.{extended}
 use Rattle.tl_io.proofs.ContentLemmas.{extended_none}
-use Rattle.lut_sim.specs.declared.shape.Shape.{Shape}
-use Rattle.ppc_pack.specs.Pack.{PackValue}
-use Rattle.pace_core.specs.EventValue.{PaceValue, Ask, Tick}
-use Rattle.pace_core.specs.Pace.{PacerValue, Shown, shown_line, IsTicked, steps, waits, IsPaced, ArePaced, FitsPacer}
 use Rattle.pace_core.specs.EventValue as pace
-use Rattle.cmd_base.specs.Outside.{Outside}
-use Rattle.cmd_stations.specs.Script.{IsSplit}
-use Rattle.cmd_stations.proofs.EventLemmas.{put_then, one_line}
-use Rattle.cmd_pace.specs.Ends.{IsAllPaced, IsPaceCut}
-use Rattle.cmd_pace.specs.Job.{pacer_header}
-use Rattle.cmd_pace.specs.Ready.{AreAllPaced, AreCut, IsCutFirst, IsHeaded}
+use Rattle.cmd_stations.proofs.RefusedLemmas.{least_mapped}
 
 -- an event leaves the pack and the shape of the circuit as they are
 pub record HasSameForm (old new : PacerValue) : Type 0 where
@@ -115,3 +103,21 @@ cut_paced p events old new (inr end) rose =
       bytes = put_then old.bytes end.headed new.bytes (pacer_header p) (lines ++ part) end.header cut.bytes ∙ ap (λ l. extended old.bytes l) (sym (append_assoc (pacer_header p) lines part));
       cause = rose;
     })
+
+-- A job of `pace` that was made ready is begun, and ends as its playing does.
+module _ (files : Files) (words : PaceWords) (ready : Ready) (is : IsReadyFor files words ready) where
+  pub ready_begun : IsBegun (pace_walk words) files
+  ready_begun = record { accepted = record { job = is.job; is = is.is_job }; settled = is.settled }
+
+  pub ready_pace : (Ends : PacerValue → List PaceValue → Outside → Outside → Type 0) (old new : Outside) → new.files ≡ old.files → new.ports ≡ old.ports → Ends ready.pacer (pace_values ready.events.items) old new
+      → HasPace files words old new Ends
+  ready_pace Ends old new kept ports ends = record {
+    job = is.job;
+    is_job = is.is_job;
+    law = least_mapped files words.source is.job.source is.job.template is.settled.source is.is_job.is.mapped;
+    pacer = ready.pacer;
+    start = is.start;
+    kept = kept;
+    ports = ports;
+    ends = subst (λ es. Ends ready.pacer es old new) (sym is.events) ends;
+  }

@@ -1,27 +1,12 @@
 -- Asks and ticks show the source circuit.
-use Rattle.std.proofs.Common.{◌≡◌, ℕ, Bool, List, [], ◌∷◌, length, map, take, refl, sym, ap, ◌∙◌, subst, inl, inr, arith}
-use Rattle.std.proofs.lemmas.List.{length-take}
-use Rattle.list_laws.specs.Members.{In}
+use Rattle.cmd_pace.proofs.Common.{◌≡◌, ℕ, Bool, List, [], ◌∷◌, length, map, take, refl, sym, ap, ◌∙◌, subst, inl, inr, arith, length-take, In, TemplateValue, Shape, PackValue, IsConf, differences, length-assigned, PaceValue, Ask, Tick, PacerValue, Shown, shown_line, IsAsked, IsStep, IsWait, IsTicked, steps, waits, IsPaced, ArePaced, Source, width_of, shape_of, IsTunable, cycle_count, param_count, Stage, stage_of, ShowsAsk, ShowsStep, ShowsWait, ShowsTick, Shows, ShowAll, none, more, IsSourceCycle}
 use Rattle.tl_io.specs.Assigns.{assigned}
 use Rattle.tl_io.specs.Writes.{written}
 use Rattle.tl_io.specs.declared.Assign.{Assign}
-use Rattle.cover_pick.specs.Template.{TemplateValue}
 use Rattle.lut_sim.specs.Cycle.{IsTableCycle, IsOnlyTableCycle}
-use Rattle.lut_sim.specs.declared.shape.Shape.{Shape}
-use Rattle.ppc_pack.specs.Pack.{PackValue, IsConf}
 use Rattle.bit_fun.specs.Configuration.{IsConfiguration}
 use Rattle.run_text.specs.Lines.{wait_line}
-use Rattle.spec_core.specs.Differences.{differences}
-use Rattle.spec_core.proofs.AssignLemmas.{length-assigned}
-use Rattle.pace_core.specs.EventValue.{PaceValue, Ask, Tick}
 use Rattle.pace_core.specs.EventValue as pace
-use Rattle.pace_core.specs.Pace.{PacerValue, Shown, shown_line, IsAsked, IsStep, IsWait, IsTicked, steps, waits, IsPaced, ArePaced}
-use Rattle.cmd_stations.specs.declared.source.Source.{Source}
-use Rattle.cmd_stations.specs.SourceCircuit.{width_of, shape_of}
-use Rattle.cmd_stations.specs.SourceCycle.{IsSourceCycle}
-use Rattle.cmd_stations.specs.Tunable.{IsTunable}
-use Rattle.cmd_stations.proofs.InitLemmas.{cycle_count, param_count}
-use Rattle.cmd_pace.specs.Headline.{Stage, stage_of, ShowsAsk, ShowsStep, ShowsWait, ShowsTick, Shows, ShowAll, none, more}
 use Rattle.cmd_pace.specs.Headline as headline
 use Rattle.cmd_pace.proofs.SteadyLemmas.{IsSteady, paced_steady}
 

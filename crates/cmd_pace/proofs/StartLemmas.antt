@@ -1,32 +1,34 @@
 -- The machine at the start: its latches have the inits of a source circuit that was read, and it can play each ask and tick that its script may have.
-use Rattle.std.proofs.Common.{◌≡◌, ℕ, Bool, List, length, sym, ◌∙◌, subst, refl}
-use Rattle.list_laws.specs.Members.{In}
-use Rattle.netlist.specs.FlatCycle.{flat_inits}
-use Rattle.param_list.specs.Parameters.{param_inits}
-use Rattle.tl_io.specs.Shelf.{Files}
-use Rattle.lut_sim.specs.declared.shape.Shape.{Shape}
-use Rattle.ppc_pack.specs.Pack.{PackValue, IsConf, HasOneConf, inits_of}
-use Rattle.run_text.specs.EventValue.{EventValue, event_values}
-use Rattle.run_text.specs.Fits.{Fits}
-use Rattle.run_text.specs.declared.event.Forms.TheVariants as forms
-use Rattle.pace_core.specs.EventValue.{PaceValue, pace_values, asks_and_ticks}
+use Rattle.cmd_pace.proofs.Common.{ℕ, List, length, refl, subst, length-map, In, EventValue, Fits, PaceValue, asks_and_ticks, Source, names_in, width_of, ◌≡◌, Bool, sym, ◌∙◌, param_inits, Files, Shape, PackValue, IsConf, HasOneConf, inits_of, event_values, pace_values, PacerValue, ComesScripted, IsTunable, inits_are, param_count, Ready, PaceJob, IsPaceStart, CanPace, StartsPace, IsReadyFor, PaceWords, scripted_of, IsReadSource, AreMade}
+use Rattle.param_list.specs.declared.params.Param.{Param}
+use Rattle.run_text.specs.ScriptText.{IsScript}
+use Rattle.run_text.specs.declared.event.Forms.TheVariants.{Pace}
+use Rattle.run_text.proofs.FitLemmas.{events_fit}
 use Rattle.pace_core.specs.EventValue as pace
-use Rattle.pace_core.specs.Pace.{PacerValue}
 use Rattle.pace_core.specs.PaceText.{ArePaced}
+use Rattle.pace_core.proofs.PaceTextLemmas as texts
+use Rattle.netlist.specs.FlatCycle.{flat_inits}
+use Rattle.run_text.specs.declared.event.Forms.TheVariants as forms
 use Rattle.pace_core.proofs.PaceTextLemmas.{script_paced}
 use Rattle.cmd_stations.specs.declared.scripted.Scripted.{Scripted}
-use Rattle.cmd_stations.specs.declared.source.Source.{Source}
 use Rattle.cmd_stations.specs.declared.tables.Tables.{Tables}
-use Rattle.cmd_stations.specs.Script.{names_in}
-use Rattle.cmd_stations.specs.ScriptedMade.{ComesScripted}
-use Rattle.cmd_stations.specs.Tables.{IsReadSource, AreMade}
-use Rattle.cmd_stations.specs.Tunable.{IsTunable}
-use Rattle.cmd_stations.proofs.InitLemmas.{inits_are, param_count}
-use Rattle.cmd_pace.specs.declared.prepare.Ready.{Ready}
-use Rattle.cmd_pace.specs.Job.{PaceJob, IsPaceStart}
-use Rattle.cmd_pace.specs.Ready.{CanPace, StartsPace, IsReadyFor}
-use Rattle.cmd_pace.specs.Words.{PaceWords, scripted_of}
-use Rattle.cmd_pace.proofs.FitLemmas.{kept_fit}
+
+-- The asks and ticks of a script fit the source circuit that it is played on.
+module _ (source : Source) (bits : ℕ) where
+  -- a script may name the parameters of the list
+  as_listed : (event : PaceValue) → pace.Fits (length (names_in Pace source bits).params) (width_of source) event → pace.Fits (length source.params.list) (width_of source) event
+  as_listed event fits = subst (λ n. pace.Fits n (width_of source) event) (length-map source.params.list (λ (p : Param). p.name)) fits
+
+  -- the asks and ticks among events that fit
+  pub kept_fit : (read : List EventValue) → ((event : EventValue) → In read event → Fits (names_in Pace source bits) event)
+      → (event : PaceValue) → In (asks_and_ticks read) event → pace.Fits (length source.params.list) (width_of source) event
+  kept_fit read fits event i = as_listed event (texts.kept_fit (names_in Pace source bits) (width_of source) read refl fits event i)
+
+  -- and those of a script
+  pub script_fits : (text : List ℕ) (read : List EventValue) (events : List PaceValue) → IsScript (names_in Pace source bits) text read → ArePaced read events
+      → (event : PaceValue) → In events event → pace.Fits (length source.params.list) (width_of source) event
+  script_fits text read events is are event i =
+      as_listed event (texts.events_fit (names_in Pace source bits) (width_of source) read events refl are (events_fit (names_in Pace source bits) _ read is.are) event i)
 
 -- a machine of a source circuit's tables, as it is made
 pub starts_pace : (source : Source) (tables : Tables) (rate : ℕ) (p : PacerValue) → IsReadSource source → AreMade source tables → ((given : List Bool) → length given ≡ length tables.pack.params → HasOneConf tables.pack given)

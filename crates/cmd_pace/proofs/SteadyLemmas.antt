@@ -1,14 +1,8 @@
 -- What stays of a machine however it is asked and however it ticks: its pack, its rate, and how many values and bits there are. So wherever it has come to, the ticks that come next wait as long as is said.
-use Rattle.std.proofs.Common.{◌≡◌, ℕ, ◌≤◌, Bool, List, [], ◌∷◌, length, take, refl, sym, ap, ◌∙◌, subst, arith}
+use Rattle.cmd_pace.proofs.Common.{◌≡◌, ℕ, ◌≤◌, Bool, List, [], ◌∷◌, length, take, refl, sym, ap, ◌∙◌, subst, arith, PackValue, IsConf, HasOneConf, differences, length-assigned, PaceValue, Ask, Tick, PacerValue, Shown, IsTicked, steps, waits, IsPaced, ArePaced, StallsAnywhere}
 use Rattle.tl_io.proofs.BitLemmas.{length-written}
-use Rattle.ppc_pack.specs.Pack.{PackValue, IsConf, HasOneConf}
-use Rattle.spec_core.specs.Differences.{differences}
-use Rattle.spec_core.proofs.AssignLemmas.{length-assigned}
-use Rattle.pace_core.specs.EventValue.{PaceValue, Ask, Tick}
-use Rattle.pace_core.specs.Pace.{PacerValue, Shown, IsTicked, steps, waits, IsPaced, ArePaced}
 use Rattle.pace_core.proofs.KeepLemmas.{conf_length}
 use Rattle.pace_core.proofs.StallLemmas.{has_stalls}
-use Rattle.cmd_pace.specs.Headline.{StallsAnywhere}
 
 -- a machine of this pack at this rate
 pub record IsSteady (pack : PackValue) (rate : ℕ) (p : PacerValue) : Type 0 where

@@ -17,13 +17,11 @@ use Rattle.spec_core.specs.Differences.{differences}
 use Rattle.pace_core.specs.EventValue.{PaceValue, Ask, Tick}
 use Rattle.pace_core.specs.Pace.{PacerValue, Shown, shown_line, ArePaced}
 use Rattle.pace_core.specs.Stalls.{HasStalls}
-use Rattle.cmd_base.specs.Outside.{Outside}
+use Rattle.cmd_base.specs.Walk.{Outside}
 use Rattle.cmd_stations.specs.declared.source.Source.{Source}
 use Rattle.cmd_stations.specs.Mapped.{IsLeastMapping, template_header}
-use Rattle.cmd_stations.specs.SourceCircuit.{shape_of}
-use Rattle.cmd_stations.specs.SourceCycle.{IsSourceCycle, AreInits}
-use Rattle.cmd_pace.specs.Job.{PaceJob, IsPaceJob, IsPaceStart}
-use Rattle.cmd_pace.specs.Words.{PaceWords}
+use Rattle.cmd_stations.specs.SourceCircuit.{shape_of, IsSourceCycle, AreInits}
+use Rattle.cmd_pace.specs.Job.{PaceJob, IsPaceJob, IsPaceStart, PaceWords}
 
 -- what is shown of a source circuit: the values that were asked for last, the configuration that the device has, and the latches' states
 pub record Stage : Type 0 where

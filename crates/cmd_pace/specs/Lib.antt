@@ -1,8 +1,6 @@
 -- What public clauses say: of the words,
-pub mod Words
 -- of the job and how it ends,
 pub mod Job
-pub mod Ends
 -- of what a job that is done shows,
 pub mod Headline
 -- and of the walk.

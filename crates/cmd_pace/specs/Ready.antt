@@ -8,11 +8,9 @@ use Rattle.cover_pick.specs.Template.{TemplateValue}
 use Rattle.pace_core.specs.EventValue.{PaceValue, pace_values}
 use Rattle.pace_core.specs.Pace.{PacerValue, Shown, shown_line, IsPaced, ArePaced, FitsPacer}
 use Rattle.cmd_stations.specs.declared.source.Source.{Source}
-use Rattle.cmd_stations.specs.Script.{IsSplit}
-use Rattle.cmd_stations.specs.Scripted.{IsScriptedSettled}
+use Rattle.cmd_stations.specs.Script.{IsSplit, IsScriptedSettled}
 use Rattle.cmd_pace.specs.declared.prepare.Ready.{Ready}
-use Rattle.cmd_pace.specs.Words.{PaceWords, scripted_of}
-use Rattle.cmd_pace.specs.Job.{PaceJob, IsPaceJob, IsPaceStart, pacer_header}
+use Rattle.cmd_pace.specs.Job.{PaceWords, scripted_of, PaceJob, IsPaceJob, IsPaceStart, pacer_header}
 
 -- each event can be played on it
 abbrev pub CanPace : List PaceValue → PacerValue → Type 0

@@ -1,10 +1,8 @@
 //! The command `pace`.
 ghost use Rattle.std.specs.Prelude.{◌≡◌, List};
 ghost use Rattle.tl_io.specs.Port.{PortSeen};
-ghost use Rattle.cmd_base.specs.Outside.{outside};
-ghost use Rattle.cmd_base.specs.Ends.{Ends};
-ghost use Rattle.cmd_base.specs.WalkLaws.{HasLaws};
-ghost use Rattle.cmd_pace.specs.Words.{pace_seen, IsInRange};
+ghost use Rattle.cmd_base.specs.Walk.{outside, Ends, HasLaws};
+ghost use Rattle.cmd_pace.specs.Job.{pace_seen, IsInRange};
 ghost use Rattle.cmd_pace.specs.Verdict.{pace_walk};
 
 use crate::play::play;

@@ -3,11 +3,10 @@ ghost use Rattle.std.specs.Prelude.{◌≡◌, ◌≤◌, IfOk, IfErr, OnOk};
 ghost use Rattle.tl_text.specs.declared.logical_lines.TheConstants.{MOST_BYTES};
 ghost use Rattle.run_text.specs.EventValue.{event_values};
 ghost use Rattle.pace_core.specs.EventValue.{pace_values, asks_and_ticks};
-ghost use Rattle.cmd_base.specs.Ends.{Told, Explains};
-ghost use Rattle.cmd_base.specs.KeepsFiles.{KeepsFiles};
-ghost use Rattle.cmd_stations.specs.Scripted.{scripted_reading};
+ghost use Rattle.cmd_base.specs.Walk.{Told, Explains, KeepsFiles};
+ghost use Rattle.cmd_stations.specs.Script.{scripted_reading};
 ghost use Rattle.cmd_stations.specs.Tables.{IsReadSource, AreMade};
-ghost use Rattle.cmd_pace.specs.Words.{pace_seen, scripted_of, IsInRange};
+ghost use Rattle.cmd_pace.specs.Job.{pace_seen, scripted_of, IsInRange};
 ghost use Rattle.cmd_pace.specs.Ready.{CanPace, StartsPace, IsReadyFor};
 
 use crate::words::{PaceWords, scripted};

@@ -1,9 +1,9 @@
 //! The arguments of `pace`.
 ghost use Rattle.std.specs.Prelude.{◌≡◌, ◌≤◌, map, string_bytes, IfSome, Some};
 ghost use Rattle.std.specs.Option.{option_map};
-ghost use Rattle.cmd_stations.specs.Words.{source_seen};
-ghost use Rattle.cmd_stations.specs.Scripted.{scripted_seen, scripted_word};
-ghost use Rattle.cmd_pace.specs.Words.{rate_of, pace_words, pace_of, pace_seen, scripted_of, IsInRange};
+ghost use Rattle.cmd_stations.specs.Source.{source_seen};
+ghost use Rattle.cmd_stations.specs.Script.{scripted_seen, scripted_word};
+ghost use Rattle.cmd_pace.specs.Job.{rate_of, pace_words, pace_of, pace_seen, scripted_of, IsInRange};
 
 use cmd_base::File;
 use cmd_stations::{ScriptedWords, SourceWords, read_source_words, source_name};

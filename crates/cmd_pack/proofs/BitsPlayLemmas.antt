@@ -1,44 +1,17 @@
 -- The playing of a script on a pack: what can be played, what is after some events, and how it ends at the next one.
-use Rattle.std.proofs.Common.{◌≡◌, ℕ, ◌+◌, ◌≤◌, List, [], ◌∷◌, ◌++◌, length, take, Option, Result, Ok, Err, OnErr, refl, sym, ap, ◌∙◌, subst, inl, inr, append_assoc, arith}
-use Rattle.std.specs.List.{concat}
-use Rattle.std.proofs.lemmas.List.{length-map}
-use Rattle.std.proofs.lemmas.Option.{none-some}
+use Rattle.cmd_pack.proofs.Common.{◌≡◌, ℕ, ◌+◌, ◌≤◌, List, [], ◌∷◌, ◌++◌, length, take, Option, Result, Ok, Err, OnErr, refl, sym, ap, ◌∙◌, subst, inl, inr, append_assoc, arith, concat, length-map, none-some, Rose, extended, PortSeen, Files, ShelfSeen, SinkSeen, PackValue, EventValue, Set, Cycle, Upset, event_values, FitsPack, IsOfHost, SpecialiserValue, Outside, outside, writing_outcome, HasPack, IsPackSettled, pack_names, HasScript, IsScriptSettled, Told, IsBegun, IsBegunFrom, Ends, Outcome, Rose_from, only_read, IsSplit, BitsWords, IsHostStep, AreHostSteps, none, pack_header, AreLinesPut, AreLinesCut, HasBits, bits_walk, put_then, one_line, KeepsFiles, then_host_step, host_line}
 use Rattle.list_laws.specs.Members.{In}
 use Rattle.tl_io.specs.Assigns.{AreAssigned}
-use Rattle.tl_io.specs.Causes.{Rose}
-use Rattle.tl_io.specs.Content.{extended}
-use Rattle.tl_io.specs.Port.{PortSeen}
-use Rattle.tl_io.specs.Shelf.{Files, ShelfSeen}
-use Rattle.tl_io.specs.Sink.{SinkSeen}
 use Rattle.tl_io.proofs.ContentLemmas.{extended_none}
 use Rattle.ppc_pack.specs.declared.pack.PackParam.{PackParam}
-use Rattle.ppc_pack.specs.Pack.{PackValue}
-use Rattle.run_text.specs.EventValue.{EventValue, Set, Cycle, Upset, Scrub, Image, event_values}
 use Rattle.run_text.specs.Fits.{Fits}
 use Rattle.port_bank.specs.Bank.{BankSeen}
 use Rattle.run_core.specs.declared.step_err.StepErr.{StepErr}
 use Rattle.run_core.specs.declared.step_err.StepErr.TheVariants.{WriteFault, PortFault}
-use Rattle.run_core.specs.EventLines.{host_line}
 use Rattle.run_core.specs.Ends.{HasLine, HasSinkCause, HasPlaces}
-use Rattle.run_core.specs.Fits.{FitsPack, IsOfHost}
-use Rattle.spec_core.specs.Specialiser.{SpecialiserValue}
 use Rattle.tl_text.specs.declared.logical_lines.TheConstants.{MOST_BYTES}
-use Rattle.cmd_base.specs.KeepsFiles.{KeepsFiles}
-use Rattle.cmd_base.specs.Outside.{Outside, outside}
-use Rattle.cmd_base.specs.Writing.{writing_outcome}
 use Rattle.cmd_pack.specs.declared.bits.prepare.ReadyScript.{ReadyScript}
-use Rattle.cmd_stations.specs.Packs.{HasPack, IsPackSettled, pack_names}
-use Rattle.cmd_stations.specs.Script.{HasScript, IsScriptSettled}
-use Rattle.cmd_base.specs.Ends.{Told, IsBegun, IsBegunFrom, Ends}
-use Rattle.cmd_base.specs.declared.outcome.Outcome.{Outcome}
-use Rattle.cmd_base.proofs.EndLemmas.{Rose_from, only_read}
-use Rattle.cmd_stations.specs.Script.{IsSplit}
-use Rattle.cmd_pack.specs.Bits.Words.{BitsWords}
-use Rattle.cmd_stations.specs.Host.{IsHostStep, AreHostSteps, none}
-use Rattle.cmd_pack.specs.Bits.Verdict.{pack_header, AreLinesPut, AreLinesCut, HasBits, bits_walk}
-use Rattle.cmd_pack.specs.Bits.Ready.{CanPlay, IsReady, IsReadyFor, AreAllStepped, AreCut, EventsEnd, PlayEnd}
-use Rattle.cmd_stations.proofs.EventLemmas.{put_then, one_line}
-use Rattle.cmd_stations.proofs.StepLemmas.{then_host_step}
+use Rattle.cmd_pack.specs.BitsReady.{CanPlay, IsReady, IsReadyFor, AreAllStepped, AreCut, EventsEnd, PlayEnd}
 use Rattle.cmd_pack.proofs.BitsWalkLemmas.{names_settled}
 
 -- an event that a script may have on a pack alone is of the host, and can be played on the pack
@@ -46,8 +19,7 @@ fits_host : (pack : PackValue) (event : EventValue) → Fits (pack_names pack) e
 fits_host pack (Set assigns) fits = (subst (λ n. AreAssigned n assigns) (length-map pack.params (λ (p : PackParam). p.name)) fits, tt)
 fits_host pack (Cycle values) fits = absurd (none-some (length values) fits)
 fits_host pack (Upset address) fits = (fits, tt)
-fits_host pack Scrub fits = (tt, tt)
-fits_host pack Image fits = (tt, tt)
+fits_host pack event fits = (tt, tt)
 
 -- so a script that is ready on a pack can be played
 pub can_play : (pack : PackValue) (events : List EventValue) (ready : ReadyScript) → IsReady pack events ready → ((event : EventValue) → In events event → Fits (pack_names pack) event) → CanPlay ready.host.pack (event_values ready.events.items)

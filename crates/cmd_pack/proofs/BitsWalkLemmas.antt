@@ -1,22 +1,10 @@
 -- The walk of `bits`: an accepted job isn't refused, a job is refused for one reason, and what its stations return explains how it ends.
-use Rattle.std.proofs.Common.{◌≡◌, Option, refl, subst}
+use Rattle.cmd_pack.proofs.Common.{◌≡◌, Option, refl, subst, Files, ShelfSeen, PackValue, Told, Explains, Outcome, HasPack, IsPackSettled, IsPackItself, pack_reading, pack_names, IsScriptRefused, IsScriptSettled, IsScriptFile, script_reading, BitsWords, IsBitsRefused, IsBitsSettled, IsOfBits, bits_word, ReachesBits, bits_reading, HasBitsJob, IsPart, Explains_lift, pack_or_not, pack_refused_once, pack_once, same_names}
 use Rattle.tl_fault.specs.RefusalValue.{RefusalValue}
-use Rattle.tl_io.specs.Shelf.{Files, ShelfSeen}
-use Rattle.ppc_pack.specs.Pack.{PackValue}
-use Rattle.cmd_base.specs.Ends.{Told, Explains}
 use Rattle.cmd_base.specs.declared.outcome.File.{File}
-use Rattle.cmd_base.specs.declared.outcome.Outcome.{Outcome}
-use Rattle.cmd_stations.specs.Packs.{HasPack, IsPackSettled, IsPackItself, pack_reading, pack_names}
-use Rattle.cmd_stations.specs.Script.{IsScriptRefused, IsScriptSettled, IsScriptFile, script_reading}
-use Rattle.cmd_pack.specs.Bits.Words.{BitsWords}
-use Rattle.cmd_pack.specs.Bits.Job.{IsBitsRefused, IsBitsSettled, IsOfBits, bits_word, ReachesBits, bits_reading}
-use Rattle.cmd_pack.specs.Bits.Job as job
-use Rattle.cmd_pack.specs.Bits.Verdict.{HasBitsJob}
-use Rattle.cmd_stations.proofs.ClashLemmas.{events_or_not}
-use Rattle.cmd_stations.proofs.RefusedLemmas.{events_refused_once}
-use Rattle.cmd_base.proofs.EndLemmas.{IsPart, Explains_lift}
-use Rattle.cmd_stations.proofs.EachFileLemmas.{of_script, of_pack}
-use Rattle.cmd_stations.proofs.PackLemmas.{pack_or_not, pack_refused_once, pack_once, same_names}
+use Rattle.cmd_pack.specs.Bits as job
+use Rattle.cmd_stations.proofs.RefusedLemmas.{events_or_not, events_refused_once}
+use Rattle.cmd_stations.proofs.FileLemmas.{of_script, of_pack}
 
 module _ (files : Files) (words : BitsWords) (settled : IsBitsSettled files words) where
   -- a script is refused behind the one pack

@@ -1,25 +1,11 @@
 -- Files of the same pack are played alike.
-use Rattle.std.proofs.Common.{◌≡◌, ℕ, List, ◌∷◌, Some, sym, ap, ◌∙◌, subst}
+use Rattle.cmd_pack.proofs.Common.{◌≡◌, ℕ, List, ◌∷◌, Some, sym, ap, ◌∙◌, subst, concat, same_Some, extended, Files, PackValue, EventValue, SpecialiserValue, HasPack, pack_names, present_bytes, HasScript, BitsWords, AreHostSteps, pack_header, same_names, PutTheSame, ReplaysFile}
 use Rattle.std.specs.FinMap.{get}
-use Rattle.std.specs.List.{concat}
-use Rattle.std.proofs.lemmas.Option.{same_Some}
-use Rattle.tl_io.specs.Content.{extended}
-use Rattle.tl_io.specs.Shelf.{Files}
 use Rattle.aig_core.specs.declared.lit.Lit.{Lit}
-use Rattle.ppc_pack.specs.Pack.{PackValue}
 use Rattle.ppc_file.specs.PackFile.{AreSame}
 use Rattle.ppc_file.proofs.OneReading.{one_reading}
-use Rattle.run_text.specs.EventValue.{EventValue}
 use Rattle.run_text.specs.ScriptText.{IsScript}
 use Rattle.run_text.proofs.ScriptOnceLemmas as scripts
-use Rattle.spec_core.specs.Specialiser.{SpecialiserValue}
-use Rattle.cmd_stations.specs.Packs.{HasPack, pack_names, present_bytes}
-use Rattle.cmd_stations.specs.Script.{HasScript}
-use Rattle.cmd_pack.specs.Bits.Words.{BitsWords}
-use Rattle.cmd_stations.specs.Host.{AreHostSteps}
-use Rattle.cmd_pack.specs.Bits.Verdict.{pack_header}
-use Rattle.cmd_pack.specs.Bits.Replay.{PutTheSame, ReplaysFile}
-use Rattle.cmd_stations.proofs.PackLemmas.{same_names}
 use Rattle.cmd_stations.proofs.ReplayLemmas.{same_packs_replay, same_both, file_same, repacked, pack_at}
 
 -- a script that is the same text has the same events

@@ -1,5 +1,5 @@
+mod Common
 mod BitsWalkLemmas
 mod BitsPlayLemmas
 mod FileReplayLemmas
 mod RepackLemmas
-mod PackWalkLemmas

@@ -1,24 +1,12 @@
--- The job of `repack`: the pack's file, and then the line.
-use Rattle.std.proofs.Common.{◌≡◌, ℕ, ◌≤◌, List, [], ◌∷◌, Result, Ok, Err, refl, sym, subst}
+-- The job of `repack`: the pack's file, and then the line; and the laws of the walks of `bits` and of `repack`.
+use Rattle.cmd_pack.proofs.Common.{◌≡◌, ℕ, ◌≤◌, List, [], ◌∷◌, Result, Ok, Err, refl, sym, subst, Rose, PortSeen, ShelfSeen, SinkSeen, PackValue, Outside, outside, FileText, HasPrefix, AreWritten, IsCut, writing_outcome, Told, IsBegunFrom, Ends, Outcome, HasPack, IsPackSettled, present_bytes, cut_in_file, cut_cause, pack_header, RepackWords, HasRepack, repack_walk, BitsWords, bits_walk, pack_or_not, pack_refused_once}
 use Rattle.std.specs.Prelude.{IsErrAnd}
-use Rattle.tl_io.specs.Causes.{Rose}
-use Rattle.tl_io.specs.Port.{PortSeen}
-use Rattle.tl_io.specs.Shelf.{Files, ShelfSeen}
-use Rattle.tl_io.specs.Sink.{SinkSeen}
-use Rattle.ppc_pack.specs.Pack.{PackValue}
-use Rattle.cmd_base.specs.Outside.{Outside, outside}
-use Rattle.cmd_base.specs.Writing.{FileText, HasPrefix, AreWritten, IsCut, writing_outcome}
-use Rattle.cmd_base.specs.Ends.{Told, IsBegunFrom, Ends}
 use Rattle.cmd_base.specs.Refusals.{most_bytes}
 use Rattle.cmd_base.specs.declared.outcome.File.TheVariants.{Pack}
-use Rattle.cmd_base.specs.declared.outcome.Outcome.{Outcome}
 use Rattle.cmd_stations.specs.FileWrites.{WritesAll}
-use Rattle.cmd_stations.specs.Packs.{HasPack, IsPackSettled, present_bytes}
-use Rattle.cmd_stations.proofs.WriteAllLemmas.{cut_in_file, cut_cause}
-use Rattle.cmd_pack.specs.Bits.Verdict.{pack_header}
-use Rattle.cmd_pack.specs.Repack.Words.{RepackWords}
-use Rattle.cmd_pack.specs.Repack.Verdict.{HasRepack, repack_walk}
 use Rattle.cmd_pack.proofs.FileReplayLemmas.{replays_file}
+use Rattle.cmd_pack.proofs.BitsWalkLemmas.{bits_or_not, bits_refused_once}
+use Rattle.cmd_base.specs.Walk.{HasLaws}
 
 -- a fault in the file, of the answer that a `?` makes of it
 pub passed_cut : {E : Type 0} (text : FileText) (line : List ℕ) (old new : ShelfSeen) (out : SinkSeen) (r : Result Unit E) (e : E) → IsErrAnd r (λ x. x ≡ e) → HasPrefix text old.files new.files
@@ -61,3 +49,18 @@ module _ (words : RepackWords) (pack : PackValue) (old mid new : ShelfSeen) (sam
         refl,
         cut_cause (repack_walk words) (text ∷ []) (pack_header pack) (outside old before ports) (outside new after ports) tt cut,
       )
+
+-- The laws of the walks of `bits` and of `repack`.
+pub bits_laws : (words : BitsWords) → HasLaws (bits_walk words)
+bits_laws words = record {
+  not_both = λ files settled has f r refused. bits_or_not files words settled has f r refused;
+  one_refusal = λ files settled f e r s one other. bits_refused_once files words settled f e r s one other;
+  shows = λ files old new done. tt;
+}
+
+pub repack_laws : (words : RepackWords) → HasLaws (repack_walk words)
+repack_laws words = record {
+  not_both = λ files settled has f r refused. pack_or_not files words.old settled has.pack f r has.has refused;
+  one_refusal = λ files settled f e r s one other. pack_refused_once files words.old settled f e r s one other;
+  shows = λ files old new done. tt;
+}

@@ -2,3 +2,5 @@
 pub mod Bits
 -- and of `repack`.
 pub mod Repack
+-- What only bodies are compared with.
+pub mod BitsReady

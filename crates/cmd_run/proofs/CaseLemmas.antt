@@ -1,42 +1,18 @@
 -- The texts of a case as files: what they are read as, and what stops their walk.
-use Rattle.std.proofs.Common.{◌≡◌, ℕ, ◌<◌, ◌≤◌, List, length, Some, Result, Ok, Err, codes, refl, sym, ap, ◌∙◌, subst, arith}
+use Rattle.cmd_run.proofs.Common.{◌≡◌, ℕ, ◌<◌, ◌≤◌, List, length, Some, Result, Ok, Err, codes, refl, sym, ap, ◌∙◌, subst, arith, same_Some, MOST_BYTES, Files, ShelfSeen, CaseValue, IsShort, text_of, NamesValue, Stops, outcome_at, Told, Explains, Outcome, GenWords, Ready, Source, IsUnmapped, script_reading, IsTextSettled, IsMappingSettled, source_reading, ToTables, ComesFrom, ComesWith, IsRefused, IsSettled, run_reading, IsReadyFor, case_words, case_files, shelf_of, HaveSource, HaveCase, gen_reading, text_settles, list_settles, netlist_explains, params_explains, made_explains, script_explains, HasText, IsNetlistText, NetlistRefusal, IsParamsRefusal, IsScriptRefusal}
+use Rattle.gen_case.specs.Netlist.{netlist_lines}
 use Rattle.std.specs.Cmp.Lexicographic.{nat_list_cmp_total}
 use Rattle.std.specs.FinMap.{get, insert, empty, get-insert}
 use Rattle.std.specs.Prelude.{IfOk, IfErr}
-use Rattle.std.proofs.lemmas.Option.{same_Some}
-use Rattle.tl_text.specs.declared.logical_lines.TheConstants.{MOST_BYTES}
-use Rattle.tl_io.specs.Shelf.{Files, ShelfSeen}
-use Rattle.gen_case.specs.Case.{CaseValue, IsShort}
-use Rattle.gen_case.specs.Lines.{text_of}
-use Rattle.gen_case.specs.Netlist.{netlist_lines}
 use Rattle.gen_case.specs.Script.{all_params, script_lines}
-use Rattle.run_text.specs.NamesValue.{NamesValue}
 use Rattle.param_list.specs.ParamsText.{IsParamsText, HasOneReading}
 use Rattle.run_text.specs.ScriptText as script_text
 use Rattle.cover_pick.specs.declared.rule.Rule.{Rule}
-use Rattle.cmd_stations.specs.Stops.{Stops, outcome_at}
-use Rattle.cmd_base.specs.Ends.{Told, Explains}
 use Rattle.cmd_base.specs.Refusals.{most_bytes}
 use Rattle.cmd_base.specs.declared.outcome.File.TheVariants as file
-use Rattle.cmd_base.specs.declared.outcome.Outcome.{Outcome}
 use Rattle.cmd_base.specs.declared.outcome.Outcome.TheVariants as outcome
 use Rattle.cmd_stations.specs.declared.stop.Stop.{Stop}
-use Rattle.cmd_run.specs.declared.gen_command.words.GenWords.{GenWords}
-use Rattle.cmd_run.specs.declared.run.prepare.Ready.{Ready}
 use Rattle.cmd_stations.specs.declared.netlist_text.Netlist.{Netlist as NetlistValue}
-use Rattle.cmd_stations.specs.declared.source.Source.{Source}
-use Rattle.cmd_stations.specs.Texts.{HasText, IsNetlistText, NetlistRefusal, IsParamsRefusal, IsScriptRefusal}
-use Rattle.cmd_stations.specs.Mapped.{IsUnmapped}
-use Rattle.cmd_stations.specs.Script.{script_reading}
-use Rattle.cmd_stations.specs.Settled.{IsTextSettled, IsMappingSettled, source_reading}
-use Rattle.cmd_stations.specs.Aims.{ToTables}
-use Rattle.cmd_stations.specs.Tables.{ComesFrom, ComesWith}
-use Rattle.cmd_run.specs.Run.Job.{IsRefused, IsSettled, run_reading}
-use Rattle.cmd_run.specs.Run.Ready.{IsReadyFor}
-use Rattle.cmd_run.specs.GenCommand.Case.{case_words, case_files}
-use Rattle.cmd_run.specs.GenCommand.Texts.{shelf_of, HaveSource, HaveCase}
-use Rattle.cmd_run.specs.GenCommand.Verdict.{gen_reading}
-use Rattle.cmd_stations.proofs.StationLemmas.{text_settles, list_settles, netlist_explains, params_explains, made_explains, script_explains}
 
 -- What is so of some files is told by a shelf that has them.
 module _ (files : Files) where
@@ -47,18 +23,18 @@ module _ (files : Files) where
   nothing_given most = omega arith
 
   -- a script that stops the walk
-  pub script_stops : (script : List ℕ) (names : NamesValue) (s : Stop) → HasText files (codes "script") script → script_text.HasOneReading names script → Stops (IsScriptRefusal names script) s
-      → Explains (script_reading (codes "script") names) (shelf_of files) (shelf_of files) (outcome_at file.Script s)
-  script_stops script names s there one refused =
-      script_explains (codes "script") names (shelf_of files) (shelf_of files) script s (nothing_given (most_bytes file.Script)) (told_of (λ fs. HasText fs (codes "script") script) there) one refused
+  pub script_stops : (script : List ℕ) (names : NamesValue) (s : Stop) (o : Outcome) → o ≡ outcome_at file.Script s → HasText files (codes "script") script → script_text.HasOneReading names script → Stops (IsScriptRefusal names script) s
+      → Explains (script_reading (codes "script") names) (shelf_of files) (shelf_of files) o
+  script_stops script names s o at there one refused =
+      script_explains (codes "script") names (shelf_of files) (shelf_of files) script s o at (nothing_given (most_bytes file.Script)) (told_of (λ fs. HasText fs (codes "script") script) there) one refused
 
 -- the walk through a netlist, its parameters and the mapping, by a rule
 module _ (rule : Rule) (files : Files) where
   -- a netlist's text that stops the walk
-  pub netlist_stops : (netlist params : List ℕ) (s : Stop) → HaveSource files netlist params → Stops (NetlistRefusal netlist) s → Stops (λ _. IsTextSettled netlist) s
-      → Explains (source_reading ToTables (case_words rule).source) (shelf_of files) (shelf_of files) (outcome_at file.Netlist s)
-  netlist_stops netlist params s have refused settled =
-      netlist_explains ToTables (case_words rule).source (shelf_of files) (shelf_of files) netlist s (nothing_given files (most_bytes file.Netlist)) (told_of files (λ fs. HasText fs (case_words rule).source.netlist netlist) have.has_netlist) refused settled
+  pub netlist_stops : (netlist params : List ℕ) (s : Stop) (o : Outcome) → o ≡ outcome_at file.Netlist s → HaveSource files netlist params → Stops (NetlistRefusal netlist) s → Stops (λ _. IsTextSettled netlist) s
+      → Explains (source_reading ToTables (case_words rule).source) (shelf_of files) (shelf_of files) o
+  netlist_stops netlist params s o at have refused settled =
+      netlist_explains ToTables (case_words rule).source (shelf_of files) (shelf_of files) netlist s o at (nothing_given files (most_bytes file.Netlist)) (told_of files (λ fs. HasText fs (case_words rule).source.netlist netlist) have.has_netlist) refused settled
 
   -- the walk comes past a netlist's text
   netlist_comes : (netlist params : List ℕ) (n : NetlistValue) → HaveSource files netlist params → IsNetlistText netlist n → IsTextSettled netlist → ComesFrom files (case_words rule).source n
@@ -68,10 +44,10 @@ module _ (rule : Rule) (files : Files) where
   }
 
   -- a text of its parameters that stops it
-  pub params_stop : (netlist params : List ℕ) (n : NetlistValue) (s : Stop) → HaveSource files netlist params → IsNetlistText netlist n → IsTextSettled netlist → HasOneReading n.flat params → Stops (IsParamsRefusal n.flat params) s
-      → Explains (source_reading ToTables (case_words rule).source) (shelf_of files) (shelf_of files) (outcome_at file.Params s)
-  params_stop netlist params n s have is settled one refused =
-      params_explains ToTables (case_words rule).source (shelf_of files) (shelf_of files) n (told_of files (λ fs. ComesFrom fs (case_words rule).source n) (netlist_comes netlist params n have is settled)) params s
+  pub params_stop : (netlist params : List ℕ) (n : NetlistValue) (s : Stop) (o : Outcome) → o ≡ outcome_at file.Params s → HaveSource files netlist params → IsNetlistText netlist n → IsTextSettled netlist → HasOneReading n.flat params → Stops (IsParamsRefusal n.flat params) s
+      → Explains (source_reading ToTables (case_words rule).source) (shelf_of files) (shelf_of files) o
+  params_stop netlist params n s o at have is settled one refused =
+      params_explains ToTables (case_words rule).source (shelf_of files) (shelf_of files) n (told_of files (λ fs. ComesFrom fs (case_words rule).source n) (netlist_comes netlist params n have is settled)) params s o at
       (nothing_given files (most_bytes file.Params)) (told_of files (λ fs. HasText fs (case_words rule).source.params params) have.has_params) one refused
 
   -- the walk comes past both
@@ -86,10 +62,10 @@ module _ (rule : Rule) (files : Files) where
       }
 
   -- a mapping that stops it
-  pub mapping_stops : (source : Source) (s : Stop) → ComesWith files (case_words rule).source source → Stops (IsUnmapped rule source (case_words rule).source.k) s → Stops (λ _. IsMappingSettled rule source (case_words rule).source.k) s
-      → Explains (source_reading ToTables (case_words rule).source) (shelf_of files) (shelf_of files) (outcome_at file.Netlist s)
-  mapping_stops source s comes refused settled =
-      made_explains ToTables (case_words rule).source (shelf_of files) (shelf_of files) source s (nothing_given files (most_bytes file.Netlist)) (told_of files (λ fs. ComesWith fs (case_words rule).source source) comes) refused settled
+  pub mapping_stops : (source : Source) (s : Stop) (o : Outcome) → o ≡ outcome_at file.Netlist s → ComesWith files (case_words rule).source source → Stops (IsUnmapped rule source (case_words rule).source.k) s → Stops (λ _. IsMappingSettled rule source (case_words rule).source.k) s
+      → Explains (source_reading ToTables (case_words rule).source) (shelf_of files) (shelf_of files) o
+  mapping_stops source s o at comes refused settled =
+      made_explains ToTables (case_words rule).source (shelf_of files) (shelf_of files) source s o at (nothing_given files (most_bytes file.Netlist)) (told_of files (λ fs. ComesWith fs (case_words rule).source source) comes) refused settled
 
 module _ (words : GenWords) where
   abbrev netlist_text : List ℕ
@@ -144,10 +120,7 @@ module _ (words : GenWords) where
   }
   case_explains (outcome.ReadFault f) h old new = let rose : 1 ≤ 0 = h.fault.rose in absurd (omega arith)
   case_explains outcome.Memory h old new = tt
-  case_explains outcome.Done h old new = absurd h
-  case_explains outcome.Usage h old new = absurd h
-  case_explains outcome.WriteFault h old new = absurd h
-  case_explains outcome.PortFault h old new = absurd h
+  case_explains o h old new = absurd h
 
   -- So what is ready for these texts is the job of the case, and what stops them stops it.
   module _ (netlist params script : List ℕ) (have : HaveCase (case_files words) netlist params script) where

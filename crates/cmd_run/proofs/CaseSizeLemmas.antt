@@ -1,32 +1,14 @@
 -- A case that is ready is so small that what its events add up to fits its types.
-use Rattle.std.proofs.Common.{◌≡◌, ℕ, ◌+◌, ◌^◌, ◌≤◌, true, false, leb, List, [], ◌∷◌, length, map, Option, Some, None, refl, sym, ap, ◌∙◌, subst, inl, inr, arith}
+use Rattle.cmd_run.proofs.Common.{◌≡◌, ℕ, ◌+◌, ◌^◌, ◌≤◌, true, false, leb, List, [], ◌∷◌, length, map, Option, Some, None, refl, sym, ap, ◌∙◌, subst, inl, inr, arith, cases_lt, le-leb, none-some, same_Some, slice_get-get_or, WordsLine, words_line, Denotes, Lit, bits_of, TemplateValue, EventValue, event_values, NamesValue, text_of, HasNetlist, GenWords, Ready, IsReadyFor, case_words, case_files, IsSmall, HasDigits, is_aag, DenotesLibrary}
+use Rattle.gen_case.specs.Netlist.{netlist_lines}
 use Rattle.std.specs.Option.{option_and_then}
-use Rattle.std.proofs.lemmas.Bool.{cases_lt, le-leb}
-use Rattle.std.proofs.lemmas.Option.{none-some, same_Some, slice_get-get_or}
 use Rattle.list_laws.proofs.Choice.{none_both}
-use Rattle.tl_text.specs.LineValue.{WordsLine, words_line}
-use Rattle.blif_read.specs.Denotes.{Denotes}
-use Rattle.aig_core.specs.declared.lit.Lit.{Lit}
 use Rattle.cover_pick.proofs.BitsLemmas.{bits_worked}
-use Rattle.cover_pick.specs.Mapping.{bits_of}
-use Rattle.cover_pick.specs.Template.{TemplateValue}
 use Rattle.run_text.specs.Each.{in_front, each_of}
-use Rattle.run_text.specs.EventValue.{EventValue, event_values}
-use Rattle.run_text.specs.NamesValue.{NamesValue}
 use Rattle.run_text.specs.ScriptText.{line_refusal, refusal_at, line_event, IsScript}
 use Rattle.run_text.specs.declared.event.TheConstants.{MOST_EVENTS}
 use Rattle.run_text.specs.declared.script_err.ScriptErr.TheVariants.{Events}
-use Rattle.gen_case.specs.Lines.{text_of}
-use Rattle.gen_case.specs.Netlist.{netlist_lines}
-use Rattle.cmd_stations.specs.LibraryText.{is_aag, DenotesLibrary}
-use Rattle.cmd_stations.specs.Source.{HasNetlist}
 use Rattle.cmd_stations.proofs.LibraryTextLemmas.{blif_denotes}
-use Rattle.cmd_run.specs.declared.gen_command.words.GenWords.{GenWords}
-use Rattle.cmd_run.specs.declared.run.prepare.Ready.{Ready}
-use Rattle.cmd_run.specs.Run.Ready.{IsReadyFor}
-use Rattle.cmd_run.specs.GenCommand.Case.{case_words, case_files}
-use Rattle.cmd_run.specs.GenCommand.Totals.{IsSmall}
-use Rattle.cmd_run.specs.GenCommand.Words.{HasDigits}
 use Rattle.cmd_run.proofs.CaseLemmas.{netlist_there}
 use Rattle.cmd_run.proofs.CaseTextLemmas.{few_outputs}
 use Rattle.cmd_run.proofs.StartLemmas.{start_bits}

@@ -1,14 +1,7 @@
 -- The generated netlist as it is read: its lines are those that are written, and no flat circuit of it has more outputs than their `.outputs` lines name.
-use Rattle.std.proofs.Common.{◌≡◌, ℕ, ◌+◌, ◌-◌, ◌*◌, ◌≤◌, Bool, true, false, ◌&&◌, not, eqb, leb, ltb, List, [], ◌∷◌, ◌++◌, length, map, get_or, slice_get, codes, Some, Ok, refl, sym, ap, ◌∙◌, inl, inr, arith, append_assoc, append-nil, length-append}
-use Rattle.std.specs.List.{flat_map, list_all}
-use Rattle.std.proofs.lemmas.Bool.{and_parts, and_left, or_from, leb-true, eqb-false, le-ltb, ne_eqb, not-true}
-use Rattle.std.proofs.lemmas.List.{length-map, map-append}
-use Rattle.std.proofs.lemmas.List.FromFn.{length-map-range_with_len}
-use Rattle.std.proofs.lemmas.Option.{none-some, same_Some}
-use Rattle.list_laws.specs.Members.{In}
-use Rattle.list_laws.proofs.Members.{In-get_or}
+use Rattle.cmd_run.proofs.Common.{◌≡◌, ℕ, ◌+◌, ◌-◌, ◌*◌, ◌≤◌, Bool, true, false, ◌&&◌, not, eqb, leb, ltb, List, [], ◌∷◌, ◌++◌, length, map, get_or, slice_get, codes, Some, Ok, refl, sym, ap, ◌∙◌, inl, inr, arith, append_assoc, append-nil, length-append, flat_map, list_all, and_parts, and_left, or_from, leb-true, eqb-false, le-ltb, ne_eqb, not-true, length-map, map-append, length-map-range_with_len, none-some, same_Some, In, In-get_or, LineValue, words_line, line_text, text_of, below}
+use Rattle.gen_case.specs.Netlist.{netlist_lines, bus_names, head_lines, partial_lines, adder_lines, output_lines, end_lines, all_partials, all_adders, all_outputs, net_name}
 use Rattle.tl_text.specs.Clean.{IsClean}
-use Rattle.tl_text.specs.LineValue.{LineValue, words_line}
 use Rattle.tl_text.specs.Lines.{is_bad, lines_of}
 use Rattle.tl_text.specs.Tokens.{is_blank}
 use Rattle.tl_text.specs.WrittenText as written
@@ -20,11 +13,8 @@ use Rattle.netlist.specs.LibraryValue.{ModelValue, LibraryValue, output_ports}
 use Rattle.blif_read.specs.Denotes.{port_names, names_in, AreModels, none, model, Denotes}
 use Rattle.blif_read.specs.Statement.{StatementValue, statement_of, statements}
 use Rattle.blif_read.proofs.PortLemmas.{names_in-append}
-use Rattle.gen_case.specs.Lines.{line_text, text_of, below}
-use Rattle.gen_case.specs.Netlist.{bus_names, head_lines, partial_lines, adder_lines, output_lines, end_lines, all_partials, all_adders, all_outputs, netlist_lines}
 use Rattle.gen_case.specs.declared.net.Bus.TheVariants.{Product}
 use Rattle.gen_case.specs.declared.net.Net.TheVariants.{Digit}
-use Rattle.gen_case.specs.Nets.{net_name}
 use Rattle.gen_case.specs.Steps.{after_blanks}
 use Rattle.gen_case.proofs.LineLemmas.{joined}
 use Rattle.gen_case.proofs.PlainLemmas.{is_plain, is_plain_word, is_plain_line, netlist_plain}

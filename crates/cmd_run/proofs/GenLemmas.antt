@@ -1,20 +1,5 @@
--- A case that was made ready and played: what it adds up to, and what is told of it.
-use Rattle.std.proofs.Common.{◌≡◌, ℕ, ◌+◌, List, [], ◌∷◌, ◌++◌, refl, sym, ap, ◌∙◌, subst, arith}
-use Rattle.std.specs.List.{concat}
-use Rattle.tl_io.specs.Shelf.{ShelfSeen}
-use Rattle.cover_pick.specs.Template.{TemplateValue}
-use Rattle.run_text.specs.EventValue.{EventValue, event_values}
-use Rattle.run_core.specs.Events.{MachineValue, IsPlayed}
-use Rattle.cmd_base.specs.Ends.{IsBegun, IsBegunFrom}
-use Rattle.cmd_run.specs.declared.gen_command.words.GenWords.{GenWords}
-use Rattle.cmd_run.specs.declared.run.prepare.Ready.{Ready}
-use Rattle.cmd_stations.specs.Mapped.{template_header}
-use Rattle.cmd_stations.proofs.OnceLemmas.{least_mapped}
-use Rattle.cmd_stations.specs.Machine.{machine_header}
-use Rattle.cmd_run.specs.Run.Ready.{IsReadyFor}
-use Rattle.cmd_run.specs.GenCommand.Case.{case_words, case_files}
-use Rattle.cmd_run.specs.GenCommand.Totals.{writes_of, output_of, Totals, none, more}
-use Rattle.cmd_run.specs.GenCommand.Verdict.{first_line, last_line, gen_text, HasGen, gen_walk}
+-- A case that was made ready and played: what it adds up to, and what is told of it; and the laws of the walk of `gen`.
+use Rattle.cmd_run.proofs.Common.{◌≡◌, ℕ, ◌+◌, List, [], ◌∷◌, ◌++◌, refl, sym, ap, ◌∙◌, subst, arith, concat, ShelfSeen, TemplateValue, EventValue, event_values, MachineValue, IsPlayed, IsBegun, IsBegunFrom, GenWords, Ready, template_header, least_mapped, machine_header, IsReadyFor, case_words, case_files, writes_of, output_of, Totals, none, more, first_line, last_line, gen_text, HasGen, gen_walk, scripted_of, HasLaws, scripted_or_not, scripted_refused_once}
 
 -- the same events with numbers that are the same
 same_totals : {old new : MachineValue} {events : List EventValue} {writes total : ℕ} (all_writes all : ℕ) → Totals old events writes total new → all_writes ≡ writes → all ≡ total → Totals old events all_writes all new
@@ -61,3 +46,11 @@ module _ (words : GenWords) (ready : Ready) (is : IsReadyFor (case_files words) 
       totals = subst (λ es. Totals ready.machine es writes total end) (sym is.events) totals;
       ends = subst P text_is told;
     }
+
+-- The laws of the walk of `gen`: they are those of `run` over the generated texts.
+pub gen_laws : (words : GenWords) → HasLaws (gen_walk words)
+gen_laws words = record {
+  not_both = λ files settled has f r refused. scripted_or_not files (scripted_of (case_words words.rule)) settled has.job.source has.job.template has.job.events f r has.is refused;
+  one_refusal = λ files settled f e r s one other. scripted_refused_once files (scripted_of (case_words words.rule)) settled f e r s one other;
+  shows = λ files old new done. tt;
+}

@@ -1,32 +1,9 @@
--- A job that is done shows its source circuit, mapped with the least depth.
-use Rattle.std.proofs.Common.{◌≡◌, ℕ, Bool, List, ◌∷◌, length, Ok, refl, sym, ap, ◌∙◌, subst}
-use Rattle.std.specs.List.{concat}
-use Rattle.list_laws.specs.Members.{In}
-use Rattle.tl_io.specs.Content.{extended}
-use Rattle.tl_io.specs.Shelf.{Files}
+-- A job that is done shows its source circuit, mapped with the least depth; and the laws of the walk of `run`.
+use Rattle.cmd_run.proofs.Common.{◌≡◌, ℕ, Bool, List, ◌∷◌, length, Ok, refl, sym, ap, ◌∙◌, subst, concat, In, extended, Files, TemplateValue, IsConf, BankSeen, EventValue, template_header, MachineValue, FitsShape, Source, Outside, names_of, HasScript, shape_of, RunWords, Job, IsJob, IsStart, Stage, HasCome, bank_of, HasRun, IsNoUpset, ShowsSource, HasHeadline, init_count, init_params, scripted_of, run_walk, scripted_or_not, scripted_refused_once, HasLaws}
 use Rattle.aig_core.specs.Aig.{Aig}
-use Rattle.cover_pick.specs.Template.{TemplateValue}
-use Rattle.ppc_pack.specs.Pack.{IsConf}
-use Rattle.port_bank.specs.Bank.{BankSeen}
-use Rattle.run_text.specs.EventValue.{EventValue}
-use Rattle.cmd_stations.specs.Mapped.{template_header}
 use Rattle.run_text.proofs.FitLemmas.{events_fit}
-use Rattle.run_core.specs.Events.{MachineValue}
-use Rattle.run_core.specs.Fits.{FitsShape}
-use Rattle.cmd_stations.specs.declared.source.Source.{Source}
-use Rattle.cmd_base.specs.Outside.{Outside}
-use Rattle.cmd_stations.specs.Script.{names_of, HasScript}
-use Rattle.cmd_stations.specs.SourceCircuit.{shape_of}
-use Rattle.cmd_run.specs.Run.Words.{RunWords}
-use Rattle.cmd_stations.specs.Machine.{Job}
-use Rattle.cmd_run.specs.Run.Job.{IsJob}
-use Rattle.cmd_stations.specs.Machine.{IsStart, Stage, HasCome}
-use Rattle.cmd_run.specs.Run.Bank.{bank_of}
-use Rattle.cmd_run.specs.Run.Ends.{HasRun}
-use Rattle.cmd_run.specs.Run.Headline.{IsNoUpset, ShowsSource, HasHeadline}
 use Rattle.cmd_stations.proofs.GraphLemmas.{same_graph}
 use Rattle.cmd_run.proofs.KeptLemmas.{IsKept, shape_fits}
-use Rattle.cmd_stations.proofs.InitLemmas.{init_count, init_params}
 use Rattle.cmd_run.proofs.ShownLemmas.{shown_of, all_shown}
 
 -- the events of a script fit the circuit's tables
@@ -83,3 +60,11 @@ run_headline files run old new done =
       shows = λ calm. subst (λ (g : Aig). ShowsSource job.source g job.template job.events end.lines (bank_of run.ports old.ports) end.stage.bank) graph
           (shows_source files run job done.machine (bank_of run.ports old.ports) end.lines end.stage done.is_job start end.come calm);
     }
+
+-- The laws of the walk of `run`.
+pub run_laws : (words : RunWords) → HasLaws (run_walk words)
+run_laws words = record {
+  not_both = λ files settled has f r refused. scripted_or_not files (scripted_of words) settled has.job.source has.job.template has.job.events f r has.is refused;
+  one_refusal = λ files settled f e r s one other. scripted_refused_once files (scripted_of words) settled f e r s one other;
+  shows = λ files old new done. run_headline files words old new done;
+}

@@ -1,33 +1,11 @@
 -- What stays from one event of a script to the next while no bit stands upset: the pack and the LUTs, how many values and states there are, and that the configuration is the one specialised from scratch.
-use Rattle.std.proofs.Common.{◌≡◌, ℕ, Bool, List, length, sym, ap, ◌∙◌, subst}
-use Rattle.std.proofs.lemmas.Option.{same_Some}
-use Rattle.run_text.specs.EventValue.{EventValue, Set, Cycle, Upset, Scrub, Image}
-use Rattle.run_text.specs.Fits.{Fits}
-use Rattle.cover_pick.specs.Template.{TemplateValue}
-use Rattle.ppc_pack.specs.Pack.{PackValue, IsConf, HasOneConf}
-use Rattle.lut_sim.specs.Cycle.{IsOnlyTableCycle}
-use Rattle.lut_sim.specs.declared.shape.Shape.{Shape}
-use Rattle.lut_sim.specs.Sim.{SimValue}
-use Rattle.spec_core.specs.Specialiser.{SpecialiserValue}
+use Rattle.cmd_run.proofs.Common.{◌≡◌, ℕ, Bool, List, length, sym, ap, ◌∙◌, subst, same_Some, EventValue, Set, Cycle, Upset, Scrub, Image, Fits, TemplateValue, PackValue, IsConf, HasOneConf, IsOnlyTableCycle, Shape, SimValue, SpecialiserValue, IsRight, FitsShape, Source, names_of, shape_of, IsTunable, IsNoUpset, Stage, IsStep, cycle_count, param_count, IsSourceCycle}
 use Rattle.spec_core.proofs.AssignLemmas.{length-assigned}
-use Rattle.run_core.specs.Events.{IsRight}
-use Rattle.run_core.specs.Fits.{FitsShape}
-use Rattle.cmd_stations.specs.declared.source.Source.{Source}
-use Rattle.cmd_stations.specs.Script.{names_of}
-use Rattle.cmd_stations.specs.SourceCircuit.{shape_of}
-use Rattle.cmd_stations.specs.SourceCycle.{IsSourceCycle}
-use Rattle.cmd_stations.specs.Tunable.{IsTunable}
-use Rattle.cmd_run.specs.Run.Headline.{IsNoUpset}
-use Rattle.cmd_stations.specs.Machine.{Stage, IsStep}
-use Rattle.cmd_stations.proofs.InitLemmas.{cycle_count, param_count}
 
 -- the cycles that a script may name fit the circuit's tables
 pub shape_fits : (source : Source) (bits : ℕ) (event : EventValue) → Fits (names_of source bits) event → FitsShape (shape_of source) event
-shape_fits source bits (Set assigns) fits = tt
 shape_fits source bits (Cycle values) fits = sym (same_Some (shape_of source).regular (length values) fits)
-shape_fits source bits (Upset address) fits = tt
-shape_fits source bits Scrub fits = tt
-shape_fits source bits Image fits = tt
+shape_fits source bits event fits = tt
 
 module _ (source : Source) (template : TemplateValue) (pack : PackValue) (tunable : IsTunable source template pack) where
   -- a machine of the pack and the tables on which no bit stands upset

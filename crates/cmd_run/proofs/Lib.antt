@@ -1,11 +1,10 @@
 -- of a job of `run`: its files, its machine, its playing, its ports and its end,
-mod ReadyLemmas
+mod Common
 mod KeptLemmas
 mod StartLemmas
 mod PlayLemmas
 mod PortLemmas
 mod RunLemmas
-mod WalkLemmas
 -- what it shows,
 mod ShownLemmas
 mod HeadlineLemmas
@@ -16,4 +15,3 @@ mod CaseTextLemmas
 mod CaseSizeLemmas
 mod GenLemmas
 mod TotalLemmas
-mod GenWalkLemmas

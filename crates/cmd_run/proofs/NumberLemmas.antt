@@ -1,6 +1,5 @@
 -- Numbers that are read from their highest digit down.
-use Rattle.std.proofs.Common.{◌≡◌, ℕ, ◌+◌, ◌*◌, ◌≤◌, Bool, List, [], ◌∷◌, ◌++◌, length, refl, ap, arith}
-use Rattle.list_laws.specs.Digits.{bit_value, number}
+use Rattle.cmd_run.proofs.Common.{◌≡◌, ℕ, ◌+◌, ◌*◌, ◌≤◌, Bool, List, [], ◌∷◌, ◌++◌, length, refl, ap, arith, bit_value, number}
 
 -- the number with these digits below those of another number
 abbrev pub number_below : ℕ → List Bool → ℕ

@@ -1,31 +1,9 @@
 -- The playing of events: what is after some of them, and how it ends at the next one.
-use Rattle.std.proofs.Common.{◌≡◌, ℕ, ◌+◌, List, [], ◌∷◌, ◌++◌, take, drop, Option, Result, Ok, Err, refl, sym, ap, ◌∙◌, inl, inr, append-nil, append_assoc}
-use Rattle.std.specs.List.{concat}
-use Rattle.std.proofs.lemmas.List.{take-append-drop}
+use Rattle.cmd_run.proofs.Common.{◌≡◌, ℕ, ◌+◌, List, [], ◌∷◌, ◌++◌, take, drop, Option, Result, Ok, Err, refl, sym, ap, ◌∙◌, inl, inr, append-nil, append_assoc, concat, take-append-drop, Rose, extended, PortSeen, ShelfSeen, SinkSeen, EventValue, BankSeen, all_ports, Holds, StepErr, WriteFault, PortFault, MachineValue, IsPlayed, IsSteady, event_line, outside, IsSplit, put_then, one_line, PortCounts, bank_of, IsPlayEnd, AreAllStepped, EventsEnd, RunEnd, then_step}
 use Rattle.std.proofs.Math.Seq.{take-add}
-use Rattle.tl_io.specs.Causes.{Rose}
-use Rattle.tl_io.specs.Content.{extended}
-use Rattle.tl_io.specs.Port.{PortSeen}
-use Rattle.tl_io.specs.Shelf.{ShelfSeen}
-use Rattle.tl_io.specs.Sink.{SinkSeen}
 use Rattle.tl_io.proofs.ContentLemmas.{extended_none}
-use Rattle.run_text.specs.EventValue.{EventValue}
-use Rattle.port_bank.specs.Bank.{BankSeen, all_ports}
-use Rattle.port_bank.specs.Image.{Holds}
-use Rattle.run_core.specs.declared.step_err.StepErr.{StepErr}
-use Rattle.run_core.specs.declared.step_err.StepErr.TheVariants.{WriteFault, PortFault}
-use Rattle.run_core.specs.Events.{MachineValue, IsPlayed, IsSteady}
-use Rattle.run_core.specs.EventLines.{event_line}
 use Rattle.run_core.specs.Ends.{IsSent, HasLine, LeavesPorts, HasPlaces, StillHolds}
-use Rattle.cmd_base.specs.Outside.{outside}
 use Rattle.cmd_stations.specs.Machine.{machine_header, Stage, IsStep, AreSteps, none}
-use Rattle.cmd_stations.specs.Script.{IsSplit}
-use Rattle.cmd_stations.proofs.EventLemmas.{put_then, one_line}
-use Rattle.cmd_stations.proofs.StepLemmas.{then_step}
-use Rattle.cmd_run.specs.declared.run.words.PortCounts.{PortCounts}
-use Rattle.cmd_run.specs.Run.Bank.{bank_of}
-use Rattle.cmd_run.specs.Run.Ends.{IsPlayEnd}
-use Rattle.cmd_run.specs.Run.Ready.{AreAllStepped, EventsEnd, RunEnd}
 
 -- events were played one after the other, and the output grew by their lines
 pub record HaveCome (old : Stage) (events : List EventValue) (before : Option (List ℕ)) (new : Stage) (after : Option (List ℕ)) : Type 0 where

@@ -1,18 +1,7 @@
 -- The ports after a job: those that serve and stand by were called, and spares took the places of those that failed.
-use Rattle.std.proofs.Common.{◌≡◌, ℕ, ◌+◌, ◌≤◌, List, length, take, drop, Option, Result, Ok, Err, Bool, sym, subst, ◌∙◌, arith, inl, inr, refl, length-drop}
-use Rattle.std.proofs.lemmas.List.{length-take-le}
-use Rattle.tl_io.specs.Port.{PortSeen}
-use Rattle.run_text.specs.EventValue.{EventValue}
-use Rattle.port_bank.specs.Bank.{BankSeen, all_ports}
+use Rattle.cmd_run.proofs.Common.{◌≡◌, ℕ, ◌+◌, ◌≤◌, List, length, take, drop, Option, Result, Ok, Err, Bool, sym, subst, ◌∙◌, arith, inl, inr, refl, length-drop, length-take-le, PortSeen, EventValue, BankSeen, all_ports, StepErr, WriteFault, PortFault, MachineValue, PortCounts, bank_of, HaveFailed, RunEnd, IsServed}
 use Rattle.port_bank.specs.Moves.{Becomes, start, accepted, replaced, FallsShort, LosesPlace}
-use Rattle.run_core.specs.declared.step_err.StepErr.{StepErr}
-use Rattle.run_core.specs.declared.step_err.StepErr.TheVariants.{WriteFault, PortFault}
-use Rattle.run_core.specs.Events.{MachineValue}
-use Rattle.cmd_run.specs.declared.run.words.PortCounts.{PortCounts}
-use Rattle.cmd_run.specs.Run.Bank.{bank_of}
 use Rattle.cmd_stations.specs.Machine.{Stage, IsLoaded, AreSteps, none, more}
-use Rattle.cmd_run.specs.Run.Ends.{HaveFailed}
-use Rattle.cmd_run.specs.Run.Ready.{RunEnd, IsServed}
 
 -- calls one after the other
 becomes_on : {old mid new : BankSeen} → Becomes old mid → Becomes mid new → Becomes old new

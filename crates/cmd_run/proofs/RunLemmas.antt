@@ -1,23 +1,5 @@
 -- A job of `run` that was made ready is begun, and ends as its playing does.
-use Rattle.std.proofs.Common.{◌≡◌, ◌≤◌, List, Result, Ok, Err, refl, sym, subst, inl}
-use Rattle.tl_text.specs.declared.logical_lines.TheConstants.{MOST_BYTES}
-use Rattle.tl_io.specs.Causes.{Rose}
-use Rattle.tl_io.specs.Port.{PortSeen}
-use Rattle.tl_io.specs.Shelf.{Files, ShelfSeen}
-use Rattle.tl_io.specs.Sink.{SinkSeen}
-use Rattle.run_text.specs.EventValue.{event_values}
-use Rattle.run_core.specs.declared.step_err.StepErr.{StepErr}
-use Rattle.run_core.specs.declared.step_err.StepErr.TheVariants.{WriteFault, PortFault}
-use Rattle.cmd_base.specs.Outside.{outside}
-use Rattle.cmd_base.specs.KeepsFiles.{KeepsFiles}
-use Rattle.cmd_base.specs.Ends.{Told, IsBegun, Ends}
-use Rattle.cmd_base.proofs.EndLemmas.{only_read}
-use Rattle.cmd_stations.proofs.OnceLemmas.{least_mapped}
-use Rattle.cmd_run.specs.declared.run.prepare.Ready.{Ready}
-use Rattle.cmd_run.specs.Run.Words.{RunWords}
-use Rattle.cmd_run.specs.Run.Ends.{IsPlayEnd, HasRun, HaveFailed}
-use Rattle.cmd_run.specs.Run.Verdict.{run_walk}
-use Rattle.cmd_run.specs.Run.Ready.{IsReadyFor, IsServed, played_outcome}
+use Rattle.cmd_run.proofs.Common.{◌≡◌, ◌≤◌, List, Result, Ok, Err, refl, sym, subst, inl, MOST_BYTES, Rose, PortSeen, Files, ShelfSeen, SinkSeen, event_values, StepErr, WriteFault, PortFault, outside, Told, IsBegun, Ends, only_read, least_mapped, Ready, RunWords, IsPlayEnd, HasRun, HaveFailed, run_walk, IsReadyFor, IsServed, played_outcome, KeepsFiles}
 
 module _ (files : Files) (words : RunWords) (ready : Ready) (is : IsReadyFor files words ready) where
   pub ready_begun : IsBegun (run_walk words) files

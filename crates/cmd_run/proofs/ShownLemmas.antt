@@ -1,27 +1,10 @@
 -- The events of a script without upsets show the source circuit.
-use Rattle.std.proofs.Common.{◌≡◌, ℕ, Bool, false, cond, List, [], ◌∷◌, length, map, filter, Ok, refl, sym, ap, ◌∙◌, subst, inl, inr}
-use Rattle.std.specs.List.{range_with_len}
-use Rattle.list_laws.specs.Members.{In}
-use Rattle.tl_io.specs.Assigns.{assigned}
-use Rattle.tl_io.specs.Port.{PortSeen}
+use Rattle.cmd_run.proofs.Common.{◌≡◌, ℕ, Bool, false, cond, List, [], ◌∷◌, length, map, filter, Ok, refl, sym, ap, ◌∙◌, subst, inl, inr, range_with_len, In, assigned, PortSeen, EventValue, Set, Cycle, Upset, Scrub, Image, TemplateValue, PackValue, IsConf, HasOneConf, IsTableCycle, IsOnlyTableCycle, SimValue, BankSeen, differs_at, write_of, differences, config_bit, SpecialiserValue, event_line, FitsShape, Source, shape_of, IsTunable}
 use Rattle.tl_io.specs.declared.Write.{Write}
-use Rattle.run_text.specs.EventValue.{EventValue, Set, Cycle, Upset, Scrub, Image}
 use Rattle.run_text.specs.Lines.{set_line, scrub_line, image_line}
-use Rattle.cover_pick.specs.Template.{TemplateValue}
-use Rattle.ppc_pack.specs.Pack.{PackValue, IsConf, HasOneConf}
 use Rattle.bit_fun.specs.Configuration.{IsConfiguration}
-use Rattle.lut_sim.specs.Cycle.{IsTableCycle, IsOnlyTableCycle}
-use Rattle.lut_sim.specs.Sim.{SimValue}
-use Rattle.port_bank.specs.Bank.{BankSeen}
 use Rattle.port_bank.specs.Send.{Sends, start, accepted, replaced, with_port, Plays}
-use Rattle.spec_core.specs.Differences.{differs_at, write_of, differences, config_bit}
-use Rattle.spec_core.specs.Specialiser.{SpecialiserValue}
 use Rattle.spec_core.proofs.MarkLemmas.{xor-same}
-use Rattle.run_core.specs.EventLines.{event_line}
-use Rattle.run_core.specs.Fits.{FitsShape}
-use Rattle.cmd_stations.specs.declared.source.Source.{Source}
-use Rattle.cmd_stations.specs.SourceCircuit.{shape_of}
-use Rattle.cmd_stations.specs.Tunable.{IsTunable}
 use Rattle.cmd_run.specs.Run.Headline.{IsNoUpset, Shown, Shows, ShowsSet, ShowsCycle, ShowsScrub, ShowsImage, ShowAll, none, more}
 use Rattle.cmd_stations.specs.Machine.{Stage, IsStep, AreSteps, none as no_step, more as one_more}
 use Rattle.cmd_run.proofs.KeptLemmas.{IsKept, same_config, of_tables, cycle_is, step_keeps}

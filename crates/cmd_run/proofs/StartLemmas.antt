@@ -1,33 +1,12 @@
--- The machine at the start: its latches have the inits of a source circuit that was read, and it can play each event that its script may name.
-use Rattle.std.proofs.Common.{◌≡◌, ℕ, ◌<◌, Bool, List, length, sym, ap, ◌∙◌, subst}
-use Rattle.std.proofs.lemmas.List.{length-map}
-use Rattle.list_laws.specs.Members.{In}
-use Rattle.tl_io.specs.Assigns.{AreAssigned}
+-- The machine at the start: its latches have the inits of a source circuit that was read, and it can play each event that its script may name; and what a job of `run` is made ready for.
+use Rattle.cmd_run.proofs.Common.{◌≡◌, ℕ, ◌<◌, Bool, List, length, sym, ap, ◌∙◌, subst, length-map, In, AreAssigned, EventValue, Set, Upset, Fits, Lit, lits_of, value_of, bits_of, Shape, PackValue, IsConf, MachineValue, FitsPack, FitsShape, Source, names_of, IsReadSource, AreMade, IsTunable, Job, IsStart, CanPlay, StartsOn, inits_are, Files, Event, event_values, Scripted, ComesScripted, Ready, RunWords, scripted_of, IsReadyFor}
 use Rattle.netlist.specs.FlatCycle.{flat_inits}
 use Rattle.param_list.specs.declared.params.Param.{Param}
-use Rattle.run_text.specs.EventValue.{EventValue, Set, Cycle, Upset, Scrub, Image}
-use Rattle.run_text.specs.Fits.{Fits}
 use Rattle.param_list.specs.Parameters.{param_inits}
-use Rattle.aig_core.specs.declared.lit.Lit.{Lit}
-use Rattle.aig_core.specs.Roots.{lits_of}
-use Rattle.aig_core.specs.Value.{value_of}
-use Rattle.cover_pick.specs.Mapping.{bits_of}
-use Rattle.lut_sim.specs.declared.shape.Shape.{Shape}
-use Rattle.ppc_pack.specs.Pack.{PackValue, IsConf}
 use Rattle.ppc_pack.specs.Pack as pack
 use Rattle.bit_fun.specs.PackOf.{pack_param}
-use Rattle.run_core.specs.Events.{MachineValue}
-use Rattle.run_core.specs.Fits.{FitsPack, FitsShape}
-use Rattle.cmd_stations.specs.declared.source.Source.{Source}
 use Rattle.cmd_stations.specs.declared.tables.Tables.{Tables}
-use Rattle.cmd_stations.specs.Script.{names_of}
-use Rattle.cmd_stations.specs.Tables.{IsReadSource, AreMade}
-use Rattle.cmd_stations.specs.Tunable.{IsTunable}
-use Rattle.cmd_stations.specs.Machine.{Job}
-use Rattle.cmd_stations.specs.Machine.{IsStart}
-use Rattle.cmd_run.specs.Run.Ready.{CanPlay, StartsOn}
 use Rattle.cmd_run.proofs.KeptLemmas.{shape_fits}
-use Rattle.cmd_stations.proofs.InitLemmas.{inits_are}
 
 -- a machine of a source circuit's tables, as it is made
 pub starts_on : (source : Source) (tables : Tables) (m : MachineValue) → IsReadSource source → AreMade source tables → ((given : List Bool) → length given ≡ length tables.pack.params → pack.HasOneConf tables.pack given) → m.host.pack ≡ tables.pack → m.host.state.params ≡ pack.inits_of tables.pack.params
@@ -47,10 +26,8 @@ starts_on source tables m read made one is_pack params config template shape sta
 -- what a script may name, the pack and the shape have
 fits_pack : (source : Source) (bits : ℕ) (p : PackValue) (event : EventValue) → length p.params ≡ length source.params.list → length p.bits ≡ bits → Fits (names_of source bits) event → FitsPack p event
 fits_pack source bits p (Set assigns) params len fit = subst (λ n. AreAssigned n assigns) (length-map source.params.list (λ (q : Param). q.name) ∙ sym params) fit
-fits_pack source bits p (Cycle values) params len fit = tt
 fits_pack source bits p (Upset address) params len fit = subst (λ n. address < n) (sym len) fit
-fits_pack source bits p Scrub params len fit = tt
-fits_pack source bits p Image params len fit = tt
+fits_pack source bits p event params len fit = tt
 
 -- so a machine at the start can play its script
 module _ (job : Job) (m : MachineValue) (start : IsStart job m) where
@@ -70,3 +47,20 @@ module _ (job : Job) (m : MachineValue) (start : IsStart job m) where
     pack = λ event i. fits_pack job.source job.template.bits m.host.pack event start_params (start_bits ∙ sym sum) (fit event i);
     shape = λ event i. subst (λ (s : Shape). FitsShape s event) (sym start.shape) (shape_fits job.source job.template.bits event (fit event i));
   }
+
+-- the job of a mapped source circuit and a script
+module _ (s : Scripted) (ready : Ready) (starts : StartsOn s.mapped.source s.mapped.tables.template ready.machine) (same : ready.events.items ≡ s.events.items) where
+  pub ready_for : (files : Files) (words : RunWords) → ComesScripted files (scripted_of words) s → IsReadyFor files words ready
+  ready_for files words comes = record {
+    job = record { source = s.mapped.source; template = s.mapped.tables.template; events = event_values s.events.items };
+    is_job = comes.has;
+    start = starts.start (event_values s.events.items);
+    events = ap event_values (sym same);
+    settled = comes.settled;
+  }
+
+  pub can_play_ready : s.mapped.tables.template.bits ≡ bits_of s.mapped.tables.template.luts → ((event : EventValue) → In (event_values s.events.items) event → Fits (names_of s.mapped.source s.mapped.tables.template.bits) event)
+      → CanPlay (event_values ready.events.items) ready.machine
+  can_play_ready sum fit =
+      subst (λ (es : List Event). CanPlay (event_values es) ready.machine) (sym same)
+      (can_play (record { source = s.mapped.source; template = s.mapped.tables.template; events = event_values s.events.items }) ready.machine (starts.start (event_values s.events.items)) sum fit)

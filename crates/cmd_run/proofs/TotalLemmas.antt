@@ -1,26 +1,11 @@
 -- What the events of a case add up to fits its types: a change writes no more bits than the LUTs have, and the outputs of a cycle are a number of as many digits.
-use Rattle.std.proofs.Common.{◌≡◌, ℕ, ◌+◌, ◌*◌, ◌^◌, ◌<◌, ◌≤◌, List, [], ◌∷◌, ◌++◌, length, take, refl, ap, ◌∙◌, subst, arith, length-append}
+use Rattle.cmd_run.proofs.Common.{◌≡◌, ℕ, ◌+◌, ◌*◌, ◌^◌, ◌<◌, ◌≤◌, List, [], ◌∷◌, ◌++◌, length, take, refl, ap, ◌∙◌, subst, arith, length-append, length-map, length-take-le, length-range_with_len, number, length-filter_le, lits_of, value_of, Lit, TemplateValue, PackValue, Event, EventValue, event_value, event_values, Set, Cycle, differs_at, differences, write_of, SpecialiserValue, MachineValue, IsPlayed, writes_of, output_of, Totals, none, more, IsSmall}
 use Rattle.std.specs.List.{filter, range_with_len}
 use Rattle.std.proofs.Math.Pow.{pow_mono}
-use Rattle.std.proofs.lemmas.List.{length-map, length-take-le}
-use Rattle.std.proofs.lemmas.List.FromFn.{length-range_with_len}
 use Rattle.std.proofs.lemmas.Nat.{pow_pos}
-use Rattle.list_laws.specs.Digits.{number}
 use Rattle.list_laws.proofs.Digits.{number-small}
-use Rattle.list_laws.proofs.Members.{length-filter_le}
 use Rattle.tl_io.specs.declared.Assign.{Assign}
-use Rattle.aig_core.specs.Roots.{lits_of}
-use Rattle.aig_core.specs.Value.{value_of}
-use Rattle.aig_core.specs.declared.lit.Lit.{Lit}
-use Rattle.cover_pick.specs.Template.{TemplateValue}
-use Rattle.ppc_pack.specs.Pack.{PackValue}
-use Rattle.run_text.specs.declared.event.Event.{Event}
-use Rattle.run_text.specs.EventValue.{EventValue, event_value, event_values, Set, Cycle, Upset, Scrub, Image}
-use Rattle.spec_core.specs.Differences.{differs_at, differences, write_of}
 use Rattle.spec_core.specs.Events.{IsSet}
-use Rattle.spec_core.specs.Specialiser.{SpecialiserValue}
-use Rattle.run_core.specs.Events.{MachineValue, IsPlayed}
-use Rattle.cmd_run.specs.GenCommand.Totals.{writes_of, output_of, Totals, none, more, IsSmall}
 use Rattle.cmd_run.proofs.GenLemmas.{total_more}
 
 -- one event
@@ -36,20 +21,14 @@ set_few assigns old new s =
 
 writes_few : (event : EventValue) (old new : MachineValue) → IsPlayed event old new → writes_of event new ≤ length old.host.pack.bits
 writes_few (Set assigns) old new played = set_few assigns old.host new.host played.host.is
-writes_few (Cycle values) old new played = omega arith
-writes_few (Upset address) old new played = omega arith
-writes_few Scrub old new played = omega arith
-writes_few Image old new played = omega arith
+writes_few event old new played = omega arith
 
 output_small : (event : EventValue) (old new : MachineValue) → IsPlayed event old new → output_of event new < 2 ^ length old.sim.template.outputs
-output_small (Set assigns) old new played = pow_pos (length old.sim.template.outputs)
 output_small (Cycle values) old new played =
     let outputs : List Lit = old.sim.template.outputs in
     let same : length new.sim.outputs ≡ length outputs = ap length (played.clock).outputs_are ∙ length-map (lits_of outputs) (played.clock).value ∙ length-map outputs (λ (l : Lit). l.0) in
     subst (λ (k : ℕ). number new.sim.outputs < 2 ^ k) same (number-small new.sim.outputs)
-output_small (Upset address) old new played = pow_pos (length old.sim.template.outputs)
-output_small Scrub old new played = pow_pos (length old.sim.template.outputs)
-output_small Image old new played = pow_pos (length old.sim.template.outputs)
+output_small event old new played = pow_pos (length old.sim.template.outputs)
 
 -- all of them
 totals_within : {old new : MachineValue} {events : List EventValue} {writes total : ℕ} → Totals old events writes total new → length old.host.pack.bits ≤ 2 ^ 25 → length old.sim.template.outputs ≤ 66

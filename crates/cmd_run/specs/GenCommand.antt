@@ -1,5 +1,4 @@
 -- The command `gen`: a generated multiplier is mapped, and its coefficient is changed a hundred times.
-pub mod Words
 pub mod Case
 pub mod Totals
 pub mod Verdict

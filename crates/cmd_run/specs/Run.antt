@@ -1,7 +1,5 @@
 -- The command `run`: a source circuit is mapped, and a script is played on it.
-pub mod Words
 pub mod Job
-pub mod Bank
 pub mod Ends
 pub mod Verdict
 pub mod Headline

@@ -1,17 +1,11 @@
 -- Hosts of packs with the same configurations put the same lines for the same events.
-use Rattle.std.proofs.Common.{◌≡◌, ℕ, Bool, not, List, [], ◌∷◌, length, get_or, drop, refl, sym, ap, ◌∙◌, subst, arith}
+use Rattle.cmd_stations.proofs.Common.{◌≡◌, ℕ, Bool, not, List, [], ◌∷◌, length, get_or, drop, refl, sym, ap, ◌∙◌, subst, arith, PackValue, IsConf, HasOneConf, EventValue, Set, Cycle, Upset, Scrub, Image, host_line, SpecialiserValue, IsHostPlayed, IsOfHost}
 use Rattle.tl_io.specs.declared.Assign.{Assign}
 use Rattle.tl_io.specs.declared.Write.{Write}
 use Rattle.tl_io.specs.Assigns.{assigned}
 use Rattle.tl_io.specs.Writes.{written}
-use Rattle.ppc_pack.specs.Pack.{PackValue, IsConf, HasOneConf}
-use Rattle.run_text.specs.EventValue.{EventValue, Set, Cycle, Upset, Scrub, Image}
 use Rattle.run_text.specs.Lines.{set_line, scrub_line, upset_line, image_line}
-use Rattle.run_core.specs.EventLines.{host_line}
-use Rattle.run_core.specs.Events.{IsHostPlayed}
-use Rattle.run_core.specs.Fits.{IsOfHost}
 use Rattle.spec_core.specs.Differences.{config_bit, differences, write_of}
-use Rattle.spec_core.specs.Specialiser.{SpecialiserValue}
 use Rattle.spec_core.proofs.AssignLemmas.{length-assigned}
 use Rattle.cmd_stations.specs.Host.{AreHostSteps, none, more}
 

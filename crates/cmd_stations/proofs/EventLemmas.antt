@@ -1,14 +1,11 @@
--- The events of a script up to one of them, and their lines.
-use Rattle.std.proofs.Common.{◌≡◌, ℕ, ◌+◌, ◌<◌, List, [], ◌∷◌, ◌++◌, length, get_or, map, take, drop, Option, sym, ap, ◌∙◌, append-nil}
-use Rattle.std.specs.List.{concat}
-use Rattle.std.proofs.lemmas.List.{map-append, take_more, take-append-drop}
+-- The events of a script up to one of them, with their lines, and one event more.
+use Rattle.cmd_stations.proofs.Common.{◌≡◌, ℕ, ◌+◌, ◌<◌, List, [], ◌∷◌, ◌++◌, length, get_or, map, take, drop, Option, sym, ap, ◌∙◌, append-nil, concat, map-append, take_more, take-append-drop, extended, IsSplit, In, EventValue, event_line, host_line, SpecialiserValue}
 use Rattle.std.proofs.lemmas.List.Folds.{concat-append}
-use Rattle.list_laws.proofs.Items.{drop_at}
-use Rattle.tl_io.specs.Content.{extended}
+use Rattle.list_laws.proofs.Items.{drop_at, member_at}
+use Rattle.list_laws.proofs.Members.{In-map}
 use Rattle.tl_io.proofs.ContentLemmas.{extended_twice}
-use Rattle.run_text.specs.declared.event.Event.{Event}
-use Rattle.run_text.specs.EventValue.{event_value, event_values}
-use Rattle.cmd_stations.specs.Script.{IsSplit}
+use Rattle.cmd_stations.specs.Machine.{Stage, IsStep, AreSteps, none, more}
+use Rattle.cmd_stations.specs.Host.{IsHostStep, AreHostSteps, none as no_host_step, more as one_host_step_more}
 
 -- the values of the items before a place, and that of the one at it
 module _ {Item Value : Type 0} (value : Item → Value) (items : List Item) (i : ℕ) (item : Item) (within : i < length items) (there : item ≡ get_or items i item) where
@@ -22,12 +19,9 @@ module _ {Item Value : Type 0} (value : Item → Value) (items : List Item) (i :
   pub more_by : map value (take (i + 1) items) ≡ map value (take i items) ++ value item ∷ []
   more_by = ap (map value) (take_more items i item within ∙ ap (λ (x : Item). take i items ++ x ∷ []) (sym there)) ∙ map-append value (take i items) (item ∷ [])
 
--- the events before a place and the one at it, and one event more
-pub split_at : (events : List Event) (i : ℕ) (event : Event) → i < length events → event ≡ get_or events i event → IsSplit (event_values events) (event_values (take i events)) (event_value event)
-split_at events i event h e = split_by event_value events i event h e
-
-pub one_more : (events : List Event) (i : ℕ) (event : Event) → i < length events → event ≡ get_or events i event → event_values (take (i + 1) events) ≡ event_values (take i events) ++ event_value event ∷ []
-one_more events i event h e = more_by event_value events i event h e
+  -- and what is so of the values of all items is so of its own
+  pub value_has : (P : Value → Type 0) → ((v : Value) → In (map value items) v → P v) → P (value item)
+  value_has P all = all (value item) (In-map value items item (member_at items i item within there))
 
 -- bytes behind bytes
 pub put_then : (first mid last : Option (List ℕ)) (front text : List ℕ) → mid ≡ extended first front → last ≡ extended mid text → last ≡ extended first (front ++ text)
@@ -35,3 +29,14 @@ put_then first mid last front text a b = b ∙ (ap (λ o. extended o text) a ∙
 
 pub one_line : (lines : List (List ℕ)) (line : List ℕ) → concat lines ++ line ≡ concat (lines ++ line ∷ [])
 one_line lines line = ap (λ l. concat lines ++ l) (sym (append-nil line)) ∙ sym (concat-append lines (line ∷ []))
+
+-- One event more, after some that were played.
+pub then_step : {old mid new : Stage} {events : List EventValue} {lines : List (List ℕ)} (event : EventValue) → AreSteps old events lines mid → IsStep event mid new
+    → AreSteps old (events ++ event ∷ []) (lines ++ event_line event new.machine ∷ []) new
+then_step {new = new} event none step = more event new step none
+then_step event (more first next here rest) step = more first next here (then_step event rest step)
+
+pub then_host_step : {old mid new : SpecialiserValue} {events : List EventValue} {lines : List (List ℕ)} (event : EventValue) → AreHostSteps old events lines mid → IsHostStep event mid new
+    → AreHostSteps old (events ++ event ∷ []) (lines ++ host_line event new ∷ []) new
+then_host_step {new = new} event no_host_step step = one_host_step_more event new step no_host_step
+then_host_step event (one_host_step_more first next here rest) step = one_host_step_more first next here (then_host_step event rest step)

@@ -1,33 +1,31 @@
 -- A graph has one template, or is refused for one reason.
-use Rattle.std.proofs.Common.{◌≡◌, ℕ, ◌<◌, ◌≤◌, List, length, Some, sym, ap, ◌∙◌, subst, arith}
-use Rattle.aig_build.specs.declared.TheConstants.{MOST_NODES}
-use Rattle.aig_build.specs.CoverGraph.{Literals}
-use Rattle.aig_build.specs.NetlistGraph.{IsGraphOf, HasTooManyNodes, HasOneGraph}
-use Rattle.std.proofs.Math.Path.{fun_ext}
-use Rattle.std.proofs.lemmas.Option.{same_Some, none-some}
-use Rattle.aig_core.specs.Aig.{Aig, node_count}
-use Rattle.aig_core.specs.Roots.{RootsValue, roots_of}
-use Rattle.cut_enum.specs.Limits.{IsLimit}
+use Rattle.cmd_stations.proofs.Common.{◌≡◌, ℕ, ◌≤◌, ◌/◌, [], ◌∷◌, length, sym, ap, subst, inl, inr, arith, In, Regular, Aig, IsSource, RootsValue, roots_of, Lut, IsTableOf, source, free, node, IsMapping, IsLeast, TemplateValue, HasFewLeaves, IsLeastMapping, ◌<◌, List, Some, ◌∙◌, MOST_NODES, Literals, IsGraphOf, HasTooManyNodes, HasOneGraph, fun_ext, same_Some, none-some, node_count, IsLimit, CutErr, LabelsValue, label_of, AreLabelled, HasOneLabelling, Rule, IsTemplate, IsTooMuch, PickErr, RefusalValue, Source, IsLabelled, IsChosen, IsUnchosen, cuts, work, IsMapped, IsUnmappedGraph, IsUnmapped, too_many, unchosen, IsBuilt, IsUnlabelled, unbuilt, many_cuts, IsGraphSettled, IsMappingSettled, IsBuildingSettled, IsLabellingSettled, AreMade, AreTables, Tables}
+use Rattle.cut_sets.specs.Cuts.{CanBeLeaf}
 use Rattle.cut_enum.specs.Table.{AreRows}
 use Rattle.cut_enum.specs.Refusals.{refusal_of as cut_refusal}
-use Rattle.cut_enum.specs.declared.table.CutErr.{CutErr}
-use Rattle.depth_label.specs.Label.{LabelsValue, label_of, AreLabelled, HasOneLabelling}
-use Rattle.cover_pick.specs.declared.rule.Rule.{Rule}
-use Rattle.cover_pick.specs.Mapping.{IsMapping, IsLeast}
-use Rattle.cover_pick.specs.Template.{TemplateValue, IsTemplate, IsTooMuch}
 use Rattle.cover_pick.specs.Work.{IsLight}
 use Rattle.cover_pick.specs.Refusals.{refusal_of as pick_refusal}
-use Rattle.cover_pick.specs.declared.lut.PickErr.{PickErr}
 use Rattle.cover_pick.specs.declared.lut.PickErr.TheVariants as pick_err
-use Rattle.tl_fault.specs.RefusalValue.{RefusalValue}
-use Rattle.cmd_stations.specs.declared.source.Source.{Source}
-use Rattle.cmd_stations.specs.Mapped.{IsLabelled, IsChosen, IsUnchosen, cuts, work, IsLeastMapping, IsMapped, IsUnmappedGraph, IsUnmapped, too_many, unchosen}
-use Rattle.cmd_stations.specs.Aims.{IsBuilt, IsUnlabelled, unbuilt, many_cuts}
-use Rattle.cmd_stations.specs.Settled.{IsGraphSettled, IsMappingSettled, IsBuildingSettled, IsLabellingSettled}
-use Rattle.cmd_stations.specs.Tables.{AreMade, AreTables}
-use Rattle.cmd_stations.specs.declared.tables.Tables.{Tables}
-use Rattle.cmd_stations.proofs.LeastLemmas.{least_mapping}
 use Rattle.cmd_stations.proofs.InputLemmas.{same_parts}
+
+-- each table of a mapping has few leaves
+few_leaves : (g : Aig) (k : ℕ) (t : Lut) → 2 ≤ k → IsTableOf g k t → HasFewLeaves g k t
+few_leaves g k t big (source regular odd leaves) = record {
+  few = let e : length t.leaves ≡ 1 = ap length leaves in omega arith;
+  each = λ m i. one m (subst (λ c. In c m) leaves i);
+}
+  where
+    one : (m : ℕ) → In ((t.lit.0 / 2) ∷ []) m → CanBeLeaf g m
+    one m (inl e) = inl (subst (λ x. IsSource g Regular x) (sym e) regular)
+    one m (inr i) = absurd i
+few_leaves g k t big (free kind leaves) = record {
+  few = let e : length t.leaves ≡ 0 = ap length leaves in omega arith;
+  each = λ m i. absurd (subst (λ c. In c m) leaves i);
+}
+few_leaves g k t big (node is cut) = record { few = cut.few; each = λ m i. (cut.below m i).1 }
+
+pub least_mapping : (g : Aig) (k : ℕ) (roots : RootsValue) (t : TemplateValue) → 2 ≤ k → IsMapping g k (roots_of roots) t.luts t.bits → IsLeast g k (roots_of roots) t.luts t.depth → IsLeastMapping g k roots t
+least_mapping g k roots t big mapping least = record { mapping = mapping; small = λ u i. few_leaves g k u big (mapping.table u i); least = least }
 
 -- what the enumeration says of limits
 module _ (rule : Rule) (g : Aig) (k : ℕ) (roots : RootsValue)
@@ -58,32 +56,26 @@ module _ (rule : Rule) (g : Aig) (k : ℕ) (roots : RootsValue)
     labels_here : (other : LabelsValue) → AreLabelled g rows other → label_of other ≡ label_of labels
     labels_here other w = fun_ext (λ n. one.once other labels w labelled n)
 
-    template_here : (some : List (List (List ℕ))) (other : LabelsValue) (t : TemplateValue) → AreRows g k (node_count g) some → AreLabelled g some other → IsTemplate rule g some (label_of other) roots t → IsTemplate rule g rows (label_of labels) roots t
-    template_here some other t a w is =
-        let same : some ≡ rows = one_table some rows a are in
-        subst (λ label. IsTemplate rule g rows label roots t) (labels_here other (subst (λ rs. AreLabelled g rs other) same w)) (subst (λ rs. IsTemplate rule g rs (label_of other) roots t) same is)
-
-    much_here : (some : List (List (List ℕ))) (other : LabelsValue) → AreRows g k (node_count g) some → AreLabelled g some other → IsTooMuch rule g some (label_of other) (roots_of roots) → IsTooMuch rule g rows (label_of labels) (roots_of roots)
-    much_here some other a w is =
-        let same : some ≡ rows = one_table some rows a are in
-        subst (λ label. IsTooMuch rule g rows label (roots_of roots)) (labels_here other (subst (λ rs. AreLabelled g rs other) same w)) (subst (λ rs. IsTooMuch rule g rs (label_of other) (roots_of roots)) same is)
+    at_table : (P : List (List (List ℕ)) → (ℕ → ℕ) → Type 0) (some : List (List (List ℕ))) (other : LabelsValue) → IsLabelled g k some other → P some (label_of other) → P rows (label_of labels)
+    at_table P some other l is =
+        let same : some ≡ rows = one_table some rows l.rows_are are in
+        subst (λ label. P rows label) (labels_here other (subst (λ rs. AreLabelled g rs other) same l.labels_are)) (subst (λ rs. P rs (label_of other)) same is)
 
     -- A graph with a table is settled.
     pub table_settled : IsGraphSettled rule g k roots
     table_settled = record {
       maps = λ t c. least_mapping g k roots t big (mapping t (chosen_here t c)) (least t (chosen_here t c));
       one_template = λ t u c d. same_template t u (chosen_here t c) (chosen_here u d);
-      not_both = λ t r c u. chosen_or t r c.rows c.labels c.labelled.rows_are c.labelled.labels_are c.chosen c.light u;
+      not_both = chosen_or;
       one_refusal = table_refused;
     }
       where
         chosen_here : (t : TemplateValue) → IsChosen rule g k roots t → IsTemplate rule g rows (label_of labels) roots t
-        chosen_here t c = template_here c.rows c.labels t c.labelled.rows_are c.labelled.labels_are c.chosen
+        chosen_here t c = at_table (λ rs label. IsTemplate rule g rs label roots t) c.rows c.labels c.labelled c.chosen
 
-        chosen_or : (t : TemplateValue) (r : RefusalValue) (some : List (List (List ℕ))) (other : LabelsValue) → AreRows g k (node_count g) some → AreLabelled g some other → IsTemplate rule g some (label_of other) roots t → IsLight g t.luts
-            → IsUnchosen rule g k roots r → ⊥
-        chosen_or t r some other a w is light (cuts e l told) = excluded e some l a
-        chosen_or t r some other a w is light (work o told) = apart t (template_here some other t a w is) light (much_here o.rows o.labels o.labelled.rows_are o.labelled.labels_are o.too_much)
+        chosen_or : (t : TemplateValue) (r : RefusalValue) → IsChosen rule g k roots t → IsUnchosen rule g k roots r → ⊥
+        chosen_or t r c (cuts e l told) = excluded e c.rows l c.labelled.rows_are
+        chosen_or t r c (work o told) = apart t (chosen_here t c) c.light (at_table (λ rs label. IsTooMuch rule g rs label (roots_of roots)) o.rows o.labels o.labelled o.too_much)
 
         table_refused : (r s : RefusalValue) → IsUnchosen rule g k roots r → IsUnchosen rule g k roots s → r ≡ s
         table_refused r s (cuts e l told) other = absurd (excluded e rows l are)
@@ -204,7 +196,7 @@ module _ (source : Source) (one : HasOneGraph source.netlist.library source.netl
 
 -- tables by the template that was chosen
 pub tables_as : (rule : Rule) (source : Source) (k : ℕ) (t : Tables) (template : TemplateValue) → t.template ≡ template → (m : IsMapped rule source k template) → IsLeastMapping m.graph k m.roots template → AreMade source t → AreTables rule source k t
-tables_as rule source k t template same m least made =
-    let both : (mapped : IsMapped rule source k t.template) × IsLeastMapping mapped.graph k mapped.roots t.template =
-    subst (λ x. (mapped : IsMapped rule source k x) × IsLeastMapping mapped.graph k mapped.roots x) (sym same) (m, least) in
+tables_as rule given k t template same m least made =
+    let both : (mapped : IsMapped rule given k t.template) × IsLeastMapping mapped.graph k mapped.roots t.template =
+    subst (λ x. (mapped : IsMapped rule given k x) × IsLeastMapping mapped.graph k mapped.roots x) (sym same) (m, least) in
     record { mapped = both.0; least = both.1; made = made }

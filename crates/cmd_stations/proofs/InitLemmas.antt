@@ -1,25 +1,8 @@
 -- The inits of a source circuit that was read: those of its latches, and the values of its parameters; and how many states a cycle leaves.
-use Rattle.std.proofs.Common.{◌≡◌, ℕ, suc, Bool, List, [], ◌∷◌, length, map, Some, refl, sym, ap, ap₂, ◌∙◌, subst, arith}
-use Rattle.std.specs.Prelude.{slice_get}
-use Rattle.std.proofs.lemmas.List.{length-map}
-use Rattle.std.proofs.lemmas.Option.{same_Some}
-use Rattle.netlist.specs.LibraryValue.{LibraryValue, ModelValue}
-use Rattle.netlist.specs.declared.flat.FlatLatch.{FlatLatch}
-use Rattle.netlist.specs.Flat.{Places, IsFlatLatch, IsFlat}
-use Rattle.netlist.specs.FlatCycle.{flat_inits}
-use Rattle.netlist.specs.Places.{Place, is_latch, latch_at, FlatOrder}
+use Rattle.cmd_stations.proofs.Common.{◌≡◌, ℕ, suc, Bool, List, [], ◌∷◌, length, map, Some, refl, sym, ap, ap₂, ◌∙◌, subst, arith, slice_get, length-map, same_Some, LibraryValue, ModelValue, FlatLatch, Places, IsFlatLatch, IsFlat, flat_inits, Place, is_latch, latch_at, FlatOrder, Param, param_inits, PackValue, pack_param, Source, AreInits, IsTunable, TemplateValue, IsReadNetlist}
 use Rattle.netlist.specs.Runs.{init_state, inits_of, IsCycle}
 use Rattle.netlist.proofs.OrderLemmas.{order_once}
 use Rattle.netlist.proofs.PlaceLemmas.{latch_at-some}
-use Rattle.param_list.specs.declared.params.Param.{Param}
-use Rattle.param_list.specs.Parameters.{param_inits}
-use Rattle.ppc_pack.specs.Pack.{PackValue}
-use Rattle.bit_fun.specs.PackOf.{pack_param}
-use Rattle.cmd_stations.specs.declared.source.Source.{Source}
-use Rattle.cmd_stations.specs.ReadNetlist.{IsReadNetlist}
-use Rattle.cmd_stations.specs.SourceCycle.{AreInits}
-use Rattle.cmd_stations.specs.Tunable.{IsTunable}
-use Rattle.cover_pick.specs.Template.{TemplateValue}
 
 -- the flat latches' inits are those at the latches' places
 inits_at : (library : LibraryValue) (at : Places) (ps : List Place) (ls : List FlatLatch) → length ls ≡ length ps → ((k : ℕ) (p : Place) (l : FlatLatch) → slice_get ps k ≡ Some p → slice_get ls k ≡ Some l → IsFlatLatch library at p l)

@@ -1,16 +1,6 @@
 -- The inputs of a source circuit by their names: each occurs once, so that there are values for any values of the regular inputs and of the parameters.
-use Rattle.std.proofs.Common.{◌≡◌, ℕ, ◌+◌, Bool, true, false, cond, List, [], ◌∷◌, ◌++◌, length, map, drop, get_or, bytes_eq, refl, sym, ap, ◌∙◌, subst, arith}
-use Rattle.std.specs.Prelude.{if◌then◌else◌}
+use Rattle.cmd_stations.proofs.Common.{◌≡◌, ℕ, ◌+◌, Bool, true, false, cond, List, [], ◌∷◌, ◌++◌, length, map, drop, get_or, bytes_eq, refl, sym, ap, ◌∙◌, subst, arith, if◌then◌else◌, length-map, length-append, map-append, In, map_agree, AreOnce, Param, param_names, regular_names, input_names, Source, width_of}
 use Rattle.std.proofs.lemmas.Slice.Eq.{bytes_eq-Decides}
-use Rattle.std.proofs.lemmas.List.{length-map, length-append, map-append}
-use Rattle.list_laws.specs.Members.{In}
-use Rattle.list_laws.proofs.Members.{map_agree}
-use Rattle.tl_text.specs.Once.{AreOnce}
-use Rattle.param_list.specs.declared.params.Param.{Param}
-use Rattle.param_list.specs.Parameters.{param_names, regular_names}
-use Rattle.aig_build.specs.NetlistGraph.{input_names}
-use Rattle.cmd_stations.specs.declared.source.Source.{Source}
-use Rattle.cmd_stations.specs.SourceCircuit.{width_of}
 
 -- the value of a name, where a list has the values of some names
 abbrev named_value : List (List ℕ) → List Bool → List ℕ → Bool

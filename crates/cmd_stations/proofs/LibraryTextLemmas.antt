@@ -1,16 +1,11 @@
 -- A netlist's text denotes one library, or is refused for one reason, whichever its form.
-use Rattle.std.proofs.Common.{◌≡◌, ℕ, Bool, true, false, List, sym, ap, ◌∙◌}
-use Rattle.std.proofs.lemmas.Option.{same_Some, none-some}
-use Rattle.tl_fault.specs.RefusalValue.{RefusalValue}
-use Rattle.netlist.specs.LibraryValue.{LibraryValue}
-use Rattle.blif_read.specs.Denotes.{Denotes}
+use Rattle.cmd_stations.proofs.Common.{◌≡◌, ℕ, Bool, true, false, List, sym, ap, ◌∙◌, same_Some, none-some, RefusalValue, LibraryValue, Denotes, is_aag, DenotesLibrary, LibraryRefusal, HasOneLibrary}
 use Rattle.blif_read.specs.HasOneReading.{HasOneReading}
 use Rattle.blif_read.specs.Refusals.{refusal_of as blif_refusal}
 use Rattle.aiger_io.specs.CircuitLibrary.{library_of}
 use Rattle.aiger_io.specs.Reading.{IsLibraryOf, HasRunsOf, HasOneReading as HasOneAagReading}
 use Rattle.aiger_io.specs.Refusals.{refusal_of as aag_refusal}
-use Rattle.cmd_stations.specs.LibraryText.{is_aag, DenotesLibrary, LibraryRefusal, HasOneLibrary}
-use Rattle.cmd_stations.specs.LibraryText as form
+use Rattle.cmd_stations.specs.Texts as form
 
 -- a text has one form
 one_form : {begins : Bool} → begins ≡ false → begins ≡ true → ⊥

@@ -1,37 +1,12 @@
 -- The pack of a file: it is read or refused, for one reason, and the packs of one file are the same but for the room of their graphs.
-use Rattle.std.proofs.Common.{◌≡◌, ℕ, ◌≤◌, List, length, Some, refl, sym, ap, ◌∙◌, subst}
-use Rattle.std.proofs.lemmas.Option.{same_Some}
-use Rattle.tl_fault.specs.RefusalValue.{RefusalValue}
-use Rattle.tl_io.specs.Shelf.{Files, ShelfSeen}
-use Rattle.aig_core.specs.declared.lit.Lit.{Lit}
-use Rattle.ppc_pack.specs.declared.pack.PackParam.{PackParam}
-use Rattle.ppc_pack.specs.Pack.{PackValue}
-use Rattle.ppc_file.specs.PackFile.{IsPackFile, AreSame, HasOneReading}
+use Rattle.cmd_stations.proofs.Common.{◌≡◌, ℕ, ◌≤◌, List, length, Some, refl, sym, ap, ◌∙◌, subst, same_Some, RefusalValue, Files, ShelfSeen, Lit, PackParam, PackValue, IsPackFile, AreSame, HasOneReading, NamesValue, Stops, outcome_at, most_bytes, Told, Explains, File, Outcome, Stop, HasBytes, IsUnread, HasPack, IsPackRefusal, IsPackRefused, IsPackSettled, pack_reading, names_on, pack_names, param_names, Shape, Source, Tables, width_of, names_in, AreMade}
 use Rattle.ppc_file.specs.Refusals.{refusal_of as pack_refusal}
-use Rattle.run_text.specs.NamesValue.{NamesValue}
 use Rattle.run_text.specs.declared.event.Forms.{Forms}
-use Rattle.cmd_stations.specs.Stops.{Stops, outcome_at}
-use Rattle.cmd_base.specs.Refusals.{most_bytes}
-use Rattle.cmd_base.specs.Ends.{Told, Explains}
-use Rattle.cmd_base.specs.declared.outcome.File.{File}
 use Rattle.cmd_base.specs.declared.outcome.File.TheVariants as file
-use Rattle.cmd_base.specs.declared.outcome.Outcome.{Outcome}
-use Rattle.cmd_stations.specs.declared.stop.Stop.{Stop}
-use Rattle.cmd_stations.specs.declared.stop.Stop.TheVariants.{Refused, Memory}
-use Rattle.cmd_stations.specs.Texts.{HasBytes}
-use Rattle.cmd_stations.specs.Unread.{IsUnread}
-use Rattle.cmd_stations.specs.Unread as unread
-use Rattle.cmd_stations.specs.Packs.{HasPack, IsPackRefusal, IsPackRefused, IsPackSettled, pack_reading, names_on, pack_names}
 use Rattle.cmd_stations.specs.Packs as packs
-use Rattle.param_list.specs.Parameters.{param_names}
-use Rattle.lut_sim.specs.declared.shape.Shape.{Shape}
-use Rattle.cmd_stations.specs.declared.source.Source.{Source}
-use Rattle.cmd_stations.specs.declared.tables.Tables.{Tables}
-use Rattle.cmd_stations.specs.SourceCircuit.{width_of}
-use Rattle.cmd_stations.specs.Script.{names_in}
-use Rattle.cmd_stations.specs.Tables.{AreMade}
 use Rattle.cmd_stations.proofs.LengthLemmas.{pack_not_long}
 use Rattle.cmd_stations.proofs.FileLemmas.{text_once, short_or_long}
+use Rattle.cmd_stations.proofs.StationLemmas.{unread_ends, stop_ends}
 
 -- bytes are read or refused, for one reason
 bytes_or_refused : (bytes : List ℕ) (pack : PackValue) (r : RefusalValue) → HasOneReading bytes → IsPackFile bytes pack → IsPackRefusal bytes r → ⊥
@@ -77,27 +52,11 @@ made_names forms source t made =
 
 -- what the station of a pack answers explains how a command ends there
 module _ (name : List ℕ) (old new : ShelfSeen) where
-  pub bytes_settle : (files : Files) (bytes : List ℕ) → HasBytes (most_bytes file.Pack) files name bytes → HasOneReading bytes → IsPackSettled files name
-  bytes_settle files bytes there one other has = subst (λ bs. HasOneReading bs) (text_once files name bytes other there has) one
-
   pub pack_unread : (o : Outcome) → IsUnread name file.Pack old new o → Explains (pack_reading name) old new o
-  pack_unread o (unread.IsUnread.too_long at given long) = subst (λ x. Explains (pack_reading name) old new x) (sym at) (record {
-    given = given;
-    is_read = tt;
-    is = λ files told. packs.IsPackRefused.long refl (long files told) refl;
-    settled = λ files told bytes there. absurd (short_or_long files name bytes there (long files told));
-  })
-  pack_unread o (unread.IsUnread.fault at given fault) =
-      subst (λ x. Explains (pack_reading name) old new x) (sym at) (record { given = given; is_read = tt; fault = fault; reached = λ files told. tt })
-  pack_unread o (unread.IsUnread.memory at) = subst (λ x. Explains (pack_reading name) old new x) (sym at) tt
+  pack_unread o u = unread_ends (pack_reading name) file.Pack old new tt (λ g. g)
+      (λ long files told. (packs.IsPackRefused.long refl (long files told) refl, λ bytes there. absurd (short_or_long files name bytes there (long files told)))) (λ files told. tt) o u
 
-  pub pack_explains : (bytes : List ℕ) (s : Stop) → new.given ≤ most_bytes file.Pack → Told old.files (λ files. HasBytes (most_bytes file.Pack) files name bytes) → HasOneReading bytes → Stops (IsPackRefusal bytes) s
-      → Explains (pack_reading name) old new (outcome_at file.Pack s)
-  pack_explains bytes (Refused r) g there one u = record {
-    given = g;
-    is_read = tt;
-    not_long = pack_not_long bytes r u;
-    is = λ files told. packs.IsPackRefused.bytes refl bytes (there files told) u;
-    settled = λ files told. bytes_settle files bytes (there files told) one;
-  }
-  pack_explains bytes Memory g there one u = tt
+  pub pack_explains : (bytes : List ℕ) (s : Stop) (o : Outcome) → o ≡ outcome_at file.Pack s → new.given ≤ most_bytes file.Pack → Told old.files (λ files. HasBytes (most_bytes file.Pack) files name bytes) → HasOneReading bytes
+      → Stops (IsPackRefusal bytes) s → Explains (pack_reading name) old new o
+  pack_explains bytes s o at g there one u = stop_ends (pack_reading name) file.Pack old new tt (λ n. n) (IsPackRefusal bytes) s o at g u (pack_not_long bytes)
+      (λ r refused files told. (packs.IsPackRefused.bytes refl bytes (there files told) refused, λ other has. subst (λ bs. HasOneReading bs) (text_once files name bytes other (there files told) has) one))

@@ -1,25 +1,75 @@
--- Files are refused for one reason.
-use Rattle.std.proofs.Common.{◌≡◌, ℕ, List, sym, ◌∙◌, subst}
-use Rattle.std.proofs.lemmas.Option.{same_Some}
-use Rattle.tl_fault.specs.RefusalValue.{RefusalValue}
-use Rattle.tl_io.specs.Shelf.{Files}
-use Rattle.run_text.specs.NamesValue.{NamesValue}
-use Rattle.cover_pick.specs.declared.rule.Rule.{Rule}
-use Rattle.cmd_base.specs.Refusals.{too_long}
-use Rattle.cmd_base.specs.declared.outcome.File.{File}
+-- What files hold is the only thing that they hold, it isn't refused, and they are refused for one reason.
+use Rattle.cmd_stations.proofs.Common.{◌≡◌, List, ap, ◌∙◌, subst, Files, TemplateValue, Param, IsParamsText, Source, SourceWords, IsNetlistText, IsMapped, Aim, ToTables, HasNetlist, HasParams, HasSource, HasMapped, IsLeastMapped, IsNetlistSettled, AreParamsSettled, IsSourceSettled, ℕ, RefusalValue, EventValue, NamesValue, IsScript, File, HasText, NetlistRefusal, IsParamsRefusal, IsUnmade, IsSourceRefused, long_netlist, netlist, long_params, params, unmade, HasScript, IsScriptRefused, IsScriptSettled, sym, same_Some, Rule, too_long, IsLongText, IsScriptRefusal, ToGraph, ToLabels, IsMakingSettled}
 use Rattle.cmd_stations.specs.declared.netlist_text.Netlist.{Netlist as NetlistValue}
-use Rattle.cmd_stations.specs.declared.source.Source.{Source}
-use Rattle.cmd_stations.specs.Words.{SourceWords}
-use Rattle.cmd_stations.specs.Texts.{HasText, IsLongText, NetlistRefusal, IsParamsRefusal, IsScriptRefusal}
-use Rattle.cmd_stations.specs.Aims.{Aim, ToGraph, ToLabels, ToTables, IsUnmade}
-use Rattle.cmd_stations.specs.Source.{HasNetlist, HasSource, IsSourceRefused, long_netlist, netlist, long_params, params, unmade}
-use Rattle.cmd_stations.specs.Script.{IsScriptRefused, IsScriptSettled}
-use Rattle.cmd_stations.specs.Script as script
-use Rattle.cmd_stations.specs.Settled.{IsMakingSettled, IsSourceSettled}
 use Rattle.cmd_stations.proofs.FileLemmas.{text_once, short_or_long}
-use Rattle.cmd_stations.proofs.TextLemmas.{params_refused_once, script_refused_once}
-use Rattle.cmd_stations.proofs.OnceLemmas.{netlist_once, settled_once}
-use Rattle.cmd_stations.proofs.ClashLemmas.{read_or_not, list_or_not}
+use Rattle.cmd_stations.specs.Script as script
+use Rattle.cmd_stations.proofs.TextLemmas.{params_or_refused, script_or_refused, params_refused_once, script_refused_once}
+
+-- a netlist
+pub netlist_once : (files : Files) (words : SourceWords) (n m : NetlistValue) → IsNetlistSettled files words → HasNetlist files words n → HasNetlist files words m → n ≡ m
+netlist_once files words n m settled a b =
+    (settled b.text b.there).one_netlist n m (subst (λ ts. IsNetlistText ts n) (text_once files words.netlist a.text b.text a.there b.there) a.is) b.is
+
+-- its parameters
+pub params_once : (files : Files) (words : SourceWords) (n : NetlistValue) (ps qs : List Param) → AreParamsSettled files words n → HasParams files words n.flat ps → HasParams files words n.flat qs → ps ≡ qs
+params_once files words n ps qs settled a b =
+    (settled b.text b.there).one_value ps qs (subst (λ ts. IsParamsText n.flat ts ps) (text_once files words.params a.text b.text a.there b.there) a.is) b.is
+
+-- both: a source circuit
+pub source_once : (files : Files) (words : SourceWords) (a b : Source) → IsNetlistSettled files words → AreParamsSettled files words b.netlist → HasSource files words a → HasSource files words b → a ≡ b
+source_once files words a b one settled x y =
+    let same : a.netlist ≡ b.netlist = netlist_once files words a.netlist b.netlist one x.netlist y.netlist in
+    let lists : a.params.list ≡ b.params.list = params_once files words b.netlist a.params.list b.params.list settled (subst (λ (n : NetlistValue). HasParams files words n.flat a.params.list) same x.params) y.params in
+    ap (λ n. record { netlist = n; params = a.params }) same ∙ ap (λ ps. record { netlist = b.netlist; params = record { list = ps } }) lists
+
+-- where all its files are settled
+pub settled_once : {aim : Aim} (files : Files) (words : SourceWords) (a b : Source) → IsSourceSettled aim files words → HasSource files words a → HasSource files words b → a ≡ b
+settled_once files words a b settled x y = source_once files words a b settled.netlist (settled.params b.netlist y.netlist) x y
+
+-- and its template
+pub template_once : (files : Files) (words : SourceWords) (a b : Source) (t u : TemplateValue) → IsSourceSettled ToTables files words → HasMapped files words a t → HasMapped files words b u → t ≡ u
+template_once files words a b t u settled x y =
+    (settled.made b y.has).one_template t u (subst (λ s. IsMapped words.rule s words.k t) (settled_once files words a b settled x.has y.has) x.mapped) y.mapped
+
+-- a source circuit that files hold is sound, and its template maps it with the least depth
+pub least_mapped : (files : Files) (words : SourceWords) (source : Source) (template : TemplateValue) → IsSourceSettled ToTables files words → (has : HasMapped files words source template) → IsLeastMapped files words source template has
+least_mapped files words source template settled has = record {
+  sound = (settled.netlist has.has.netlist.text has.has.netlist.there).sound source.netlist has.has.netlist.is;
+  least = (settled.made source has.has).maps template has.mapped;
+}
+
+-- What files hold isn't refused.
+module _ {aim : Aim} (files : Files) (words : SourceWords) (settled : IsSourceSettled aim files words) where
+  -- a netlist is read or refused
+  pub read_or_not : (n : NetlistValue) (text : List ℕ) (r : RefusalValue) → HasNetlist files words n → HasText files words.netlist text → NetlistRefusal text r → ⊥
+  read_or_not n text r has there refused =
+      (settled.netlist text there).not_both n r (subst (λ ts. IsNetlistText ts n) (text_once files words.netlist has.text text has.there there) has.is) refused
+
+  -- a list is read or refused
+  pub list_or_not : (source : Source) (n : NetlistValue) (text : List ℕ) (r : RefusalValue) → HasSource files words source → HasNetlist files words n → HasText files words.params text → IsParamsRefusal n.flat text r → ⊥
+  list_or_not source n text r has own there refused =
+      let same : source.netlist ≡ n = netlist_once files words source.netlist n settled.netlist has.netlist own in
+      let here : HasParams files words n.flat source.params.list = subst (λ (m : NetlistValue). HasParams files words m.flat source.params.list) same has.params in
+      params_or_refused n.flat text source.params.list r (settled.params n own text there)
+      (subst (λ ts. IsParamsText n.flat ts source.params.list) (text_once files words.params here.text text here.there there) here.is) refused
+
+  -- so a source circuit that is read isn't refused, unless for what is made of it
+  pub refused_unmade : (source : Source) (f : File) (r : RefusalValue) → HasSource files words source → IsSourceRefused aim files words f r → IsUnmade aim words.rule source words.k r
+  refused_unmade source f r has (long_netlist at long is) = absurd (short_or_long files words.netlist has.netlist.text has.netlist.there long)
+  refused_unmade source f r has (netlist at text there refused) = absurd (read_or_not source.netlist text r has.netlist there refused)
+  refused_unmade source f r has (long_params at n own long is) = absurd (short_or_long files words.params has.params.text has.params.there long)
+  refused_unmade source f r has (params at n text own there refused) = absurd (list_or_not source n text r has own there refused)
+  refused_unmade source f r has (unmade at other own u) = subst (λ s. IsUnmade aim words.rule s words.k r) (settled_once files words other source settled own has) u
+
+-- and one that is mapped isn't refused, at any of its files, for any reason
+pub source_or_not : (files : Files) (words : SourceWords) → IsSourceSettled ToTables files words → (source : Source) (t : TemplateValue) (f : File) (r : RefusalValue) → HasMapped files words source t → IsSourceRefused ToTables files words f r → ⊥
+source_or_not files words settled source t f r past refused = (settled.made source past.has).not_both t r past.mapped (refused_unmade files words settled source f r past.has refused)
+
+-- nor is a script that is read
+pub events_or_not : (files : Files) (name : List ℕ) (names : NamesValue) (events : List EventValue) (f : File) (r : RefusalValue) → IsScriptSettled files name names → HasScript files name names events → IsScriptRefused files name names f r → ⊥
+events_or_not files name names events f r settled has (script.IsScriptRefused.long at long is) = short_or_long files name has.text has.there long
+events_or_not files name names events f r settled has (script.IsScriptRefused.text at ts there refused) =
+    script_or_refused names ts events r (settled ts there) (subst (λ xs. IsScript names xs events) (text_once files name has.text ts has.there there) has.is) refused
 
 -- what is made of a source circuit is refused for one reason
 unmade_once : (aim : Aim) (rule : Rule) (source : Source) (k : ℕ) (r s : RefusalValue) → IsMakingSettled aim rule source k → IsUnmade aim rule source k r → IsUnmade aim rule source k s → r ≡ s

@@ -1,39 +1,12 @@
 -- Hosts that start on the same pack are alike, and a file is of one pack.
-use Rattle.std.proofs.Common.{◌≡◌, ℕ, Bool, List, length, map, Some, Ok, sym, ap, ◌∙◌, subst, subst₂, inr, refl}
+use Rattle.cmd_stations.proofs.Common.{◌≡◌, ℕ, Bool, List, length, map, Some, Ok, sym, ap, ◌∙◌, subst, subst₂, inr, refl, option_and_then, length-map, same_Some, fun_ext, Files, Aig, FitsGraph, Kind, Lit, Pair, PackParam, PackValue, IsConf, inits_of, IsPackFile, AreSame, SpecialiserValue, HasPack, pack_names, present_bytes, IsHostStart, names_of, HasScript, HasMapped, IsMapped, IsTunable, SourceWords, Source, TemplateValue, EventValue, NamesValue, event_of, line_event, SamePacksReplay}
 use Rattle.std.specs.FinMap.{get}
-use Rattle.std.specs.Option.{option_and_then}
-use Rattle.std.proofs.lemmas.List.{length-map}
-use Rattle.std.proofs.lemmas.Option.{same_Some}
-use Rattle.std.proofs.Math.Path.{fun_ext}
-use Rattle.tl_io.specs.Shelf.{Files}
-use Rattle.aig_core.specs.Aig.{Aig}
-use Rattle.aig_core.specs.Value.{FitsGraph}
-use Rattle.aig_core.specs.declared.lit.Kind.{Kind}
-use Rattle.aig_core.specs.declared.lit.Lit.{Lit}
-use Rattle.aig_core.specs.declared.lit.Pair.{Pair}
-use Rattle.ppc_pack.specs.declared.pack.PackParam.{PackParam}
-use Rattle.ppc_pack.specs.Pack.{PackValue, IsConf, inits_of}
-use Rattle.ppc_file.specs.PackFile.{IsPackFile, AreSame}
 use Rattle.ppc_file.proofs.OneReading.{one_reading}
-use Rattle.spec_core.specs.Specialiser.{SpecialiserValue}
-use Rattle.cmd_stations.specs.Packs.{HasPack, pack_names, present_bytes}
-use Rattle.cmd_stations.specs.Host.{IsHostStart}
-use Rattle.cmd_stations.specs.Script.{names_of, HasScript}
-use Rattle.cmd_stations.specs.Source.{HasMapped}
-use Rattle.cmd_stations.specs.Mapped.{IsMapped}
-use Rattle.cmd_stations.specs.Tunable.{IsTunable}
-use Rattle.cmd_stations.specs.Words.{SourceWords}
-use Rattle.cmd_stations.specs.declared.source.Source.{Source}
 use Rattle.cmd_stations.proofs.ShowLemmas.{pack_param_names}
-use Rattle.cover_pick.specs.Template.{TemplateValue}
 use Rattle.run_text.specs.Each.{each_of}
-use Rattle.run_text.specs.EventValue.{EventValue}
-use Rattle.run_text.specs.NamesValue.{NamesValue}
 use Rattle.run_text.specs.Sayings.{said_of}
-use Rattle.run_text.specs.ScriptText.{event_of, line_event}
 use Rattle.tl_text.specs.LineValue.{WordsLine, words_line}
 use Rattle.tl_text.specs.Lines.{lines_of}
-use Rattle.cmd_stations.specs.Replay.{SamePacksReplay}
 use Rattle.cmd_stations.proofs.AlikeLemmas.{AreAlike, StandAlike, same_conf, come_alike}
 
 -- the same parameters, graph and bits, but for the graph's room

@@ -1,27 +1,9 @@
 -- A mapped source circuit with its script: what its files hold isn't refused, it is refused for one reason, and what its stations return explains how a command ends there.
-use Rattle.std.proofs.Common.{◌≡◌, List, Option, refl, subst}
-use Rattle.tl_fault.specs.RefusalValue.{RefusalValue}
-use Rattle.tl_io.specs.Shelf.{Files, ShelfSeen}
-use Rattle.cover_pick.specs.Template.{TemplateValue}
-use Rattle.run_text.specs.EventValue.{EventValue, event_values}
-use Rattle.cmd_base.specs.Ends.{Told, Explains}
-use Rattle.cmd_base.specs.declared.outcome.File.{File}
-use Rattle.cmd_base.specs.declared.outcome.Outcome.{Outcome}
-use Rattle.cmd_base.proofs.EndLemmas.{IsPart, Explains_lift}
+use Rattle.cmd_stations.proofs.Common.{◌≡◌, List, Option, refl, subst, RefusalValue, Files, ShelfSeen, TemplateValue, EventValue, event_values, Told, Explains, File, Outcome, IsPart, Explains_lift, Source, HasMapped, ReachesSource, names_in, HasScript, IsScriptFile, IsScriptRefused, IsScriptSettled, script_reading, ToTables, IsOfSource, source_word, IsSourceSettled, source_reading, ScriptedWords, HasScripted, IsScriptedRefused, IsScriptedSettled, IsOfScripted, scripted_word, scripted_reading, ComesPast, ComesScripted}
 use Rattle.cmd_stations.specs.declared.scripted.Scripted.{Scripted}
-use Rattle.cmd_stations.specs.declared.source.Source.{Source}
-use Rattle.cmd_stations.specs.Source.{HasMapped, ReachesSource}
-use Rattle.cmd_stations.specs.Script.{names_in, HasScript, IsScriptFile, IsScriptRefused, IsScriptSettled, script_reading}
-use Rattle.cmd_stations.specs.Aims.{ToTables}
-use Rattle.cmd_stations.specs.Settled.{IsOfSource, source_word, IsSourceSettled, source_reading}
-use Rattle.cmd_stations.specs.Scripted.{ScriptedWords, HasScripted, IsScriptedRefused, IsScriptedSettled, IsOfScripted, scripted_word, scripted_reading}
-use Rattle.cmd_stations.specs.Scripted as scripted
-use Rattle.cmd_stations.specs.ScriptedMade.{ComesScripted}
-use Rattle.cmd_stations.specs.Tables.{ComesPast}
-use Rattle.cmd_stations.proofs.EachFileLemmas.{of_source, of_script}
-use Rattle.cmd_stations.proofs.OnceLemmas.{settled_once, template_once}
-use Rattle.cmd_stations.proofs.ClashLemmas.{source_or_not, events_or_not}
-use Rattle.cmd_stations.proofs.RefusedLemmas.{source_refused_once, events_refused_once}
+use Rattle.cmd_stations.specs.Script as scripted
+use Rattle.cmd_stations.proofs.FileLemmas.{of_source, of_script}
+use Rattle.cmd_stations.proofs.RefusedLemmas.{settled_once, template_once, source_or_not, events_or_not, source_refused_once, events_refused_once}
 
 module _ (files : Files) (words : ScriptedWords) (settled : IsScriptedSettled files words) where
   -- a script is refused behind the one source circuit that is mapped

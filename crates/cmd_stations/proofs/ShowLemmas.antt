@@ -1,38 +1,13 @@
 -- The LUTs of a source circuit's graph, under the configuration of any values of the parameters, play the source circuit's cycles.
-use Rattle.std.proofs.Common.{◌≡◌, ℕ, Bool, List, length, map, sym, ap, ◌∙◌, subst, subst₂}
-use Rattle.std.proofs.lemmas.List.{length-map}
+use Rattle.cmd_stations.proofs.Common.{◌≡◌, ℕ, Bool, List, length, map, sym, ap, ◌∙◌, subst, subst₂, length-map, In, In-left, In-right, AreOnce, IsCycle, Param, PackParam, param_names, param_inits, is_split, Lit, Aig, first_and, AreNormal, roots_of, lits_of, value_of, HasOneFit, input_names, source_values, literal_values, Lut, TemplateValue, FitsTables, PackValue, inits_of, pack_param, IsPackOf, Source, width_of, shape_of, HasTables, IsReadSource, HasSourceTables}
 use Rattle.std.proofs.lemmas.Simd.{map-map}
-use Rattle.list_laws.specs.Members.{In}
-use Rattle.list_laws.proofs.Members.{In-left, In-right}
-use Rattle.tl_text.specs.Once.{AreOnce}
-use Rattle.netlist.specs.Runs.{IsCycle}
-use Rattle.param_list.specs.declared.params.Param.{Param}
-use Rattle.ppc_pack.specs.declared.pack.PackParam.{PackParam}
-use Rattle.param_list.specs.Parameters.{param_names, param_inits}
-use Rattle.param_list.proofs.RegularLemmas.{is_split}
-use Rattle.aig_core.specs.declared.lit.Lit.{Lit}
-use Rattle.aig_core.specs.Aig.{Aig, first_and, AreNormal}
-use Rattle.aig_core.specs.Roots.{roots_of, lits_of}
-use Rattle.aig_core.specs.Value.{value_of, HasOneFit}
 use Rattle.aig_core.proofs.FitLemmas.{one_fit}
-use Rattle.aig_build.specs.NetlistGraph.{input_names}
-use Rattle.aig_build.specs.NetlistCycle.{source_values, literal_values}
-use Rattle.cover_pick.specs.declared.lut.Lut.{Lut}
-use Rattle.cover_pick.specs.Template.{TemplateValue}
-use Rattle.lut_sim.specs.Cycle.{FitsTables}
-use Rattle.ppc_pack.specs.Pack.{PackValue, inits_of}
 use Rattle.bit_fun.specs.Configuration.{IsMapped}
 use Rattle.bit_fun.specs.Lawful.{IsLawful}
 use Rattle.bit_fun.specs.PackLaw.{HasConfigurations}
-use Rattle.bit_fun.specs.PackOf.{pack_param, IsPackOf}
 use Rattle.bit_fun.proofs.PackLemmas.{pack_made, params_len as pack_params}
-use Rattle.cmd_stations.specs.declared.source.Source.{Source}
-use Rattle.cmd_stations.specs.SourceCircuit.{width_of, shape_of}
-use Rattle.cmd_stations.specs.Tables.{HasTables, IsReadSource}
-use Rattle.cmd_stations.specs.Tunable.{HasSourceTables}
-use Rattle.cmd_stations.proofs.CountLemmas.{next_roots}
+use Rattle.cmd_stations.proofs.SourceLemmas.{next_roots, source_shape, source_params, source_values_are, source_values_count}
 use Rattle.cmd_stations.proofs.InputLemmas.{input_at, parts_are}
-use Rattle.cmd_stations.proofs.SourceLemmas.{source_shape, source_params, source_values_are, source_values_count}
 
 -- the inputs of a source circuit that was read stand once
 names_once : (source : Source) → IsReadSource source → AreOnce (input_names source.netlist.flat source.params.list)

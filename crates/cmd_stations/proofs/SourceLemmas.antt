@@ -1,25 +1,8 @@
--- The sources of a source circuit's graph: their shape, how many of them are parameters, and their values in a cycle.
-use Rattle.std.proofs.Common.{◌≡◌, ℕ, zero, suc, ◌+◌, ◌-◌, ◌<◌, ◌≤◌, Bool, true, ◌&&◌, leb, ltb, List, ◌++◌, length, map, replicate, Some, refl, sym, ap, ◌∙◌, subst, inl, inr, ◌⊎◌, arith, append_assoc}
+-- The sources and the roots of a source circuit's graph: how many there are, the shape of the sources, how many of them are parameters, and their values in a cycle.
+use Rattle.cmd_stations.proofs.Common.{◌≡◌, ℕ, zero, suc, ◌+◌, ◌-◌, ◌<◌, ◌≤◌, Bool, true, ◌&&◌, leb, ltb, List, ◌++◌, length, map, replicate, Some, refl, sym, ap, ◌∙◌, subst, inl, inr, ◌⊎◌, arith, append_assoc, length-map, length-append, length-replicate, same_Some, slice_get_within, and_parts, and_from, or_cases, or_left, or_right, leb-true, le-leb, lt-ltb, ltb-true, cases_lt, get_left, replicate_at, AreOnce, Param, param_names, regular_names, Kind, Regular, Parameter, Aig, input_names, source_kinds, source_values, Shape, is_regular, last_source, HasShape, AreSourceValues, Source, width_of, shape_of, ◌∷◌, LibraryValue, FlatLatch, Net, OutPort, FlatValue, Lit, Pair, RootsValue, Literals, MakesAll, none, more, IsGraphOf}
 use Rattle.std.specs.List.{slice_get}
-use Rattle.std.proofs.lemmas.List.{length-map, length-append, length-replicate}
-use Rattle.std.proofs.lemmas.Option.{same_Some, slice_get_within}
-use Rattle.std.proofs.lemmas.Bool.{and_parts, and_from, or_cases, or_left, or_right, leb-true, le-leb, lt-ltb, ltb-true, cases_lt}
-use Rattle.list_laws.proofs.Places.{get_left, replicate_at}
 use Rattle.list_laws.proofs.TwoLists.{get_right}
-use Rattle.tl_text.specs.Once.{AreOnce}
-use Rattle.param_list.specs.declared.params.Param.{Param}
-use Rattle.param_list.specs.Parameters.{param_names, regular_names}
-use Rattle.aig_core.specs.declared.lit.Kind.{Kind}
-use Rattle.aig_core.specs.declared.lit.Kind.TheVariants.{Regular, Parameter}
-use Rattle.aig_core.specs.Aig.{Aig}
-use Rattle.aig_build.specs.NetlistGraph.{input_names, source_kinds}
-use Rattle.aig_build.specs.NetlistCycle.{source_values}
-use Rattle.lut_sim.specs.declared.shape.Shape.{Shape}
-use Rattle.lut_sim.specs.Sources.{is_regular, last_source}
-use Rattle.lut_sim.specs.GraphShape.{HasShape, AreSourceValues}
 use Rattle.bit_fun.specs.Parameters.{param_count}
-use Rattle.cmd_stations.specs.declared.source.Source.{Source}
-use Rattle.cmd_stations.specs.SourceCircuit.{width_of, shape_of}
 use Rattle.cmd_stations.proofs.InputLemmas.{input_at, inputs_are}
 
 -- regular sources, parameters, and regular sources again
@@ -172,3 +155,37 @@ source_values_count source g x s kinds states =
     let d : length (param_names source.params.list) ≡ length source.params.list = length-map source.params.list (λ (p : Param). p.name) in
     let e : length g.kinds ≡ width_of source + length source.params.list + length source.netlist.flat.latches = ap (λ (ks : List Kind). length ks) kinds ∙ three_count (width_of source) (length source.params.list) (length source.netlist.flat.latches) in
     omega arith
+
+-- there is a literal for each net that is made
+made_count : (library : LibraryValue) (flat : FlatValue) (params : List Param) {pairs : List Pair} {nets : List Net} {made : Literals} → MakesAll library flat params pairs nets made → length made.lits ≡ length nets
+made_count library flat params (none no_nets is) = ap (λ (m : Literals). length m.lits) is ∙ sym (ap (λ (ns : List Net). length ns) no_nets)
+made_count library flat params {nets = nets} {made = made} (more net rest this others are one all is) =
+    let later : length others.lits ≡ length rest = made_count library flat params all in
+    let here : length made.lits ≡ length (record { 0 = this.lit } ∷ others.lits) = ap (λ (m : Literals). length m.lits) is in
+    let there : length nets ≡ length (net ∷ rest) = ap (λ (ns : List Net). length ns) are in
+    omega arith
+
+module _ (source : Source) (g : Aig) (roots : RootsValue) (is : IsGraphOf source.netlist.library source.netlist.flat source.params.list g roots) where
+  abbrev flat : FlatValue
+  flat = source.netlist.flat
+
+  abbrev params : List Param
+  params = source.params.list
+
+  -- there is a source for each input and each latch
+  pub source_count : length g.kinds ≡ length (regular_names flat params) + length params + length flat.latches
+  source_count = ap (λ (ks : List Kind). length ks) is.kinds ∙ three_count (length (regular_names flat params)) (length params) (length flat.latches)
+
+  -- and a root for each latch, beside those of the outputs
+  pub next_roots : length roots.next ≡ length flat.latches
+  next_roots =
+      let outs = map (λ (o : OutPort). o.net) flat.outputs in
+      let ins = map (λ (l : FlatLatch). l.input) flat.latches in
+      let a : length is.made.lits ≡ length (outs ++ ins) = made_count source.netlist.library flat params is.are_made in
+      let b : length (outs ++ ins) ≡ length outs + length ins = length-append outs ins in
+      let c : length outs ≡ length flat.outputs = length-map flat.outputs (λ (o : OutPort). o.net) in
+      let d : length ins ≡ length flat.latches = length-map flat.latches (λ (l : FlatLatch). l.input) in
+      let e : length (roots.outputs ++ roots.next) ≡ length is.made.lits = ap (λ (ls : List Lit). length ls) is.literals in
+      let f : length (roots.outputs ++ roots.next) ≡ length roots.outputs + length roots.next = length-append roots.outputs roots.next in
+      let k : length roots.outputs ≡ length flat.outputs = is.outputs in
+      omega arith

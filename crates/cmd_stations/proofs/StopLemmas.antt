@@ -1,12 +1,7 @@
 -- What a stop at a text says: the text's refusal.
-use Rattle.std.proofs.Common.{◌≡◌, Option, Some, Result, Ok, Err, sym, subst}
-use Rattle.std.specs.Prelude.{IsErrAnd, IfOk, IfErr, MatchResult}
-use Rattle.tl_fault.specs.RefusalValue.{RefusalValue}
+use Rattle.cmd_stations.proofs.Common.{◌≡◌, Option, Some, Result, Ok, Err, sym, subst, IsErrAnd, IfErr, MatchResult, RefusalValue, Stop, Refused, Memory, refusal_of, Stops}
 use Rattle.tl_fault.specs.OrMemory.{OrMemory}
 use Rattle.tl_fault.proofs.OrMemoryLemmas.{or_memory}
-use Rattle.cmd_stations.specs.declared.stop.Stop.{Stop}
-use Rattle.cmd_stations.specs.declared.stop.Stop.TheVariants.{Refused, Memory}
-use Rattle.cmd_stations.specs.Stops.{refusal_of, Stops}
 
 -- a stop that tells what a layer's error tells
 pub stop_by : {E : Type 0} (told_of : E → Option RefusalValue) (P : E → Type 0) (Q : RefusalValue → Type 0) (e : E) (s : Stop) → OrMemory told_of P e → refusal_of s ≡ told_of e
@@ -34,16 +29,6 @@ settled_anyway (Err Memory) q = tt
 pub stops_anyway : {Q : Type 0} (s : Stop) → Q → Stops (λ _. Q) s
 stops_anyway (Refused r) q = q
 stops_anyway Memory q = tt
-
--- what follows from an answer
-pub ok_to : {T E : Type 0} (P Q : T → Type 0) (r : Result T E) → ((v : T) → P v → Q v) → IfOk r P → IfOk r Q
-ok_to P Q (Ok v) h p = h v p
-ok_to P Q (Err e) h p = tt
-
-pub stops_to : {T : Type 0} (P Q : RefusalValue → Type 0) (r : Result T Stop) → ((told : RefusalValue) → P told → Q told) → IfErr r (Stops P) → IfErr r (Stops Q)
-stops_to P Q (Ok v) h p = tt
-stops_to P Q (Err (Refused told)) h p = h told p
-stops_to P Q (Err Memory) h p = tt
 
 -- the same of the stop that a `?` passes on
 pub passed_stops : {T : Type 0} (P Q : RefusalValue → Type 0) (r : Result T Stop) (e : Stop) → IsErrAnd r (λ s. s ≡ e) → ((told : RefusalValue) → P told → Q told) → Stops P e → IfErr r (Stops Q)

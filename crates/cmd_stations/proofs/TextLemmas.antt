@@ -1,28 +1,12 @@
 -- Each text of a job says one thing, or is refused for one reason.
-use Rattle.std.proofs.Common.{◌≡◌, ℕ, List, sym, ap, ◌∙◌, subst}
-use Rattle.std.proofs.lemmas.Option.{same_Some}
-use Rattle.netlist.specs.LibraryValue.{LibraryValue}
-use Rattle.blif_flat.specs.declared.flat_err.FlatErr.{FlatErr}
-use Rattle.blif_flat.specs.Faults.{IsFault, HasOneFault}
-use Rattle.netlist.specs.FlatValue.{FlatValue}
-use Rattle.netlist.specs.Flat.{IsFlat}
+use Rattle.cmd_stations.proofs.Common.{◌≡◌, ℕ, List, sym, ap, ◌∙◌, subst, same_Some, LibraryValue, FlatErr, IsFault, HasOneFault, FlatValue, IsFlat, Param, EventValue, NamesValue, IsParamsText, IsScript, RefusalValue, Netlist, DenotesLibrary, LibraryRefusal, HasOneLibrary, IsTextSettled, IsNetlistText, NetlistRefusal, IsParamsRefusal, IsScriptRefusal}
 use Rattle.netlist.specs.Flattened.{HasOneFlat}
 use Rattle.netlist.specs.Sound.{IsSound}
 use Rattle.blif_flat.specs.Refusals.{refusal_of as flat_refusal}
-use Rattle.param_list.specs.declared.params.Param.{Param}
-use Rattle.run_text.specs.EventValue.{EventValue}
-use Rattle.run_text.specs.NamesValue.{NamesValue}
-use Rattle.param_list.specs.ParamsText.{IsParamsText}
 use Rattle.param_list.specs.ParamsText as params_text
 use Rattle.param_list.specs.Refusals.{refusal_of as params_refusal}
-use Rattle.run_text.specs.ScriptText.{IsScript}
 use Rattle.run_text.specs.ScriptText as script_text
 use Rattle.run_text.specs.ScriptRefusals.{refusal_of as script_refusal}
-use Rattle.tl_fault.specs.RefusalValue.{RefusalValue}
-use Rattle.cmd_stations.specs.declared.netlist_text.Netlist.{Netlist}
-use Rattle.cmd_stations.specs.LibraryText.{DenotesLibrary, LibraryRefusal, HasOneLibrary}
-use Rattle.cmd_stations.specs.Settled.{IsTextSettled}
-use Rattle.cmd_stations.specs.Texts.{IsNetlistText, NetlistRefusal, IsParamsRefusal, IsScriptRefusal}
 use Rattle.cmd_stations.specs.Texts as texts
 
 -- A text that is refused itself is settled.

@@ -1,32 +1,9 @@
 -- The written netlists of a source circuit mean the source circuit: read again, their cycles and their runs are its own.
-use Rattle.std.proofs.Common.{◌≡◌, ℕ, Bool, List, [], ◌++◌, length, map, sym, ap, ◌∙◌, append-nil}
-use Rattle.std.proofs.lemmas.List.{length-map}
-use Rattle.blif_read.specs.Denotes.{Denotes}
-use Rattle.netlist.specs.LibraryValue.{LibraryValue}
-use Rattle.netlist.specs.declared.flat.FlatLatch.{FlatLatch}
-use Rattle.netlist.specs.FlatCycle.{flat_inits}
-use Rattle.netlist.specs.FlatValue.{FlatValue}
-use Rattle.netlist.specs.Places.{Place, latch_at}
+use Rattle.cmd_stations.proofs.Common.{◌≡◌, ℕ, Bool, List, [], ◌++◌, length, map, sym, ap, ◌∙◌, append-nil, length-map, Denotes, LibraryValue, FlatLatch, flat_inits, FlatValue, Place, latch_at, Param, regular_names, Lit, lits_of, TemplateValue, IsConf, IsTableCycle, Means, free_control, all_bit_names, input_bits, naming_of, PlainNetlist, netlist_text, library_of, Source, Tables, width_of, shape_of, IsSourceCycle, IsReadSource, AreMade, SourceRuns, regular_values, RunsAs, IsTuned, specialised_of, template_of}
 use Rattle.netlist.specs.Runs.{init_state, inits_of, IsCycle, Runs}
 use Rattle.netlist.specs.Runs as library_runs
-use Rattle.param_list.specs.declared.params.Param.{Param}
-use Rattle.param_list.specs.Parameters.{regular_names}
-use Rattle.aig_core.specs.declared.lit.Lit.{Lit}
-use Rattle.aig_core.specs.Roots.{lits_of}
-use Rattle.cover_pick.specs.Template.{TemplateValue}
-use Rattle.ppc_pack.specs.Pack.{IsConf}
-use Rattle.lut_sim.specs.Cycle.{IsTableCycle}
 use Rattle.lut_sim.proofs.FitLemmas.{cycle_only}
-use Rattle.blif_write.specs.Meaning.{Means, free_control, all_bit_names, input_bits}
-use Rattle.blif_write.specs.OwnNames.{naming_of}
-use Rattle.blif_write.specs.PlainNetlist.{PlainNetlist, netlist_text, library_of}
 use Rattle.blif_write.proofs.MeaningLemmas.{specialised_denotes, template_denotes, specialised_means, template_means}
-use Rattle.cmd_stations.specs.declared.source.Source.{Source}
-use Rattle.cmd_stations.specs.declared.tables.Tables.{Tables}
-use Rattle.cmd_stations.specs.SourceCircuit.{width_of, shape_of}
-use Rattle.cmd_stations.specs.SourceCycle.{IsSourceCycle}
-use Rattle.cmd_stations.specs.Tables.{IsReadSource, AreMade}
-use Rattle.cmd_stations.specs.Written.{SourceRuns, regular_values, RunsAs, IsTuned, specialised_of, template_of}
 use Rattle.cmd_stations.specs.Written as source_runs
 use Rattle.cmd_stations.proofs.InitLemmas.{inits_are}
 use Rattle.cmd_stations.proofs.WrittenTableLemmas.{has_ports}

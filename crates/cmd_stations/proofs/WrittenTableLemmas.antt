@@ -1,55 +1,22 @@
 -- The LUTs of a source circuit that was read can be written: they are few, their numbers are small, and an output that is a regular input has this input as its root.
-use Rattle.std.proofs.Common.{◌≡◌, ℕ, zero, suc, ◌+◌, ◌-◌, ◌*◌, ◌/◌, ◌^◌, ◌<◌, ◌≤◌, Bool, true, cond, ◌&&◌, leb, ltb, List, [], length, map, Some, refl, sym, ap, ◌∙◌, inl, inr, subst, subst₂, arith}
-use Rattle.std.specs.Prelude.{slice_get, slice_index_or}
-use Rattle.std.specs.Option.{option_map}
-use Rattle.std.proofs.lemmas.Bool.{and_from, or_left, le-leb}
-use Rattle.std.proofs.lemmas.Option.{none-some, same_Some, slice_get-map, slice_get_within, get_or_from_slice_get}
-use Rattle.list_laws.specs.Members.{In}
-use Rattle.list_laws.proofs.Members.{place_in, length-filter_le}
-use Rattle.list_laws.proofs.Places.{get_left}
-use Rattle.tl_text.specs.Once.{AreOnce}
-use Rattle.netlist.specs.LibraryValue.{LibraryValue}
-use Rattle.netlist.specs.declared.flat.FlatLatch.{FlatLatch}
+use Rattle.cmd_stations.proofs.Common.{◌≡◌, ℕ, zero, suc, ◌+◌, ◌-◌, ◌*◌, ◌/◌, ◌^◌, ◌<◌, ◌≤◌, Bool, true, cond, ◌&&◌, leb, ltb, List, [], length, map, Some, refl, sym, ap, ◌∙◌, inl, inr, subst, subst₂, arith, slice_get, slice_index_or, option_map, and_from, or_left, le-leb, none-some, same_Some, slice_get-map, slice_get_within, get_or_from_slice_get, In, place_in, length-filter_le, get_left, AreOnce, LibraryValue, FlatLatch, OutPort, FlatValue, Places, IsFlat, IsNumbered, IsNetOf, AreNetsOf, In-filter, Param, param_names, regular_names, is_split, Lit, Pair, Aig, node_count, MOST_NODES, Literals, input_names, IsSourceLiteral, Makes, a_source, MakesAll, none, more, Lut, IsTableOf, bits_of, TemplateValue, IsPlayable, is_regular, last_source, HasPorts, AreTablesOf, naming_of, literal_name, latch_name, Source, shape_of, HasTables, IsReadSource}
 use Rattle.netlist.specs.declared.flat.Net.{Net as FlatNet}
 use Rattle.netlist.specs.declared.flat.Net.TheVariants.{Input, Latch}
-use Rattle.netlist.specs.declared.flat.OutPort.{OutPort}
-use Rattle.netlist.specs.FlatValue.{FlatValue}
-use Rattle.netlist.specs.Flat.{Places, IsFlat, IsNumbered, IsNetOf, AreNetsOf}
 use Rattle.netlist.specs.Flat as flat_fields
 use Rattle.netlist.specs.Instances.{IsMainInput}
 use Rattle.netlist.specs.Models.{has_name}
 use Rattle.netlist.specs.Nets.{Net, input_net, Drives, main_input}
 use Rattle.netlist.proofs.NetLemmas.{one_net}
-use Rattle.list_laws.proofs.Members.{In-filter}
 use Rattle.tl_text.proofs.NameSetLemmas.{in_has}
-use Rattle.param_list.specs.declared.params.Param.{Param}
-use Rattle.param_list.specs.Parameters.{param_names, regular_names}
 use Rattle.list_laws.proofs.Apart.{apart_once}
-use Rattle.param_list.proofs.RegularLemmas.{is_split}
-use Rattle.aig_core.specs.declared.lit.Lit.{Lit}
-use Rattle.aig_core.specs.declared.lit.Pair.{Pair}
-use Rattle.aig_core.specs.Aig.{Aig, node_count}
 use Rattle.aig_core.specs.And.{Answer}
-use Rattle.aig_build.specs.declared.TheConstants.{MOST_NODES}
-use Rattle.aig_build.specs.CoverGraph.{Literals}
-use Rattle.aig_build.specs.NetlistGraph.{input_names, IsSourceLiteral, Makes, a_source, MakesAll, none, more}
 use Rattle.aig_build.specs.NetlistGraph as graph
-use Rattle.cover_pick.specs.declared.lut.Lut.{Lut}
-use Rattle.cover_pick.specs.Mapping.{IsTableOf, bits_of}
 use Rattle.cover_pick.specs.Mapping as mapping
-use Rattle.cover_pick.specs.Template.{TemplateValue}
 use Rattle.cover_pick.proofs.BitsLemmas.{bits_worked}
-use Rattle.lut_sim.specs.Playable.{IsPlayable}
-use Rattle.lut_sim.specs.Sources.{is_regular, last_source}
-use Rattle.blif_write.specs.Meaning.{HasPorts, AreTablesOf}
-use Rattle.blif_write.specs.OwnNames.{naming_of, literal_name, latch_name}
 use Rattle.blif_write.specs.Writable.{CanBeNamed, AreRootsOf}
 use Rattle.blif_write.proofs.OwnNameLemmas.{source_literal}
 use Rattle.blif_write.proofs.PortLemmas.{ports_there}
-use Rattle.cmd_stations.specs.declared.source.Source.{Source}
-use Rattle.cmd_stations.specs.SourceCircuit.{shape_of}
-use Rattle.cmd_stations.specs.Tables.{HasTables, IsReadSource}
-use Rattle.cmd_stations.proofs.CountLemmas.{source_count}
+use Rattle.cmd_stations.proofs.SourceLemmas.{source_count}
 use Rattle.cmd_stations.proofs.ShowLemmas.{next_count}
 
 -- the net of an output is made into the root at its place

@@ -1,7 +1,7 @@
 -- What the writing of files does.
 use Rattle.std.specs.Prelude.{◌≡◌, ℕ, List, Option, Result, MatchResult}
 use Rattle.tl_io.specs.Shelf.{Files, with_file}
-use Rattle.cmd_base.specs.Outside.{Outside}
+use Rattle.cmd_base.specs.Walk.{Outside}
 use Rattle.cmd_base.specs.Writing.{FileText, HasPrefix, AreWritten, IsCut}
 
 -- one file: it has its bytes, or after an error not all of them

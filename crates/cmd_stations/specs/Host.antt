@@ -1,11 +1,10 @@
--- The host of a pack: initially, and after events.
+-- The host of a pack: initially, and after events; and that packs with the same configurations show the same for the same script.
 use Rattle.std.specs.Prelude.{◌≡◌, Bool, List, [], ◌∷◌, ℕ, length}
 use Rattle.ppc_pack.specs.Pack.{PackValue, IsConf, HasOneConf, inits_of}
 use Rattle.run_text.specs.EventValue.{EventValue}
-use Rattle.run_core.specs.Events.{IsHostPlayed, IsSteady}
-use Rattle.run_core.specs.EventLines.{host_line}
-use Rattle.run_core.specs.Fits.{IsOfHost}
+use Rattle.run_core.specs.Events.{IsHostPlayed, IsSteady, host_line, IsOfHost}
 use Rattle.spec_core.specs.Specialiser.{SpecialiserValue}
+use Rattle.ppc_file.specs.PackFile.{AreSame}
 
 -- the host at the start: under any values of the parameters there is one configuration; they have the pack's values, with their configuration
 pub record IsHostStart (own : PackValue) (h : SpecialiserValue) : Type 0 where
@@ -25,3 +24,12 @@ pub data AreHostSteps : SpecialiserValue → List EventValue → List (List ℕ)
   none : {old : SpecialiserValue} → AreHostSteps old [] [] old
   more : {old new : SpecialiserValue} {events : List EventValue} {lines : List (List ℕ)} (event : EventValue) (mid : SpecialiserValue) → IsHostStep event old mid → AreHostSteps mid events lines new
       → AreHostSteps old (event ∷ events) (host_line event mid ∷ lines) new
+
+-- hosts that start on two packs put the same lines for the same events
+pub record HaveSameLines (p q : PackValue) : Type 0 where
+  pub are : (h k : SpecialiserValue) → IsHostStart p h → IsHostStart q k → (events : List EventValue) (lines others : List (List ℕ)) (end last : SpecialiserValue)
+      → AreHostSteps h events lines end → AreHostSteps k events others last → lines ≡ others
+
+-- so do those on packs with the same parameters, graph and bits
+abbrev pub SamePacksReplay : Type 0
+SamePacksReplay = (p q : PackValue) → AreSame p q → HaveSameLines p q

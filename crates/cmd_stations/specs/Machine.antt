@@ -8,13 +8,11 @@ use Rattle.port_bank.specs.Bank.{BankSeen}
 use Rattle.port_bank.specs.Image.{Holds}
 use Rattle.port_bank.specs.Moves.{Becomes, KeepsPlaces}
 use Rattle.port_bank.specs.Send.{Plays}
-use Rattle.run_core.specs.Events.{MachineValue, IsPlayed, IsSteady}
-use Rattle.run_core.specs.EventLines.{event_line}
-use Rattle.run_core.specs.Sends.{HasSent}
+use Rattle.run_core.specs.Events.{MachineValue, IsPlayed, IsSteady, event_line}
+use Rattle.run_core.specs.Ends.{HasSent}
 use Rattle.cmd_stations.specs.Mapped.{template_header}
-use Rattle.cmd_stations.specs.SourceCircuit.{shape_of}
+use Rattle.cmd_stations.specs.SourceCircuit.{shape_of, AreInits}
 use Rattle.cmd_stations.specs.Tunable.{IsTunable}
-use Rattle.cmd_stations.specs.SourceCycle.{AreInits}
 use Rattle.cover_pick.specs.Template.{TemplateValue}
 use Rattle.cmd_stations.specs.declared.source.Source.{Source}
 

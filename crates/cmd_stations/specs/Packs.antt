@@ -1,5 +1,5 @@
 -- The pack that a file holds.
-use Rattle.std.specs.Prelude.{◌≡◌, ℕ, ◌≤◌, List, length, map, Option, None, Some}
+use Rattle.std.specs.Prelude.{◌≡◌, ℕ, List, length, map, Option, None, Some}
 use Rattle.tl_fault.specs.RefusalValue.{RefusalValue}
 use Rattle.tl_io.specs.Shelf.{Files}
 use Rattle.ppc_pack.specs.declared.pack.PackParam.{PackParam}
@@ -12,7 +12,7 @@ use Rattle.ppc_file.specs.PackFile.{IsPackFile, IsPackFault, HasOneReading}
 use Rattle.run_text.specs.NamesValue.{NamesValue}
 use Rattle.run_text.specs.declared.event.Forms.{Forms}
 use Rattle.run_text.specs.declared.event.Forms.TheVariants as forms
-use Rattle.cmd_base.specs.Walk.{Reading}
+use Rattle.cmd_base.specs.Walk.{Reading, shelf_reading}
 use Rattle.cmd_base.specs.Refusals.{most_bytes, too_long}
 use Rattle.cmd_base.specs.declared.outcome.File.{File}
 use Rattle.cmd_base.specs.declared.outcome.File.TheVariants.{Netlist, Params, Script, Pack, Cert}
@@ -48,16 +48,7 @@ IsPackItself Cert = ⊥
 
 -- how it is read
 abbrev pub pack_reading : List ℕ → Reading
-pack_reading name = record {
-  HasFiles = λ told files. told ≡ Some files;
-  IsRead = IsPackItself;
-  word = λ file. name;
-  last = Pack;
-  HasGiven = λ file given. given ≤ most_bytes file;
-  Reaches = λ files file. Unit {0};
-  IsRefused = λ files file refusal. IsPackRefused files name file refusal;
-  IsSettled = λ files. IsPackSettled files name;
-}
+pack_reading name = shelf_reading IsPackItself (λ file. name) Pack (λ files file. Unit {0}) (λ files. IsPackRefused files name) (λ files. IsPackSettled files name)
 
 -- what a script by these forms may name that is played on a pack, where the circuit has so many regular inputs
 abbrev pub names_on : Forms → PackValue → Option ℕ → NamesValue

@@ -1,8 +1,11 @@
--- The source circuit of a job: its netlist under its parameters.
-use Rattle.std.specs.Prelude.{ℕ, length}
-use Rattle.param_list.specs.Parameters.{regular_names}
+-- The source circuit of a job: its netlist under its parameters, and a clock cycle of it.
+use Rattle.std.specs.Prelude.{ℕ, length, ◌≡◌, Bool, List, map}
+use Rattle.param_list.specs.Parameters.{regular_names, param_names}
 use Rattle.lut_sim.specs.declared.shape.Shape.{Shape}
 use Rattle.cmd_stations.specs.declared.source.Source.{Source}
+use Rattle.netlist.specs.LibraryValue.{ModelValue}
+use Rattle.netlist.specs.Places.{Place}
+use Rattle.netlist.specs.Runs.{AreLatches, inits_of, IsCycle}
 
 -- how many inputs are left besides the parameters: each cycle gives them values
 abbrev pub width_of : Source → ℕ
@@ -11,3 +14,17 @@ width_of source = length (regular_names source.netlist.flat source.params.list)
 -- its sources: the regular inputs, the parameters, the latches
 abbrev pub shape_of : Source → Shape
 shape_of source = record { regular = width_of source; params = length source.params.list; latches = length source.netlist.flat.latches }
+
+-- from latch states, under values of the regular inputs and of the parameters: the outputs and the next states of the library's cycle
+pub record IsSourceCycle (source : Source) (params values states outputs next : List Bool) : Type 0 where
+  pub x : List ℕ → Bool
+  pub regular : map x (regular_names source.netlist.flat source.params.list) ≡ values
+  pub parameters : map x (param_names source.params.list) ≡ params
+  pub cycle : IsCycle source.netlist.library x states outputs next
+
+-- the latches' inits
+pub record AreInits (source : Source) (states : List Bool) : Type 0 where
+  pub main : ModelValue
+  pub latches : List Place
+  pub are_latches : AreLatches source.netlist.library main latches
+  pub are : states ≡ inits_of source.netlist.library latches

@@ -1,8 +1,16 @@
--- The LUTs of a source circuit as the code makes them.
+-- A source circuit with its graph, its labels, its LUTs and its script as the code makes them.
+use Rattle.netlist.specs.HasCleanNames.{HasCleanNames}
+use Rattle.netlist.specs.WellFormed.{IsWellFormed}
+use Rattle.netlist.specs.Bounds.{IsWithinBounds}
+use Rattle.netlist.specs.Flat.{IsFlat}
+use Rattle.netlist.specs.Flattened.{HasValues}
+use Rattle.netlist.specs.FlatCycle.{HasCycles}
+use Rattle.netlist.specs.Sound.{IsSound}
+use Rattle.cmd_stations.specs.declared.netlist_text.Netlist.{Netlist, Netlist as NetlistValue}
 use Rattle.std.specs.Prelude.{◌≡◌, ℕ, length, map}
 use Rattle.tl_io.specs.Shelf.{Files}
-use Rattle.aig_core.specs.Aig.{Aig}
-use Rattle.aig_core.specs.Roots.{RootsValue}
+use Rattle.aig_core.specs.Aig.{Aig, first_and, AreNormal}
+use Rattle.aig_core.specs.Roots.{RootsValue, AreRoots, roots_of}
 use Rattle.aig_build.specs.NetlistGraph.{IsGraphOf, HasOneGraph}
 use Rattle.aig_build.specs.NetlistCycle.{HasSourceCycles}
 use Rattle.cover_pick.specs.declared.rule.Rule.{Rule}
@@ -17,15 +25,27 @@ use Rattle.lut_sim.specs.Playable.{IsPlayable}
 use Rattle.blif_write.specs.Meaning.{AreTablesOf}
 use Rattle.ppc_file.specs.PackFile.{IsPackFile}
 use Rattle.cmd_stations.specs.Packs.{present_bytes}
-use Rattle.cmd_stations.specs.Words.{SourceWords}
+use Rattle.cmd_stations.specs.Source.{SourceWords, HasNetlist, HasSource, HasMapped, IsNetlistSettled, AreParamsSettled, IsSourceSettled, HasGraph, HasLabels}
 use Rattle.cmd_stations.specs.SourceCircuit.{shape_of}
-use Rattle.cmd_stations.specs.Mapped.{IsChosen, IsLeastMapping, IsMapped}
+use Rattle.cmd_stations.specs.Mapped.{IsChosen, IsLeastMapping, IsMapped, ToTables, IsLabelled, ToGraph, ToLabels, IsBuilt}
 use Rattle.cmd_stations.specs.Tunable.{IsTunable}
-use Rattle.cmd_stations.specs.ReadNetlist.{IsReadNetlist}
-use Rattle.cmd_stations.specs.Source.{HasNetlist, HasSource, HasMapped}
-use Rattle.cmd_stations.specs.Settled.{IsNetlistSettled, AreParamsSettled, IsSourceSettled}
-use Rattle.cmd_stations.specs.Aims.{ToTables}
-use Rattle.cmd_stations.specs.declared.netlist_text.Netlist.{Netlist as NetlistValue}
+use Rattle.cmd_stations.specs.declared.graphs.BuiltSource.{BuiltSource}
+use Rattle.cmd_stations.specs.declared.labelling.LabelledSource.{LabelledSource}
+use Rattle.blif_write.specs.Writable.{CanBeNamed}
+use Rattle.cmd_stations.specs.declared.drafts.Draft.{Draft}
+use Rattle.run_text.specs.EventValue.{event_values}
+use Rattle.cmd_stations.specs.declared.scripted.Scripted.{Scripted}
+use Rattle.cmd_stations.specs.Script.{ScriptedWords, HasScripted, IsScriptedSettled}
+
+-- a well-formed and sound library with clean names, and its flat circuit, which is within bounds and whose cycles are the library's
+pub record IsReadNetlist (n : Netlist) : Type 0 where
+  pub formed : IsWellFormed n.library
+  pub sound : IsSound n.library
+  pub clean : HasCleanNames n.library
+  pub flat : IsFlat n.library n.flat
+  pub bounds : IsWithinBounds n.library n.flat
+  pub values : HasValues n.library n.flat
+  pub cycles : HasCycles n.library n.flat
 
 -- the template of a source circuit's graph, whose cycles are the source circuit's
 pub record HasTables (source : Source) (g : Aig) (t : TemplateValue) : Type 0 where
@@ -76,3 +96,36 @@ pub record ComesWith (files : Files) (words : SourceWords) (source : Source) : T
 pub record ComesPast (files : Files) (words : SourceWords) (m : MappedSource) : Type 0 where
   pub has : HasMapped files words m.source m.tables.template
   pub settled : IsSourceSettled ToTables files words
+
+-- A source circuit with its graph, and with the labels of the graph's nodes, as the code makes them.
+pub record IsBuiltSource (b : BuiltSource) : Type 0 where
+  pub read : IsReadSource b.source
+  pub built : IsBuilt b.source b.graph b.roots
+  pub cycles : HasSourceCycles b.source.netlist.library b.source.netlist.flat b.source.params.list b.graph b.roots
+  pub lits : AreRoots b.graph (roots_of b.roots)
+  pub normal : AreNormal (first_and b.graph) b.graph.pairs
+
+-- the walk comes past its graph
+pub record ComesToGraph (files : Files) (words : SourceWords) (b : BuiltSource) : Type 0 where
+  pub has : HasGraph files words b.source b.graph b.roots
+  pub settled : IsSourceSettled ToGraph files words
+
+pub record IsLabelledSource (k : ℕ) (l : LabelledSource) : Type 0 where
+  pub built : IsBuiltSource l.built
+  pub labelled : IsLabelled l.built.graph k l.table l.labels
+
+-- and past its labels
+pub record ComesToLabels (files : Files) (words : SourceWords) (l : LabelledSource) : Type 0 where
+  pub has : HasLabels files words l.built.source l.built.graph l.built.roots
+  pub settled : IsSourceSettled ToLabels files words
+
+-- its source circuit was read and mapped to its tables, and its regular inputs stand at its places
+pub record IsDraft (d : Draft) : Type 0 where
+  pub read : IsReadSource d.mapped.source
+  pub made : AreMade d.mapped.source d.mapped.tables
+  pub named : CanBeNamed d.mapped.source.netlist.flat d.mapped.source.params.list d.regular.items
+
+-- the walk comes past the script
+pub record ComesScripted (files : Files) (words : ScriptedWords) (s : Scripted) : Type 0 where
+  pub has : HasScripted files words s.mapped.source s.mapped.tables.template (event_values s.events.items)
+  pub settled : IsScriptedSettled files words

@@ -1,10 +1,18 @@
 -- What the texts of a netlist, of a parameter list and of a script say, and what each is refused for.
-use Rattle.std.specs.Prelude.{◌≡◌, ℕ, ◌<◌, ◌≤◌, List, length, Some}
+use Rattle.std.specs.Prelude.{◌≡◌, ℕ, Bool, true, false, List, take, bytes_eq, codes, Some, ◌<◌, ◌≤◌, length}
+use Rattle.tl_fault.specs.RefusalValue.{RefusalValue}
+use Rattle.netlist.specs.LibraryValue.{LibraryValue}
+use Rattle.blif_read.specs.declared.blif_err.BlifErr.{BlifErr}
+use Rattle.blif_read.specs.Refusals.{refusal_of as blif_refusal}
+use Rattle.blif_read.specs.Denotes.{Denotes}
+use Rattle.blif_read.specs.ReadFault.{read_fault}
+use Rattle.aiger_io.specs.declared.aag_err.AagErr.{AagErr}
+use Rattle.aiger_io.specs.Refusals.{refusal_of as aag_refusal}
+use Rattle.aiger_io.specs.Reading.{IsLibraryOf, HasRunsOf}
+use Rattle.aiger_io.specs.Refused.{IsRefused}
 use Rattle.std.specs.FinMap.{get}
 use Rattle.tl_text.specs.declared.logical_lines.TheConstants.{MOST_BYTES}
-use Rattle.tl_fault.specs.RefusalValue.{RefusalValue}
 use Rattle.tl_io.specs.Shelf.{Files}
-use Rattle.netlist.specs.LibraryValue.{LibraryValue}
 use Rattle.blif_flat.specs.declared.flat_err.FlatErr.{FlatErr}
 use Rattle.blif_flat.specs.Refusals.{refusal_of as flat_refusal}
 use Rattle.blif_flat.specs.Faults.{IsFault}
@@ -18,7 +26,28 @@ use Rattle.run_text.specs.ScriptRefusals.{refusal_of as script_refusal}
 use Rattle.run_text.specs.ScriptText.{IsScriptFault}
 use Rattle.run_text.specs.NamesValue.{NamesValue}
 use Rattle.cmd_stations.specs.declared.netlist_text.Netlist.{Netlist}
-use Rattle.cmd_stations.specs.LibraryText.{DenotesLibrary, LibraryRefusal}
+
+-- does a text begin as AIGER's ASCII form does, with `aag` and a blank
+abbrev pub is_aag : List ℕ → Bool
+is_aag text = bytes_eq (codes "aag ") (take 4 text)
+
+-- a text denotes this library
+pub data DenotesLibrary (text : List ℕ) (library : LibraryValue) : Type 0 where
+  blif : is_aag text ≡ false → Denotes text library → DenotesLibrary text library
+  aiger : is_aag text ≡ true → IsLibraryOf text library → DenotesLibrary text library
+
+-- a text denotes none: by its first refusal
+pub data LibraryRefusal (text : List ℕ) (refusal : RefusalValue) : Type 0 where
+  blif : is_aag text ≡ false → (e : BlifErr) → read_fault text ≡ Some e → blif_refusal e ≡ Some refusal → LibraryRefusal text refusal
+  aiger : is_aag text ≡ true → (e : AagErr) → IsRefused text e → aag_refusal e ≡ Some refusal → LibraryRefusal text refusal
+
+-- A text denotes one library at most, or is refused for one reason at most, and never both. A library that is read from AIGER's form has the cycles and runs
+-- of the text's own circuit.
+pub record HasOneLibrary (text : List ℕ) : Type 0 where
+  pub once : (a b : LibraryValue) → DenotesLibrary text a → DenotesLibrary text b → a ≡ b
+  pub not_both : (a : LibraryValue) (r : RefusalValue) → DenotesLibrary text a → LibraryRefusal text r → ⊥
+  pub one_refusal : (r s : RefusalValue) → LibraryRefusal text r → LibraryRefusal text s → r ≡ s
+  pub runs : (a : LibraryValue) → is_aag text ≡ true → DenotesLibrary text a → HasRunsOf text a
 
 -- a file of this name is there and short enough, with these bytes
 pub record HasBytes (most : ℕ) (files : Files) (name bytes : List ℕ) : Type 0 where

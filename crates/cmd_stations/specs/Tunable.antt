@@ -9,8 +9,7 @@ use Rattle.bit_fun.specs.PackOf.{IsPackOf}
 use Rattle.bit_fun.specs.PackLaw.{HasConfigurations}
 use Rattle.lut_sim.specs.Cycle.{IsOnlyTableCycle}
 use Rattle.cmd_stations.specs.declared.source.Source.{Source}
-use Rattle.cmd_stations.specs.SourceCircuit.{width_of, shape_of}
-use Rattle.cmd_stations.specs.SourceCycle.{IsSourceCycle}
+use Rattle.cmd_stations.specs.SourceCircuit.{width_of, shape_of, IsSourceCycle}
 
 -- Where no bit stands upset, the tables are the source circuit: under the configuration of any values of the parameters, a cycle of the tables, from any states, is the source circuit's under these values.
 pub record HasSourceTables (source : Source) (template : TemplateValue) (pack : PackValue) : Type 0 where

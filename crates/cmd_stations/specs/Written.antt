@@ -15,7 +15,7 @@ use Rattle.blif_write.specs.OwnNames.{naming_of}
 use Rattle.blif_write.specs.Netlists.{specialised_netlist, template_netlist}
 use Rattle.blif_write.specs.Meaning.{free_control, all_bit_names, input_bits}
 use Rattle.cmd_stations.specs.declared.source.Source.{Source}
-use Rattle.cmd_stations.specs.SourceCycle.{IsSourceCycle, AreInits}
+use Rattle.cmd_stations.specs.SourceCircuit.{IsSourceCycle, AreInits}
 
 -- Clock cycles of a source circuit, under values of its parameters, from latch states on, under the regular inputs' values in each: each hands its next states on. They give the outputs of each cycle, and the states after it.
 pub data SourceRuns (source : Source) (params : List Bool) : List Bool → List (List Bool) → List (List Bool) → List (List Bool) → Type 0 where

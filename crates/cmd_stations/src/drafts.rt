@@ -3,13 +3,10 @@ ghost use Rattle.std.specs.Prelude.{◌≡◌, ◌≤◌, false, IfOk, IfErr, On
 ghost use Rattle.tl_text.specs.declared.logical_lines.TheConstants.{MOST_BYTES};
 ghost use Rattle.cut_enum.specs.declared.limits.TheConstants.{MOST_LEAVES};
 ghost use Rattle.blif_write.specs.Writable.{CanBeNamed};
-ghost use Rattle.cmd_base.specs.Ends.{Told, Explains};
-ghost use Rattle.cmd_base.specs.KeepsFiles.{KeepsFiles};
-ghost use Rattle.cmd_stations.specs.Words.{source_seen};
-ghost use Rattle.cmd_stations.specs.Settled.{source_reading};
-ghost use Rattle.cmd_stations.specs.Tables.{IsReadSource, AreTables, ComesPast};
-ghost use Rattle.cmd_stations.specs.Aims.{ToTables};
-ghost use Rattle.cmd_stations.specs.Drafts.{IsDraft};
+ghost use Rattle.cmd_base.specs.Walk.{Told, Explains, KeepsFiles};
+ghost use Rattle.cmd_stations.specs.Source.{source_seen, source_reading};
+ghost use Rattle.cmd_stations.specs.Tables.{IsReadSource, AreTables, ComesPast, IsDraft};
+ghost use Rattle.cmd_stations.specs.Mapped.{ToTables};
 
 use crate::mapped::{MappedSource, read_mapped};
 use crate::source::Source;

@@ -1,11 +1,10 @@
 //! Reading the files of a command.
 ghost use Rattle.std.specs.Prelude.{◌≡◌, ◌≤◌, false, length, IfOk, IfErr, OnOk};
 ghost use Rattle.tl_io.specs.Shelf.{Files};
-ghost use Rattle.cmd_base.specs.Ends.{Told};
+ghost use Rattle.cmd_base.specs.Walk.{Told, KeepsFiles};
 ghost use Rattle.cmd_base.specs.Refusals.{most_bytes};
-ghost use Rattle.cmd_base.specs.KeepsFiles.{KeepsFiles};
 ghost use Rattle.cmd_stations.specs.Texts.{HasBytes};
-ghost use Rattle.cmd_stations.specs.Unread.{IsUnread};
+ghost use Rattle.cmd_stations.specs.Stops.{IsUnread};
 
 use cmd_base::{File, Outcome};
 use std::alloc::Global;

@@ -8,14 +8,11 @@ ghost use Rattle.aig_build.specs.declared.TheConstants.{MOST_NODES};
 ghost use Rattle.aig_build.specs.NetlistGraph.{IsGraphOf, HasTooManyNodes, HasOneGraph};
 ghost use Rattle.aig_build.specs.NetlistCycle.{HasSourceCycles};
 ghost use Rattle.aig_build.specs.Refusals.{refusal_of};
-ghost use Rattle.cmd_base.specs.Ends.{Told, Explains};
-ghost use Rattle.cmd_base.specs.KeepsFiles.{KeepsFiles};
-ghost use Rattle.cmd_stations.specs.Words.{source_seen};
+ghost use Rattle.cmd_base.specs.Walk.{Told, Explains, KeepsFiles};
+ghost use Rattle.cmd_stations.specs.Source.{source_seen, IsBuildingSettled, source_reading};
 ghost use Rattle.cmd_stations.specs.Stops.{Stops};
-ghost use Rattle.cmd_stations.specs.Aims.{ToGraph, IsBuilt, IsUnbuilt};
-ghost use Rattle.cmd_stations.specs.Settled.{IsBuildingSettled, source_reading};
-ghost use Rattle.cmd_stations.specs.Tables.{IsReadSource};
-ghost use Rattle.cmd_stations.specs.Built.{IsBuiltSource, ComesToGraph};
+ghost use Rattle.cmd_stations.specs.Mapped.{ToGraph, IsBuilt, IsUnbuilt};
+ghost use Rattle.cmd_stations.specs.Tables.{IsReadSource, IsBuiltSource, ComesToGraph};
 
 use crate::params::read_source;
 use crate::source::Source;

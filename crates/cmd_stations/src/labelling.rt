@@ -2,18 +2,14 @@
 ghost use Rattle.std.specs.Prelude.{◌≡◌, ◌≤◌, false, IfOk, IfErr, OnOk, MatchResult};
 ghost use Rattle.tl_text.specs.declared.logical_lines.TheConstants.{MOST_BYTES};
 ghost use Rattle.cut_enum.specs.declared.limits.TheConstants.{MOST_LEAVES};
-ghost use Rattle.cmd_base.specs.Ends.{Told, Explains};
-ghost use Rattle.cmd_base.specs.KeepsFiles.{KeepsFiles};
-ghost use Rattle.cmd_stations.specs.Words.{source_seen};
+ghost use Rattle.cmd_base.specs.Walk.{Told, Explains, KeepsFiles};
+ghost use Rattle.cmd_stations.specs.Source.{source_seen, IsLabellingSettled, source_reading};
 ghost use Rattle.cmd_stations.specs.Stops.{Stops};
-ghost use Rattle.cmd_stations.specs.Mapped.{IsLabelled};
-ghost use Rattle.cmd_stations.specs.Aims.{ToLabels, IsBuilt, IsUnlabelled};
-ghost use Rattle.cmd_stations.specs.Settled.{IsLabellingSettled, source_reading};
-ghost use Rattle.cmd_stations.specs.Tables.{IsReadSource};
+ghost use Rattle.cmd_stations.specs.Mapped.{IsLabelled, ToLabels, IsBuilt, IsUnlabelled};
+ghost use Rattle.cmd_stations.specs.Tables.{IsReadSource, IsLabelledSource, ComesToLabels};
 ghost use Rattle.aig_core.specs.Aig.{first_and, AreNormal};
 ghost use Rattle.aig_core.specs.Roots.{AreRoots, roots_of};
 ghost use Rattle.aig_build.specs.NetlistCycle.{HasSourceCycles};
-ghost use Rattle.cmd_stations.specs.Built.{IsLabelledSource, ComesToLabels};
 
 use crate::graphs::{BuiltSource, source_graph};
 use crate::params::read_source;

@@ -4,7 +4,7 @@ ghost use Rattle.netlist.specs.HasCleanNames.{HasCleanNames};
 ghost use Rattle.netlist.specs.ShortPorts.{HasShortPorts};
 ghost use Rattle.netlist.specs.WellFormed.{IsWellFormed};
 ghost use Rattle.tl_text.specs.declared.logical_lines.TheConstants.{MOST_BYTES};
-ghost use Rattle.cmd_stations.specs.LibraryText.{is_aag, DenotesLibrary, LibraryRefusal, HasOneLibrary};
+ghost use Rattle.cmd_stations.specs.Texts.{is_aag, DenotesLibrary, LibraryRefusal, HasOneLibrary};
 ghost use Rattle.cmd_stations.specs.Stops.{Stops};
 
 use crate::stop::Stop;

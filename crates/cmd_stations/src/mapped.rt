@@ -3,11 +3,9 @@ ghost use Rattle.std.specs.Prelude.{◌≡◌, ◌≤◌, false, IfOk, IfErr, On
 ghost use Rattle.tl_text.specs.declared.logical_lines.TheConstants.{MOST_BYTES};
 ghost use Rattle.tl_io.specs.Shelf.{Files};
 ghost use Rattle.cut_enum.specs.declared.limits.TheConstants.{MOST_LEAVES};
-ghost use Rattle.cmd_base.specs.Ends.{Told, Explains};
-ghost use Rattle.cmd_base.specs.KeepsFiles.{KeepsFiles};
-ghost use Rattle.cmd_stations.specs.Words.{source_seen};
-ghost use Rattle.cmd_stations.specs.Settled.{source_reading};
-ghost use Rattle.cmd_stations.specs.Aims.{ToTables};
+ghost use Rattle.cmd_base.specs.Walk.{Told, Explains, KeepsFiles};
+ghost use Rattle.cmd_stations.specs.Source.{source_seen, source_reading};
+ghost use Rattle.cmd_stations.specs.Mapped.{ToTables};
 ghost use Rattle.cmd_stations.specs.Tables.{IsReadSource, AreTables, ComesPast};
 
 use crate::mapping::map_source;

@@ -13,7 +13,7 @@ ghost use Rattle.lut_sim.specs.Playable.{IsPlayable};
 ghost use Rattle.cmd_stations.specs.Stops.{Stops};
 ghost use Rattle.cmd_stations.specs.SourceCircuit.{shape_of};
 ghost use Rattle.cmd_stations.specs.Mapped.{IsChosen, IsLeastMapping, IsUnchosen, IsUnmapped};
-ghost use Rattle.cmd_stations.specs.Settled.{IsGraphSettled, IsMappingSettled};
+ghost use Rattle.cmd_stations.specs.Source.{IsGraphSettled, IsMappingSettled};
 ghost use Rattle.cmd_stations.specs.Tables.{HasTables, IsReadSource, AreMade, AreTables};
 
 use crate::graphs::source_graph;

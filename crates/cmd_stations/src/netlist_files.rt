@@ -6,7 +6,7 @@ ghost use Rattle.ppc_pack.specs.Pack.{IsConf};
 ghost use Rattle.blif_write.specs.PlainNetlist.{netlist_text};
 ghost use Rattle.cmd_stations.specs.Written.{RunsAs, IsTuned, specialised_of, template_of};
 ghost use Rattle.cmd_stations.specs.FileWrites.{WritesFile};
-ghost use Rattle.cmd_stations.specs.Drafts.{IsDraft};
+ghost use Rattle.cmd_stations.specs.Tables.{IsDraft};
 
 use crate::drafts::Draft;
 use blif_write::{specialised, template};

@@ -2,8 +2,8 @@
 ghost use Rattle.std.specs.Prelude.{◌≡◌, ◌≤◌, length, IfOk, IfErr, MatchResult};
 ghost use Rattle.tl_text.specs.declared.logical_lines.TheConstants.{MOST_BYTES};
 ghost use Rattle.cmd_stations.specs.Texts.{IsNetlistText, NetlistRefusal};
-ghost use Rattle.cmd_stations.specs.ReadNetlist.{IsReadNetlist};
-ghost use Rattle.cmd_stations.specs.Settled.{IsTextSettled};
+ghost use Rattle.cmd_stations.specs.Tables.{IsReadNetlist};
+ghost use Rattle.cmd_stations.specs.Source.{IsTextSettled};
 ghost use Rattle.cmd_stations.specs.Stops.{Stops};
 
 use crate::library_text::read_library;

@@ -3,9 +3,8 @@ ghost use Rattle.std.specs.Prelude.{◌≡◌, ◌≤◌, false, length, map, If
 ghost use Rattle.ppc_pack.specs.Pack.{IsPack};
 ghost use Rattle.ppc_pack.specs.declared.pack.PackParam.{PackParam as PackParamValue};
 ghost use Rattle.ppc_file.specs.PackFile.{IsPackFile, HasOneReading};
-ghost use Rattle.cmd_base.specs.Ends.{Told, Explains};
+ghost use Rattle.cmd_base.specs.Walk.{Told, Explains, KeepsFiles};
 ghost use Rattle.cmd_base.specs.Refusals.{most_bytes};
-ghost use Rattle.cmd_base.specs.KeepsFiles.{KeepsFiles};
 ghost use Rattle.cmd_stations.specs.Stops.{Stops};
 ghost use Rattle.cmd_stations.specs.Packs.{HasPack, IsPackRefusal, IsPackSettled, pack_reading, names_on};
 

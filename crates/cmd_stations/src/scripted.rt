@@ -4,13 +4,10 @@ ghost use Rattle.list_laws.specs.Members.{In};
 ghost use Rattle.tl_text.specs.declared.logical_lines.TheConstants.{MOST_BYTES};
 ghost use Rattle.run_text.specs.EventValue.{EventValue, event_values};
 ghost use Rattle.run_text.specs.Fits.{Fits};
-ghost use Rattle.cmd_base.specs.Ends.{Told, Explains};
-ghost use Rattle.cmd_base.specs.KeepsFiles.{KeepsFiles};
-ghost use Rattle.cmd_stations.specs.Words.{IsTableSize};
-ghost use Rattle.cmd_stations.specs.Script.{names_in, HasScript, IsScriptSettled, script_reading};
-ghost use Rattle.cmd_stations.specs.Scripted.{scripted_seen, scripted_reading};
-ghost use Rattle.cmd_stations.specs.Tables.{IsReadSource, AreMade, AreTables};
-ghost use Rattle.cmd_stations.specs.ScriptedMade.{ComesScripted};
+ghost use Rattle.cmd_base.specs.Walk.{Told, Explains, KeepsFiles};
+ghost use Rattle.cmd_stations.specs.Source.{IsTableSize};
+ghost use Rattle.cmd_stations.specs.Script.{names_in, HasScript, IsScriptSettled, script_reading, scripted_seen, scripted_reading};
+ghost use Rattle.cmd_stations.specs.Tables.{IsReadSource, AreMade, AreTables, ComesScripted};
 
 use crate::mapped::{MappedSource, read_mapped};
 use crate::packs::script_names;

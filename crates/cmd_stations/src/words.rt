@@ -2,8 +2,7 @@
 ghost use Rattle.std.specs.Prelude.{◌≡◌, ◌≤◌, IfSome};
 ghost use Rattle.std.specs.Option.{option_map};
 ghost use Rattle.cut_enum.specs.declared.limits.TheConstants.{MOST_LEAVES};
-ghost use Rattle.cmd_stations.specs.Settled.{source_word};
-ghost use Rattle.cmd_stations.specs.Words.{k_of, source_words, source_seen, IsTableSize};
+ghost use Rattle.cmd_stations.specs.Source.{source_word, k_of, source_words, source_seen, IsTableSize};
 
 use cmd_base::File;
 use cover_pick::Rule;

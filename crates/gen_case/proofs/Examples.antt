@@ -1,10 +1,7 @@
 -- Worked examples: multipliers of one digit and of two, and nets of one of three.
-use Rattle.std.proofs.Common.{◌≡◌, [], ◌∷◌, ◌++◌, map, codes, refl}
+use Rattle.gen_case.proofs.Common.{◌≡◌, [], ◌∷◌, ◌++◌, map, codes, refl, Zero, Partial, Sum, Carry, line_text, text_of, below, coefficient_of, data_of}
 use Rattle.std.specs.Fmt.{digits}
-use Rattle.gen_case.specs.declared.net.Net.TheVariants.{Zero, Partial, Sum, Carry}
-use Rattle.gen_case.specs.Lines.{line_text, text_of, below}
 use Rattle.gen_case.specs.Netlist.{from_before, carry_in, source_of, end_lines, all_partials, all_adders, all_outputs, netlist_lines}
-use Rattle.gen_case.specs.Numbers.{coefficient_of, data_of}
 use Rattle.gen_case.specs.Script.{all_params, rounds}
 
 -- words with a blank between each two, and a line feed

@@ -1,3 +1,4 @@
+mod Common
 pub mod LineLemmas
 mod SizeLemmas
 pub mod PlainLemmas

@@ -1,10 +1,5 @@
 -- What one more part adds: to lines, to the words of a line, and to a text.
-use Rattle.std.proofs.Common.{◌≡◌, ℕ, zero, suc, ◌+◌, List, [], ◌∷◌, ◌++◌, map, codes, sym, ap, ◌∙◌, arith, append_assoc}
-use Rattle.std.specs.List.{flat_map, join_with_byte, range_with_len}
-use Rattle.std.proofs.lemmas.Grind.{flat_map-append}
-use Rattle.std.proofs.lemmas.List.{append-nil}
-use Rattle.gen_case.specs.Lines.{line_text, text_of}
-use Rattle.gen_case.specs.Steps.{after_blanks}
+use Rattle.gen_case.proofs.Common.{◌≡◌, ℕ, zero, suc, ◌+◌, List, [], ◌∷◌, ◌++◌, map, codes, sym, ap, ◌∙◌, arith, append_assoc, flat_map, join_with_byte, range_with_len, flat_map-append, append-nil, line_text, text_of, after_blanks}
 
 -- a text behind two others
 pub behind : (xs ys before first rest : List ℕ) → first ≡ before ++ xs → rest ≡ first ++ ys → rest ≡ before ++ (xs ++ ys)

@@ -1,15 +1,6 @@
 -- The words of a netlist's lines: each line has one, and each has a byte and only bytes from `-` (45) to `z` (122), of which none is a `\` (92).
-use Rattle.std.proofs.Common.{◌≡◌, ℕ, zero, suc, ◌+◌, ◌-◌, ◌*◌, ◌%◌, ◌<◌, ◌≤◌, Bool, true, false, ◌&&◌, not, leb, eqb, List, [], ◌∷◌, ◌++◌, map, decimal, codes, refl, ◌∙◌, arith}
-use Rattle.std.specs.List.{flat_map, list_all, range_with_len}
+use Rattle.gen_case.proofs.Common.{◌≡◌, ℕ, zero, suc, ◌+◌, ◌-◌, ◌*◌, ◌%◌, ◌<◌, ◌≤◌, Bool, true, false, ◌&&◌, not, leb, eqb, List, [], ◌∷◌, ◌++◌, map, decimal, codes, refl, ◌∙◌, arith, flat_map, list_all, range_with_len, decimal_by_steps, list_all-append, Bus, Data, Coefficient, Product, Net, Zero, Digit, Partial, Sum, Carry, pair_text, net_name, below}
 use Rattle.std.proofs.lemmas.Bool.{and_from, le-leb, not_from_false, ne_eqb}
-use Rattle.std.proofs.lemmas.Fmt.{decimal_by_steps}
-use Rattle.std.proofs.lemmas.List.Folds.{list_all-append}
-use Rattle.gen_case.specs.declared.net.Bus.{Bus}
-use Rattle.gen_case.specs.declared.net.Bus.TheVariants.{Data, Coefficient, Product}
-use Rattle.gen_case.specs.declared.net.Net.{Net}
-use Rattle.gen_case.specs.declared.net.Net.TheVariants.{Zero, Digit, Partial, Sum, Carry}
-use Rattle.gen_case.specs.Nets.{pair_text, net_name}
-use Rattle.gen_case.specs.Lines.{below}
 use Rattle.gen_case.specs.Netlist.{bus_names, head_lines, partial_lines, from_before, carry_in, adder_line, adder_lines, source_of, output_lines, end_lines, all_partials, all_adders, all_outputs, netlist_lines}
 use Rattle.gen_case.proofs.SizeLemmas.{IsLow, from_before_low, carry_in_low, source_low}
 

@@ -1,24 +1,10 @@
 -- How long the texts are: the lengths of words, of lines, and of all lines.
-use Rattle.std.proofs.Common.{◌≡◌, ℕ, zero, suc, ◌+◌, ◌-◌, ◌*◌, ◌^◌, ◌<◌, ◌≤◌, Bool, true, false, cond, eqb, ltb, List, [], ◌∷◌, ◌++◌, map, length, decimal, ap, ◌∙◌, arith, refl, codes}
-use Rattle.std.specs.List.{flat_map, range_with_len}
-use Rattle.std.proofs.lemmas.Fmt.{length-decimal-le}
-use Rattle.std.proofs.lemmas.Grind.{flat_map-append}
-use Rattle.std.proofs.lemmas.List.{length-append}
-use Rattle.std.proofs.lemmas.List.Folds.{flat_map-map}
+use Rattle.gen_case.proofs.Common.{◌≡◌, ℕ, zero, suc, ◌+◌, ◌-◌, ◌*◌, ◌^◌, ◌<◌, ◌≤◌, Bool, true, false, cond, eqb, ltb, List, [], ◌∷◌, ◌++◌, map, length, decimal, ap, ◌∙◌, arith, refl, codes, flat_map, range_with_len, length-decimal-le, flat_map-append, length-append, flat_map-map, digit, Bus, Data, Coefficient, Product, Net, Zero, Digit, Partial, Sum, Carry, pair_text, net_name, line_text, text_of, below, digit_text, first_coefficient, coefficient_of, data_of, after_blanks}
 use Rattle.std.proofs.Math.Nat.{mul-le-mul_left}
-use Rattle.list_laws.specs.Digits.{digit}
 use Rattle.list_laws.proofs.Choice.{choose_one}
-use Rattle.gen_case.specs.declared.net.Bus.{Bus}
-use Rattle.gen_case.specs.declared.net.Bus.TheVariants.{Data, Coefficient, Product}
-use Rattle.gen_case.specs.declared.net.Net.{Net}
-use Rattle.gen_case.specs.declared.net.Net.TheVariants.{Zero, Digit, Partial, Sum, Carry}
-use Rattle.gen_case.specs.Nets.{pair_text, net_name}
-use Rattle.gen_case.specs.Lines.{line_text, text_of, below}
 use Rattle.gen_case.specs.Netlist.{bus_names, inputs_line, outputs_line, head_lines, partial_lines, from_before, carry_in, adder_line, adder_lines, source_of, output_lines, end_lines, all_partials, all_adders, all_outputs, netlist_lines}
-use Rattle.gen_case.specs.Numbers.{digit_text, first_coefficient, coefficient_of, data_of}
 use Rattle.gen_case.specs.Script.{param_lines, all_params, setting, digits_text, set_line, cycle_line, round_lines, rounds}
 use Rattle.gen_case.specs.Case.{IsShort}
-use Rattle.gen_case.specs.Steps.{after_blanks}
 use Rattle.gen_case.proofs.LineLemmas.{joined}
 
 -- a net whose numbers have two digits at most

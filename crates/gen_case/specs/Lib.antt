@@ -1,8 +1,6 @@
 -- What public clauses say.
-pub mod Nets
 pub mod Lines
 pub mod Netlist
-pub mod Numbers
 pub mod Script
 pub mod Case
 -- What only bodies are compared with.

@@ -3,14 +3,30 @@
 -- Row j has the partial products of the digit j of the coefficient with each digit of the data. The rows from 1 on are added
 -- to those before them, each by n full adders: the sum bit at place i of row j stands at place i + j of the product, and its
 -- carry bit one place higher.
-use Rattle.std.specs.Prelude.{ℕ, ◌+◌, ◌-◌, ◌*◌, if◌then◌else◌, ◌==◌, nat_lt, List, [], ◌∷◌, ◌++◌, map, codes}
-use Rattle.std.specs.List.{flat_map, range_with_len}
+use Rattle.std.specs.Prelude.{ℕ, List, ◌++◌, codes, decimal, ◌+◌, ◌-◌, ◌*◌, if◌then◌else◌, ◌==◌, nat_lt, [], ◌∷◌, map}
 use Rattle.gen_case.specs.declared.net.Bus.{Bus}
 use Rattle.gen_case.specs.declared.net.Bus.TheVariants.{Data, Coefficient, Product}
 use Rattle.gen_case.specs.declared.net.Net.{Net}
 use Rattle.gen_case.specs.declared.net.Net.TheVariants.{Zero, Digit, Partial, Sum, Carry}
+use Rattle.std.specs.List.{flat_map, range_with_len}
 use Rattle.gen_case.specs.Lines.{below}
-use Rattle.gen_case.specs.Nets.{net_name}
+
+-- the letter before a number that has its place in the name
+abbrev pub bus_letter : Bus → List ℕ
+bus_letter Data = codes "x"
+bus_letter Coefficient = codes "c"
+bus_letter Product = codes "y"
+
+-- two numbers with `_` between them
+abbrev pub pair_text : ℕ → ℕ → List ℕ
+pair_text a b = decimal a ++ (codes "_" ++ decimal b)
+
+abbrev pub net_name : Net → List ℕ
+net_name Zero = codes "zero"
+net_name (Digit bus place) = bus_letter bus ++ decimal place
+net_name (Partial i j) = codes "p" ++ pair_text i j
+net_name (Sum j i) = codes "s" ++ pair_text j i
+net_name (Carry j i) = codes "k" ++ pair_text j i
 
 -- the names of the first digits of a number
 abbrev pub bus_names : Bus → ℕ → List (List ℕ)

@@ -1,12 +1,24 @@
 -- The parameter list and the script of a multiplier of n digits.
-use Rattle.std.specs.Prelude.{ℕ, List, [], ◌∷◌, ◌++◌, map, codes}
+use Rattle.std.specs.Prelude.{ℕ, ◌+◌, ◌*◌, ◌%◌, ◌^◌, List, [], ◌∷◌, ◌++◌, map, codes}
+pub use Rattle.list_laws.specs.Digits.{digit_text}
 use Rattle.std.specs.List.{flat_map, range_with_len}
 use Rattle.list_laws.specs.Digits.{digit}
 use Rattle.gen_case.specs.declared.net.Bus.TheVariants.{Coefficient}
 use Rattle.gen_case.specs.declared.net.Net.TheVariants.{Digit}
 use Rattle.gen_case.specs.Lines.{below}
-use Rattle.gen_case.specs.Nets.{net_name}
-use Rattle.gen_case.specs.Numbers.{first_coefficient, coefficient_of, data_of, digit_text}
+use Rattle.gen_case.specs.Netlist.{net_name}
+
+-- the coefficient before the first round
+abbrev pub first_coefficient : ℕ → ℕ → ℕ
+first_coefficient n seed = seed % 2 ^ n
+
+-- the coefficient of round j
+abbrev pub coefficient_of : ℕ → ℕ → ℕ → ℕ
+coefficient_of n seed j = (seed + 2654435761 * j) % 2 ^ n
+
+-- the data of round j
+abbrev pub data_of : ℕ → ℕ → ℕ → ℕ
+data_of n seed j = (seed + 40503 * j * j) % 2 ^ n
 
 -- a digit of the coefficient as a parameter, with its value at the start
 abbrev pub param_lines : ℕ → ℕ → List (List (List ℕ))

@@ -13,12 +13,12 @@
 //! # The rounds
 //!
 //! The parameter list has the digits of a seed. Round j, from 1 to 100, sets the coefficient to (seed + 2654435761 j) modulo
-//! 2^n, and then has a cycle with the data (seed + 40503 j j) modulo 2^n (`specs/Numbers.antt`, `specs/Script.antt`).
+//! 2^n, and then has a cycle with the data (seed + 40503 j j) modulo 2^n (`specs/Script.antt`).
 //!
 //! # The texts
 //!
 //! Each text is a list of lines, and each line a list of words. A blank separates two words, and a line feed ends each line
-//! (`specs/Lines.antt`). The names of the nets are in `specs/Nets.antt`. [`multiplier`] gives exactly these texts.
+//! (`specs/Lines.antt`). The names of the nets are in `specs/Netlist.antt`. [`multiplier`] gives exactly these texts.
 //! `proofs/Examples.antt` works out those of one digit and of two.
 //!
 //! - `net.rt` has the nets as values that print their names.

@@ -14,7 +14,7 @@ pub enum Bus {
 
 impl fmt::Display for Bus {
     ghost use Rattle.std.specs.Prelude.{Some};
-    ghost use Rattle.gen_case.specs.Nets.{bus_letter};
+    ghost use Rattle.gen_case.specs.Netlist.{bus_letter};
 
     ghost output = { λ bus. Some (bus_letter bus) };
 
@@ -44,7 +44,7 @@ pub enum Net {
 
 impl fmt::Display for Net {
     ghost use Rattle.std.specs.Prelude.{Some};
-    ghost use Rattle.gen_case.specs.Nets.{net_name};
+    ghost use Rattle.gen_case.specs.Netlist.{net_name};
 
     ghost output = { λ net. Some (net_name net) };
 

@@ -1,7 +1,7 @@
 //! The numbers of the rounds, and the texts of their binary digits.
 ghost use Rattle.std.specs.Prelude.{◌≡◌, ◌%◌, ◌^◌, ◌<◌, ◌≤◌};
 ghost use Rattle.list_laws.specs.Digits.{digit as digit_of};
-ghost use Rattle.gen_case.specs.Numbers.{first_coefficient as first_of, coefficient_of as round_coefficient, data_of as round_data, digit_text as text_of_digit};
+ghost use Rattle.gen_case.specs.Script.{first_coefficient as first_of, coefficient_of as round_coefficient, data_of as round_data, digit_text as text_of_digit};
 
 use list_laws::digit;
 

@@ -1,17 +1,6 @@
 -- What a device is behind by, once a wanted bit turns, or a mark is taken.
-use Rattle.std.proofs.Common.{◌≡◌, ◌⊎◌, ℕ, suc, ◌+◌, ◌-◌, ◌<◌, ◌≤◌, Bool, true, false, not, List, [], ◌∷◌, ◌++◌, length, map, take, replicate, slice_set, refl, sym, ap, ◌∙◌, subst, inl, inr, arith, append-nil, append_assoc}
-use Rattle.std.specs.List.{filter, range_with_len}
-use Rattle.std.proofs.lemmas.Bool.{cases_Bool, false≢true}
-use Rattle.std.proofs.lemmas.List.{length-set, length-replicate, get_or-set_same, get_or-set_other, take_all, take_at}
-use Rattle.tl_io.specs.declared.Write.{Write}
-use Rattle.tl_io.specs.Writes.{written}
-use Rattle.list_laws.proofs.Places.{same_or}
-use Rattle.aig_core.specs.Value.{xor}
+use Rattle.pace_core.proofs.Common.{◌≡◌, ◌⊎◌, ℕ, suc, ◌+◌, ◌-◌, ◌<◌, ◌≤◌, Bool, true, false, not, List, [], ◌∷◌, ◌++◌, length, map, take, replicate, slice_set, refl, sym, ap, ◌∙◌, subst, inl, inr, arith, append-nil, append_assoc, filter, range_with_len, cases_Bool, false≢true, length-set, length-replicate, get_or-set_same, get_or-set_other, take_all, take_at, Write, written, same_or, xor, config_bit, differs_at, write_of, differences, none_marked, xor-same, xor-false, BacklogValue, IsBehind, with_write, IsCaughtUp, IsCatchingUp}
 use Rattle.dirty_idx.specs.Marks.{is_marked, IsLeast, IsEmpty}
-use Rattle.spec_core.specs.Differences.{config_bit, differs_at, write_of, differences}
-use Rattle.spec_core.proofs.AssignLemmas.{none_marked}
-use Rattle.spec_core.proofs.MarkLemmas.{xor-same, xor-false}
-use Rattle.pace_core.specs.Backlog.{BacklogValue, IsBehind, with_write, IsCaughtUp, IsCatchingUp}
 use Rattle.pace_core.proofs.DifferenceLemmas.{one_more, first_is, differing, length-differences, differences_few, differs_some, no_own_differences, differs_nowhere, written_fails, written_agrees, wanted_agrees, written-append, xor-true}
 
 -- a bit differs from the other one

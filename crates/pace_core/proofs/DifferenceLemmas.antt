@@ -1,19 +1,8 @@
 -- Where two configurations differ, once a bit of one of them is written.
-use Rattle.std.proofs.Common.{◌≡◌, ℕ, zero, suc, ◌+◌, ◌-◌, ◌<◌, ◌≤◌, Bool, true, false, not, cond, List, [], ◌∷◌, ◌++◌, length, map, take, drop, get_or, slice_set, Some, refl, sym, ap, ◌∙◌, subst, inl, inr, arith}
+use Rattle.pace_core.proofs.Common.{◌≡◌, ℕ, zero, suc, ◌+◌, ◌-◌, ◌<◌, ◌≤◌, Bool, true, false, not, cond, List, [], ◌∷◌, ◌++◌, length, map, take, drop, get_or, slice_set, Some, refl, sym, ap, ◌∙◌, subst, inl, inr, arith, cases_Bool, false≢true, ext_get_or, length-map, length-set, length-drop, drop_all, get_or-set_same, get_or-set_other, Write, written, length-written, In, In-filter, in_filter, length-filter_le, same_or, take_get, drop_get, xor, config_bit, differs_at, write_of, differences, xor-false, xor-same}
 use Rattle.std.specs.List.{slice_get, filter, range_with_len}
-use Rattle.std.proofs.lemmas.Bool.{cases_Bool, false≢true}
 use Rattle.std.proofs.lemmas.List.FromFn.{length-range_with_len}
-use Rattle.std.proofs.lemmas.List.{ext_get_or, length-map, length-set, length-drop, drop_all, get_or-set_same, get_or-set_other}
-use Rattle.tl_io.specs.declared.Write.{Write}
-use Rattle.tl_io.specs.Writes.{written}
-use Rattle.tl_io.proofs.BitLemmas.{length-written}
-use Rattle.list_laws.specs.Members.{In}
-use Rattle.list_laws.proofs.Members.{In-filter, in_filter, length-filter_le}
-use Rattle.list_laws.proofs.Places.{same_or, take_get, drop_get}
 use Rattle.list_laws.proofs.Ranges.{of_range, in_range}
-use Rattle.aig_core.specs.Value.{xor}
-use Rattle.spec_core.specs.Differences.{config_bit, differs_at, write_of, differences}
-use Rattle.spec_core.proofs.MarkLemmas.{xor-false, xor-same}
 use Rattle.spec_core.proofs.WriteLemmas.{filter_none}
 
 -- one more element in front of the longer list, or of both

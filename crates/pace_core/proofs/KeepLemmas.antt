@@ -1,26 +1,10 @@
 -- What a pacer keeps, once parameters are asked for or the clock ticks.
-use Rattle.std.proofs.Common.{◌≡◌, ℕ, ◌+◌, ◌<◌, ◌≤◌, Bool, false, List, [], length, take, replicate, refl, sym, ap, ◌∙◌, subst, arith}
-use Rattle.std.proofs.lemmas.List.{length-map}
-use Rattle.tl_io.specs.declared.Assign.{Assign}
-use Rattle.tl_io.specs.declared.Write.{Write}
-use Rattle.tl_io.specs.Writes.{written}
+use Rattle.pace_core.proofs.Common.{◌≡◌, ℕ, ◌+◌, ◌<◌, ◌≤◌, Bool, false, List, [], length, take, replicate, refl, sym, ap, ◌∙◌, subst, arith, length-map, Assign, Write, written, value_of, PackValue, IsConf, HasOneConf, inits_of, TemplateValue, Shape, IsTableCycle, IsOnlyTableCycle, SimValue, differences, length-assigned, BacklogValue, IsBehind, AreTurns, IsWithinAsk, IsWithinTick, PacerValue, waited, cycled, IsTicked, steps, waits, HasStalls}
 use Rattle.aig_core.specs.Roots.{lits_of}
-use Rattle.aig_core.specs.Value.{value_of}
-use Rattle.ppc_pack.specs.Pack.{PackValue, IsConf, HasOneConf, inits_of}
-use Rattle.cover_pick.specs.Template.{TemplateValue}
-use Rattle.lut_sim.specs.declared.shape.Shape.{Shape}
-use Rattle.lut_sim.specs.Cycle.{IsTableCycle, IsOnlyTableCycle}
-use Rattle.lut_sim.specs.Sim.{SimValue}
-use Rattle.spec_core.specs.Differences.{differences}
 use Rattle.spec_core.specs.Events.{IsSet}
 use Rattle.spec_core.specs.Specialiser.{SpecialiserValue}
 use Rattle.spec_core.specs.Touched.{IsWithinTouched}
-use Rattle.spec_core.proofs.AssignLemmas.{length-assigned}
-use Rattle.pace_core.specs.Backlog.{BacklogValue, IsBehind, AreTurns}
 use Rattle.pace_core.specs.Keeps.{Keeps}
-use Rattle.pace_core.specs.Cost.{IsWithinAsk, IsWithinTick}
-use Rattle.pace_core.specs.Pace.{PacerValue, waited, cycled, IsTicked, steps, waits}
-use Rattle.pace_core.specs.Stalls.{HasStalls}
 use Rattle.pace_core.proofs.BacklogLemmas.{behind_nothing}
 use Rattle.pace_core.proofs.DifferenceLemmas.{no_differences}
 use Rattle.pace_core.proofs.StallLemmas.{has_stalls}

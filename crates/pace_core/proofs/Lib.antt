@@ -1,6 +1,7 @@
+mod Common
 mod DifferenceLemmas
 mod BacklogLemmas
 pub mod StallLemmas
 pub mod KeepLemmas
 pub mod PaceTextLemmas
-mod PaceExample
+pub mod PaceExample

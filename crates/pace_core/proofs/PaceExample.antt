@@ -1,23 +1,13 @@
 -- A worked example: a table of an input x whose two bits are p and not p, so that its output is x where p is 0, and not x where p is 1. The port takes one bit a tick.
-use Rattle.std.proofs.Common.{◌≡◌, ℕ, ◌+◌, ◌-◌, ◌*◌, ◌<◌, ◌≤◌, ◌==◌, nat_le, nat_lt, ◌&&◌, Bool, true, false, IsTrue, List, [], ◌∷◌, get_or, slice_index_or, refl, sym, ap, ◌∙◌, subst, inl, inr, arith}
-use Rattle.std.proofs.lemmas.Bool.{or_cases, and_parts, leb-true, ltb-true}
-use Rattle.std.proofs.lemmas.Option.{none-some}
-use Rattle.tl_io.specs.declared.Assign.{Assign}
+use Rattle.pace_core.proofs.Common.{◌≡◌, ℕ, ◌+◌, ◌-◌, ◌*◌, ◌<◌, ◌≤◌, ◌==◌, nat_le, nat_lt, ◌&&◌, Bool, true, false, IsTrue, List, [], ◌∷◌, get_or, slice_index_or, refl, sym, ap, ◌∙◌, subst, inl, inr, arith, or_cases, and_parts, leb-true, ltb-true, none-some, Assign, In, node_value, FitsGraph, TemplateValue, PackValue, IsConf, Shape, address, FitsTables, IsTableCycle, IsOnlyTableCycle, Ask, Tick}
 use Rattle.list_laws.specs.Digits.{number}
-use Rattle.list_laws.specs.Members.{In}
 use Rattle.aig_core.specs.declared.lit.Kind.TheVariants.{Parameter}
-use Rattle.aig_core.specs.Value.{node_value, FitsGraph}
 use Rattle.cover_pick.specs.declared.lut.Lut.{Lut}
-use Rattle.cover_pick.specs.Template.{TemplateValue}
-use Rattle.ppc_pack.specs.Pack.{PackValue, IsConf}
-use Rattle.lut_sim.specs.declared.shape.Shape.{Shape}
-use Rattle.lut_sim.specs.Cycle.{address, FitsTables, IsTableCycle, IsOnlyTableCycle}
 use Rattle.lut_sim.specs.Sources.{is_regular, source_value}
-use Rattle.pace_core.specs.EventValue.{Ask, Tick}
 use Rattle.pace_core.specs.Pace.{PacerValue, asked, waited, cycled, IsPaced, ArePaced, steps, waits}
 
 -- one parameter p, and the bits p and not p
-abbrev pack : PackValue
+abbrev pub pack : PackValue
 pack = record {
   params = record { name = 112 ∷ []; init = false } ∷ [];
   graph = record { kinds = Parameter ∷ []; pairs = []; max = 0 };
@@ -25,7 +15,7 @@ pack = record {
 }
 
 -- its nodes under a value of p
-fits_at : (p : Bool) → FitsGraph pack.graph (p ∷ []) (false ∷ p ∷ [])
+pub fits_at : (p : Bool) → FitsGraph pack.graph (p ∷ []) (false ∷ p ∷ [])
 fits_at p = record {
   given = refl;
   count = refl;
@@ -35,11 +25,11 @@ fits_at p = record {
 }
 
 -- where p is 0
-conf_at_0 : IsConf pack (false ∷ []) (false ∷ true ∷ [])
+pub conf_at_0 : IsConf pack (false ∷ []) (false ∷ true ∷ [])
 conf_at_0 = record { values = false ∷ false ∷ []; fits = fits_at false; are = refl }
 
 -- where p is 1
-conf_at_1 : IsConf pack (true ∷ []) (true ∷ false ∷ [])
+pub conf_at_1 : IsConf pack (true ∷ []) (true ∷ false ∷ [])
 conf_at_1 = record { values = false ∷ true ∷ []; fits = fits_at true; are = refl }
 
 -- the table of the input, which is source 1; p is source 2

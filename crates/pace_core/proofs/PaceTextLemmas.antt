@@ -1,15 +1,9 @@
 -- A script by the forms of `ask` and `tick` has no other event, and each of its events fits.
-use Rattle.std.proofs.Common.{◌≡◌, ◌⊎◌, ℕ, Bool, List, [], ◌∷◌, length, map, Option, Some, None, codes, bytes_eq, if◌then◌else◌, refl, sym, ap, ◌∙◌, subst, inl, inr}
-use Rattle.std.specs.List.{cons_option}
+use Rattle.pace_core.proofs.Common.{◌≡◌, ◌⊎◌, ℕ, Bool, List, [], ◌∷◌, length, map, Option, Some, None, codes, bytes_eq, if◌then◌else◌, refl, sym, ap, ◌∙◌, subst, inl, inr, cons_option, none-some, same_Some, Assign, In, In-get, place_in, EventValue, Set, Cycle, Upset, Scrub, Image, PaceValue, Ask, Tick, pace_of, asks_and_ticks, Fits, ArePaced, HasOneReading}
 use Rattle.std.specs.Option.{option_map, option_and_then}
-use Rattle.std.proofs.lemmas.Option.{none-some, same_Some}
-use Rattle.tl_io.specs.declared.Assign.{Assign}
-use Rattle.list_laws.specs.Members.{In}
 use Rattle.list_laws.proofs.Choice.{choose}
-use Rattle.list_laws.proofs.Members.{In-get, place_in}
 use Rattle.tl_text.specs.LineValue.{WordsLine, words_line}
 use Rattle.run_text.specs.Each.{in_front, each_of}
-use Rattle.run_text.specs.EventValue.{EventValue, Set, Cycle, Upset, Scrub, Image}
 use Rattle.run_text.specs.Fits.{Fits as RunFits}
 use Rattle.run_text.specs.NamesValue.{NamesValue}
 use Rattle.run_text.specs.Sayings.{sets, cycles, form_of, said_by, said_of, settings_of, bits_of, only}
@@ -18,8 +12,6 @@ use Rattle.run_text.specs.declared.event.Forms.TheVariants.{Pace}
 use Rattle.run_text.specs.declared.setting.Setting.{Setting}
 use Rattle.run_text.proofs.EachLemmas.{each_at, each_once}
 use Rattle.run_text.proofs.ScriptOnceLemmas.{one_reading}
-use Rattle.pace_core.specs.EventValue.{PaceValue, Ask, Tick, pace_of, asks_and_ticks, Fits}
-use Rattle.pace_core.specs.PaceText.{ArePaced, HasOneReading}
 
 -- an event that is an ask or a tick
 pub record HasPace (event : EventValue) : Type 0 where

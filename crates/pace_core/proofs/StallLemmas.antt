@@ -1,15 +1,7 @@
 -- How long a change stalls the circuit.
-use Rattle.std.proofs.Common.{◌≡◌, ℕ, zero, suc, ◌+◌, ◌-◌, ◌*◌, ◌<◌, ◌≤◌, Bool, List, [], ◌∷◌, length, take, Some, slice_get, refl, sym, ap, ◌∙◌, subst, arith}
+use Rattle.pace_core.proofs.Common.{◌≡◌, ℕ, zero, suc, ◌+◌, ◌-◌, ◌*◌, ◌<◌, ◌≤◌, Bool, List, [], ◌∷◌, length, take, Some, slice_get, refl, sym, ap, ◌∙◌, subst, arith, none-some, same_Some, Write, written, length-written, PackValue, IsConf, differences, PaceValue, Ask, Tick, AreTicks, IsStall, IsCycled, HasStalls}
 use Rattle.std.proofs.Math.Nat.{suc-mul, zero-mul}
-use Rattle.std.proofs.lemmas.Option.{none-some, same_Some}
-use Rattle.tl_io.specs.declared.Write.{Write}
-use Rattle.tl_io.specs.Writes.{written}
-use Rattle.tl_io.proofs.BitLemmas.{length-written}
-use Rattle.ppc_pack.specs.Pack.{PackValue, IsConf}
-use Rattle.spec_core.specs.Differences.{differences}
-use Rattle.pace_core.specs.EventValue.{PaceValue, Ask, Tick}
 use Rattle.pace_core.specs.Pace.{PacerValue, Shown, IsTicked, steps, waits, ArePaced}
-use Rattle.pace_core.specs.Stalls.{AreTicks, IsStall, IsCycled, HasStalls}
 use Rattle.pace_core.proofs.DifferenceLemmas.{no_own_differences, left_count}
 
 -- a machine of this pack, these values and this rate, whose device differs from a configuration at so many addresses

@@ -1,3 +1,4 @@
+mod Common
 mod RefusalLemmas
 mod ReadLemmas
 pub mod LineLemmas

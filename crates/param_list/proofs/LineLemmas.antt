@@ -1,19 +1,6 @@
 -- A line of a text and its parameter: its name is one of the line's tokens, and is new where the line has no refusal.
-use Rattle.std.proofs.Common.{◌≡◌, ℕ, ◌+◌, ◌<◌, Bool, List, [], ◌∷◌, ◌++◌, length, get_or, map, Option, Some, None, Result, Ok, Err, refl, sym, ap, ◌∙◌, subst, inl, inr}
-use Rattle.std.specs.Prelude.{slice_get, IsErrAnd, IfErr}
-use Rattle.std.specs.Option.{option_map}
-use Rattle.std.proofs.lemmas.Option.{none-some, same_Some, slice_get-map, slice_get_read}
-use Rattle.list_laws.specs.Members.{In}
-use Rattle.list_laws.proofs.Items.{member_at}
-use Rattle.list_laws.proofs.Members.{from_map}
-use Rattle.tl_text.specs.Clean.{IsClean, AreCleanIn}
+use Rattle.param_list.proofs.Common.{◌≡◌, ℕ, ◌+◌, ◌<◌, Bool, List, [], ◌∷◌, ◌++◌, length, get_or, map, Option, Some, None, Result, Ok, Err, refl, sym, ap, ◌∙◌, subst, inl, inr, slice_get, IsErrAnd, IfErr, option_map, none-some, same_Some, slice_get-map, slice_get_read, In, member_at, from_map, IsClean, AreCleanIn, LineValue, token_bytes, words_line, place_of, place_none, Param, param_names, Entry, entry_of, entry_with, entry_refusal, line_refusal, IsParamOf}
 use Rattle.tl_text.specs.Decimal.{bit_of}
-use Rattle.tl_text.specs.LineValue.{LineValue, token_bytes, words_line}
-use Rattle.tl_text.specs.NameIndex.{place_of}
-use Rattle.tl_text.proofs.NameSetLemmas.{place_none}
-use Rattle.param_list.specs.declared.params.Param.{Param}
-use Rattle.param_list.specs.Parameters.{param_names}
-use Rattle.param_list.specs.ParamsText.{Entry, entry_of, entry_with, entry_refusal, line_refusal, IsParamOf}
 use Rattle.param_list.proofs.RefusalLemmas.{is_new}
 use Rattle.param_list.proofs.ReadLemmas.{AreRead, one_more, param_names-push}
 

@@ -1,16 +1,7 @@
 -- The marks of inputs whose names are among others, and the places of those that are off.
-use Rattle.std.proofs.Common.{◌≡◌, ℕ, zero, suc, ◌+◌, Bool, true, false, not, cond, ◌||◌, List, [], ◌∷◌, ◌++◌, length, map, Option, Some, replicate, bytes_eq, slice_set, refl, sym, ap, ◌∙◌, subst, inl, inr, arith}
-use Rattle.std.specs.Prelude.{filter, slice_get}
-use Rattle.std.proofs.lemmas.Bool.{or_left, or_right}
-use Rattle.std.proofs.lemmas.Option.{none-some, same_Some}
+use Rattle.param_list.proofs.Common.{◌≡◌, ℕ, zero, suc, ◌+◌, Bool, true, false, not, cond, ◌||◌, List, [], ◌∷◌, ◌++◌, length, map, Option, Some, replicate, bytes_eq, slice_set, refl, sym, ap, ◌∙◌, subst, inl, inr, arith, filter, slice_get, or_left, or_right, none-some, same_Some, In, In-get, map_agree, AreOnce, has_name, has_one_more, no_match, or_nothing, marks_of, off_places}
 use lib.Pointwise.{bytes_decides}
-use Rattle.list_laws.specs.Members.{In}
 use Rattle.list_laws.specs.Order.{IsAscending}
-use Rattle.list_laws.proofs.Members.{In-get, map_agree}
-use Rattle.tl_text.specs.Once.{AreOnce}
-use Rattle.netlist.specs.Models.{has_name}
-use Rattle.tl_text.proofs.NameSetLemmas.{has_one_more, no_match, or_nothing}
-use Rattle.param_list.specs.Marks.{marks_of, off_places}
 
 -- nothing is marked at first
 pub no_marks : (inputs : List (List ℕ)) → replicate (length inputs) false ≡ marks_of inputs []

@@ -1,20 +1,8 @@
 -- A text is one list of parameters at most, or has one refusal at most, and never both.
-use Rattle.std.proofs.Common.{◌≡◌, ℕ, Bool, List, Some, sym, ap, ◌∙◌}
-use Rattle.std.proofs.lemmas.Option.{same_Some}
-use Rattle.list_laws.proofs.Apart.{apart_once}
-use Rattle.list_laws.proofs.Members.{place_in}
+use Rattle.param_list.proofs.Common.{◌≡◌, ℕ, Bool, List, Some, sym, ap, ◌∙◌, same_Some, apart_once, place_in, same_list, WordsLine, AreOnce, text_settled, FlatValue, Param, par_err, AreNamed, AreParameters, Entry, refusal_at, IsFirstRefusal, IsParamOf, AreParamsOf, HasOneReading}
 use Rattle.list_laws.proofs.TwoLists.{item_there}
-use Rattle.list_laws.proofs.Places.{same_list}
 use Rattle.tl_fault.specs.Settled.{IsSettled}
-use Rattle.tl_text.specs.LineValue.{WordsLine}
-use Rattle.tl_text.specs.Once.{AreOnce}
 use Rattle.tl_text.proofs.FirstLemmas.{one_first, none_first}
-use Rattle.tl_text.proofs.TextOfLemmas.{text_settled}
-use Rattle.netlist.specs.FlatValue.{FlatValue}
-use Rattle.param_list.specs.declared.params.Param.{Param}
-use Rattle.param_list.specs.LinesErr.{par_err}
-use Rattle.param_list.specs.Parameters.{AreNamed, AreParameters}
-use Rattle.param_list.specs.ParamsText.{Entry, refusal_at, IsFirstRefusal, IsParamOf, AreParamsOf, HasOneReading}
 
 abbrev param : List ℕ → ℕ → Bool → Param
 param name input init = record { name = name; input = input; init = init }

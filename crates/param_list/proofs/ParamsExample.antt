@@ -1,18 +1,6 @@
 -- Worked examples: a list of two parameters over a small circuit, what is left of the inputs, and each refusal.
-use Rattle.std.proofs.Common.{◌≡◌, ℕ, zero, suc, ◌<◌, true, false, List, [], ◌∷◌, codes, map, Option, Some, None, Ok, refl, sym, ap, ◌∙◌, subst, inl, inr, arith}
-use Rattle.std.specs.Prelude.{slice_get, replicate}
-use Rattle.std.proofs.lemmas.Option.{none-some, same_Some}
-use Rattle.list_laws.specs.Members.{In}
-use Rattle.tl_text.specs.LineValue.{LineValue, WordsLine, words_line}
+use Rattle.param_list.proofs.Common.{◌≡◌, ℕ, zero, suc, ◌<◌, true, false, List, [], ◌∷◌, codes, map, Option, Some, None, Ok, refl, sym, ap, ◌∙◌, subst, inl, inr, arith, slice_get, replicate, none-some, same_Some, In, LineValue, WordsLine, words_line, FlatValue, Param, ParErr, Malformed, Parameters, NotInput, IsClock, Repeated, param_names, param_inits, regular_names, at_line, line_refusal, refusal_at, IsParamOf, IsParamsText, IsParamsFault, AreRegularPlaces}
 use Rattle.tl_text.specs.Lines.{lines_of}
-use Rattle.netlist.specs.FlatValue.{FlatValue}
-use Rattle.param_list.specs.declared.params.Param.{Param}
-use Rattle.param_list.specs.declared.par_err.ParErr.{ParErr}
-use Rattle.param_list.specs.declared.par_err.ParErr.TheVariants.{Malformed, Parameters, NotInput, IsClock, Repeated}
-use Rattle.param_list.specs.Parameters.{param_names, param_inits, regular_names}
-use Rattle.tl_text.specs.TextOf.{at_line}
-use Rattle.param_list.specs.ParamsText.{line_refusal, refusal_at, IsParamOf, IsParamsText, IsParamsFault}
-use Rattle.param_list.specs.RegularPlaces.{AreRegularPlaces}
 
 -- a circuit with the inputs `a`, `b` and `p` and the clock net `c`
 abbrev flat : FlatValue
@@ -81,37 +69,20 @@ abbrev refusal : List (List ℕ) → Option ParErr
 refusal words = line_refusal flat.inputs flat.clocks (codes "p" ∷ []) (record { number = 7; words = words })
 
 -- P1: one token, three, or another value
-one_token : refusal (codes "a" ∷ []) ≡ Some (Malformed 7)
-one_token = refl
-
-three_tokens : refusal (codes "a" ∷ codes "0" ∷ codes "1" ∷ []) ≡ Some (Malformed 7)
-three_tokens = refl
-
-other_value : refusal (codes "a" ∷ codes "2" ∷ []) ≡ Some (Malformed 7)
-other_value = refl
+malformed : map refusal ((codes "a" ∷ []) ∷ (codes "a" ∷ codes "0" ∷ codes "1" ∷ []) ∷ (codes "a" ∷ codes "2" ∷ []) ∷ []) ≡ replicate 3 (Some (Malformed 7))
+malformed = refl
 
 -- P2, P3 and P4: no input, the clock net, and the name that stood earlier
-no_input : refusal (codes "d" ∷ codes "0" ∷ []) ≡ Some (NotInput 7 (codes "d"))
-no_input = refl
-
-a_clock : refusal (codes "c" ∷ codes "0" ∷ []) ≡ Some (IsClock 7 (codes "c"))
-a_clock = refl
-
-twice : refusal (codes "p" ∷ codes "0" ∷ []) ≡ Some (Repeated 7 (codes "p"))
-twice = refl
-
-fine : refusal (codes "a" ∷ codes "1" ∷ []) ≡ None
-fine = refl
+other_names : map refusal ((codes "d" ∷ codes "0" ∷ []) ∷ (codes "c" ∷ codes "0" ∷ []) ∷ (codes "p" ∷ codes "0" ∷ []) ∷ (codes "a" ∷ codes "1" ∷ []) ∷ [])
+    ≡ Some (NotInput 7 (codes "d")) ∷ Some (IsClock 7 (codes "c")) ∷ Some (Repeated 7 (codes "p")) ∷ None ∷ []
+other_names = refl
 
 -- L8: a name of 65,536 bytes, though it is no input, and a line behind 65,535 names; one name fewer is taken
 too_long : refusal (replicate 65536 120 ∷ codes "1" ∷ []) ≡ Some (Parameters 7)
 too_long = refl
 
-one_too_many : line_refusal flat.inputs flat.clocks (replicate 65535 (codes "x")) (record { number = 7; words = codes "a" ∷ codes "1" ∷ [] }) ≡ Some (Parameters 7)
-one_too_many = refl
-
-the_last_one : line_refusal flat.inputs flat.clocks (replicate 65534 (codes "x")) (record { number = 7; words = codes "a" ∷ codes "1" ∷ [] }) ≡ None
-the_last_one = refl
+behind_names : map (λ n. line_refusal flat.inputs flat.clocks (replicate n (codes "x")) (record { number = 7; words = codes "a" ∷ codes "1" ∷ [] })) (65535 ∷ 65534 ∷ []) ≡ Some (Parameters 7) ∷ None ∷ []
+behind_names = refl
 
 -- the second line is the first that has a refusal
 abbrev repeated : List ℕ

@@ -1,21 +1,6 @@
 -- The lines of a list are read one by one: the parameters of the lines so far, and the first line that has a refusal.
-use Rattle.std.proofs.Common.{◌≡◌, ℕ, ◌+◌, ◌<◌, ◌≤◌, List, [], ◌∷◌, ◌++◌, length, take, Option, Some, None, refl, sym, ap, ◌∙◌, subst, inl, inr, arith, length-append}
-use Rattle.std.specs.Prelude.{slice_get}
-use Rattle.std.specs.Option.{option_and_then}
-use Rattle.std.proofs.lemmas.Bool.{cases_lt}
-use Rattle.std.proofs.lemmas.List.{length-map, map-append}
-use Rattle.std.proofs.lemmas.Option.{none-some, same_Some, slice_get_past}
-use Rattle.list_laws.proofs.Apart.{pushed_apart}
-use Rattle.list_laws.proofs.Members.{In-push}
-use Rattle.list_laws.proofs.Places.{get_pushed, take_get}
-use Rattle.tl_text.specs.Clean.{IsClean}
-use Rattle.tl_text.specs.LineValue.{WordsLine}
-use Rattle.tl_text.specs.Once.{AreOnce}
+use Rattle.param_list.proofs.Common.{◌≡◌, ℕ, ◌+◌, ◌<◌, ◌≤◌, List, [], ◌∷◌, ◌++◌, length, take, Option, Some, None, refl, sym, ap, ◌∙◌, subst, inl, inr, arith, length-append, slice_get, option_and_then, cases_lt, length-map, map-append, none-some, same_Some, slice_get_past, pushed_apart, In-push, get_pushed, take_get, IsClean, WordsLine, AreOnce, Param, ParErr, param_names, AreNamed, Entry, entry_of, with_name, names_said, line_refusal, entry_refusal, refusal_at, IsFirstRefusal, IsParamOf, AreParamsOf}
 use Rattle.tl_text.proofs.NameLemmas.{not_there}
-use Rattle.param_list.specs.declared.params.Param.{Param}
-use Rattle.param_list.specs.declared.par_err.ParErr.{ParErr}
-use Rattle.param_list.specs.Parameters.{param_names, AreNamed}
-use Rattle.param_list.specs.ParamsText.{Entry, entry_of, with_name, names_said, line_refusal, entry_refusal, refusal_at, IsFirstRefusal, IsParamOf, AreParamsOf}
 use Rattle.param_list.proofs.RefusalLemmas.{is_short, are_few, is_new}
 
 with_name-append : (o : Option Entry) (xs ys : List (List ℕ)) → with_name o (xs ++ ys) ≡ with_name o xs ++ ys

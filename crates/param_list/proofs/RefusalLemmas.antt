@@ -1,12 +1,6 @@
 -- The refusal of a line that says a name and a value, by its cases.
-use Rattle.std.proofs.Common.{◌≡◌, ℕ, ◌<◌, ◌≤◌, Bool, true, false, not, ◌||◌, ltb, leb, List, ◌++◌, length, Option, Some, None, bytes_eq, refl, ◌∙◌}
-use Rattle.std.proofs.lemmas.Bool.{or_parts, or_left, or_right, or_from, ltb-false, leb-false, le-ltb, lt-leb}
-use Rattle.std.proofs.lemmas.List.Folds.{list_any-append}
+use Rattle.param_list.proofs.Common.{◌≡◌, ℕ, ◌<◌, ◌≤◌, Bool, true, false, not, ◌||◌, ltb, leb, List, ◌++◌, length, Option, Some, None, bytes_eq, refl, ◌∙◌, or_parts, or_left, or_right, or_from, ltb-false, leb-false, le-ltb, lt-leb, list_any-append, has_name, ParErr, Parameters, NotInput, IsClock, Repeated, entry_refusal}
 use Rattle.list_laws.proofs.Choice.{none_both}
-use Rattle.netlist.specs.Models.{has_name}
-use Rattle.param_list.specs.declared.par_err.ParErr.{ParErr}
-use Rattle.param_list.specs.declared.par_err.ParErr.TheVariants.{Parameters, NotInput, IsClock, Repeated}
-use Rattle.param_list.specs.ParamsText.{entry_refusal}
 
 module _ (inputs clocks earlier : List (List ℕ)) (number : ℕ) (name : List ℕ) (init : Bool) where
   abbrev pub is_over : Bool

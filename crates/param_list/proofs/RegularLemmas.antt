@@ -1,22 +1,5 @@
 -- The places of the inputs that aren't parameters, and the inputs as those that are left and the parameters.
-use Rattle.std.proofs.Common.{◌≡◌, ℕ, ◌+◌, ◌<◌, ◌≤◌, Bool, true, false, not, List, ◌++◌, length, map, Some, refl, sym, ap, ◌∙◌, subst, inl, inr, arith}
-use Rattle.std.specs.Prelude.{slice_get}
-use Rattle.std.specs.Option.{option_map}
-use Rattle.std.proofs.lemmas.Bool.{both_ways, cases_Bool, not-true, not_from_false}
-use Rattle.std.proofs.lemmas.List.{length-map}
-use Rattle.std.proofs.lemmas.Option.{same_Some, slice_get-map, slice_get_within}
-use Rattle.list_laws.specs.Members.{In}
-use Rattle.list_laws.proofs.Members.{In-get, In-map, In-append, In-left, In-right, In-filter, in_filter, from_map}
-use Rattle.list_laws.proofs.Places.{at_within}
-use Rattle.tl_text.specs.Once.{AreOnce}
-use Rattle.tl_text.proofs.NameSetLemmas.{has_in, in_has}
-use Rattle.netlist.specs.FlatValue.{FlatValue}
-use Rattle.netlist.specs.Models.{has_name}
-use Rattle.list_laws.proofs.Apart.{AreApart, apart_once, joined_apart, filtered_apart, apart_short}
-use Rattle.param_list.specs.declared.params.Param.{Param}
-use Rattle.param_list.specs.Parameters.{param_names, regular_names, AreParameters, IsSplit}
-use Rattle.param_list.specs.RegularPlaces.{IsFree, AreRegularPlaces}
-use Rattle.param_list.specs.Marks.{marks_of, off_places}
+use Rattle.param_list.proofs.Common.{◌≡◌, ℕ, ◌+◌, ◌<◌, ◌≤◌, Bool, true, false, not, List, ◌++◌, length, map, Some, refl, sym, ap, ◌∙◌, subst, inl, inr, arith, slice_get, option_map, both_ways, cases_Bool, not-true, not_from_false, length-map, same_Some, slice_get-map, slice_get_within, In, In-get, In-map, In-append, In-left, In-right, In-filter, in_filter, from_map, at_within, AreOnce, has_in, in_has, FlatValue, has_name, AreApart, apart_once, joined_apart, filtered_apart, apart_short, Param, param_names, regular_names, AreParameters, IsSplit, IsFree, AreRegularPlaces, marks_of, off_places}
 use Rattle.param_list.proofs.MarkLemmas.{IsOff, off_in, in_off, off_ascending, off_names}
 
 module _ (flat : FlatValue) (params : List Param) (once : AreOnce flat.inputs) (are : AreParameters flat params) where

@@ -1,13 +1,5 @@
 -- The refusals ask of the clock nets only which names are among them.
-use Rattle.std.proofs.Common.{◌≡◌, ℕ, ◌||◌, List, ◌++◌, Option, Some, None, bytes_eq, refl, sym, ap, ◌∙◌}
-use Rattle.std.specs.Prelude.{slice_get, take}
-use Rattle.std.specs.Option.{option_and_then}
-use Rattle.std.proofs.lemmas.List.Folds.{list_any-append}
-use Rattle.tl_text.specs.LineValue.{WordsLine}
-use Rattle.netlist.specs.Models.{has_name}
-use Rattle.param_list.specs.declared.params.Param.{Param}
-use Rattle.param_list.specs.declared.par_err.ParErr.{ParErr}
-use Rattle.param_list.specs.ParamsText.{Entry, entry_of, names_said, entry_refusal, line_refusal, refusal_at, IsFirstRefusal, AreParamsOf}
+use Rattle.param_list.proofs.Common.{◌≡◌, ℕ, ◌||◌, List, ◌++◌, Option, Some, None, bytes_eq, refl, sym, ap, ◌∙◌, slice_get, take, option_and_then, list_any-append, WordsLine, has_name, Param, ParErr, Entry, entry_of, names_said, entry_refusal, line_refusal, refusal_at, IsFirstRefusal, AreParamsOf}
 
 same_then : {A B : Type 0} (f g : A → Option B) (o : Option A) → ((x : A) → f x ≡ g x) → option_and_then f o ≡ option_and_then g o
 same_then f g None h = refl

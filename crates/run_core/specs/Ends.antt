@@ -1,18 +1,40 @@
 -- How a step ends: its event is played; then its writes are sent; then its line is put.
-use Rattle.std.specs.Prelude.{◌≡◌, ℕ, ◌<◌, ◌≤◌, Bool, List, length, take, Option, Result, Ok, Err}
+use Rattle.std.specs.Prelude.{◌≡◌, Bool, List, Ok, Err, ℕ, ◌<◌, ◌≤◌, length, take, Option, Result}
+use Rattle.tl_io.specs.declared.Write.{Write}
+use Rattle.port_bank.specs.declared.bank.PortFault.{PortFault as Fault}
+use Rattle.port_bank.specs.Bank.{BankSeen}
+use Rattle.port_bank.specs.Send.{Plays}
+use Rattle.run_text.specs.EventValue.{EventValue, Set, Cycle, Upset, Scrub, Image}
+use Rattle.spec_core.specs.Specialiser.{SpecialiserValue}
 use Rattle.tl_io.specs.Causes.{Rose}
 use Rattle.tl_io.specs.Content.{extended}
 use Rattle.tl_io.specs.Sink.{SinkSeen}
 use Rattle.tl_io.specs.Writes.{writes_from}
-use Rattle.port_bank.specs.Bank.{BankSeen}
 use Rattle.port_bank.specs.Image.{Holds}
 use Rattle.port_bank.specs.Moves.{Becomes, FallsShort, KeepsPlaces, LosesPlace}
-use Rattle.port_bank.specs.Send.{Plays}
-use Rattle.run_text.specs.EventValue.{EventValue}
-use Rattle.spec_core.specs.Specialiser.{SpecialiserValue}
 use Rattle.run_core.specs.declared.step_err.StepErr.{StepErr}
 use Rattle.run_core.specs.declared.step_err.StepErr.TheVariants.{WriteFault, PortFault}
-use Rattle.run_core.specs.Sends.{LosesRegion, HasSent, HasLost}
+
+-- all writes were sent; a cycle and an image send nothing
+abbrev pub HasSent : EventValue → SpecialiserValue → BankSeen → BankSeen → Type 0
+HasSent (Set assigns) host old new = Plays host.state.config host.writes old new (Ok tt)
+HasSent (Cycle values) host old new = new ≡ old
+HasSent (Upset address) host old new = Plays host.state.config host.writes old new (Ok tt)
+HasSent Scrub host old new = Plays host.state.config host.writes old new (Ok tt)
+HasSent Image host old new = new ≡ old
+
+-- a region lost its port in a send of these writes
+pub record LosesRegion (config : List Bool) (writes : List Write) (old new : BankSeen) : Type 0 where
+  pub fault : Fault
+  pub plays : Plays config writes old new (Err fault)
+
+-- the send of an event met a region that lost its port; a cycle and an image can't
+abbrev pub HasLost : EventValue → SpecialiserValue → BankSeen → BankSeen → Type 0
+HasLost (Set assigns) host old new = LosesRegion host.state.config host.writes old new
+HasLost (Cycle values) host old new = ⊥
+HasLost (Upset address) host old new = LosesRegion host.state.config host.writes old new
+HasLost Scrub host old new = LosesRegion host.state.config host.writes old new
+HasLost Image host old new = ⊥
 
 -- the whole send was made, or it met a region that lost its port
 abbrev pub IsSent : EventValue → SpecialiserValue → BankSeen → BankSeen → Result Unit StepErr → Type 0

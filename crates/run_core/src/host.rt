@@ -11,11 +11,8 @@ ghost use Rattle.run_text.specs.EventValue.{event_value};
 ghost use Rattle.run_text.specs.Lines.{header_line, cycle_line};
 ghost use Rattle.spec_core.specs.Differences.{write_of};
 ghost use Rattle.spec_core.specs.Specialiser.{SpecialiserValue};
-ghost use Rattle.run_core.specs.Fits.{FitsPack, IsOfHost};
-ghost use Rattle.run_core.specs.Events.{IsHostEvent, IsHostPlayed, IsWithinSteps, IsSteady};
-ghost use Rattle.run_core.specs.EventLines.{host_line};
-ghost use Rattle.run_core.specs.Sends.{HasSent, HasLost};
-ghost use Rattle.run_core.specs.Ends.{IsSent, LeavesPorts, PutsLine, HasPlaces, StillHolds};
+ghost use Rattle.run_core.specs.Events.{FitsPack, IsOfHost, IsHostEvent, IsHostPlayed, IsWithinSteps, IsSteady, host_line};
+ghost use Rattle.run_core.specs.Ends.{HasSent, HasLost, IsSent, LeavesPorts, PutsLine, HasPlaces, StillHolds};
 
 use crate::step_err::StepErr;
 use aig_core::Steps;

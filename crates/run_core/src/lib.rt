@@ -8,8 +8,8 @@
 //! the one after the event, whatever the step returns. If a port fault ended the step, no byte of the line was written; if a
 //! write fault ended it, the whole send was made and a prefix of the line was written.
 //!
-//! `specs/Events.antt` has the effect of an event on the state, `specs/EventLines.antt` its line, `specs/Sends.antt` what it
-//! sends, and `specs/Ends.antt` how a step ends. No event allocates memory.
+//! `specs/Events.antt` has the effect of an event on the state and its line, and `specs/Ends.antt` what it sends and how a
+//! step ends. No event allocates memory.
 #![tactic(auto)]
 
 mod host;

@@ -7,9 +7,7 @@ ghost use Rattle.ppc_pack.specs.Pack.{IsConf, HasOneConf, inits_of};
 ghost use Rattle.lut_sim.specs.Playable.{IsPlayable};
 ghost use Rattle.run_text.specs.EventValue.{event_value};
 ghost use Rattle.run_text.specs.Lines.{header_line};
-ghost use Rattle.run_core.specs.Fits.{FitsPack, FitsShape};
-ghost use Rattle.run_core.specs.Events.{IsPlayed, IsClockEvent, HasOneCycle, IsWithinSteps, IsSteady};
-ghost use Rattle.run_core.specs.EventLines.{event_line};
+ghost use Rattle.run_core.specs.Events.{FitsPack, FitsShape, IsPlayed, IsClockEvent, HasOneCycle, IsWithinSteps, IsSteady, event_line};
 ghost use Rattle.run_core.specs.Ends.{IsLoaded, IsSent, LeavesPorts, PutsLine, HasPlaces, StillHolds};
 
 use crate::host::Host;

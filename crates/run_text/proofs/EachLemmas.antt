@@ -1,11 +1,5 @@
 -- The values of all elements of a list, found one by one.
-use Rattle.std.proofs.Common.{◌≡◌, ℕ, zero, suc, ◌+◌, ◌≤◌, List, [], ◌∷◌, ◌++◌, length, map, take, drop, Option, Some, None, refl, sym, ap, ◌∙◌}
-use Rattle.std.specs.Prelude.{slice_get}
-use Rattle.std.proofs.lemmas.List.{take_all, take-append-drop}
-use Rattle.std.proofs.lemmas.Option.{none-some, same_Some}
-use Rattle.list_laws.proofs.Places.{drop_get}
-use Rattle.run_text.specs.Each.{in_front, each_of}
-use Rattle.list_laws.proofs.Places.{take_get}
+use Rattle.run_text.proofs.Common.{◌≡◌, ℕ, zero, suc, ◌+◌, ◌≤◌, List, [], ◌∷◌, ◌++◌, length, map, take, drop, Option, Some, None, refl, sym, ap, ◌∙◌, slice_get, take_all, take-append-drop, none-some, same_Some, drop_get, in_front, each_of, take_get}
 
 -- the values of two lists, one behind the other
 abbrev joined : {B : Type 0} → Option (List B) → Option (List B) → Option (List B)

@@ -1,26 +1,7 @@
 -- The events of a script fit what it may name.
-use Rattle.std.proofs.Common.{◌≡◌, ℕ, zero, suc, ◌||◌, Bool, true, false, not, eqb, ltb, leb, List, [], ◌∷◌, ◌++◌, length, Option, Some, None, bytes_eq, refl, sym, ap, ◌∙◌, subst}
-use Rattle.std.specs.Prelude.{slice_get}
-use Rattle.std.specs.Option.{option_map, option_and_then}
-use Rattle.std.proofs.lemmas.Bool.{or_parts, eqb-true, ltb-true}
-use Rattle.std.proofs.lemmas.Option.{none-some, same_Some, slice_get_within}
-use Rattle.list_laws.specs.Members.{In}
+use Rattle.run_text.proofs.Common.{◌≡◌, ℕ, zero, suc, ◌||◌, Bool, true, false, not, eqb, ltb, leb, List, [], ◌∷◌, ◌++◌, length, Option, Some, None, bytes_eq, refl, sym, ap, ◌∙◌, subst, slice_get, option_map, option_and_then, or_parts, eqb-true, ltb-true, none-some, same_Some, slice_get_within, In, place_in, Assign, WordsLine, place_of, has_name, place_is, has_one_more, each_of, EventValue, Set, Cycle, Upset, Scrub, Image, Fits, NamesValue, Saying, sets, cycles, upsets, scrubs, images, said_of, settings_refusal, cycle_refusal, saying_refusal, line_refusal, assigned, assign_of, event_of, line_event, AreEventsOf, Setting, NotParameter, RepeatedInSet, Width, Address, Events}
 use Rattle.list_laws.proofs.Choice.{none_both, none_else}
-use Rattle.list_laws.proofs.Members.{place_in}
-use Rattle.tl_io.specs.declared.Assign.{Assign}
-use Rattle.tl_text.specs.LineValue.{WordsLine}
-use Rattle.tl_text.specs.NameIndex.{place_of}
-use Rattle.tl_text.specs.NameSets.{has_name}
-use Rattle.tl_text.proofs.NameSetLemmas.{place_is, has_one_more}
-use Rattle.run_text.specs.Each.{each_of}
-use Rattle.run_text.specs.EventValue.{EventValue, Set, Cycle, Upset, Scrub, Image}
-use Rattle.run_text.specs.Fits.{Fits}
 use Rattle.tl_io.specs.Assigns.{AreAssigned}
-use Rattle.run_text.specs.NamesValue.{NamesValue}
-use Rattle.run_text.specs.Sayings.{Saying, sets, cycles, upsets, scrubs, images, said_of}
-use Rattle.run_text.specs.ScriptText.{settings_refusal, cycle_refusal, saying_refusal, line_refusal, assigned, assign_of, event_of, line_event, AreEventsOf}
-use Rattle.run_text.specs.declared.setting.Setting.{Setting}
-use Rattle.run_text.specs.declared.script_err.ScriptErr.TheVariants.{NotParameter, RepeatedInSet, Width, Address, Events}
 use Rattle.run_text.proofs.EachLemmas.{each_at}
 use Rattle.param_list.proofs.MarkLemmas.{has_this}
 

@@ -1,3 +1,4 @@
+mod Common
 mod LinesExample
 pub mod EachLemmas
 mod SettingLemmas

@@ -1,8 +1,7 @@
 -- Worked examples: each line that is put out.
-use Rattle.std.proofs.Common.{◌≡◌, true, false, List, [], ◌∷◌, codes, refl}
+use Rattle.run_text.proofs.Common.{◌≡◌, true, false, List, [], ◌∷◌, codes, refl, bit_digit, bit_string, header_line, cycle_line, bits_header_line, write_text, set_line, scrub_line, upset_line, image_line}
 use Rattle.std.specs.Fmt.{digits}
 use Rattle.tl_io.specs.declared.Write.{Write}
-use Rattle.run_text.specs.Lines.{bit_digit, bit_string, header_line, cycle_line, bits_header_line, write_text, set_line, scrub_line, upset_line, image_line}
 
 abbrev writes : List Write
 writes = record { address = 1; bit = true } ∷ record { address = 20; bit = false } ∷ []

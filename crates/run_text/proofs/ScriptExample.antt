@@ -1,24 +1,11 @@
 -- Worked examples: a script of all five events, what words say, and each refusal.
-use Rattle.std.proofs.Common.{◌≡◌, ℕ, zero, suc, true, false, List, [], ◌∷◌, codes, map, inl, inr, ap, ◌∙◌, Option, Some, None, Ok, refl, sym, subst, arith}
-use Rattle.std.specs.Prelude.{slice_get}
-use Rattle.std.proofs.lemmas.Option.{none-some}
+use Rattle.run_text.proofs.Common.{replicate, ◌≡◌, ℕ, zero, suc, true, false, List, [], ◌∷◌, codes, map, inl, inr, ap, ◌∙◌, Option, Some, None, Ok, refl, sym, subst, arith, slice_get, none-some, Assign, WordsLine, LineValue, words_line, EventValue, event_values, Set, Cycle, Upset, Scrub, Image, Fits, NamesValue, refusal_of, split_last, setting_of, settings_of, bits_of, address_of, at_line, line_refusal, line_event, refusal_at, IsScript, IsScriptFault, ScriptErr, Malformed, NotHere, Width, NotParameter, RepeatedInSet, Address, Events, Memory}
 use Rattle.tl_fault.specs.RefusalValue.{refusal as told}
 use Rattle.tl_fault.specs.declared.refusal.Details.TheVariants.{Line, Bits}
 use Rattle.tl_fault.specs.declared.refusal.Details.TheVariants as details
-use Rattle.tl_io.specs.declared.Assign.{Assign}
-use Rattle.tl_text.specs.LineValue.{WordsLine, LineValue, words_line}
 use Rattle.tl_text.specs.Lines.{lines_of}
-use Rattle.run_text.specs.EventValue.{EventValue, event_values, Set, Cycle, Upset, Scrub, Image}
-use Rattle.run_text.specs.Fits.{Fits}
-use Rattle.run_text.specs.NamesValue.{NamesValue}
-use Rattle.run_text.specs.ScriptRefusals.{refusal_of}
-use Rattle.run_text.specs.Sayings.{split_last, setting_of, settings_of, bits_of, address_of}
-use Rattle.tl_text.specs.TextOf.{at_line}
-use Rattle.run_text.specs.ScriptText.{line_refusal, line_event, refusal_at, IsScript, IsScriptFault}
 use Rattle.run_text.specs.declared.event.Event.TheVariants as event
 use Rattle.run_text.specs.declared.event.Forms.TheVariants as form
-use Rattle.run_text.specs.declared.script_err.ScriptErr.{ScriptErr}
-use Rattle.run_text.specs.declared.script_err.ScriptErr.TheVariants.{Malformed, NotHere, Width, NotParameter, RepeatedInSet, Address, Events, Memory}
 
 -- two parameters, two regular inputs, four bits
 abbrev names : NamesValue
@@ -53,81 +40,46 @@ five_events : IsScript names text events
 five_events = record { lines = lines; lines_are = refl; are = record { no_refusal = none_refused; are = refl } }
 
 -- a word is split at its last `=`
-two_signs : split_last (codes "a=b=1") ≡ Some (record { front = codes "a=b"; back = codes "1" })
-two_signs = refl
+splits : map split_last (codes "a=b=1" ∷ codes "ab" ∷ []) ≡ Some (record { front = codes "a=b"; back = codes "1" }) ∷ None ∷ []
+splits = refl
 
-no_sign : split_last (codes "ab") ≡ None
-no_sign = refl
-
-odd_name : setting_of (codes "a=b=1") ≡ Some (record { name = codes "a=b"; bit = true })
-odd_name = refl
-
-no_name : setting_of (codes "=1") ≡ None
-no_name = refl
+settings : map setting_of (codes "a=b=1" ∷ codes "=1" ∷ []) ≡ Some (record { name = codes "a=b"; bit = true }) ∷ None ∷ []
+settings = refl
 
 no_setting : settings_of [] ≡ None
 no_setting = refl
 
 -- `-` is no value, and another byte makes a word none of both
-no_values : bits_of (codes "-") ≡ Some []
-no_values = refl
-
-two_values : bits_of (codes "01") ≡ Some (false ∷ true ∷ [])
-two_values = refl
-
-bad_value : bits_of (codes "0-") ≡ None
-bad_value = refl
+values : map bits_of (codes "-" ∷ codes "01" ∷ codes "0-" ∷ []) ≡ Some [] ∷ Some (false ∷ true ∷ []) ∷ None ∷ []
+values = refl
 
 -- the greatest address, and the number behind it
-greatest : address_of (codes "4294967295") ≡ Some 4294967295
-greatest = refl
-
-too_great : address_of (codes "4294967296") ≡ None
-too_great = refl
+addresses : map address_of (codes "4294967295" ∷ codes "4294967296" ∷ []) ≡ Some 4294967295 ∷ None ∷ []
+addresses = refl
 
 -- the refusal of line 7 by its words
 abbrev refusal : List (List ℕ) → Option ScriptErr
 refusal words = line_refusal names 3 (record { number = 7; words = words })
 
 -- S1: an unknown word, a word too many or too few, a value that is none, behind a name that is no parameter
-unknown : refusal (codes "sets" ∷ codes "p=1" ∷ []) ≡ Some (Malformed 7)
-unknown = refl
-
-too_many : refusal (codes "scrub" ∷ codes "1" ∷ []) ≡ Some (Malformed 7)
-too_many = refl
-
-too_few : refusal (codes "set" ∷ []) ≡ Some (Malformed 7)
-too_few = refl
-
-later_word : refusal (codes "set" ∷ codes "z=1" ∷ codes "p=2" ∷ []) ≡ Some (Malformed 7)
-later_word = refl
+malformed : map refusal ((codes "sets" ∷ codes "p=1" ∷ []) ∷ (codes "scrub" ∷ codes "1" ∷ []) ∷ (codes "set" ∷ []) ∷ (codes "set" ∷ codes "z=1" ∷ codes "p=2" ∷ []) ∷ []) ≡ replicate 4 (Some (Malformed 7))
+malformed = refl
 
 -- S6 and S2: a cycle where there are none, and one with a value too few
 no_cycles : line_refusal (record { forms = form.Run; params = []; width = None; bits = 4 }) 3 (record { number = 7; words = codes "cycle" ∷ codes "1" ∷ [] }) ≡ Some (NotHere 7)
 no_cycles = refl
 
-one_short : refusal (codes "cycle" ∷ codes "1" ∷ []) ≡ Some (Width 7 2)
-one_short = refl
-
-none_given : refusal (codes "cycle" ∷ codes "-" ∷ []) ≡ Some (Width 7 2)
-none_given = refl
+too_few : map refusal ((codes "cycle" ∷ codes "1" ∷ []) ∷ (codes "cycle" ∷ codes "-" ∷ []) ∷ []) ≡ replicate 2 (Some (Width 7 2))
+too_few = refl
 
 -- S3 and S4, word by word
-no_parameter : refusal (codes "set" ∷ codes "z=1" ∷ []) ≡ Some (NotParameter 7 (codes "z"))
-no_parameter = refl
+word_by_word : map refusal ((codes "set" ∷ codes "z=1" ∷ []) ∷ (codes "set" ∷ codes "p=1" ∷ codes "p=1" ∷ codes "z=1" ∷ []) ∷ (codes "set" ∷ codes "p=1" ∷ codes "z=1" ∷ codes "p=1" ∷ []) ∷ [])
+    ≡ Some (NotParameter 7 (codes "z")) ∷ Some (RepeatedInSet 7 (codes "p")) ∷ Some (NotParameter 7 (codes "z")) ∷ []
+word_by_word = refl
 
-twice : refusal (codes "set" ∷ codes "p=1" ∷ codes "p=1" ∷ codes "z=1" ∷ []) ≡ Some (RepeatedInSet 7 (codes "p"))
-twice = refl
-
-before : refusal (codes "set" ∷ codes "p=1" ∷ codes "z=1" ∷ codes "p=1" ∷ []) ≡ Some (NotParameter 7 (codes "z"))
-before = refl
-
--- S5: the first address that isn't there
-no_bit : refusal (codes "upset" ∷ codes "4" ∷ []) ≡ Some (Address 7 4)
-no_bit = refl
-
-last_bit : refusal (codes "upset" ∷ codes "3" ∷ []) ≡ None
-last_bit = refl
+-- S5: the first address that isn't there, and the last one that is
+bit_refusals : map refusal ((codes "upset" ∷ codes "4" ∷ []) ∷ (codes "upset" ∷ codes "3" ∷ []) ∷ []) ≡ Some (Address 7 4) ∷ None ∷ []
+bit_refusals = refl
 
 -- L7: behind 2^20 events, whatever the line is; one event fewer is taken
 one_too_many : line_refusal names 1048576 (record { number = 7; words = codes "what" ∷ [] }) ≡ Some (Events 7)
@@ -160,26 +112,15 @@ paced = record { forms = form.Pace; params = codes "p" ∷ codes "q" ∷ []; wid
 abbrev paced_line : List (List ℕ) → WordsLine
 paced_line words = record { number = 7; words = words }
 
-ask_event : line_event paced (paced_line (codes "ask" ∷ codes "q=1" ∷ [])) ≡ Some (Set (record { param = 1; bit = true } ∷ []))
-ask_event = refl
+paced_events : map (λ words. line_event paced (paced_line words)) ((codes "ask" ∷ codes "q=1" ∷ []) ∷ (codes "tick" ∷ codes "10" ∷ []) ∷ [])
+    ≡ Some (Set (record { param = 1; bit = true } ∷ [])) ∷ Some (Cycle (true ∷ false ∷ [])) ∷ []
+paced_events = refl
 
-tick_event : line_event paced (paced_line (codes "tick" ∷ codes "10" ∷ [])) ≡ Some (Cycle (true ∷ false ∷ []))
-tick_event = refl
+paced_refusals : map (λ words. line_refusal paced 3 (paced_line words)) ((codes "ask" ∷ codes "z=1" ∷ []) ∷ (codes "tick" ∷ codes "1" ∷ []) ∷ []) ≡ Some (NotParameter 7 (codes "z")) ∷ Some (Width 7 2) ∷ []
+paced_refusals = refl
 
-ask_refused : line_refusal paced 3 (paced_line (codes "ask" ∷ codes "z=1" ∷ [])) ≡ Some (NotParameter 7 (codes "z"))
-ask_refused = refl
-
-tick_refused : line_refusal paced 3 (paced_line (codes "tick" ∷ codes "1" ∷ [])) ≡ Some (Width 7 2)
-tick_refused = refl
-
-no_set : line_refusal paced 3 (paced_line (codes "set" ∷ codes "q=1" ∷ [])) ≡ Some (Malformed 7)
-no_set = refl
-
-no_cycle : line_refusal paced 3 (paced_line (codes "cycle" ∷ codes "10" ∷ [])) ≡ Some (Malformed 7)
-no_cycle = refl
-
-no_image : line_refusal paced 3 (paced_line (codes "image" ∷ [])) ≡ Some (Malformed 7)
-no_image = refl
+not_paced : map (λ words. line_refusal paced 3 (paced_line words)) ((codes "set" ∷ codes "q=1" ∷ []) ∷ (codes "cycle" ∷ codes "10" ∷ []) ∷ (codes "image" ∷ []) ∷ []) ≡ replicate 3 (Some (Malformed 7))
+not_paced = refl
 
 no_ask : refusal (codes "ask" ∷ codes "q=1" ∷ []) ≡ Some (Malformed 7)
 no_ask = refl
@@ -206,14 +147,6 @@ plain_events : event_values (event.Upset 3 ∷ event.Scrub ∷ event.Image ∷ [
 plain_events = refl
 
 -- want of memory is no refusal, and two refusals tell a number beside the line
-no_refusal : refusal_of Memory ≡ None
-no_refusal = refl
-
-no_form : refusal_of (Malformed 7) ≡ Some (told (codes "S1") (codes "Malformed") (Line 7))
-no_form = refl
-
-other_width : refusal_of (Width 7 2) ≡ Some (told (codes "S2") (codes "Width") (details.Width 7 2))
-other_width = refl
-
-other_bits : refusal_of (Address 7 4) ≡ Some (told (codes "S5") (codes "Address") (Bits 7 4))
-other_bits = refl
+told_refusals : map refusal_of (Memory ∷ Malformed 7 ∷ Width 7 2 ∷ Address 7 4 ∷ [])
+    ≡ None ∷ Some (told (codes "S1") (codes "Malformed") (Line 7)) ∷ Some (told (codes "S2") (codes "Width") (details.Width 7 2)) ∷ Some (told (codes "S5") (codes "Address") (Bits 7 4)) ∷ []
+told_refusals = refl

@@ -1,11 +1,7 @@
 -- A text is one script at most, or has one refusal at most, and never both.
-use Rattle.std.proofs.Common.{List, ℕ}
+use Rattle.run_text.proofs.Common.{List, ℕ, WordsLine, text_settled, NamesValue, refusal_at, line_event, script_err, IsFirstRefusal, AreEventsOf, HasOneReading}
 use Rattle.tl_fault.specs.Settled.{IsSettled}
-use Rattle.tl_text.specs.LineValue.{WordsLine}
 use Rattle.tl_text.proofs.FirstLemmas.{one_first, none_first}
-use Rattle.tl_text.proofs.TextOfLemmas.{text_settled}
-use Rattle.run_text.specs.NamesValue.{NamesValue}
-use Rattle.run_text.specs.ScriptText.{refusal_at, line_event, script_err, IsFirstRefusal, AreEventsOf, HasOneReading}
 use Rattle.run_text.proofs.EachLemmas.{each_once}
 
 lines_settled : (names : NamesValue) (lines : List WordsLine) → IsSettled (AreEventsOf names lines) (IsFirstRefusal names lines)

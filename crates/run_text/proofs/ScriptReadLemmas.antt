@@ -1,18 +1,6 @@
 -- The lines of a script are read one by one: the events of the lines so far, and the first line that has a refusal.
-use Rattle.std.proofs.Common.{◌≡◌, ℕ, ◌+◌, ◌<◌, ◌≤◌, List, [], ◌∷◌, ◌++◌, length, map, take, drop, get_or, Some, None, refl, sym, ap, ◌∙◌, subst, inl, inr, arith}
-use Rattle.std.specs.Prelude.{slice_get}
-use Rattle.std.specs.Option.{option_and_then}
-use Rattle.std.proofs.lemmas.Bool.{cases_lt}
-use Rattle.std.proofs.lemmas.List.{map-append}
-use Rattle.std.proofs.lemmas.Option.{slice_get_past}
-use Rattle.tl_text.specs.LineValue.{WordsLine, token_bytes}
-use Rattle.tl_text.specs.declared.token.Token.{Token}
-use Rattle.run_text.specs.Each.{each_of}
-use Rattle.run_text.specs.EventValue.{EventValue, event_value, event_values}
-use Rattle.run_text.specs.NamesValue.{NamesValue}
-use Rattle.run_text.specs.ScriptText.{line_refusal, line_event, refusal_at, IsFirstRefusal, AreEventsOf}
+use Rattle.run_text.proofs.Common.{◌≡◌, ℕ, ◌+◌, ◌<◌, ◌≤◌, List, [], ◌∷◌, ◌++◌, length, take, Some, None, refl, sym, ap, ◌∙◌, subst, inl, inr, arith, slice_get, option_and_then, cases_lt, map-append, slice_get_past, WordsLine, each_of, EventValue, event_value, event_values, NamesValue, line_refusal, line_event, refusal_at, IsFirstRefusal, AreEventsOf, ScriptErr}
 use Rattle.run_text.specs.declared.event.Event.{Event}
-use Rattle.run_text.specs.declared.script_err.ScriptErr.{ScriptErr}
 use Rattle.run_text.proofs.EachLemmas.{each_next, each_all}
 
 -- the lines before a place have no refusal, and these are their events
@@ -48,8 +36,3 @@ module _ (names : NamesValue) (lines : List WordsLine) where
 -- one more event
 pub one_event : (events more : List Event) (event : Event) → more ≡ events ++ event ∷ [] → event_values events ++ event_value event ∷ [] ≡ event_values more
 one_event events more event pushed = sym (ap event_values pushed ∙ map-append event_value events (event ∷ []))
-
--- the words of tokens, the first one and the others
-pub words_split : (text : List ℕ) (tokens : List Token) (d : Token) → 0 < length tokens → map (token_bytes text) tokens ≡ token_bytes text (get_or tokens 0 d) ∷ map (token_bytes text) (drop 1 tokens)
-words_split text [] d some = absurd (omega arith)
-words_split text (t ∷ ts) d some = refl

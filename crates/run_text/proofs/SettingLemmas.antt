@@ -1,11 +1,5 @@
 -- A word is split at its last `=`, and the refusal of a setting by the tests of its name.
-use Rattle.std.proofs.Common.{◌≡◌, ◌≢◌, ℕ, zero, suc, ◌+◌, ◌<◌, ◌≤◌, true, false, List, [], ◌∷◌, ◌++◌, length, get_or, take, drop, Some, None, refl, sym, ap, ◌∙◌, subst, arith}
-use Rattle.std.proofs.lemmas.Bool.{cond-true, cond-false, eq-eqb, ne_eqb}
-use Rattle.tl_text.specs.NameSets.{has_name}
-use Rattle.run_text.specs.Sayings.{split_before, split_last}
-use Rattle.run_text.specs.ScriptText.{settings_refusal}
-use Rattle.run_text.specs.declared.setting.Setting.{Setting}
-use Rattle.run_text.specs.declared.script_err.ScriptErr.TheVariants.{NotParameter, RepeatedInSet}
+use Rattle.run_text.proofs.Common.{◌≡◌, ◌≢◌, ℕ, zero, suc, ◌+◌, ◌<◌, ◌≤◌, true, false, List, [], ◌∷◌, ◌++◌, length, get_or, take, drop, Some, None, refl, sym, ap, ◌∙◌, subst, arith, cond-true, cond-false, eq-eqb, ne_eqb, has_name, split_before, split_last, settings_refusal, Setting, NotParameter, RepeatedInSet}
 
 pub split_none : (xs : List ℕ) → ((k : ℕ) → k < length xs → get_or xs k 0 ≢ 61) → split_last xs ≡ None
 split_none [] none = refl

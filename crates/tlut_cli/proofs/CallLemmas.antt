@@ -1,30 +1,32 @@
 -- What an end says of a call: what its status means, and what the arguments and the files call for.
-use Rattle.std.proofs.Common.{◌≡◌, ℕ, Bool, true, false, cond, List, Some, None, length, refl, sym, ap, ◌∙◌, subst, inl, inr, ◌⊎◌}
-use Rattle.std.proofs.lemmas.Option.{none-some}
+use Rattle.tlut_cli.proofs.Common.{◌≡◌, ℕ, List, Some, None, sym, ◌∙◌, subst, none-some, same_Some, Rule, ShelfSeen, Outside, HasLaws, Outcome, Command, command_of, walk_of, HasEnded, HasWalkLaws, Bool, true, false, cond, length, refl, ap, inl, inr, ◌⊎◌, Files, outside, MapWords, Map, ReplaysRun, IsEnd, HasCommand, HasRefusal, HasDone, HasCutOff, HasLost, HasKeptPorts, HasFault, HasPortCause, HasWriteCause, IsAnswered, IsComplete, IsFinished, HasNoFault, HasBegun}
 use Rattle.tl_fault.specs.RefusalValue.{RefusalValue}
 use Rattle.tl_fault.specs.Refusals.{is_limit}
 use Rattle.tl_io.specs.Causes.{Rose}
 use Rattle.tl_io.specs.Port.{PortSeen}
-use Rattle.tl_io.specs.Shelf.{Files, ShelfSeen}
 use Rattle.tl_io.specs.Sink.{SinkSeen}
-use Rattle.cmd_base.specs.Outside.{Outside, outside}
-use Rattle.cover_pick.specs.declared.rule.Rule.{Rule}
 use Rattle.cmd_base.specs.Refusals.{too_long}
-use Rattle.cmd_map.specs.Map.Words.{MapWords}
-use Rattle.tlut_cli.specs.Commands.{Command, Map, command_of, walk_of}
-use Rattle.tlut_cli.specs.Replay.{ReplaysRun}
-use Rattle.cmd_base.specs.Ends.{Told, InFiles, Ends}
-use Rattle.cmd_base.specs.WalkLaws.{HasLaws}
-use Rattle.tlut_cli.specs.CommandEnds.{HasWalkLaws}
-use Rattle.tlut_cli.specs.Call.{IsEnd, HasCommand, HasRefusal, HasDone, HasCutOff, HasLost, HasKeptPorts, HasFault, HasPortCause, HasWriteCause, IsAnswered, IsComplete, IsFinished, HasNoFault, HasBegun}
+use Rattle.cmd_base.specs.Walk.{Told, InFiles, Ends}
 use Rattle.cmd_base.specs.Statuses.{status_of, refusal_status}
 use Rattle.cmd_base.specs.declared.outcome.File.{File}
-use Rattle.cmd_base.specs.declared.outcome.Outcome.{Outcome}
 use Rattle.cmd_base.specs.declared.outcome.Outcome.TheVariants as outcome
 use Rattle.cmd_base.specs.declared.status.Status.{Status}
 use Rattle.cmd_base.specs.declared.status.Status.TheVariants as status
-use Rattle.tlut_cli.proofs.CommandLemmas.{one_command}
 use Rattle.tlut_cli.proofs.ReplayLemmas.{replays_run}
+
+-- How a command ends is how the command of its arguments does.
+pub ended_as : {old new : ShelfSeen} {before after : Outside} {o : Outcome} (this command : Command) → this ≡ command → HasEnded this old new before after o → HasEnded command old new before after o
+ended_as {old} {new} {before} {after} {o} this command same ended = subst (λ c. HasEnded c old new before after o) same ended
+
+-- words are of one command, whose walk has its laws
+pub one_command : (rule : Rule) (ports : ℕ) (words : List (List ℕ)) (a b : Command) → command_of rule ports words ≡ Some a → command_of rule ports words ≡ Some b → a ≡ b
+one_command rule ports words a b x y = same_Some a b (sym x ∙ y)
+
+pub no_laws : (rule : Rule) (ports : ℕ) (words : List (List ℕ)) → None ≡ command_of rule ports words → HasWalkLaws rule ports words
+no_laws rule ports words none command is = absurd (none-some command (none ∙ is))
+
+pub its_laws : (rule : Rule) (ports : ℕ) (words : List (List ℕ)) (this : Command) → Some this ≡ command_of rule ports words → HasLaws (walk_of this) → HasWalkLaws rule ports words
+its_laws rule ports words this is laws command other = subst (λ c. HasLaws (walk_of c)) (same_Some this command (is ∙ other)) laws
 
 refusal_not_memory : (b : Bool) → status.Memory ≡ cond b status.Limit status.Refused → ⊥
 refusal_not_memory true e = cc
@@ -115,23 +117,17 @@ module _ (rule : Rule) (words : List (List ℕ)) (old new : ShelfSeen) (out put 
     refused_answered outcome.Usage s e ends files has f r refused read = absurd ends
     refused_answered outcome.Memory s e ends files has f r refused read = inr e
     refused_answered (outcome.ReadFault g) s e ends files has f r refused read = absurd (read ends.0.fault.rose)
-    refused_answered outcome.Done s e ends files has f r refused read = absurd (laws.not_both files (ends.0.begun files has).settled (ends.0.begun files has).accepted f r refused)
-    refused_answered outcome.WriteFault s e ends files has f r refused read = absurd (laws.not_both files (ends.0.begun files has).settled (ends.0.begun files has).accepted f r refused)
-    refused_answered outcome.PortFault s e ends files has f r refused read = absurd (laws.not_both files (ends.0.begun files has).settled (ends.0.begun files has).accepted f r refused)
     refused_answered (outcome.Refused g q) s e ends files has f r refused read = inl (e ∙ ap (λ x. refusal_status x) (laws.one_refusal files (ends.0.settled files has) g f q r (ends.0.is files has) refused))
     refused_answered (outcome.TooLong g) s e ends files has f r refused read = inl (e ∙ ap (λ x. refusal_status x) (laws.one_refusal files (ends.0.settled files has) g f too_long r (ends.0.is files has) refused))
+    refused_answered o s e ends files has f r refused read = absurd (laws.not_both files (ends.0.begun files has).settled (ends.0.begun files has).accepted f r refused)
 
     -- Where there is no memory, nothing was begun.
     no_memory : (o : Outcome) → status.Memory ≡ status_of o → Ends (walk_of command) old new before after o → HasBegun (walk_of command) new before after → ⊥
     no_memory outcome.Memory e ends (inl grown) = grown (ap (λ (w : Outside). w.bytes) ends.0)
     no_memory outcome.Memory e ends (inr begun) = true≢false (sym begun.1 ∙ ends.1 begun.0)
-    no_memory outcome.Done e ends begun = cc
     no_memory outcome.Usage e ends begun = ends
-    no_memory outcome.WriteFault e ends begun = cc
-    no_memory outcome.PortFault e ends begun = cc
-    no_memory (outcome.ReadFault f) e ends begun = cc
-    no_memory (outcome.TooLong f) e ends begun = cc
     no_memory (outcome.Refused f r) e ends begun = refusal_not_memory (is_limit r) e
+    no_memory o e ends begun = cc
 
     -- So an accepted job is done where something was begun outside.
     begun_done : (o : Outcome) (s : Status) → s ≡ status_of o → Ends (walk_of command) old new before after o → (files : Files) → (walk_of command).reading.HasFiles old.files files → (walk_of command).IsAccepted files

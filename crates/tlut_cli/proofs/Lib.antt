@@ -1,4 +1,4 @@
-mod CommandLemmas
+mod Common
 mod ReplayLemmas
 mod CallLemmas
 mod ReplayExample

@@ -1,11 +1,5 @@
 -- What the clause on the replay says of two outputs, and two that do not meet it: examples, which nothing cites.
-use Rattle.std.proofs.Common.{◌≡◌, ℕ, List, [], ◌∷◌, ◌++◌, Option, None, Some, refl, sym, ap, ◌∙◌, arith, get_or}
-use Rattle.std.proofs.lemmas.List.{append_cancel_left}
-use Rattle.std.specs.List.{concat}
-use Rattle.tl_io.specs.Content.{extended}
-use Rattle.run_text.specs.EventValue.{EventValue}
-use Rattle.cmd_base.specs.Outside.{Outside}
-use Rattle.tlut_cli.specs.Replay.{PutTheSameLines}
+use Rattle.tlut_cli.proofs.Common.{◌≡◌, ℕ, List, [], ◌∷◌, ◌++◌, Option, None, Some, refl, sym, ap, ◌∙◌, arith, get_or, append_cancel_left, concat, extended, EventValue, Outside, PutTheSameLines}
 
 -- what an output grew by, where both ends are told
 grown_by : (start header text : List ℕ) (lines : List (List ℕ)) (old new : Option (List ℕ)) → old ≡ Some start → new ≡ Some (start ++ (header ++ text)) → new ≡ extended old (concat (header ∷ lines)) → text ≡ concat lines

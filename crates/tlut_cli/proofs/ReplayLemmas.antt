@@ -1,31 +1,16 @@
 -- A job of `map` that is done wrote what `bits` plays as `run` plays its LUTs.
-use Rattle.std.proofs.Common.{◌≡◌, ℕ, suc, List, ◌∷◌, length, Ok, Some, refl, sym, ap, ◌∙◌, subst, subst₂}
+use Rattle.tlut_cli.proofs.Common.{◌≡◌, ℕ, suc, List, ◌∷◌, length, Ok, Some, refl, sym, ap, ◌∙◌, subst, subst₂, concat, extended, Files, Outside, EventValue, RunWords, MapWords, BitsWords, PutTheSameLines, HaveTheSameSource, ReplaysRun, HasMap, IsPlayedOn, pack_header, bank_of}
 use Rattle.std.specs.FinMap.{get}
-use Rattle.std.specs.List.{concat}
-use Rattle.tl_io.specs.Content.{extended}
-use Rattle.tl_io.specs.Shelf.{Files}
-use Rattle.cmd_base.specs.Outside.{Outside}
 use Rattle.cmd_base.specs.Writing.{AreWritten}
-use Rattle.run_text.specs.EventValue.{EventValue}
 use Rattle.run_text.specs.Lines.{bits_header_line}
 use Rattle.cmd_stations.specs.Machine.{IsStart, machine_header, Stage, AreSteps, none, more, HasCome}
-use Rattle.cmd_stations.specs.Mapped.{template_header}
+use Rattle.cmd_stations.specs.Mapped.{template_header, ToTables}
 use Rattle.cmd_stations.specs.Packs.{present_bytes, pack_names}
 use Rattle.cmd_stations.specs.Script.{names_of}
-use Rattle.cmd_stations.specs.Settled.{IsSourceSettled}
-use Rattle.cmd_stations.specs.Aims.{ToTables}
-use Rattle.cmd_stations.specs.Source.{HasMapped}
-use Rattle.cmd_stations.proofs.OnceLemmas.{settled_once, template_once}
+use Rattle.cmd_stations.specs.Source.{IsSourceSettled, HasMapped}
+use Rattle.cmd_stations.proofs.RefusedLemmas.{settled_once, template_once}
 use Rattle.cmd_stations.proofs.ReplayLemmas.{file_same, pack_at, mapped_there, script_same, params_same}
-use Rattle.cmd_run.specs.Run.Words.{RunWords}
-use Rattle.cmd_run.specs.Run.Bank.{bank_of}
 use Rattle.cmd_run.specs.Run.Ends.{HasRun}
-use Rattle.cmd_map.specs.Map.Words.{MapWords}
-use Rattle.cmd_map.specs.Map.Verdict.{HasMap}
-use Rattle.cmd_pack.specs.Bits.Words.{BitsWords}
-use Rattle.cmd_pack.specs.Bits.Replay.{IsPlayedOn}
-use Rattle.cmd_pack.specs.Bits.Verdict.{pack_header}
-use Rattle.tlut_cli.specs.Replay.{PutTheSameLines, HaveTheSameSource, ReplaysRun}
 
 -- a line stands for each event
 one_each : {old new : Stage} {events : List EventValue} {lines : List (List ℕ)} → AreSteps old events lines new → length lines ≡ length events

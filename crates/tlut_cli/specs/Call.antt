@@ -4,10 +4,8 @@ use Rattle.tl_fault.specs.RefusalValue.{RefusalValue}
 use Rattle.cover_pick.specs.declared.rule.Rule.{Rule}
 use Rattle.tl_io.specs.Causes.{Rose}
 use Rattle.tl_io.specs.Shelf.{Files, ShelfSeen}
-use Rattle.cmd_base.specs.Outside.{Outside}
-use Rattle.cmd_base.specs.Walk.{Walk}
+use Rattle.cmd_base.specs.Walk.{Outside, Walk, InFiles, Ends, IsReadFault, HasWriteFault}
 use Rattle.tlut_cli.specs.Commands.{Command, command_of, walk_of}
-use Rattle.cmd_base.specs.Ends.{InFiles, Ends, IsReadFault, HasWriteFault}
 use Rattle.cmd_base.specs.Statuses.{refusal_status}
 use Rattle.cmd_base.specs.declared.outcome.File.{File}
 use Rattle.cmd_base.specs.declared.outcome.Outcome.{Outcome}

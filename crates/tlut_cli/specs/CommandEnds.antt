@@ -2,9 +2,7 @@
 use Rattle.std.specs.Prelude.{◌≡◌, ◌⊎◌, ℕ, List, Some}
 use Rattle.cover_pick.specs.declared.rule.Rule.{Rule}
 use Rattle.tl_io.specs.Shelf.{ShelfSeen}
-use Rattle.cmd_base.specs.Outside.{Outside}
-use Rattle.cmd_base.specs.Ends.{Ends}
-use Rattle.cmd_base.specs.WalkLaws.{HasLaws}
+use Rattle.cmd_base.specs.Walk.{Outside, Ends, HasLaws}
 use Rattle.cmd_base.specs.declared.outcome.Outcome.{Outcome}
 use Rattle.tlut_cli.specs.Commands.{Command, command_of, walk_of}
 

@@ -1,4 +1,4 @@
--- The commands, by the command-line arguments, and the walk of each.
+-- The commands, by the command-line arguments, the walk of each, and the fault line of a call: for a usage error it lists the forms of all commands.
 use Rattle.std.specs.Prelude.{ℕ, List, [], ◌∷◌, codes, Option, Some, None}
 use Rattle.std.specs.Option.{option_map}
 use Rattle.cover_pick.specs.declared.rule.Rule.{Rule}
@@ -6,26 +6,23 @@ use Rattle.cmd_base.specs.Walk.{Walk}
 use Rattle.tlut_cli.specs.declared.command.Command.{Command as CommandRead}
 use Rattle.tlut_cli.specs.declared.command.Command.TheVariants as read
 use Rattle.cmd_run.specs.declared.gen_command.words.GenWords.{GenWords}
-use Rattle.cmd_stations.specs.Words.{IsTableSize}
-use Rattle.cmd_run.specs.Run.Words.{RunWords, run_of, run_seen, IsInRange}
+use Rattle.cmd_stations.specs.Source.{IsTableSize}
+use Rattle.cmd_run.specs.Run.Job.{RunWords, run_of, run_seen, IsInRange}
 use Rattle.cmd_run.specs.Run.Verdict.{run_walk}
-use Rattle.cmd_map.specs.Spec.Words.{SpecWords, spec_of, spec_seen}
-use Rattle.cmd_map.specs.Spec.Verdict.{spec_walk}
-use Rattle.cmd_map.specs.Map.Words.{MapWords, map_of, map_seen}
-use Rattle.cmd_map.specs.Map.Verdict.{map_walk}
-use Rattle.cmd_pack.specs.Bits.Words.{BitsWords, bits_of, bits_seen}
-use Rattle.cmd_pack.specs.Bits.Verdict.{bits_walk}
-use Rattle.cmd_cert.specs.Words.{CertWords, cert_words_of, cert_seen}
+use Rattle.cmd_map.specs.Spec.{SpecWords, spec_of, spec_seen, spec_walk}
+use Rattle.cmd_map.specs.Map.{MapWords, map_of, map_seen, map_walk}
+use Rattle.cmd_pack.specs.Bits.{BitsWords, bits_of, bits_seen, bits_walk}
+use Rattle.cmd_cert.specs.Certs.{CertWords, cert_words_of, cert_seen}
 use Rattle.cmd_cert.specs.Prove.{prove_walk}
 use Rattle.cmd_cert.specs.Audit.{audit_walk}
-use Rattle.cmd_graph.specs.Words.{GraphWords, graph_words_of, graph_seen}
-use Rattle.cmd_graph.specs.Graph.{graph_walk}
-use Rattle.cmd_pace.specs.Words.{PaceWords, pace_of, pace_seen, IsInRange as IsPaceInRange}
+use Rattle.cmd_graph.specs.Graph.{GraphWords, graph_words_of, graph_seen, graph_walk}
+use Rattle.cmd_pace.specs.Job.{PaceWords, pace_of, pace_seen, IsInRange as IsPaceInRange}
 use Rattle.cmd_pace.specs.Verdict.{pace_walk}
-use Rattle.cmd_run.specs.GenCommand.Words.{gen_of, HasDigits}
+use Rattle.cmd_run.specs.GenCommand.Case.{gen_of, HasDigits}
 use Rattle.cmd_run.specs.GenCommand.Verdict.{gen_walk}
-use Rattle.cmd_pack.specs.Repack.Words.{RepackWords, repack_of, repack_seen}
-use Rattle.cmd_pack.specs.Repack.Verdict.{repack_walk}
+use Rattle.cmd_pack.specs.Repack.{RepackWords, repack_of, repack_seen, repack_walk}
+use Rattle.cmd_base.specs.FaultLine.{line_of as line_with}
+use Rattle.cmd_base.specs.declared.outcome.Outcome.{Outcome}
 
 -- a command with its words
 pub data Command : Type 0 where
@@ -104,3 +101,7 @@ HasRange ports (read.Prove words) = IsTableSize words.source.k
 HasRange ports (read.Audit words) = IsTableSize words.source.k
 HasRange ports (read.Graph words) = Unit {0}
 HasRange ports (read.Pace words) = IsPaceInRange words
+
+-- The fault line of a call: for a usage error it lists the forms of all commands.
+abbrev pub line_of : List ℕ → Outcome → List ℕ
+line_of name outcome = line_with usage name outcome

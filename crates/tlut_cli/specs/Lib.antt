@@ -5,6 +5,5 @@ pub mod Call
 -- what one command writes and another plays,
 pub mod Replay
 -- and its fault line.
-pub mod FaultLine
 -- What only bodies are compared with.
 pub mod CommandEnds

@@ -2,21 +2,19 @@
 ghost use Rattle.std.specs.Prelude.{◌≡◌, ◌≤◌, ◌↔◌, ◌⊎◌, ℕ, List, length, None, Some, map, string_bytes};
 ghost use Rattle.tl_io.specs.Shelf.{Files};
 ghost use Rattle.cover_pick.specs.declared.rule.Rule.TheVariants.{FewestLeaves};
-ghost use Rattle.cmd_base.specs.Outside.{outside};
-ghost use Rattle.cmd_base.specs.Ends.{Told};
+ghost use Rattle.cmd_base.specs.Walk.{outside, Told};
 ghost use Rattle.cmd_base.specs.FaultLine.{Reports};
 ghost use Rattle.cmd_base.specs.Statuses.{status_of};
 ghost use Rattle.cmd_base.specs.declared.outcome.Outcome.{Outcome as OutcomeValue};
 ghost use Rattle.cmd_run.specs.Run.Headline.{HasHeadline};
-ghost use Rattle.cmd_run.specs.Run.Words.{RunWords};
-ghost use Rattle.cmd_map.specs.Map.Words.{MapWords};
+ghost use Rattle.cmd_run.specs.Run.Job.{RunWords};
+ghost use Rattle.cmd_map.specs.Map.{MapWords};
 ghost use Rattle.cmd_pace.specs.Headline.{HasPaceHeadline};
-ghost use Rattle.cmd_pace.specs.Words.{PaceWords};
+ghost use Rattle.cmd_pace.specs.Job.{PaceWords};
 ghost use Rattle.tlut_cli.specs.Replay.{ReplaysRun};
-ghost use Rattle.tlut_cli.specs.Commands.{Run, Map, Pace, command_of, command_seen, HasRange};
+ghost use Rattle.tlut_cli.specs.Commands.{Run, Map, Pace, command_of, command_seen, HasRange, line_of};
 ghost use Rattle.tlut_cli.specs.CommandEnds.{HasEnded, HasWalkLaws};
 ghost use Rattle.tlut_cli.specs.Call.{IsEnd, fault_file, word_at, fault_word, HasRefusal, HasDone, HasCutOff, HasLost, HasKeptPorts, HasFault, HasPortCause, HasWriteCause, IsAnswered, IsComplete, IsFinished, IsQuiet, WritesFiles};
-ghost use Rattle.tlut_cli.specs.FaultLine.{line_of};
 
 use crate::command::{Command, file_name, read_command, report};
 use cmd_base::{File, Outcome, Status};

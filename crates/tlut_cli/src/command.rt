@@ -2,8 +2,7 @@
 ghost use Rattle.std.specs.Prelude.{◌≡◌, ℕ, map, string_bytes, IfSome};
 ghost use Rattle.std.specs.Option.{option_map};
 ghost use Rattle.cmd_base.specs.FaultLine.{Reports};
-ghost use Rattle.tlut_cli.specs.Commands.{command_of, other_commands, later_commands, cert_commands, walk_of, command_seen, HasRange};
-ghost use Rattle.tlut_cli.specs.FaultLine.{line_of};
+ghost use Rattle.tlut_cli.specs.Commands.{command_of, other_commands, later_commands, cert_commands, walk_of, command_seen, HasRange, line_of};
 
 use cmd_base::{File, Outcome};
 use cmd_cert::{CertWords, cert_name, read_audit, read_prove};

@@ -1,27 +1,10 @@
 -- The machine value of a pointer that C keeps, and what it owns. Assumes `Logic`.
-use Rattle.std.proofs.Common.{◌≡◌, List, [], ◌∷◌, ◌++◌, refl, ap, ◌∙◌, subst}
-use Rattle.std.specs.Prelude.{Option, Some, None, is_some}
+use Rattle.tlut_host.proofs.Common.{◌≡◌, List, [], ◌∷◌, ◌++◌, refl, ap, ◌∙◌, subst, Option, Some, None, is_some, T, ghosts, box_owns, heap, owns_boxed, ent, emp, never, fst∗, unit, lone, RattleType, Ptr, block_ptr, null_ptr, ptr_val, in_a_block, Slot, plain, shape, Struct, Val, vstruct, vcons, vnil, of_list, Ura, Item, Goal, Seq, ‵, Logic, sem}
 use mathlib.Core.Bool.{Bool, true, not}
 use Prim.Native.Nat.{ℕ, zero, suc}
-use lib.Dec.{T}
-use seplogic.Ra.Ura.{Ura}
 use mir.Raw.{raw as bare}
-use mir.Val.{Val, vstruct, vcons, vnil, of_list}
-use base.Logic.{ent, emp, never, fst∗}
-use types.Logic.{Logic, sem}
-use types.Kit.{Item, Goal, Seq, ‵}
-use denote.RattleType.{RattleType}
 use denote.Laws.{Is}
-use denote.Memory.{lone}
-use denote.RawPtr.{Ptr, block_ptr, null_ptr, ptr_val, in_a_block}
-use denote.Signature.{Slot, plain}
-use denote.Builtin.{unit}
 use denote.Shadow.{makes_shadow}
-use denote.Struct.Struct.{Struct}
-use denote.Struct.Owning.{shape}
-use Rattle.std_heap.specs.contracts.GlobalAllocator.TheImpl.{ghosts}
-use Rattle.std_alloc.specs.Box.Ownership.{box_owns}
-use Rattle.tlut_host.specs.Owned.{heap, owns_boxed}
 use Rattle.tlut_host.specs.contracts.held.Held as held
 
 -- a parameter's place in a signature

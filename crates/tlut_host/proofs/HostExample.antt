@@ -1,35 +1,7 @@
--- A worked example: a pack of one parameter p and the two bits p and not p, at a host whose p is 0.
-use Rattle.std.proofs.Common.{◌≡◌, ◌-◌, Bool, true, false, List, [], ◌∷◌, get_or, refl, sym, subst, arith}
-use Rattle.std.proofs.lemmas.Option.{none-some}
-use Rattle.tl_io.specs.declared.Write.{Write}
-use Rattle.aig_core.specs.declared.lit.Kind.TheVariants.{Parameter}
-use Rattle.aig_core.specs.Value.{node_value, FitsGraph}
-use Rattle.ppc_pack.specs.Pack.{PackValue, IsConf}
-use Rattle.spec_core.specs.Specialiser.{SpecialiserValue}
+-- A worked example: the pack of the example of `pace_core`, of one parameter p and the two bits p and not p, at a host whose p is 0.
+use Rattle.tlut_host.proofs.Common.{◌≡◌, ◌-◌, Bool, true, false, List, [], ◌∷◌, refl, arith, Write, SpecialiserValue, settings_status}
+use Rattle.pace_core.proofs.PaceExample.{pack, fits_at, conf_at_0, conf_at_1}
 use Rattle.tlut_host.specs.Calls.{IsSetCall, IsUpsetCall, IsScrubCall, IsValueCall}
-use Rattle.tlut_host.specs.Settings.{settings_status}
-
-abbrev pack : PackValue
-pack = record {
-  params = record { name = 112 ∷ []; init = false } ∷ [];
-  graph = record { kinds = Parameter ∷ []; pairs = []; max = 0 };
-  bits = record { 0 = 2 } ∷ record { 0 = 3 } ∷ [];
-}
-
-fits_at : (p : Bool) → FitsGraph pack.graph (p ∷ []) (false ∷ p ∷ [])
-fits_at p = record {
-  given = refl;
-  count = refl;
-  constant = refl;
-  source = λ n above below. (let e : n ≡ 1 = omega arith in subst (λ m. node_value (false ∷ p ∷ []) m ≡ get_or (p ∷ []) (m - 1) false) (sym e) refl);
-  node = λ n pair is. absurd (none-some pair is.is);
-}
-
-conf_at_0 : IsConf pack (false ∷ []) (false ∷ true ∷ [])
-conf_at_0 = record { values = false ∷ false ∷ []; fits = fits_at false; are = refl }
-
-conf_at_1 : IsConf pack (true ∷ []) (true ∷ false ∷ [])
-conf_at_1 = record { values = false ∷ true ∷ []; fits = fits_at true; are = refl }
 
 -- the host at a value of p, with these bits on the device, after these writes
 abbrev host : Bool → List Bool → List Write → SpecialiserValue

@@ -1,17 +1,9 @@
 -- What a host at a limited rate keeps. It is what a pacer keeps beside a circuit without tables.
-use Rattle.std.proofs.Common.{◌≡◌, ℕ, ◌+◌, ◌<◌, Bool, true, false, eqb, List, [], length, refl, sym, ap, ◌∙◌, subst, arith}
-use Rattle.std.proofs.lemmas.Bool.{eqb-true, eqb-false}
-use Rattle.tl_io.specs.declared.Assign.{Assign}
-use Rattle.tl_io.specs.declared.Write.{Write}
+use Rattle.tlut_host.proofs.Common.{◌≡◌, ℕ, ◌+◌, ◌<◌, Bool, true, false, eqb, List, [], length, refl, sym, ap, ◌∙◌, subst, arith, eqb-true, eqb-false, Assign, Write, PackValue, IsConf, SpecialiserValue, BacklogValue, only_wanted, config_right, PacedValue, IsPacing, IsRequest, IsCatchUp, IsAsk, IsTick}
 use Rattle.tl_io.specs.Writes.{written}
-use Rattle.ppc_pack.specs.Pack.{PackValue, IsConf}
 use Rattle.lut_sim.specs.Sim.{SimValue}
 use Rattle.spec_core.specs.Differences.{differences}
-use Rattle.spec_core.specs.Specialiser.{SpecialiserValue}
-use Rattle.pace_core.specs.Backlog.{BacklogValue}
 use Rattle.pace_core.specs.Keeps.{Keeps}
-use Rattle.pace_core.proofs.KeepLemmas.{only_wanted, config_right}
-use Rattle.tlut_host.specs.Paced.{PacedValue, IsPacing, IsPacedKept, IsRequest, IsCatchUp, IsAsk, IsTick}
 
 -- a circuit without tables, of a configuration of so many bits
 abbrev pub no_circuit : ℕ → SimValue
@@ -47,15 +39,6 @@ asked assigns s b new after rate waiting pacing request count =
       looks = (let e : length new.writes ≡ length (differences set.from set.to) = ap (λ (ws : List Write). length ws) set.are in omega (arith, e, request.change.reads, request.looks));
     }
 
--- the host keeps what it must
-pub asked_kept : (assigns : List Assign) (s : SpecialiserValue) (b : BacklogValue) (new : SpecialiserValue) (after : BacklogValue) (rate params room : ℕ) → IsPacedKept s b rate params room → IsRequest assigns s b new after → IsPacedKept new after rate params room
-asked_kept assigns s b new after rate params room kept request = record {
-  pacing = request.pacing;
-  takes = kept.takes;
-  count = kept.count ∙ kept.pacing.params ∙ ap (λ (p : PackValue). length p.params) (sym request.change.pack) ∙ sym request.pacing.params;
-  few = kept.few;
-}
-
 -- whether the device is right
 none_differs : (s : SpecialiserValue) (b : BacklogValue) → IsPacing s b → eqb b.waiting 0 ≡ true → b.config ≡ s.state.config
 none_differs s b pacing e =
@@ -76,13 +59,4 @@ ticked s b after rate is_right pacing caught is = record {
   writes = caught.writes;
   becomes = ap (λ (c : List Bool). record { pack = s.pack; params = s.state.params; config = c; writes = after.writes; rate = rate; looks = s.reads + after.looks }) (caught.config ∙ ap (λ (ws : List Write). written b.config ws) (sym caught.writes))
       ∙ ap (λ (n : ℕ). record { pack = s.pack; params = s.state.params; config = written b.config after.writes; writes = after.writes; rate = rate; looks = n }) (let e = caught.looks in omega (arith, e));
-}
-
--- the host keeps what it must
-pub ticked_kept : (s : SpecialiserValue) (b after : BacklogValue) (rate params room : ℕ) → IsPacedKept s b rate params room → IsCatchUp rate s.state.config b after → IsPacedKept s after rate params room
-ticked_kept s b after rate params room kept caught = record {
-  pacing = record { right = kept.pacing.right; one = kept.pacing.one; params = kept.pacing.params; behind = caught.behind };
-  takes = kept.takes;
-  count = kept.count;
-  few = kept.few;
 }

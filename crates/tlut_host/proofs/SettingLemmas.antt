@@ -1,12 +1,6 @@
 -- Settings that are taken are assigns of different parameters.
-use Rattle.std.proofs.Common.{inl, inr, ◌≡◌, ℕ, ◌+◌, ◌<◌, ◌≤◌, zero, suc, Bool, true, false, ltb, leb, List, [], ◌∷◌, map, Some, refl, sym, ap, subst, arith}
-use Rattle.std.specs.Prelude.{slice_get, if◌then◌else◌}
-use Rattle.std.proofs.lemmas.Bool.{ltb-false, leb-false}
-use Rattle.std.proofs.lemmas.Option.{none-some, same_Some}
+use Rattle.tlut_host.proofs.Common.{inl, inr, ◌≡◌, ℕ, ◌+◌, ◌<◌, ◌≤◌, zero, suc, Bool, true, false, ltb, leb, List, [], ◌∷◌, map, Some, refl, sym, ap, subst, arith, slice_get, if◌then◌else◌, ltb-false, leb-false, none-some, same_Some, AreAssigned, Assign, settings_status, assign_of}
 use Rattle.list_laws.specs.Members.{In}
-use Rattle.tl_io.specs.Assigns.{AreAssigned}
-use Rattle.tl_io.specs.declared.Assign.{Assign}
-use Rattle.tlut_host.specs.Settings.{settings_status, assign_of}
 use Rattle.tlut_host.specs.declared.setting.Setting.{Setting}
 use Rattle.tlut_host.specs.declared.setting.TheConstants.{DONE, RANGE, ORDER}
 

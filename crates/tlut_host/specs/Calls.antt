@@ -9,6 +9,7 @@ use Rattle.tlut_host.specs.Settings.{IsChange, settings_status, assign_of}
 use Rattle.tlut_host.specs.declared.setting.Setting.{Setting}
 use Rattle.tlut_host.specs.declared.setting.BitWrite.{BitWrite}
 use Rattle.tlut_host.specs.declared.setting.TheConstants.{DONE, CLOSED, RANGE}
+use Rattle.tlut_host.specs.Paced.{PacedValue, IsAsk, IsTick}
 
 -- an open handle stays open, and this is said of its hosts; a call at a closed one answers that it is closed
 abbrev pub IsCall : {A : Type 0} → Option A → Option A → ℕ → (A → A → Type 0) → Type 0
@@ -62,3 +63,21 @@ pub record IsNameCall (names : List (List ℕ)) (number : ℕ) (before after : L
 pub record IsNumberCall (names : List (List ℕ)) (name : List ℕ) (before after : ℕ) (status : ℕ) : Type 0 where
   pub told : (place : ℕ) → place_of names name ≡ Some place → (status ≡ DONE) × (after ≡ place)
   pub range : place_of names name ≡ None → (status ≡ RANGE) × (after ≡ before)
+
+-- values are requested, or the first setting that breaks a rule is told, and then nothing changes
+pub record IsAskCall (settings : List Setting) (old new : PacedValue) (before after status : ℕ) : Type 0 where
+  pub answer : status ≡ settings_status (length old.params) 0 settings
+  pub done : status ≡ DONE → IsAsk (map assign_of settings) old new after
+  pub refused : status ≢ DONE → (new ≡ old) × (after ≡ before)
+
+-- the clock ticks
+pub record IsTickCall (old new : PacedValue) (is_right : Bool) (status : ℕ) : Type 0 where
+  pub done : status ≡ DONE
+  pub ticked : IsTick old new is_right
+
+-- the writes of the last tick, copied, and their number
+pub record AreSent (old new : PacedValue) (before after : List BitWrite) (count status : ℕ) : Type 0 where
+  pub done : status ≡ DONE
+  pub same : new ≡ old
+  pub writes : after ≡ copied old.writes before
+  pub number : count ≡ length old.writes

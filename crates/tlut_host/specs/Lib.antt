@@ -4,5 +4,4 @@ pub mod Kept
 pub mod Opened
 pub mod Owned
 pub mod Paced
-pub mod PacedCalls
 pub mod Settings

@@ -1,9 +1,8 @@
 //! What C calls at a limited rate.
 ghost use Rattle.std.specs.Prelude.{◌≡◌, ◌≢◌, true, false, Option, Some, None, is_some, if◌then◌else◌};
 ghost use Rattle.tlut_host.specs.Opened.{IsTold, HoldsOne};
-ghost use Rattle.tlut_host.specs.Calls.{IsTellingCall};
+ghost use Rattle.tlut_host.specs.Calls.{IsTellingCall, IsAskCall, IsTickCall, AreSent};
 ghost use Rattle.tlut_host.specs.Paced.{IsPacedOpened};
-ghost use Rattle.tlut_host.specs.PacedCalls.{IsAskCall, IsTickCall, AreSent};
 
 use crate::copy::copy_writes;
 use crate::handle_paced::{PacedHandle, take_paced};

@@ -4,7 +4,7 @@ ghost use Rattle.tl_io.specs.Assigns.{AreAssigned};
 ghost use Rattle.ppc_pack.specs.Pack.{IsConf, inits_of};
 ghost use Rattle.pace_core.specs.Backlog.{IsBehind, IsLate};
 ghost use Rattle.tlut_host.specs.Paced.{IsPacing, IsRequest, IsCatchUp, IsTick};
-ghost use Rattle.tlut_host.specs.PacedCalls.{IsAskCall};
+ghost use Rattle.tlut_host.specs.Calls.{IsAskCall};
 
 use crate::gather::gather;
 use crate::setting::{DONE, Setting};

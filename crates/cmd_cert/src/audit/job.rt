@@ -4,13 +4,9 @@ ghost use Rattle.tl_text.specs.declared.logical_lines.TheConstants.{MOST_BYTES};
 ghost use Rattle.tl_io.specs.Port.{PortSeen};
 ghost use Rattle.aig_core.specs.Roots.{roots_of};
 ghost use Rattle.cert_check.specs.Valid.{IsValid};
-ghost use Rattle.cmd_base.specs.Outside.{outside};
-ghost use Rattle.cmd_base.specs.Ends.{Ends, Explains, Told};
-ghost use Rattle.cmd_base.specs.WalkLaws.{HasLaws};
-ghost use Rattle.cmd_base.specs.KeepsFiles.{KeepsFiles};
-ghost use Rattle.cmd_stations.specs.Built.{IsBuiltSource, ComesToGraph};
-ghost use Rattle.cmd_cert.specs.Words.{cert_seen};
-ghost use Rattle.cmd_cert.specs.Certs.{HasCert};
+ghost use Rattle.cmd_base.specs.Walk.{outside, KeepsFiles, Ends, Explains, Told, HasLaws};
+ghost use Rattle.cmd_stations.specs.Tables.{IsBuiltSource, ComesToGraph};
+ghost use Rattle.cmd_cert.specs.Certs.{cert_seen, HasCert};
 ghost use Rattle.cmd_cert.specs.Audit.{audit_reading, audit_walk};
 
 use crate::certs::read_valid;

@@ -2,17 +2,14 @@
 ghost use Rattle.std.specs.Prelude.{◌≡◌, [], ◌∷◌, List};
 ghost use Rattle.tl_io.specs.Port.{PortSeen};
 ghost use Rattle.blif_write.specs.PlainNetlist.{netlist_text};
-ghost use Rattle.cmd_base.specs.Outside.{outside};
-ghost use Rattle.cmd_base.specs.Ends.{Ends};
-ghost use Rattle.cmd_base.specs.WalkLaws.{HasLaws};
-ghost use Rattle.cmd_stations.specs.Words.{IsTableSize};
+ghost use Rattle.cmd_base.specs.Walk.{outside, Ends, HasLaws};
+ghost use Rattle.cmd_stations.specs.Source.{IsTableSize};
 ghost use Rattle.cmd_stations.specs.Mapped.{template_header};
 ghost use Rattle.cmd_stations.specs.Written.{IsTuned, template_of};
 ghost use Rattle.cmd_stations.specs.FileWrites.{WritesAll};
-ghost use Rattle.cmd_stations.specs.Drafts.{IsDraft};
+ghost use Rattle.cmd_stations.specs.Tables.{IsDraft};
 ghost use Rattle.cmd_stations.specs.Packs.{present_bytes};
-ghost use Rattle.cmd_map.specs.Map.Words.{map_seen};
-ghost use Rattle.cmd_map.specs.Map.Verdict.{map_walk};
+ghost use Rattle.cmd_map.specs.Map.{map_seen, map_walk};
 
 use crate::map::words::MapWords;
 use cmd_base::Outcome;

@@ -1,8 +1,8 @@
 //! The arguments of `spec`.
 ghost use Rattle.std.specs.Prelude.{◌≡◌, map, string_bytes, IfSome};
 ghost use Rattle.std.specs.Option.{option_map};
-ghost use Rattle.cmd_map.specs.Spec.Words.{spec_of, spec_seen};
-ghost use Rattle.cmd_stations.specs.Words.{IsTableSize};
+ghost use Rattle.cmd_map.specs.Spec.{spec_of, spec_seen};
+ghost use Rattle.cmd_stations.specs.Source.{IsTableSize};
 
 use cmd_stations::{SourceWords, read_source_words};
 use cover_pick::Rule;

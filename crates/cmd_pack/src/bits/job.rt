@@ -1,11 +1,8 @@
 //! The command `bits`.
 ghost use Rattle.std.specs.Prelude.{◌≡◌, List};
 ghost use Rattle.tl_io.specs.Port.{PortSeen};
-ghost use Rattle.cmd_base.specs.Outside.{outside};
-ghost use Rattle.cmd_base.specs.Ends.{Ends};
-ghost use Rattle.cmd_base.specs.WalkLaws.{HasLaws};
-ghost use Rattle.cmd_pack.specs.Bits.Words.{bits_seen};
-ghost use Rattle.cmd_pack.specs.Bits.Verdict.{bits_walk};
+ghost use Rattle.cmd_base.specs.Walk.{outside, Ends, HasLaws};
+ghost use Rattle.cmd_pack.specs.Bits.{bits_seen, bits_walk};
 
 use crate::bits::play::play;
 use crate::bits::prepare::prepare;

@@ -5,8 +5,8 @@ ghost use Rattle.tl_io.specs.Port.{PortSeen};
 ghost use Rattle.tl_io.specs.Shelf.{ShelfSeen};
 ghost use Rattle.run_text.specs.EventValue.{event_values};
 ghost use Rattle.port_bank.specs.Seen.{bank_seen};
-ghost use Rattle.cmd_base.specs.Outside.{outside};
-ghost use Rattle.cmd_pack.specs.Bits.Ready.{CanPlay, EventsEnd, PlayEnd};
+ghost use Rattle.cmd_base.specs.Walk.{outside};
+ghost use Rattle.cmd_pack.specs.BitsReady.{CanPlay, EventsEnd, PlayEnd};
 
 use crate::bits::prepare::ReadyScript;
 use aig_core::Steps;

@@ -4,13 +4,11 @@ ghost use Rattle.list_laws.specs.Members.{In};
 ghost use Rattle.tl_text.specs.declared.logical_lines.TheConstants.{MOST_BYTES};
 ghost use Rattle.run_text.specs.EventValue.{EventValue, event_values};
 ghost use Rattle.run_text.specs.Fits.{Fits};
-ghost use Rattle.cmd_base.specs.Ends.{Told, Explains};
-ghost use Rattle.cmd_base.specs.KeepsFiles.{KeepsFiles};
+ghost use Rattle.cmd_base.specs.Walk.{Told, Explains, KeepsFiles};
 ghost use Rattle.cmd_stations.specs.Packs.{pack_names};
 ghost use Rattle.cmd_stations.specs.Script.{HasScript, IsScriptSettled, script_reading};
-ghost use Rattle.cmd_pack.specs.Bits.Words.{bits_seen};
-ghost use Rattle.cmd_pack.specs.Bits.Job.{bits_reading};
-ghost use Rattle.cmd_pack.specs.Bits.Ready.{CanPlay, IsReady, IsReadyFor};
+ghost use Rattle.cmd_pack.specs.Bits.{bits_seen, bits_reading};
+ghost use Rattle.cmd_pack.specs.BitsReady.{CanPlay, IsReady, IsReadyFor};
 
 use crate::bits::words::BitsWords;
 use cmd_base::Outcome;

@@ -1,8 +1,7 @@
 //! The arguments of `bits`.
 ghost use Rattle.std.specs.Prelude.{◌≡◌, map, string_bytes};
 ghost use Rattle.std.specs.Option.{option_map};
-ghost use Rattle.cmd_pack.specs.Bits.Words.{bits_of, bits_seen};
-ghost use Rattle.cmd_pack.specs.Bits.Job.{bits_word};
+ghost use Rattle.cmd_pack.specs.Bits.{bits_of, bits_seen, bits_word};
 
 use cmd_base::File;
 

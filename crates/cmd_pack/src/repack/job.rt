@@ -1,14 +1,11 @@
 //! The command `repack`.
 ghost use Rattle.std.specs.Prelude.{◌≡◌, [], ◌∷◌, List};
 ghost use Rattle.tl_io.specs.Port.{PortSeen};
-ghost use Rattle.cmd_base.specs.Outside.{outside};
-ghost use Rattle.cmd_base.specs.Ends.{Ends};
-ghost use Rattle.cmd_base.specs.WalkLaws.{HasLaws};
+ghost use Rattle.cmd_base.specs.Walk.{outside, Ends, HasLaws};
 ghost use Rattle.cmd_stations.specs.FileWrites.{WritesAll};
 ghost use Rattle.cmd_stations.specs.Packs.{present_bytes};
-ghost use Rattle.cmd_pack.specs.Bits.Verdict.{pack_header};
-ghost use Rattle.cmd_pack.specs.Repack.Words.{repack_seen};
-ghost use Rattle.cmd_pack.specs.Repack.Verdict.{repack_walk};
+ghost use Rattle.cmd_pack.specs.Bits.{pack_header};
+ghost use Rattle.cmd_pack.specs.Repack.{repack_seen, repack_walk};
 
 use crate::repack::words::RepackWords;
 use cmd_base::Outcome;

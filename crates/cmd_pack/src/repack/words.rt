@@ -1,7 +1,7 @@
 //! The arguments of `repack`.
 ghost use Rattle.std.specs.Prelude.{◌≡◌, map, string_bytes};
 ghost use Rattle.std.specs.Option.{option_map};
-ghost use Rattle.cmd_pack.specs.Repack.Words.{repack_of, repack_seen};
+ghost use Rattle.cmd_pack.specs.Repack.{repack_of, repack_seen};
 
 /// The arguments that name the pack and the output file.
 #[derive(Clone, Copy)]

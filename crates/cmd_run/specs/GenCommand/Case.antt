@@ -1,5 +1,5 @@
--- The generated texts as the files of a job of `run`, with LUTs of at most 4 inputs whose cuts are chosen by a rule, and no ports.
-use Rattle.std.specs.Prelude.{codes}
+-- The arguments of `gen`, and the generated texts as the files of a job of `run`, with LUTs of at most 4 inputs whose cuts are chosen by a rule, and no ports.
+use Rattle.std.specs.Prelude.{codes, ℕ, ◌≤◌, ◌&&◌, nat_le, if◌then◌else◌, List, [], ◌∷◌, bytes_eq, Option, Some, None}
 use Rattle.std.specs.FinMap.{insert, empty}
 use Rattle.tl_io.specs.Shelf.{Files}
 use Rattle.gen_case.specs.Lines.{text_of}
@@ -7,7 +7,8 @@ use Rattle.gen_case.specs.Netlist.{netlist_lines}
 use Rattle.gen_case.specs.Script.{all_params, script_lines}
 use Rattle.cover_pick.specs.declared.rule.Rule.{Rule}
 use Rattle.cmd_run.specs.declared.gen_command.words.GenWords.{GenWords}
-use Rattle.cmd_run.specs.Run.Words.{RunWords}
+use Rattle.cmd_run.specs.Run.Job.{RunWords}
+use Rattle.tl_text.specs.Decimal.{decimal_of}
 
 abbrev pub case_words : Rule → RunWords
 case_words rule = record {
@@ -19,3 +20,19 @@ case_words rule = record {
 abbrev pub case_files : GenWords → Files
 case_files words =
     insert (insert (insert empty (codes "netlist") (text_of (netlist_lines words.digits))) (codes "params") (text_of (all_params words.digits words.seed))) (codes "script") (text_of (script_lines words.digits words.seed))
+
+-- 1 to 32 digits, and a seed below 2^32
+abbrev pub gen_words : Rule → Option ℕ → Option ℕ → Option GenWords
+gen_words rule None seed = None
+gen_words rule (Some digits) None = None
+gen_words rule (Some digits) (Some seed) = if nat_le 1 digits && nat_le digits 32 && nat_le seed 4294967295 then Some (record { rule = rule; digits = digits; seed = seed }) else None
+
+-- the words `gen N SEED`, where cuts are chosen by a rule
+abbrev pub gen_of : Rule → List (List ℕ) → Option GenWords
+gen_of rule (command ∷ digits ∷ seed ∷ []) = if bytes_eq command (codes "gen") then gen_words rule (decimal_of digits) (decimal_of seed) else None
+gen_of rule words = None
+
+-- the number of digits is 1 to 32
+pub record HasDigits (words : GenWords) : Type 0 where
+  pub least : 1 ≤ words.digits
+  pub most : words.digits ≤ 32

@@ -5,14 +5,13 @@ use Rattle.tl_io.specs.Causes.{Rose}
 use Rattle.tl_io.specs.Content.{extended}
 use Rattle.run_core.specs.Events.{MachineValue}
 use Rattle.cover_pick.specs.Template.{TemplateValue}
-use Rattle.cmd_base.specs.Walk.{Reading, Walk}
-use Rattle.cmd_base.specs.Outside.{Outside}
+use Rattle.cmd_base.specs.Walk.{Reading, Walk, portless_walk, Outside}
 use Rattle.cmd_base.specs.declared.outcome.File.TheVariants.{Netlist}
 use Rattle.cmd_run.specs.declared.gen_command.words.GenWords.{GenWords}
 use Rattle.cmd_stations.specs.Mapped.{template_header}
 use Rattle.cmd_stations.specs.Machine.{Job}
 use Rattle.cmd_stations.specs.Source.{IsLeastMapped}
-use Rattle.cmd_stations.specs.Scripted.{IsOfScripted}
+use Rattle.cmd_stations.specs.Script.{IsOfScripted}
 use Rattle.cmd_run.specs.Run.Job.{IsJob, IsRefused, IsSettled}
 use Rattle.cmd_stations.specs.Machine.{IsStart}
 use Rattle.cmd_run.specs.Run.Verdict.{HasJob}
@@ -72,14 +71,6 @@ gen_reading words = record {
 }
 
 abbrev pub gen_walk : GenWords → Walk
-gen_walk words = record {
-  reading = gen_reading words;
-  IsAccepted = λ files. HasJob files (case_words words.rule);
-  IsDone = λ files old new. HasGen words (IsTold old new);
-  IsCutOff = λ files old new. HasGen words (IsPartTold old new);
-  IsLost = λ files old new. ⊥;
-  Shows = λ files old new. Unit {0};
-  WritesFiles = ⊥;
-  KeepsPorts = λ old new. new.ports ≡ old.ports;
-  HasPortFault = λ old new. ⊥;
-}
+gen_walk words =
+    portless_walk (gen_reading words) (λ files. HasJob files (case_words words.rule)) (λ files old new. HasGen words (IsTold old new)) (λ files old new. HasGen words (IsPartTold old new))
+    (λ files old new. Unit {0}) ⊥

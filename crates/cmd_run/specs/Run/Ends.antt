@@ -11,17 +11,14 @@ use Rattle.port_bank.specs.Bank.{BankSeen, all_ports}
 use Rattle.port_bank.specs.Moves.{Becomes, FallsShort, LosesPlace}
 use Rattle.run_core.specs.declared.step_err.StepErr.{StepErr}
 use Rattle.run_core.specs.declared.step_err.StepErr.TheVariants.{WriteFault, PortFault}
-use Rattle.run_core.specs.Events.{MachineValue, IsPlayed}
-use Rattle.run_core.specs.EventLines.{event_line}
-use Rattle.run_core.specs.Sends.{LosesRegion, HasLost}
-use Rattle.cmd_base.specs.Outside.{Outside}
+use Rattle.run_core.specs.Events.{MachineValue, IsPlayed, event_line}
+use Rattle.run_core.specs.Ends.{LosesRegion, HasLost}
+use Rattle.cmd_base.specs.Walk.{Outside}
 use Rattle.cmd_run.specs.declared.run.words.PortCounts.{PortCounts}
-use Rattle.cmd_run.specs.Run.Words.{RunWords}
+use Rattle.cmd_run.specs.Run.Job.{RunWords, IsJob, bank_of}
 use Rattle.cmd_stations.specs.Machine.{Job}
 use Rattle.cmd_stations.specs.Source.{IsLeastMapped}
-use Rattle.cmd_run.specs.Run.Job.{IsJob}
 use Rattle.cmd_stations.specs.Machine.{IsStart, machine_header, Stage, IsStep, HasCome}
-use Rattle.cmd_run.specs.Run.Bank.{bank_of}
 use Rattle.cmd_stations.specs.Script.{IsSplit}
 
 module _ (counts : PortCounts) (m : MachineValue) (events : List EventValue) (old new : Outside) where

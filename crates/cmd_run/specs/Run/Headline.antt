@@ -17,15 +17,12 @@ use Rattle.run_text.specs.EventValue.{EventValue, Set, Cycle, Upset, Scrub, Imag
 use Rattle.run_text.specs.Lines.{set_line, scrub_line, cycle_line, image_line}
 use Rattle.param_list.specs.Parameters.{param_inits}
 use Rattle.spec_core.specs.Differences.{differences}
-use Rattle.cmd_base.specs.Outside.{Outside}
+use Rattle.cmd_base.specs.Walk.{Outside}
 use Rattle.cmd_stations.specs.declared.source.Source.{Source}
 use Rattle.cmd_stations.specs.Machine.{Job}
 use Rattle.cmd_stations.specs.Mapped.{IsLeastMapping, template_header}
-use Rattle.cmd_stations.specs.SourceCircuit.{shape_of}
-use Rattle.cmd_stations.specs.SourceCycle.{IsSourceCycle, AreInits}
-use Rattle.cmd_run.specs.Run.Job.{IsJob}
-use Rattle.cmd_run.specs.Run.Words.{RunWords}
-use Rattle.cmd_run.specs.Run.Bank.{bank_of}
+use Rattle.cmd_stations.specs.SourceCircuit.{shape_of, IsSourceCycle, AreInits}
+use Rattle.cmd_run.specs.Run.Job.{IsJob, RunWords, bank_of}
 
 -- what is shown of a source circuit: the parameters' values that were set last, the latches' states, and the ports
 pub record Shown : Type 0 where

@@ -11,10 +11,8 @@ use Rattle.port_bank.specs.Moves.{FallsShort, LosesPlace}
 use Rattle.run_text.specs.EventValue.{EventValue, event_values}
 use Rattle.run_core.specs.declared.step_err.StepErr.{StepErr}
 use Rattle.run_core.specs.declared.step_err.StepErr.TheVariants.{WriteFault, PortFault}
-use Rattle.run_core.specs.Events.{MachineValue, IsPlayed}
-use Rattle.run_core.specs.EventLines.{event_line}
-use Rattle.run_core.specs.Fits.{FitsPack, FitsShape}
-use Rattle.run_core.specs.Sends.{LosesRegion, HasLost}
+use Rattle.run_core.specs.Events.{MachineValue, IsPlayed, event_line, FitsPack, FitsShape}
+use Rattle.run_core.specs.Ends.{LosesRegion, HasLost}
 use Rattle.cmd_base.specs.declared.outcome.Outcome.{Outcome}
 use Rattle.cmd_base.specs.declared.outcome.Outcome.TheVariants as outcome
 use Rattle.cover_pick.specs.Template.{TemplateValue}
@@ -22,9 +20,8 @@ use Rattle.cmd_stations.specs.declared.source.Source.{Source}
 use Rattle.cmd_run.specs.declared.run.prepare.Ready.{Ready}
 use Rattle.cmd_run.specs.declared.run.words.PortCounts.{PortCounts}
 use Rattle.cmd_run.specs.Run.Ends.{HaveServed}
-use Rattle.cmd_run.specs.Run.Words.{RunWords}
+use Rattle.cmd_run.specs.Run.Job.{RunWords, IsJob, IsSettled}
 use Rattle.cmd_stations.specs.Machine.{Job}
-use Rattle.cmd_run.specs.Run.Job.{IsJob, IsSettled}
 use Rattle.cmd_stations.specs.Machine.{IsStart, machine_header, Stage, IsLoaded, IsStep, AreSteps}
 use Rattle.cmd_stations.specs.Script.{IsSplit}
 

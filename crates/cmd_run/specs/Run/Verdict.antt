@@ -3,9 +3,8 @@ use Rattle.std.specs.Prelude.{Ok, Err}
 use Rattle.tl_io.specs.Shelf.{Files}
 use Rattle.run_core.specs.declared.step_err.StepErr.TheVariants.{WriteFault, PortFault}
 use Rattle.cmd_base.specs.Walk.{Walk}
-use Rattle.cmd_run.specs.Run.Words.{RunWords}
+use Rattle.cmd_run.specs.Run.Job.{RunWords, IsJob, run_reading}
 use Rattle.cmd_stations.specs.Machine.{Job}
-use Rattle.cmd_run.specs.Run.Job.{IsJob, run_reading}
 use Rattle.cmd_run.specs.Run.Ends.{HasRun, HaveServed, HaveFailed}
 use Rattle.cmd_run.specs.Run.Headline.{HasHeadline}
 

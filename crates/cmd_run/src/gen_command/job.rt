@@ -6,13 +6,10 @@ ghost use Rattle.tl_io.specs.Sink.{IsPut};
 ghost use Rattle.tl_io.specs.Port.{PortSeen};
 ghost use Rattle.tl_io.specs.Shelf.{ShelfSeen};
 ghost use Rattle.run_text.specs.EventValue.{event_values};
-ghost use Rattle.cmd_base.specs.Outside.{outside};
-ghost use Rattle.cmd_base.specs.Ends.{Ends};
-ghost use Rattle.cmd_base.specs.WalkLaws.{HasLaws};
+ghost use Rattle.cmd_base.specs.Walk.{outside, Ends, HasLaws};
 ghost use Rattle.cmd_stations.specs.Machine.{machine_header};
 ghost use Rattle.cmd_run.specs.Run.Ready.{CanPlay, IsReadyFor};
-ghost use Rattle.cmd_run.specs.GenCommand.Words.{HasDigits};
-ghost use Rattle.cmd_run.specs.GenCommand.Case.{case_words, case_files};
+ghost use Rattle.cmd_run.specs.GenCommand.Case.{HasDigits, case_words, case_files};
 ghost use Rattle.cmd_run.specs.GenCommand.Verdict.{gen_walk};
 
 use crate::gen_command::lines::{first_line, last_line};

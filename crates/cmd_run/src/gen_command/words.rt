@@ -1,6 +1,6 @@
 //! The arguments of `gen`.
 ghost use Rattle.std.specs.Prelude.{◌≡◌, map, string_bytes, IfSome};
-ghost use Rattle.cmd_run.specs.GenCommand.Words.{gen_words, gen_of, HasDigits};
+ghost use Rattle.cmd_run.specs.GenCommand.Case.{gen_words, gen_of, HasDigits};
 
 use cover_pick::Rule;
 use tl_text::decimal;

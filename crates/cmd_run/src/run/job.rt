@@ -1,10 +1,8 @@
 //! The command `run`.
 ghost use Rattle.std.specs.Prelude.{◌≡◌, ◌≤◌, ◌+◌, length, map};
 ghost use Rattle.tl_io.specs.Causes.{Rose};
-ghost use Rattle.cmd_base.specs.Outside.{outside};
-ghost use Rattle.cmd_base.specs.Ends.{Ends};
-ghost use Rattle.cmd_base.specs.WalkLaws.{HasLaws};
-ghost use Rattle.cmd_run.specs.Run.Words.{run_seen, IsInRange};
+ghost use Rattle.cmd_base.specs.Walk.{outside, Ends, HasLaws};
+ghost use Rattle.cmd_run.specs.Run.Job.{run_seen, IsInRange};
 ghost use Rattle.cmd_run.specs.Run.Verdict.{run_walk};
 ghost use Rattle.cmd_run.specs.Run.Ready.{played_outcome};
 

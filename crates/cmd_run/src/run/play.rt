@@ -5,7 +5,7 @@ ghost use Rattle.tl_io.specs.Shelf.{ShelfSeen};
 ghost use Rattle.run_text.specs.EventValue.{event_values};
 ghost use Rattle.port_bank.specs.Image.{Holds};
 ghost use Rattle.port_bank.specs.Seen.{bank_seen};
-ghost use Rattle.cmd_base.specs.Outside.{outside};
+ghost use Rattle.cmd_base.specs.Walk.{outside};
 ghost use Rattle.cmd_run.specs.Run.Ends.{IsPlayEnd, HaveFailed};
 ghost use Rattle.cmd_run.specs.Run.Ready.{CanPlay, EventsEnd, RunEnd, IsServed};
 

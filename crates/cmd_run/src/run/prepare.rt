@@ -4,11 +4,9 @@ ghost use Rattle.tl_text.specs.declared.logical_lines.TheConstants.{MOST_BYTES};
 ghost use Rattle.tl_io.specs.Shelf.{Files};
 ghost use Rattle.cut_enum.specs.declared.limits.TheConstants.{MOST_LEAVES};
 ghost use Rattle.run_text.specs.EventValue.{event_values};
-ghost use Rattle.cmd_base.specs.Ends.{Told, Explains};
-ghost use Rattle.cmd_base.specs.KeepsFiles.{KeepsFiles};
+ghost use Rattle.cmd_base.specs.Walk.{Told, Explains, KeepsFiles};
 ghost use Rattle.cmd_stations.specs.Tables.{IsReadSource, AreMade};
-ghost use Rattle.cmd_run.specs.Run.Words.{run_seen};
-ghost use Rattle.cmd_run.specs.Run.Job.{run_reading};
+ghost use Rattle.cmd_run.specs.Run.Job.{run_seen, run_reading};
 ghost use Rattle.cmd_run.specs.Run.Ready.{CanPlay, StartsOn, IsReadyFor};
 
 use crate::run::words::{RunWords, scripted};

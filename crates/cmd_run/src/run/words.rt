@@ -1,9 +1,8 @@
 //! The arguments of `run`.
 ghost use Rattle.std.specs.Prelude.{◌≡◌, ◌≤◌, ◌+◌, map, string_bytes, IfSome, Some};
 ghost use Rattle.std.specs.Option.{option_map};
-ghost use Rattle.cmd_stations.specs.Scripted.{scripted_seen};
-ghost use Rattle.cmd_run.specs.Run.Words.{counts_of, run_words, run_of, run_seen, scripted_of, IsInRange};
-ghost use Rattle.cmd_run.specs.Run.Job.{run_word};
+ghost use Rattle.cmd_stations.specs.Script.{scripted_seen};
+ghost use Rattle.cmd_run.specs.Run.Job.{counts_of, run_words, run_of, run_seen, scripted_of, IsInRange, run_word};
 
 use cmd_base::File;
 use cmd_stations::{ScriptedWords, SourceWords, source_name, table_size};

@@ -1,6 +1,4 @@
-use Rattle.std.proofs.Common.{ℕ, suc, List, [], Bor, Ok, drop, sym, ap, ◌∙◌, append_assoc, arith}
-use Rattle.std.proofs.lemmas.List.{take_all}
-use Rattle.tl_io.proofs.PutLemmas.{put_none, put_twice, put_stopped, put_as}
+use Rattle.cmd_base.proofs.Common.{ℕ, suc, List, [], Bor, Ok, drop, sym, ap, ◌∙◌, append_assoc, arith, take_all, put_none, put_twice, put_stopped, put_as}
 use Rattle.cmd_base.proofs.PutLemmas.{texts, texts_more, texts_split}
 use Rattle.cmd_base.proofs.fault_line.put_all.Goals as goal
 

@@ -1,6 +1,4 @@
-use Rattle.std.proofs.Common.{take, Ok}
-use Rattle.tl_io.specs.Sink.{IsPut}
-use Rattle.tl_io.specs.declared.Failed.{Failed}
+use Rattle.cmd_base.proofs.Common.{take, Ok, IsPut, Failed}
 use Rattle.cmd_base.proofs.PutLemmas.{texts}
 use Rattle.cmd_base.proofs.fault_line.put_all.Given as goal
 

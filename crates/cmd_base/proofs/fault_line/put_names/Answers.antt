@@ -1,8 +1,5 @@
-use Rattle.std.proofs.Common.{◌≡◌, ℕ, suc, ◌+◌, List, ◌++◌, Ok, ap, sym, ◌∙◌, take, drop, append_assoc, arith}
-use Rattle.std.proofs.lemmas.List.{take_all}
-use Rattle.tl_io.proofs.PutLemmas.{put_none, put_twice, put_stopped, put_as}
-use Rattle.tl_fault.specs.Refusals.{spaced}
-use Rattle.cmd_base.proofs.SpacedLemmas.{blank_and, spaced_split, spaced_more}
+use Rattle.cmd_base.proofs.Common.{◌≡◌, ℕ, suc, ◌+◌, List, ◌++◌, Ok, ap, sym, ◌∙◌, take, drop, append_assoc, arith, take_all, put_none, put_twice, put_stopped, put_as, spaced}
+use Rattle.cmd_base.proofs.PutLemmas.{blank_and, spaced_split, spaced_more}
 use Rattle.cmd_base.proofs.fault_line.put_names.Goals as goal
 
 pub loop-name-init : goal.loop-name-init

@@ -1,7 +1,4 @@
-use Rattle.std.proofs.Common.{take, Ok}
-use Rattle.tl_io.specs.Sink.{IsPut}
-use Rattle.tl_io.specs.declared.Failed.{Failed}
-use Rattle.tl_fault.specs.Refusals.{spaced}
+use Rattle.cmd_base.proofs.Common.{take, Ok, IsPut, Failed, spaced}
 use Rattle.cmd_base.proofs.fault_line.put_names.Given as goal
 
 abbrev pub invariant-loop-name : goal.invariant-loop-name

@@ -1,7 +1,4 @@
-use Rattle.std.proofs.Common.{List, ℕ, ◌++◌, codes, append_assoc}
-use Rattle.tl_io.proofs.PutLemmas.{put_twice, put_stopped, put_as}
-use Rattle.tl_fault.specs.Refusals.{details_words, spaced}
-use Rattle.cmd_base.specs.FaultLine.{head_line}
+use Rattle.cmd_base.proofs.Common.{List, ℕ, ◌++◌, codes, append_assoc, put_twice, put_stopped, put_as, details_words, spaced, head_line}
 use Rattle.cmd_base.proofs.fault_line.put_refusal.Goals as goal
 
 pub returns-in_err-put_head : goal.returns-in_err-put_head

@@ -1,7 +1,4 @@
-use Rattle.std.proofs.Common.{take, map, Ok}
-use Rattle.tl_io.specs.Sink.{IsPut}
-use Rattle.tl_io.specs.declared.Failed.{Failed}
-use Rattle.tl_fault.specs.Refusals.{spaced}
+use Rattle.cmd_base.proofs.Common.{take, map, Ok, IsPut, Failed, spaced}
 use Rattle.cmd_base.proofs.fault_line.put_words.Given as goal
 
 abbrev pub invariant-loop-word : goal.invariant-loop-word

@@ -1,11 +1,5 @@
-use Rattle.aig_core.specs.Roots.{roots_of}
-use Rattle.tl_fault.specs.OrMemory.{OrMemory}
-use Rattle.tl_fault.proofs.OrMemoryLemmas.{OrMemory-map}
+use Rattle.cmd_cert.proofs.Common.{roots_of, OrMemory, OrMemory-map, IsCertTextFault, IsFault, refusal_of, IsCertFault, malformed, invalid}
 use Rattle.tl_fault.proofs.PassedOn.{passed_err}
-use Rattle.cert_check.specs.CertText.{IsCertTextFault}
-use Rattle.cert_check.specs.Faults.{IsFault}
-use Rattle.cert_check.specs.Refusals.{refusal_of}
-use Rattle.cmd_cert.specs.Certs.{IsCertFault, malformed, invalid}
 use Rattle.cmd_cert.proofs.certs.read_checked.Goals as goal
 
 pub returns-in_err-cert-clause-fault : goal.returns-in_err-cert-clause-fault

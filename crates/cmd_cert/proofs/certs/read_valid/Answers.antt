@@ -1,8 +1,4 @@
-use Rattle.std.proofs.Common.{sym, subst}
-use Rattle.cmd_base.specs.Ends.{Explains}
-use Rattle.cmd_stations.specs.Texts.{HasText}
-use Rattle.cmd_cert.specs.Words.{cert_seen}
-use Rattle.cmd_cert.specs.Audit.{audit_reading}
+use Rattle.cmd_cert.proofs.Common.{sym, subst, Explains, HasText, cert_seen, audit_reading}
 use Rattle.cmd_cert.proofs.CertWalkLemmas.{cert_unread, cert_explains}
 use Rattle.cmd_cert.proofs.certs.read_valid.Goals as goal
 

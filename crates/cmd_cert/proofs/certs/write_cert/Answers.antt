@@ -1,7 +1,5 @@
-use Rattle.std.proofs.Common.{rules}
-use Rattle.cmd_stations.proofs.WriteLemmas.{written_over}
+use Rattle.cmd_cert.proofs.Common.{rules, cert_text, written_over}
 use Rattle.cmd_cert.proofs.certs.write_cert.Goals as goal
-use Rattle.cert_check.specs.WrittenText.{cert_text}
 
 pub returns-clause-written : goal.returns-clause-written
 returns-clause-written g c =

@@ -1,9 +1,5 @@
-use Rattle.std.proofs.Common.{ap, rules}
-use Rattle.tl_io.proofs.PutLemmas.{put_as}
-use Rattle.aiger_io.specs.WrittenText.{circuit_text}
-use Rattle.cmd_stations.proofs.WriteLemmas.{written_over}
-use Rattle.cmd_graph.proofs.BeginLemmas.{not_written}
-use Rattle.cmd_graph.specs.Graph.{circuit_at}
+use Rattle.cmd_graph.proofs.Common.{ap, rules, put_as, circuit_text, written_over, circuit_at}
+use Rattle.cmd_graph.proofs.GraphJobLemmas.{not_written}
 use Rattle.cmd_graph.proofs.export.write_export.Goals as goal
 
 pub returns-clause-written : goal.returns-clause-written

@@ -1,6 +1,5 @@
 use Rattle.cmd_base.proofs.EndLemmas.{only_read, unbegun_ends}
-use Rattle.cmd_graph.specs.Words.{graph_seen}
-use Rattle.cmd_graph.specs.Graph.{graph_walk}
+use Rattle.cmd_graph.proofs.Common.{graph_seen, graph_walk}
 use Rattle.cmd_graph.proofs.GraphJobLemmas.{graph_ends, graph_laws}
 use Rattle.cmd_graph.proofs.job.graph_job.Goals as goal
 

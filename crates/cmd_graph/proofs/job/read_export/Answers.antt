@@ -1,6 +1,5 @@
-use Rattle.std.proofs.Common.{sym, subst}
-use Rattle.cmd_stations.specs.Built.{ComesToGraph}
-use Rattle.cmd_stations.specs.Words.{source_seen}
+use Rattle.cmd_graph.proofs.Common.{sym, subst, ComesToGraph}
+use Rattle.cmd_stations.specs.Source.{source_seen}
 use Rattle.cmd_graph.proofs.job.read_export.Goals as goal
 
 pub returns-in-Ok-make_export-clause-comes : goal.returns-in-Ok-make_export-clause-comes

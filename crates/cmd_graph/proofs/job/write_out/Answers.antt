@@ -1,10 +1,4 @@
-use Rattle.std.proofs.Common.{[], ◌∷◌, refl}
-use Rattle.std.specs.Prelude.{string_bytes}
-use Rattle.tl_io.proofs.PutLemmas.{put_as}
-use Rattle.aiger_io.specs.WrittenText.{circuit_text}
-use Rattle.cmd_base.specs.Writing.{FileText}
-use Rattle.cmd_stations.proofs.WriteAllLemmas.{cut_in_file, line_ends}
-use Rattle.cmd_graph.specs.Graph.{circuit_at}
+use Rattle.cmd_graph.proofs.Common.{[], ◌∷◌, refl, string_bytes, put_as, circuit_text, FileText, circuit_at, cut_in_file, line_ends}
 use Rattle.cmd_graph.proofs.job.write_out.Goals as goal
 
 pub returns-in-Err-clause-ends : goal.returns-in-Err-clause-ends

@@ -1,13 +1,7 @@
-use Rattle.std.proofs.Common.{refl, inl}
-use Rattle.pace_core.specs.EventValue.{pace_values}
-use Rattle.cmd_base.specs.Outside.{Outside, outside}
+use Rattle.cmd_pace.proofs.Common.{refl, inl, pace_values, Outside, outside, IsAllPaced, IsPaceCut, pace_walk, pace_seen}
 use Rattle.cmd_base.proofs.EndLemmas.{unbegun_ends}
-use Rattle.cmd_pace.specs.Ends.{IsAllPaced, IsPaceCut}
-use Rattle.cmd_pace.specs.Verdict.{pace_walk}
-use Rattle.cmd_pace.specs.Words.{pace_seen}
-use Rattle.cmd_pace.proofs.PaceLemmas.{ready_begun, ready_pace}
-use Rattle.cmd_pace.proofs.PlayLemmas.{all_paced, cut_paced}
-use Rattle.cmd_pace.proofs.WalkLemmas.{pace_laws}
+use Rattle.cmd_pace.proofs.PlayLemmas.{ready_begun, ready_pace, all_paced, cut_paced}
+use Rattle.cmd_pace.proofs.HeadlineLemmas.{pace_laws}
 use Rattle.cmd_pace.proofs.job.pace_job.Goals as goal
 
 pub returns-in-Err-clause-ends : goal.returns-in-Err-clause-ends

@@ -1,11 +1,6 @@
-use Rattle.std.proofs.Common.{◌≡◌, ◌≤◌, List, take, refl, sym, ◌∙◌, subst, arith}
-use Rattle.std.proofs.lemmas.List.{take_all}
+use Rattle.cmd_pace.proofs.Common.{◌≡◌, ◌≤◌, List, take, refl, sym, ◌∙◌, subst, arith, take_all, pace_value, pace_values, split_by, more_by, value_has, FitsPacer}
 use Rattle.std.proofs.lemmas.Result.{err_from_is_err_and}
-use Rattle.list_laws.proofs.Items.{member_at}
-use Rattle.list_laws.proofs.Members.{In-map}
 use Rattle.pace_core.specs.declared.event.PaceEvent.{PaceEvent}
-use Rattle.pace_core.specs.EventValue.{pace_value, pace_values}
-use Rattle.cmd_stations.proofs.EventLemmas.{split_by, more_by}
 use Rattle.cmd_pace.proofs.PlayLemmas.{paced_form, fits_form, HaveCome, come_none, come_more, come_all, events_cut}
 use Rattle.cmd_pace.proofs.play.play_with.Goals as goal
 
@@ -18,9 +13,8 @@ loop-event-init g c = record {
 
 pub step-requires : goal.step-requires
 step-requires g c =
-    let event = c.event-item.result in
-    let member = member_at c.args.events.now c.loop-event.event-index event c.loop-event-test.true c.event-item.is in
-    fits_form (pace_value event) c.args.pacer.now c.loop-event.pacer c.loop-event.invariant.form (c.requires.can_pace (pace_value event) (In-map pace_value c.args.events.now event member))
+    fits_form (pace_value c.event-item.result) c.args.pacer.now c.loop-event.pacer c.loop-event.invariant.form
+    (value_has pace_value c.args.events.now c.loop-event.event-index c.event-item.result c.loop-event-test.true c.event-item.is (FitsPacer c.args.pacer.now) c.requires.can_pace)
 
 pub loop-event-preserved : goal.loop-event-preserved
 loop-event-preserved g c =

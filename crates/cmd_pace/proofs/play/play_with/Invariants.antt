@@ -1,5 +1,4 @@
-use Rattle.std.proofs.Common.{◌≤◌, take}
-use Rattle.pace_core.specs.EventValue.{pace_values}
+use Rattle.cmd_pace.proofs.Common.{◌≤◌, take, pace_values}
 use Rattle.cmd_pace.proofs.PlayLemmas.{HasSameForm, HaveCome}
 use Rattle.cmd_pace.proofs.play.play_with.Given as goal
 

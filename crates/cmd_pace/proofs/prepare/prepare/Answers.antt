@@ -1,10 +1,4 @@
-use Rattle.std.proofs.Common.{subst}
-use Rattle.run_text.specs.EventValue.{event_values}
-use Rattle.pace_core.specs.EventValue.{pace_values}
-use Rattle.cmd_base.specs.Ends.{Explains}
-use Rattle.cmd_stations.specs.Scripted.{ScriptedWords, scripted_reading}
-use Rattle.cmd_stations.specs.ScriptedMade.{ComesScripted}
-use Rattle.cmd_pace.specs.Words.{pace_seen}
+use Rattle.cmd_pace.proofs.Common.{subst, event_values, pace_values, Explains, ComesScripted, pace_seen, ScriptedWords, scripted_reading}
 use Rattle.cmd_pace.proofs.StartLemmas.{can_pace, ready_for}
 use Rattle.cmd_pace.proofs.prepare.prepare.Goals as goal
 

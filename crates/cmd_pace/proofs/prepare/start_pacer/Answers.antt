@@ -1,4 +1,4 @@
-use Rattle.std.proofs.Common.{ap, ◌∙◌}
+use Rattle.cmd_pace.proofs.Common.{ap, ◌∙◌}
 use Rattle.lut_sim.specs.Sim.{SimValue}
 use Rattle.cmd_pace.proofs.StartLemmas.{starts_pace}
 use Rattle.cmd_pace.proofs.prepare.start_pacer.Goals as goal

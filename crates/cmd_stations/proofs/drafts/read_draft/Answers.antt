@@ -1,7 +1,5 @@
-use Rattle.std.proofs.Common.{sym, subst}
+use Rattle.cmd_stations.proofs.Common.{sym, subst, source_seen, ComesPast}
 use Rattle.cmd_stations.specs.declared.mapped.MappedSource.{MappedSource}
-use Rattle.cmd_stations.specs.Words.{source_seen}
-use Rattle.cmd_stations.specs.Tables.{ComesPast}
 use Rattle.cmd_stations.proofs.drafts.read_draft.Goals as goal
 
 pub returns-in-Ok-make_draft-clause-comes : goal.returns-in-Ok-make_draft-clause-comes

@@ -1,6 +1,5 @@
-use Rattle.aig_build.specs.NetlistGraph.{HasTooManyNodes}
+use Rattle.cmd_stations.proofs.Common.{HasTooManyNodes, IsLabellingSettled}
 use Rattle.aig_build.specs.Refusals.{refusal_of as build_refusal}
-use Rattle.cmd_stations.specs.Settled.{IsLabellingSettled}
 use Rattle.cmd_stations.proofs.StopLemmas.{passed_settled, settled_anyway}
 use Rattle.cmd_stations.proofs.GraphLemmas.{full_labelling, labelling_settled}
 use Rattle.cmd_stations.proofs.labelling.label_source.Goals as goal

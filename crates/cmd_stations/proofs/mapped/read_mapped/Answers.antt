@@ -1,8 +1,4 @@
-use Rattle.std.proofs.Common.{sym, subst}
-use Rattle.cmd_stations.specs.Words.{source_seen}
-use Rattle.cmd_base.specs.Ends.{Explains}
-use Rattle.cmd_stations.specs.Aims.{ToTables}
-use Rattle.cmd_stations.specs.Settled.{source_reading}
+use Rattle.cmd_stations.proofs.Common.{source_seen, ToTables}
 use Rattle.cmd_stations.proofs.StationLemmas.{made_explains, making_settles}
 use Rattle.cmd_stations.proofs.mapped.read_mapped.Goals as goal
 
@@ -19,7 +15,5 @@ returns-in-Ok-map_source-clause-comes g c files told =
 
 pub returns-in-Err-map_source-clause-err : goal.returns-in-Err-map_source-clause-err
 returns-in-Err-map_source-clause-err g c =
-    let words = source_seen c.args.words.now in
-    subst (λ o. Explains (source_reading ToTables words) (g.S.Shelf.seen c.args.shelf.now) (g.S.Shelf.seen c.read_source.new.shelf) o) (sym c.at.ensures)
-    (made_explains ToTables words (g.S.Shelf.seen c.args.shelf.now) (g.S.Shelf.seen c.read_source.new.shelf) c.in-Ok.source c.in-Err-map_source.stop c.in-Ok.ensures.given
-    c.in-Ok.ensures.source c.in-Err-map_source.ensures.err c.in-Err-map_source.ensures.settled)
+    made_explains ToTables (source_seen c.args.words.now) (g.S.Shelf.seen c.args.shelf.now) (g.S.Shelf.seen c.read_source.new.shelf) c.in-Ok.source c.in-Err-map_source.stop c.at.result c.at.ensures c.in-Ok.ensures.given
+    c.in-Ok.ensures.source c.in-Err-map_source.ensures.err c.in-Err-map_source.ensures.settled

@@ -1,14 +1,8 @@
-use Rattle.aig_core.specs.Roots.{roots_of}
-use Rattle.cut_enum.specs.Limits.{IsLimit}
+use Rattle.cmd_stations.proofs.Common.{roots_of, IsLimit, label_of, IsTooMuch, IsUnchosen, cuts, work, IsGraphSettled}
 use Rattle.cut_enum.specs.Refusals.{refusal_of as cut_refusal}
-use Rattle.depth_label.specs.Label.{label_of}
 use Rattle.cover_pick.specs.Refusals.{refusal_of as pick_refusal}
-use Rattle.cover_pick.specs.Template.{IsTooMuch}
-use Rattle.cmd_stations.specs.Mapped.{IsUnchosen, cuts, work}
-use Rattle.cmd_stations.specs.Settled.{IsGraphSettled}
 use Rattle.cmd_stations.proofs.StopLemmas.{passed_stop, passed_settled, settled_anyway}
-use Rattle.cmd_stations.proofs.LeastLemmas.{least_mapping}
-use Rattle.cmd_stations.proofs.GraphLemmas.{limit_settled, table_settled, work_is}
+use Rattle.cmd_stations.proofs.GraphLemmas.{least_mapping, limit_settled, table_settled, work_is}
 use Rattle.cmd_stations.proofs.mapping.choose.Goals as goal
 
 pub returns-in_err-table-clause-err : goal.returns-in_err-table-clause-err

@@ -1,6 +1,5 @@
-use Rattle.aig_build.specs.NetlistGraph.{HasTooManyNodes}
+use Rattle.cmd_stations.proofs.Common.{HasTooManyNodes, IsGraphSettled, IsMappingSettled}
 use Rattle.aig_build.specs.Refusals.{refusal_of as build_refusal}
-use Rattle.cmd_stations.specs.Settled.{IsGraphSettled, IsMappingSettled}
 use Rattle.cmd_stations.proofs.StopLemmas.{passed_settled, passed_anyway}
 use Rattle.cmd_stations.proofs.GraphLemmas.{full_settled, mapping_settled, tables_as}
 use Rattle.cmd_stations.proofs.mapping.map_source.Goals as goal

@@ -1,10 +1,4 @@
-use Rattle.std.proofs.Common.{◌≡◌, ◌∙◌, ◌+◌, List, length, ap, sym, subst, arith}
-use Rattle.aig_core.specs.Roots.{roots_of}
-use Rattle.aig_core.specs.declared.lit.Kind.{Kind}
-use Rattle.lut_sim.specs.declared.shape.Shape.{Shape}
-use Rattle.lut_sim.specs.GraphShape.{HasShape}
-use Rattle.cmd_stations.specs.declared.source.Source.{Source}
-use Rattle.cmd_stations.specs.SourceCircuit.{width_of, shape_of}
+use Rattle.cmd_stations.proofs.Common.{◌≡◌, ◌∙◌, ◌+◌, List, length, ap, sym, subst, arith, roots_of, Kind, Shape, HasShape, Source, width_of, shape_of}
 use Rattle.cmd_stations.proofs.SourceLemmas.{three_count, shape_is, source_shape}
 use Rattle.cmd_stations.proofs.ShowLemmas.{outputs_among, next_among, next_count}
 use Rattle.cmd_stations.proofs.mapping.source_shape.Goals as goal

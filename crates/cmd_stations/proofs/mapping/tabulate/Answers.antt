@@ -1,6 +1,4 @@
-use Rattle.std.proofs.Common.{◌∙◌, refl, ap, sym, subst, inr}
-use Rattle.lut_sim.specs.declared.shape.Shape.{Shape}
-use Rattle.lut_sim.specs.Playable.{IsPlayable}
+use Rattle.cmd_stations.proofs.Common.{◌∙◌, refl, ap, sym, subst, inr, Shape, IsPlayable}
 use Rattle.cmd_stations.proofs.SourceLemmas.{source_params}
 use Rattle.bit_fun.proofs.PackLemmas.{params_len as pack_params}
 use Rattle.cmd_stations.proofs.ShowLemmas.{pack_param_names, pack_inits, pack_bits, tables_play}

@@ -1,6 +1,4 @@
-use Rattle.std.proofs.Common.{rules}
-use Rattle.blif_write.specs.PlainNetlist.{netlist_text}
-use Rattle.cmd_stations.specs.Written.{specialised_of}
+use Rattle.cmd_stations.proofs.Common.{rules, netlist_text, specialised_of}
 use Rattle.cmd_stations.proofs.WriteLemmas.{written_over}
 use Rattle.cmd_stations.proofs.WrittenCycleLemmas.{specialised_runs}
 use Rattle.cmd_stations.proofs.netlist_files.write_specialised.Goals as goal

@@ -1,6 +1,4 @@
-use Rattle.std.proofs.Common.{rules}
-use Rattle.blif_write.specs.PlainNetlist.{netlist_text}
-use Rattle.cmd_stations.specs.Written.{template_of}
+use Rattle.cmd_stations.proofs.Common.{rules, netlist_text, template_of}
 use Rattle.cmd_stations.proofs.WriteLemmas.{written_over}
 use Rattle.cmd_stations.proofs.WrittenCycleLemmas.{template_tuned}
 use Rattle.cmd_stations.proofs.netlist_files.write_template.Goals as goal

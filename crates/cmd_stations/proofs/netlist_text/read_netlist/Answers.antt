@@ -1,8 +1,5 @@
-use Rattle.blif_flat.specs.Faults.{IsFault}
+use Rattle.cmd_stations.proofs.Common.{IsFault, LibraryRefusal, IsTextSettled, NetlistRefusal}
 use Rattle.blif_flat.specs.Refusals.{refusal_of as flat_refusal}
-use Rattle.cmd_stations.specs.LibraryText.{LibraryRefusal}
-use Rattle.cmd_stations.specs.Settled.{IsTextSettled}
-use Rattle.cmd_stations.specs.Texts.{NetlistRefusal}
 use Rattle.cmd_stations.specs.Texts as texts
 use Rattle.cmd_stations.proofs.StopLemmas.{passed_stop, passed_stops, passed_settled, passed_settles}
 use Rattle.cmd_stations.proofs.TextLemmas.{fault_settled, library_settled}

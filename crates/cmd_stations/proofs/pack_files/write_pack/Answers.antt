@@ -1,7 +1,6 @@
-use Rattle.std.proofs.Common.{rules}
+use Rattle.cmd_stations.proofs.Common.{rules, present_bytes}
 use Rattle.cmd_stations.proofs.WriteLemmas.{written_over}
 use Rattle.cmd_stations.proofs.pack_files.write_pack.Goals as goal
-use Rattle.cmd_stations.specs.Packs.{present_bytes}
 
 pub returns-clause-written : goal.returns-clause-written
 returns-clause-written g c =

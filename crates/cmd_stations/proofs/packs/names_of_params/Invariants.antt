@@ -1,5 +1,4 @@
-use Rattle.std.proofs.Common.{◌≡◌, ◌++◌, drop, map}
-use Rattle.ppc_pack.specs.declared.pack.PackParam.{PackParam}
+use Rattle.cmd_stations.proofs.Common.{◌≡◌, ◌++◌, drop, map, PackParam}
 use Rattle.cmd_stations.proofs.packs.names_of_params.Given as goal
 
 abbrev pub invariant-loop-param : goal.invariant-loop-param

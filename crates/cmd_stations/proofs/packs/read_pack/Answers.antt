@@ -1,9 +1,5 @@
-use Rattle.std.proofs.Common.{sym, subst}
-use Rattle.cmd_base.specs.Ends.{Explains}
-use Rattle.cmd_base.specs.Refusals.{most_bytes}
+use Rattle.cmd_stations.proofs.Common.{sym, subst, most_bytes, HasBytes}
 use Rattle.cmd_base.specs.declared.outcome.File.TheVariants.{Pack}
-use Rattle.cmd_stations.specs.Texts.{HasBytes}
-use Rattle.cmd_stations.specs.Packs.{pack_reading}
 use Rattle.cmd_stations.proofs.PackLemmas.{pack_unread, pack_explains}
 use Rattle.cmd_stations.proofs.packs.read_pack.Goals as goal
 
@@ -12,6 +8,5 @@ returns-in-Err-clause-err g c = pack_unread c.args.name.now (g.S.Shelf.seen c.ar
 
 pub returns-clause-err : goal.returns-clause-err
 returns-clause-err g c =
-    subst (λ o. Explains (pack_reading c.args.name.now) (g.S.Shelf.seen c.args.shelf.now) (g.S.Shelf.seen c.read_file.new.shelf) o) (sym c.at.ensures)
-    (pack_explains c.args.name.now (g.S.Shelf.seen c.args.shelf.now) (g.S.Shelf.seen c.read_file.new.shelf) c.deref.result.now c.in-Err-decode_pack.stop c.in-Ok.ensures.given
-    (λ files told. subst (λ bytes. HasBytes (most_bytes Pack) files c.args.name.now bytes) (sym c.deref.ensures.value) (c.in-Ok.ensures.text files told)) c.in-Err-decode_pack.ensures.one c.in-Err-decode_pack.ensures.err)
+    pack_explains c.args.name.now (g.S.Shelf.seen c.args.shelf.now) (g.S.Shelf.seen c.read_file.new.shelf) c.deref.result.now c.in-Err-decode_pack.stop c.at.result c.at.ensures c.in-Ok.ensures.given
+    (λ files told. subst (λ bytes. HasBytes (most_bytes Pack) files c.args.name.now bytes) (sym c.deref.ensures.value) (c.in-Ok.ensures.text files told)) c.in-Err-decode_pack.ensures.one c.in-Err-decode_pack.ensures.err

@@ -1,8 +1,4 @@
-use Rattle.std.proofs.Common.{sym, subst}
-use Rattle.cmd_stations.specs.Words.{source_seen}
-use Rattle.cmd_base.specs.Ends.{Explains}
-use Rattle.cmd_stations.specs.Texts.{HasText}
-use Rattle.cmd_stations.specs.Settled.{source_reading}
+use Rattle.cmd_stations.proofs.Common.{source_seen}
 use Rattle.cmd_stations.proofs.StationLemmas.{netlist_unread, netlist_explains}
 use Rattle.cmd_stations.proofs.params.read_netlist_file.Goals as goal
 
@@ -12,7 +8,5 @@ returns-in-Err-clause-err g c aim =
 
 pub returns-in-Err-read_netlist-clause-err : goal.returns-in-Err-read_netlist-clause-err
 returns-in-Err-read_netlist-clause-err g c aim =
-    let words = source_seen c.args.words.now in
-    subst (λ o. Explains (source_reading aim words) (g.S.Shelf.seen c.args.shelf.now) (g.S.Shelf.seen c.read_file.new.shelf) o) (sym c.at.ensures)
-    (netlist_explains aim words (g.S.Shelf.seen c.args.shelf.now) (g.S.Shelf.seen c.read_file.new.shelf) c.in-Ok.text.items c.in-Err-read_netlist.stop c.in-Ok.ensures.given
-    c.in-Ok.ensures.text c.in-Err-read_netlist.ensures.err c.in-Err-read_netlist.ensures.settled)
+    netlist_explains aim (source_seen c.args.words.now) (g.S.Shelf.seen c.args.shelf.now) (g.S.Shelf.seen c.read_file.new.shelf) c.in-Ok.text.items c.in-Err-read_netlist.stop c.at.result c.at.ensures c.in-Ok.ensures.given
+    c.in-Ok.ensures.text c.in-Err-read_netlist.ensures.err c.in-Err-read_netlist.ensures.settled

@@ -1,8 +1,4 @@
-use Rattle.std.proofs.Common.{sym, subst}
-use Rattle.cmd_stations.specs.Words.{source_seen}
-use Rattle.cmd_base.specs.Ends.{Explains}
-use Rattle.cmd_stations.specs.Texts.{HasText}
-use Rattle.cmd_stations.specs.Settled.{source_reading}
+use Rattle.cmd_stations.proofs.Common.{sym, subst, source_seen, HasText}
 use Rattle.cmd_stations.proofs.StationLemmas.{params_unread, params_explains}
 use Rattle.cmd_stations.proofs.params.read_params_file.Goals as goal
 
@@ -13,6 +9,5 @@ returns-in-Err-clause-err g c aim =
 pub returns-clause-err : goal.returns-clause-err
 returns-clause-err g c aim =
     let words = source_seen c.args.words.now in
-    subst (λ o. Explains (source_reading aim words) (g.S.Shelf.seen c.args.shelf.now) (g.S.Shelf.seen c.read_file.new.shelf) o) (sym c.at.ensures)
-    (params_explains aim words (g.S.Shelf.seen c.args.shelf.now) (g.S.Shelf.seen c.read_file.new.shelf) c.args.netlist.now c.requires.comes c.deref.result.now c.in-Err-list_params.stop c.in-Ok.ensures.given
-    (λ files told. subst (λ text. HasText files words.params text) (sym c.deref.ensures.value) (c.in-Ok.ensures.text files told)) c.in-Err-list_params.ensures.one c.in-Err-list_params.ensures.err)
+    params_explains aim words (g.S.Shelf.seen c.args.shelf.now) (g.S.Shelf.seen c.read_file.new.shelf) c.args.netlist.now c.requires.comes c.deref.result.now c.in-Err-list_params.stop c.at.result c.at.ensures c.in-Ok.ensures.given
+    (λ files told. subst (λ text. HasText files words.params text) (sym c.deref.ensures.value) (c.in-Ok.ensures.text files told)) c.in-Err-list_params.ensures.one c.in-Err-list_params.ensures.err

@@ -1,6 +1,4 @@
-use Rattle.cmd_stations.specs.Words.{source_seen}
-use Rattle.cmd_stations.specs.Settled.{source_reading}
-use Rattle.cmd_base.proofs.EndLemmas.{Explains_from, keeps_past}
+use Rattle.cmd_stations.proofs.Common.{source_seen, source_reading, Explains_from, keeps_past}
 use Rattle.cmd_stations.proofs.params.read_source.Goals as goal
 
 pub returns-in-Err-read_params_file-clause-err : goal.returns-in-Err-read_params_file-clause-err

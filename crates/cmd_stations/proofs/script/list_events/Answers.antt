@@ -1,6 +1,5 @@
-use Rattle.run_text.specs.ScriptText.{IsScriptFault}
+use Rattle.cmd_stations.proofs.Common.{IsScriptFault, IsScriptRefusal}
 use Rattle.run_text.specs.ScriptRefusals.{refusal_of as script_refusal}
-use Rattle.cmd_stations.specs.Texts.{IsScriptRefusal}
 use Rattle.cmd_stations.proofs.StopLemmas.{passed_stop}
 use Rattle.cmd_stations.proofs.script.list_events.Goals as goal
 

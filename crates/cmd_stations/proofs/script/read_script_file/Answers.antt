@@ -1,7 +1,4 @@
-use Rattle.std.proofs.Common.{sym, subst}
-use Rattle.cmd_base.specs.Ends.{Explains}
-use Rattle.cmd_stations.specs.Texts.{HasText}
-use Rattle.cmd_stations.specs.Script.{script_reading}
+use Rattle.cmd_stations.proofs.Common.{sym, subst, HasText}
 use Rattle.cmd_stations.proofs.StationLemmas.{script_unread, script_explains}
 use Rattle.cmd_stations.proofs.script.read_script_file.Goals as goal
 
@@ -11,6 +8,5 @@ returns-in-Err-clause-err g c =
 
 pub returns-clause-err : goal.returns-clause-err
 returns-clause-err g c =
-    subst (λ o. Explains (script_reading c.args.name.now c.args.names.now) (g.S.Shelf.seen c.args.shelf.now) (g.S.Shelf.seen c.read_file.new.shelf) o) (sym c.at.ensures)
-    (script_explains c.args.name.now c.args.names.now (g.S.Shelf.seen c.args.shelf.now) (g.S.Shelf.seen c.read_file.new.shelf) c.deref.result.now c.in-Err-list_events.stop c.in-Ok.ensures.given
-    (λ files told. subst (λ text. HasText files c.args.name.now text) (sym c.deref.ensures.value) (c.in-Ok.ensures.text files told)) c.in-Err-list_events.ensures.one c.in-Err-list_events.ensures.err)
+    script_explains c.args.name.now c.args.names.now (g.S.Shelf.seen c.args.shelf.now) (g.S.Shelf.seen c.read_file.new.shelf) c.deref.result.now c.in-Err-list_events.stop c.at.result c.at.ensures c.in-Ok.ensures.given
+    (λ files told. subst (λ text. HasText files c.args.name.now text) (sym c.deref.ensures.value) (c.in-Ok.ensures.text files told)) c.in-Err-list_events.ensures.one c.in-Err-list_events.ensures.err

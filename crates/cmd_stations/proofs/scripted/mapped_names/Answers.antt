@@ -1,4 +1,4 @@
-use Rattle.std.proofs.Common.{◌∙◌}
+use Rattle.cmd_stations.proofs.Common.{◌∙◌}
 use Rattle.cmd_stations.proofs.PackLemmas.{made_names}
 use Rattle.cmd_stations.proofs.scripted.mapped_names.Goals as goal
 

@@ -1,6 +1,4 @@
-use Rattle.std.proofs.Common.{◌∙◌, sym}
-use Rattle.cmd_base.proofs.EndLemmas.{Explains_from, keeps_past}
-use Rattle.cmd_stations.specs.Scripted.{scripted_seen, scripted_reading}
+use Rattle.cmd_stations.proofs.Common.{◌∙◌, sym, Explains_from, keeps_past, scripted_seen, scripted_reading}
 use Rattle.cmd_stations.proofs.ScriptedLemmas.{source_to_scripted, script_to_scripted, comes_scripted}
 use Rattle.cmd_stations.proofs.scripted.read_scripted.Goals as goal
 

@@ -1,6 +1,4 @@
-use Rattle.std.proofs.Common.{ℕ, List, ◌++◌, string_bytes, arith, ap, ◌∙◌}
-use Rattle.list_laws.specs.Digits.{digit}
-use Rattle.gen_case.specs.Numbers.{digit_text}
+use Rattle.gen_case.proofs.Common.{ℕ, List, ◌++◌, string_bytes, arith, ap, ◌∙◌, digit, digit_text}
 use Rattle.gen_case.proofs.LineLemmas.{piece_added}
 use Rattle.gen_case.proofs.changes.add_digits.Goals as goal
 

@@ -1,5 +1,4 @@
-use Rattle.std.proofs.Common.{◌≡◌, ◌++◌, string_bytes}
-use Rattle.gen_case.specs.Script.{digits_text}
+use Rattle.gen_case.proofs.Common.{◌≡◌, ◌++◌, string_bytes, digits_text}
 use Rattle.gen_case.proofs.changes.add_digits.Given as goal
 
 abbrev pub invariant-loop-place : goal.invariant-loop-place

@@ -1,5 +1,4 @@
-use Rattle.std.proofs.Common.{arith}
-use Rattle.gen_case.specs.Script.{param_lines}
+use Rattle.gen_case.proofs.Common.{arith, param_lines}
 use Rattle.gen_case.proofs.LineLemmas.{lines_added}
 use Rattle.gen_case.proofs.changes.add_params.Goals as goal
 

@@ -1,7 +1,4 @@
-use Rattle.std.proofs.Common.{◌≡◌, ◌++◌, string_bytes}
-use Rattle.std.specs.List.{flat_map}
-use Rattle.gen_case.specs.Lines.{text_of, below}
-use Rattle.gen_case.specs.Script.{param_lines}
+use Rattle.gen_case.proofs.Common.{◌≡◌, ◌++◌, string_bytes, flat_map, text_of, below, param_lines}
 use Rattle.gen_case.proofs.changes.add_params.Given as goal
 
 abbrev pub invariant-loop-place : goal.invariant-loop-place

@@ -1,5 +1,4 @@
-use Rattle.std.proofs.Common.{arith, ◌-◌, sym, string_bytes}
-use Rattle.std.proofs.lemmas.List.{append-nil}
+use Rattle.gen_case.proofs.Common.{arith, ◌-◌, sym, string_bytes, append-nil}
 use Rattle.gen_case.specs.Script.{round_lines, rounds}
 use Rattle.gen_case.proofs.LineLemmas.{lines_added}
 use Rattle.gen_case.proofs.changes.add_rounds.Goals as goal

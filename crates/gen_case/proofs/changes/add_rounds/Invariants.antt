@@ -1,5 +1,4 @@
-use Rattle.std.proofs.Common.{◌≡◌, ◌-◌, ◌++◌, string_bytes}
-use Rattle.gen_case.specs.Lines.{text_of}
+use Rattle.gen_case.proofs.Common.{◌≡◌, ◌-◌, ◌++◌, string_bytes, text_of}
 use Rattle.gen_case.specs.Script.{rounds}
 use Rattle.gen_case.proofs.changes.add_rounds.Given as goal
 

@@ -1,6 +1,4 @@
-use Rattle.std.proofs.Common.{map, codes}
-use Rattle.gen_case.specs.Lines.{below}
-use Rattle.gen_case.specs.Script.{setting}
+use Rattle.gen_case.proofs.Common.{map, codes, below, setting}
 use Rattle.gen_case.proofs.LineLemmas.{line_added}
 use Rattle.gen_case.proofs.changes.add_set.Goals as goal
 

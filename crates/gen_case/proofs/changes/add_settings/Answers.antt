@@ -1,5 +1,4 @@
-use Rattle.std.proofs.Common.{arith}
-use Rattle.gen_case.specs.Script.{setting}
+use Rattle.gen_case.proofs.Common.{arith, setting}
 use Rattle.gen_case.proofs.LineLemmas.{word_added}
 use Rattle.gen_case.proofs.changes.add_settings.Goals as goal
 

@@ -1,7 +1,4 @@
-use Rattle.std.proofs.Common.{◌≡◌, ◌++◌, string_bytes, map}
-use Rattle.gen_case.specs.Lines.{below}
-use Rattle.gen_case.specs.Script.{setting}
-use Rattle.gen_case.specs.Steps.{after_blanks}
+use Rattle.gen_case.proofs.Common.{◌≡◌, ◌++◌, string_bytes, map, below, setting, after_blanks}
 use Rattle.gen_case.proofs.changes.add_settings.Given as goal
 
 abbrev pub invariant-loop-place : goal.invariant-loop-place

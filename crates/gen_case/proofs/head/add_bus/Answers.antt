@@ -1,6 +1,4 @@
-use Rattle.std.proofs.Common.{arith}
-use Rattle.gen_case.specs.declared.net.Net.TheVariants.{Digit}
-use Rattle.gen_case.specs.Nets.{net_name}
+use Rattle.gen_case.proofs.Common.{arith, Digit, net_name}
 use Rattle.gen_case.proofs.LineLemmas.{word_added}
 use Rattle.gen_case.proofs.head.add_bus.Goals as goal
 

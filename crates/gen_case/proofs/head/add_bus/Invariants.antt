@@ -1,6 +1,4 @@
-use Rattle.std.proofs.Common.{◌≡◌, ◌++◌, string_bytes}
-use Rattle.gen_case.specs.Netlist.{bus_names}
-use Rattle.gen_case.specs.Steps.{after_blanks}
+use Rattle.gen_case.proofs.Common.{◌≡◌, ◌++◌, string_bytes, bus_names, after_blanks}
 use Rattle.gen_case.proofs.head.add_bus.Given as goal
 
 abbrev pub invariant-loop-place : goal.invariant-loop-place

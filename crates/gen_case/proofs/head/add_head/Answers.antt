@@ -1,6 +1,4 @@
-use Rattle.std.proofs.Common.{List, ℕ, ◌++◌, codes}
-use Rattle.gen_case.specs.Lines.{line_text}
-use Rattle.gen_case.specs.Netlist.{inputs_line, outputs_line}
+use Rattle.gen_case.proofs.Common.{List, ℕ, ◌++◌, codes, line_text, inputs_line, outputs_line}
 use Rattle.gen_case.proofs.LineLemmas.{behind}
 use Rattle.gen_case.proofs.head.add_head.Goals as goal
 

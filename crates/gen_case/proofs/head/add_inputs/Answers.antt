@@ -1,6 +1,4 @@
-use Rattle.std.proofs.Common.{◌++◌, codes}
-use Rattle.gen_case.specs.declared.net.Bus.TheVariants.{Data, Coefficient}
-use Rattle.gen_case.specs.Netlist.{bus_names}
+use Rattle.gen_case.proofs.Common.{◌++◌, codes, Data, Coefficient, bus_names}
 use Rattle.gen_case.proofs.LineLemmas.{line_added, words_joined}
 use Rattle.gen_case.proofs.head.add_inputs.Goals as goal
 

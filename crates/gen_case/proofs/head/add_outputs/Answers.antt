@@ -1,6 +1,4 @@
-use Rattle.std.proofs.Common.{◌*◌, codes}
-use Rattle.gen_case.specs.declared.net.Bus.TheVariants.{Product}
-use Rattle.gen_case.specs.Netlist.{bus_names}
+use Rattle.gen_case.proofs.Common.{◌*◌, codes, Product, bus_names}
 use Rattle.gen_case.proofs.LineLemmas.{line_added}
 use Rattle.gen_case.proofs.head.add_outputs.Goals as goal
 

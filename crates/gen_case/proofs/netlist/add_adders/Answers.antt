@@ -1,7 +1,4 @@
-use Rattle.std.proofs.Common.{arith, ◌-◌}
-use Rattle.std.specs.List.{flat_map}
-use Rattle.gen_case.specs.Lines.{below}
-use Rattle.gen_case.specs.Netlist.{adder_lines}
+use Rattle.gen_case.proofs.Common.{arith, ◌-◌, flat_map, below, adder_lines}
 use Rattle.gen_case.proofs.LineLemmas.{lines_added}
 use Rattle.gen_case.proofs.netlist.add_adders.Goals as goal
 

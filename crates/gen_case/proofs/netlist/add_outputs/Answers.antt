@@ -1,5 +1,4 @@
-use Rattle.std.proofs.Common.{arith}
-use Rattle.gen_case.specs.Netlist.{output_lines}
+use Rattle.gen_case.proofs.Common.{arith, output_lines}
 use Rattle.gen_case.proofs.LineLemmas.{lines_added}
 use Rattle.gen_case.proofs.netlist.add_outputs.Goals as goal
 

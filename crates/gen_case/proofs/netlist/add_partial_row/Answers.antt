@@ -1,5 +1,4 @@
-use Rattle.std.proofs.Common.{arith}
-use Rattle.gen_case.specs.Netlist.{partial_lines}
+use Rattle.gen_case.proofs.Common.{arith, partial_lines}
 use Rattle.gen_case.proofs.LineLemmas.{lines_added}
 use Rattle.gen_case.proofs.netlist.add_partial_row.Goals as goal
 

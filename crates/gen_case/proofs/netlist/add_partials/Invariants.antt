@@ -1,7 +1,4 @@
-use Rattle.std.proofs.Common.{◌≡◌, ℕ, ◌++◌, string_bytes}
-use Rattle.std.specs.List.{flat_map}
-use Rattle.gen_case.specs.Lines.{text_of, below}
-use Rattle.gen_case.specs.Netlist.{partial_lines}
+use Rattle.gen_case.proofs.Common.{◌≡◌, ℕ, ◌++◌, string_bytes, flat_map, text_of, below, partial_lines}
 use Rattle.gen_case.proofs.netlist.add_partials.Given as goal
 
 abbrev pub invariant-loop-j : goal.invariant-loop-j

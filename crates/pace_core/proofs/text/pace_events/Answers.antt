@@ -1,11 +1,5 @@
-use Rattle.std.proofs.Common.{List, [], ◌∷◌, ◌++◌, sym, ap, ◌∙◌, append_assoc}
-use Rattle.std.specs.List.{cons_option}
-use Rattle.std.proofs.lemmas.List.{map-append}
-use Rattle.std.specs.Vec.Iter.{into_iter_items}
-use Rattle.run_text.specs.EventValue.{event_values}
+use Rattle.pace_core.proofs.Common.{List, [], ◌∷◌, ◌++◌, sym, ap, ◌∙◌, append_assoc, cons_option, map-append, into_iter_items, event_values, PaceEvent, PaceValue, pace_value, pace_values, asks_and_ticks}
 use Rattle.run_text.specs.declared.event.Event.{Event}
-use Rattle.pace_core.specs.declared.event.PaceEvent.{PaceEvent}
-use Rattle.pace_core.specs.EventValue.{PaceValue, pace_value, pace_values, asks_and_ticks}
 use Rattle.pace_core.proofs.text.pace_events.Goals as goal
 
 pub loop-event-init : goal.loop-event-init

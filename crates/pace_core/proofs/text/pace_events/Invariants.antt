@@ -1,7 +1,4 @@
-use Rattle.std.proofs.Common.{◌≡◌, ◌++◌}
-use Rattle.std.specs.Vec.Iter.{into_iter_items}
-use Rattle.run_text.specs.EventValue.{event_values}
-use Rattle.pace_core.specs.EventValue.{pace_values, asks_and_ticks}
+use Rattle.pace_core.proofs.Common.{◌≡◌, ◌++◌, into_iter_items, event_values, pace_values, asks_and_ticks}
 use Rattle.pace_core.proofs.text.pace_events.Given as goal
 
 abbrev pub invariant-loop-event : goal.invariant-loop-event

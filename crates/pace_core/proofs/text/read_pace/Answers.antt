@@ -1,7 +1,4 @@
-use Rattle.std.proofs.Common.{List, sym, subst}
-use Rattle.run_text.specs.EventValue.{event_values}
-use Rattle.pace_core.specs.EventValue.{PaceValue, pace_values}
-use Rattle.pace_core.specs.PaceText.{ArePaced}
+use Rattle.pace_core.proofs.Common.{List, sym, subst, event_values, PaceValue, pace_values, ArePaced}
 use Rattle.pace_core.proofs.PaceTextLemmas.{script_paced, events_fit}
 use Rattle.pace_core.proofs.text.read_pace.Goals as goal
 

@@ -1,6 +1,4 @@
-use Rattle.std.proofs.Common.{◌∙◌, sym, refl, ap, subst, inl, inr}
-use Rattle.list_laws.specs.Members.{In}
-use Rattle.tl_text.specs.LineValue.{LineValue}
+use Rattle.param_list.proofs.Common.{◌∙◌, sym, refl, ap, subst, inl, inr, In, LineValue}
 use Rattle.param_list.proofs.param_line.entry.Goals as goal
 
 pub bytes-requires : goal.bytes-requires

@@ -1,7 +1,4 @@
-use Rattle.std.proofs.Common.{◌≡◌, ℕ, ◌<◌, ◌≤◌, true, false, List, length, is_some, refl, sym, ap, ◌∙◌, arith}
-use Rattle.netlist.specs.Models.{has_name}
-use Rattle.tl_text.proofs.NameSetLemmas.{place_is, place_some}
-use Rattle.tl_text.specs.NameIndex.{place_of}
+use Rattle.param_list.proofs.Common.{◌≡◌, ℕ, ◌<◌, ◌≤◌, true, false, List, length, is_some, refl, sym, ap, ◌∙◌, arith, has_name, place_is, place_some, place_of}
 use Rattle.param_list.proofs.RefusalLemmas.{within_limits, no_input, stood_earlier, no_refusal}
 use Rattle.param_list.proofs.param_line.param_of.Goals as goal
 

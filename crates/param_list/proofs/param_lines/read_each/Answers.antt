@@ -1,12 +1,4 @@
-use Rattle.std.proofs.Common.{◌≡◌, List, length, map, Some, subst, arith}
-use Rattle.std.proofs.lemmas.List.{length-map}
-use Rattle.list_laws.proofs.Items.{member_at}
-use Rattle.tl_fault.proofs.OrMemoryLemmas.{OrMemory-map}
-use Rattle.tl_fault.specs.OrMemory.{OrMemory}
-use Rattle.tl_text.specs.LineValue.{WordsLine, words_line}
-use Rattle.param_list.specs.Refusals.{refusal_of}
-use Rattle.param_list.specs.ParamsText.{line_refusal, IsFirstRefusal}
-use Rattle.tl_fault.proofs.PassedOn.{passed_err}
+use Rattle.param_list.proofs.Common.{◌≡◌, List, length, map, Some, subst, arith, length-map, member_at, OrMemory-map, OrMemory, WordsLine, words_line, refusal_of, line_refusal, IsFirstRefusal, passed_err}
 use Rattle.param_list.proofs.LineLemmas.{line_at, new_name, read_next, names_next}
 use Rattle.param_list.proofs.ReadLemmas.{first_refusal, all_read}
 use Rattle.param_list.proofs.param_lines.read_each.Goals as goal

@@ -1,6 +1,4 @@
-use Rattle.std.proofs.Common.{◌≡◌, map}
-use Rattle.tl_text.specs.LineValue.{words_line}
-use Rattle.param_list.specs.Parameters.{param_names}
+use Rattle.param_list.proofs.Common.{◌≡◌, map, words_line, param_names}
 use Rattle.param_list.proofs.ReadLemmas.{AreRead}
 use Rattle.param_list.proofs.param_lines.read_each.Given as goal
 

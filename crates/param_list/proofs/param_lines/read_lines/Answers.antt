@@ -1,14 +1,5 @@
-use Rattle.std.proofs.Common.{◌≡◌, ℕ, List, [], length, map, subst, ap, ◌∙◌, arith}
-use Rattle.tl_fault.proofs.OrMemoryLemmas.{OrMemory-map}
-use Rattle.tl_fault.specs.OrMemory.{OrMemory}
-use Rattle.tl_text.specs.LineValue.{WordsLine, words_line}
-use Rattle.netlist.specs.FlatValue.{FlatValue}
-use Rattle.netlist.specs.Models.{has_name}
+use Rattle.param_list.proofs.Common.{◌≡◌, ℕ, List, [], length, map, subst, ap, ◌∙◌, arith, OrMemory-map, OrMemory, WordsLine, words_line, FlatValue, has_name, new_names, has_with_names, refusal_of, IsFirstRefusal, AreParamsOf, passed_err}
 use Rattle.tl_text.specs.NameSets.{with_names}
-use Rattle.tl_text.proofs.NameSetLemmas.{new_names, has_with_names}
-use Rattle.param_list.specs.Refusals.{refusal_of}
-use Rattle.param_list.specs.ParamsText.{IsFirstRefusal, AreParamsOf}
-use Rattle.tl_fault.proofs.PassedOn.{passed_err}
 use Rattle.param_list.proofs.SameLemmas.{same_params, same_first}
 use Rattle.param_list.proofs.param_lines.read_lines.Goals as goal
 

@@ -1,12 +1,4 @@
-use Rattle.std.proofs.Common.{List, map, Ok, sym, ap, ◌∙◌}
-use Rattle.tl_fault.proofs.OrMemoryLemmas.{OrMemory-map}
-use Rattle.tl_fault.specs.OrMemory.{OrMemory}
-use Rattle.tl_text.specs.LineValue.{LineValue, words_line}
-use Rattle.tl_text.specs.TextOf.{IsLinesFault, by_lines, at_line}
-use Rattle.param_list.specs.LinesErr.{par_err}
-use Rattle.param_list.specs.Refusals.{refusal_of}
-use Rattle.param_list.specs.ParamsText.{IsFirstRefusal, IsParamsFault}
-use Rattle.tl_fault.proofs.PassedOn.{passed_err}
+use Rattle.param_list.proofs.Common.{List, map, Ok, sym, ap, ◌∙◌, OrMemory-map, OrMemory, LineValue, words_line, IsLinesFault, by_lines, at_line, par_err, refusal_of, IsFirstRefusal, IsParamsFault, passed_err}
 use Rattle.param_list.proofs.OnceLemmas.{one_reading, are_parameters}
 use Rattle.param_list.proofs.params.read_params.Goals as goal
 

@@ -1,7 +1,4 @@
-use Rattle.std.proofs.Common.{refl}
-use Rattle.tl_text.proofs.TextOfLemmas.{lines_fault}
-use Rattle.param_list.specs.LinesErr.{par_err}
-use Rattle.param_list.specs.Refusals.{refusal_of}
+use Rattle.param_list.proofs.Common.{refl, lines_fault, par_err, refusal_of}
 use Rattle.param_list.proofs.params.text_lines.Goals as goal
 
 pub returns-in-Err-clause-fault : goal.returns-in-Err-clause-fault

@@ -1,13 +1,5 @@
-use Rattle.std.proofs.Common.{◌≡◌, ◌<◌, true, Bool, List, length, take, Some, vec_len, slice_set, refl, sym, ap, ◌∙◌, arith}
-use Rattle.std.specs.Prelude.{slice_get}
-use Rattle.std.proofs.lemmas.List.{length-map}
-use Rattle.std.proofs.lemmas.Option.{slice_get_read, slice_get_within}
-use Rattle.list_laws.proofs.Items.{member_at}
-use Rattle.netlist.specs.Models.{has_name}
-use Rattle.param_list.specs.Marks.{marks_of}
-use Rattle.param_list.specs.Parameters.{param_names}
+use Rattle.param_list.proofs.Common.{◌≡◌, ◌<◌, true, Bool, List, length, take, Some, vec_len, slice_set, refl, sym, ap, ◌∙◌, arith, slice_get, length-map, slice_get_read, slice_get_within, member_at, has_name, marks_of, param_names, take_get}
 use Rattle.param_list.proofs.MarkLemmas.{no_marks, mark_set}
-use Rattle.list_laws.proofs.Places.{take_get}
 use Rattle.param_list.proofs.ReadLemmas.{param_names-push}
 use Rattle.param_list.proofs.regular_inputs.marks.Goals as goal
 

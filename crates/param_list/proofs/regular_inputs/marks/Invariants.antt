@@ -1,6 +1,4 @@
-use Rattle.std.proofs.Common.{◌≡◌, take}
-use Rattle.param_list.specs.Marks.{marks_of}
-use Rattle.param_list.specs.Parameters.{param_names}
+use Rattle.param_list.proofs.Common.{◌≡◌, take, marks_of, param_names}
 use Rattle.param_list.proofs.regular_inputs.marks.Given as goal
 
 abbrev pub invariant-loop-param : goal.invariant-loop-param

@@ -1,5 +1,4 @@
-use Rattle.std.proofs.Common.{◌≡◌, ◌++◌, drop}
-use Rattle.param_list.specs.Marks.{off_places}
+use Rattle.param_list.proofs.Common.{◌≡◌, ◌++◌, drop, off_places}
 use Rattle.param_list.proofs.regular_inputs.off.Given as goal
 
 abbrev pub invariant-loop-i : goal.invariant-loop-i

@@ -1,6 +1,4 @@
-use Rattle.std.proofs.Common.{List, ℕ, length, map, sym, ap, ◌∙◌, subst}
-use Rattle.std.specs.Prelude.{slice_get}
-use Rattle.param_list.specs.RegularPlaces.{AreRegularPlaces}
+use Rattle.param_list.proofs.Common.{List, ℕ, length, map, sym, ap, ◌∙◌, subst, slice_get, AreRegularPlaces}
 use Rattle.param_list.proofs.RegularLemmas.{regular_places, names_there, as_many, is_split}
 use Rattle.param_list.proofs.regular_inputs.regular.Goals as goal
 

@@ -1,7 +1,4 @@
-use Rattle.std.proofs.Common.{◌≡◌, ap, ◌∙◌}
-use Rattle.netlist.specs.FlatValue.{FlatValue}
-use Rattle.param_list.specs.Marks.{marks_of, off_places}
-use Rattle.param_list.specs.Parameters.{ParamsValue, param_names}
+use Rattle.param_list.proofs.Common.{◌≡◌, ap, ◌∙◌, FlatValue, marks_of, off_places, ParamsValue, param_names}
 use Rattle.param_list.proofs.regular_inputs.unmarked.Goals as goal
 
 pub returns : goal.returns

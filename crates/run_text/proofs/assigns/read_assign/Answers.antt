@@ -1,10 +1,4 @@
-use Rattle.std.proofs.Common.{◌≡◌, ℕ, true, false, List, Some, is_some, sym, ap, ◌∙◌}
-use Rattle.std.specs.Option.{option_map}
-use Rattle.tl_text.specs.NameSets.{has_name}
-use Rattle.tl_text.proofs.NameSetLemmas.{place_some, place_none}
-use Rattle.tl_text.specs.NameIndex.{place_of}
-use Rattle.run_text.specs.ScriptText.{assigned}
-use Rattle.run_text.specs.declared.script_err.ScriptErr.TheVariants.{NotParameter, RepeatedInSet}
+use Rattle.run_text.proofs.Common.{◌≡◌, ℕ, true, false, List, Some, is_some, sym, ap, ◌∙◌, option_map, has_name, place_some, place_none, place_of, assigned, NotParameter, RepeatedInSet}
 use Rattle.run_text.proofs.SettingLemmas.{no_parameter, repeated, passed}
 use Rattle.run_text.proofs.assigns.read_assign.Goals as goal
 

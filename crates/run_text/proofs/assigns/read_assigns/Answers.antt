@@ -1,13 +1,4 @@
-use Rattle.std.proofs.Common.{◌≡◌, ℕ, ◌+◌, List, [], ◌∷◌, ◌++◌, drop, length, Some, refl, sym, ap, ◌∙◌, arith}
-use Rattle.std.proofs.lemmas.Option.{slice_get_read}
-use Rattle.list_laws.proofs.Items.{drop_at}
-use Rattle.list_laws.proofs.Places.{drop_past}
-use Rattle.tl_fault.proofs.OrMemoryLemmas.{OrMemory-map}
-use Rattle.tl_fault.proofs.PassedOn.{passed_on}
-use Rattle.tl_text.specs.NameIndex.{place_of}
-use Rattle.run_text.specs.ScriptRefusals.{refusal_of}
-use Rattle.run_text.specs.ScriptText.{settings_refusal, assign_of}
-use Rattle.run_text.specs.declared.setting.Setting.{Setting}
+use Rattle.run_text.proofs.Common.{◌≡◌, ℕ, ◌+◌, List, [], ◌∷◌, ◌++◌, drop, length, Some, refl, sym, ap, ◌∙◌, arith, slice_get_read, drop_at, drop_past, OrMemory-map, passed_on, place_of, refusal_of, settings_refusal, assign_of, Setting}
 use Rattle.run_text.proofs.EachLemmas.{each_next, each_all}
 use Rattle.run_text.proofs.assigns.read_assigns.Goals as goal
 

@@ -1,6 +1,4 @@
-use Rattle.std.proofs.Common.{◌≡◌, [], Some, take, drop}
-use Rattle.run_text.specs.Each.{each_of}
-use Rattle.run_text.specs.ScriptText.{settings_refusal, assign_of}
+use Rattle.run_text.proofs.Common.{◌≡◌, [], Some, take, drop, each_of, settings_refusal, assign_of}
 use Rattle.run_text.proofs.assigns.read_assigns.Given as goal
 
 abbrev pub invariant-loop-setting : goal.invariant-loop-setting

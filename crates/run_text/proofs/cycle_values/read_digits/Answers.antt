@@ -1,6 +1,4 @@
-use Rattle.std.proofs.Common.{refl, sym, ◌∙◌}
-use Rattle.std.proofs.lemmas.Option.{slice_get-get_or}
-use Rattle.run_text.specs.Sayings.{digit_bit}
+use Rattle.run_text.proofs.Common.{refl, sym, ◌∙◌, slice_get-get_or, digit_bit}
 use Rattle.run_text.proofs.EachLemmas.{each_next, each_stops}
 use Rattle.run_text.proofs.cycle_values.read_digits.Goals as goal
 

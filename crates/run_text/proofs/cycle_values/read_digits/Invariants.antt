@@ -1,6 +1,4 @@
-use Rattle.std.proofs.Common.{◌≡◌, Some, take}
-use Rattle.run_text.specs.Each.{each_of}
-use Rattle.run_text.specs.Sayings.{digit_bit}
+use Rattle.run_text.proofs.Common.{◌≡◌, Some, take, each_of, digit_bit}
 use Rattle.run_text.proofs.cycle_values.read_digits.Given as goal
 
 abbrev pub invariant-loop-digit : goal.invariant-loop-digit

@@ -1,7 +1,4 @@
-use Rattle.std.proofs.Common.{arith, false}
-use Rattle.run_text.specs.Lines.{bit_digit}
-use Rattle.tl_piece.proofs.PartLemmas.{added_byte}
-use Rattle.tl_piece.proofs.AddedLemmas.{added_none}
+use Rattle.run_text.proofs.Common.{arith, false, bit_digit, added_byte, added_none}
 use Rattle.run_text.proofs.part.add_bits.Goals as goal
 
 pub loop-bit-init : goal.loop-bit-init

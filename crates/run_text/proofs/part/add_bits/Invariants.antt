@@ -1,6 +1,4 @@
-use Rattle.std.proofs.Common.{take, map}
-use Rattle.tl_piece.specs.Added.{IsAdded}
-use Rattle.run_text.specs.Lines.{bit_digit}
+use Rattle.run_text.proofs.Common.{take, map, IsAdded, bit_digit}
 use Rattle.run_text.proofs.part.add_bits.Given as goal
 
 abbrev pub invariant-loop-bit : goal.invariant-loop-bit

@@ -1,7 +1,4 @@
-use Rattle.std.proofs.Common.{take}
-use Rattle.std.specs.List.{flat_map}
-use Rattle.tl_piece.specs.Added.{IsAdded}
-use Rattle.run_text.specs.Parts.{part_text}
+use Rattle.run_text.proofs.Common.{take, flat_map, IsAdded, part_text}
 use Rattle.run_text.proofs.part.add_parts.Given as goal
 
 abbrev pub invariant-loop-part : goal.invariant-loop-part

@@ -1,5 +1,4 @@
-use Rattle.std.proofs.Common.{ℕ, [], ◌∷◌, ap}
-use Rattle.tl_piece.proofs.AddedLemmas.{added_as, added_twice}
+use Rattle.run_text.proofs.Common.{ℕ, [], ◌∷◌, ap, added_as, added_twice}
 use Rattle.run_text.proofs.part.add_write.Goals as goal
 
 pub returns : goal.returns

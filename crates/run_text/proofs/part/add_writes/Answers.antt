@@ -1,7 +1,4 @@
-use Rattle.std.proofs.Common.{arith}
-use Rattle.run_text.specs.Lines.{write_text}
-use Rattle.tl_piece.proofs.PartLemmas.{added_part}
-use Rattle.tl_piece.proofs.AddedLemmas.{added_none}
+use Rattle.run_text.proofs.Common.{arith, write_text, added_part, added_none}
 use Rattle.run_text.proofs.part.add_writes.Goals as goal
 
 pub loop-write-init : goal.loop-write-init

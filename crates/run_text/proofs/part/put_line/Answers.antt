@@ -1,5 +1,4 @@
-use Rattle.std.proofs.Common.{rules}
-use Rattle.tl_piece.proofs.AddedLemmas.{put_over}
+use Rattle.run_text.proofs.Common.{rules, put_over}
 use Rattle.run_text.proofs.part.put_line.Goals as goal
 
 pub returns : goal.returns

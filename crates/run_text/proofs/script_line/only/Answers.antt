@@ -1,6 +1,4 @@
-use Rattle.std.proofs.Common.{arith}
-use Rattle.std.proofs.lemmas.Option.{slice_get-get_or}
-use Rattle.list_laws.proofs.Members.{In-get}
+use Rattle.run_text.proofs.Common.{arith, slice_get-get_or, In-get}
 use Rattle.run_text.proofs.script_line.only.Goals as goal
 
 pub bytes-requires : goal.bytes-requires

@@ -1,9 +1,4 @@
-use Rattle.std.proofs.Common.{◌≡◌, List, take, drop, length, get_or, ap, ◌∙◌, subst, arith}
-use Rattle.std.proofs.lemmas.List.{take_rest, take-append-drop}
-use Rattle.list_laws.specs.Members.{In}
-use Rattle.list_laws.proofs.Members.{In-get_or, In-right}
-use Rattle.tl_text.specs.LineValue.{LineValue}
-use Rattle.tl_text.specs.declared.token.Token.{Token}
+use Rattle.run_text.proofs.Common.{◌≡◌, List, take, drop, length, get_or, ap, ◌∙◌, subst, arith, take_rest, take-append-drop, In, In-get_or, In-right, LineValue, Token}
 use Rattle.run_text.proofs.script_line.read_line.Goals as goal
 
 pub bytes-requires : goal.bytes-requires

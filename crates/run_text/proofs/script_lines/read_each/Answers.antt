@@ -1,13 +1,4 @@
-use Rattle.std.proofs.Common.{◌≡◌, ◌+◌, List, length, map, Some, None, subst, ◌∙◌, arith}
-use Rattle.std.proofs.lemmas.List.{length-map}
-use Rattle.list_laws.proofs.Items.{member_at}
-use Rattle.tl_fault.proofs.OrMemoryLemmas.{OrMemory-map}
-use Rattle.tl_fault.specs.OrMemory.{OrMemory}
-use Rattle.tl_text.specs.LineValue.{WordsLine, words_line}
-use Rattle.run_text.specs.EventValue.{EventValue, event_value, event_values}
-use Rattle.run_text.specs.ScriptRefusals.{refusal_of}
-use Rattle.run_text.specs.ScriptText.{line_refusal, IsFirstRefusal}
-use Rattle.tl_fault.proofs.PassedOn.{passed_err}
+use Rattle.run_text.proofs.Common.{◌≡◌, ◌+◌, List, length, map, Some, None, subst, ◌∙◌, arith, length-map, member_at, OrMemory-map, OrMemory, WordsLine, words_line, EventValue, event_value, event_values, refusal_of, line_refusal, IsFirstRefusal, passed_err}
 use Rattle.param_list.proofs.LineLemmas.{line_at}
 use Rattle.run_text.proofs.ScriptReadLemmas.{AreRead, first_refusal, one_more, all_read, one_event}
 use Rattle.run_text.proofs.script_lines.read_each.Goals as goal

@@ -1,6 +1,4 @@
-use Rattle.std.proofs.Common.{◌≡◌, map, vec_len}
-use Rattle.tl_text.specs.LineValue.{words_line}
-use Rattle.run_text.specs.EventValue.{event_values}
+use Rattle.run_text.proofs.Common.{◌≡◌, map, vec_len, words_line, event_values}
 use Rattle.run_text.proofs.ScriptReadLemmas.{AreRead}
 use Rattle.run_text.proofs.script_lines.read_each.Given as goal
 

@@ -1,7 +1,4 @@
-use Rattle.std.proofs.Common.{◌≡◌, ℕ, List, [], length, ap, ◌∙◌, arith}
-use Rattle.tl_text.specs.NameSets.{with_names}
-use Rattle.tl_text.proofs.NameSetLemmas.{new_names}
-use Rattle.run_text.specs.NamesValue.{NamesValue}
+use Rattle.run_text.proofs.Common.{◌≡◌, ℕ, List, [], length, ap, ◌∙◌, arith, with_names, new_names, NamesValue}
 use Rattle.run_text.proofs.script_lines.read_lines.Goals as goal
 
 pub read_each-requires-clause-few : goal.read_each-requires-clause-few

@@ -1,13 +1,5 @@
-use Rattle.std.proofs.Common.{List, map, Ok, sym, ap, ◌∙◌}
-use Rattle.tl_fault.proofs.OrMemoryLemmas.{OrMemory-map}
-use Rattle.tl_fault.specs.OrMemory.{OrMemory}
-use Rattle.tl_text.specs.LineValue.{LineValue, words_line}
-use Rattle.tl_text.specs.TextOf.{IsLinesFault, by_lines, at_line}
-use Rattle.run_text.specs.EventValue.{event_values}
-use Rattle.run_text.specs.ScriptRefusals.{refusal_of}
-use Rattle.run_text.specs.ScriptText.{script_err, IsFirstRefusal, IsScriptFault}
+use Rattle.run_text.proofs.Common.{List, map, Ok, sym, ap, ◌∙◌, OrMemory-map, OrMemory, LineValue, words_line, IsLinesFault, by_lines, at_line, event_values, refusal_of, script_err, IsFirstRefusal, IsScriptFault, passed_err}
 use Rattle.run_text.proofs.FitLemmas.{events_fit}
-use Rattle.tl_fault.proofs.PassedOn.{passed_err}
 use Rattle.run_text.proofs.ScriptOnceLemmas.{one_reading}
 use Rattle.run_text.proofs.scripts.read_script.Goals as goal
 

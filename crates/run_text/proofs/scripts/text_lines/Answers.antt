@@ -1,7 +1,4 @@
-use Rattle.std.proofs.Common.{refl}
-use Rattle.tl_text.proofs.TextOfLemmas.{lines_fault}
-use Rattle.run_text.specs.ScriptRefusals.{refusal_of}
-use Rattle.run_text.specs.ScriptText.{script_err}
+use Rattle.run_text.proofs.Common.{refl, lines_fault, refusal_of, script_err}
 use Rattle.run_text.proofs.scripts.text_lines.Goals as goal
 
 pub returns-in-Err-clause-fault : goal.returns-in-Err-clause-fault

@@ -1,8 +1,4 @@
-use Rattle.std.proofs.Common.{sym, ◌∙◌, ap, refl}
-use Rattle.std.proofs.lemmas.Option.{slice_get-get_or}
-use Rattle.list_laws.proofs.Members.{In-get}
-use Rattle.tl_text.specs.LineValue.{token_bytes}
-use Rattle.run_text.specs.Sayings.{setting_of}
+use Rattle.run_text.proofs.Common.{sym, ◌∙◌, ap, refl, slice_get-get_or, In-get, token_bytes, setting_of}
 use Rattle.run_text.proofs.EachLemmas.{each_next_of, each_stops_of}
 use Rattle.run_text.proofs.setting.read_each.Goals as goal
 

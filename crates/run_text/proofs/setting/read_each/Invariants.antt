@@ -1,7 +1,4 @@
-use Rattle.std.proofs.Common.{◌≡◌, Some, map, take}
-use Rattle.tl_text.specs.LineValue.{token_bytes}
-use Rattle.run_text.specs.Each.{each_of}
-use Rattle.run_text.specs.Sayings.{setting_of}
+use Rattle.run_text.proofs.Common.{◌≡◌, Some, map, take, token_bytes, each_of, setting_of}
 use Rattle.run_text.proofs.setting.read_each.Given as goal
 
 abbrev pub invariant-loop-token : goal.invariant-loop-token

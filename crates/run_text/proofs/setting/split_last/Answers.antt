@@ -1,5 +1,4 @@
-use Rattle.std.proofs.Common.{rules}
-use Rattle.std.proofs.lemmas.List.{take_rest}
+use Rattle.run_text.proofs.Common.{rules, take_rest}
 use Rattle.run_text.proofs.SettingLemmas.{split_none, split_there}
 use Rattle.run_text.proofs.setting.split_last.Goals as goal
 

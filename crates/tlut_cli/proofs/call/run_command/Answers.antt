@@ -1,14 +1,10 @@
-use Rattle.std.proofs.Common.{ap, sym, map, refl, inl, inr}
-use Rattle.cmd_run.specs.Run.Words.{run_seen}
-use Rattle.cmd_cert.specs.Words.{cert_seen}
-use Rattle.cmd_graph.specs.Words.{graph_seen}
-use Rattle.cmd_map.specs.Spec.Words.{spec_seen}
-use Rattle.cmd_map.specs.Map.Words.{map_seen}
-use Rattle.cmd_pace.specs.Words.{pace_seen}
-use Rattle.cmd_pack.specs.Bits.Words.{bits_seen}
-use Rattle.cmd_pack.specs.Repack.Words.{repack_seen}
-use Rattle.tlut_cli.specs.Commands.{Run, Spec, Map, Bits, Gen, Repack, Prove, Audit, Graph, Pace, command_seen}
-use Rattle.tlut_cli.proofs.CommandLemmas.{ended_as}
+use Rattle.tlut_cli.proofs.Common.{ap, sym, map, refl, inl, inr, run_seen, map_seen, bits_seen, Run, Spec, Map, Bits, Gen, Repack, Prove, Audit, Graph, Pace, command_seen}
+use Rattle.cmd_cert.specs.Certs.{cert_seen}
+use Rattle.cmd_graph.specs.Graph.{graph_seen}
+use Rattle.cmd_map.specs.Spec.{spec_seen}
+use Rattle.cmd_pace.specs.Job.{pace_seen}
+use Rattle.cmd_pack.specs.Repack.{repack_seen}
+use Rattle.tlut_cli.proofs.CallLemmas.{ended_as}
 use Rattle.tlut_cli.proofs.call.run_command.Goals as goal
 
 pub returns-in-Run : goal.returns-in-Run

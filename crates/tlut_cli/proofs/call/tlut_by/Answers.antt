@@ -1,9 +1,5 @@
-use Rattle.std.proofs.Common.{◌≡◌, map, string_bytes, subst, sym, Some}
-use Rattle.std.proofs.lemmas.List.{length-map}
+use Rattle.tlut_cli.proofs.Common.{◌≡◌, map, string_bytes, subst, sym, Some, length-map, Run, Map, Pace, command_of, HasRefusal, HasFault, IsAnswered, HasWalkLaws}
 use Rattle.cmd_base.specs.declared.status.Status.TheVariants as status
-use Rattle.tlut_cli.specs.Commands.{Run, Map, Pace, command_of}
-use Rattle.tlut_cli.specs.Call.{HasRefusal, HasFault, IsAnswered}
-use Rattle.tlut_cli.specs.CommandEnds.{HasWalkLaws}
 use Rattle.tlut_cli.proofs.CallLemmas.{tells, refusal_is, kept_ports, completes, finishes, answers, shown, replayed}
 use Rattle.tlut_cli.proofs.call.tlut_by.Goals as goal
 

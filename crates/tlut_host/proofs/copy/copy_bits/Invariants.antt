@@ -1,5 +1,4 @@
-use Rattle.std.proofs.Common.{◌≡◌, length, take}
-use Rattle.tlut_host.specs.Copied.{copied_plain}
+use Rattle.tlut_host.proofs.Common.{◌≡◌, length, take, copied_plain}
 use Rattle.tlut_host.proofs.copy.copy_bits.Given as goal
 
 abbrev pub invariant-loop-place : goal.invariant-loop-place

@@ -1,5 +1,4 @@
-use Rattle.std.proofs.Common.{◌≡◌, length, take}
-use Rattle.tlut_host.specs.Copied.{copied}
+use Rattle.tlut_host.proofs.Common.{◌≡◌, length, take, copied}
 use Rattle.tlut_host.proofs.copy.copy_writes.Given as goal
 
 abbrev pub invariant-loop-place : goal.invariant-loop-place

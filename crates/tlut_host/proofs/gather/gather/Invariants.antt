@@ -1,6 +1,4 @@
-use Rattle.std.proofs.Common.{◌≡◌, ◌≤◌, length, map, take, drop}
-use Rattle.std.specs.Prelude.{vec_capacity}
-use Rattle.tlut_host.specs.Settings.{settings_status, assign_of}
+use Rattle.tlut_host.proofs.Common.{◌≡◌, ◌≤◌, length, map, take, drop, vec_capacity, settings_status, assign_of}
 use Rattle.tlut_host.proofs.gather.gather.Given as goal
 
 abbrev pub invariant-loop-setting : goal.invariant-loop-setting

@@ -1,5 +1,4 @@
-use Rattle.std.proofs.Common.{ℕ, subst, arith}
-use Rattle.spec_core.specs.Touched.{IsWithinTouched}
+use Rattle.tlut_host.proofs.Common.{ℕ, subst, arith, IsWithinTouched}
 use Rattle.tlut_host.proofs.host.change_with.Goals as goal
 
 pub returns : goal.returns

@@ -1,5 +1,4 @@
-use Rattle.std.proofs.Common.{◌≡◌, ◌++◌, drop}
-use Rattle.tlut_host.specs.Kept.{param_names}
+use Rattle.tlut_host.proofs.Common.{◌≡◌, ◌++◌, drop, param_names}
 use Rattle.tlut_host.proofs.host.names_of.Given as goal
 
 abbrev pub invariant-loop-param : goal.invariant-loop-param

@@ -1,8 +1,4 @@
-use Rattle.std.proofs.Common.{ℕ, ◌+◌, List, length, sym, ap, ◌∙◌, subst, arith}
-use Rattle.tl_io.specs.declared.Write.{Write}
-use Rattle.spec_core.specs.Touched.{IsWithinTouched}
-use Rattle.pace_core.specs.Backlog.{AreTurns}
-use Rattle.pace_core.proofs.KeepLemmas.{writes_turn, asked_behind, asked_keeps}
+use Rattle.tlut_host.proofs.Common.{ℕ, ◌+◌, List, length, sym, ap, ◌∙◌, subst, arith, Write, IsWithinTouched, AreTurns, writes_turn, asked_behind, asked_keeps}
 use Rattle.tlut_host.proofs.PacedLemmas.{no_circuit, keeps_of, pacing_of}
 use Rattle.tlut_host.proofs.paced.request_with.Goals as goal
 

@@ -1,11 +1,4 @@
-use Rattle.std.proofs.Common.{[], ap, ◌∙◌, refl, inl}
-use Rattle.cmd_base.specs.Outside.{Outside, outside}
-use Rattle.cmd_base.specs.Writing.{AreWritten, IsCutInLine}
-use Rattle.cmd_base.proofs.EndLemmas.{memory_ends, unbegun_ends}
-use Rattle.cmd_cert.specs.declared.audit.job.Audited.{Audited}
-use Rattle.cmd_cert.specs.Words.{cert_seen}
-use Rattle.cmd_cert.specs.Certs.{audited_line}
-use Rattle.cmd_cert.specs.Audit.{audit_walk}
+use Rattle.cmd_cert.proofs.Common.{[], ap, ◌∙◌, refl, inl, Outside, outside, AreWritten, IsCutInLine, memory_ends, unbegun_ends, Audited, cert_seen, audited_line, audit_walk}
 use Rattle.cmd_cert.proofs.AuditLemmas.{audit_laws, audit_begun, audited}
 use Rattle.cmd_cert.proofs.audit.job.audit_job.Goals as goal
 

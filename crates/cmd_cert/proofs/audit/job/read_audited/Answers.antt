@@ -1,7 +1,4 @@
-use Rattle.std.proofs.Common.{◌∙◌, sym}
-use Rattle.cmd_base.proofs.EndLemmas.{Explains_from, keeps_past}
-use Rattle.cmd_cert.specs.Words.{cert_seen}
-use Rattle.cmd_cert.specs.Audit.{audit_reading}
+use Rattle.cmd_cert.proofs.Common.{◌∙◌, sym, Explains_from, keeps_past, cert_seen, audit_reading}
 use Rattle.cmd_cert.proofs.GraphWalkLemmas.{source_to_audit}
 use Rattle.cmd_cert.proofs.audit.job.read_audited.Goals as goal
 

@@ -1,6 +1,4 @@
-use Rattle.cmd_base.proofs.EndLemmas.{only_read, unbegun_ends}
-use Rattle.cmd_cert.specs.Words.{cert_seen}
-use Rattle.cmd_cert.specs.Prove.{prove_walk}
+use Rattle.cmd_cert.proofs.Common.{only_read, unbegun_ends, cert_seen, prove_walk}
 use Rattle.cmd_cert.proofs.ProveLemmas.{prove_ends, prove_laws}
 use Rattle.cmd_cert.proofs.prove.job.prove_job.Goals as goal
 

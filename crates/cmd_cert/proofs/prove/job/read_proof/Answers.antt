@@ -1,6 +1,5 @@
-use Rattle.std.proofs.Common.{sym, subst}
-use Rattle.cmd_stations.specs.Built.{ComesToLabels}
-use Rattle.cmd_stations.specs.Words.{source_seen}
+use Rattle.cmd_cert.proofs.Common.{sym, subst, ComesToLabels}
+use Rattle.cmd_stations.specs.Source.{source_seen}
 use Rattle.cmd_cert.proofs.prove.job.read_proof.Goals as goal
 
 pub returns-in-Ok-make_proof-clause-comes : goal.returns-in-Ok-make_proof-clause-comes

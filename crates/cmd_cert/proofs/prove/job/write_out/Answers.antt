@@ -1,9 +1,5 @@
-use Rattle.std.proofs.Common.{[], ◌∷◌, refl}
-use Rattle.std.specs.Prelude.{string_bytes}
-use Rattle.cert_check.specs.WrittenText.{cert_text}
+use Rattle.cmd_cert.proofs.Common.{[], ◌∷◌, refl, string_bytes, cert_text, FileText, cut_in_file, line_ends}
 use Rattle.tl_io.proofs.PutLemmas.{put_as}
-use Rattle.cmd_base.specs.Writing.{FileText}
-use Rattle.cmd_stations.proofs.WriteAllLemmas.{cut_in_file, line_ends}
 use Rattle.cmd_cert.proofs.prove.job.write_out.Goals as goal
 
 pub returns-in-Err-clause-ends : goal.returns-in-Err-clause-ends

@@ -1,8 +1,6 @@
-use Rattle.cmd_map.specs.Map.Words.{map_seen}
-use Rattle.cmd_map.specs.Map.Verdict.{map_walk}
-use Rattle.cmd_base.proofs.EndLemmas.{only_read, unbegun_ends}
+use Rattle.cmd_map.proofs.Common.{map_seen, map_walk, only_read, unbegun_ends}
 use Rattle.cmd_map.proofs.MapLemmas.{map_ends}
-use Rattle.cmd_map.proofs.SourceWalkLemmas.{map_laws}
+use Rattle.cmd_map.proofs.SpecLemmas.{map_laws}
 use Rattle.cmd_map.proofs.map.job.map_job.Goals as goal
 
 pub returns-in-Err-clause-ends : goal.returns-in-Err-clause-ends

@@ -1,14 +1,5 @@
-use Rattle.std.proofs.Common.{[], ◌∷◌, Option, refl, ap, ◌∙◌}
-use Rattle.tl_io.specs.Shelf.{Files, with_file}
-use Rattle.blif_write.specs.PlainNetlist.{netlist_text}
-use Rattle.lut_sim.proofs.TableCountLemmas.{tables_within_bits}
-use Rattle.cmd_base.specs.Writing.{FileText}
-use Rattle.cmd_base.proofs.EndLemmas.{Rose_from}
-use Rattle.cmd_stations.specs.Mapped.{template_header}
-use Rattle.cmd_stations.specs.Written.{template_of}
-use Rattle.cmd_stations.proofs.WriteAllLemmas.{cut_in_file, line_ends}
+use Rattle.cmd_map.proofs.Common.{[], ◌∷◌, Option, refl, ap, ◌∙◌, Files, with_file, netlist_text, tables_within_bits, FileText, Rose_from, template_header, template_of, cut_in_file, line_ends, present_bytes}
 use Rattle.cmd_map.proofs.map.job.write_out.Goals as goal
-use Rattle.cmd_stations.specs.Packs.{present_bytes}
 
 pub returns-in-Err-clause-ends : goal.returns-in-Err-clause-ends
 returns-in-Err-clause-ends g c ports =

@@ -1,11 +1,5 @@
-use Rattle.std.proofs.Common.{sym, subst}
-use Rattle.param_list.specs.Parameters.{param_inits}
-use Rattle.ppc_pack.specs.Pack.{IsConf}
-use Rattle.cmd_map.specs.Spec.Words.{spec_seen}
-use Rattle.cmd_map.specs.Spec.Verdict.{spec_walk}
-use Rattle.cmd_base.proofs.EndLemmas.{memory_ends, only_read, unbegun_ends}
-use Rattle.cmd_map.proofs.SpecLemmas.{spec_ends}
-use Rattle.cmd_map.proofs.SourceWalkLemmas.{spec_laws}
+use Rattle.cmd_map.proofs.Common.{sym, subst, param_inits, IsConf, spec_seen, spec_walk, memory_ends, only_read, unbegun_ends}
+use Rattle.cmd_map.proofs.SpecLemmas.{spec_ends, spec_laws}
 use Rattle.cmd_map.proofs.spec.job.spec_job.Goals as goal
 
 pub returns-in-Err-clause-ends : goal.returns-in-Err-clause-ends

@@ -1,10 +1,4 @@
-use Rattle.std.proofs.Common.{[], ◌∷◌, refl}
-use Rattle.blif_write.specs.PlainNetlist.{netlist_text}
-use Rattle.lut_sim.proofs.TableCountLemmas.{tables_within_bits}
-use Rattle.cmd_base.specs.Writing.{FileText}
-use Rattle.cmd_stations.specs.Mapped.{template_header}
-use Rattle.cmd_stations.specs.Written.{specialised_of}
-use Rattle.cmd_stations.proofs.WriteAllLemmas.{cut_in_file, line_ends}
+use Rattle.cmd_map.proofs.Common.{[], ◌∷◌, refl, netlist_text, tables_within_bits, FileText, template_header, specialised_of, cut_in_file, line_ends}
 use Rattle.cmd_map.proofs.spec.job.write_out.Goals as goal
 
 pub returns-in-Err-clause-ends : goal.returns-in-Err-clause-ends

@@ -1,8 +1,6 @@
-use Rattle.cmd_base.proofs.EndLemmas.{unbegun_ends}
-use Rattle.cmd_pack.specs.Bits.Words.{bits_seen}
-use Rattle.cmd_pack.specs.Bits.Verdict.{bits_walk}
+use Rattle.cmd_pack.proofs.Common.{unbegun_ends, bits_seen, bits_walk}
 use Rattle.cmd_pack.proofs.BitsPlayLemmas.{bits_ends}
-use Rattle.cmd_pack.proofs.PackWalkLemmas.{bits_laws}
+use Rattle.cmd_pack.proofs.RepackLemmas.{bits_laws}
 use Rattle.cmd_pack.proofs.bits.job.bits_job.Goals as goal
 
 pub returns-in-Err-clause-ends : goal.returns-in-Err-clause-ends

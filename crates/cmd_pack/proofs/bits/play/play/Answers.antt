@@ -1,7 +1,5 @@
-use Rattle.std.proofs.Common.{ap, ◌∙◌}
-use Rattle.run_text.specs.EventValue.{event_values}
+use Rattle.cmd_pack.proofs.Common.{ap, ◌∙◌, event_values, extended}
 use Rattle.run_text.specs.Lines.{bits_header_line}
-use Rattle.tl_io.specs.Content.{extended}
 use Rattle.cmd_pack.proofs.BitsPlayLemmas.{rose_later, play_end}
 use Rattle.cmd_pack.proofs.bits.play.play.Goals as goal
 

@@ -1,15 +1,5 @@
-use Rattle.std.proofs.Common.{◌≡◌, ◌≤◌, List, take, refl, sym, ◌∙◌, subst, arith}
-use Rattle.std.proofs.lemmas.List.{take_all}
-use Rattle.list_laws.proofs.Items.{member_at}
-use Rattle.list_laws.proofs.Members.{In-map}
+use Rattle.cmd_pack.proofs.Common.{◌≡◌, ◌≤◌, List, take, refl, sym, ◌∙◌, subst, arith, take_all, event_value, event_values, PackValue, bank_seen, FitsPack, IsHostStep, Rose_from, split_by, more_by, value_has, IsOfHost}
 use Rattle.run_text.specs.declared.event.Event.{Event}
-use Rattle.run_text.specs.EventValue.{event_value, event_values}
-use Rattle.ppc_pack.specs.Pack.{PackValue}
-use Rattle.port_bank.specs.Seen.{bank_seen}
-use Rattle.run_core.specs.Fits.{FitsPack}
-use Rattle.cmd_stations.specs.Host.{IsHostStep}
-use Rattle.cmd_base.proofs.EndLemmas.{Rose_from}
-use Rattle.cmd_stations.proofs.EventLemmas.{split_at, one_more}
 use Rattle.cmd_pack.proofs.BitsPlayLemmas.{HaveCome, come_none, come_more, come_all, events_cut, fault_rose}
 use Rattle.cmd_pack.proofs.bits.play.play_with.Goals as goal
 
@@ -23,15 +13,11 @@ loop-event-init g c = record {
 
 pub step-requires-clause-fits : goal.step-requires-clause-fits
 step-requires-clause-fits g c =
-    let event = event_value c.event-item.result in
-    let member = member_at c.args.events.now c.loop-event.event-index c.event-item.result c.loop-event-test.true c.event-item.is in
-    subst (λ (p : PackValue). FitsPack p event) (sym c.loop-event.invariant.pack) (c.requires.can_play.fits event (In-map event_value c.args.events.now c.event-item.result member))
+    subst (λ (p : PackValue). FitsPack p (event_value c.event-item.result)) (sym c.loop-event.invariant.pack)
+    (value_has event_value c.args.events.now c.loop-event.event-index c.event-item.result c.loop-event-test.true c.event-item.is (FitsPack c.args.host.now.pack) c.requires.can_play.fits)
 
 pub step-requires-clause-host : goal.step-requires-clause-host
-step-requires-clause-host g c =
-    let event = event_value c.event-item.result in
-    let member = member_at c.args.events.now c.loop-event.event-index c.event-item.result c.loop-event-test.true c.event-item.is in
-    c.requires.can_play.of_host event (In-map event_value c.args.events.now c.event-item.result member)
+step-requires-clause-host g c = value_has event_value c.args.events.now c.loop-event.event-index c.event-item.result c.loop-event-test.true c.event-item.is IsOfHost c.requires.can_play.of_host
 
 pub returns-in-Err-clause-ends : goal.returns-in-Err-clause-ends
 returns-in-Err-clause-ends g c =
@@ -39,10 +25,9 @@ returns-in-Err-clause-ends g c =
     let i = c.loop-event.event-index in
     let item = c.event-item.result in
     let ends = c.in-Err.ensures in
-    let member = member_at events i item c.loop-event-test.true c.event-item.is in
-    let of_host = c.requires.can_play.of_host (event_value item) (In-map event_value events item member) in
+    let of_host = value_has event_value events i item c.loop-event-test.true c.event-item.is IsOfHost c.requires.can_play.of_host in
     events_cut (bank_seen g.P.ConfigPort.port_seen c.loop-event.bank) (bank_seen g.P.ConfigPort.port_seen c.step.new.bank) c.loop-event.invariant.no_ports c.args.host.now c.loop-event.host c.step.new.self (event_values events)
-    (event_values (take i events)) (event_value item) (g.O.Sink.seen c.args.out.now).bytes (g.O.Sink.seen c.loop-event.out).bytes (g.O.Sink.seen c.step.new.out).bytes c.in-Err.field-0 (split_at events i item c.loop-event-test.true c.event-item.is)
+    (event_values (take i events)) (event_value item) (g.O.Sink.seen c.args.out.now).bytes (g.O.Sink.seen c.loop-event.out).bytes (g.O.Sink.seen c.step.new.out).bytes c.in-Err.field-0 (split_by event_value events i item c.loop-event-test.true c.event-item.is)
     c.loop-event.invariant.come (record { of_host = of_host; played = ends.played; steady = ends.steady }) ends.put.grown ends.places
 
 pub returns-in-Err-clause-cause : goal.returns-in-Err-clause-cause
@@ -64,15 +49,14 @@ loop-event-preserved g c =
     let before = (g.O.Sink.seen c.loop-event.out).bytes in
     let after = (g.O.Sink.seen c.step.new.out).bytes in
     let ends = c.in-Ok.ensures in
-    let member = member_at events i item c.loop-event-test.true c.event-item.is in
-    let of_host = c.requires.can_play.of_host (event_value item) (In-map event_value events item member) in
+    let of_host = value_has event_value events i item c.loop-event-test.true c.event-item.is IsOfHost c.requires.can_play.of_host in
     let step : IsHostStep (event_value item) c.loop-event.host c.step.new.self = record { of_host = of_host; played = ends.played; steady = ends.steady } in
     let later : (g.O.Sink.seen c.args.out.now).faults ≤ (g.O.Sink.seen c.loop-event.out).faults = c.loop-event.invariant.later in
     let last : (g.O.Sink.seen c.loop-event.out).faults ≤ (g.O.Sink.seen c.step.new.out).faults = ends.put.cause in
     record {
       pack = ends.played.pack ∙ c.loop-event.invariant.pack;
       no_ports = ends.places.serving ∙ c.loop-event.invariant.no_ports;
-      come = subst (λ es. HaveCome c.args.host.now es first c.step.new.self after) (sym (one_more events i item c.loop-event-test.true c.event-item.is))
+      come = subst (λ es. HaveCome c.args.host.now es first c.step.new.self after) (sym (more_by event_value events i item c.loop-event-test.true c.event-item.is))
           (come_more c.args.host.now c.loop-event.host c.step.new.self (event_values (take i events)) (event_value item) first before after c.loop-event.invariant.come step ends.put.grown);
       later = omega (arith, later, last);
     }

@@ -1,6 +1,4 @@
-use Rattle.std.proofs.Common.{◌≡◌, ◌≤◌, length, take}
-use Rattle.run_text.specs.EventValue.{event_values}
-use Rattle.port_bank.specs.Seen.{bank_seen}
+use Rattle.cmd_pack.proofs.Common.{◌≡◌, ◌≤◌, length, take, event_values, bank_seen}
 use Rattle.cmd_pack.proofs.BitsPlayLemmas.{HaveCome}
 use Rattle.cmd_pack.proofs.bits.play.play_with.Given as goal
 

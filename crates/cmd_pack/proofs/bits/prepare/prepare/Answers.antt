@@ -1,8 +1,4 @@
-use Rattle.std.proofs.Common.{◌∙◌, sym}
-use Rattle.run_text.specs.EventValue.{event_values}
-use Rattle.cmd_pack.specs.Bits.Job.{bits_reading}
-use Rattle.cmd_pack.specs.Bits.Words.{bits_seen}
-use Rattle.cmd_base.proofs.EndLemmas.{Explains_from, keeps_past}
+use Rattle.cmd_pack.proofs.Common.{◌∙◌, sym, event_values, bits_reading, bits_seen, Explains_from, keeps_past}
 use Rattle.cmd_pack.proofs.BitsWalkLemmas.{pack_to_bits, script_to_bits}
 use Rattle.cmd_pack.proofs.BitsPlayLemmas.{can_play, ready_for}
 use Rattle.cmd_pack.proofs.bits.prepare.prepare.Goals as goal

@@ -1,8 +1,5 @@
-use Rattle.cmd_base.proofs.EndLemmas.{memory_ends, only_read, unbegun_ends}
-use Rattle.cmd_pack.specs.Repack.Words.{repack_seen}
-use Rattle.cmd_pack.specs.Repack.Verdict.{repack_walk}
-use Rattle.cmd_pack.proofs.PackWalkLemmas.{repack_laws}
-use Rattle.cmd_pack.proofs.RepackLemmas.{repack_ends}
+use Rattle.cmd_pack.proofs.Common.{memory_ends, only_read, unbegun_ends, repack_seen, repack_walk}
+use Rattle.cmd_pack.proofs.RepackLemmas.{repack_laws, repack_ends}
 use Rattle.cmd_pack.proofs.repack.job.repack_job.Goals as goal
 
 pub returns-in-Err-clause-ends : goal.returns-in-Err-clause-ends

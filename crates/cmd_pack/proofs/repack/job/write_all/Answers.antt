@@ -1,8 +1,4 @@
-use Rattle.std.proofs.Common.{[], ◌∷◌}
-use Rattle.cmd_base.specs.Writing.{FileText}
-use Rattle.cmd_stations.specs.Packs.{present_bytes}
-use Rattle.cmd_stations.proofs.WriteAllLemmas.{line_ends}
-use Rattle.cmd_pack.specs.Bits.Verdict.{pack_header}
+use Rattle.cmd_pack.proofs.Common.{[], ◌∷◌, FileText, present_bytes, line_ends, pack_header}
 use Rattle.cmd_pack.proofs.RepackLemmas.{passed_cut}
 use Rattle.cmd_pack.proofs.repack.job.write_all.Goals as goal
 

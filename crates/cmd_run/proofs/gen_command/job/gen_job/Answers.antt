@@ -1,8 +1,5 @@
-use Rattle.std.proofs.Common.{refl}
-use Rattle.cmd_base.specs.Outside.{outside}
-use Rattle.cmd_run.specs.GenCommand.Verdict.{gen_walk}
-use Rattle.cmd_base.proofs.EndLemmas.{explained_ends}
-use Rattle.cmd_run.proofs.GenWalkLemmas.{gen_laws}
+use Rattle.cmd_run.proofs.Common.{refl, outside, gen_walk, explained_ends}
+use Rattle.cmd_run.proofs.GenLemmas.{gen_laws}
 use Rattle.cmd_run.proofs.gen_command.job.gen_job.Goals as goal
 
 pub returns-in-Ok-clause-ends : goal.returns-in-Ok-clause-ends

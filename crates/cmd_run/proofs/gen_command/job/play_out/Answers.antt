@@ -1,6 +1,4 @@
-use Rattle.std.proofs.Common.{refl, ◌∙◌, inl}
-use Rattle.cmd_base.specs.Outside.{outside}
-use Rattle.cmd_run.specs.GenCommand.Verdict.{IsTold, IsPartTold}
+use Rattle.cmd_run.proofs.Common.{refl, ◌∙◌, inl, outside, IsTold, IsPartTold}
 use Rattle.cmd_run.proofs.CaseSizeLemmas.{case_small}
 use Rattle.cmd_run.proofs.GenLemmas.{case_begun, case_told}
 use Rattle.cmd_run.proofs.gen_command.job.play_out.Goals as goal

@@ -1,6 +1,5 @@
-use Rattle.std.proofs.Common.{ℕ, List, [], ◌++◌, Ok, ◌∙◌, append_assoc}
+use Rattle.cmd_run.proofs.Common.{ℕ, List, [], ◌++◌, Ok, ◌∙◌, append_assoc, machine_header}
 use Rattle.tl_io.proofs.PutLemmas.{put_none, put_twice, put_stopped, put_as}
-use Rattle.cmd_stations.specs.Machine.{machine_header}
 use Rattle.cmd_run.proofs.gen_command.job.put_lines.Goals as goal
 
 pub returns-in_err-put : goal.returns-in_err-put

@@ -1,14 +1,4 @@
-use Rattle.std.proofs.Common.{◌≡◌, List, take, refl, sym, ◌∙◌, subst}
-use Rattle.std.proofs.lemmas.List.{take_all}
-use Rattle.list_laws.proofs.Items.{member_at}
-use Rattle.list_laws.proofs.Members.{In-map}
-use Rattle.run_text.specs.declared.event.Event.{Event}
-use Rattle.run_text.specs.EventValue.{event_value, event_values}
-use Rattle.lut_sim.specs.declared.shape.Shape.{Shape}
-use Rattle.ppc_pack.specs.Pack.{PackValue}
-use Rattle.run_core.specs.Fits.{FitsPack, FitsShape}
-use Rattle.cmd_run.specs.GenCommand.Totals.{Totals, none}
-use Rattle.cmd_stations.proofs.EventLemmas.{one_more}
+use Rattle.cmd_run.proofs.Common.{◌≡◌, List, take, refl, sym, ◌∙◌, subst, take_all, Event, event_value, event_values, Shape, PackValue, FitsPack, FitsShape, Totals, none, more_by, value_has}
 use Rattle.cmd_run.proofs.GenLemmas.{total_more}
 use Rattle.cmd_run.proofs.TotalLemmas.{next_fits}
 use Rattle.cmd_run.proofs.gen_command.play.play_with.Goals as goal
@@ -18,15 +8,13 @@ loop-event-init g c = record { pack = refl; shape = refl; totals = none }
 
 pub play-requires-clause-pack : goal.play-requires-clause-pack
 play-requires-clause-pack g c =
-    let event = event_value c.event-item.result in
-    let member = member_at c.args.events.now c.loop-event.event-index c.event-item.result c.loop-event-test.true c.event-item.is in
-    subst (λ (p : PackValue). FitsPack p event) (sym c.loop-event.invariant.pack) (c.requires.can_play.pack event (In-map event_value c.args.events.now c.event-item.result member))
+    subst (λ (p : PackValue). FitsPack p (event_value c.event-item.result)) (sym c.loop-event.invariant.pack)
+    (value_has event_value c.args.events.now c.loop-event.event-index c.event-item.result c.loop-event-test.true c.event-item.is (FitsPack c.args.machine.now.host.pack) c.requires.can_play.pack)
 
 pub play-requires-clause-shape : goal.play-requires-clause-shape
 play-requires-clause-shape g c =
-    let event = event_value c.event-item.result in
-    let member = member_at c.args.events.now c.loop-event.event-index c.event-item.result c.loop-event-test.true c.event-item.is in
-    subst (λ (s : Shape). FitsShape s event) (sym c.loop-event.invariant.shape) (c.requires.can_play.shape event (In-map event_value c.args.events.now c.event-item.result member))
+    subst (λ (s : Shape). FitsShape s (event_value c.event-item.result)) (sym c.loop-event.invariant.shape)
+    (value_has event_value c.args.events.now c.loop-event.event-index c.event-item.result c.loop-event-test.true c.event-item.is (FitsShape c.args.machine.now.sim.shape) c.requires.can_play.shape)
 
 pub loop-event-preserved : goal.loop-event-preserved
 loop-event-preserved g c =
@@ -38,7 +26,7 @@ loop-event-preserved g c =
     record {
       pack = played.host.pack ∙ c.loop-event.invariant.pack;
       shape = played.shape ∙ c.loop-event.invariant.shape;
-      totals = subst (λ es. Totals c.args.machine.now es new.writes new.total c.play.new.self) (sym (one_more events i item c.loop-event-test.true c.event-item.is))
+      totals = subst (λ es. Totals c.args.machine.now es new.writes new.total c.play.new.self) (sym (more_by event_value events i item c.loop-event-test.true c.event-item.is))
           (total_more c.play.new.self (event_value item) new.writes new.total c.loop-event.invariant.totals played c.with_event-totals.ensures.writes c.with_event-totals.ensures.total);
     }
 

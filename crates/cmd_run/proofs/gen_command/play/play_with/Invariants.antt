@@ -1,6 +1,4 @@
-use Rattle.std.proofs.Common.{◌≡◌, take}
-use Rattle.run_text.specs.EventValue.{event_values}
-use Rattle.cmd_run.specs.GenCommand.Totals.{Totals}
+use Rattle.cmd_run.proofs.Common.{◌≡◌, take, event_values, Totals}
 use Rattle.cmd_run.proofs.gen_command.play.play_with.Given as goal
 
 abbrev pub invariant-loop-event : goal.invariant-loop-event

@@ -1,11 +1,5 @@
-use Rattle.std.proofs.Common.{sym, subst}
-use Rattle.cmd_base.specs.Ends.{Explains}
-use Rattle.cmd_stations.specs.Aims.{ToTables}
-use Rattle.cmd_stations.specs.Settled.{source_reading}
-use Rattle.cmd_run.specs.GenCommand.Case.{case_words}
-use Rattle.cmd_run.specs.GenCommand.Texts.{shelf_of}
+use Rattle.cmd_run.proofs.Common.{ToTables, case_words, making_settles}
 use Rattle.cmd_run.proofs.CaseLemmas.{mapping_stops}
-use Rattle.cmd_stations.proofs.StationLemmas.{making_settles}
 use Rattle.cmd_run.proofs.gen_command.prepare.map_case.Goals as goal
 
 pub returns-in-Err-clause-err : goal.returns-in-Err-clause-err
@@ -21,5 +15,4 @@ returns-in-Ok-map_source-clause-comes c files have =
 
 pub returns-in-Err-map_source-clause-err : goal.returns-in-Err-map_source-clause-err
 returns-in-Err-map_source-clause-err c files have =
-    subst (λ o. Explains (source_reading ToTables (case_words c.args.rule).source) (shelf_of files) (shelf_of files) o) (sym c.at.ensures)
-    (mapping_stops c.args.rule files c.in-Ok.source c.in-Err-map_source.stop (c.in-Ok.ensures.comes c.args.rule files have) c.in-Err-map_source.ensures.err c.in-Err-map_source.ensures.settled)
+    mapping_stops c.args.rule files c.in-Ok.source c.in-Err-map_source.stop c.at.result c.at.ensures (c.in-Ok.ensures.comes c.args.rule files have) c.in-Err-map_source.ensures.err c.in-Err-map_source.ensures.settled

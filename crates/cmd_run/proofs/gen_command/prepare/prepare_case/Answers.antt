@@ -1,5 +1,4 @@
-use Rattle.std.proofs.Common.{ap, ◌∙◌}
-use Rattle.gen_case.specs.Case.{CaseValue}
+use Rattle.cmd_run.proofs.Common.{ap, ◌∙◌, CaseValue}
 use Rattle.cmd_run.proofs.CaseLemmas.{have_case, case_ready, case_stopped}
 use Rattle.cmd_run.proofs.gen_command.prepare.prepare_case.Goals as goal
 

@@ -1,13 +1,6 @@
-use Rattle.cmd_stations.specs.declared.scripted.Scripted.{Scripted}
-use Rattle.cmd_stations.specs.Source.{HasMapped}
-use Rattle.cmd_stations.specs.Aims.{ToTables}
-use Rattle.cmd_stations.specs.Settled.{IsSourceSettled}
-use Rattle.cmd_run.specs.Run.Words.{scripted_of}
-use Rattle.cmd_run.specs.GenCommand.Case.{case_words}
-use Rattle.cmd_run.specs.GenCommand.Texts.{shelf_of}
+use Rattle.cmd_run.proofs.Common.{Scripted, HasMapped, ToTables, IsSourceSettled, scripted_of, case_words, shelf_of, source_to_scripted, script_to_scripted, comes_scripted}
 use Rattle.cmd_run.proofs.CaseLemmas.{told_of}
-use Rattle.cmd_stations.proofs.ScriptedLemmas.{source_to_scripted, script_to_scripted, comes_scripted}
-use Rattle.cmd_run.proofs.ReadyLemmas.{ready_for, can_play_ready}
+use Rattle.cmd_run.proofs.StartLemmas.{ready_for, can_play_ready}
 use Rattle.cmd_run.proofs.gen_command.prepare.ready_case.Goals as goal
 
 pub returns-in-Err-clause-err : goal.returns-in-Err-clause-err

@@ -1,5 +1,4 @@
-use Rattle.std.proofs.Common.{◌≡◌}
-use Rattle.list_laws.specs.Digits.{number}
+use Rattle.cmd_run.proofs.Common.{◌≡◌, number}
 use Rattle.cmd_run.proofs.NumberLemmas.{number_below}
 use Rattle.cmd_run.proofs.gen_command.totals.number_of.Given as goal
 

@@ -1,12 +1,6 @@
-use Rattle.std.proofs.Common.{map, sym, subst}
-use Rattle.cmd_base.specs.Ends.{Ends}
-use Rattle.cmd_base.specs.Outside.{outside}
-use Rattle.cmd_base.specs.declared.outcome.Outcome.{Outcome}
-use Rattle.cmd_run.specs.Run.Words.{run_seen}
-use Rattle.cmd_run.specs.Run.Verdict.{run_walk}
-use Rattle.cmd_base.proofs.EndLemmas.{unbegun_ends}
+use Rattle.cmd_run.proofs.Common.{map, sym, subst, Ends, outside, Outcome, run_seen, run_walk, unbegun_ends}
 use Rattle.cmd_run.proofs.RunLemmas.{run_ends}
-use Rattle.cmd_run.proofs.WalkLemmas.{run_laws}
+use Rattle.cmd_run.proofs.HeadlineLemmas.{run_laws}
 use Rattle.cmd_run.proofs.run.job.run_job.Goals as goal
 
 pub returns-in-Ok-clause-ends : goal.returns-in-Ok-clause-ends

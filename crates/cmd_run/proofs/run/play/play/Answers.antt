@@ -1,7 +1,4 @@
-use Rattle.std.proofs.Common.{map, arith}
-use Rattle.std.proofs.lemmas.List.{length-map}
-use Rattle.run_text.specs.EventValue.{event_values}
-use Rattle.port_bank.specs.Seen.{bank_seen}
+use Rattle.cmd_run.proofs.Common.{map, arith, length-map, event_values, bank_seen}
 use Rattle.cmd_run.proofs.PlayLemmas.{play_end}
 use Rattle.cmd_run.proofs.PortLemmas.{run_served, run_failed}
 use Rattle.cmd_run.proofs.run.play.play.Goals as goal

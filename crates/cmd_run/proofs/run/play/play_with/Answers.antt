@@ -1,16 +1,5 @@
-use Rattle.std.proofs.Common.{◌≡◌, ◌≤◌, List, take, refl, sym, ◌∙◌, subst, arith}
-use Rattle.std.proofs.lemmas.List.{take_all}
+use Rattle.cmd_run.proofs.Common.{◌≡◌, ◌≤◌, List, take, refl, sym, ◌∙◌, subst, arith, take_all, Event, event_value, event_values, Shape, PackValue, bank_seen, FitsPack, FitsShape, Stage, split_by, more_by, value_has}
 use Rattle.std.proofs.lemmas.Result.{err_from_is_err_and}
-use Rattle.list_laws.proofs.Items.{member_at}
-use Rattle.list_laws.proofs.Members.{In-map}
-use Rattle.run_text.specs.declared.event.Event.{Event}
-use Rattle.run_text.specs.EventValue.{event_value, event_values}
-use Rattle.lut_sim.specs.declared.shape.Shape.{Shape}
-use Rattle.ppc_pack.specs.Pack.{PackValue}
-use Rattle.port_bank.specs.Seen.{bank_seen}
-use Rattle.run_core.specs.Fits.{FitsPack, FitsShape}
-use Rattle.cmd_stations.specs.Machine.{Stage}
-use Rattle.cmd_stations.proofs.EventLemmas.{split_at, one_more}
 use Rattle.cmd_run.proofs.PlayLemmas.{HaveCome, come_none, come_more, come_all, whole_step, events_end}
 use Rattle.cmd_run.proofs.run.play.play_with.Goals as goal
 
@@ -25,15 +14,13 @@ loop-event-init g c = record {
 
 pub step-requires-clause-pack : goal.step-requires-clause-pack
 step-requires-clause-pack g c =
-    let event = event_value c.event-item.result in
-    let member = member_at c.args.events.now c.loop-event.event-index c.event-item.result c.loop-event-test.true c.event-item.is in
-    subst (λ (p : PackValue). FitsPack p event) (sym c.loop-event.invariant.pack) (c.requires.can_play.pack event (In-map event_value c.args.events.now c.event-item.result member))
+    subst (λ (p : PackValue). FitsPack p (event_value c.event-item.result)) (sym c.loop-event.invariant.pack)
+    (value_has event_value c.args.events.now c.loop-event.event-index c.event-item.result c.loop-event-test.true c.event-item.is (FitsPack c.args.machine.now.host.pack) c.requires.can_play.pack)
 
 pub step-requires-clause-shape : goal.step-requires-clause-shape
 step-requires-clause-shape g c =
-    let event = event_value c.event-item.result in
-    let member = member_at c.args.events.now c.loop-event.event-index c.event-item.result c.loop-event-test.true c.event-item.is in
-    subst (λ (s : Shape). FitsShape s event) (sym c.loop-event.invariant.shape) (c.requires.can_play.shape event (In-map event_value c.args.events.now c.event-item.result member))
+    subst (λ (s : Shape). FitsShape s (event_value c.event-item.result)) (sym c.loop-event.invariant.shape)
+    (value_has event_value c.args.events.now c.loop-event.event-index c.event-item.result c.loop-event-test.true c.event-item.is (FitsShape c.args.machine.now.sim.shape) c.requires.can_play.shape)
 
 pub returns-in_err-step-clause-ends : goal.returns-in_err-step-clause-ends
 returns-in_err-step-clause-ends g c =
@@ -46,7 +33,7 @@ returns-in_err-step-clause-ends g c =
     let new : Stage = record { machine = c.step.new.self; bank = bank_seen g.P.ConfigPort.port_seen c.step.new.bank } in
     let ends = c.in_err-step.ensures in
     rw (p.1, p.2) (events_end start mid new (event_values events) (event_values (take i events)) (event_value item) (g.O.Sink.seen c.args.out.now).bytes (g.O.Sink.seen c.loop-event.out).bytes (g.O.Sink.seen c.step.new.out).bytes c.in_err-step.field-0.0
-    (split_at events i item c.loop-event-test.true c.event-item.is) c.loop-event.invariant.come
+    (split_by event_value events i item c.loop-event-test.true c.event-item.is) c.loop-event.invariant.come
     (record { played = ends.played; steady = ends.steady; sent = ends.sent; put = ends.put.grown; left = ends.left; places = ends.places; held = c.loop-event.invariant.holds; holds = ends.holds }))
 
 pub loop-event-preserved : goal.loop-event-preserved
@@ -69,7 +56,7 @@ loop-event-preserved g c =
       pack = ends.played.host.pack ∙ c.loop-event.invariant.pack;
       shape = ends.played.shape ∙ c.loop-event.invariant.shape;
       holds = ends.holds c.loop-event.invariant.holds;
-      come = subst (λ es. HaveCome start es first new after) (sym (one_more events i item c.loop-event-test.true c.event-item.is))
+      come = subst (λ es. HaveCome start es first new after) (sym (more_by event_value events i item c.loop-event-test.true c.event-item.is))
           (come_more start mid new (event_values (take i events)) (event_value item) first before after c.loop-event.invariant.come step ends.put.grown);
       later = omega (arith, later, last);
     }

@@ -1,7 +1,4 @@
-use Rattle.std.proofs.Common.{◌≡◌, ◌≤◌, take}
-use Rattle.run_text.specs.EventValue.{event_values}
-use Rattle.port_bank.specs.Image.{Holds}
-use Rattle.port_bank.specs.Seen.{bank_seen}
+use Rattle.cmd_run.proofs.Common.{◌≡◌, ◌≤◌, take, event_values, Holds, bank_seen}
 use Rattle.cmd_run.proofs.PlayLemmas.{HaveCome}
 use Rattle.cmd_run.proofs.run.play.play_with.Given as goal
 

@@ -1,9 +1,5 @@
-use Rattle.std.proofs.Common.{subst}
-use Rattle.cmd_base.specs.Ends.{Explains}
-use Rattle.cmd_stations.specs.Scripted.{ScriptedWords, scripted_reading}
-use Rattle.cmd_stations.specs.ScriptedMade.{ComesScripted}
-use Rattle.cmd_run.specs.Run.Words.{run_seen}
-use Rattle.cmd_run.proofs.ReadyLemmas.{ready_for, can_play_ready}
+use Rattle.cmd_run.proofs.Common.{subst, Explains, ComesScripted, run_seen, ScriptedWords, scripted_reading}
+use Rattle.cmd_run.proofs.StartLemmas.{ready_for, can_play_ready}
 use Rattle.cmd_run.proofs.run.prepare.prepare.Goals as goal
 
 pub returns-in-Err-clause-err : goal.returns-in-Err-clause-err

@@ -1,5 +1,4 @@
-use Rattle.std.proofs.Common.{ap, ◌∙◌}
-use Rattle.lut_sim.specs.Sim.{SimValue}
+use Rattle.cmd_run.proofs.Common.{ap, ◌∙◌, SimValue}
 use Rattle.cmd_run.proofs.StartLemmas.{starts_on}
 use Rattle.cmd_run.proofs.run.prepare.start_machine.Goals as goal
 

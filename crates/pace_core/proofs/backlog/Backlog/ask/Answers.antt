@@ -1,9 +1,4 @@
-use Rattle.std.proofs.Common.{◌≡◌, false, List, length, take, sym, ap, ◌∙◌, subst, arith}
-use Rattle.std.proofs.lemmas.Option.{slice_get-get_or}
-use Rattle.tl_io.specs.declared.Write.{Write}
-use Rattle.tl_io.specs.Writes.{written}
-use Rattle.spec_core.specs.Differences.{differences}
-use Rattle.pace_core.specs.Backlog.{IsBehind}
+use Rattle.pace_core.proofs.Common.{◌≡◌, false, List, length, take, sym, ap, ◌∙◌, subst, arith, slice_get-get_or, Write, written, differences, IsBehind}
 use Rattle.pace_core.proofs.DifferenceLemmas.{all_written, written-next, next_within, next_other}
 use Rattle.pace_core.proofs.backlog.Backlog.ask.Goals as goal
 

@@ -1,7 +1,4 @@
-use Rattle.std.proofs.Common.{◌≡◌, ◌+◌, Bool, List, length, take}
-use Rattle.tl_io.specs.Writes.{written}
-use Rattle.spec_core.specs.Differences.{differences}
-use Rattle.pace_core.specs.Backlog.{IsBehind}
+use Rattle.pace_core.proofs.Common.{◌≡◌, ◌+◌, Bool, List, length, take, written, differences, IsBehind}
 use Rattle.pace_core.proofs.backlog.Backlog.ask.Given as goal
 
 abbrev pub invariant-loop-write : goal.invariant-loop-write

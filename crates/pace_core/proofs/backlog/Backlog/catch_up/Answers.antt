@@ -1,6 +1,4 @@
-use Rattle.std.proofs.Common.{length, ap, arith, length-append}
-use Rattle.spec_core.specs.Differences.{differences}
-use Rattle.pace_core.specs.Backlog.{BacklogValue}
+use Rattle.pace_core.proofs.Common.{length, ap, arith, length-append, differences, BacklogValue}
 use Rattle.pace_core.proofs.BacklogLemmas.{catching_more}
 use Rattle.pace_core.proofs.DifferenceLemmas.{differences_few}
 use Rattle.pace_core.proofs.backlog.Backlog.catch_up.Goals as goal

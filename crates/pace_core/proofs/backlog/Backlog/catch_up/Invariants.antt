@@ -1,5 +1,4 @@
-use Rattle.std.proofs.Common.{◌≡◌, ◌+◌, ◌≤◌, Bool, List, length}
-use Rattle.pace_core.specs.Backlog.{IsBehind, IsLate, IsCatchingUp}
+use Rattle.pace_core.proofs.Common.{◌≡◌, ◌+◌, ◌≤◌, Bool, List, length, IsBehind, IsLate, IsCatchingUp}
 use Rattle.pace_core.proofs.backlog.Backlog.catch_up.Given as goal
 
 abbrev pub invariant-loop-self : goal.invariant-loop-self

@@ -1,7 +1,5 @@
-use Rattle.std.proofs.Common.{◌≡◌, ◌<◌, ◌-◌, ◌++◌, [], ◌∷◌, length, sym, ap, subst, arith}
-use Rattle.std.proofs.lemmas.List.{length-set}
+use Rattle.pace_core.proofs.Common.{◌≡◌, ◌<◌, ◌-◌, ◌++◌, [], ◌∷◌, length, sym, ap, subst, arith, length-set, BacklogValue, IsBehind, IsCaughtUp}
 use Rattle.late_device.specs.Late.{LateValue}
-use Rattle.pace_core.specs.Backlog.{BacklogValue, IsBehind, IsCaughtUp}
 use Rattle.pace_core.proofs.BacklogLemmas.{empty_waits, mark_sent}
 use Rattle.pace_core.proofs.backlog.Backlog.catch_up_once.Goals as goal
 

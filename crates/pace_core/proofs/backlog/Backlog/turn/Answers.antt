@@ -1,5 +1,4 @@
-use Rattle.std.proofs.Common.{sym, ◌∙◌, subst, arith}
-use Rattle.pace_core.specs.Backlog.{BacklogValue, IsBehind}
+use Rattle.pace_core.proofs.Common.{sym, ◌∙◌, subst, arith, BacklogValue, IsBehind}
 use Rattle.pace_core.proofs.BacklogLemmas.{turn_waits, turn_has_room, one_behind_less, one_behind_more}
 use Rattle.pace_core.proofs.backlog.Backlog.turn.Goals as goal
 

@@ -1,8 +1,4 @@
-use Rattle.std.proofs.Common.{◌+◌, List, length, refl, sym, ap, ◌∙◌, subst, arith}
-use Rattle.tl_io.specs.declared.Write.{Write}
-use Rattle.pace_core.specs.Backlog.{AreTurns}
-use Rattle.pace_core.specs.Cost.{IsWithinAsk}
-use Rattle.pace_core.specs.Pace.{PacerValue}
+use Rattle.pace_core.proofs.Common.{◌+◌, List, length, refl, sym, ap, ◌∙◌, subst, arith, Write, AreTurns, IsWithinAsk, PacerValue}
 use Rattle.pace_core.proofs.KeepLemmas.{writes_turn, asked_behind, asked_keeps, ask_within}
 use Rattle.pace_core.proofs.pacer.Pacer.ask.Goals as goal
 

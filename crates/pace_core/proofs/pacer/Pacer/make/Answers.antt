@@ -1,6 +1,4 @@
-use Rattle.std.proofs.Common.{Bool, false, List, [], length, replicate, sym, ap, ◌∙◌}
-use Rattle.cover_pick.specs.Template.{TemplateValue}
-use Rattle.lut_sim.specs.Sim.{SimValue}
+use Rattle.pace_core.proofs.Common.{Bool, false, List, [], length, replicate, sym, ap, ◌∙◌, TemplateValue, SimValue}
 use Rattle.pace_core.proofs.KeepLemmas.{made_keeps}
 use Rattle.pace_core.proofs.pacer.Pacer.make.Goals as goal
 

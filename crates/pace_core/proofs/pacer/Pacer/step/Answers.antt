@@ -1,10 +1,4 @@
-use Rattle.std.proofs.Common.{◌≡◌, ◌+◌, Bool, List, length, sym, ◌∙◌, subst}
-use Rattle.tl_io.specs.declared.Assign.{Assign}
-use Rattle.ppc_pack.specs.Pack.{IsConf}
-use Rattle.spec_core.specs.Differences.{differences}
-use Rattle.pace_core.specs.declared.event.PaceEvent.{PaceEvent}
-use Rattle.pace_core.specs.EventValue.{pace_value}
-use Rattle.pace_core.specs.Pace.{PacerValue, asked, IsAsked, IsPaced}
+use Rattle.pace_core.proofs.Common.{◌≡◌, ◌+◌, Bool, List, length, sym, ◌∙◌, subst, Assign, IsConf, differences, PaceEvent, pace_value, PacerValue, asked, IsAsked, IsPaced}
 use Rattle.pace_core.proofs.KeepLemmas.{waits_for}
 use Rattle.pace_core.proofs.pacer.Pacer.step.Goals as goal
 

@@ -1,6 +1,4 @@
-use Rattle.std.proofs.Common.{◌<◌, ◌+◌, sym, ap, ◌∙◌, subst, arith}
-use Rattle.pace_core.specs.Cost.{IsWithinTick}
-use Rattle.pace_core.specs.Pace.{PacerValue, IsTicked, waited, cycled}
+use Rattle.pace_core.proofs.Common.{◌<◌, ◌+◌, sym, ap, ◌∙◌, subst, arith, IsWithinTick, PacerValue, IsTicked, waited, cycled}
 use Rattle.pace_core.proofs.KeepLemmas.{tick_steps, tick_waits, tick_within, cycle_within}
 use Rattle.pace_core.proofs.pacer.Pacer.tick.Goals as goal
 

@@ -1,8 +1,4 @@
-use Rattle.std.proofs.Common.{◌≡◌, List, Bool, length, sym, ◌∙◌, subst}
-use Rattle.ppc_pack.specs.Pack.{IsConf}
-use Rattle.spec_core.specs.Differences.{differences}
-use Rattle.pace_core.specs.Pace.{PacerValue}
-use Rattle.pace_core.specs.Stalls.{HasStalls}
+use Rattle.pace_core.proofs.Common.{◌≡◌, List, Bool, length, sym, ◌∙◌, subst, IsConf, differences, PacerValue, HasStalls}
 use Rattle.pace_core.proofs.KeepLemmas.{waits_for, keeps_stalls}
 use Rattle.pace_core.proofs.pacer.Pacer.waiting.Goals as goal
 

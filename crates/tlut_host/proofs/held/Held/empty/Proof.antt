@@ -1,20 +1,5 @@
 -- An empty pointer owns nothing.
-use Rattle.std.proofs.Common.{◌≡◌, [], ◌∷◌, refl, lit<}
-use Rattle.std.specs.Prelude.{None}
-use mir.Val.{Val}
-use base.Logic.{SProp, emp}
-use base.Fml.{ftrue}
-use types.Kit.{‵, raw, ◌⊛◌, ◌$◌, ◌∵◌, !, qed, by, keep, split, fjoin, use0}
-use types.Run.{lit, no_more, and_then, returns, enter}
-use types.ByLocal.{alloc_all, pass_all, free_all, look_at, sets}
-use types.Part.{agg}
-use contract.Monad.{fact, fact_i}
-use contract.Running.{tables}
-use denote.RawPtr.{null_ptr}
-use denote.Steps.{nothing}
-use denote.Triple.Entry.{alive}
-use denote.Triple.Walked.{walk_of}
-use Rattle.std.proofs.raw_atomic.Walks.{proved, leaves}
+use Rattle.tlut_host.proofs.Common.{◌≡◌, [], ◌∷◌, refl, lit<, None, proved, leaves, ftrue, SProp, emp, fact, fact_i, tables, null_ptr, nothing, alive, walk_of, Val, alloc_all, pass_all, free_all, look_at, sets, ‵, raw, ◌⊛◌, ◌$◌, ◌∵◌, !, qed, by, keep, split, fjoin, use0, agg, lit, no_more, and_then, returns, enter}
 use Rattle.tlut_host.proofs.HeldValues.{held_val, Grip, grip_made}
 use Rattle.tlut_host.specs.contracts.held.Held as held
 use Rattle.tlut_host.specs.contracts.held.Held.empty.{ended, clauses}

@@ -1,29 +1,9 @@
 -- A pointer owns what the parts of the box owned.
-use Rattle.std.proofs.Common.{◌≡◌, List, [], ◌∷◌, ◌++◌, refl, sym, subst}
-use Rattle.std.specs.Prelude.{Some}
-use mir.Val.{Val, vptr}
-use base.Logic.{SProp, ent, emp, id⊢}
-use prog.Wp.{WpFn}
-use types.Kit.{‵, raw, ◌⊛◌, ◌$◌, ◌∵◌, !, qed, by, keep, split, fsplit, fjoin, suffices, use0, use1}
-use types.Run.{stop, fld, of_opd, no_more, and_then, returns, enter}
-use types.ByLocal.{alloc_all, pass_all, free_all, look_at, get, get_in, sets}
-use types.Part.{agg, sub, whole}
-use contract.Monad.{fact, fact_i}
-use contract.Running.{tables}
-use denote.RattleType.{RattleType, owns}
-use denote.RawPtr.{block_ptr}
-use denote.Signature.{types_at}
-use denote.Steps.{nothing}
-use denote.Triple.Entry.{alive}
-use denote.Triple.Walked.{Stays, stay_dropped, walk_of}
-use Rattle.core.proofs.alloc.Calls.{Goes-blank}
-use Rattle.std.proofs.raw_atomic.Walks.{proved_at, leaves}
+use Rattle.tlut_host.proofs.Common.{◌≡◌, List, [], ◌∷◌, ◌++◌, refl, sym, subst, Some, Goes-blank, proved_at, leaves, ghosts, held_by_paced, SProp, ent, emp, id⊢, fact, fact_i, tables, RattleType, owns, block_ptr, types_at, nothing, alive, Stays, stay_dropped, walk_of, Val, vptr, WpFn, alloc_all, pass_all, free_all, look_at, get, get_in, sets, ‵, raw, ◌⊛◌, ◌$◌, ◌∵◌, !, qed, by, keep, split, fsplit, fjoin, suffices, use0, use1, agg, sub, whole, stop, fld, of_opd, no_more, and_then, returns, enter}
 use Rattle.std_heap.specs.contracts.Global as heap
-use Rattle.std_heap.specs.contracts.GlobalAllocator.TheImpl.{ghosts}
 use Rattle.std_heap.proofs.Global.TheLaws as heap_laws
 use Rattle.tlut_host.proofs.Values.{both, loose_good, loose_out}
 use Rattle.tlut_host.proofs.HeldValues.{slot_at, held_val, Grip, grip_made}
-use Rattle.tlut_host.specs.Owned.{held_by_paced}
 use Rattle.tlut_host.specs.contracts.paced.PacedHost as state
 use Rattle.tlut_host.specs.contracts.held_paced.HeldPaced as held
 use Rattle.tlut_host.specs.contracts.held_paced.HeldPaced.of.{ended, clauses}

@@ -1,9 +1,7 @@
-use Rattle.std.proofs.Common.{◌≡◌, List, [], length, vec_capacity, sym, ap, ◌∙◌, subst, arith}
+use Rattle.tlut_host.proofs.Common.{◌≡◌, List, [], length, vec_capacity, sym, ap, ◌∙◌, subst, arith, PackValue, IsKept, param_names}
 use Rattle.tl_text.specs.NameSets.{with_names}
 use Rattle.tl_text.proofs.NameSetLemmas.{new_names}
-use Rattle.ppc_pack.specs.Pack.{PackValue}
 use Rattle.ppc_pack.specs.declared.pack.PackParam.{PackParam}
-use Rattle.tlut_host.specs.Kept.{IsKept, param_names}
 use Rattle.tlut_host.proofs.host.Host.make.Goals as goal
 
 pub invariant_of-result : goal.invariant_of-result

@@ -1,6 +1,4 @@
-use Rattle.std.proofs.Common.{ℕ, List, length, sym, ap, ◌∙◌, subst}
-use Rattle.tl_io.specs.Assigns.{AreAssigned}
-use Rattle.tl_io.specs.declared.Assign.{Assign}
+use Rattle.tlut_host.proofs.Common.{ℕ, List, length, sym, ap, ◌∙◌, subst, AreAssigned, Assign}
 use Rattle.tlut_host.proofs.SettingLemmas.{settings_fit}
 use Rattle.tlut_host.proofs.host.Host.set.Goals as goal
 

@@ -1,8 +1,4 @@
-use Rattle.std.proofs.Common.{ℕ, List, length, map, sym, ap, ◌∙◌, subst}
-use Rattle.tl_io.specs.Assigns.{AreAssigned}
-use Rattle.tl_io.specs.declared.Assign.{Assign}
-use Rattle.tlut_host.specs.Paced.{PacedValue, IsRequest, IsAsk}
-use Rattle.tlut_host.specs.Settings.{settings_status, assign_of}
+use Rattle.tlut_host.proofs.Common.{ℕ, List, length, map, sym, ap, ◌∙◌, subst, AreAssigned, Assign, PacedValue, IsRequest, IsAsk, settings_status, assign_of}
 use Rattle.tlut_host.proofs.PacedLemmas.{seen, asked}
 use Rattle.tlut_host.proofs.SettingLemmas.{settings_fit}
 use Rattle.tlut_host.proofs.paced.PacedHost.ask.Goals as goal

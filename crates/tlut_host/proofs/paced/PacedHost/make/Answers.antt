@@ -1,6 +1,4 @@
-use Rattle.std.proofs.Common.{Bool, false, List, [], length, replicate, refl, sym, ap, ◌∙◌, arith}
-use Rattle.ppc_pack.specs.Pack.{PackValue}
-use Rattle.pace_core.proofs.KeepLemmas.{made_keeps}
+use Rattle.tlut_host.proofs.Common.{Bool, false, List, [], length, replicate, refl, sym, ap, ◌∙◌, arith, PackValue, made_keeps}
 use Rattle.tlut_host.proofs.PacedLemmas.{no_circuit, pacing_of}
 use Rattle.tlut_host.proofs.paced.PacedHost.make.Goals as goal
 

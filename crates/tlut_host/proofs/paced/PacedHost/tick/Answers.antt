@@ -1,5 +1,4 @@
-use Rattle.std.proofs.Common.{ℕ, eqb, ap, subst}
-use Rattle.tlut_host.specs.Paced.{PacedValue, IsTick}
+use Rattle.tlut_host.proofs.Common.{ℕ, eqb, ap, subst, PacedValue, IsTick}
 use Rattle.tlut_host.proofs.PacedLemmas.{seen, ticked}
 use Rattle.tlut_host.proofs.paced.PacedHost.tick.Goals as goal
 

@@ -6,16 +6,13 @@ use Rattle.tl_io.specs.Content.{extended}
 use Rattle.tl_io.specs.Shelf.{Files}
 use Rattle.ppc_pack.specs.Pack.{PackValue}
 use Rattle.run_text.specs.EventValue.{EventValue, event_values}
-use Rattle.run_core.specs.EventLines.{host_line}
-use Rattle.run_core.specs.Fits.{FitsPack, IsOfHost}
+use Rattle.run_core.specs.Events.{host_line, FitsPack, IsOfHost}
 use Rattle.spec_core.specs.Specialiser.{SpecialiserValue}
-use Rattle.cmd_base.specs.Outside.{Outside}
+use Rattle.cmd_base.specs.Walk.{Outside}
 use Rattle.cmd_pack.specs.declared.bits.prepare.ReadyScript.{ReadyScript}
 use Rattle.cmd_stations.specs.Script.{IsSplit}
-use Rattle.cmd_pack.specs.Bits.Words.{BitsWords}
-use Rattle.cmd_pack.specs.Bits.Job.{IsBitsJob, IsBitsSettled}
+use Rattle.cmd_pack.specs.Bits.{BitsWords, IsBitsJob, IsBitsSettled, AreLinesPut, AreLinesCut}
 use Rattle.cmd_stations.specs.Host.{IsHostStart, IsHostStep, AreHostSteps}
-use Rattle.cmd_pack.specs.Bits.Verdict.{AreLinesPut, AreLinesCut}
 
 -- each event is of the host and can be played
 pub record CanPlay (pack : PackValue) (events : List EventValue) : Type 0 where
